@@ -1,0 +1,21 @@
+# build: proves what changed and leaves the program as ./fjob
+# example: runs the deck of examples/first in a folder of its own
+# test: the gate
+# bench: the benchmarks, beside gfortran where it is on the machine
+.PHONY: build example examples test bench
+
+build:
+	(cd crates/fjob && rt run -- check </dev/null >/dev/null) || test $$? -eq 5
+	cp crates/fjob/out/fjob fjob
+
+example: build
+	examples/run first
+
+examples: build
+	examples/run
+
+test:
+	rt ci
+
+bench: build
+	bench/run

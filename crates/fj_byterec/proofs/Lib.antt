@@ -1,0 +1,4 @@
+mod Cases
+pub mod Apart
+pub mod CopyLaws
+pub mod RecordLaws

@@ -1,0 +1,14 @@
+//! Direct and stream access to files: bytes as equal records, and as they stand.
+#![tactic(auto)]
+
+mod direct;
+mod fill;
+mod laws;
+mod stream;
+
+pub use direct::{read_direct, write_direct};
+pub use laws::records_stand_apart;
+pub use stream::{read_stream, write_stream};
+
+#[cfg(test)]
+mod tests;

@@ -1,0 +1,199 @@
+-- Control over lists, and the steps that are due.
+use Rattle.std.proofs.Common.{ℕ, zero, suc, ◌+◌, ◌-◌, ◌≡◌, ◌≤◌, Bool, true, false, cond, List, [], ◌∷◌, ◌++◌, refl, sym, ap, ◌∙◌, arith, append_assoc, append-nil}
+use Rattle.fj_format.specs.Unfolding as step
+use Rattle.fj_format.specs.Unfolding.{Elementary, Steps, repeated, pass, again}
+use Rattle.fj_control.specs.Steps.{Given, gives, no_data, control, has_data, rounds, RoundsAreEnough}
+use Rattle.fj_control.specs.Walk.{Position, walking, ended, lacking, Walk, next_in, next_at, next_of, begun, due, due_at, is_left, is_end, items_behind, GivesWhatIsDue, IsRun, GivesTheSteps}
+
+-- how many data descriptors a list has
+abbrev data_count : Steps → ℕ
+data_count [] = 0
+data_count (step.edit e ∷ xs) = suc (data_count xs)
+data_count (_ ∷ xs) = data_count xs
+
+data_count-append : (a b : Steps) → data_count (a ++ b) ≡ data_count a + data_count b
+data_count-append [] b = omega arith
+data_count-append (step.edit e ∷ a) b = omega (arith, data_count-append a b)
+data_count-append (step.string s ∷ a) b = data_count-append a b
+data_count-append (step.tab n ∷ a) b = data_count-append a b
+data_count-append (step.left n ∷ a) b = data_count-append a b
+data_count-append (step.right n ∷ a) b = data_count-append a b
+data_count-append (step.slash ∷ a) b = data_count-append a b
+data_count-append (step.colon ∷ a) b = data_count-append a b
+data_count-append (step.mode m ∷ a) b = data_count-append a b
+
+data_count-positive : (a : Steps) → has_data a ≡ true → 1 ≤ data_count a
+data_count-positive [] h = cc
+data_count-positive (step.edit e ∷ a) h = omega arith
+data_count-positive (step.string s ∷ a) h = data_count-positive a h
+data_count-positive (step.tab n ∷ a) h = data_count-positive a h
+data_count-positive (step.left n ∷ a) h = data_count-positive a h
+data_count-positive (step.right n ∷ a) h = data_count-positive a h
+data_count-positive (step.slash ∷ a) h = data_count-positive a h
+data_count-positive (step.colon ∷ a) h = data_count-positive a h
+data_count-positive (step.mode m ∷ a) h = data_count-positive a h
+
+-- what follows a colon behind n data descriptors is not reached with n items
+control_cut : (a : Steps) (n : ℕ) (b : Steps) → n ≤ data_count a → control (a ++ step.colon ∷ b) n ≡ control a n
+control_cut [] zero b h = refl
+control_cut [] (suc n) b h = absurd (omega arith)
+control_cut (step.edit e ∷ a) zero b h = refl
+control_cut (step.edit e ∷ a) (suc n) b h = ap (λ l. gives (step.edit e) ∷ l) (control_cut a n b (omega arith))
+control_cut (step.colon ∷ a) zero b h = refl
+control_cut (step.colon ∷ a) (suc n) b h = control_cut a (suc n) b h
+control_cut (step.string s ∷ a) n b h = ap (λ l. gives (step.string s) ∷ l) (control_cut a n b h)
+control_cut (step.tab k ∷ a) n b h = ap (λ l. gives (step.tab k) ∷ l) (control_cut a n b h)
+control_cut (step.left k ∷ a) n b h = ap (λ l. gives (step.left k) ∷ l) (control_cut a n b h)
+control_cut (step.right k ∷ a) n b h = ap (λ l. gives (step.right k) ∷ l) (control_cut a n b h)
+control_cut (step.slash ∷ a) n b h = ap (λ l. gives step.slash ∷ l) (control_cut a n b h)
+control_cut (step.mode m ∷ a) n b h = ap (λ l. gives (step.mode m) ∷ l) (control_cut a n b h)
+
+-- ---- rounds
+
+-- one round
+abbrev round : Steps → Steps
+round more = step.colon ∷ step.slash ∷ more
+
+repeated_last : (n : ℕ) (s : Steps) → s ++ repeated n s ≡ repeated n s ++ s
+repeated_last zero s = append-nil s
+repeated_last (suc n) s = ap (λ l. s ++ l) (repeated_last n s) ∙ sym (append_assoc s (repeated n s) s)
+
+data_count-rounds : (n : ℕ) (more : Steps) → has_data more ≡ true → n ≤ data_count (repeated n (round more))
+data_count-rounds zero more h = omega arith
+data_count-rounds (suc n) more h = omega (arith, data_count-append more (repeated n (round more)), data_count-positive more h, data_count-rounds n more h)
+
+-- one round more, where there are enough
+one_more : (a more : Steps) (k n : ℕ) → n ≤ data_count (a ++ repeated k (round more)) → control (a ++ repeated (suc k) (round more)) n ≡ control (a ++ repeated k (round more)) n
+one_more a more k n h =
+    let e : a ++ repeated (suc k) (round more) ≡ (a ++ repeated k (round more)) ++ round more = ap (λ l. a ++ l) (repeated_last k (round more)) ∙ sym (append_assoc a (repeated k (round more)) (round more)) in
+    ap (λ l. control l n) e ∙ control_cut (a ++ repeated k (round more)) n (step.slash ∷ more) h
+
+enough_above : (a more : Steps) (n d : ℕ) → has_data more ≡ true → control (a ++ repeated (d + n) (round more)) n ≡ control (a ++ repeated n (round more)) n
+enough_above a more n zero h = let e : 0 + n ≡ n = omega arith in ap (λ k. control (a ++ repeated k (round more)) n) e
+enough_above a more n (suc d) h =
+    let e : suc d + n ≡ suc (d + n) = omega arith in
+    ap (λ k. control (a ++ repeated k (round more)) n) e
+    ∙ one_more a more (d + n) n (omega (arith, data_count-append a (repeated (d + n) (round more)), data_count-rounds (d + n) more h))
+    ∙ enough_above a more n d h
+
+rounds_with_data : (n : ℕ) (more : Steps) → has_data more ≡ true → rounds n more ≡ repeated n (round more)
+rounds_with_data n more h = ap (λ b. cond b (repeated n (round more)) []) h
+
+rounds_without_data : (n : ℕ) (more : Steps) → has_data more ≡ false → rounds n more ≡ []
+rounds_without_data n more h = ap (λ b. cond b (repeated n (round more)) []) h
+
+pub rounds_are_enough : RoundsAreEnough
+rounds_are_enough f n k h le =
+    let e : (k - n) + n ≡ k = omega arith in
+    ap (λ m. control (pass f ++ repeated m (round (again f))) n) (sym e)
+    ∙ enough_above (pass f) (again f) n (k - n) h
+    ∙ ap (λ l. control (pass f ++ l) n) (sym (rounds_with_data n (again f) h))
+
+-- ---- one step
+
+-- a step and what is due behind it
+abbrev with_rest : Steps → ℕ → Given → Position → List Given
+with_rest more n g at = g ∷ cond (is_end g) [] (due_at more at (items_behind g n))
+
+abbrev StepIsDue : Steps → ℕ → List Given → Given × Position → Type 0
+StepIsDue more n out o = out ≡ with_rest more n o.0 o.1
+
+no_rounds : (more : Steps) → rounds 0 more ≡ []
+no_rounds more = by_case (has_data more) []
+  where
+    by_case : (b : Bool) (l : Steps) → cond b l l ≡ l
+    by_case true l = refl
+    by_case false l = refl
+
+fewer_rounds : (a more : Steps) (n : ℕ) (b : Bool) → has_data more ≡ b → control (a ++ rounds (suc n) more) n ≡ control (a ++ rounds n more) n
+fewer_rounds a more n true e =
+    ap (λ l. control (a ++ l) n) (rounds_with_data (suc n) more e)
+    ∙ one_more a more n n (omega (arith, data_count-append a (repeated n (round more)), data_count-rounds n more e))
+    ∙ sym (ap (λ l. control (a ++ l) n) (rounds_with_data n more e))
+fewer_rounds a more n false e = ap (λ l. control (a ++ l) n) (rounds_without_data (suc n) more e ∙ sym (rounds_without_data n more e))
+
+at_the_end : (more : Steps) (n : ℕ) (b : Bool) → has_data more ≡ b → StepIsDue more (suc n) (control (rounds (suc n) more) (suc n)) (next_in more true [])
+at_the_end more n true e =
+    let next : next_in more true [] ≡ (gives step.slash, walking more) = ap (λ b. cond b (gives step.slash, walking more) (no_data, lacking)) e in
+    ap (λ l. control l (suc n)) (rounds_with_data (suc n) more e)
+    ∙ ap (λ l. gives step.slash ∷ l)
+    (sym (ap (λ l. control (more ++ l) (suc n)) (rounds_with_data (suc n) more e)
+    ∙ one_more more more n (suc n) (omega (arith, data_count-append more (repeated n (round more)), data_count-positive more e, data_count-rounds n more e))))
+    ∙ ap (λ (o : Given × Position). with_rest more (suc n) o.0 o.1) (sym next)
+at_the_end more n false e =
+    let next : next_in more true [] ≡ (no_data, lacking) = ap (λ b. cond b (gives step.slash, walking more) (no_data, lacking)) e in
+    ap (λ l. control l (suc n)) (rounds_without_data (suc n) more e) ∙ ap (λ (o : Given × Position). with_rest more (suc n) o.0 o.1) (sym next)
+
+step_in : (more rest : Steps) (n : ℕ) → StepIsDue more n (control (rest ++ rounds n more) n) (next_in more (is_left n) rest)
+step_in more [] zero = ap (λ l. control l 0) (no_rounds more)
+step_in more [] (suc n) = at_the_end more n (has_data more) refl
+step_in more (step.edit e ∷ rest) zero = refl
+step_in more (step.edit e ∷ rest) (suc n) = ap (λ l. gives (step.edit e) ∷ l) (fewer_rounds rest more n (has_data more) refl)
+step_in more (step.colon ∷ rest) zero = refl
+step_in more (step.colon ∷ rest) (suc n) = step_in more rest (suc n)
+step_in more (step.string s ∷ rest) n = refl
+step_in more (step.tab k ∷ rest) n = refl
+step_in more (step.left k ∷ rest) n = refl
+step_in more (step.right k ∷ rest) n = refl
+step_in more (step.slash ∷ rest) n = refl
+step_in more (step.mode m ∷ rest) n = refl
+
+step_at : (more : Steps) (at : Position) (n : ℕ) → StepIsDue more n (due_at more at n) (next_at more (is_left n) at)
+step_at more (walking rest) n = step_in more rest n
+step_at more ended n = refl
+step_at more lacking n = refl
+
+pub gives_what_is_due : (old new : Walk) (left : Bool) (g : Given) → g ≡ (next_of old left).0 → new ≡ (next_of old left).1 → GivesWhatIsDue old left g new
+gives_what_is_due old new left g is goes n e =
+    step_at old.again old.at n
+    ∙ ap (λ l. with_rest old.again n (next_of old l).0 (next_of old l).1.at) (sym e)
+    ∙ ap (λ x. with_rest old.again n x (next_of old left).1.at) (sym is)
+    ∙ ap (λ (w : Walk). with_rest w.again n g w.at) (sym goes)
+
+-- ---- whole runs
+
+run_is_due : (walk : Walk) (n : ℕ) (out : List Given) → IsRun walk n out → out ≡ due walk n
+run_is_due walk n [] h = absurd h
+run_is_due walk n (g ∷ []) h =
+    let w = (next_of walk (is_left n)).1 in
+    sym (step_at walk.again walk.at n ∙ ap (λ x. with_rest walk.again n x w.at) (sym h.0) ∙ ap (λ b. g ∷ cond b [] (due w (items_behind g n))) h.1)
+run_is_due walk n (g ∷ x ∷ rest) h =
+    let w = (next_of walk (is_left n)).1 in
+    sym (step_at walk.again walk.at n ∙ ap (λ y. with_rest walk.again n y w.at) (sym h.0) ∙ ap (λ b. g ∷ cond b [] (due w (items_behind g n))) h.1
+    ∙ ap (λ l. g ∷ l) (sym (run_is_due w (items_behind g n) (x ∷ rest) h.2)))
+
+due_is_run : (walk : Walk) (n : ℕ) (out : List Given) → out ≡ due walk n → IsRun walk n out
+due_is_run walk n [] e = let k : [] ≡ with_rest walk.again n _ _ = e ∙ step_at walk.again walk.at n in cc
+due_is_run walk n (g ∷ []) e =
+    let w = (next_of walk (is_left n)).1 in
+    let k : g ∷ [] ≡ with_rest walk.again n (next_of walk (is_left n)).0 w.at = e ∙ step_at walk.again walk.at n in
+    let same : g ≡ (next_of walk (is_left n)).0 = cc in
+    (same, ends (is_end g) refl (k ∙ ap (λ y. with_rest walk.again n y w.at) (sym same)))
+  where
+    ends : (b : Bool) → is_end g ≡ b → g ∷ [] ≡ with_rest walk.again n g (next_of walk (is_left n)).1.at → is_end g ≡ true
+    ends true is k = is
+    ends false is k =
+        let w = (next_of walk (is_left n)).1 in
+        let m = items_behind g n in
+        let o = next_of w (is_left m) in
+        let j : g ∷ [] ≡ g ∷ with_rest w.again m o.0 o.1.at = k ∙ ap (λ b. g ∷ cond b [] (due w m)) is ∙ ap (λ l. g ∷ l) (step_at w.again w.at m) in
+        cc
+due_is_run walk n (g ∷ x ∷ rest) e =
+    let w = (next_of walk (is_left n)).1 in
+    let k : g ∷ x ∷ rest ≡ with_rest walk.again n (next_of walk (is_left n)).0 w.at = e ∙ step_at walk.again walk.at n in
+    let same : g ≡ (next_of walk (is_left n)).0 = cc in
+    let is = goes (is_end g) refl (k ∙ ap (λ y. with_rest walk.again n y w.at) (sym same)) in
+    (same, is.0, due_is_run w (items_behind g n) (x ∷ rest) is.1)
+  where
+    goes : (b : Bool) → is_end g ≡ b → g ∷ x ∷ rest ≡ with_rest walk.again n g (next_of walk (is_left n)).1.at →
+        (is_end g ≡ false) × (x ∷ rest ≡ due (next_of walk (is_left n)).1 (items_behind g n))
+    goes true is k =
+        let j : g ∷ x ∷ rest ≡ g ∷ [] = k ∙ ap (λ b. g ∷ cond b [] (due (next_of walk (is_left n)).1 (items_behind g n))) is in
+        cc
+    goes false is k =
+        let j : g ∷ x ∷ rest ≡ g ∷ due (next_of walk (is_left n)).1 (items_behind g n) =
+        k ∙ ap (λ b. g ∷ cond b [] (due (next_of walk (is_left n)).1 (items_behind g n))) is in
+        (is, cc)
+
+pub gives_the_steps : GivesTheSteps
+gives_the_steps f n out = (run_is_due (begun f) n out, due_is_run (begun f) n out)

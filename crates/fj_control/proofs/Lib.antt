@@ -1,0 +1,5 @@
+pub mod Walks
+pub mod Reversion
+pub mod Control
+pub mod Cases
+pub mod LineTexts

@@ -1,0 +1,14 @@
+use Rattle.std.proofs.Common.{◌≡◌, length}
+use Rattle.fj_format.specs.Unfolding.{Steps}
+use Rattle.fj_control.specs.Walk.{next_in}
+use Rattle.fj_control.specs.Walker.{rest_of, IsSound}
+use Rattle.fj_control.proofs.walker.Walker.walk.Given as goal
+
+abbrev pub invariant-loop-piece : goal.invariant-loop-piece
+invariant-loop-piece l = record {
+  sound : IsSound l.self;
+  same : (more : Steps) → next_in more l.left (rest_of l.initial.self) ≡ next_in more l.left (rest_of l.self);
+}
+
+abbrev pub decreases-loop-piece : goal.decreases-loop-piece
+decreases-loop-piece l = length (rest_of l.self)

@@ -1,0 +1,5 @@
+pub mod Steps
+pub mod Walk
+pub mod Walker
+pub mod Cursor
+pub mod Line

@@ -1,0 +1,69 @@
+// The part of a format that is used again at its end.
+ghost use Rattle.std.specs.Prelude.{◌≡◌, ◌≤◌};
+ghost use Rattle.fj_format.specs.Unfolding.{again_items, is_group, pass, written_out, height};
+ghost use Rattle.fj_control.specs.Steps.{has_data};
+
+use fj_format::FormatItem;
+
+/// Whether an item is a group.
+fn is_group_item(item: &FormatItem) -> bool
+    ensures { result ≡ is_group item.now }
+{
+    match item {
+        FormatItem::Group { .. } => true,
+        FormatItem::Field { .. }
+        | FormatItem::Str(_)
+        | FormatItem::Tab(_)
+        | FormatItem::Left(_)
+        | FormatItem::Right(_)
+        | FormatItem::Skip(_)
+        | FormatItem::Slash(_)
+        | FormatItem::Colon
+        | FormatItem::Mode(_) => false,
+    }
+}
+
+/// The items from the last group on, or all where there is none.
+pub fn again_of(items: &[FormatItem]) -> &[FormatItem]
+    ensures items { result.now ≡ again_items items.now }
+    ensures low { height result.now ≤ height items.now }
+{
+    for i in (0..items.len()).rev() {
+        if is_group_item(&items[i]) {
+            return &items[i..];
+        }
+    }
+    items
+}
+
+/// Whether an item has a data descriptor.
+#[cycle(data)]
+fn item_has_data(item: &FormatItem) -> bool
+    ensures { result ≡ has_data (written_out item.now) }
+{
+    match item {
+        FormatItem::Field { r, .. } => *r > 0,
+        FormatItem::Group { r, items } => *r > 0 && have_data(items.as_slice()),
+        FormatItem::Slash(_) => false,
+        FormatItem::Str(_)
+        | FormatItem::Tab(_)
+        | FormatItem::Left(_)
+        | FormatItem::Right(_)
+        | FormatItem::Skip(_)
+        | FormatItem::Colon
+        | FormatItem::Mode(_) => false,
+    }
+}
+
+/// Whether some item has a data descriptor.
+#[cycle(data)]
+pub fn have_data(items: &[FormatItem]) -> bool
+    ensures { result ≡ has_data (pass items.now) }
+{
+    for item in items {
+        if item_has_data(item) {
+            return true;
+        }
+    }
+    false
+}

@@ -1,0 +1,110 @@
+// A walk of a format, one step a call.
+ghost use Rattle.std.specs.Prelude.{◌≡◌};
+ghost use Rattle.fj_format.specs.Unfolding.{again};
+ghost use Rattle.fj_control.specs.Steps.{steps, RoundsAreEnough, RevertsToTheLastGroup, RevertsToTheStart};
+ghost use Rattle.fj_control.specs.Walk.{begun, given, next_of, GivesWhatIsDue, GivesTheSteps};
+
+use crate::again::{again_of, have_data};
+use crate::step::Step;
+use crate::walker::{Walked, Walker};
+use fj_format::{Format, FormatItem};
+use std::marker::Model;
+
+#[derive(Clone, Copy)]
+enum State {
+    Walking,
+    Done,
+    NoData,
+}
+
+/// A walk of a format. It borrows the format and takes no memory.
+#[derive(Drop)]
+pub struct Cursor<'a> {
+    walker: Walker<'a>,
+    /// The items that are used again at the end of a pass.
+    again: &'a [FormatItem],
+    /// Whether these have a data descriptor.
+    has_data: bool,
+    state: State,
+}
+
+impl<'a> Model for Cursor<'a> {
+    ghost use Rattle.fj_control.specs.Walk.{Walk};
+
+    ghost Value = { Walk };
+
+    ghost use Rattle.fj_control.specs.Cursor.{walk_of, IsReady};
+
+    ghost view = { walk_of };
+
+    ghost invariant = { IsReady };
+}
+
+impl<'a> Cursor<'a> {
+    pub fn new(format: &'a Format) -> Cursor<'a>
+        ensures { result ≡ begun format.entry.now }
+    {
+        let list = format.items();
+        let items = list.as_slice();
+        let again = again_of(items);
+        Cursor {
+            walker: Walker::new(items),
+            again,
+            has_data: have_data(again),
+            state: State::Walking,
+        }
+    }
+
+    /// The next step, where an item is left or not. After `Done` or `NoData` it is the same again.
+    pub fn next(&mut self, left: bool) -> Step<'a>
+        ensures given { given result ≡ (next_of self.old left).0 }
+        ensures walk { self.new ≡ (next_of self.old left).1 }
+        ensures due { GivesWhatIsDue self.old left (given result) self.new }
+    {
+        self.advance(left)
+    }
+
+    /// Goes on to the next step, or to the end of control.
+    fn advance(&mut self, left: bool) -> Step<'a>
+        ensures given { given result ≡ (next_of self.old left).0 }
+        ensures walk { self.new ≡ (next_of self.old left).1 }
+    {
+        match self.state {
+            State::Done => Step::Done,
+            State::NoData => Step::NoData,
+            State::Walking => match self.walker.walk(left) {
+                Walked::Gave(step) => step,
+                Walked::Stopped => {
+                    self.state = State::Done;
+                    Step::Done
+                }
+                Walked::Ended => {
+                    if !left {
+                        self.state = State::Done;
+                        return Step::Done;
+                    }
+                    if !self.has_data {
+                        self.state = State::NoData;
+                        return Step::NoData;
+                    }
+                    self.walker.restart(self.again);
+                    Step::Slash
+                }
+            },
+        }
+    }
+}
+
+/// The calls of `next` over a format, each told whether an item is left, give the format's steps and nothing else, for
+/// any number of items.
+pub fn gives_the_steps()
+    ensures run { GivesTheSteps }
+    ensures enough { RoundsAreEnough }
+{}
+
+/// Control reverts to the item that the last right parenthesis before that of the format ends, or to the start of the
+/// format where there is none.
+pub fn reverts_to_the_last_group()
+    ensures group { RevertsToTheLastGroup }
+    ensures start { RevertsToTheStart }
+{}

@@ -1,0 +1,5 @@
+pub mod Split
+pub mod Words
+pub mod Line
+pub mod Reading
+pub mod Spelling

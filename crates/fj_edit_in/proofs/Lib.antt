@@ -1,0 +1,5 @@
+pub mod FieldCases
+pub mod Halves
+pub mod Leading
+pub mod Scanned
+pub mod Trimmed

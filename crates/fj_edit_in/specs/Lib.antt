@@ -1,0 +1,3 @@
+pub mod InputField
+pub mod Scan
+pub mod BlankLaws

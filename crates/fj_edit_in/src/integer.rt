@@ -1,0 +1,77 @@
+// Integers in decimal: I, and G at integers.
+ghost use Rattle.std.specs.Prelude.{◌≡◌, ◌≤◌, IsOkAnd};
+ghost use Rattle.fj_value.specs.Kind.{fits_bits};
+ghost use Rattle.fj_edit_in.specs.InputField.{integer_input, signed_number, signed_digits, with_sign, trimmed, Reads};
+ghost use Rattle.fj_edit_in.specs.Scan.{in_range, integer_or_condition};
+
+use crate::number::number;
+use crate::trim::skip_blanks;
+use fj_value::{Condition, Edit, EditModes, Kind, Value};
+use std::alloc::{AllocError, Global};
+
+/// The number of an amount and a sign, where it is one of so many bits.
+fn signed(bits: u32, negative: bool, amount: u64) -> Option<i64>
+    requires { (1 ≤ bits) × (bits ≤ 64) }
+    ensures { result ≡ in_range bits (with_sign negative amount) }
+{
+    let limit = 1 << (bits - 1);
+    if negative && amount == limit {
+        return Some(-((limit - 1) as i64) - 1);
+    }
+    if amount >= limit {
+        return None;
+    }
+    let amount = amount as i64;
+    Some(if negative { -amount } else { amount })
+}
+
+/// The number of digits behind a sign.
+#[tactic(auto, using(crate::proofs::Halves::half_small))]
+fn signed_digits(
+    bits: u32,
+    negative: bool,
+    blank_zero: bool,
+    digits: &[u8],
+) -> Result<i64, Condition>
+    requires { (1 ≤ bits) × (bits ≤ 64) }
+    ensures { result ≡ integer_or_condition bits (signed_digits negative blank_zero digits.now) }
+{
+    let amount = number(10, blank_zero, digits)?;
+    signed(bits, negative, amount).ok_or(Condition::Error(14))
+}
+
+/// The number of a field without blanks in front.
+fn integer_of(bits: u32, blank_zero: bool, field: &[u8]) -> Result<i64, Condition>
+    requires { (1 ≤ bits) × (bits ≤ 64) }
+    ensures { result ≡ integer_or_condition bits (signed_number blank_zero field.now) }
+{
+    match field {
+        [] => Ok(0),
+        [b'-', digits @ ..] => signed_digits(bits, true, blank_zero, digits),
+        [b'+', digits @ ..] => signed_digits(bits, false, blank_zero, digits),
+        _ => signed_digits(bits, false, blank_zero, field),
+    }
+}
+
+/// Reads an integer under I or G. It takes no memory.
+pub fn read_int(
+    _alloc: Global,
+    edit: Edit,
+    kind: Kind,
+    modes: EditModes,
+    chars: &[u8],
+    out: &mut Value,
+) -> Result<Condition, AllocError>
+    ensures { IsOkAnd result (Reads (integer_input edit kind modes.blank_zero chars.now) out.old out.new) }
+{
+    let (Some(_), Some(bits)) = (edit.integer_widths(), kind.integer_bits()) else {
+        return Ok(Condition::Error(12));
+    };
+    match integer_of(bits, modes.blank_zero, skip_blanks(chars)) {
+        Ok(n) => {
+            *out = Value::Int(n);
+            Ok(Condition::Fine)
+        }
+        Err(condition) => Ok(condition),
+    }
+}

@@ -1,0 +1,39 @@
+// Characters: A, and G at characters.
+ghost use Rattle.std.specs.Prelude.{◌≡◌, IfOk, OnErr, IsSome};
+ghost use Rattle.fj_value.specs.Kind.{text_length};
+ghost use Rattle.fj_edit_in.specs.InputField.{text_input, characters_read, Reads};
+
+use fj_value::{Condition, Edit, EditModes, Kind, Text, Value};
+use std::alloc::{AllocError, Global};
+
+/// The last characters, up to the length of the variable, with blanks behind where there are fewer.
+fn characters_of(alloc: Global, length: u32, chars: &[u8]) -> Result<Text, AllocError>
+    ensures { IfOk result (λ text. text ≡ characters_read length chars.now) }
+{
+    let skipped = chars.len().saturating_sub(length as usize);
+    let missing = (length as usize).saturating_sub(chars.len());
+    let mut text = Text::from_bytes(alloc, &chars[skipped..])?;
+    text.push_copies(b' ', missing as u32)?;
+    Ok(text)
+}
+
+/// Reads characters under A or G. Want of memory leaves the variable as it was.
+pub fn read_text(
+    alloc: Global,
+    edit: Edit,
+    kind: Kind,
+    _modes: EditModes,
+    chars: &[u8],
+    out: &mut Value,
+) -> Result<Condition, AllocError>
+    ensures ok { IfOk result (Reads (text_input edit kind chars.now) out.old out.new) }
+    ensures err { OnErr result (out.new ≡ out.old) }
+    ensures only_characters_take_memory { OnErr result (IsSome (text_length kind)) }
+{
+    let (Some(_), Kind::Chars(length)) = (edit.text_width(), kind) else {
+        return Ok(Condition::Error(12));
+    };
+    let text = characters_of(alloc, length, chars)?;
+    *out = Value::Chars(text);
+    Ok(Condition::Fine)
+}

@@ -1,0 +1,14 @@
+pub mod Choices
+pub mod Rest
+pub mod Forward
+pub mod Back
+pub mod Ends
+pub mod Scanned
+pub mod Counts
+pub mod Heights
+pub mod Parsed
+pub mod Texts
+pub mod Printed
+pub mod Decided
+pub mod Cases
+pub mod Withins

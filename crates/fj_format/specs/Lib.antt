@@ -1,0 +1,13 @@
+pub mod Unfolding
+pub mod UnfoldingLaws
+pub mod Symbols
+pub mod Marks
+pub mod Grammar
+pub mod Reading
+pub mod Scanning
+pub mod Parsing
+pub mod Sound
+pub mod Printing
+pub mod PrintingLaws
+pub mod Laws
+pub mod Within

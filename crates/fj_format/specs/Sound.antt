@@ -1,0 +1,11 @@
+-- What holds of every format that was read.
+use Rattle.std.specs.Prelude.{ℕ, ◌≤◌, List, length}
+use Rattle.fj_format.specs.declared.item.FormatItem.{FormatItem}
+use Rattle.fj_format.specs.Grammar.{IsFormat}
+use Rattle.fj_format.specs.Unfolding.{pass, height}
+
+-- Some text is a format with these items, one pass of which has no more elementary steps than a format may have.
+pub record IsSound (items : List FormatItem) : Type 0 where
+  pub written : ∥ ((text : List ℕ) × IsFormat text items) ∥₁
+  pub short : length (pass items) ≤ 1000000
+  pub low : height items ≤ 31

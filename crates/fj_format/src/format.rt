@@ -1,0 +1,81 @@
+// A format as a whole (ISO/IEC 1539-1:2004, 10.1 and 10.2).
+ghost use Rattle.std.specs.Prelude.{◌≡◌, ◌<◌, ◌≤◌, ◌^◌, IfOk, length, All};
+ghost use Rattle.fj_format.specs.Parsing.{Parses};
+ghost use Rattle.fj_format.specs.Sound.{IsSound};
+ghost use Rattle.fj_format.specs.Unfolding.{height, pass};
+ghost use Rattle.fj_format.specs.Within.{IsStepWithin};
+
+use crate::count::{MOST_STEPS, pass_count};
+use crate::fault::FormatFault;
+use crate::item::{FormatItems, copy_items};
+use crate::scanner::Scanner;
+use std::alloc::{AllocError, Global};
+use std::marker::Model;
+
+/// A format, seen as the list of its items.
+#[derive(Drop)]
+pub struct Format {
+    items: FormatItems,
+}
+
+impl Model for Format {
+    ghost use Rattle.std.specs.Prelude.{List};
+    ghost use Rattle.fj_format.specs.declared.item.FormatItem.{FormatItem};
+    ghost use Rattle.fj_format.specs.contracts.item.FormatItem as item;
+    ghost use Rattle.std.specs.Coded.{codes};
+
+    ghost Value = { List FormatItem };
+
+    ghost coded = { Prim.hlevel (codes, item.the_row.coded) };
+
+    ghost use Rattle.fj_format.specs.Sound.{IsSound};
+
+    ghost view = { λ format. format.items };
+
+    ghost invariant = { λ format. IsSound format.items };
+}
+
+impl Format {
+    /// Its items.
+    pub fn items(&self) -> &FormatItems
+        ensures value { result.now ≡ self.now }
+        ensures sound { IsSound self.now }
+        ensures low { height self.now ≤ 31 }
+        ensures within { All IsStepWithin (pass self.now) }
+    {
+        &self.items
+    }
+
+    /// An equal format.
+    pub fn try_clone(&self) -> Result<Format, AllocError>
+        ensures { IfOk result (λ copy. copy ≡ self.now) }
+    {
+        Ok(Format {
+            items: copy_items(self.items.allocator(), &self.items)?,
+        })
+    }
+}
+
+/// Reads a format. Blanks and tabs have no effect outside strings, nor has anything behind the last
+/// parenthesis (10.1.1 and 10.1.2).
+pub fn parse(alloc: Global, text: &[u8]) -> Result<Format, FormatFault>
+    requires { length text.now < 2 ^ 32 }
+    ensures { Parses text.now result }
+{
+    let mut scanner = Scanner::new(alloc);
+    for (i, c) in text.iter().enumerate() {
+        if !scanner.take(*c)? {
+            return Err(FormatFault::NotAFormat { at: i as u32 });
+        }
+        if scanner.is_done() {
+            let items = scanner.into_items();
+            if pass_count(&items) > MOST_STEPS {
+                return Err(FormatFault::TooMany);
+            }
+            return Ok(Format { items });
+        }
+    }
+    Err(FormatFault::NotAFormat {
+        at: text.len() as u32,
+    })
+}

@@ -1,0 +1,23 @@
+//! Formats: the reader of their grammar, their items, what one pass of them is, and their text
+//! (ISO/IEC 1539-1:2004, 10.1 to 10.3).
+#![tactic(auto)]
+
+mod count;
+mod fault;
+mod format;
+mod item;
+mod laws;
+mod level;
+mod place;
+mod printer;
+mod reader;
+mod scanner;
+mod symbol;
+#[cfg(test)]
+mod tests;
+
+pub use fault::FormatFault;
+pub use format::{Format, parse};
+pub use item::{FormatItem, FormatItems, ModeStep};
+pub use laws::{items_print, passes_unfold, texts_are_unambiguous};
+pub use printer::print;

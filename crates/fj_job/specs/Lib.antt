@@ -1,0 +1,4 @@
+pub mod Taken
+pub mod Report
+pub mod Reply
+pub mod Answers

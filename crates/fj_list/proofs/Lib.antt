@@ -1,0 +1,13 @@
+pub mod Doubling
+pub mod LayoutLaws
+pub mod Widths
+pub mod StreamLaws
+pub mod Delimiting
+pub mod Numbers
+pub mod Tokens
+pub mod Outcomes
+pub mod Plain
+pub mod ReadAgain
+pub mod ListCases
+pub mod BreakLaws
+pub mod Ends

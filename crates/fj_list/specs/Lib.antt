@@ -1,0 +1,12 @@
+pub mod Records
+pub mod Moved
+pub mod ListText
+pub mod Layout
+pub mod Stream
+pub mod Constant
+pub mod ListInput
+pub mod Scan
+pub mod Scanned
+pub mod ReadAgain
+pub mod Breaks
+pub mod LookedAt

@@ -1,0 +1,28 @@
+// The cells of a statement's items.
+use fj_value::{Cell, Items, Kind, Text};
+
+/// Cells with distinct places.
+pub type Cells = Items<Cell>;
+
+/// The cell of each item of a statement, in the order of the items.
+pub type Order = Items<u32>;
+
+/// The cells that a statement transfers.
+#[derive(Debug, Drop)]
+pub struct Moved {
+    pub cells: Cells,
+    /// Each number is below the number of cells.
+    pub order: Order,
+}
+
+/// A variable of a namelist group. Where it is a scalar its count is 1; an array may have the count 1 too.
+#[derive(Debug, Drop)]
+pub struct GroupMember {
+    pub name: Text,
+    pub kind: Kind,
+    /// Its first cell.
+    pub first: u32,
+    /// Its number of cells.
+    pub count: u32,
+    pub scalar: bool,
+}

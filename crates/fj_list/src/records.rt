@@ -1,0 +1,52 @@
+// Where list-directed and namelist input take their records from.
+ghost use Rattle.std.specs.Prelude.{◌≡◌, ◌<◌, ◌≤◌, ◌↔◌, List, ℕ, Option, IfOk};
+ghost use Rattle.fj_outside.specs.Faults.{Rose};
+ghost use Rattle.fj_value.specs.declared.condition.Condition.{Condition};
+ghost use Rattle.fj_list.specs.Records.{Brings};
+
+use fj_outside::Stop;
+use fj_value::{Condition, Text};
+
+/// What is there in place of a next record.
+#[derive(Clone, Copy, Debug, PartialEq, Eq)]
+pub enum More {
+    /// The next record.
+    Record,
+    /// The end of the records.
+    End,
+    /// The condition of a record that cannot be had.
+    Refused(Condition),
+}
+
+/// Records one after another. The clauses on what they are hold where it tells, up to a `Stop`.
+pub trait Records {
+    /// Whether it tells what is to come.
+    ghost tells: { Self → Type 0 };
+
+    /// The records still to come.
+    ghost to_come: { Self → List (List ℕ) };
+
+    /// The condition that stands behind them, or none at the end.
+    ghost ending: { Self → Option Condition };
+
+    /// No fewer than the records still to come, told or not.
+    ghost bound: { Self → ℕ };
+
+    /// Its count of faults.
+    ghost count: { Self → ℕ };
+
+    /// Replaces a text by the characters of the next record. After any other answer nothing is said of the text.
+    fn next(&mut self, into: &mut Text) -> Result<More, Stop>
+        ensures telling { tells self.old ↔ tells self.new }
+        ensures contents { tells self.old → IfOk result (λ more.
+            Brings more (to_come self.old) (ending self.old) into.new (to_come self.new)) }
+        ensures same { tells self.old → IfOk result (λ _. ending self.new ≡ ending self.old) }
+        ensures fewer { result ≡ Ok More.Record → bound self.new < bound self.old }
+        ensures bounded { bound self.new ≤ bound self.old }
+        ensures later { count self.old ≤ count self.new }
+        ensures failed { result ≡ Err Stop.Failed → Rose (count self.old) (count self.new) };
+
+    /// How many faults it had. The count stays at `u64::MAX` once it is there.
+    fn faults(&self) -> u64
+        ensures { result ≡ count self.now };
+}

@@ -1,0 +1,71 @@
+// The text of a value in list-directed output.
+ghost use Rattle.std.specs.Prelude.{◌≡◌, ◌++◌, OnOk};
+ghost use Rattle.fj_list.specs.ListText.{mark_of, doubled, characters_shown, integer_shown, shown, is_characters};
+
+use fj_value::{Delim, EditModes, Text, Value};
+use itoa::Buffer;
+use std::alloc::AllocError;
+
+/// The mark round characters.
+pub fn mark_of(delim: Delim) -> Option<u8>
+    ensures { result ≡ mark_of delim }
+{
+    match delim {
+        Delim::Plain => None,
+        Delim::Apostrophe => Some(b'\''),
+        Delim::Quote => Some(b'"'),
+    }
+}
+
+pub fn is_characters(value: &Value) -> bool
+    ensures { result ≡ is_characters value.now }
+{
+    matches!(value, Value::Chars(_))
+}
+
+fn push_integer(out: &mut Text, plus: bool, n: i64) -> Result<(), AllocError>
+    ensures { OnOk result (out.new ≡ out.old ++ integer_shown plus n) }
+{
+    if plus && n >= 0 {
+        out.push_all(b"+")?;
+    }
+    let mut buffer = Buffer::new();
+    out.push_all(buffer.format(n).as_bytes())
+}
+
+/// Appends characters with each mark among them doubled.
+fn push_doubled(out: &mut Text, mark: u8, characters: &[u8]) -> Result<(), AllocError>
+    ensures { OnOk result (out.new ≡ out.old ++ doubled mark characters.now) }
+{
+    let mut start = 0;
+    for (i, c) in characters.iter().enumerate() {
+        if *c == mark {
+            out.push_all(&characters[start..=i])?;
+            start = i;
+        }
+    }
+    out.push_all(&characters[start..])
+}
+
+fn push_characters(out: &mut Text, mark: Option<u8>, characters: &[u8]) -> Result<(), AllocError>
+    ensures { OnOk result (out.new ≡ out.old ++ characters_shown mark characters.now) }
+{
+    let Some(mark) = mark else {
+        return out.push_all(characters);
+    };
+    out.push_all(&[mark])?;
+    push_doubled(out, mark, characters)?;
+    out.push_all(&[mark])
+}
+
+/// Appends the text of a value. After want of memory nothing is said of the text.
+pub fn push_value(out: &mut Text, modes: EditModes, value: &Value) -> Result<(), AllocError>
+    ensures { OnOk result (out.new ≡ out.old ++ shown modes value.now) }
+{
+    match value {
+        Value::Undefined => Ok(()),
+        Value::Int(n) => push_integer(out, modes.plus, *n),
+        Value::Log(truth) => out.push_all(if *truth { b"T" } else { b"F" }),
+        Value::Chars(text) => push_characters(out, mark_of(modes.delim), text.bytes()),
+    }
+}

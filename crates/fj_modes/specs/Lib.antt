@@ -1,0 +1,4 @@
+pub mod Words
+pub mod OpenSpec
+pub mod Modes
+pub mod Laws

@@ -1,0 +1,5 @@
+pub mod ByteLaws
+mod Cases
+mod FaultLaws
+pub mod HoldingLaws
+mod TableLaws

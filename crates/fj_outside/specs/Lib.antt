@@ -1,0 +1,10 @@
+pub mod Faults
+pub mod Bytes
+pub mod Holdings
+pub mod Table
+pub mod Plan
+pub mod Plans
+pub mod FailingSource
+pub mod FailingSink
+pub mod FailingFile
+pub mod FailingDisk

@@ -1,0 +1,4 @@
+pub mod RealSource
+pub mod RealSink
+pub mod RealFile
+pub mod RealDisk

@@ -1,0 +1,123 @@
+// The files of the current folder.
+ghost use Rattle.std.specs.Prelude.{◌≡◌, ◌≢◌, ◌≤◌, IfOk, IfSome};
+ghost use Rattle.std.specs.FinMap as map;
+ghost use Rattle.std.specs.FinSet as set;
+ghost use Rattle.fj_outside.specs.Faults.{Rose};
+ghost use Rattle.fj_real.specs.RealFile.{file_size, file_count};
+
+use crate::file::RealFile;
+use fj_outside::{Disk, Failed, FileStore, Stop};
+use std::alloc::Global;
+use std::fs::{self, File, OpenOptions};
+use std::io::{self, ErrorKind};
+use std::rt::Files;
+
+/// The files of the current folder. It tells nothing.
+#[derive(Drop)]
+pub struct RealDisk<R> {
+    rt: R,
+    faults: u64,
+}
+
+/// An empty file of that name, in place of one that is there.
+fn create_file<R: Files<File = File>>(rt: &R, name: &str) -> io::Result<RealFile>
+    ensures { IfOk result (λ file. (file_size file ≡ 0) × (file_count file ≡ 0)) }
+{
+    let file = OpenOptions::new()
+        .read(true)
+        .write(true)
+        .create(true)
+        .truncate(true)
+        .open(rt, name)?;
+    Ok(RealFile::new(file, 0))
+}
+
+/// The file of that name.
+fn open_file<R: Files<File = File>>(rt: &R, name: &str) -> io::Result<RealFile>
+    ensures { IfOk result (λ file. file_count file ≡ 0) }
+{
+    let file = OpenOptions::new().read(true).write(true).open(rt, name)?;
+    let size = file.metadata()?.len();
+    Ok(RealFile::new(file, size))
+}
+
+impl<R: Files<File = File>> RealDisk<R> {
+    ghost use Rattle.fj_real.specs.RealDisk.{disk_count};
+
+    pub fn new(rt: R) -> RealDisk<R>
+        ensures { disk_count result ≡ 0 }
+    {
+        RealDisk { rt, faults: 0 }
+    }
+
+    fn fail(&mut self)
+        ensures later { disk_count self.old ≤ disk_count self.new }
+        ensures rose { Rose (disk_count self.old) (disk_count self.new) }
+    {
+        self.faults = self.faults.saturating_add(1);
+    }
+}
+
+impl<R: Files<File = File>> Disk for RealDisk<R> {
+    type File = RealFile;
+
+    ghost tells = { λ _. ⊥ };
+
+    ghost held = { λ _. record { files = map.empty; in_use = set.empty; hurt = set.empty } };
+
+    ghost refusals = { λ _. 0 };
+
+    ghost count = { λ disk. disk.faults };
+
+    fn exists(&mut self, name: &str) -> Result<bool, Failed> {
+        match fs::exists(&self.rt, name) {
+            Ok(there) => Ok(there),
+            Err(_) => {
+                self.fail();
+                Err(Failed)
+            }
+        }
+    }
+
+    /// A folder, and a file that may not be read and written, is a fault.
+    fn take(&mut self, _alloc: Global, name: &str) -> Result<Option<RealFile>, Stop> {
+        match open_file(&self.rt, name) {
+            Ok(file) => Ok(Some(file)),
+            Err(e) if e.kind() == ErrorKind::NotFound => Ok(None),
+            Err(_) => {
+                self.fail();
+                Err(Stop::Failed)
+            }
+        }
+    }
+
+    fn create(&mut self, _alloc: Global, name: &str) -> Result<RealFile, Stop> {
+        match create_file(&self.rt, name) {
+            Ok(file) => Ok(file),
+            Err(_) => {
+                self.fail();
+                Err(Stop::Failed)
+            }
+        }
+    }
+
+    fn give(&mut self, _name: &str, file: RealFile) {
+        if file.faults() != 0 {
+            self.fail();
+        }
+    }
+
+    fn remove(&mut self, name: &str) -> Result<(), Failed> {
+        match fs::remove_file(&self.rt, name) {
+            Ok(()) => Ok(()),
+            Err(_) => {
+                self.fail();
+                Err(Failed)
+            }
+        }
+    }
+
+    fn faults(&self) -> u64 {
+        self.faults
+    }
+}

@@ -1,0 +1,76 @@
+// One run over a real file. The expected values are those of any file system.
+use crate::{RealDisk, RealSink, RealSource};
+use fj_outside::{Disk, Failed, FileStore, Sink, Source};
+use std::fs;
+use std::test::Fail;
+
+const NAME: &str = "fj_real-test-of-a-file.tmp";
+
+/// Takes only what may go to another thread.
+fn sent<T: Send>(value: T) -> T {
+    value
+}
+
+/// Writes `help me` in two pieces.
+fn write<F: FileStore>(file: &mut F) -> bool {
+    file.len() == 0
+        && file.write_at(0, b"hello").is_ok()
+        && file.len() == 5
+        && file.write_at(3, b"p me").is_ok()
+        && file.len() == 7
+}
+
+/// Reads the end of `help me`, and cuts it to `help`.
+fn read_and_cut<F: FileStore>(file: &mut F) -> bool {
+    let mut buf = [b'.'; 8];
+    file.len() == 7
+        && file.read_at(2, &mut buf) == Ok(5)
+        && buf == *b"lp me..."
+        && file.cut(4).is_ok()
+        && file.len() == 4
+        && file.read_at(4, &mut buf) == Ok(0)
+        && file.faults() == 0
+}
+
+/// Reads `help` from a source, to its end.
+fn read_all<S: Source>(source: &mut S) -> bool {
+    let mut buf = [b'.'; 8];
+    source.read(&mut buf) == Ok(4)
+        && buf == *b"help...."
+        && source.read(&mut buf) == Ok(0)
+        && source.faults() == 0
+}
+
+#[test]
+fn keeps_what_is_written(rt: HostRuntime) -> Result<(), Fail> {
+    let alloc = rt.alloc();
+    let mut disk = sent(RealDisk::new(rt.clone()?));
+    let mut file = sent(disk.create(alloc, NAME)?);
+    let wrote = write(&mut file);
+    disk.give(NAME, file);
+    let mut file = disk.take(alloc, NAME)?.ok_or(Failed)?;
+    let read = read_and_cut(&mut file);
+    disk.give(NAME, file);
+    assert!(rt; wrote && read);
+    assert_eq!(rt; disk.exists(NAME)?, true);
+    assert!(rt; read_all(&mut RealSource::new(fs::open(&rt, NAME)?)));
+    assert_eq!(rt; RealSink::new(fs::create(&rt, NAME)?).write(b"ab")?, 2);
+    assert_eq!(rt; fs::read_to_string(&rt, NAME)?.as_str(), "ab");
+    disk.remove(NAME)?;
+    assert_eq!(rt; disk.exists(NAME)?, false);
+    assert_eq!(rt; disk.faults(), 0);
+    Ok(())
+}
+
+#[test]
+fn a_folder_is_no_file(rt: HostRuntime) -> Result<(), Fail> {
+    let alloc = rt.alloc();
+    let mut disk = RealDisk::new(rt.clone()?);
+    assert!(rt; disk.take(alloc, "fj_real-test-absent.tmp")?.is_none());
+    assert_eq!(rt; disk.faults(), 0);
+    assert!(rt; disk.take(alloc, ".").is_err());
+    assert!(rt; disk.create(alloc, ".").is_err());
+    assert!(rt; disk.remove("fj_real-test-absent.tmp").is_err());
+    assert_eq!(rt; disk.faults(), 3);
+    Ok(())
+}

@@ -1,0 +1,15 @@
+//! Formatted records in files: bytes as a list of lines.
+#![tactic(auto)]
+
+mod append;
+mod backspace;
+mod laws;
+mod read;
+
+pub use append::append_records;
+pub use backspace::backspace_line;
+pub use laws::{lines_begin_with_the_first, lines_end_with_the_last, lines_put_together};
+pub use read::{RecordRead, read_record};
+
+#[cfg(test)]
+mod tests;

@@ -1,0 +1,110 @@
+// A formatted record read from a file.
+ghost use Rattle.std.specs.Prelude.{◌≡◌, ◌+◌, ◌-◌, ◌<◌, ◌≤◌, ◌==◌, [], ◌++◌, length, take, drop, IfOk, IfSome, IfNone, OnOk, OnErr, ◌↔◌, IsTrue, ℕ, Some, None};
+ghost use Rattle.std.specs.List.{position_or_len};
+ghost use Rattle.std.specs.Str.Lines.{strip_carriage_return};
+ghost use Rattle.fj_outside.specs.Faults.{Rose};
+ghost use Rattle.fj_seqrec.specs.Lines.{is_line_feed};
+ghost use Rattle.fj_seqrec.specs.Reading.{record_at, HoldsRecord, IsWithin};
+
+use fj_outside::{FileStore, Stop};
+use fj_value::Text;
+use memchr::memchr;
+use std::alloc::AllocError;
+
+/// So many bytes are asked of a file at once.
+const PIECE: usize = 1024;
+
+/// What a read of a formatted record found.
+#[derive(Clone, Copy, Debug, PartialEq, Eq)]
+pub enum RecordRead {
+    /// A record; the next one begins at this place.
+    Line { next: u64 },
+    /// The end of the file, which is the endfile record (ISO/IEC 1539-1:2004, 9.1.3).
+    End,
+    /// A record of more characters than the limit.
+    TooLong,
+}
+
+/// Reads the formatted record that begins at a place, which is at most the file's length. `into` gets its characters,
+/// and after a `Stop` is of no account.
+pub fn read_record<F: FileStore>(
+    file: &mut F,
+    at: u64,
+    limit: u32,
+    into: &mut Text,
+) -> Result<RecordRead, Stop>
+    requires { at ≤ F.size file.old }
+    ensures telling { F.tells file.old ↔ F.tells file.new }
+    ensures same { F.tells file.old → F.bytes file.new ≡ F.bytes file.old }
+    ensures answer { F.tells file.old → IfOk result (λ read. read ≡ record_at (F.bytes file.old) at limit) }
+    ensures text { F.tells file.old → IfOk result (λ read. HoldsRecord (F.bytes file.old) at read into.new) }
+
+    // Told or not.
+    ensures within { IfOk result (λ read. IsWithin (F.size file.old) at limit read into.new) }
+    ensures size { F.size file.new ≡ F.size file.old }
+    ensures later { F.count file.old ≤ F.count file.new }
+    ensures failed { result ≡ Err Stop.Failed → Rose (F.count file.old) (F.count file.new) }
+{
+    let len = file.len();
+    let mut piece = [0u8; PIECE];
+    let mut from = at;
+    into.clear();
+    'reading: while from < len {
+        let count = file.read_at(from, &mut piece)?;
+        match take_line(&piece[..count], into)? {
+            Some(width) => {
+                drop_return(into);
+                return Ok(fitted(into, limit, from + width as u64 + 1));
+            }
+            None => from += count as u64,
+        }
+        if into.len() > limit as usize + 1 {
+            into.clear();
+            return Ok(RecordRead::TooLong);
+        }
+    }
+    if into.is_empty() {
+        return Ok(RecordRead::End);
+    }
+    Ok(fitted(into, limit, len))
+}
+
+/// Adds the front of a piece up to its first line feed, whose place it answers, or the whole piece.
+fn take_line(piece: &[u8], into: &mut Text) -> Result<Option<usize>, AllocError>
+    ensures found { IfOk result (λ found. IfSome found (λ width.
+        (width < length piece.now) × (width ≡ position_or_len is_line_feed piece.now) × (into.new ≡ into.old ++ take width piece.now))) }
+    ensures none { IfOk result (λ found. IfNone found
+        ((length piece.now ≡ position_or_len is_line_feed piece.now) × (into.new ≡ into.old ++ piece.now))) }
+{
+    match memchr(b'\n', piece) {
+        Some(width) => {
+            into.push_all(&piece[..width])?;
+            Ok(Some(width))
+        }
+        None => {
+            into.push_all(piece)?;
+            Ok(None)
+        }
+    }
+}
+
+/// Drops one carriage return at the end.
+fn drop_return(line: &mut Text)
+    ensures { line.new ≡ strip_carriage_return line.old }
+{
+    if let Some(b'\r') = line.bytes().last() {
+        line.truncate(line.len() - 1);
+    }
+}
+
+/// The answer for a whole record, whose text is cleared where it has more characters than the limit.
+fn fitted(line: &mut Text, limit: u32, next: u64) -> RecordRead
+    ensures line { length line.old ≤ limit → (result ≡ RecordRead.Line next) × (line.new ≡ line.old) }
+    ensures too_long { limit < length line.old → (result ≡ RecordRead.TooLong) × (line.new ≡ []) }
+{
+    if line.len() > limit as usize {
+        line.clear();
+        return RecordRead::TooLong;
+    }
+    RecordRead::Line { next }
+}

@@ -1,0 +1,78 @@
+-- The first token of a line that begins with one, and the line behind it.
+use Rattle.std.specs.Prelude.{ℕ, true, false, ◌||◌, ◌&&◌, ◌==◌, nat_lt, List, [], ◌∷◌, ◌++◌, take, drop, map, Option, Some, None, if◌then◌else◌, codes, slice_index, option_map}
+use Rattle.std.specs.List.{prefix_len}
+use Rattle.std.specs.Char.{is_ascii_alphabetic, is_ascii_digit, to_ascii_uppercase}
+use Rattle.std.specs.Str.{bytes_eq, str_to_ascii_lowercase}
+use Rattle.std.specs.Str.Parse.{digits_value}
+use Rattle.fj_syntax.specs.Class.{is_of}
+use Rattle.fj_syntax.specs.declared.class.Class.TheVariants as class
+use Rattle.fj_syntax.specs.declared.token.Token.{Token}
+use Rattle.fj_syntax.specs.declared.token.Token.TheVariants as token
+use Rattle.fj_syntax.specs.declared.token.Mark.{Mark}
+use Rattle.fj_syntax.specs.declared.token.Mark.TheVariants as mark
+use Rattle.fj_syntax.specs.declared.token.Sign.{Sign}
+use Rattle.fj_syntax.specs.declared.token.Sign.TheVariants as sign
+
+-- a token, and the line behind it
+abbrev pub Found : Type 0
+Found = Option (Token × List ℕ)
+
+-- the longest word, of up to 63 characters
+unfoldable pub word_at : List ℕ → Found
+word_at line = let n = prefix_len (is_of class.InWord) line in
+    if nat_lt 63 n then None else Some (token.Word (map to_ascii_uppercase (take n line)), drop n line)
+
+-- the longest run of digits, 1 to 19 of them
+unfoldable pub number_at : Sign → List ℕ → Found
+number_at s line = let n = prefix_len (is_of class.Digit) line in
+    if (n == 0) || nat_lt 19 n then None else Some (token.Number s (digits_value 10 (take n line)), drop n line)
+
+-- with this before the text
+abbrev pub with_front : List ℕ → Option (List ℕ × List ℕ) → Option (List ℕ × List ℕ)
+with_front front None = None
+with_front front (Some (text, behind)) = Some (front ++ text, behind)
+
+abbrev mutual
+  -- the text up to the closing delimiter, and the line behind that
+  pub closed_by : ℕ → List ℕ → Option (List ℕ × List ℕ)
+  closed_by q [] = None
+  closed_by q (c ∷ line) = if c == q then behind_delimiter q line else (if is_of class.InLiteral c then with_front (c ∷ []) (closed_by q line) else None)
+
+  -- a delimiter behind a delimiter is one character
+  pub behind_delimiter : ℕ → List ℕ → Option (List ℕ × List ℕ)
+  behind_delimiter q [] = Some ([], [])
+  behind_delimiter q (c ∷ line) = if c == q then with_front (q ∷ []) (closed_by q line) else Some ([], c ∷ line)
+
+abbrev pub as_literal : Option (List ℕ × List ℕ) → Found
+as_literal None = None
+as_literal (Some (text, behind)) = Some (token.Literal text, behind)
+
+unfoldable pub literal_at : ℕ → List ℕ → Found
+literal_at q line = as_literal (closed_by q line)
+
+-- `.TRUE.` and `.FALSE.`, in either case
+unfoldable pub truth_at : List ℕ → Found
+truth_at line = if bytes_eq (str_to_ascii_lowercase (take 6 line)) (codes ".true.") then Some (token.Truth true, drop 6 line)
+    else (if bytes_eq (str_to_ascii_lowercase (take 7 line)) (codes ".false.") then Some (token.Truth false, drop 7 line) else None)
+
+-- the mark of one byte
+unfoldable pub mark_of : ℕ → Option Mark
+mark_of c = if c == 40 then Some mark.LeftParenthesis else (if c == 41 then Some mark.RightParenthesis else (if c == 44 then Some mark.Comma
+    else (if c == 61 then Some mark.Equals else (if c == 47 then Some mark.Slash else (if c == 42 then Some mark.Asterisk else None)))))
+
+-- `::`, or a mark of one byte
+unfoldable pub mark_at : List ℕ → Found
+mark_at [] = None
+mark_at (c ∷ line) = if (c == 58) && (slice_index line 0 == 58) then Some (token.Mark mark.DoubleColon, drop 1 line)
+    else option_map (λ m. (token.Mark m, line)) (mark_of c)
+
+-- chosen by the first byte
+unfoldable pub first_token : List ℕ → Found
+first_token [] = None
+first_token (c ∷ line) = if is_ascii_alphabetic c then word_at (c ∷ line)
+    else (if is_ascii_digit c then number_at sign.Unsigned (c ∷ line)
+    else (if c == 43 then number_at sign.Plus line
+    else (if c == 45 then number_at sign.Minus line
+    else (if (c == 39) || (c == 34) then literal_at c line
+    else (if c == 46 then truth_at (c ∷ line)
+    else mark_at (c ∷ line))))))

@@ -1,0 +1,16 @@
+pub mod Arguments
+pub mod Calls
+pub mod Choices
+pub mod Class
+pub mod FileName
+pub mod FirstToken
+pub mod Given
+pub mod Grammar
+pub mod Lists
+pub mod PartLaws
+pub mod Parsing
+pub mod Parts
+pub mod Reading
+pub mod Statement
+pub mod Tokens
+pub mod Words

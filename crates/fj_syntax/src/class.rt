@@ -1,0 +1,44 @@
+// Classes of bytes, and the longest front of a text that is of one class.
+ghost use Rattle.std.specs.Prelude.{◌≡◌, ◌≤◌, length};
+ghost use Rattle.std.specs.List.{prefix_len};
+ghost use Rattle.fj_syntax.specs.Class.{is_of};
+
+/// A class of bytes.
+#[derive(Clone, Copy)]
+pub enum Class {
+    /// Any byte but a line feed.
+    InLine,
+    /// A blank or a tab.
+    Blank,
+    /// A letter, a digit or an underscore.
+    InWord,
+    /// What may stand in a character literal: a tab, and every byte from the blank on.
+    InLiteral,
+    Digit,
+}
+
+pub fn is_of(class: Class, byte: u8) -> bool
+    ensures { result ≡ is_of class byte }
+{
+    match class {
+        Class::InLine => byte != b'\n',
+        Class::Blank => byte == b' ' || byte == b'\t',
+        Class::InWord => byte.is_ascii_alphanumeric() || byte == b'_',
+        Class::InLiteral => byte >= b' ' || byte == b'\t',
+        Class::Digit => byte.is_ascii_digit(),
+    }
+}
+
+/// How many bytes of the class a text begins with.
+#[tactic(auto, using(std::proofs::lemmas::List::Sums::prefix_len_is))]
+pub fn run_len(class: Class, bytes: &[u8]) -> usize
+    ensures len { result ≡ prefix_len (is_of class) bytes.now }
+    ensures within { result ≤ length bytes.now }
+{
+    for (at, byte) in bytes.iter().enumerate() {
+        if !is_of(class, *byte) {
+            return at;
+        }
+    }
+    bytes.len()
+}

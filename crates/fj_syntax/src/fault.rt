@@ -1,0 +1,32 @@
+// Why a line is no statement.
+ghost use Rattle.std.specs.Prelude.{◌≡◌};
+
+use std::alloc::{AllocError, AllocFailed};
+
+#[derive(Debug, Drop)]
+pub enum SyntaxFault {
+    Memory(AllocError),
+    /// The line is not in the grammar.
+    NotAStatement,
+}
+
+impl From<AllocError> for SyntaxFault {
+    ghost use Rattle.fj_syntax.specs.declared.fault.SyntaxFault.TheVariants.{Memory};
+
+    ghost from_gives = { λ error fault. fault ≡ Memory error };
+
+    fn from(error: AllocError) -> SyntaxFault {
+        SyntaxFault::Memory(error)
+    }
+}
+
+impl<T: Drop> From<AllocFailed<T>> for SyntaxFault {
+    ghost use Rattle.std.specs.Prelude.{alloc_error};
+    ghost use Rattle.fj_syntax.specs.declared.fault.SyntaxFault.TheVariants.{Memory};
+
+    ghost from_gives = { λ _ fault. fault ≡ Memory alloc_error };
+
+    fn from(_error: AllocFailed<T>) -> SyntaxFault {
+        SyntaxFault::Memory(AllocError)
+    }
+}

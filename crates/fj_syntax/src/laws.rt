@@ -1,0 +1,9 @@
+// Laws of the grammar, which hold of every line.
+ghost use Rattle.fj_syntax.specs.Parsing.{OneListOfTokens, OneStatement, BlankIsNoStatement};
+
+/// A line has one meaning at most, so that what `parse_line` answers is the only answer.
+pub fn one_meaning()
+    ensures tokens { OneListOfTokens }
+    ensures statement { OneStatement }
+    ensures blank { BlankIsNoStatement }
+{}

@@ -1,0 +1,224 @@
+// A line as tokens.
+ghost use Rattle.std.specs.Prelude.{◌≡◌, ◌≤◌, ◌==◌, ◌||◌, Bool, length, take, map, IfOk, Ok, slice_index, option_map, drop};
+ghost use Rattle.fj_syntax.specs.Class.{is_of};
+ghost use Rattle.fj_syntax.specs.declared.class.Class.TheVariants as class;
+ghost use Rattle.fj_syntax.specs.Tokens.{ends_line, Scanned};
+ghost use Rattle.std.specs.Char.{is_ascii_digit, to_ascii_uppercase};
+ghost use Rattle.std.specs.List.{prefix_len, AllPass};
+ghost use Rattle.std.specs.Str.{bytes_eq, str_to_ascii_lowercase};
+ghost use Rattle.std.specs.Str.Parse.{digits_value, AllDigits};
+ghost use Rattle.fj_syntax.specs.FirstToken.{mark_of, first_token, word_at, number_at, closed_by, literal_at, truth_at, mark_at};
+ghost use Rattle.fj_syntax.specs.Reading.{Gives};
+
+use crate::class::{Class, is_of, run_len};
+use crate::fault::SyntaxFault;
+use crate::token::{Mark, Sign, Token};
+use crate::tokens::Tokens;
+use fj_value::Text;
+use std::alloc::{AllocError, Global};
+
+/// The most characters of a name or keyword.
+const MAX_WORD: usize = 63;
+
+/// The most digits of a number.
+const MAX_DIGITS: usize = 19;
+
+fn upper(alloc: Global, bytes: &[u8]) -> Result<Text, AllocError>
+    ensures { IfOk result (λ text. text ≡ map to_ascii_uppercase bytes.now) }
+{
+    let bytes = bytes
+        .iter()
+        .map(|byte| byte.to_ascii_uppercase())
+        .collect(alloc)?;
+    Ok(Text::from_vec(bytes))
+}
+
+#[tactic(auto, unfolding(crate::specs::FirstToken::word_at))]
+fn word(alloc: Global, line: &[u8]) -> Result<(Token, &[u8]), SyntaxFault>
+    ensures { Gives (λ x. (x.0, x.1.now)) result (word_at line.now) }
+{
+    let len = run_len(Class::InWord, line);
+    if len > MAX_WORD {
+        return Err(SyntaxFault::NotAStatement);
+    }
+    let (front, behind) = line.split_at(len);
+    Ok((Token::Word(upper(alloc, front)?), behind))
+}
+
+/// The number that digits write.
+fn amount(digits: &[u8]) -> u64
+    requires short { length digits.now ≤ 19 }
+    requires digits { AllPass is_ascii_digit digits.now }
+    ensures { result ≡ digits_value 10 digits.now }
+{
+    let mut amount = 0;
+    for digit in digits {
+        amount = amount * 10 + u64::from(*digit - b'0');
+    }
+    amount
+}
+
+#[tactic(auto, unfolding(crate::specs::FirstToken::number_at))]
+fn number(sign: Sign, line: &[u8]) -> Result<(Token, &[u8]), SyntaxFault>
+    ensures { Gives (λ x. (x.0, x.1.now)) result (number_at sign line.now) }
+{
+    let len = run_len(Class::Digit, line);
+    if len == 0 || len > MAX_DIGITS {
+        return Err(SyntaxFault::NotAStatement);
+    }
+    let (front, behind) = line.split_at(len);
+    let amount = amount(front);
+    Ok((Token::Number { sign, amount }, behind))
+}
+
+/// The text up to the closing delimiter, and what stands behind that.
+fn closed(alloc: Global, delimiter: u8, line: &[u8]) -> Result<(Vec<u8>, &[u8]), SyntaxFault>
+    ensures { Gives (λ x. (x.0.items, x.1.now)) result (closed_by delimiter line.now) }
+{
+    let mut text = Vec::new(alloc);
+    let mut rest = line;
+    loop {
+        let [byte, behind @ ..] = rest else {
+            return Err(SyntaxFault::NotAStatement);
+        };
+        if *byte != delimiter {
+            if !is_of(Class::InLiteral, *byte) {
+                return Err(SyntaxFault::NotAStatement);
+            }
+            text.push(*byte)?;
+            rest = behind;
+        } else if let [second, after @ ..] = behind
+            && *second == delimiter
+        {
+            text.push(delimiter)?;
+            rest = after;
+        } else {
+            return Ok((text, behind));
+        }
+    }
+}
+
+#[tactic(auto, unfolding(crate::specs::FirstToken::literal_at))]
+fn literal(alloc: Global, delimiter: u8, line: &[u8]) -> Result<(Token, &[u8]), SyntaxFault>
+    ensures { Gives (λ x. (x.0, x.1.now)) result (literal_at delimiter line.now) }
+{
+    let (text, behind) = closed(alloc, delimiter, line)?;
+    Ok((Token::Literal(Text::from_vec(text)), behind))
+}
+
+/// Whether a line begins with a text, which is in lower case, in either case.
+fn begins_with(line: &[u8], front: &[u8]) -> bool
+    requires { str_to_ascii_lowercase front.now ≡ front.now }
+    ensures { result ≡ bytes_eq (str_to_ascii_lowercase (take (length front.now) line.now)) front.now }
+{
+    if line.len() < front.len() {
+        return false;
+    }
+    line[..front.len()].eq_ignore_ascii_case(front)
+}
+
+#[tactic(auto, unfolding(crate::specs::FirstToken::truth_at))]
+fn truth(line: &[u8]) -> Result<(Token, &[u8]), SyntaxFault>
+    ensures { Gives (λ x. (x.0, x.1.now)) result (truth_at line.now) }
+{
+    if begins_with(line, b".true.") {
+        return Ok((Token::Truth(true), &line[6..]));
+    }
+    if begins_with(line, b".false.") {
+        return Ok((Token::Truth(false), &line[7..]));
+    }
+    Err(SyntaxFault::NotAStatement)
+}
+
+#[tactic(auto, unfolding(crate::specs::FirstToken::mark_of))]
+fn mark_of(byte: u8) -> Option<Mark>
+    ensures { result ≡ mark_of byte }
+{
+    match byte {
+        b'(' => Some(Mark::LeftParenthesis),
+        b')' => Some(Mark::RightParenthesis),
+        b',' => Some(Mark::Comma),
+        b'=' => Some(Mark::Equals),
+        b'/' => Some(Mark::Slash),
+        b'*' => Some(Mark::Asterisk),
+        _ => None,
+    }
+}
+
+#[tactic(auto, unfolding(crate::specs::FirstToken::mark_at))]
+fn mark(line: &[u8]) -> Result<(Token, &[u8]), SyntaxFault>
+    ensures { Gives (λ x. (x.0, x.1.now)) result (mark_at line.now) }
+{
+    match line {
+        [b':', b':', behind @ ..] => Ok((Token::Mark(Mark::DoubleColon), behind)),
+        [byte, behind @ ..] => match mark_of(*byte) {
+            Some(mark) => Ok((Token::Mark(mark), behind)),
+            None => Err(SyntaxFault::NotAStatement),
+        },
+        [] => Err(SyntaxFault::NotAStatement),
+    }
+}
+
+#[tactic(auto, unfolding(crate::specs::FirstToken::first_token))]
+fn first_token(alloc: Global, line: &[u8]) -> Result<(Token, &[u8]), SyntaxFault>
+    ensures { Gives (λ x. (x.0, x.1.now)) result (first_token line.now) }
+{
+    let [first, behind @ ..] = line else {
+        return Err(SyntaxFault::NotAStatement);
+    };
+    let first = *first;
+    if first.is_ascii_alphabetic() {
+        return word(alloc, line);
+    }
+    if first.is_ascii_digit() {
+        return number(Sign::Unsigned, line);
+    }
+    match first {
+        b'+' => number(Sign::Plus, behind),
+        b'-' => number(Sign::Minus, behind),
+        b'\'' | b'"' => literal(alloc, first, behind),
+        b'.' => truth(line),
+        _ => mark(line),
+    }
+}
+
+/// A line without the blanks at its front.
+fn behind_blanks(line: &[u8]) -> &[u8]
+    ensures { result.now ≡ drop (prefix_len (is_of class.Blank) line.now) line.now }
+{
+    line.split_at(run_len(Class::Blank, line)).1
+}
+
+/// Whether nothing more is read: at the end of a line, or at a comment.
+fn ends_line(line: &[u8]) -> bool
+    ensures { result ≡ ends_line line.now }
+{
+    match line {
+        [first, ..] => *first == b'!',
+        [] => true,
+    }
+}
+
+/// The tokens of a line, first to last.
+fn scanned(alloc: Global, line: &[u8]) -> Result<Vec<Token>, SyntaxFault>
+    ensures { Scanned line.now result (λ tokens. tokens.items) }
+{
+    let mut found = Vec::new(alloc);
+    let mut rest = line;
+    loop {
+        rest = behind_blanks(rest);
+        if ends_line(rest) {
+            return Ok(found);
+        }
+        let (token, behind) = first_token(alloc, rest)?;
+        found.push(token)?;
+        rest = behind;
+    }
+}
+
+/// The tokens of a line.
+pub fn tokens_of(alloc: Global, line: &[u8]) -> Result<Tokens, SyntaxFault>
+    ensures { Scanned line.now result (λ tokens. tokens) }
+{
+    Ok(Tokens::from_vec(scanned(alloc, line)?))
+}

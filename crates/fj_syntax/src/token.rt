@@ -1,0 +1,36 @@
+// The tokens of a line.
+
+use fj_value::Text;
+
+/// A mark of the grammar.
+#[derive(Clone, Copy, Debug, PartialEq, Eq)]
+pub enum Mark {
+    LeftParenthesis,
+    RightParenthesis,
+    Comma,
+    Equals,
+    Slash,
+    Asterisk,
+    DoubleColon,
+}
+
+/// The sign that is written before the digits of a number, if any.
+#[derive(Clone, Copy, Debug, PartialEq, Eq)]
+pub enum Sign {
+    Unsigned,
+    Plus,
+    Minus,
+}
+
+#[derive(Debug, Drop)]
+pub enum Token {
+    /// A name or keyword, in upper case.
+    Word(Text),
+    /// An integer literal of up to 19 digits.
+    Number { sign: Sign, amount: u64 },
+    /// A character literal: the characters between its delimiters, a doubled delimiter being one.
+    Literal(Text),
+    /// `.TRUE.` or `.FALSE.`.
+    Truth(bool),
+    Mark(Mark),
+}

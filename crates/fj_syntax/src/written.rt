@@ -1,0 +1,199 @@
+// One statement as it is written: what its tokens say, before any name has a meaning.
+
+use crate::file_name::FileName;
+use crate::operand::{Designator, Operand};
+use fj_modes::{Access, Action, FileStatus, Question, Start};
+use fj_value::{Delim, Items, Kind, Text};
+
+/// A type declaration. The attribute ASYNCHRONOUS has no effect.
+#[derive(Debug, Drop)]
+pub struct Declaration {
+    pub kind: Kind,
+    pub entities: Items<Designator>,
+}
+
+/// NAMELIST.
+#[derive(Debug, Drop)]
+pub struct Group {
+    pub name: Text,
+    pub members: Items<Text>,
+}
+
+#[derive(Debug, Drop)]
+pub struct Assignment {
+    pub to: Designator,
+    pub from: Operand,
+}
+
+/// The specifiers of the modes that an OPEN of a connected unit and a transfer may change.
+#[derive(Clone, Copy, Debug)]
+pub struct Changes {
+    /// BLANK='ZERO'.
+    pub blank_zero: Option<bool>,
+    /// DECIMAL='COMMA'.
+    pub comma: Option<bool>,
+    pub delim: Option<Delim>,
+    /// PAD='YES'.
+    pub pad: Option<bool>,
+    /// SIGN='PLUS'.
+    pub plus: Option<bool>,
+}
+
+/// The further specifiers of OPEN that are words.
+#[derive(Clone, Copy, Debug)]
+pub struct Attributes {
+    pub status: Option<FileStatus>,
+    pub access: Option<Access>,
+    /// FORM='FORMATTED'.
+    pub formatted: Option<bool>,
+    pub position: Option<Start>,
+    pub action: Option<Action>,
+    /// ASYNCHRONOUS='YES'.
+    pub asynchronous: Option<bool>,
+}
+
+/// OPEN.
+#[derive(Debug, Drop)]
+pub struct Open {
+    pub unit: u32,
+    pub file: Option<FileName>,
+    /// RECL=.
+    pub recl: Option<u32>,
+    pub attributes: Attributes,
+    pub changes: Changes,
+    pub iostat: Option<Designator>,
+}
+
+/// CLOSE.
+#[derive(Debug, Drop)]
+pub struct Close {
+    pub unit: u32,
+    /// STATUS='KEEP'.
+    pub keep: Option<bool>,
+    pub iostat: Option<Designator>,
+}
+
+/// WAIT.
+#[derive(Debug, Drop)]
+pub struct Wait {
+    pub unit: u32,
+    /// An integer literal or a place.
+    pub id: Option<Operand>,
+    pub iostat: Option<Designator>,
+}
+
+/// What a motion does.
+#[derive(Clone, Copy, Debug, PartialEq, Eq)]
+pub enum Motion {
+    Backspace,
+    Rewind,
+    Endfile,
+    Flush,
+}
+
+/// BACKSPACE, REWIND, ENDFILE or FLUSH.
+#[derive(Debug, Drop)]
+pub struct Move {
+    pub how: Motion,
+    pub unit: u32,
+    pub iostat: Option<Designator>,
+}
+
+/// What INQUIRE asks about.
+#[derive(Debug, Drop)]
+pub enum Subject {
+    Unit(u32),
+    File(FileName),
+}
+
+/// A question of INQUIRE, and the place for its answer.
+#[derive(Debug, Drop)]
+pub struct Asking {
+    pub what: Question,
+    pub place: Designator,
+}
+
+/// INQUIRE.
+#[derive(Debug, Drop)]
+pub struct Inquire {
+    pub subject: Subject,
+    /// In order as they are written.
+    pub asked: Items<Asking>,
+    /// An integer literal or a place.
+    pub id: Option<Operand>,
+    pub iostat: Option<Designator>,
+}
+
+/// The unit of a transfer.
+#[derive(Clone, Copy, Debug, PartialEq, Eq)]
+pub enum Unit {
+    /// `*`, of WRITE alone.
+    Asterisk,
+    Number(u32),
+}
+
+/// The format of a transfer.
+#[derive(Debug, Drop)]
+pub enum Format {
+    /// List-directed.
+    Asterisk,
+    /// A character literal, which need not be a format.
+    Literal(Text),
+}
+
+/// The specifiers that say where a transfer takes place, and how it goes on.
+#[derive(Debug, Drop)]
+pub struct Course {
+    /// An integer literal or a place.
+    pub rec: Option<Operand>,
+    /// An integer literal or a place.
+    pub pos: Option<Operand>,
+    /// ADVANCE='YES'.
+    pub advance: Option<bool>,
+    /// ASYNCHRONOUS='YES'.
+    pub asynchronous: Option<bool>,
+}
+
+/// The places that a transfer sets.
+#[derive(Debug, Drop)]
+pub struct Results {
+    pub id: Option<Designator>,
+    pub size: Option<Designator>,
+    pub iostat: Option<Designator>,
+}
+
+/// What a transfer transfers to or from, and in which form.
+#[derive(Debug, Drop)]
+pub struct Control {
+    pub unit: Unit,
+    pub format: Option<Format>,
+    /// NML=.
+    pub group: Option<Text>,
+    pub changes: Changes,
+}
+
+/// READ or WRITE.
+#[derive(Debug, Drop)]
+pub struct Transfer {
+    /// READ.
+    pub input: bool,
+    pub control: Control,
+    pub course: Course,
+    pub results: Results,
+    pub items: Items<Operand>,
+}
+
+/// A declaration or statement.
+#[derive(Debug, Drop)]
+pub enum Written {
+    Declaration(Declaration),
+    Group(Group),
+    Assignment(Assignment),
+    Open(Open),
+    Close(Close),
+    Wait(Wait),
+    Move(Move),
+    Inquire(Inquire),
+    Transfer(Transfer),
+    End,
+}

@@ -1,0 +1,4 @@
+mod Cases
+pub mod AppendLaws
+pub mod FrameLemmas
+pub mod ReadLaws

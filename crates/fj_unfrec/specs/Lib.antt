@@ -1,0 +1,4 @@
+pub mod FrameLaws
+pub mod Frames
+pub mod Reading
+pub mod Stored

@@ -1,0 +1,6 @@
+pub mod formers
+pub mod Condition
+pub mod Edit
+pub mod Kind
+pub mod Digits
+pub mod DigitLaws

@@ -1,0 +1,12 @@
+// Places of variables, and identifiers of transfers.
+
+/// A variable by its number, from 0 on, and an element by its index, from 1 on. A scalar has index 1.
+#[derive(Clone, Copy, Debug, PartialEq, Eq)]
+pub struct Place {
+    pub var: u32,
+    pub index: u32,
+}
+
+/// The identifier of a transfer (ID=), from 1 on; 0 for a synchronous one.
+#[derive(Clone, Copy, Debug, PartialEq, Eq)]
+pub struct Tag(pub u32);
