@@ -2,3 +2,4 @@ pub mod Words
 pub mod OpenSpec
 pub mod Modes
 pub mod Laws
+pub mod FileName

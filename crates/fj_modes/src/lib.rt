@@ -3,6 +3,7 @@
 
 mod asked;
 mod edit;
+mod file_name;
 mod laws;
 mod modes;
 mod settle;
@@ -12,6 +13,7 @@ mod tests;
 
 pub use asked::{Asked, Question, Wanted};
 pub use edit::usual_edit;
+pub use file_name::{FileName, is_file_name};
 pub use laws::{
     changed_is_consistent, changed_takes_or_keeps, changed_twice_stays, defaults_are_usual,
     in_effect_stays, opened_again_stays, settled_is_consistent,

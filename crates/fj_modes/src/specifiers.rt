@@ -1,6 +1,7 @@
 // The specifiers of an OPEN statement (ISO/IEC 1539-1:2004, 9.4.5).
 
-use fj_value::{Delim, Text};
+use crate::file_name::FileName;
+use fj_value::Delim;
 
 /// STATUS= (9.4.5.15).
 #[derive(Clone, Copy, Debug, PartialEq, Eq)]
@@ -40,7 +41,7 @@ pub enum Action {
 #[derive(Debug, Default, Drop)]
 pub struct OpenSpec {
     /// FILE=, without trailing blanks.
-    pub file: Option<Text>,
+    pub file: Option<FileName>,
     pub status: Option<FileStatus>,
     pub access: Option<Access>,
     /// FORM='FORMATTED'.

@@ -1,11 +1,11 @@
 // The defaults of OPEN, its errors 3 and 8 with their near misses, and what a later OPEN changes.
 
 use crate::{
-    Access, Action, Asked, FileStatus, Modes, OpenSpec, Question, Start, Wanted, settle_open,
-    usual_edit,
+    Access, Action, Asked, FileName, FileStatus, Modes, OpenSpec, Question, Start, Wanted,
+    settle_open, usual_edit,
 };
 use Given::*;
-use fj_value::{Condition, Delim, EditModes, Kind, Place, Text};
+use fj_value::{Condition, Delim, EditModes, Kind, Place};
 use std::alloc::{AllocError, Global};
 use std::test::Fail;
 
@@ -31,7 +31,7 @@ fn open(alloc: Global, given: &[Given]) -> Result<OpenSpec, AllocError> {
     let mut spec = OpenSpec::default();
     for specifier in given {
         match *specifier {
-            File => spec.file = Some(Text::from_bytes(alloc, b"DATA")?),
+            File => spec.file = Some(FileName::new(alloc, b"DATA")?),
             Status(status) => spec.status = Some(status),
             In(access) => spec.access = Some(access),
             Formatted(formatted) => spec.formatted = Some(formatted),

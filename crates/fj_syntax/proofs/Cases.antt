@@ -10,7 +10,7 @@ use Rattle.fj_syntax.specs.declared.words.Specifier.TheVariants.{Recl}
 use Rattle.fj_syntax.specs.declared.written.Motion.TheVariants.{Endfile}
 use Rattle.fj_syntax.specs.declared.written.Written.TheVariants as written
 use Rattle.fj_syntax.specs.Arguments.{arguments_at}
-use Rattle.fj_syntax.specs.FileName.{is_file_name}
+use Rattle.fj_modes.specs.FileName.{is_file_name}
 use Rattle.fj_syntax.specs.FirstToken.{word_at, number_at, literal_at, truth_at, mark_of, mark_at, first_token}
 use Rattle.fj_syntax.specs.Given.{choice_of, trimmed}
 use Rattle.fj_syntax.specs.Lists.{list_at}

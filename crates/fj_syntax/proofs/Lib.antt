@@ -4,7 +4,6 @@ pub mod Cases
 pub mod ClassLemmas
 pub mod CompleteLemmas
 pub mod DigitLemmas
-pub mod FileNameLemmas
 pub mod FirstTokenLemmas
 pub mod KeywordLemmas
 pub mod LineLemmas

@@ -19,7 +19,7 @@ use Rattle.fj_syntax.specs.declared.written.Unit.TheVariants as unit
 use Rattle.fj_syntax.specs.declared.written.Format.{Format}
 use Rattle.fj_syntax.specs.declared.written.Format.TheVariants as format
 use Rattle.fj_syntax.specs.Arguments.{given_for}
-use Rattle.fj_syntax.specs.FileName.{is_file_name}
+use Rattle.fj_modes.specs.FileName.{is_file_name}
 use Rattle.fj_syntax.specs.Reading.{◌>>=◌}
 
 -- none where none is given, and else what it has to be

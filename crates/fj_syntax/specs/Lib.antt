@@ -2,7 +2,6 @@ pub mod Arguments
 pub mod Calls
 pub mod Choices
 pub mod Class
-pub mod FileName
 pub mod FirstToken
 pub mod Given
 pub mod Grammar

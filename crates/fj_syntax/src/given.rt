@@ -7,11 +7,11 @@ ghost use Rattle.fj_syntax.specs.Reading.{Gives};
 
 use crate::arguments::given_for;
 use crate::fault::SyntaxFault;
-use crate::file_name::{FileName, is_file_name};
 use crate::operand::{Argument, Designator, Given, Operand};
 use crate::token::Sign;
 use crate::words::{CHOICES, Choice, Specifier};
 use crate::written::{Format, Unit};
+use fj_modes::{FileName, is_file_name};
 use fj_value::Text;
 use std::alloc::{AllocError, Global};
 

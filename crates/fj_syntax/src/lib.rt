@@ -6,7 +6,6 @@ mod calls;
 mod choices;
 mod class;
 mod fault;
-mod file_name;
 mod given;
 mod laws;
 mod lines;
@@ -22,7 +21,6 @@ mod words;
 mod written;
 
 pub use fault::SyntaxFault;
-pub use file_name::{FileName, is_file_name};
 pub use laws::one_meaning;
 pub use lines::next_line;
 pub use operand::{Designator, Operand};

@@ -1,5 +1,5 @@
 use crate::*;
-use fj_modes::{Access, Action, FileStatus, Question, Start};
+use fj_modes::{Access, Action, FileName, FileStatus, Question, Start};
 use fj_value::{Delim, Kind};
 use std::alloc::Global;
 use std::test::*;

@@ -1,8 +1,7 @@
 // One statement as it is written: what its tokens say, before any name has a meaning.
 
-use crate::file_name::FileName;
 use crate::operand::{Designator, Operand};
-use fj_modes::{Access, Action, FileStatus, Question, Start};
+use fj_modes::{Access, Action, FileName, FileStatus, Question, Start};
 use fj_value::{Delim, Items, Kind, Text};
 
 /// A type declaration. The attribute ASYNCHRONOUS has no effect.

@@ -1,12 +1,15 @@
 -- File names are ASCII.
-use Rattle.std.proofs.Common.{◌≡◌, ℕ, ◌<◌, List, [], ◌∷◌, true, arith}
+use Rattle.std.proofs.Common.{◌≡◌, ℕ, ◌<◌, Bool, true, false, ◌&&◌, List, [], ◌∷◌, refl, arith}
 use Rattle.std.specs.List.{list_all}
 use Rattle.std.specs.Str.{IsAscii, IsUtf8}
 use Rattle.std.proofs.lemmas.Str.{IsUtf8-from_ascii}
 use Rattle.std.proofs.lemmas.Str.Ascii.{IsAscii-nil, IsAscii-cons}
 use Rattle.std.proofs.lemmas.Bool.Decides.{nat_tests}
-use Rattle.fj_syntax.specs.FileName.{is_file_byte, is_file_name}
-use Rattle.fj_syntax.proofs.TokenLemmas.{both}
+use Rattle.fj_modes.specs.FileName.{is_file_byte, is_file_name}
+
+both : (a b : Bool) → (a && b) ≡ true → (a ≡ true) × (b ≡ true)
+both true b h = (refl, h)
+both false b h = cc
 
 byte_ascii : (c : ℕ) → is_file_byte c ≡ true → c < 128
 byte_ascii c h = grind (arith, nat_tests)

@@ -2,7 +2,7 @@
 ghost use Rattle.std.specs.Prelude.{◌≡◌, ◌||◌, ◌==◌, true, IfOk};
 ghost use Rattle.std.specs.Char.{is_ascii_alphanumeric};
 ghost use Rattle.std.specs.List.{list_all};
-ghost use Rattle.fj_syntax.specs.FileName.{is_file_byte, is_file_name};
+ghost use Rattle.fj_modes.specs.FileName.{is_file_byte, is_file_name};
 
 use std::alloc::{AllocError, Global};
 use std::marker::Model;
@@ -44,7 +44,7 @@ pub struct FileName {
 
 impl Model for FileName {
     ghost use Rattle.std.specs.Prelude.{◌≡◌, true, List, ℕ, string_bytes};
-    ghost use Rattle.fj_syntax.specs.FileName.{is_file_name};
+    ghost use Rattle.fj_modes.specs.FileName.{is_file_name};
 
     ghost Value = { List ℕ };
 

@@ -1,5 +1,5 @@
-use Rattle.fj_syntax.proofs.FileNameLemmas.{file_name_utf8}
-use Rattle.fj_syntax.proofs.file_name.FileName.new.Goals as goal
+use Rattle.fj_modes.proofs.FileNameLemmas.{file_name_utf8}
+use Rattle.fj_modes.proofs.file_name.FileName.new.Goals as goal
 
 pub unreachable-requires : goal.unreachable-requires
 unreachable-requires c = c.in-Err.ensures.cases.0 (file_name_utf8 c.args.name.now c.requires)

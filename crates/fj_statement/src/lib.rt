@@ -1,0 +1,12 @@
+//! Decks: variables and statements whose names have a meaning, and why a text is none.
+#![tactic(auto)]
+
+mod deck;
+mod reason;
+mod statement;
+
+pub use deck::{Deck, Lined, Statements, Variable, Variables};
+pub use reason::Reason;
+pub use statement::{
+    Asking, Control, Motion, Operand, Operands, Statement, Transfer, UnitRef, Vars,
+};

@@ -1,0 +1,127 @@
+// One statement in terms of places. A variable stands in it by its number, from 0 on.
+
+use fj_format::Format;
+use fj_modes::{Asked, FileName, OpenSpec};
+use fj_value::{Delim, Items, Kind, Place, Text, Value};
+
+/// A literal with its kind, an element or scalar, or a whole array.
+///
+/// An integer literal is INTEGER(4) where that holds its value, else INTEGER(8). The kind of a character literal has
+/// its length.
+#[derive(Debug, Drop)]
+pub enum Operand {
+    Literal { kind: Kind, value: Value },
+    One(Place),
+    Whole { var: u32 },
+}
+
+pub type Operands = Items<Operand>;
+
+/// Numbers of variables.
+pub type Vars = Items<u32>;
+
+/// The unit of a transfer: `*`, of WRITE alone, or a number.
+#[derive(Clone, Copy, Debug, PartialEq, Eq)]
+pub enum UnitRef {
+    Star,
+    Number(u32),
+}
+
+/// The format of a transfer (ISO/IEC 1539-1:2004, 9.5.1.1).
+#[derive(Drop)]
+pub enum Control {
+    Unformatted,
+    Explicit(Format),
+    Listed,
+    /// NML=, with the members of the group.
+    Group { name: Text, vars: Vars },
+}
+
+/// A statement that moves the position of a file, or FLUSH (9.7 and 9.8).
+#[derive(Clone, Copy, Debug, PartialEq, Eq)]
+pub enum Motion {
+    Backspace,
+    Rewind,
+    Endfile,
+    Flush,
+}
+
+/// What INQUIRE asks about.
+#[derive(Debug, Drop)]
+pub enum Asking {
+    Unit(u32),
+    File(FileName),
+}
+
+/// READ or WRITE (9.5).
+#[derive(Drop)]
+pub struct Transfer {
+    /// READ.
+    pub input: bool,
+    pub unit: UnitRef,
+    pub control: Control,
+    pub items: Operands,
+    /// ADVANCE='YES'.
+    pub advance: Option<bool>,
+    /// ASYNCHRONOUS='YES'.
+    pub asynchronous: Option<bool>,
+    /// BLANK='ZERO'.
+    pub blank_zero: Option<bool>,
+    /// DECIMAL='COMMA'.
+    pub comma: Option<bool>,
+    pub delim: Option<Delim>,
+    /// PAD='YES'.
+    pub pad: Option<bool>,
+    /// SIGN='PLUS'.
+    pub plus: Option<bool>,
+    /// A literal or a place.
+    pub rec: Option<Operand>,
+    /// A literal or a place.
+    pub pos: Option<Operand>,
+    pub id: Option<Place>,
+    pub size: Option<Place>,
+    pub iostat: Option<Place>,
+}
+
+/// A statement.
+#[derive(Drop)]
+pub enum Statement {
+    /// A place, or a whole array, gets a literal or the value of a place.
+    Assign {
+        to: Operand,
+        from: Operand,
+    },
+    OpenUnit {
+        unit: u32,
+        spec: OpenSpec,
+        iostat: Option<Place>,
+    },
+    CloseUnit {
+        unit: u32,
+        /// STATUS='KEEP'.
+        keep: Option<bool>,
+        iostat: Option<Place>,
+    },
+    /// WAIT (9.6.1).
+    WaitFor {
+        unit: u32,
+        /// A literal or a place.
+        id: Option<Operand>,
+        iostat: Option<Place>,
+    },
+    Move {
+        how: Motion,
+        unit: u32,
+        iostat: Option<Place>,
+    },
+    /// INQUIRE (9.9).
+    Inquire {
+        about: Asking,
+        asked: Asked,
+        /// A literal or a place.
+        id: Option<Operand>,
+        iostat: Option<Place>,
+    },
+    Transfer(Transfer),
+    End,
+}
