@@ -12,6 +12,8 @@ pub struct Variable {
     pub kind: Kind,
     /// The number of its elements; 0 of a scalar.
     pub count: u32,
+    /// The line of its declaration, from 1 on.
+    pub line: u32,
 }
 
 pub type Variables = Items<Variable>;
@@ -29,6 +31,8 @@ pub type Statements = Items<Lined>;
 #[derive(Drop)]
 pub struct Deck {
     pub variables: Variables,
+    /// The lines that declare groups.
+    pub groups: Items<u32>,
     pub statements: Statements,
 }
 
