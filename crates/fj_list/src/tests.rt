@@ -302,7 +302,7 @@ enum Item {
 }
 
 /// DELIM=, whether SIGN='PLUS', values, and their records.
-static OUTPUTS: [(Delim, bool, &[Item], &str); 14] = [
+static OUTPUTS: [(Delim, bool, &[Item], &str); 15] = [
     (Delim::Plain, false, &[], " \n"),
     (
         Delim::Plain,
@@ -333,6 +333,18 @@ static OUTPUTS: [(Delim, bool, &[Item], &str); 14] = [
         false,
         &[Item::Text("ab"), Item::Int(5), Item::Text("cd")],
         " ab 5 cd\n",
+    ),
+    (
+        Delim::Plain,
+        false,
+        &[
+            Item::Text("AB"),
+            Item::Text("CD"),
+            Item::Int(1),
+            Item::Log(true),
+            Item::Text("E"),
+        ],
+        " ABCD 1 T E\n",
     ),
     (
         Delim::Plain,
