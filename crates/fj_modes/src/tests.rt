@@ -2,7 +2,7 @@
 
 use crate::{
     Access, Action, Asked, FileName, FileStatus, Modes, OpenSpec, Question, Start, Wanted,
-    settle_open, usual_edit,
+    is_file_name, settle_open, usual_edit,
 };
 use Given::*;
 use fj_value::{Condition, Delim, EditModes, Kind, Place};
@@ -27,11 +27,18 @@ enum Given {
     Asynchronous(bool),
 }
 
+fn file_name(alloc: Global, name: &[u8]) -> Result<Option<FileName>, AllocError> {
+    if !is_file_name(name) {
+        return Ok(None);
+    }
+    Ok(Some(FileName::new(alloc, name)?))
+}
+
 fn open(alloc: Global, given: &[Given]) -> Result<OpenSpec, AllocError> {
     let mut spec = OpenSpec::default();
     for specifier in given {
         match *specifier {
-            File => spec.file = Some(FileName::new(alloc, b"DATA")?),
+            File => spec.file = file_name(alloc, b"DATA")?,
             Status(status) => spec.status = Some(status),
             In(access) => spec.access = Some(access),
             Formatted(formatted) => spec.formatted = Some(formatted),
@@ -296,5 +303,37 @@ fn what_is_asked(rt: HostRuntime) -> Result<(), Fail> {
     let mut asked = Asked::new(rt.alloc());
     asked.push(wanted)?;
     assert_eq!(rt; asked.as_slice(), [wanted].as_slice());
+    Ok(())
+}
+
+/// Names of files, and what is none.
+#[test]
+fn what_names_a_file(rt: HostRuntime) -> Result<(), Fail> {
+    let alloc = rt.alloc();
+    let longest = vec![in alloc; b'n'; 64]?;
+    let longer = vec![in alloc; b'n'; 65]?;
+    for (name, is_one) in [
+        (b"F1".as_slice(), true),
+        (b"a.b_c-9", true),
+        (b"fort.10", true),
+        (b"SCRATCH", true),
+        (b"scratch.1", true),
+        (&longest, true),
+        (&longer, false),
+        (b"", false),
+        (b".F", false),
+        (b"SCRATCH.1", false),
+        (b"a b", false),
+        (b"a/b", false),
+        (b"a\tb", false),
+        (b"a ", false),
+        (b"\xc3\xa9", false),
+    ] {
+        assert_eq!(rt; is_file_name(name), is_one);
+        match file_name(alloc, name)? {
+            Some(made) => assert_eq!(rt; made.as_str().as_bytes(), name),
+            None => assert!(rt; !is_one),
+        }
+    }
     Ok(())
 }
