@@ -73,8 +73,12 @@ pub data LineIs (line : List ℕ) (number : ℕ) (draft : Draft) : Answer → Ty
   misplaced : (w : Written) → length line ≤ 1000 → IsStatement line w → is_misplaced draft w ≡ true → LineIs line number draft (Err Syntax)
   placed : (w : Written) {answer : Answer} → length line ≤ 1000 → IsStatement line w → is_misplaced draft w ≡ false → Adds draft number w answer → LineIs line number draft answer
 
--- what was answered, and the new draft, are such an answer, unless memory ran out
+-- the fault is a reason, unless memory ran out
+abbrev pub Refuses : (Answer → Type 0) → LineFault → Type 0
+Refuses Is (Memory error) = Unit {0}
+Refuses Is (Refused reason) = Is (Err reason)
+
+-- what was answered, with the new draft
 abbrev pub Takes : (Answer → Type 0) → Draft → Result (Unit {0}) LineFault → Type 0
 Takes Is new (Ok u) = Is (Ok new)
-Takes Is new (Err (Memory error)) = Unit {0}
-Takes Is new (Err (Refused reason)) = Is (Err reason)
+Takes Is new (Err fault) = Refuses Is fault
