@@ -1,5 +1,5 @@
 -- What is answered of a line is what it adds.
-use Rattle.std.proofs.Common.{◌≡◌, ℕ, ◌≤◌, List, length, Result, Ok, Err, refl}
+use Rattle.std.proofs.Common.{ℕ, ◌≤◌, List, length, Result, Ok, Err, refl}
 use Rattle.fj_syntax.specs.Parsing.{Parses}
 use Rattle.fj_syntax.specs.declared.fault.SyntaxFault.{SyntaxFault}
 use Rattle.fj_syntax.specs.declared.fault.SyntaxFault.TheVariants as syntax

@@ -1,5 +1,5 @@
 -- The lines of a text, read one after another.
-use Rattle.std.proofs.Common.{◌≡◌, ℕ, ◌+◌, ◌-◌, ◌<◌, ◌≤◌, true, false, List, [], ◌∷◌, ◌++◌, ◌==◌, length, drop, Ok, Err, refl, sym, ap, ◌∙◌, subst, arith, append_assoc, append-nil, length-append, length-drop}
+use Rattle.std.proofs.Common.{◌≡◌, ℕ, ◌+◌, ◌<◌, ◌≤◌, true, false, List, [], ◌∷◌, ◌++◌, ◌==◌, length, drop, Ok, Err, refl, sym, ap, ◌∙◌, subst, arith, append_assoc, append-nil, length-append, length-drop}
 use Rattle.std.specs.List.{after_first, position_or_len}
 use Rattle.std.specs.Str.Lines.{lines}
 use Rattle.fj_statement.specs.declared.deck.Deck.{Deck}
@@ -50,7 +50,7 @@ one_more text rest line more number draft next first read is = record {
 refused_at : (text rest line more : List ℕ) (number : ℕ) (draft : Draft) (reason : Reason) → length text ≤ 4194304 → lines rest ≡ line ∷ lines more → HasRead text rest number draft → LineIs line number draft (Err reason) → IsRefused text number reason
 refused_at text rest line more number draft reason short first read is =
     subst (λ n. IsRefused text n reason) (sym read.counted)
-      (IsRefused.bad read.done line (lines more) short (read.all ∙ ap (λ l. read.done ++ l) first) read.good (subst (λ n. LineIs line n draft (Err reason)) read.counted is))
+    (IsRefused.bad read.done line (lines more) short (read.all ∙ ap (λ l. read.done ++ l) first) read.good (subst (λ n. LineIs line n draft (Err reason)) read.counted is))
 
 pub fault_at : (text rest line more : List ℕ) (number : ℕ) (draft : Draft) (fault : LineFault) → length text ≤ 4194304 → lines rest ≡ line ∷ lines more → HasRead text rest number draft → Refuses (LineIs line number draft) fault → Reads text (Err (at_line number fault))
 fault_at text rest line more number draft (Memory error) short first read is = tt
@@ -64,7 +64,7 @@ pub without_end : (text rest : List ℕ) (number : ℕ) (draft : Draft) → leng
 without_end text rest number draft short none read open_end =
     let all = all_read text rest number draft none read in
     subst (λ n. IsRefused text n NoEnd) (ap (λ l. length l + 1) all ∙ sym read.counted)
-      (IsRefused.endless draft short (subst (λ l. AreGood 1 empty l draft) (sym all) read.good) open_end)
+    (IsRefused.endless draft short (subst (λ l. AreGood 1 empty l draft) (sym all) read.good) open_end)
 
 pub with_end : (text rest : List ℕ) (number : ℕ) (draft : Draft) (deck : Deck) → length text ≤ 4194304 → rest ≡ [] → HasRead text rest number draft → draft.ended ≡ true → deck ≡ deck_of draft → IsDeck text deck
 with_end text rest number draft deck short none read ended is = record {

@@ -2,8 +2,6 @@
 use Rattle.std.specs.Prelude.{◌≡◌, ℕ, ◌<◌, ◌≤◌, Bool, true, false, ◌||◌, ◌&&◌, nat_lt, List, [], ◌∷◌, ◌++◌, length, Result, Ok, Err}
 use Rattle.fj_syntax.specs.Grammar.{IsStatement}
 use Rattle.fj_syntax.specs.Parsing.{IsBlankLine, IsNoStatement}
-use Rattle.fj_syntax.specs.declared.written.Declaration.{Declaration}
-use Rattle.fj_syntax.specs.declared.written.Group.{Group}
 use Rattle.fj_syntax.specs.declared.written.Written.{Written}
 use Rattle.fj_syntax.specs.declared.written.Written.TheVariants as written
 use Rattle.fj_statement.specs.declared.reason.Reason.{Reason}

@@ -6,4 +6,7 @@ pub fn one_answer()
     ensures deck { OneDeck }
     ensures apart { NoneIsBoth }
     ensures refusal { OneRefusal }
-{}
+{
+    fj_syntax::one_meaning();
+    fj_meaning::one_meaning();
+}

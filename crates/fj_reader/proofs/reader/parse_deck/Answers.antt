@@ -10,7 +10,7 @@ returns-then-text-gt-MAX_TEXT c = IsRefused.long c.if-text-gt-MAX_TEXT.true
 pub returns-in-Err : goal.returns-in-Err
 returns-in-Err c =
     rw c.at.ensures
-      (fault_at c.args.text.now c.reading.rest.now c.in-Some.line.now c.in-Some.more.now c.reading.number c.reading.draft c.in-Err.fault (omega arith) c.in-Some.ensures.first c.reading.invariant.read c.in-Err.ensures)
+    (fault_at c.args.text.now c.reading.rest.now c.in-Some.line.now c.in-Some.more.now c.reading.number c.reading.draft c.in-Err.fault (omega arith) c.in-Some.ensures.first c.reading.invariant.read c.in-Err.ensures)
 
 pub reading-preserved : goal.reading-preserved
 reading-preserved c =

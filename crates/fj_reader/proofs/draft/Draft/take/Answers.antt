@@ -1,4 +1,4 @@
-use Rattle.std.proofs.Common.{arith, ◌≡◌, ◌≤◌, length, true, false, Ok, Some, None, sym, ◌∙◌}
+use Rattle.std.proofs.Common.{arith, sym, ◌∙◌}
 use Rattle.std.proofs.lemmas.Result.{err_from_is_err_and}
 use Rattle.fj_syntax.specs.Parsing.{IsBlankLine, IsOnlyStatement}
 use Rattle.fj_reader.specs.Line.{Adds, LineIs}
@@ -27,5 +27,5 @@ pub returns : goal.returns
 returns c =
     let only : IsOnlyStatement c.args.line.now c.in-Some.written = rw c.in-Some.is at c.in_ok-written.ensures in
     takes_as (Adds c.args.self.now c.args.number c.in-Some.written) (LineIs c.args.line.now c.args.number c.args.self.now) _ _
-      (λ answer adds. LineIs.placed c.in-Some.written (omega arith) only.is (sym c.is_misplaced.ensures ∙ c.if-is_misplaced.false) adds)
-      c.add.ensures
+    (λ answer adds. LineIs.placed c.in-Some.written (omega arith) only.is (sym c.is_misplaced.ensures ∙ c.if-is_misplaced.false) adds)
+    c.add.ensures
