@@ -1,6 +1,6 @@
 // The items of READ and WRITE (ISO/IEC 1539-1:2004, 9.5.2).
 ghost use Rattle.std.specs.Prelude.{◌≡◌, map};
-ghost use Rattle.fj_meaning.specs.Giving.{Gives, each, ◌>>=◌};
+ghost use Rattle.fj_meaning.specs.Giving.{Gives};
 ghost use Rattle.fj_meaning.specs.Transfer.{chosen};
 
 use crate::fault::Fault;

@@ -73,7 +73,7 @@ fn stands_alone(transfer: &Transfer) -> bool
 fn can_be_read(items: &Option<FormatItems>, operands: &[Operand]) -> bool
     ensures { result ≡ can_be_read items.now operands.now }
 {
-    let places = operands.iter().all(is_place);
+    let places = operands.iter().all(|operand| is_place(operand));
     match items {
         None => places,
         Some(items) => places && !has_width_zero(items),
