@@ -21,7 +21,7 @@ is_free s name = is_none (named s name)
 -- no name stands twice
 abbrev pub are_apart : List (List ℕ) → Bool
 are_apart [] = true
-are_apart (name ∷ names) = not (list_any (bytes_eq name) names) && are_apart names
+are_apart (name ∷ names) = not (list_any (λ other. bytes_eq other name) names) && are_apart names
 
 abbrev pub are_new : Scope → List (List ℕ) → Bool
 are_new s names = list_all (is_free s) names && are_apart names
@@ -34,14 +34,13 @@ variable line kind d = record { name = d.name; kind = kind; count = unwrap_or d.
 abbrev pub with_variables : Scope → ℕ → Kind → List Designator → Scope
 with_variables s line kind ds = record s { variables = s.variables ++ map (variable line kind) ds }
 
--- with one variable; none where its name is declared
-abbrev pub with_variable : Scope → ℕ → Kind → Designator → Option Scope
-with_variable s line kind d = if is_free s d.name then Some (with_variables s line kind (d ∷ [])) else None
+-- the same, unless a name is declared twice
+abbrev pub with_all : Scope → ℕ → Kind → List Designator → Option Scope
+with_all s line kind ds = if are_new s (map (λ d. d.name) ds) then Some (with_variables s line kind ds) else None
 
 -- with a line of a type declaration; none where a name is declared twice
 unfoldable pub with_declaration : Scope → ℕ → Declaration → Option Scope
-with_declaration s line d =
-    if are_new s (map (λ e. e.name) d.entities) then Some (with_variables s line d.kind d.entities) else None
+with_declaration s line d = with_all s line d.kind d.entities
 
 -- the number of the variable of this name
 abbrev pub number_of : Scope → List ℕ → Option ℕ

@@ -1,10 +1,10 @@
 // The names of a deck, as its declarations are read one after another.
-ghost use Rattle.std.specs.Prelude.{◌≡◌, unwrap_or};
+ghost use Rattle.std.specs.Prelude.{◌≡◌, ◌∷◌, [], unwrap_or};
 ghost use Rattle.fj_value.specs.Kind.{text_length};
 ghost use Rattle.fj_meaning.specs.Giving.{Gives, each};
 ghost use Rattle.std.specs.Option.{option_copied};
 ghost use Rattle.fj_meaning.specs.Scope.{empty, named, found, members};
-ghost use Rattle.fj_meaning.specs.Declaring.{with_variable, number_of, with_declaration, with_group, is_within, Declares, Groups};
+ghost use Rattle.fj_meaning.specs.Declaring.{with_all, number_of, with_declaration, with_group, is_within, Declares, Groups};
 
 use crate::fault::Fault;
 use crate::limits::{capped, narrow};
@@ -133,7 +133,7 @@ impl Names {
     /// With the variable of a designator in a type declaration.
     #[tactic(auto, unfolding(crate::specs::Scope::named))]
     fn with_variable(self, line: u32, kind: Kind, designator: &Designator) -> Result<Names, Fault>
-        ensures { Gives result (with_variable self line kind designator.now) }
+        ensures { Gives result (with_all self line kind (designator.now ∷ [])) }
     {
         if self.named(designator.name.bytes()).is_some() {
             return Err(Fault::NoMeaning);

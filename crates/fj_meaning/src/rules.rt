@@ -1,5 +1,6 @@
 // Which specifiers and items of READ and WRITE go together (ISO/IEC 1539-1:2004, 9.5.1).
 ghost use Rattle.std.specs.Prelude.{◌≡◌};
+ghost use Rattle.std.specs.List.{list_all};
 ghost use Rattle.fj_meaning.specs.Transfer.{is_true, is_list_directed, is_explicit, is_place, is_asterisk, changes_some, goes_together, stands_alone, can_be_read, is_allowed};
 
 use fj_format::{FormatItems, has_width_zero};
@@ -69,14 +70,19 @@ fn stands_alone(transfer: &Transfer) -> bool
     !(control.unit == Unit::Asterisk && (rec || pos))
 }
 
+fn are_places(operands: &[Operand]) -> bool
+    ensures { result ≡ list_all is_place operands.now }
+{
+    operands.iter().all(|operand| is_place(operand))
+}
+
 /// Items and formats that READ may have.
 fn can_be_read(items: &Option<FormatItems>, operands: &[Operand]) -> bool
     ensures { result ≡ can_be_read items.now operands.now }
 {
-    let places = operands.iter().all(|operand| is_place(operand));
     match items {
-        None => places,
-        Some(items) => places && !has_width_zero(items),
+        None => are_places(operands),
+        Some(items) => are_places(operands) && !has_width_zero(items),
     }
 }
 
