@@ -2,6 +2,7 @@
 use Rattle.std.proofs.Common.{◌≡◌, ◌+◌, ◌*◌, ◌<◌, ◌≤◌, ◌++◌, [], ◌∷◌, ℕ, List, map, min, Bool, true, false, Option, Some, None, leb, refl, sym, ap, ◌∙◌, inl, inr, arith, append_assoc}
 use Rattle.std.specs.Prelude.{◌&&◌, nat_le}
 use Rattle.std.proofs.lemmas.Bool.Decides.{nat_tests}
+use Rattle.std.proofs.lemmas.List.Sums.{sum_by-cons}
 use Rattle.fj_statement.specs.declared.statement.Operand.{Operand}
 use Rattle.fj_meaning.specs.declared.operand.Meant.{Meant}
 use Rattle.fj_meaning.specs.declared.items.Chosen.{Chosen}
@@ -28,6 +29,9 @@ made : (items other : List Operand) (few also : Bool) → items ≡ other → fe
     (let one : Option Chosen = Some (record { items = items; few = few }) in let two : Option Chosen = Some (record { items = other; few = also }) in one ≡ two)
 made items other few also h k = cc
 
+few_same : (n b c d e f : ℕ) → c ≡ d → e ≡ f → (nat_le (n + c) 1000000 && nat_le (b + e) 16777216) ≡ (nat_le (n + d) 1000000 && nat_le (b + f) 16777216)
+few_same n b c d e f h k = cc
+
 -- one more item
 pub chosen_more : (items : List Operand) (n b : ℕ) (m : Meant) (more : Option (List Meant)) (x y : ℕ) →
     x ≡ min (n + m.count * 1) 1000001 → y ≡ min (b + m.count * size_of m.kind) 16777217 →
@@ -36,4 +40,5 @@ chosen_more items n b m None x y h k = refl
 chosen_more items n b m (Some ms) x y h k =
     made (items ++ (m.operand ∷ map (λ o. o.operand) ms)) ((items ++ m.operand ∷ []) ++ map (λ o. o.operand) ms) _ _
     (sym (append_assoc items (m.operand ∷ []) (map (λ o. o.operand) ms)))
-    (few_more n b m.count (m.count * size_of m.kind) (elements ms) (bytes ms) x y (let e : x ≡ min (n + m.count) 1000001 = omega arith in e) k)
+    (few_same n b _ _ _ _ (sum_by-cons (λ (o : Meant). o.count) m ms) (sum_by-cons (λ (o : Meant). o.count * size_of o.kind) m ms)
+    ∙ few_more n b m.count (m.count * size_of m.kind) (elements ms) (bytes ms) x y (let e : x ≡ min (n + m.count) 1000001 = omega arith in e) k)
