@@ -1,12 +1,12 @@
 -- What items that are chosen one after another make.
-use Rattle.std.proofs.Common.{◌≡◌, ◌+◌, ◌*◌, ◌<◌, ◌≤◌, ◌++◌, [], ◌∷◌, ℕ, List, map, min, Bool, true, false, Option, Some, None, leb, refl, sym, ap, ◌∙◌, inl, inr, arith, append_assoc}
+use Rattle.std.proofs.Common.{◌≡◌, ◌+◌, ◌*◌, ◌++◌, [], ◌∷◌, ℕ, List, map, min, Bool, Option, Some, None, refl, sym, ap, ◌∙◌, arith, append_assoc}
 use Rattle.std.specs.Prelude.{◌&&◌, nat_le}
 use Rattle.std.proofs.lemmas.Bool.Decides.{nat_tests}
 use Rattle.std.proofs.lemmas.List.Sums.{sum_by-cons}
 use Rattle.fj_statement.specs.declared.statement.Operand.{Operand}
 use Rattle.fj_meaning.specs.declared.operand.Meant.{Meant}
 use Rattle.fj_meaning.specs.declared.items.Chosen.{Chosen}
-use Rattle.fj_meaning.specs.Giving.{◌>>=◌, each}
+use Rattle.fj_meaning.specs.Giving.{◌>>=◌}
 use Rattle.fj_meaning.specs.Transfer.{elements, bytes, size_of}
 
 abbrev pub all_chosen : List Operand → ℕ → ℕ → List Meant → Chosen

@@ -1,5 +1,5 @@
 -- The index of names once another variable or group is declared.
-use Rattle.std.proofs.Common.{ℕ, ◌≡◌, ◌≢◌, ◌+◌, ◌*◌, ◌≤◌, Bool, true, false, cond, List, [], ◌∷◌, ◌++◌, length, min, max, unwrap_or, Option, Some, None, refl, sym, ap, ◌∙◌, subst, arith}
+use Rattle.std.proofs.Common.{ℕ, ◌≡◌, ◌+◌, ◌*◌, true, false, cond, List, [], ◌∷◌, ◌++◌, length, min, Option, Some, None, refl, sym, ap, ◌∙◌, subst, arith}
 use Rattle.std.specs.List.{sum_by}
 use Rattle.std.specs.Option.{is_some}
 use Rattle.std.specs.BTreeMap.{BTreeMap, insert_entry, is_at, get_by}
@@ -10,13 +10,12 @@ use Rattle.std.specs.Ordering.{nat_cmp}
 use Rattle.std.specs.declared.alloc.Global.{Global}
 use Rattle.std.specs.declared.vec.Vec.{Vec}
 use Rattle.std.proofs.lemmas.List.Sums.{sum_by_push}
-use Rattle.fj_value.specs.Kind.{text_length}
 use Rattle.fj_statement.specs.declared.deck.Variable.{Variable}
 use Rattle.fj_meaning.specs.declared.scope.Namelist.{Namelist}
 use Rattle.fj_meaning.specs.declared.scope.Named.{Named}
 use Rattle.fj_meaning.specs.declared.scope.Named.TheVariants as stands_for
 use Rattle.fj_meaning.specs.declared.scope.Scope.{Scope}
-use Rattle.fj_meaning.specs.Scope.{empty, named}
+use Rattle.fj_meaning.specs.Scope.{named}
 use Rattle.fj_meaning.specs.Declaring.{places, characters}
 use Rattle.fj_meaning.specs.Index.{IsIndexed}
 use Rattle.fj_meaning.proofs.NameLemmas.{at_inserted, named_variable, named_group, more_variables, more_groups, vec_cmp}

@@ -2,3 +2,4 @@ pub mod Choosing
 pub mod NameLemmas
 pub mod IndexLemmas
 pub mod Transferring
+pub mod Unique

@@ -1,5 +1,5 @@
 -- What a name stands for once another variable or group is declared.
-use Rattle.std.proofs.Common.{ℕ, suc, ◌≡◌, ◌≢◌, ◌+◌, ◌<◌, ◌≤◌, Bool, true, false, cond, eqb, ltb, not, ◌&&◌, ◌||◌, List, [], ◌∷◌, ◌++◌, length, map, Option, Some, None, Ordering, refl, sym, ap, ◌∙◌, subst, inl, inr, arith, append_assoc}
+use Rattle.std.proofs.Common.{ℕ, suc, ◌≡◌, ◌+◌, Bool, true, false, cond, not, ◌&&◌, ◌||◌, List, [], ◌∷◌, ◌++◌, length, map, Option, Some, None, Ordering, refl, sym, ap, ◌∙◌, subst, inl, inr, arith, append_assoc}
 use Rattle.std.specs.Option.{option_map, option_or, is_none}
 use Rattle.std.specs.List.{position, position_from, list_any, list_all}
 use Rattle.std.specs.Map.{lookup}
@@ -21,7 +21,6 @@ use Rattle.fj_meaning.specs.declared.scope.Namelist.{Namelist}
 use Rattle.fj_meaning.specs.declared.scope.Named.{Named}
 use Rattle.fj_meaning.specs.declared.scope.Named.TheVariants as stands_for
 use Rattle.fj_meaning.specs.declared.scope.Scope.{Scope}
-use Rattle.fj_meaning.specs.Giving.{◌>>=◌}
 use Rattle.fj_meaning.specs.Scope.{named, is_variable, is_group}
 use Rattle.fj_meaning.specs.Declaring.{is_free, are_apart, are_new, variable, with_variables, with_all}
 

@@ -1,5 +1,5 @@
 -- What the steps from a written transfer to its statement say of the answer.
-use Rattle.std.proofs.Common.{◌≡◌, ℕ, List, [], Bool, true, false, ◌&&◌, cond, Option, Some, None, Result, Ok, Err, refl, sym, ap, ◌∙◌}
+use Rattle.std.proofs.Common.{◌≡◌, List, true, false, ◌&&◌, cond, Option, Some, None, Result, Ok, Err, refl, sym, ap, ◌∙◌}
 use Rattle.std.specs.Option.{IsSome}
 use Rattle.fj_format.specs.declared.item.FormatItem.{FormatItem}
 use Rattle.fj_statement.specs.declared.statement.Statement.{Statement}
@@ -12,7 +12,7 @@ use Rattle.fj_meaning.specs.declared.transfer.Parts.{Parts}
 use Rattle.fj_meaning.specs.declared.scope.Scope.{Scope}
 use Rattle.fj_meaning.specs.Giving.{◌>>=◌, Fails}
 use Rattle.fj_meaning.specs.Transfer.{parts, is_allowed, is_short, of_parts, assembled, transferred, fits}
-use Rattle.fj_meaning.specs.Meaning.{literal_of, IsFormatOf, meaning, is_within_limits, HasMeaning, HasNoMeaning, PassesLimits, Means}
+use Rattle.fj_meaning.specs.Meaning.{literal_of, IsFormatOf, meaning, is_within_limits, HasNoMeaning, Means}
 use Rattle.fj_meaning.specs.Assembling.{Assembles}
 
 abbrev answer_of : Option (List FormatItem) → Transfer → Option Parts → Option Statement

@@ -1,5 +1,5 @@
 -- What assignments, OPEN, CLOSE, WAIT, the motions and INQUIRE mean.
-use Rattle.std.specs.Prelude.{ℕ, Bool, true, false, ◌&&◌, ◌||◌, not, List, Option, Some, None, if◌then◌else◌}
+use Rattle.std.specs.Prelude.{Bool, true, false, ◌&&◌, not, Option, Some, None, if◌then◌else◌}
 use Rattle.fj_value.specs.declared.kind.Kind.{Kind}
 use Rattle.fj_value.specs.declared.kind.Kind.TheVariants.{Int4, Int8, Logical, Chars}
 use Rattle.fj_modes.specs.declared.asked.Question.{Question}
@@ -14,7 +14,6 @@ use Rattle.fj_statement.specs.declared.statement.Asking.{Asking}
 use Rattle.fj_statement.specs.declared.statement.Asking.TheVariants as asking
 use Rattle.fj_statement.specs.declared.statement.Statement.{Statement}
 use Rattle.fj_statement.specs.declared.statement.Statement.TheVariants as statement
-use Rattle.fj_syntax.specs.declared.operand.Operand.TheVariants as written
 use Rattle.fj_syntax.specs.declared.written.Assignment.{Assignment}
 use Rattle.fj_syntax.specs.declared.written.Open.{Open}
 use Rattle.fj_syntax.specs.declared.written.Close.{Close}

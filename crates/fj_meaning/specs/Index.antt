@@ -1,5 +1,5 @@
 -- The index of names, and the sums that go with it.
-use Rattle.std.specs.Prelude.{◌≡◌, ℕ, ◌<◌, ◌^◌, List, length, min}
+use Rattle.std.specs.Prelude.{◌≡◌, ℕ, List, min}
 use Rattle.std.specs.List.{sum_by}
 use Rattle.std.specs.BTreeMap.{BTreeMap, get_by}
 use Rattle.std.specs.Cmp.Lexicographic.{slice_cmp}

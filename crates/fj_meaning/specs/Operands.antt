@@ -1,5 +1,5 @@
 -- What designators and operands mean.
-use Rattle.std.specs.Prelude.{ℕ, Bool, true, false, ◌&&◌, ◌==◌, not, nat_le, List, length, Option, Some, None, is_some, if◌then◌else◌, ℤ, pos, ◌-ℤ◌}
+use Rattle.std.specs.Prelude.{ℕ, Bool, true, false, ◌&&◌, ◌==◌, not, nat_le, length, Option, Some, None, is_some, if◌then◌else◌, ℤ, pos, ◌-ℤ◌}
 use Rattle.fj_value.specs.Kind.{integer_bits, fits_bits}
 use Rattle.fj_value.specs.declared.kind.Kind.{Kind}
 use Rattle.fj_value.specs.declared.kind.Kind.TheVariants.{Int4, Int8, Logical, Chars}

@@ -1,7 +1,7 @@
-use Rattle.std.proofs.Common.{◌≡◌, ◌+◌, ◌∷◌, drop, sym, ap, ◌∙◌, rules}
+use Rattle.std.proofs.Common.{◌≡◌, ◌+◌, ◌∷◌, drop, sym, ap, ◌∙◌}
 use Rattle.std.proofs.lemmas.List.{drop_more}
 use Rattle.fj_meaning.specs.Declaring.{with_all}
-use Rattle.fj_meaning.proofs.NameLemmas.{with_all_step, with_all_fails}
+use Rattle.fj_meaning.proofs.NameLemmas.{with_all_step}
 use Rattle.fj_meaning.proofs.names.Names.with_declaration.Goals as goal
 
 pub loop-designator-preserved : goal.loop-designator-preserved
