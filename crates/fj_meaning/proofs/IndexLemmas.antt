@@ -52,7 +52,7 @@ pub variable_indexed : (s : Scope) (index new : BTreeMap (Vec ℕ Global) Named)
     IsIndexed (record { variables = vs; groups = s.groups; lines = s.lines }) new p_new c_new
 variable_indexed s index new p c p_new c_new key v n vs h none is number entries more p_is c_is =
     let index_more : new.entries ≡ insert_entry vec_cmp index.entries key (stands_for.Variable (length s.variables)) =
-      entries ∙ ap (λ m. insert_entry vec_cmp index.entries key (stands_for.Variable m)) number in
+    entries ∙ ap (λ m. insert_entry vec_cmp index.entries key (stands_for.Variable m)) number in
     subst (λ (us : List Variable). let t : Scope = record { variables = us; groups = s.groups; lines = s.lines } in IsIndexed t new p_new c_new) (sym more)
     (record {
       finds = finds_more s (more_variables s v) index new key v.name (stands_for.Variable (length s.variables)) h.finds is index_more (λ name. named_variable s v name none);
@@ -66,7 +66,7 @@ pub group_indexed : (s : Scope) (index new : BTreeMap (Vec ℕ Global) Named) (p
     IsIndexed (record { variables = s.variables; groups = gs; lines = ls }) new p c
 group_indexed s index new p c key g n line gs ls h none is number entries more lines =
     let index_more : new.entries ≡ insert_entry vec_cmp index.entries key (stands_for.Group (length s.groups)) =
-      entries ∙ ap (λ m. insert_entry vec_cmp index.entries key (stands_for.Group m)) number in
+    entries ∙ ap (λ m. insert_entry vec_cmp index.entries key (stands_for.Group m)) number in
     subst (λ (hs : List Namelist). let t : Scope = record { variables = s.variables; groups = hs; lines = ls } in IsIndexed t new p c) (sym more)
     (subst (λ (ks : List ℕ). let t : Scope = record { variables = s.variables; groups = s.groups ++ g ∷ []; lines = ks } in IsIndexed t new p c) (sym lines)
     (record {

@@ -1,3 +1,4 @@
+pub mod Cases
 pub mod Choosing
 pub mod NameLemmas
 pub mod IndexLemmas

@@ -51,16 +51,16 @@ at_equal : {X : Type 0} (name k e : List ℕ) (v w : X) (rest : Option X) → k 
 at_equal name k e v w rest h =
     let b : is_eq (slice_cmp nat_cmp name e) ≡ bytes_eq name k = is_eq-slice_cmp name e ∙ ap (bytes_eq name) (sym h) in
     elim (cases_Bool (bytes_eq name k)) [
-      inl t ↦ rw (b, t) refl
+      | inl t ↦ rw (b, t) refl
       | inr f ↦ rw (b, f) refl
     ]
 
 at_greater : {X : Type 0} (name k e : List ℕ) (v w : X) (rest more : Option X) → slice_cmp nat_cmp k e ≡ Greater → more ≡ cond (bytes_eq name k) (Some v) rest →
     cond (is_eq (slice_cmp nat_cmp name e)) (Some w) more ≡ cond (bytes_eq name k) (Some v) (cond (is_eq (slice_cmp nat_cmp name e)) (Some w) rest)
 at_greater name k e v w rest more g h = elim (cases_Bool (bytes_eq name k)) [
-  inl t ↦
-    let apart : is_eq (slice_cmp nat_cmp name e) ≡ false = ap (λ n. is_eq (slice_cmp nat_cmp n e)) (same name k t) ∙ ap is_eq g in
-    rw (apart, h, t) refl
+  | inl t ↦
+      let apart : is_eq (slice_cmp nat_cmp name e) ≡ false = ap (λ n. is_eq (slice_cmp nat_cmp n e)) (same name k t) ∙ ap is_eq g in
+      rw (apart, h, t) refl
   | inr f ↦ rw (h, f) refl
 ]
 
@@ -88,7 +88,7 @@ from_push p i [] y = ap (only_if (p y)) (omega arith)
 from_push p i (x ∷ xs) y =
     let e : i + 1 + length xs ≡ i + suc (length xs) = omega arith in
     let h : position_from p (i + 1) (xs ++ y ∷ []) ≡ option_or (position_from p (i + 1) xs) (only_if (p y) (i + suc (length xs))) =
-      from_push p (i + 1) xs y ∙ ap (λ n. option_or (position_from p (i + 1) xs) (only_if (p y) n)) e in
+    from_push p (i + 1) xs y ∙ ap (λ n. option_or (position_from p (i + 1) xs) (only_if (p y) n)) e in
     elim (cases_Bool (p x)) [ inl t ↦ rw t refl | inr f ↦ rw f h ]
 
 position_push : {X : Type 0} (p : X → Bool) (xs : List X) (y : X) → position p (xs ++ y ∷ []) ≡ option_or (position p xs) (only_if (p y) (length xs))
@@ -199,24 +199,24 @@ cond_ap b c x y h k = cc
 pub with_all_step : (s t : Scope) (line : ℕ) (kind : Kind) (d : Designator) (ds : List Designator) → with_all s line kind (d ∷ []) ≡ Some t →
     with_all s line kind (d ∷ ds) ≡ with_all t line kind ds
 with_all_step s t line kind d ds h = elim (cases_Bool (is_free s d.name)) [
-  inl f ↦
-    let e : cond (is_free s d.name) (Some (more_variables s (variable line kind d))) None ≡ Some t = sym (ap (λ b. cond b (Some (more_variables s (variable line kind d))) None) (one_is_free s d.name)) ∙ h in
-    let is : more_variables s (variable line kind d) ≡ t = (let k : Some (more_variables s (variable line kind d)) ≡ Some t = rw f at e in cc) in
-    subst (λ u. with_all s line kind (d ∷ ds) ≡ with_all u line kind ds) is
-    (cond_ap _ _ _ _ (are_new_more s (variable line kind d) (map (λ d. d.name) ds) f) (with_more s line kind d ds))
+  | inl f ↦
+      let e : cond (is_free s d.name) (Some (more_variables s (variable line kind d))) None ≡ Some t = sym (ap (λ b. cond b (Some (more_variables s (variable line kind d))) None) (one_is_free s d.name)) ∙ h in
+      let is : more_variables s (variable line kind d) ≡ t = (let k : Some (more_variables s (variable line kind d)) ≡ Some t = rw f at e in cc) in
+      subst (λ u. with_all s line kind (d ∷ ds) ≡ with_all u line kind ds) is
+      (cond_ap _ _ _ _ (are_new_more s (variable line kind d) (map (λ d. d.name) ds) f) (with_more s line kind d ds))
   | inr f ↦ absurd (
-    let e : cond (are_new s (d.name ∷ [])) (Some (with_variables s line kind (d ∷ []))) None ≡ Some t = h in
-    let k : are_new s (d.name ∷ []) ≡ false = one_is_free s d.name ∙ f in
-    let none : None ≡ Some t = rw k at e in cc)
+      let e : cond (are_new s (d.name ∷ [])) (Some (with_variables s line kind (d ∷ []))) None ≡ Some t = h in
+      let k : are_new s (d.name ∷ []) ≡ false = one_is_free s d.name ∙ f in
+      let none : None ≡ Some t = rw k at e in cc)
 ]
 
 pub with_all_fails : (s : Scope) (line : ℕ) (kind : Kind) (d : Designator) (ds : List Designator) → with_all s line kind (d ∷ []) ≡ None → with_all s line kind (d ∷ ds) ≡ None
 with_all_fails s line kind d ds h = elim (cases_Bool (is_free s d.name)) [
-  inl f ↦ absurd (
-    let e : cond (are_new s (d.name ∷ [])) (Some (with_variables s line kind (d ∷ []))) None ≡ None = h in
-    let k : are_new s (d.name ∷ []) ≡ true = one_is_free s d.name ∙ f in
-    let some : Some (with_variables s line kind (d ∷ [])) ≡ None = rw k at e in cc)
+  | inl f ↦ absurd (
+      let e : cond (are_new s (d.name ∷ [])) (Some (with_variables s line kind (d ∷ []))) None ≡ None = h in
+      let k : are_new s (d.name ∷ []) ≡ true = one_is_free s d.name ∙ f in
+      let some : Some (with_variables s line kind (d ∷ [])) ≡ None = rw k at e in cc)
   | inr f ↦
-    let k : are_new s (d.name ∷ map (λ d. d.name) ds) ≡ false = ap (λ b. (b && list_all (is_free s) (map (λ d. d.name) ds)) && are_apart (d.name ∷ map (λ d. d.name) ds)) f in
-    ap (λ b. cond b (Some (with_variables s line kind (d ∷ ds))) None) k
+      let k : are_new s (d.name ∷ map (λ d. d.name) ds) ≡ false = ap (λ b. (b && list_all (is_free s) (map (λ d. d.name) ds)) && are_apart (d.name ∷ map (λ d. d.name) ds)) f in
+      ap (λ b. cond b (Some (with_variables s line kind (d ∷ ds))) None) k
 ]

@@ -63,11 +63,11 @@ apart w items at h k = none_of k.text items at (subst (λ text. IsFormatOf text 
 
 same_place : (text : List ℕ) (a b : ℕ) → IsNoFormat text a → IsNoFormat text b → a ≡ b
 same_place text a b h k = elim (cases_order a b) [
-    inl e ↦ e
+  | inl e ↦ e
   | inr d ↦ absurd (elim d [
-      inl lt ↦ h.longest b lt k.within k.begins
+    | inl lt ↦ h.longest b lt k.within k.begins
     | inr gt ↦ k.longest a gt h.within h.begins
-    ])
+  ])
 ]
 
 same_refusal : (w : Written) (a b : ℕ) → HasNoFormat w a → HasNoFormat w b → a ≡ b
