@@ -2,7 +2,7 @@
 use crate::{Fault, Names, statement};
 use fj_statement::{Control, Operand, Statement, Transfer};
 use fj_syntax::{Written, parse_line};
-use fj_value::{Kind, Value};
+use fj_value::{Kind, Place, Value};
 use std::alloc::{AllocError, Global};
 use std::test::*;
 
@@ -360,36 +360,45 @@ fn lines_of_declarations(rt: HostRuntime) {
     assert!(rt; matches!(lines.get(0), Some(7)));
 }
 
-/// The items of `WRITE(10,'(I5)') A,A(2),5000000000,'ab'`.
-fn are_items(items: &[Operand]) -> bool {
-    match items {
-        [
-            Operand::Whole { var: 1 },
-            Operand::One(place),
-            Operand::Literal {
-                kind: Kind::Int8,
-                value: Value::Int(number),
-            },
-            Operand::Literal {
-                kind: Kind::Chars(2),
-                value: Value::Chars(text),
-            },
-        ] => {
-            place.var == 1
-                && place.index == 2
-                && *number == 5_000_000_000
-                && text.bytes() == b"ab".as_slice()
-        }
-        _ => false,
-    }
+fn is_array(item: Option<&Operand>) -> bool {
+    matches!(item, Some(Operand::Whole { var: 1 }))
+}
+
+fn is_element(item: Option<&Operand>) -> bool {
+    matches!(item, Some(Operand::One(Place { var: 1, index: 2 })))
+}
+
+fn is_wide(item: Option<&Operand>) -> bool {
+    matches!(
+        item,
+        Some(Operand::Literal {
+            kind: Kind::Int8,
+            value: Value::Int(5_000_000_000)
+        })
+    )
+}
+
+fn are_two_characters(item: Option<&Operand>) -> bool {
+    matches!(
+        item,
+        Some(Operand::Literal {
+            kind: Kind::Chars(2),
+            ..
+        })
+    )
 }
 
 fn is_write(transfer: &Transfer) -> bool {
     !transfer.input
         && matches!(transfer.control, Control::Explicit(_))
-        && are_items(transfer.items.as_slice())
+        && transfer.items.len() == 4
+        && is_array(transfer.items.get(0))
+        && is_element(transfer.items.get(1))
+        && is_wide(transfer.items.get(2))
+        && are_two_characters(transfer.items.get(3))
 }
 
+/// The items of a WRITE.
 #[test]
 fn items(rt: HostRuntime) {
     let alloc = rt.alloc();
