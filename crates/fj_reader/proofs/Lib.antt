@@ -1,3 +1,4 @@
+pub mod Cases
 pub mod DecidedLemmas
 pub mod LawLemmas
 pub mod LineLemmas
