@@ -1,5 +1,5 @@
 // Texts, with the format that each is, or the place where it stops being one.
-use super::{FormatFault, parse, print};
+use super::{Format, FormatFault, has_width_zero, parse, parse_items, print};
 use itoa::Buffer;
 use std::alloc::{AllocError, Global};
 
@@ -154,8 +154,47 @@ fn reads_as(alloc: Global, text: &[u8], answer: &[u8]) -> Result<bool, AllocErro
             let mut buffer = Buffer::new();
             Ok(buffer.format(at).as_bytes() == answer)
         }
-        Err(FormatFault::TooMany) => Ok(answer == b"too many".as_slice()),
+        Err(FormatFault::TooMany) => Ok(
+            answer == b"too many".as_slice() && is_too_long(alloc, text),
+        ),
         Err(FormatFault::Memory(error)) => Err(error),
+    }
+}
+
+/// Whether a text has the items of a format that is too long.
+fn is_too_long(alloc: Global, text: &[u8]) -> bool {
+    if text.len() > 1000 {
+        return false;
+    }
+    match parse_items(alloc, text) {
+        Ok(items) => Format::of(items).is_none(),
+        Err(_) => false,
+    }
+}
+
+/// Formats with an integer field as wide as its value, and others.
+const WIDTHS: [(&str, bool); 7] = [
+    ("(I0)", true),
+    ("(B0.5)", true),
+    ("(A,2(X,3(O0)))", true),
+    ("(1000(1000A),X,Z0)", true),
+    ("(I10,B1,O2.0,Z3)", false),
+    ("(L1,A,G1.0)", false),
+    ("()", false),
+];
+
+fn has_width(alloc: Global, text: &str) -> Option<bool> {
+    if text.len() > 1000 {
+        return None;
+    }
+    let items = parse_items(alloc, text.as_bytes()).ok()?;
+    Some(has_width_zero(&items))
+}
+
+#[test]
+fn widths(rt: HostRuntime) {
+    for (text, wanted) in WIDTHS {
+        assert_eq!(rt; has_width(rt.alloc(), text), Some(wanted), "{text}");
     }
 }
 

@@ -1,0 +1,5 @@
+pub mod Cases
+pub mod DecidedLemmas
+pub mod LawLemmas
+pub mod LineLemmas
+pub mod RunLemmas

@@ -1,0 +1,421 @@
+// Texts, with the number of statements of the deck that each is, or its refusal.
+use super::{DeckFault, parse_deck};
+use fj_statement::Reason;
+use fj_value::Text;
+use std::alloc::{AllocError, Global};
+
+/// A deck of so many statements, or a line that is refused.
+#[derive(Clone, Copy, Debug, PartialEq, Eq)]
+enum Outcome {
+    Deck(usize),
+    Refused(u32, Reason),
+}
+
+fn answer_on(alloc: Global, text: &[u8]) -> Result<Outcome, AllocError> {
+    match parse_deck(alloc, text) {
+        Ok(deck) => Ok(Outcome::Deck(deck.statements().len())),
+        Err(DeckFault::Refused { line, reason }) => Ok(Outcome::Refused(line, reason)),
+        Err(DeckFault::Memory(error)) => Err(error),
+    }
+}
+
+/// The six lines before each of the following lines, behind which END stands.
+const DECLARED: &[u8] = b"\
+    INTEGER A(3), I, J, N, S\n\
+    INTEGER(8) K\n\
+    LOGICAL L\n\
+    CHARACTER(5) C, D(2)\n\
+    INTEGER UNIT, FILE\n\
+    NAMELIST /G/ I, A\n";
+
+/// Lines that add no statement.
+const NO_STATEMENTS: &[u8] = b"\
+    \x20\t \n\
+    ! x\n\
+    \x20! \x01\x7f\xff 'x\n\
+    INTEGER(8) X\n\
+    INTEGER(08) :: X(3), Y\n\
+    INTEGER(KIND=4), ASYNCHRONOUS :: X\n\
+    INTEGER ASYNCHRONOUS\n\
+    CHARACTER(00005) X\n\
+    integer a23456789012345678901234567890123456789012345678901234567890123\n\
+    NAMELIST /H/ I, I, D\n\
+    namelist/h/i";
+
+/// Lines that add one.
+const STATEMENTS: &[u8] = b"\
+    I = 5 ! five\n\
+    i\t=\t-5\n\
+    I = -2147483648\n\
+    I = 2147483647\n\
+    K = 9223372036854775807\n\
+    K = -9223372036854775808\n\
+    K = 0000000000000000005\n\
+    A = 5\n\
+    A(3) = I\n\
+    A(01) = +0\n\
+    L = .TRUE.\n\
+    C = 'it''s\t\x7f\xff'\n\
+    C = D(2)\n\
+    D(1) = C\n\
+    D = \"\"\n\
+    FILE = 5\n\
+    UNIT = FILE\n\
+    OPEN(0010)\n\
+    OPEN(10,RECL=+4)\n\
+    OPEN(10,RECL=-0)\n\
+    OPEN(10,RECL=2147483647)\n\
+    OPEN(FILE='X  ',UNIT=10,STATUS='old  ')\n\
+    CLOSE(2147483647,STATUS='KEEP')\n\
+    WAIT(10,ID=9223372036854775807)\n\
+    ENDFILE 10\n\
+    END FILE (10,IOSTAT=S)\n\
+    INQUIRE(EXIST=L,FILE='X')\n\
+    INQUIRE(10,ID=N)\n\
+    READ(10,*) UNIT, A, A(2)\n\
+    READ(10,NML=G)\n\
+    READ(10,'(I1)',ADVANCE='YES',SIZE=N) I\n\
+    READ(10,REC=I)\n\
+    WRITE(*,*) 5, 'x', .FALSE., K, D\n\
+    WRITE(*,*) ''\n\
+    WRITE(FMT=*,UNIT=10) I\n\
+    WRITE(10,'(I5,\tI5)') I, J\n\
+    WRITE(10,'(1000(1000(I1)))') I\n\
+    WRITE(10,'(I1)',ASYNCHRONOUS='YES',ID=N) I";
+
+/// Lines that are no statement.
+const GARBLED: &[u8] = b"\
+    READ(10,*,IOSTAT=5) I\n\
+    READ(10,'(I1)',ADVANCE='NO',SIZE='x') I\n\
+    READ(10,REC='x') I\n\
+    READ(10,REC=.TRUE.) I\n\
+    OPEN(10,RECL='4')\n\
+    OPEN(10,RECL=N)\n\
+    OPEN(10,FILE=N)\n\
+    OPEN(10,STATUS=OLD)\n\
+    READ(10,FMT=5) I\n\
+    READ(10,FMT=C) I\n\
+    READ(10,NML='G')\n\
+    OPEN(2147483648)\n\
+    A(0) = 1\n\
+    A(1000001) = 1\n\
+    INTEGER X(0)\n\
+    CHARACTER(65537) X\n\
+    INTEGER(3) X\n\
+    OPEN(10,RECL=-1)\n\
+    OPEN(10,RECL=2147483648)\n\
+    K = 12345678901234567890\n\
+    OPEN(9999999999999999999)\n\
+    OPEN(10,RECL=9999999999999999999)\n\
+    I = - 5\n\
+    OPEN(+10)\n\
+    A(+1) = 1\n\
+    WRITE(UNIT=10,'(I1)') I\n\
+    WRITE(10,IOSTAT=S,'(I1)') I\n\
+    OPEN(10,UNIT=10)\n\
+    OPEN(UNIT=10,UNIT=10)\n\
+    READ(10,*,FMT=*) I\n\
+    READ(10,FMT=*,FMT=*) I\n\
+    READ(10,NML=G,NML=G)\n\
+    INQUIRE(10,FILE='X')\n\
+    INQUIRE(EXIST=L)\n\
+    INTEGER A234567890123456789012345678901234567890123456789012345678901234\n\
+    INTEGER END\n\
+    READ(10,NML=END)\n\
+    NAMELIST /OPEN/ I\n\
+    NAMELIST /H/ READ\n\
+    I\r = 5\n\
+    I = 5 #\n\
+    I = 5\x00\n\
+    I = 5\x7f\n\
+    I\xff = 5\n\
+    C = 'a\x1f'\n\
+    C = 'it's'\n\
+    OPEN(10,FILE='')\n\
+    OPEN(10,STATUS='')\n\
+    OPEN(10,FILE='a\tb')\n\
+    OPEN(10,STATUS='OLD\t')\n\
+    INTEGER, ASYNCHRONOUS X\n\
+    WRITE(10,'(Q)',IOSTAT=5) X\n\
+    END X\n\
+    END 5";
+
+/// Lines without a meaning.
+const MEANINGLESS: &[u8] = b"\
+    READ(10,*,IOSTAT=L) I\n\
+    READ(10,REC=C) I\n\
+    INQUIRE(10,EXIST=N)\n\
+    A(4) = 1\n\
+    A(1000000) = 1\n\
+    I = 2147483648\n\
+    K = 9223372036854775808\n\
+    K = 9999999999999999999\n\
+    WRITE(*,*) 9999999999999999999\n\
+    READ(10,REC=9999999999999999999) I\n\
+    READ(10,POS=9999999999999999999) I\n\
+    WAIT(10,ID=9999999999999999999)\n\
+    READ(10,*,NML=G)\n\
+    READ(10,FMT='(I1)',NML=G)\n\
+    READ(10,*) 5\n\
+    READ(10,*) 'x'\n\
+    NAMELIST /I/ J\n\
+    NAMELIST /G/ J\n\
+    NAMELIST /H/ X\n\
+    NAMELIST /H/ G\n\
+    INTEGER G\n\
+    INTEGER I\n\
+    LOGICAL X, X\n\
+    INTEGER X, X(1000000)\n\
+    READ(10,NML=I)\n\
+    READ(10,NML=H)\n\
+    G = 5\n\
+    X = 5\n\
+    C = 5\n\
+    L = 1\n\
+    K = I\n\
+    I = A\n\
+    A = I\n\
+    I(1) = 5\n\
+    I(2) = 5\n\
+    READ(10,*,IOSTAT=A) I\n\
+    READ(10,*,ADVANCE='YES') I\n\
+    READ(10,'(I1)',SIZE=N) I\n\
+    WRITE(10,'(I1)',ASYNCHRONOUS='NO',ID=N) I\n\
+    READ(10,'(I0)') I\n\
+    READ(10,'(1000(1001(I0)))') I\n\
+    WRITE(10,'(1000(1001(I1)))') X";
+
+/// Lines past a limit.
+const BEYOND: &[u8] = b"\
+    INTEGER X(1000000)\n\
+    CHARACTER(65536) X(256)\n\
+    WRITE(10,'(1000(1001(I1)))') I\n\
+    READ(10,'(1000(1001(I1)))') I";
+
+/// What a line is, behind declarations and before END.
+fn of_line(alloc: Global, line: &[u8]) -> Result<Outcome, AllocError> {
+    let mut text = Text::from_bytes(alloc, DECLARED)?;
+    text.push_all(line)?;
+    text.push_all(b"\nEND\n")?;
+    answer_on(alloc, text.bytes())
+}
+
+#[test]
+fn lines_are_read(rt: HostRuntime) -> Result<(), AllocError> {
+    let alloc = rt.alloc();
+    for (lines, answer) in [
+        (NO_STATEMENTS, Outcome::Deck(1)),
+        (STATEMENTS, Outcome::Deck(2)),
+        (GARBLED, Outcome::Refused(7, Reason::Syntax)),
+        (MEANINGLESS, Outcome::Refused(7, Reason::Meaning)),
+        (BEYOND, Outcome::Refused(7, Reason::TooMany)),
+    ] {
+        for line in lines.split(|byte| *byte == b'\n') {
+            assert_eq!(rt; of_line(alloc, line)?, answer, "{line:?}");
+        }
+    }
+    Ok(())
+}
+
+/// Whole texts.
+const TEXTS: [(&[u8], Outcome); 31] = [
+    (b"", Outcome::Refused(1, Reason::NoEnd)),
+    (b"\n", Outcome::Refused(2, Reason::NoEnd)),
+    (b"\n\n ! END\n", Outcome::Refused(4, Reason::NoEnd)),
+    (b"INTEGER A", Outcome::Refused(2, Reason::NoEnd)),
+    (b"END", Outcome::Deck(1)),
+    (b"end\r\n", Outcome::Deck(1)),
+    (b"END\r", Outcome::Refused(1, Reason::Syntax)),
+    (b"END\r\r\n", Outcome::Refused(1, Reason::Syntax)),
+    (b"END ! \r", Outcome::Deck(1)),
+    (b"END\n\t\n! x\r\n\n", Outcome::Deck(1)),
+    (b"END\nEND\n", Outcome::Refused(2, Reason::Syntax)),
+    (b"END\n\nA = 1\n", Outcome::Refused(3, Reason::Syntax)),
+    (b"END\nINTEGER A\n", Outcome::Refused(2, Reason::Syntax)),
+    (b"END\n?\n", Outcome::Refused(2, Reason::Syntax)),
+    (b"END FILE 10\nEND", Outcome::Deck(2)),
+    (
+        b"WRITE(*,'(I5,Q2)') 1\nEND",
+        Outcome::Refused(1, Reason::Format { at: 4 }),
+    ),
+    (
+        b"WRITE(*,'(I5,Q2)') A\nEND",
+        Outcome::Refused(1, Reason::Format { at: 4 }),
+    ),
+    (
+        b"WRITE(*,'') 1\nEND",
+        Outcome::Refused(1, Reason::Format { at: 0 }),
+    ),
+    (
+        b"WRITE(*,'(''it''''s'',)') 1\nEND",
+        Outcome::Refused(1, Reason::Format { at: 9 }),
+    ),
+    (
+        b"WRITE(*,'(I5)') 1\nWRITE(*,'(I5') 1",
+        Outcome::Refused(2, Reason::Format { at: 3 }),
+    ),
+    (b"integer a ! x\na=5\nend", Outcome::Deck(2)),
+    (
+        b"INTEGER A\nA = 'x'\nEND\n",
+        Outcome::Refused(2, Reason::Meaning),
+    ),
+    (
+        b"INTEGER A\n\n! x\nA = 'x'\nA = 'x'\n?\n",
+        Outcome::Refused(4, Reason::Meaning),
+    ),
+    (
+        b"INTEGER A\nA = 1\nINTEGER B\nEND\n",
+        Outcome::Refused(3, Reason::Syntax),
+    ),
+    (
+        b"INTEGER A\nA = 1\nNAMELIST /G/ A\nEND\n",
+        Outcome::Refused(3, Reason::Syntax),
+    ),
+    (b"INTEGER A(1000000)\nWRITE(*,*) A\nEND", Outcome::Deck(2)),
+    (
+        b"INTEGER A(1000000)\nWRITE(*,*) A, 1\nEND",
+        Outcome::Refused(2, Reason::TooMany),
+    ),
+    (
+        b"INTEGER A(999999)\nLOGICAL B\nCHARACTER C\nEND",
+        Outcome::Refused(3, Reason::TooMany),
+    ),
+    (
+        b"CHARACTER(65536) A(256)\nINTEGER N\nWRITE(*,*) A\nEND",
+        Outcome::Deck(2),
+    ),
+    (
+        b"CHARACTER(65536) A(256)\nWRITE(*,*) A, ''\nWRITE(*,*) A, 'x'\nEND",
+        Outcome::Refused(3, Reason::TooMany),
+    ),
+    (
+        b"CHARACTER(65536) A(256)\nCHARACTER B\nEND",
+        Outcome::Refused(2, Reason::TooMany),
+    ),
+];
+
+#[test]
+fn texts_are_read(rt: HostRuntime) -> Result<(), AllocError> {
+    for (text, answer) in TEXTS {
+        assert_eq!(rt; answer_on(rt.alloc(), text)?, answer, "{text:?}");
+    }
+    Ok(())
+}
+
+/// What a text is in which something stands so often between two others.
+fn answer_on_many(
+    alloc: Global,
+    first: &[u8],
+    part: &[u8],
+    times: u32,
+    last: &[u8],
+) -> Result<Outcome, AllocError> {
+    let mut text = Text::from_bytes(alloc, first)?;
+    for _ in 0..times {
+        text.push_all(part)?;
+    }
+    text.push_all(last)?;
+    answer_on(alloc, text.bytes())
+}
+
+/// Texts at the limits of bytes and beyond.
+const LENGTHS: [(&[u8], &[u8], u32, &[u8], Outcome); 8] = [
+    (b"END", b" ", 997, b"\r\n", Outcome::Deck(1)),
+    (
+        b"END",
+        b" ",
+        998,
+        b"\r\n",
+        Outcome::Refused(1, Reason::LineTooLong),
+    ),
+    (b"END!", b"x", 996, b"", Outcome::Deck(1)),
+    (
+        b"!",
+        b"x",
+        1000,
+        b"\nEND",
+        Outcome::Refused(1, Reason::LineTooLong),
+    ),
+    (
+        b"?",
+        b"?",
+        1000,
+        b"\nEND",
+        Outcome::Refused(1, Reason::LineTooLong),
+    ),
+    (
+        b"END\n",
+        b" ",
+        1001,
+        b"\n",
+        Outcome::Refused(2, Reason::LineTooLong),
+    ),
+    (b"END\n", b"!\n", 2_097_150, b"", Outcome::Deck(1)),
+    (
+        b"END\n",
+        b"!\n",
+        2_097_150,
+        b"!",
+        Outcome::Refused(1, Reason::TextTooLong),
+    ),
+];
+
+#[test]
+fn lengths_are_limited(rt: HostRuntime) -> Result<(), AllocError> {
+    for (first, part, times, last, answer) in LENGTHS {
+        let read = answer_on_many(rt.alloc(), first, part, times, last)?;
+        assert_eq!(rt; read, answer, "{times} times");
+    }
+    Ok(())
+}
+
+#[test]
+fn statements_are_limited(rt: HostRuntime) -> Result<(), AllocError> {
+    for (times, last, answer) in [
+        (99_999, b"\n! x\nEND\n".as_slice(), Outcome::Deck(100_000)),
+        (
+            100_000,
+            b"\n! x\nEND",
+            Outcome::Refused(100_004, Reason::TooMany),
+        ),
+        (
+            100_000,
+            b"A = B",
+            Outcome::Refused(100_002, Reason::Meaning),
+        ),
+    ] {
+        let read = answer_on_many(rt.alloc(), b"INTEGER A\n", b"A=1\n", times, last)?;
+        assert_eq!(rt; read, answer);
+    }
+    Ok(())
+}
+
+fn last_digit(number: u32) -> u8 {
+    b'0' + (number % 10) as u8
+}
+
+/// What a text is that declares so many variables, up to 10,000.
+fn answer_on_variables(alloc: Global, count: u32) -> Result<Outcome, AllocError> {
+    let mut text = Text::new(alloc);
+    for number in 0..count {
+        text.push_all(b"INTEGER V")?;
+        text.push_copies(last_digit(number / 1000), 1)?;
+        text.push_copies(last_digit(number / 100), 1)?;
+        text.push_copies(last_digit(number / 10), 1)?;
+        text.push_copies(last_digit(number), 1)?;
+        text.push_all(b"\n")?;
+    }
+    text.push_all(b"END\n")?;
+    answer_on(alloc, text.bytes())
+}
+
+#[test]
+fn variables_are_limited(rt: HostRuntime) -> Result<(), AllocError> {
+    for (count, answer) in [
+        (4096, Outcome::Deck(1)),
+        (4097, Outcome::Refused(4097, Reason::TooMany)),
+    ] {
+        assert_eq!(rt; answer_on_variables(rt.alloc(), count)?, answer);
+    }
+    Ok(())
+}
