@@ -1,11 +1,10 @@
 -- The definitions computed at worked cases.
-use Rattle.std.proofs.Common.{◌≡◌, ℕ, List, true, false, [], ◌∷◌, Some, None, refl, codes, pos}
-use Rattle.fj_value.specs.declared.kind.Kind.{Kind}
+use Rattle.std.proofs.Common.{◌≡◌, true, false, [], ◌∷◌, Some, None, refl, codes, pos}
 use Rattle.fj_value.specs.declared.kind.Kind.TheVariants.{Int4, Int8, Logical, Chars}
 use Rattle.fj_value.specs.declared.value.Value.TheVariants as value
 use Rattle.fj_statement.specs.declared.statement.Operand.TheVariants as operand
 use Rattle.fj_statement.specs.declared.statement.Statement.TheVariants as statement
-use Rattle.fj_syntax.specs.declared.token.Sign.TheVariants.{Unsigned, Minus}
+use Rattle.fj_syntax.specs.declared.token.Sign.TheVariants.{Unsigned}
 use Rattle.fj_syntax.specs.declared.operand.Operand.TheVariants as written
 use Rattle.fj_meaning.specs.declared.scope.Scope.{Scope}
 use Rattle.fj_meaning.specs.Scope.{empty, named, found, members}
