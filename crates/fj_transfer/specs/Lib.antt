@@ -1,0 +1,4 @@
+pub mod Change
+pub mod Moving
+pub mod Explicit
+pub mod Printing
