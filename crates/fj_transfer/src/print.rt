@@ -1,5 +1,5 @@
 // The records of a formatted output.
-ghost use Rattle.std.specs.Prelude.{◌≡◌, ◌≤◌, length, map, slice_get, take, IfOk, OnOk, OnErr};
+ghost use Rattle.std.specs.Prelude.{◌≡◌, length, map, slice_get, take, IfOk, OnOk, OnErr};
 ghost use Rattle.fj_transfer.specs.Change.{changed};
 ghost use Rattle.fj_transfer.specs.Moving.{IsExplicit, format_of};
 ghost use Rattle.fj_transfer.specs.Explicit.{Prints, explicit_transfer, fails, first, items_of};
@@ -52,8 +52,7 @@ pub fn print_records(
     begun: u32,
     out: &mut Text,
 ) -> Result<Condition, AllocError>
-    requires explicit { IsExplicit job.now.spec.layout }
-    requires begun { begun ≤ recl }
+    requires { IsExplicit job.now.spec.layout }
     ensures records { IfOk result (λ condition. Prints
         (explicit_transfer (first recl begun) (changed job.now.spec.edit modes).plus job.now.spec.advance
         (format_of job.now.spec.layout) (items_of job.now.moved))

@@ -1,6 +1,6 @@
 // Format control carried out on the items of an output.
-ghost use Rattle.std.specs.Prelude.{◌≡◌, ◌++◌, ◌∷◌, length, take, List, OnOk};
-ghost use Rattle.fj_control.specs.Steps.{Given, gives};
+ghost use Rattle.std.specs.Prelude.{◌≡◌, ◌≢◌, ◌++◌, ◌∷◌, length, take, List, OnOk};
+ghost use Rattle.fj_control.specs.Steps.{Given, gives, no_data};
 ghost use Rattle.fj_control.specs.Walk.{given, due, items_behind};
 ghost use Rattle.fj_format.specs.Unfolding as elementary;
 ghost use Rattle.fj_transfer.specs.Explicit.{Action, sign_behind, item_put, fails, error_in, page_behind, carried_out};
@@ -83,6 +83,7 @@ impl<'a> Writer<'a> {
             ≡ printed out.old (outcome_of self.old (given step.entry ∷ more) last)) }
         ensures left { OnOk result (length self.new.left.now
             ≡ items_behind (given step.entry) (length self.old.left.now)) }
+        ensures some { OnOk result (given step.entry ≢ no_data) }
         ensures kept { take (length out.old) out.new ≡ out.old }
     {
         match step {
