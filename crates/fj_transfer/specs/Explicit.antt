@@ -1,5 +1,5 @@
 -- Output under an explicit format (ISO/IEC 1539-1:2004, 10.1): the records of a statement, or its first condition.
-use Rattle.std.specs.Prelude.{ℕ, ◌+◌, ◌≡◌, Bool, true, false, nat_lt, if◌then◌else◌, List, [], ◌∷◌, ◌++◌, length, map, slice_get, Option, Some, None}
+use Rattle.std.specs.Prelude.{ℕ, ◌+◌, ◌-◌, ◌≡◌, min, Bool, true, false, nat_lt, if◌then◌else◌, List, [], ◌∷◌, ◌++◌, length, map, slice_get, Option, Some, None}
 use Rattle.fj_value.specs.declared.edit.Edit.{Edit}
 use Rattle.fj_value.specs.declared.value.Cell.{Cell}
 use Rattle.fj_value.specs.declared.condition.Condition.{Condition}
@@ -8,7 +8,7 @@ use Rattle.fj_format.specs.declared.item.ModeStep.{ModeStep}
 use Rattle.fj_format.specs.declared.item.ModeStep.TheVariants.{Plus, Suppress, Usual}
 use Rattle.fj_format.specs.declared.item.FormatItem.{FormatItem}
 use Rattle.fj_format.specs.Unfolding as step
-use Rattle.fj_control.specs.Line.{LineState, begun, written, tabbed, tabbed_left, tabbed_right}
+use Rattle.fj_control.specs.Line.{LineState, farthest, begun, written}
 use Rattle.fj_control.specs.Steps.{Given, gives, done, no_data, steps}
 use Rattle.fj_edit_out.specs.OutputField.{output_field}
 use Rattle.fj_list.specs.declared.moved.Moved.{Moved}
@@ -19,7 +19,7 @@ use Rattle.fj_list.specs.ListText.{text_of}
 -- what is done to the record at hand
 pub data Action : Type 0 where
   put : List ℕ → Action  -- characters are written at the position
-  move : (LineState → LineState) → Action  -- the position changes
+  move : (ℕ → ℕ) → Action  -- to another position
   end_record : Action
   stop : ℕ → Action  -- an error
 
@@ -48,9 +48,9 @@ paired plus (no_data ∷ rest) items = stop 11 ∷ paired plus rest items
 paired plus (gives (step.edit e) ∷ rest) [] = paired plus rest []
 paired plus (gives (step.edit e) ∷ rest) (item ∷ items) = item_put plus e item ∷ paired plus rest items
 paired plus (gives (step.string s) ∷ rest) items = put s ∷ paired plus rest items
-paired plus (gives (step.tab n) ∷ rest) items = move (tabbed n) ∷ paired plus rest items
-paired plus (gives (step.left n) ∷ rest) items = move (tabbed_left n) ∷ paired plus rest items
-paired plus (gives (step.right n) ∷ rest) items = move (tabbed_right n) ∷ paired plus rest items
+paired plus (gives (step.tab n) ∷ rest) items = move (λ at. n - 1) ∷ paired plus rest items
+paired plus (gives (step.left n) ∷ rest) items = move (λ at. at - n) ∷ paired plus rest items
+paired plus (gives (step.right n) ∷ rest) items = move (λ at. min (at + n) farthest) ∷ paired plus rest items
 paired plus (gives step.slash ∷ rest) items = end_record ∷ paired plus rest items
 paired plus (gives step.colon ∷ rest) items = paired plus rest items
 paired plus (gives (step.mode m) ∷ rest) items = paired (sign_behind m plus) rest items
@@ -69,7 +69,7 @@ first limit start = record { limit = limit; start = start; before = 0; line = be
 
 abbrev pub page_behind : Action → AtHand → AtHand
 page_behind (put chars) page = record page { line = written chars page.line }
-page_behind (move by) page = record page { line = by page.line }
+page_behind (move by) page = record page { line = record { at = by page.line.at; text = page.line.text } }
 page_behind end_record page = record page { start = 0; before = page.before + (length page.line.text + 1); line = begun }
 page_behind (stop n) page = page
 

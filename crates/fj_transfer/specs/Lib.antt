@@ -2,3 +2,4 @@ pub mod Change
 pub mod Moving
 pub mod Explicit
 pub mod Printing
+pub mod Records

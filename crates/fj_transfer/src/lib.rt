@@ -3,6 +3,7 @@
 
 mod change;
 mod halt;
+mod laws;
 mod page;
 mod print;
 #[cfg(test)]
@@ -11,5 +12,6 @@ mod transfer;
 mod writer;
 
 pub use change::EditChange;
+pub use laws::{records_are_texts_of_maps, records_fit};
 pub use print::print_records;
 pub use transfer::{Layout, Members, Transfer, TransferSpec};

@@ -1,6 +1,6 @@
 // The record at hand of a statement, and how far its records may go.
-ghost use Rattle.std.specs.Prelude.{◌≡◌, ◌++◌, ◌∷◌, ◌+◌, ◌≤◌, ◌<◌, ◌^◌, [], length, take, OnOk};
-ghost use Rattle.fj_control.specs.Line.{farthest, tabbed, tabbed_left, tabbed_right};
+ghost use Rattle.std.specs.Prelude.{◌≡◌, ◌++◌, ◌∷◌, ◌+◌, ◌-◌, min, ◌≤◌, ◌<◌, ◌^◌, [], length, take, OnOk};
+ghost use Rattle.fj_control.specs.Line.{farthest};
 ghost use Rattle.fj_transfer.specs.Explicit.{first, put, move, end_record, page_behind, error_in, excess_at};
 ghost use Rattle.fj_transfer.specs.Printing.{Tells, widened};
 
@@ -89,19 +89,19 @@ impl Page {
     }
 
     pub fn tab(&mut self, n: u32)
-        ensures { self.new ≡ page_behind (move (tabbed n)) self.old }
+        ensures { self.new ≡ page_behind (move (λ at. n - 1)) self.old }
     {
         self.line.tab(n.max(1));
     }
 
     pub fn tab_left(&mut self, n: u32)
-        ensures { self.new ≡ page_behind (move (tabbed_left n)) self.old }
+        ensures { self.new ≡ page_behind (move (λ at. at - n)) self.old }
     {
         self.line.tab_left(n);
     }
 
     pub fn tab_right(&mut self, n: u32)
-        ensures { self.new ≡ page_behind (move (tabbed_right n)) self.old }
+        ensures { self.new ≡ page_behind (move (λ at. min (at + n) farthest)) self.old }
     {
         self.line.tab_right(n);
     }
