@@ -1,3 +1,4 @@
 pub mod Endings
 pub mod Cases
 pub mod RecordLaws
+pub mod Listings

@@ -3,3 +3,4 @@ pub mod Moving
 pub mod Explicit
 pub mod Printing
 pub mod Records
+pub mod Listing

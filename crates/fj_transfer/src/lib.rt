@@ -4,6 +4,7 @@
 mod change;
 mod halt;
 mod laws;
+mod list;
 mod page;
 mod print;
 #[cfg(test)]

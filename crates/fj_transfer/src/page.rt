@@ -106,6 +106,14 @@ impl Page {
         self.line.tab_right(n);
     }
 
+    /// How many characters the statement wrote of the record.
+    pub fn width(&self) -> u64
+        ensures value { result ≡ length self.now.line.text }
+        ensures within { length self.now.line.text ≤ 16777216 }
+    {
+        self.line.width()
+    }
+
     /// What the statement wrote of the record.
     pub fn text(&self) -> &[u8]
         ensures { result.now ≡ self.now.line.text }

@@ -1,0 +1,78 @@
+// List-directed output.
+ghost use Rattle.std.specs.Prelude.{◌≡◌, ◌++◌, ◌∷◌, ◌+◌, ◌≤◌, ◌<◌, [], All, List, length, map, take, drop, OnOk, Ok};
+ghost use Rattle.fj_list.specs.Moved.{value_at};
+ghost use Rattle.fj_list.specs.ListText.{gap, is_characters, shown};
+ghost use Rattle.fj_transfer.specs.Explicit.{Action, put, end_record, carried_out, fails};
+ghost use Rattle.fj_transfer.specs.Listing.{with_first, next_text, width_behind, texts_behind, listed_transfer};
+ghost use Rattle.fj_transfer.specs.Printing.{Halts, printed};
+
+use crate::halt::Halt;
+use crate::page::Page;
+use fj_list::push_value;
+use fj_value::{Cell, Delim, EditModes, Text, Value};
+use std::alloc::AllocError;
+
+/// A record has no more columns, unless its one value is longer.
+const COLUMNS: u64 = 80;
+
+fn is_characters(value: &Value) -> bool
+    ensures { result ≡ is_characters value.now }
+{
+    matches!(value, Value::Chars(_))
+}
+
+/// What stands before a value that is not the first in its record.
+fn gap(modes: EditModes, before: bool, after: bool) -> &'static [u8]
+    ensures { result.now ≡ gap modes before after }
+{
+    if before && after && modes.delim == Delim::Plain {
+        b""
+    } else {
+        b" "
+    }
+}
+
+/// Puts the text of a value into the buffer, behind what stands before it.
+fn show(buffer: &mut Text, modes: EditModes, before: &[u8], value: &Value) -> Result<(), AllocError>
+    ensures { OnOk result (buffer.new ≡ before.now ++ shown modes value.now) }
+{
+    buffer.clear();
+    buffer.push_all(before)?;
+    push_value(buffer, modes, value)
+}
+
+/// Ends the record and writes a value as the first of a new one.
+fn put_first(page: &mut Page, value: &[u8], out: &mut Text) -> Result<(), Halt>
+    ensures halted { Halts (λ n. (more : List Action) →
+        carried_out page.old (end_record ∷ put (32 ∷ []) ∷ put value.now ∷ more) ≡ fails n) result }
+    ensures goes { OnOk result ((more : List Action) → printed out.new (carried_out page.new more)
+        ≡ printed out.old (carried_out page.old (end_record ∷ put (32 ∷ []) ∷ put value.now ∷ more))) }
+    ensures page { OnOk result (page.new ≡ with_first value.now page.old) }
+    ensures kept { take (length out.old) out.new ≡ out.old }
+{
+    page.end_record(out)?;
+    page.put(b" ")?;
+    page.put(value)
+}
+
+/// Writes the text of a value, of which so many characters stand before it; or where it would pass the last column, the
+/// value as the first of a new record.
+fn put_next(page: &mut Page, before: usize, text: &[u8], out: &mut Text) -> Result<(), Halt>
+    requires before { before ≤ length text.now }
+    requires at_end { page.old.line.at ≡ length page.old.line.text }
+    ensures halted { Halts (λ n. (more : List Action) →
+        carried_out page.old (next_text (length page.old.line.text) (take before text.now) (drop before text.now) ++ more)
+        ≡ fails n) result }
+    ensures goes { OnOk result ((more : List Action) →
+        printed out.new (carried_out page.new more)
+        ≡ printed out.old (carried_out page.old (next_text (length page.old.line.text) (take before text.now) (drop before text.now) ++ more))) }
+    ensures at_end { OnOk result (page.new.line.at ≡ length page.new.line.text) }
+    ensures width { OnOk result (length page.new.line.text
+        ≡ width_behind (length page.old.line.text) (take before text.now) (drop before text.now)) }
+    ensures kept { take (length out.old) out.new ≡ out.old }
+{
+    if page.width() + text.len() as u64 <= COLUMNS {
+        return page.put(text);
+    }
+    put_first(page, &text[before..], out)
+}
