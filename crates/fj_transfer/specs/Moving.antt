@@ -4,14 +4,12 @@ use Rattle.fj_value.specs.declared.value.Cell.{Cell}
 use Rattle.fj_value.specs.Kind.{IsOfKind}
 use Rattle.fj_format.specs.declared.item.FormatItem.{FormatItem}
 use Rattle.fj_list.specs.declared.moved.Moved.{Moved}
-use Rattle.fj_list.specs.Moved.{IsOrdered}
 use Rattle.fj_transfer.specs.declared.transfer.Layout.{Layout}
 use Rattle.fj_transfer.specs.declared.transfer.Layout.TheVariants.{Explicit}
 
--- each item has a cell, and each cell a value of its kind
-pub record AreDefined (moved : Moved) : Type 0 where
-  pub ordered : IsOrdered moved
-  pub of_kind : All (λ (cell : Cell). IsOfKind cell.kind cell.value) moved.cells
+-- the cells have values of their kinds
+abbrev pub HasValues : Moved → Type 0
+HasValues moved = All (λ (cell : Cell). IsOfKind cell.kind cell.value) moved.cells
 
 -- an explicit format (10.1)
 abbrev pub IsExplicit : Layout → Type 0

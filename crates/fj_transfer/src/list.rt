@@ -76,3 +76,47 @@ fn put_next(page: &mut Page, before: usize, text: &[u8], out: &mut Text) -> Resu
     }
     put_first(page, &text[before..], out)
 }
+
+fn value_at(cells: &[Cell], at: u32) -> &Value
+    requires { at < length cells.now }
+    ensures { result.now ≡ value_at cells.now at }
+{
+    &cells[at as usize].value
+}
+
+/// The values of items.
+#[derive(Clone, Copy)]
+pub struct Values<'a> {
+    pub cells: &'a [Cell],
+    /// The cell of each item.
+    pub order: &'a [u32],
+}
+
+/// Writes values behind another one.
+fn put_rest(
+    page: &mut Page,
+    modes: EditModes,
+    mut characters: bool,
+    values: Values,
+    buffer: &mut Text,
+    out: &mut Text,
+) -> Result<(), Halt>
+    requires at_end { page.old.line.at ≡ length page.old.line.text }
+    requires ordered { All (λ at. at < length values.cells.now) values.order.now }
+    ensures halted { Halts (λ n. (more : List Action) → carried_out page.old
+        (texts_behind modes (length page.old.line.text) characters (map (value_at values.entry.cells.now) values.entry.order.now) ++ more)
+        ≡ fails n) result }
+    ensures goes { OnOk result ((more : List Action) → printed out.new (carried_out page.new more) ≡ printed out.old (carried_out page.old
+        (texts_behind modes (length page.old.line.text) characters (map (value_at values.entry.cells.now) values.entry.order.now) ++ more))) }
+    ensures kept { take (length out.old) out.new ≡ out.old }
+{
+    for at in values.order {
+        let value = value_at(values.cells, *at);
+        let after = is_characters(value);
+        let before = gap(modes, characters, after);
+        show(buffer, modes, before, value)?;
+        put_next(page, before.len(), buffer.bytes(), out)?;
+        characters = after;
+    }
+    Ok(())
+}

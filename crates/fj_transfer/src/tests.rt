@@ -1,7 +1,8 @@
 // Outputs under explicit formats, with their records written out by hand.
 ghost use Rattle.std.specs.Prelude.{◌≡◌, ◌<◌, ◌^◌, length, All, IfOk, true};
 ghost use Rattle.fj_value.specs.Kind.{IsOfKind};
-ghost use Rattle.fj_transfer.specs.Moving.{AreDefined, IsExplicit};
+ghost use Rattle.fj_list.specs.Moved.{IsOrdered};
+ghost use Rattle.fj_transfer.specs.Moving.{HasValues, IsExplicit};
 
 use crate::{EditChange, Layout, Transfer, TransferSpec, print_records};
 use fj_format::parse;
@@ -76,7 +77,8 @@ fn cell_of(alloc: Global, item: Item) -> Result<Cell, AllocError>
 /// The cells of items, and so many items of each in turn.
 fn moved(alloc: Global, items: &[Item], times: u32) -> Result<Moved, AllocError>
     requires { length items.now < 1000 }
-    ensures { IfOk result (λ moved. AreDefined moved) }
+    ensures ordered { IfOk result (λ moved. IsOrdered moved) }
+    ensures defined { IfOk result (λ moved. HasValues moved) }
 {
     let mut cells = Items::new(alloc);
     let mut order = Items::new(alloc);
@@ -97,7 +99,8 @@ fn transfer(
     edit: EditChange,
 ) -> Result<Transfer, Fail>
     requires format { length format.now < 2 ^ 32 }
-    requires defined { AreDefined moved }
+    requires ordered { IsOrdered moved }
+    requires defined { HasValues moved }
     ensures { IfOk result (λ job. IsExplicit job.spec.layout) }
 {
     let layout = Layout::Explicit(parse(alloc, format)?);

@@ -1,6 +1,8 @@
 // What a READ or WRITE transfers.
 ghost use Rattle.std.specs.Prelude.{◌≡◌, false};
-ghost use Rattle.fj_transfer.specs.Moving.{AreDefined};
+ghost use Rattle.std.proofs.Props.{props};
+ghost use Rattle.fj_list.specs.Moved.{IsOrdered};
+ghost use Rattle.fj_transfer.specs.Moving.{HasValues};
 
 use crate::change::EditChange;
 use fj_format::Format;
@@ -46,6 +48,8 @@ pub struct Transfer {
     pub size: Option<Moved>,
     /// What SIZE= gets.
     pub count: Option<u64>,
-    /// What an output transfers has values.
-    ghost defined: { ∥ (spec.input ≡ false → AreDefined moved) ∥₁ },
+    /// Each item has a cell.
+    ghost ordered: { IsOrdered moved } by { Prim.hlevel props },
+    /// The cells of an output have values of their kinds.
+    ghost defined: { ∥ (spec.input ≡ false → HasValues moved) ∥₁ },
 }
