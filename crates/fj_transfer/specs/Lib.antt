@@ -4,3 +4,4 @@ pub mod Explicit
 pub mod Printing
 pub mod Records
 pub mod Listing
+pub mod Output

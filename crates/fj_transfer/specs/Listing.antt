@@ -3,7 +3,7 @@ use Rattle.std.specs.Prelude.{ℕ, ◌+◌, ◌≡◌, nat_lt, if◌then◌else�
 use Rattle.fj_value.specs.declared.edit.EditModes.{EditModes}
 use Rattle.fj_value.specs.declared.value.Value.{Value}
 use Rattle.fj_list.specs.ListText.{shown, gap, is_characters, listed}
-use Rattle.fj_transfer.specs.Explicit.{Action, put, end_record, AtHand, first, Outcome, prints, page_behind, carried_out}
+use Rattle.fj_transfer.specs.Explicit.{Action, put, end_record, AtHand, first, Outcome, prints, carried_out}
 
 -- a value's text behind so many characters, with what stands before it; where it would pass column 80, as the first of a
 -- new record
@@ -12,10 +12,6 @@ next_text width before text = if nat_lt 80 (width + length (before ++ text)) the
 
 abbrev pub width_behind : ℕ → List ℕ → List ℕ → ℕ
 width_behind width before text = if nat_lt 80 (width + length (before ++ text)) then 1 + length text else width + length (before ++ text)
-
--- a new record at hand with a blank and a value
-abbrev pub with_first : List ℕ → AtHand → AtHand
-with_first value page = page_behind (put value) (page_behind (put (32 ∷ [])) (page_behind end_record page))
 
 -- values behind so many characters of a record, the last of which are a character value or not
 abbrev pub texts_behind : EditModes → ℕ → Bool → List Value → List Action

@@ -1,9 +1,10 @@
 // List-directed output.
 ghost use Rattle.std.specs.Prelude.{◌≡◌, ◌++◌, ◌∷◌, ◌+◌, ◌≤◌, ◌<◌, [], All, List, length, map, take, drop, OnOk, Ok};
+ghost use Rattle.fj_control.specs.Line.{begun};
 ghost use Rattle.fj_list.specs.Moved.{value_at};
 ghost use Rattle.fj_list.specs.ListText.{gap, is_characters, shown};
 ghost use Rattle.fj_transfer.specs.Explicit.{Action, put, end_record, carried_out, fails};
-ghost use Rattle.fj_transfer.specs.Listing.{with_first, next_text, width_behind, texts_behind, listed_transfer};
+ghost use Rattle.fj_transfer.specs.Listing.{next_text, width_behind, texts_behind, listed_texts, listed_transfer};
 ghost use Rattle.fj_transfer.specs.Printing.{Halts, printed};
 
 use crate::halt::Halt;
@@ -41,18 +42,30 @@ fn show(buffer: &mut Text, modes: EditModes, before: &[u8], value: &Value) -> Re
     push_value(buffer, modes, value)
 }
 
+/// Writes a blank and a value on a record that begins.
+fn begin(page: &mut Page, value: &[u8]) -> Result<(), Halt>
+    requires { page.old.line ≡ begun }
+    ensures halted { Halts (λ n. (more : List Action) →
+        carried_out page.old (put (32 ∷ []) ∷ put value.now ∷ more) ≡ fails n) result }
+    ensures goes { OnOk result ((more : List Action) →
+        carried_out page.new more ≡ carried_out page.old (put (32 ∷ []) ∷ put value.now ∷ more)) }
+    ensures line { OnOk result (page.new.line ≡ record { at = 1 + length value.now; text = 32 ∷ value.now }) }
+{
+    page.put(b" ")?;
+    page.put(value)
+}
+
 /// Ends the record and writes a value as the first of a new one.
 fn put_first(page: &mut Page, value: &[u8], out: &mut Text) -> Result<(), Halt>
     ensures halted { Halts (λ n. (more : List Action) →
         carried_out page.old (end_record ∷ put (32 ∷ []) ∷ put value.now ∷ more) ≡ fails n) result }
     ensures goes { OnOk result ((more : List Action) → printed out.new (carried_out page.new more)
         ≡ printed out.old (carried_out page.old (end_record ∷ put (32 ∷ []) ∷ put value.now ∷ more))) }
-    ensures page { OnOk result (page.new ≡ with_first value.now page.old) }
+    ensures line { OnOk result (page.new.line ≡ record { at = 1 + length value.now; text = 32 ∷ value.now }) }
     ensures kept { take (length out.old) out.new ≡ out.old }
 {
     page.end_record(out)?;
-    page.put(b" ")?;
-    page.put(value)
+    begin(page, value)
 }
 
 /// Writes the text of a value, of which so many characters stand before it; or where it would pass the last column, the
@@ -119,4 +132,60 @@ fn put_rest(
         characters = after;
     }
     Ok(())
+}
+
+/// Writes a value and others behind it on a record that begins.
+fn put_values(
+    page: &mut Page,
+    modes: EditModes,
+    first: &Value,
+    rest: Values,
+    buffer: &mut Text,
+    out: &mut Text,
+) -> Result<(), Halt>
+    requires begun { page.old.line ≡ begun }
+    requires ordered { All (λ at. at < length rest.cells.now) rest.order.now }
+    ensures halted { Halts (λ n. (more : List Action) → carried_out page.old
+        (listed_texts modes (first.now ∷ map (value_at rest.entry.cells.now) rest.entry.order.now) ++ more) ≡ fails n) result }
+    ensures goes { OnOk result ((more : List Action) → printed out.new (carried_out page.new more) ≡ printed out.old (carried_out page.old
+        (listed_texts modes (first.now ∷ map (value_at rest.entry.cells.now) rest.entry.order.now) ++ more))) }
+    ensures kept { take (length out.old) out.new ≡ out.old }
+{
+    show(buffer, modes, b"", first)?;
+    begin(page, buffer.bytes())?;
+    put_rest(page, modes, is_characters(first), rest, buffer, out)
+}
+
+/// Writes values as list-directed output on a record that begins, and ends the last record.
+pub fn write_list(
+    page: &mut Page,
+    modes: EditModes,
+    values: Values,
+    buffer: &mut Text,
+    out: &mut Text,
+) -> Result<(), Halt>
+    requires begun { page.old.line ≡ begun }
+    requires ordered { All (λ at. at < length values.cells.now) values.order.now }
+    ensures halted { Halts (λ n. listed_transfer page.old modes (map (value_at values.entry.cells.now) values.entry.order.now) ≡ fails n) result }
+    ensures goes { OnOk result (printed out.old
+        (listed_transfer page.old modes (map (value_at values.entry.cells.now) values.entry.order.now)) ≡ Ok out.new) }
+    ensures kept { take (length out.old) out.new ≡ out.old }
+{
+    let [first, order @ ..] = values.order else {
+        page.put(b" ")?;
+        return page.end_record(out);
+    };
+    let rest = Values {
+        cells: values.cells,
+        order,
+    };
+    put_values(
+        page,
+        modes,
+        value_at(values.cells, *first),
+        rest,
+        buffer,
+        out,
+    )?;
+    page.end_record(out)
 }

@@ -2,7 +2,8 @@
 ghost use Rattle.std.specs.Prelude.{◌≡◌, ◌<◌, ◌^◌, length, All, IfOk, true};
 ghost use Rattle.fj_value.specs.Kind.{IsOfKind};
 ghost use Rattle.fj_list.specs.Moved.{IsOrdered};
-ghost use Rattle.fj_transfer.specs.Moving.{HasValues, IsExplicit};
+ghost use Rattle.fj_transfer.specs.Moving.{HasValues};
+ghost use Rattle.fj_transfer.specs.Output.{IsRecords};
 
 use crate::{EditChange, Layout, Transfer, TransferSpec, print_records};
 use fj_format::parse;
@@ -101,7 +102,7 @@ fn transfer(
     requires format { length format.now < 2 ^ 32 }
     requires ordered { IsOrdered moved }
     requires defined { HasValues moved }
-    ensures { IfOk result (λ job. IsExplicit job.spec.layout) }
+    ensures { IfOk result (λ job. IsRecords job.spec.layout) }
 {
     let layout = Layout::Explicit(parse(alloc, format)?);
     Ok(Transfer {
@@ -293,7 +294,7 @@ fn added(
     recl: u32,
     begun: u32,
 ) -> Result<(Condition, Text), AllocError>
-    requires { IsExplicit job.now.spec.layout }
+    requires { IsRecords job.now.spec.layout }
 {
     let mut out = Text::from_bytes(alloc, b"=")?;
     let condition = print_records(

@@ -1,16 +1,16 @@
 // Format control carried out on the items of an output.
-ghost use Rattle.std.specs.Prelude.{◌≡◌, ◌≢◌, ◌++◌, ◌∷◌, length, take, List, OnOk};
+ghost use Rattle.std.specs.Prelude.{◌≡◌, ◌≢◌, ◌++◌, ◌∷◌, length, map, slice_get, take, List, OnOk};
 ghost use Rattle.fj_control.specs.Steps.{Given, gives, no_data};
 ghost use Rattle.fj_control.specs.Walk.{given, due, items_behind};
 ghost use Rattle.fj_format.specs.Unfolding as elementary;
-ghost use Rattle.fj_transfer.specs.Explicit.{Action, sign_behind, item_put, fails, error_in, page_behind, carried_out};
+ghost use Rattle.fj_transfer.specs.Explicit.{Action, sign_behind, item_put, fails, error_in, page_behind, carried_out, explicit_transfer};
 ghost use Rattle.fj_transfer.specs.Printing.{Tells, Halts, printed, outcome_of};
 
 use crate::halt::Halt;
 use crate::page::Page;
 use fj_control::{Cursor, Step};
 use fj_edit_out::field;
-use fj_format::ModeStep;
+use fj_format::{Format, ModeStep};
 use fj_value::{Cell, Condition, Edit, EditModes, Text};
 
 /// An output under an explicit format.
@@ -125,6 +125,23 @@ impl<'a> Writer<'a> {
                 Step::Done => return Ok(()),
                 step => self.carry_out(step, out)?,
             }
+        }
+    }
+
+    /// Writes the records under a format.
+    pub fn write(&mut self, format: &Format, advance: bool, out: &mut Text) -> Result<(), Halt>
+        ensures halted { Halts (λ n. explicit_transfer self.old.page self.old.modes.plus advance format.now
+            (map (slice_get self.old.cells.now) self.old.left.now) ≡ fails n) result }
+        ensures goes { OnOk result (printed out.old (explicit_transfer self.old.page self.old.modes.plus advance format.now
+            (map (slice_get self.old.cells.now) self.old.left.now)) ≡ Ok out.new) }
+        ensures kept { take (length out.old) out.new ≡ out.old }
+    {
+        self.write_steps(Cursor::new(format), out)?;
+        if advance {
+            self.page.end_record(out)
+        } else {
+            out.push_all(self.page.text())?;
+            Ok(())
         }
     }
 }
