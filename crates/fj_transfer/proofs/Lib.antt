@@ -2,3 +2,4 @@ pub mod Endings
 pub mod Cases
 pub mod RecordLaws
 pub mod Listings
+pub mod ListLaws

@@ -10,12 +10,12 @@ unless_prints : (error : Option ℕ) (o : Outcome) (ended : List (List ℕ)) (la
 unless_prints (Some n) o ended last e = cc
 unless_prints None o ended last e = (refl, e)
 
-record_prints : (line : List ℕ) (o : Outcome) (ended : List (List ℕ)) (last : List ℕ) → with_record line o ≡ prints ended last → (rest : List (List ℕ)) × (line ∷ rest ≡ ended) × (o ≡ prints rest last)
+pub record_prints : (line : List ℕ) (o : Outcome) (ended : List (List ℕ)) (last : List ℕ) → with_record line o ≡ prints ended last → (rest : List (List ℕ)) × (line ∷ rest ≡ ended) × (o ≡ prints rest last)
 record_prints line (fails n) ended last e = cc
 record_prints line (prints more open_line) ended last e = (more, (cc), (cc))
 
 -- what an action leaves to the others
-behind_action : (page : AtHand) (action : Action) (more : List Action) (ended : List (List ℕ)) (last : List ℕ) → carried_out page (action ∷ more) ≡ prints ended last
+pub behind_action : (page : AtHand) (action : Action) (more : List Action) (ended : List (List ℕ)) (last : List ℕ) → carried_out page (action ∷ more) ≡ prints ended last
     → (error_in action page ≡ None) × (with_ended action page (carried_out (page_behind action page) more) ≡ prints ended last)
 behind_action page action more ended last e = unless_prints (error_in action page) (with_ended action page (carried_out (page_behind action page) more)) ended last e
 

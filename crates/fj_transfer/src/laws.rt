@@ -1,4 +1,5 @@
 // What holds of the records of all outputs.
+ghost use Rattle.fj_transfer.specs.Listing.{RecordsAreListed};
 ghost use Rattle.fj_transfer.specs.Records.{RecordsAreTexts, RecordsFit};
 
 use fj_control::texts_are_of_maps;
@@ -14,4 +15,9 @@ pub fn records_are_texts_of_maps()
 /// No record is longer than its limit, and no statement writes more bytes than one may.
 pub fn records_fit()
     ensures { RecordsFit }
+{}
+
+/// The records of list-directed output are those of the values (10.9.2).
+pub fn records_are_listed()
+    ensures { RecordsAreListed }
 {}
