@@ -1,0 +1,5 @@
+pub mod Endings
+pub mod Cases
+pub mod RecordLaws
+pub mod Listings
+pub mod ListLaws

@@ -1,0 +1,399 @@
+// Outputs under explicit formats, with their records written out by hand.
+ghost use Rattle.std.specs.Prelude.{◌≡◌, ◌<◌, ◌^◌, length, All, IfOk, true};
+ghost use Rattle.fj_value.specs.Kind.{IsOfKind};
+ghost use Rattle.fj_list.specs.Moved.{IsOrdered};
+ghost use Rattle.fj_transfer.specs.Moving.{HasValues};
+ghost use Rattle.fj_transfer.specs.Output.{IsRecords};
+
+use crate::{EditChange, Layout, Transfer, TransferSpec, print_records};
+use fj_format::parse;
+use fj_list::Moved;
+use fj_value::{Cell, Condition, Delim, EditModes, Items, Kind, Place, Tag, Text, Value};
+use std::alloc::{AllocError, Global};
+use std::test::Fail;
+
+/// An item of a table.
+#[derive(Clone, Copy)]
+enum Item {
+    I4(i32),
+    I8(i64),
+    L(bool),
+    A(&'static [u8]),
+}
+
+use Item::{A, I4, I8, L};
+
+const MODES: EditModes = EditModes {
+    blank_zero: false,
+    comma: false,
+    delim: Delim::Plain,
+    pad: true,
+    plus: false,
+};
+
+const NO_CHANGE: EditChange = EditChange {
+    blank_zero: None,
+    comma: None,
+    delim: None,
+    pad: None,
+    plus: None,
+};
+
+fn text_cell(alloc: Global, place: Place, bytes: &[u8]) -> Result<Cell, AllocError>
+    ensures { IfOk result (λ cell. IsOfKind cell.kind cell.value) }
+{
+    let bytes = &bytes[..bytes.len().min(100)];
+    let text = Text::from_bytes(alloc, bytes)?;
+    Ok(Cell {
+        place,
+        kind: Kind::Chars(bytes.len() as u32),
+        value: Value::Chars(text),
+    })
+}
+
+fn cell_of(alloc: Global, item: Item) -> Result<Cell, AllocError>
+    ensures { IfOk result (λ cell. IsOfKind cell.kind cell.value) }
+{
+    let place = Place { var: 0, index: 1 };
+    match item {
+        I4(n) => Ok(Cell {
+            place,
+            kind: Kind::Int4,
+            value: Value::Int(i64::from(n)),
+        }),
+        I8(n) => Ok(Cell {
+            place,
+            kind: Kind::Int8,
+            value: Value::Int(n),
+        }),
+        L(truth) => Ok(Cell {
+            place,
+            kind: Kind::Logical,
+            value: Value::Log(truth),
+        }),
+        A(text) => text_cell(alloc, place, text),
+    }
+}
+
+/// The cells of items, and so many items of each in turn.
+fn moved(alloc: Global, items: &[Item], times: u32) -> Result<Moved, AllocError>
+    requires { length items.now < 1000 }
+    ensures ordered { IfOk result (λ moved. IsOrdered moved) }
+    ensures defined { IfOk result (λ moved. HasValues moved) }
+{
+    let mut cells = Items::new(alloc);
+    let mut order = Items::new(alloc);
+    for (at, item) in items.iter().enumerate() {
+        cells.push(cell_of(alloc, *item)?)?;
+        for _ in 0..times {
+            order.push(at as u32)?;
+        }
+    }
+    Ok(Moved { cells, order })
+}
+
+fn transfer(
+    alloc: Global,
+    format: &[u8],
+    moved: Moved,
+    advance: bool,
+    edit: EditChange,
+) -> Result<Transfer, Fail>
+    requires format { length format.now < 2 ^ 32 }
+    requires ordered { IsOrdered moved }
+    requires defined { HasValues moved }
+    ensures { IfOk result (λ job. IsRecords job.spec.layout) }
+{
+    let layout = Layout::Explicit(parse(alloc, format)?);
+    Ok(Transfer {
+        stmt: 1,
+        tag: Tag(0),
+        spec: TransferSpec {
+            input: false,
+            layout,
+            advance,
+            rec: None,
+            pos: None,
+            edit,
+        },
+        moved,
+        size: None,
+        count: None,
+    })
+}
+
+/// Format, items, begun characters and the limit of a record, and what is written or the error.
+type Row = (
+    &'static str,
+    &'static [Item],
+    u32,
+    u32,
+    Result<&'static [u8], u8>,
+);
+
+/// With ADVANCE='YES'.
+static ROWS: [Row; 65] = [
+    // Reversion, groups, the colon and slashes.
+    (
+        "(I3,2(1X,I2))",
+        &[I4(1), I4(2), I4(3), I4(4), I4(5), I4(6)],
+        0,
+        80,
+        Ok(b"  1  2  3\n  4  5\n  6\n"),
+    ),
+    ("(I2)", &[I4(1), I4(2), I4(3)], 0, 2, Ok(b" 1\n 2\n 3\n")),
+    (
+        "(I0)",
+        &[I4(1), I4(-22), I4(333)],
+        0,
+        3,
+        Ok(b"1\n-22\n333\n"),
+    ),
+    ("(I0,1X)", &[I4(1), I4(2)], 0, 1, Ok(b"1\n2\n")),
+    (
+        "(2(I1,/),:,A)",
+        &[I4(1), I4(2), A(b"c"), I4(4)],
+        0,
+        80,
+        Ok(b"1\n2\nc\n4\n\n"),
+    ),
+    ("(I1,:,',')", &[I4(1), I4(2)], 0, 80, Ok(b"1,\n2\n")),
+    ("(I1,'x')", &[I4(1), I4(2)], 0, 80, Ok(b"1x\n2x\n")),
+    ("('a',(I1),'b')", &[I4(1), I4(2)], 0, 80, Ok(b"a1b\n2b\n")),
+    ("(I1/)", &[I4(7)], 0, 80, Ok(b"7\n\n")),
+    ("(//I1)", &[I4(7)], 0, 80, Ok(b"\n\n7\n")),
+    ("()", &[], 0, 80, Ok(b"\n")),
+    ("('x',I2)", &[], 0, 80, Ok(b"x\n")),
+    // Every descriptor and kind.
+    ("(I5.3)", &[I4(-7)], 0, 80, Ok(b" -007\n")),
+    (
+        "(I2,I3)",
+        &[I4(123), I8(9_000_000_000)],
+        0,
+        80,
+        Ok(b"*****\n"),
+    ),
+    (
+        "(I0)",
+        &[I8(i64::MIN)],
+        0,
+        80,
+        Ok(b"-9223372036854775808\n"),
+    ),
+    ("(Z8)", &[I4(-1)], 0, 80, Ok(b"FFFFFFFF\n")),
+    ("(Z17)", &[I8(-1)], 0, 80, Ok(b" FFFFFFFFFFFFFFFF\n")),
+    (
+        "(B4,O4,Z4.2)",
+        &[I4(5), I4(8), I4(10)],
+        0,
+        80,
+        Ok(b" 101  10  0A\n"),
+    ),
+    ("(L3,L1)", &[L(false), L(true)], 0, 80, Ok(b"  FT\n")),
+    (
+        "(A,A2,A5)",
+        &[A(b"abc"), A(b"abc"), A(b"abc")],
+        0,
+        80,
+        Ok(b"abcab  abc\n"),
+    ),
+    (
+        "(G4.1,G3.1E2,G2.1,G3.1)",
+        &[I4(42), A(b"ab"), L(true), I8(-1)],
+        0,
+        80,
+        Ok(b"  42 ab T -1\n"),
+    ),
+    ("(A)", &[A(b"a\nb")], 0, 3, Ok(b"a\nb\n")),
+    // Modes hold to the end of the statement, over reversion too.
+    (
+        "(SP,I3,SS,I3,SP,I3,S,I3)",
+        &[I4(1), I4(2), I4(3), I4(4)],
+        0,
+        80,
+        Ok(b" +1  2 +3  4\n"),
+    ),
+    (
+        "(I3,SP)",
+        &[I4(1), I4(2), I4(-3)],
+        0,
+        80,
+        Ok(b"  1\n +2\n -3\n"),
+    ),
+    ("(BN,BZ,DC,DP,I2)", &[I4(4)], 0, 80, Ok(b" 4\n")),
+    // Tabs.
+    ("(T4,A,T1,A)", &[A(b"CD"), A(b"AB")], 0, 80, Ok(b"AB CD\n")),
+    ("(TR2,'a',TL2,'b',T1,'c')", &[], 0, 80, Ok(b"cba\n")),
+    ("('abcd',TL9,'X')", &[], 0, 80, Ok(b"Xbcd\n")),
+    ("(3X)", &[], 0, 1, Ok(b"\n")),
+    ("('ab',3X)", &[], 0, 2, Ok(b"ab\n")),
+    ("(2X,'')", &[], 0, 1, Ok(b"\n")),
+    ("(T9,A)", &[A(b"")], 0, 3, Ok(b"\n")),
+    ("(T9,/,'a')", &[], 0, 80, Ok(b"\na\n")),
+    (
+        "(T65536,TR65536,TL65536,TL65534,'a')",
+        &[],
+        0,
+        2,
+        Ok(b" a\n"),
+    ),
+    // Error 15: a text takes a record past its limit.
+    ("('abc')", &[], 0, 3, Ok(b"abc\n")),
+    ("('abc')", &[], 0, 2, Err(15)),
+    ("(I3)", &[I4(1)], 0, 2, Err(15)),
+    ("(2X,'a')", &[], 0, 3, Ok(b"  a\n")),
+    ("(2X,'a')", &[], 0, 2, Err(15)),
+    ("('ab',TL1,'cd')", &[], 0, 3, Ok(b"acd\n")),
+    ("('ab',TL1,'cd')", &[], 0, 2, Err(15)),
+    ("('ab'/'abc')", &[], 0, 2, Err(15)),
+    ("(A65536)", &[A(b"x")], 0, 65535, Err(15)),
+    ("(T65536,'x',T1,'y','x')", &[], 0, 65535, Err(15)),
+    // The characters that the record had count, and those of a later record not.
+    ("(I3)", &[I4(5)], 2, 5, Ok(b"  5\n")),
+    ("(I3)", &[I4(5)], 3, 5, Err(15)),
+    ("(2X,'a')", &[], 2, 5, Ok(b"  a\n")),
+    ("(2X,'a')", &[], 3, 5, Err(15)),
+    ("(I2/I5)", &[I4(1), I4(2)], 3, 5, Ok(b" 1\n    2\n")),
+    ("(T1,'x')", &[], 5, 5, Err(15)),
+    ("(T1,'')", &[], 5, 5, Ok(b"\n")),
+    ("(4294X)", &[], 5, 5, Ok(b"\n")),
+    // Error 12: the descriptor is not for the item.
+    ("(I3)", &[A(b"abc")], 0, 80, Err(12)),
+    ("(I3)", &[L(true)], 0, 80, Err(12)),
+    ("(Z3)", &[L(true)], 0, 80, Err(12)),
+    ("(A)", &[I4(1)], 0, 80, Err(12)),
+    ("(L1)", &[I8(1)], 0, 80, Err(12)),
+    ("(I9)", &[A(b"abc")], 0, 3, Err(12)),
+    ("(A2,I9)", &[A(b"a"), A(b"b")], 0, 1, Err(15)),
+    ("(I1,A9)", &[A(b"a"), A(b"b")], 0, 1, Err(12)),
+    ("(I1/A)", &[I4(1), L(true)], 0, 80, Err(12)),
+    // Error 11: no data descriptor for the items that are left.
+    ("('x')", &[I4(5)], 0, 80, Err(11)),
+    ("()", &[I4(5)], 0, 80, Err(11)),
+    ("(I1,(1X))", &[I4(1), I4(2)], 0, 80, Err(11)),
+    ("(I1/('abc'))", &[I4(1), I4(2)], 0, 2, Err(15)),
+];
+
+/// With ADVANCE='NO': the last record stays open.
+static OPEN: [Row; 8] = [
+    ("(I3)", &[I4(1), I4(2)], 0, 80, Ok(b"  1\n  2")),
+    ("(I1/)", &[I4(7)], 0, 80, Ok(b"7\n")),
+    ("()", &[], 0, 80, Ok(b"")),
+    ("('ab',3X)", &[], 0, 80, Ok(b"ab")),
+    ("(3X,'ab')", &[], 2, 7, Ok(b"   ab")),
+    ("(3X,'ab')", &[], 3, 7, Err(15)),
+    ("(I1/)", &[L(true)], 0, 80, Err(12)),
+    ("(/)", &[I4(1)], 0, 80, Err(11)),
+];
+
+/// What a transfer adds to an output that has `=` already.
+fn added(
+    alloc: Global,
+    job: &Transfer,
+    plus: bool,
+    recl: u32,
+    begun: u32,
+) -> Result<(Condition, Text), AllocError>
+    requires { IsRecords job.now.spec.layout }
+{
+    let mut out = Text::from_bytes(alloc, b"=")?;
+    let condition = print_records(
+        alloc,
+        job,
+        EditModes { plus, ..MODES },
+        recl,
+        begun,
+        &mut out,
+    )?;
+    Ok((condition, out))
+}
+
+/// Whether it is what is wanted.
+fn is_added(got: (Condition, Text), want: Result<&[u8], u8>) -> bool {
+    let (condition, out) = got;
+    match (want, out.bytes()) {
+        (Ok(text), [b'=', added @ ..]) => condition == Condition::Fine && added == text,
+        (Err(error), bytes) => condition == Condition::Error(error) && bytes == b"=".as_slice(),
+        (Ok(_), _) => false,
+    }
+}
+
+#[test]
+fn records(rt: HostRuntime) -> Result<(), Fail> {
+    let alloc = rt.alloc();
+    for (advance, rows) in [(true, ROWS.as_slice()), (false, OPEN.as_slice())] {
+        for (format, items, begun, recl, want) in rows {
+            assert!(rt; format.len() < 100 && items.len() < 100);
+            let items = moved(alloc, items, 1)?;
+            let job = transfer(alloc, format.as_bytes(), items, advance, NO_CHANGE)?;
+            let got = added(alloc, &job, false, *recl, *begun)?;
+            assert!(rt; is_added(got, *want), "{format} behind {begun} of {recl}");
+        }
+    }
+    Ok(())
+}
+
+/// The modes of the connection, those that the statement names, and those of the format.
+#[test]
+fn modes(rt: HostRuntime) -> Result<(), Fail> {
+    let alloc = rt.alloc();
+    let rows: [(&str, bool, Option<bool>, &[u8]); 6] = [
+        ("(I3,I3)", true, None, b" +1 +2\n"),
+        ("(I3,I3)", true, Some(false), b"  1  2\n"),
+        ("(I3,I3)", false, Some(true), b" +1 +2\n"),
+        ("(I3,I3)", false, None, b"  1  2\n"),
+        ("(I3,S,I3)", true, None, b" +1  2\n"),
+        ("(I3,SP,I3)", true, Some(false), b"  1 +2\n"),
+    ];
+    for (format, plus, change, want) in rows {
+        assert!(rt; format.len() < 100);
+        let items = moved(alloc, &[I4(1), I4(2)], 1)?;
+        let edit = EditChange {
+            plus: change,
+            ..NO_CHANGE
+        };
+        let job = transfer(alloc, format.as_bytes(), items, true, edit)?;
+        let got = added(alloc, &job, plus, 80, 0)?;
+        assert!(rt; is_added(got, Ok(want)), "{format}");
+    }
+    Ok(())
+}
+
+/// Records of 65,536 bytes with their line feeds, of which 256 are the most that a statement may write.
+#[test]
+fn limits(rt: HostRuntime) -> Result<(), Fail> {
+    let alloc = rt.alloc();
+    let rows: [(&str, u32, bool, u32, Condition, usize); 8] = [
+        ("(A65536)", 1, true, 65_536, Condition::Fine, 65_537),
+        ("(A65536,'y')", 1, true, 65_536, Condition::Error(15), 0),
+        ("(A65536)", 1, true, 65_535, Condition::Error(15), 0),
+        ("(A65535)", 256, true, 65_536, Condition::Fine, 16_777_216),
+        ("(A65535)", 257, true, 65_536, Condition::Error(26), 0),
+        ("(A65535)", 256, false, 65_536, Condition::Fine, 16_777_215),
+        (
+            "(255(A65535/),A65535,'y')",
+            256,
+            false,
+            65_536,
+            Condition::Fine,
+            16_777_216,
+        ),
+        (
+            "(255(A65535/),A65535,'y')",
+            256,
+            true,
+            65_536,
+            Condition::Error(26),
+            0,
+        ),
+    ];
+    for (format, items, advance, recl, condition, bytes) in rows {
+        assert!(rt; format.len() < 100);
+        let items = moved(alloc, &[A(b"x")], items)?;
+        let job = transfer(alloc, format.as_bytes(), items, advance, NO_CHANGE)?;
+        let (told, out) = added(alloc, &job, false, recl, 0)?;
+        assert_eq!(rt; told, condition, "{format}");
+        assert_eq!(rt; out.len(), bytes + 1, "{format}");
+    }
+    Ok(())
+}

@@ -1,0 +1,55 @@
+// What a READ or WRITE transfers.
+ghost use Rattle.std.specs.Prelude.{◌≡◌, false};
+ghost use Rattle.std.proofs.Props.{props};
+ghost use Rattle.fj_list.specs.Moved.{IsOrdered};
+ghost use Rattle.fj_transfer.specs.Moving.{HasValues};
+
+use crate::change::EditChange;
+use fj_format::Format;
+use fj_list::{GroupMember, Moved};
+use fj_value::{Items, Tag, Text};
+
+/// The variables of a namelist group.
+pub type Members = Items<GroupMember>;
+
+/// How a transfer lays out its values (ISO/IEC 1539-1:2004, 9.5.1.1).
+#[derive(Drop)]
+pub enum Layout {
+    Unformatted,
+    Explicit(Format),
+    /// List-directed.
+    Listed,
+    /// The name of a namelist group, and its variables.
+    Group(Text, Members),
+}
+
+/// A READ or WRITE without its unit and its items.
+#[derive(Drop)]
+pub struct TransferSpec {
+    /// READ.
+    pub input: bool,
+    pub layout: Layout,
+    /// ADVANCE='YES'. It counts under an explicit format alone.
+    pub advance: bool,
+    pub rec: Option<i64>,
+    pub pos: Option<i64>,
+    pub edit: EditChange,
+}
+
+/// A READ or WRITE that is carried out.
+#[derive(Drop)]
+pub struct Transfer {
+    /// The number of its statement.
+    pub stmt: u32,
+    pub tag: Tag,
+    pub spec: TransferSpec,
+    pub moved: Moved,
+    /// The variable of SIZE=, as one cell.
+    pub size: Option<Moved>,
+    /// What SIZE= gets.
+    pub count: Option<u64>,
+    /// Each item has a cell.
+    ghost ordered: { IsOrdered moved } by { Prim.hlevel props },
+    /// The cells of an output have values of their kinds.
+    ghost defined: { ∥ (spec.input ≡ false → HasValues moved) ∥₁ },
+}
