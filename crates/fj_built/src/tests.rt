@@ -1,0 +1,1 @@
+// Decks that are built and decks that are not.
