@@ -1,3 +1,4 @@
 pub mod Form
 pub mod Order
 pub mod Built
+pub mod Spelling

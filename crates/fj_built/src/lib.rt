@@ -3,6 +3,7 @@
 
 mod deck;
 mod form;
+mod laws;
 mod order;
 #[cfg(test)]
 mod tests;
@@ -10,4 +11,5 @@ mod transfer;
 mod whole;
 
 pub use deck::{Deck, Lined, Source, Statement};
+pub use laws::built_as_spelled;
 pub use whole::{Fault, built};
