@@ -1,3 +1,1 @@
 pub mod Fields
-pub mod Forms
-pub mod Decks

@@ -1,10 +1,6 @@
 -- The forms of statements that are carried out today.
 use Rattle.std.specs.Prelude.{ℕ, ◌&&◌, ◌==◌, nat_le, Bool, true, false, List, [], ◌∷◌, Option, Some, None, is_none, if◌then◌else◌, option_map, option_and_then}
-use Rattle.fj_value.specs.declared.place.Place.{Place}
-use Rattle.fj_value.specs.declared.kind.Kind.{Kind}
-use Rattle.fj_value.specs.declared.kind.Kind.TheVariants.{Int4}
-use Rattle.fj_value.specs.declared.value.Value.{Value}
-use Rattle.fj_value.specs.declared.value.Value.TheVariants.{Int}
+use Rattle.fj_value.specs.declared.place.Place.{Place as WholePlace}
 use Rattle.fj_value.specs.declared.edit.Edit.{Edit}
 use Rattle.fj_value.specs.declared.edit.Edit.TheVariants as edit
 use Rattle.fj_modes.specs.declared.specifiers.FileStatus.{FileStatus}
@@ -22,28 +18,25 @@ use Rattle.fj_statement.specs.declared.statement.Transfer.{Transfer}
 use Rattle.fj_statement.specs.declared.statement.Statement.{Statement as Whole}
 use Rattle.fj_statement.specs.declared.statement.Statement.TheVariants as whole
 use Rattle.fj_built.specs.declared.deck.Source.{Source}
-use Rattle.fj_built.specs.declared.deck.Source.TheVariants.{Literal, Variable}
+use Rattle.fj_built.specs.declared.deck.Source.TheVariants.{Literal, Place}
 use Rattle.fj_built.specs.declared.deck.Statement.{Statement}
 use Rattle.fj_built.specs.declared.deck.Statement.TheVariants.{Assign, Open, Read, Write, Close, End}
+use Rattle.fj_built.specs.declared.places.Extent.{Extent}
+use Rattle.fj_built.specs.declared.places.Stretch.{Stretch}
+use Rattle.fj_built.specs.Places.{number_of, integer_of, stretch_of}
+use Rattle.fj_built.specs.Print.{print_form}
 
--- the variable of a place that is a scalar
-abbrev pub variable_at : Place → Option ℕ
-variable_at place = if place.index == 1 then Some place.var else None
+-- what places are set to: a literal, or the value of a place
+abbrev pub source_of : List Extent → Operand → Option Source
+source_of extents (operand.Literal kind value) = Some (Literal value)
+source_of extents (operand.One place) = option_map Place (number_of extents place)
+source_of extents (operand.Whole var) = None
 
-abbrev pub scalar : Operand → Option ℕ
-scalar (operand.One place) = variable_at place
-scalar _ = None
+abbrev pub assigning : Stretch → Source → Statement
+assigning s from = Assign s.first s.count s.kind from
 
--- an integer in the range of INTEGER(4)
-abbrev pub literal_of : Kind → Value → Option Source
-literal_of Int4 (Int n) = Some (Literal (Int n))
-literal_of _ _ = None
-
--- what a variable is set to
-abbrev pub source_of : Operand → Option Source
-source_of (operand.Literal kind value) = literal_of kind value
-source_of (operand.One place) = option_map Variable (variable_at place)
-source_of _ = None
+abbrev pub assign_form : List Extent → Operand → Operand → Option Statement
+assign_form extents to from = option_and_then (λ places. option_map (assigning places) (source_of extents from)) (stretch_of extents to)
 
 -- OPEN with FILE= and, where it replaces, STATUS='REPLACE', and with no other specifier
 abbrev pub has_only_file : OpenSpec → Bool
@@ -63,9 +56,9 @@ abbrev pub open_form : OpenSpec → Option Statement
 open_form spec = if has_only_file spec then opening spec.file spec.status else None
 
 -- IOSTAT=, if it stands there
-abbrev pub iostat_of : Option Place → Option (Option ℕ)
-iostat_of None = Some None
-iostat_of (Some place) = option_map Some (variable_at place)
+abbrev pub iostat_of : List Extent → Option WholePlace → Option (Option ℕ)
+iostat_of extents None = Some None
+iostat_of extents (Some place) = option_map Some (integer_of extents place)
 
 -- `Iw` with a width from 1 to 20
 abbrev pub width_of_edit : Edit → Option ℕ
@@ -84,19 +77,19 @@ abbrev pub width_of : Control → Option ℕ
 width_of (Explicit format) = width_of_format format
 width_of _ = None
 
--- the only item
-abbrev pub item_of : List Operand → Option ℕ
-item_of (item ∷ []) = scalar item
-item_of _ = None
+abbrev pub integer : List Extent → Operand → Option ℕ
+integer extents (operand.One place) = integer_of extents place
+integer extents _ = None
+
+-- the only item, a scalar of INTEGER(4)
+abbrev pub only_item : List Extent → List Operand → Option ℕ
+only_item extents (item ∷ []) = integer extents item
+only_item extents _ = None
 
 -- no specifier but IOSTAT= stands beside the unit and the format
 abbrev pub is_bare : Transfer → Bool
 is_bare t = is_none t.advance && (is_none t.asynchronous && (is_none t.blank_zero && (is_none t.comma && (is_none t.delim
     && (is_none t.pad && (is_none t.plus && (is_none t.rec && (is_none t.pos && (is_none t.id && is_none t.size)))))))))
-
-abbrev pub is_unit_10 : UnitRef → Bool
-is_unit_10 Star = false
-is_unit_10 (Number unit) = unit == 10
 
 -- WRITE has no IOSTAT=
 abbrev pub transferring : Bool → ℕ → ℕ → Option ℕ → Option Statement
@@ -104,16 +97,24 @@ transferring true width item iostat = Some (Read width item iostat)
 transferring false width item None = Some (Write width item)
 transferring false width item (Some iostat) = None
 
-abbrev pub transfer_form : Transfer → Option Statement
-transfer_form t = if is_unit_10 t.unit && is_bare t
-    then option_and_then (λ width. option_and_then (λ item. option_and_then (transferring t.input width item) (iostat_of t.iostat)) (item_of t.items)) (width_of t.control)
+-- the statement for a transfer on unit 10
+abbrev pub record_form : List Extent → Transfer → Option Statement
+record_form extents t = if is_bare t
+    then option_and_then (λ width. option_and_then (λ item. option_and_then (transferring t.input width item) (iostat_of extents t.iostat)) (only_item extents t.items)) (width_of t.control)
     else None
 
+abbrev pub on_unit : List Extent → Transfer → UnitRef → Option Statement
+on_unit extents t Star = print_form extents t
+on_unit extents t (Number unit) = if unit == 10 then record_form extents t else None
+
+abbrev pub transfer_form : List Extent → Transfer → Option Statement
+transfer_form extents t = on_unit extents t t.unit
+
 -- the statement in today's form
-abbrev pub form_of : Whole → Option Statement
-form_of (whole.Assign to from) = option_and_then (λ place. option_map (Assign place) (source_of from)) (scalar to)
-form_of (whole.OpenUnit unit spec iostat) = if (unit == 10) && is_none iostat then open_form spec else None
-form_of (whole.CloseUnit unit keep iostat) = if (unit == 10) && (is_none keep && is_none iostat) then Some Close else None
-form_of (whole.Transfer t) = transfer_form t
-form_of whole.End = Some End
-form_of _ = None
+abbrev pub form_of : List Extent → Whole → Option Statement
+form_of extents (whole.Assign to from) = assign_form extents to from
+form_of extents (whole.OpenUnit unit spec iostat) = if (unit == 10) && is_none iostat then open_form spec else None
+form_of extents (whole.CloseUnit unit keep iostat) = if (unit == 10) && (is_none keep && is_none iostat) then Some Close else None
+form_of extents (whole.Transfer t) = transfer_form extents t
+form_of extents whole.End = Some End
+form_of extents _ = None

@@ -1,3 +1,5 @@
+pub mod Places
+pub mod Print
 pub mod Form
 pub mod Order
 pub mod Built

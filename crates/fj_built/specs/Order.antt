@@ -1,8 +1,8 @@
 -- The order of statements: one OPEN at most, READ behind one for reading, WRITE behind one that replaces, CLOSE behind
--- either, and nothing behind END.
+-- either, and nothing behind END. Assignments and WRITE on unit `*` stand anywhere before it.
 use Rattle.std.specs.Prelude.{true, false, List, [], ◌∷◌, Option, Some, None, option_and_then}
 use Rattle.fj_built.specs.declared.deck.Statement.{Statement}
-use Rattle.fj_built.specs.declared.deck.Statement.TheVariants.{Assign, Open, Read, Write, Close, End}
+use Rattle.fj_built.specs.declared.deck.Statement.TheVariants.{Assign, Open, Read, Write, Print, Close, End}
 use Rattle.fj_built.specs.declared.deck.Lined.{Lined}
 use Rattle.fj_built.specs.declared.order.Stage.{Stage}
 use Rattle.fj_built.specs.declared.order.Stage.TheVariants.{Unopened, Input, Output, Closed, Ended}
@@ -10,7 +10,8 @@ use Rattle.fj_built.specs.declared.order.Stage.TheVariants.{Unopened, Input, Out
 -- how far the statements have come behind this one, where it may stand there
 abbrev pub stage_after : Stage → Statement → Option Stage
 stage_after Ended what = None
-stage_after stage (Assign to from) = Some stage
+stage_after stage (Assign first count kind from) = Some stage
+stage_after stage (Print format plus items iostat) = Some stage
 stage_after stage End = Some Ended
 stage_after Unopened (Open file false) = Some Input
 stage_after Unopened (Open file true) = Some Output

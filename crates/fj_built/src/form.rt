@@ -1,31 +1,23 @@
 // The forms of statements that are carried out today.
-ghost use Rattle.std.specs.Prelude.{◌≡◌, IfOk, Some, option_copied};
-ghost use Rattle.fj_built.specs.Form.{literal_of, source_of, has_only_file, replaces_of, opening, open_form, form_of};
+ghost use Rattle.std.specs.Prelude.{◌≡◌, IfOk, Some, option_copied, option_map};
+ghost use Rattle.fj_built.specs.Form.{source_of, has_only_file, replaces_of, opening, open_form, assign_form, transfer_form, form_of};
 
 use crate::deck::{Source, Statement};
-use crate::transfer::{scalar, transfer_form};
+use crate::places::{Extent, number_of, stretch_of};
+use crate::print::print_form;
+use crate::transfer::record_form;
 use fj_modes::{FileName, FileStatus, OpenSpec};
-use fj_statement::{Operand, Statement as Whole};
-use fj_value::{Kind, Value};
+use fj_statement::{Operand, Statement as Whole, Transfer, UnitRef};
 use std::alloc::{AllocError, Global};
 
-fn literal_of(kind: Kind, value: &Value) -> Option<Source>
-    ensures { result ≡ literal_of kind value.now }
-{
-    match (kind, value) {
-        (Kind::Int4, Value::Int(number)) => Some(Source::Literal(Value::Int(*number))),
-        _ => None,
-    }
-}
-
-/// What a variable is set to.
-fn source_of(operand: &Operand) -> Option<Source>
-    ensures { result ≡ source_of operand.now }
+/// What places are set to.
+fn source_of(extents: &[Extent], operand: &Operand) -> Result<Option<Source>, AllocError>
+    ensures { IfOk result (λ source. source ≡ source_of extents.now operand.now) }
 {
     match operand {
-        Operand::Literal { kind, value } => literal_of(*kind, value),
-        Operand::One(place) if place.index == 1 => Some(Source::Variable(place.var)),
-        _ => None,
+        Operand::Literal { value, .. } => Ok(Some(Source::Literal(value.try_clone()?))),
+        Operand::One(place) => Ok(number_of(extents, *place).map(Source::Place)),
+        Operand::Whole { .. } => Ok(None),
     }
 }
 
@@ -82,20 +74,51 @@ fn open_form(alloc: Global, spec: &OpenSpec) -> Result<Option<Statement>, AllocE
     }))
 }
 
-fn assign_form(to: &Operand, from: &Operand) -> Option<Statement>
-    ensures { result ≡ form_of (Whole.Assign to.now from.now) }
+fn assign_form(
+    extents: &[Extent],
+    to: &Operand,
+    from: &Operand,
+) -> Result<Option<Statement>, AllocError>
+    ensures { IfOk result (λ form. form ≡ assign_form extents.now to.now from.now) }
 {
-    let to = scalar(to)?;
-    let from = source_of(from)?;
-    Some(Statement::Assign { to, from })
+    let Some(places) = stretch_of(extents, to) else {
+        return Ok(None);
+    };
+    let Some(from) = source_of(extents, from)? else {
+        return Ok(None);
+    };
+    Ok(Some(Statement::Assign {
+        first: places.first,
+        count: places.count,
+        kind: places.kind,
+        from,
+    }))
+}
+
+fn transfer_form(
+    alloc: Global,
+    extents: &[Extent],
+    transfer: &Transfer,
+) -> Result<Option<Statement>, AllocError>
+    ensures { IfOk result (λ form. form ≡ transfer_form extents.now transfer.now) }
+{
+    match transfer.unit {
+        UnitRef::Star => print_form(alloc, extents, transfer),
+        UnitRef::Number(10) => Ok(record_form(extents, transfer)),
+        UnitRef::Number(_) => Ok(None),
+    }
 }
 
 /// The statement in today's form.
-pub fn form_of(alloc: Global, statement: &Whole) -> Result<Option<Statement>, AllocError>
-    ensures { IfOk result (λ form. form ≡ form_of statement.now) }
+pub fn form_of(
+    alloc: Global,
+    extents: &[Extent],
+    statement: &Whole,
+) -> Result<Option<Statement>, AllocError>
+    ensures { IfOk result (λ form. form ≡ form_of extents.now statement.now) }
 {
     match statement {
-        Whole::Assign { to, from } => Ok(assign_form(to, from)),
+        Whole::Assign { to, from } => assign_form(extents, to, from),
         Whole::OpenUnit {
             unit: 10,
             spec,
@@ -106,7 +129,7 @@ pub fn form_of(alloc: Global, statement: &Whole) -> Result<Option<Statement>, Al
             keep: None,
             iostat: None,
         } => Ok(Some(Statement::Close)),
-        Whole::Transfer(transfer) => Ok(transfer_form(transfer)),
+        Whole::Transfer(transfer) => transfer_form(alloc, extents, transfer),
         Whole::End => Ok(Some(Statement::End)),
         _ => Ok(None),
     }

@@ -25,7 +25,7 @@ pub fn stage_after(stage: Stage, what: &Statement) -> Option<Stage>
 {
     match (stage, what) {
         (Stage::Ended, _) => None,
-        (_, Statement::Assign { .. }) => Some(stage),
+        (_, Statement::Assign { .. } | Statement::Print { .. }) => Some(stage),
         (_, Statement::End) => Some(Stage::Ended),
         (
             Stage::Unopened,

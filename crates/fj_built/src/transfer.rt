@@ -1,30 +1,32 @@
-// READ and WRITE of one scalar with a format of one `Iw`.
+// READ and WRITE of one scalar of INTEGER(4) on unit 10, with a format of one `Iw`.
 ghost use Rattle.std.specs.Prelude.{◌≡◌};
-ghost use Rattle.fj_built.specs.Form.{scalar, iostat_of, width_of_edit, width_of_item, width_of_format, width_of, item_of, is_bare, transfer_form};
+ghost use Rattle.fj_built.specs.Form.{integer, iostat_of, width_of_edit, width_of_item, width_of_format, width_of, only_item, is_bare, record_form};
 
 use crate::deck::Statement;
+use crate::places::{Extent, integer_of};
 use fj_format::FormatItem;
-use fj_statement::{Control, Operand, Transfer, UnitRef};
+use fj_statement::{Control, Operand, Transfer};
 use fj_value::{Edit, Place};
 
-/// The variable of a scalar.
-pub fn scalar(operand: &Operand) -> Option<u32>
-    ensures { result ≡ scalar operand.now }
+fn integer(extents: &[Extent], operand: &Operand) -> Option<u32>
+    ensures { result ≡ integer extents.now operand.now }
 {
     match operand {
-        Operand::One(place) if place.index == 1 => Some(place.var),
+        Operand::One(place) => integer_of(extents, *place),
         _ => None,
     }
 }
 
-/// The variable of IOSTAT=, if it stands there.
-fn iostat_of(place: Option<Place>) -> Option<Option<u32>>
-    ensures { result ≡ iostat_of place }
+/// The number of IOSTAT=, if it stands there.
+fn iostat_of(extents: &[Extent], iostat: Option<Place>) -> Option<Option<u32>>
+    ensures { result ≡ iostat_of extents.now iostat }
 {
-    match place {
+    match iostat {
         None => Some(None),
-        Some(place) if place.index == 1 => Some(Some(place.var)),
-        Some(_) => None,
+        Some(place) => {
+            let number = integer_of(extents, place)?;
+            Some(Some(number))
+        }
     }
 }
 
@@ -66,12 +68,12 @@ fn width_of(control: &Control) -> Option<u32>
     }
 }
 
-/// The variable of the only item.
-fn item_of(items: &[Operand]) -> Option<u32>
-    ensures { result ≡ item_of items.now }
+/// The number of the only item.
+fn only_item(extents: &[Extent], items: &[Operand]) -> Option<u32>
+    ensures { result ≡ only_item extents.now items.now }
 {
     match items {
-        [item] => scalar(item),
+        [item] => integer(extents, item),
         _ => None,
     }
 }
@@ -93,16 +95,16 @@ fn is_bare(transfer: &Transfer) -> bool
         && transfer.size.is_none()
 }
 
-/// The transfer in today's form.
-pub fn transfer_form(transfer: &Transfer) -> Option<Statement>
-    ensures { result ≡ transfer_form transfer.now }
+/// The transfer on unit 10 in today's form.
+pub fn record_form(extents: &[Extent], transfer: &Transfer) -> Option<Statement>
+    ensures { result ≡ record_form extents.now transfer.now }
 {
-    if transfer.unit != UnitRef::Number(10) || !is_bare(transfer) {
+    if !is_bare(transfer) {
         return None;
     }
     let width = width_of(&transfer.control)?;
-    let item = item_of(transfer.items.as_slice())?;
-    let iostat = iostat_of(transfer.iostat)?;
+    let item = only_item(extents, transfer.items.as_slice())?;
+    let iostat = iostat_of(extents, transfer.iostat)?;
     match (transfer.input, iostat) {
         (true, iostat) => Some(Statement::Read {
             width,

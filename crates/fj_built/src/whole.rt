@@ -1,12 +1,13 @@
 // The deck of today's forms that a whole deck is.
-ghost use Rattle.std.specs.Prelude.{◌≡◌, [], IfOk, map};
-ghost use Rattle.fj_built.specs.Built.{is_integer, other_variable, other_declaration, earlier, statements_from, built_of, Gives};
+ghost use Rattle.std.specs.Prelude.{◌≡◌, [], IfOk};
+ghost use Rattle.fj_built.specs.Built.{statements_from, built_of, Gives};
 
 use crate::deck::{Deck, Lined};
 use crate::form::form_of;
 use crate::order::{Stage, stage_after};
-use fj_statement::{Deck as Whole, Lined as WholeLined, Variable};
-use fj_value::{Items, Kind, Text};
+use crate::places::{Extent, extents_of};
+use fj_statement::{Deck as Whole, Lined as WholeLined, Variable, Variables};
+use fj_value::Items;
 use std::alloc::{AllocError, Global};
 
 /// Why a deck is not carried out.
@@ -28,63 +29,40 @@ impl From<AllocError> for Fault {
     }
 }
 
-/// Whether a variable is a scalar of INTEGER(4).
-fn is_integer(variable: &Variable) -> bool
-    ensures { result ≡ is_integer variable.now }
+fn copied(variable: &Variable) -> Result<Variable, AllocError>
+    ensures { IfOk result (λ copy. copy ≡ variable.now) }
 {
-    variable.kind == Kind::Int4 && variable.count == 0
+    Ok(Variable {
+        name: variable.name.try_clone()?,
+        kind: variable.kind,
+        count: variable.count,
+        line: variable.line,
+    })
 }
 
-/// The line of the first variable that is none.
-fn other_variable(variables: &[Variable]) -> Option<u32>
-    ensures { result ≡ other_variable variables.now }
+fn variables_of(alloc: Global, variables: &[Variable]) -> Result<Variables, AllocError>
+    ensures { IfOk result (λ copies. copies ≡ variables.now) }
 {
-    'looking: for variable in variables {
-        if !is_integer(variable) {
-            return Some(variable.line);
-        }
+    let mut copies = Items::new(alloc);
+    'copying: for variable in variables {
+        copies.push(copied(variable)?)?;
     }
-    None
-}
-
-fn earlier(a: Option<u32>, b: Option<u32>) -> Option<u32>
-    ensures { result ≡ earlier a b }
-{
-    match (a, b) {
-        (Some(a), Some(b)) => Some(a.min(b)),
-        (Some(a), None) => Some(a),
-        (None, b) => b,
-    }
-}
-
-/// The line of the first declaration that is not built.
-fn other_declaration(deck: &Whole) -> Option<u32>
-    ensures { result ≡ other_declaration deck.now }
-{
-    let variable = other_variable(deck.variables.as_slice());
-    let group = deck.groups.as_slice().first().copied();
-    earlier(variable, group)
-}
-
-fn names_of(alloc: Global, variables: &[Variable]) -> Result<Items<Text>, AllocError>
-    ensures { IfOk result (λ names. names ≡ map (λ v. v.name) variables.now) }
-{
-    let mut names = Items::new(alloc);
-    'naming: for variable in variables {
-        names.push(variable.name.try_clone()?)?;
-    }
-    Ok(names)
+    Ok(copies)
 }
 
 /// The statements in today's forms.
-fn statements_of(alloc: Global, statements: &[WholeLined]) -> Result<Items<Lined>, Fault>
-    ensures { Gives result (statements_from [] Stage.Unopened statements.now) }
+fn statements_of(
+    alloc: Global,
+    extents: &[Extent],
+    statements: &[WholeLined],
+) -> Result<Items<Lined>, Fault>
+    ensures { Gives result (statements_from extents.now [] Stage.Unopened statements.now) }
 {
     let mut done = Items::new(alloc);
     let mut stage = Stage::Unopened;
     'building: for lined in statements {
         let line = lined.line;
-        let Some(what) = form_of(alloc, &lined.what)? else {
+        let Some(what) = form_of(alloc, extents, &lined.what)? else {
             return Err(Fault::NotBuilt { line });
         };
         let Some(next) = stage_after(stage, &what) else {
@@ -100,11 +78,12 @@ fn statements_of(alloc: Global, statements: &[WholeLined]) -> Result<Items<Lined
 pub fn built(alloc: Global, deck: &Whole) -> Result<Deck, Fault>
     ensures { Gives result (built_of deck.now) }
 {
-    if let Some(line) = other_declaration(deck) {
-        return Err(Fault::NotBuilt { line });
+    if let Some(line) = deck.groups.as_slice().first() {
+        return Err(Fault::NotBuilt { line: *line });
     }
-    let variables = names_of(alloc, deck.variables.as_slice())?;
-    let statements = statements_of(alloc, deck.statements.as_slice())?;
+    let variables = variables_of(alloc, deck.variables.as_slice())?;
+    let extents = extents_of(alloc, deck.variables.as_slice())?;
+    let statements = statements_of(alloc, extents.as_slice(), deck.statements.as_slice())?;
     Ok(Deck {
         variables,
         statements,

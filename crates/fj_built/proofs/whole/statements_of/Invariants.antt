@@ -4,4 +4,4 @@ use Rattle.fj_built.specs.declared.order.Stage.TheVariants.{Unopened}
 use Rattle.fj_built.proofs.whole.statements_of.Given as goal
 
 abbrev pub invariant-building : goal.invariant-building
-invariant-building l = statements_from l.done l.stage (drop l.lined-index l.statements) ≡ statements_from [] Unopened l.statements
+invariant-building l = statements_from l.extents l.done l.stage (drop l.lined-index l.statements) ≡ statements_from l.extents [] Unopened l.statements
