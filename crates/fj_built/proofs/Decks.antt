@@ -1,6 +1,5 @@
 -- A whole deck, and the deck of today's forms that stands for it.
 use Rattle.std.proofs.Common.{◌≡◌, ℕ, List, [], ◌∷◌, ◌++◌, Option, Some, None, Result, Ok, Err, IsSome, refl, sym, ap, ◌∙◌, subst, append_assoc, append-nil, option_and_then}
-use Rattle.std.specs.Prelude.{option_map}
 use Rattle.fj_statement.specs.declared.deck.Variable.{Variable}
 use Rattle.fj_statement.specs.declared.deck.Lined.{Lined as WholeLined}
 use Rattle.fj_statement.specs.declared.deck.Deck.{Deck as WholeDeck}

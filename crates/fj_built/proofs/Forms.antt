@@ -3,7 +3,6 @@ use Rattle.std.proofs.Common.{◌≡◌, ℕ, ◌≤◌, Bool, true, false, ◌&
 use Rattle.std.specs.Prelude.{is_none, not, option_map}
 use Rattle.std.proofs.lemmas.Bool.{eqb-true, leb-true, le-leb}
 use Rattle.fj_value.specs.declared.place.Place.{Place}
-use Rattle.fj_value.specs.declared.kind.Kind.{Kind}
 use Rattle.fj_value.specs.declared.value.Value.{Value}
 use Rattle.fj_value.specs.declared.edit.Edit.{Edit}
 use Rattle.fj_value.specs.declared.edit.Edit.TheVariants as edit
@@ -35,8 +34,8 @@ use Rattle.fj_built.specs.declared.deck.Statement.{Statement}
 use Rattle.fj_built.specs.declared.deck.Statement.TheVariants.{Assign, Open, Read, Write, Print, Close, End}
 use Rattle.fj_built.specs.Places.{extents_of, number_of, integer_of, stretch_of}
 use Rattle.fj_built.specs.Print.{item_of, items_of, told_of, has_only_modes, listing, under, print_form}
-use Rattle.fj_built.specs.Form.{source_of, assigning, assign_form, has_only_file, replaces_of, opening, open_form, iostat_of, width_of_edit, width_of_item, width_of_format, width_of, integer, only_item, is_bare, transferring, record_form, on_unit, transfer_form, form_of}
-use Rattle.fj_built.specs.Spelling.{Pairwise, Both, IsNumbered, IsInteger, Names, IsSource, IsItem, HasPlace, spelled_opening, spelled_record, spelled_print, StandsFor}
+use Rattle.fj_built.specs.Form.{source_of, assigning, has_only_file, replaces_of, opening, open_form, iostat_of, width_of_edit, width_of_item, width_of, integer, only_item, is_bare, transferring, record_form, on_unit, form_of}
+use Rattle.fj_built.specs.Spelling.{Pairwise, Both, IsInteger, IsSource, IsItem, HasPlace, spelled_opening, spelled_record, spelled_print, StandsFor}
 use Rattle.fj_built.proofs.Fields.{none_of, both, chosen, then_some, map_some}
 use Rattle.fj_built.proofs.Numbers.{stretch, stretch_is, stretch_back, number_is, number_back, integer_is, integer_back}
 

@@ -1,6 +1,6 @@
 -- The numbers of places, and the variables that have them.
-use Rattle.std.proofs.Common.{◌≡◌, ℕ, ◌≤◌, ◌+◌, ◌-◌, Bool, true, false, ◌&&◌, ◌==◌, nat_le, List, [], ◌∷◌, Option, Some, None, refl, sym, ap, ◌∙◌, subst, cond, zero, suc, arith, take, option_and_then}
-use Rattle.std.specs.Prelude.{option_map, slice_get, sum_by, max}
+use Rattle.std.proofs.Common.{◌≡◌, ℕ, ◌≤◌, ◌+◌, ◌-◌, true, ◌&&◌, ◌==◌, nat_le, List, [], ◌∷◌, Some, refl, sym, ap, ◌∙◌, subst, zero, suc, arith, take}
+use Rattle.std.specs.Prelude.{option_map, slice_get}
 use Rattle.std.proofs.lemmas.Bool.{eqb-true, leb-true, le-leb}
 use Rattle.std.proofs.lemmas.List.Sums.{sum_by-cons}
 use Rattle.fj_value.specs.declared.place.Place.{Place}

@@ -1,5 +1,5 @@
 -- WRITE on unit `*` under an explicit format, as it is carried out today.
-use Rattle.std.specs.Prelude.{ℕ, ◌&&◌, not, Bool, true, false, List, [], ◌∷◌, Option, Some, None, is_none, if◌then◌else◌, option_map, option_and_then}
+use Rattle.std.specs.Prelude.{ℕ, ◌&&◌, not, Bool, List, [], ◌∷◌, Option, Some, None, is_none, if◌then◌else◌, option_map, option_and_then}
 use Rattle.fj_value.specs.declared.place.Place.{Place}
 use Rattle.fj_format.specs.declared.item.FormatItem.{FormatItem}
 use Rattle.fj_statement.specs.declared.statement.Operand.{Operand}
