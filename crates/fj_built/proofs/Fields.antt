@@ -1,5 +1,5 @@
 -- What choices that gave something tell.
-use Rattle.std.proofs.Common.{◌≡◌, ℕ, Bool, true, false, ◌&&◌, Option, Some, None, refl, cond, option_and_then}
+use Rattle.std.proofs.Common.{◌≡◌, Bool, true, false, ◌&&◌, Option, Some, None, refl, cond, option_and_then}
 use Rattle.std.specs.Prelude.{is_none, option_map}
 
 pub none_of : {X : Type 0} (o : Option X) → is_none o ≡ true → o ≡ None

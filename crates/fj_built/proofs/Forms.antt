@@ -1,5 +1,5 @@
 -- A statement in today's form, and the whole statement that it spells.
-use Rattle.std.proofs.Common.{◌≡◌, ℕ, ◌≤◌, ◌+◌, Bool, true, false, ◌&&◌, ◌==◌, nat_le, List, [], ◌∷◌, Option, Some, None, refl, sym, ap, ◌∙◌, subst, cond, arith}
+use Rattle.std.proofs.Common.{◌≡◌, ℕ, ◌≤◌, Bool, true, false, ◌&&◌, ◌==◌, nat_le, List, [], ◌∷◌, Option, Some, None, refl, sym, ap, ◌∙◌, subst, cond}
 use Rattle.std.specs.Prelude.{is_none, option_map}
 use Rattle.std.proofs.lemmas.Bool.{eqb-true, leb-true, le-leb}
 use Rattle.fj_value.specs.declared.place.Place.{Place}
@@ -31,7 +31,7 @@ use Rattle.fj_built.specs.declared.deck.Source.{Source}
 use Rattle.fj_built.specs.declared.deck.Source.TheVariants.{Literal, Variable}
 use Rattle.fj_built.specs.declared.deck.Statement.{Statement}
 use Rattle.fj_built.specs.declared.deck.Statement.TheVariants.{Assign, Open, Read, Write, Close, End}
-use Rattle.fj_built.specs.Form.{variable_at, scalar, literal_of, source_of, has_only_file, replaces_of, opening, open_form, iostat_of, width_of_edit, width_of_item, width_of_format, width_of, item_of, is_bare, is_unit_10, transferring, transfer_form, form_of}
+use Rattle.fj_built.specs.Form.{variable_at, scalar, literal_of, source_of, has_only_file, replaces_of, opening, open_form, iostat_of, width_of_edit, width_of_item, width_of, item_of, is_bare, is_unit_10, transferring, transfer_form, form_of}
 use Rattle.fj_built.specs.Spelling.{scalar_place, spelled_source, spelled_opening, spelled_transfer, spelled, IsInteger, IsBuilt}
 use Rattle.fj_built.proofs.Fields.{none_of, both, chosen, then_some, map_some}
 

@@ -1,9 +1,8 @@
 -- The decks of today's forms, spelled as whole decks.
-use Rattle.std.specs.Prelude.{◌≡◌, ◌⊎◌, ℕ, ◌≤◌, true, false, Bool, List, [], ◌∷◌, ◌++◌, Option, Some, None, IsSome, map, if◌then◌else◌, option_map, Ok, Err}
+use Rattle.std.specs.Prelude.{◌≡◌, ℕ, ◌≤◌, true, false, Bool, List, [], ◌∷◌, Option, Some, None, IsSome, map, if◌then◌else◌, option_map, Ok}
 use Rattle.std.specs.List.{AllByRecursion}
 use Rattle.fj_value.specs.declared.place.Place.{Place}
 use Rattle.fj_value.specs.declared.kind.Kind.TheVariants.{Int4}
-use Rattle.fj_value.specs.declared.value.Value.{Value}
 use Rattle.fj_value.specs.declared.value.Value.TheVariants.{Int}
 use Rattle.fj_value.specs.declared.edit.Edit.TheVariants as edit
 use Rattle.fj_modes.specs.declared.specifiers.FileStatus.{FileStatus}
@@ -28,7 +27,7 @@ use Rattle.fj_built.specs.declared.deck.Lined.{Lined}
 use Rattle.fj_built.specs.declared.deck.Deck.{Deck}
 use Rattle.fj_built.specs.declared.order.Stage.TheVariants.{Unopened}
 use Rattle.fj_built.specs.Order.{stage_behind}
-use Rattle.fj_built.specs.Built.{other_declaration, built_of}
+use Rattle.fj_built.specs.Built.{built_of}
 
 abbrev pub scalar_place : ℕ → Place
 scalar_place var = record { var = var; index = 1 }
