@@ -1,4 +1,6 @@
 // Which decks are built, by the letters of their statements, and as what.
+ghost use Rattle.std.specs.Prelude.{◌<◌, ◌^◌, length};
+
 use crate::{Deck, Fault, Item, Source, Statement, built};
 use fj_format::parse;
 use fj_modes::{FileName, FileStatus, OpenSpec};
@@ -127,6 +129,7 @@ fn assign(to: Operand, from: Operand) -> WholeStatement {
     WholeStatement::Assign { to, from }
 }
 
+#[tactic(auto, unfolding(fj_modes::specs::FileName::is_file_name))]
 fn opening(alloc: Global, unit: u32, status: Option<FileStatus>) -> Result<WholeStatement, Fail> {
     let spec = OpenSpec {
         file: Some(FileName::new(alloc, b"F1")?),
@@ -146,7 +149,9 @@ fn transfer(
     format: &'static [u8],
     item: Operand,
     iostat: Option<Place>,
-) -> Result<Transfer, Fail> {
+) -> Result<Transfer, Fail>
+    requires { length format.now < 2 ^ 32 }
+{
     let mut items = Items::new(alloc);
     items.push(item)?;
     Ok(Transfer {
