@@ -1,0 +1,85 @@
+-- The definitions computed at worked cases.
+use Rattle.std.proofs.Common.{◌≡◌, true, false, [], ◌∷◌, Some, None, pos, negsuc, ◌+◌, lit<, refl, codes}
+use Rattle.std.specs.Fmt.{decimal}
+use Rattle.std.proofs.lemmas.Fmt.{decimal_digit}
+use Rattle.fj_value.specs.declared.value.Value.TheVariants as value
+use Rattle.fj_value.specs.declared.condition.Rule.TheVariants.{P1}
+use Rattle.fj_statement.specs.declared.reason.Reason.TheVariants.{Format, NoEnd}
+use Rattle.fj_report.specs.declared.form.Form.TheVariants.{Run, Alone, Check, Wrong}
+use Rattle.fj_report.specs.declared.status.Status.TheVariants.{Ended, ErrorStop, Prohibited, DeckRefused, Memory}
+use Rattle.fj_report.specs.Words.{form_of}
+use Rattle.fj_report.specs.Lines.{usage_text, status_text, check_text, trace_text, variable_text}
+
+pub record WordsAreRight : Type 0 where
+  pub alone : form_of (codes "alone" ∷ []) ≡ Alone false
+  pub check : form_of (codes "check" ∷ []) ≡ Check
+  pub run : form_of (codes "run" ∷ codes "--workers" ∷ codes "0" ∷ []) ≡ Run 0 false
+  pub four : form_of (codes "run" ∷ codes "--workers" ∷ codes "4" ∷ []) ≡ Wrong
+  pub nothing : form_of [] ≡ Wrong
+
+pub words_are_right : WordsAreRight
+words_are_right = record { alone = refl; check = refl; run = refl; four = refl; nothing = refl }
+
+-- numbers of one digit
+one_1 : decimal 1 ≡ (48 + 1) ∷ []
+one_1 = decimal_digit 1 (lit< tt)
+
+one_2 : decimal 2 ≡ (48 + 2) ∷ []
+one_2 = decimal_digit 2 (lit< tt)
+
+one_3 : decimal 3 ≡ (48 + 3) ∷ []
+one_3 = decimal_digit 3 (lit< tt)
+
+one_4 : decimal 4 ≡ (48 + 4) ∷ []
+one_4 = decimal_digit 4 (lit< tt)
+
+one_5 : decimal 5 ≡ (48 + 5) ∷ []
+one_5 = decimal_digit 5 (lit< tt)
+
+one_7 : decimal 7 ≡ (48 + 7) ∷ []
+one_7 = decimal_digit 7 (lit< tt)
+
+one_8 : decimal 8 ≡ (48 + 8) ∷ []
+one_8 = decimal_digit 8 (lit< tt)
+
+one_9 : decimal 9 ≡ (48 + 9) ∷ []
+one_9 = decimal_digit 9 (lit< tt)
+
+pub record LinesAreRight : Type 0 where
+  pub ended : status_text Ended ≡ codes "= ended\n"
+  pub stopped : status_text (ErrorStop 7 (pos 1)) ≡ codes "= error stop at 7 with 1\n"
+  pub end_of_file : status_text (ErrorStop 2 (negsuc 0)) ≡ codes "= error stop at 2 with -1\n"
+  pub prohibited : status_text (Prohibited 4 P1) ≡ codes "= prohibited at 4 by P1\n"
+  pub refused : status_text (DeckRefused 1 NoEnd) ≡ codes "= refused at 1: no end\n"
+  pub format : status_text (DeckRefused 4 (Format 9)) ≡ codes "= refused at 4: format at 9\n"
+  pub nothing : status_text Memory ≡ []
+  pub check : check_text 2 ≡ codes "= deck of 2 statements\n"
+  pub told : trace_text 8 (pos 5) 3 (negsuc 0) ≡ codes "~ 8 5 3 -1\n"
+  pub scalar : variable_text (codes "A") 0 (Some (value.Int (pos 5))) ≡ codes "A = 5\n"
+  pub element : variable_text (codes "B") 2 (Some (value.Int (pos 7))) ≡ codes "B(2) = 7\n"
+  pub truth : variable_text (codes "L") 0 (Some (value.Log true)) ≡ codes "L = T\n"
+  pub apostrophe : variable_text (codes "C") 0 (Some (value.Chars (codes "it's"))) ≡ codes "C = 'it''s'\n"
+  pub escaped : variable_text (codes "C") 0 (Some (value.Chars (92 ∷ 10 ∷ 126 ∷ 127 ∷ []))) ≡ codes "C = '\\5C\\0A~\\7F'\n"
+  pub undefined : variable_text (codes "A") 0 (Some value.Undefined) ≡ codes "A = ?\n"
+  pub missing : variable_text (codes "A") 0 None ≡ codes "A = ?\n"
+
+pub lines_are_right : LinesAreRight
+unfolding usage_text status_text check_text trace_text variable_text
+lines_are_right = record {
+  ended = refl;
+  stopped = rw (one_7, one_1) refl;
+  end_of_file = rw (one_2, one_1) refl;
+  prohibited = rw one_4 refl;
+  refused = rw one_1 refl;
+  format = rw (one_4, one_9) refl;
+  nothing = refl;
+  check = rw one_2 refl;
+  told = rw (one_8, one_5, one_3, one_1) refl;
+  scalar = rw one_5 refl;
+  element = rw (one_2, one_7) refl;
+  truth = refl;
+  apostrophe = refl;
+  escaped = refl;
+  undefined = refl;
+  missing = refl;
+}

@@ -1,0 +1,24 @@
+-- Pieces that are appended from the left to the right, or all at once.
+use Rattle.std.proofs.Common.{◌≡◌, ℕ, ℤ, List, [], ◌++◌, append_assoc, append-nil, ◌∙◌, ap, refl}
+use Rattle.std.specs.Prelude.{codes}
+use Rattle.std.specs.Fmt.{decimal, signed_decimal}
+use Rattle.fj_report.specs.Lines.{trace_text}
+
+pub three : (a b c : List ℕ) → a ++ (b ++ (c ++ [])) ≡ a ++ b ++ c
+three a b c = simp (append_assoc, append-nil)
+
+pub five : (a b c d e : List ℕ) → a ++ (b ++ (c ++ (d ++ (e ++ [])))) ≡ a ++ b ++ c ++ d ++ e
+five a b c d e = simp (append_assoc, append-nil)
+
+pub six : (a b c d e f : List ℕ) → a ++ (b ++ (c ++ (d ++ (e ++ (f ++ []))))) ≡ a ++ b ++ c ++ d ++ e ++ f
+six a b c d e f = simp (append_assoc, append-nil)
+
+nine : (a b c d e f g h i : List ℕ) → a ++ (b ++ (c ++ (d ++ (e ++ (f ++ (g ++ (h ++ (i ++ [])))))))) ≡ a ++ b ++ c ++ d ++ e ++ f ++ g ++ h ++ i
+nine a b c d e f g h i = simp (append_assoc, append-nil)
+
+-- the line of a told transfer from its numbers
+pub traced : (old line unit tag code : List ℕ) (s : ℕ) (u : ℤ) (t : ℕ) (k : ℤ) → line ≡ decimal s → unit ≡ signed_decimal u → tag ≡ decimal t → code ≡ signed_decimal k
+    → old ++ (codes "~ " ++ (line ++ (codes " " ++ (unit ++ (codes " " ++ (tag ++ (codes " " ++ (code ++ (codes "\n" ++ []))))))))) ≡ old ++ trace_text s u t k
+unfolding trace_text
+traced old line unit tag code s u t k a b c d =
+    ap (λ xs. old ++ xs) (nine (codes "~ ") line (codes " ") unit (codes " ") tag (codes " ") code (codes "\n") ∙ rw (a, b, c, d) refl)

@@ -1,0 +1,15 @@
+//! The words of a run, and the lines of its report.
+#![tactic(auto)]
+
+mod form;
+mod line;
+mod pieces;
+mod status;
+#[cfg(test)]
+mod tests;
+mod variable;
+
+pub use form::{Form, read_words};
+pub use line::{check_line, status_line, trace_line, usage, usage_line};
+pub use status::Status;
+pub use variable::variable_line;
