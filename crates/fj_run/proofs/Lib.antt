@@ -1,2 +1,5 @@
 pub mod RunningLaws
-pub mod HaltLaws
+pub mod ValueLemmas
+pub mod PrintLemmas
+pub mod PassageLemmas
+mod Cases

@@ -8,7 +8,7 @@ use Rattle.std.specs.FinSet as set
 use Rattle.std.specs.FinSet.{same_set}
 use Rattle.fj_outside.specs.Holdings.{Holdings, Names, Files, IsInUse, IsFree, out_of, given}
 use Rattle.fj_outside.proofs.HoldingLaws.{itself, files_given, same_name, files_back, in_use_back, free_of_empty}
-use Rattle.fj_run.specs.Plain.{State, Step, Connection, closed, connected_to, opened, opened_old, goes, stops, file_limit}
+use Rattle.fj_run.specs.Plain.{State, Step, Connection, closed, connected_to, opened, opened_old, goes, stops, file_limit, left}
 use Rattle.fj_run.specs.declared.ending.Ending.{Ending}
 use Rattle.fj_run.specs.declared.ending.Ending.TheVariants.{ErrorStop}
 use Rattle.fj_value.specs.Condition.{code_of}
@@ -37,7 +37,7 @@ none_in_use h h1 n b sound e f = rw (f, e) (same_set nat_list_cmp_total (slice_c
 -- a connection whose file is back is closed
 pub closed_state : {F : Type 0} (bytes : F → List ℕ) (r : Running F) (c : Connected F) (left : Option (Connected F)) (files files1 : Files)
     → Some c ≡ r.connected → left ≡ None → files1 ≡ map.insert files c.name (bytes c.file)
-    → state_of bytes (record { variables = r.variables; connected = left }) files1 ≡ closed (state_of bytes r files)
+    → state_of bytes (record { values = r.values; connected = left }) files1 ≡ closed (state_of bytes r files)
 closed_state bytes r c left files files1 e a f = rw (sym e, a, f) refl
 
 -- where no name is in use, and then one file comes out
@@ -65,22 +65,22 @@ files_restored h h1 h2 n b sound g e f = files_back h h1 h2 n b sound e f ∙ in
 -- a file that came out is connected
 pub connected_state : {F : Type 0} (bytes : F → List ℕ) (r : Running F) (file : F) (kept name contents : List ℕ) (files files1 : Files)
     → kept ≡ name → bytes file ≡ contents → files1 ≡ map.remove files name
-    → state_of bytes (record { variables = r.variables; connected = Some (record { name = kept; file = file; at = 0; after_end = false }) }) files1 ≡ connected_to name contents (state_of bytes r files)
+    → state_of bytes (record { values = r.values; connected = Some (record { name = kept; file = file; at = 0; after_end = false }) }) files1 ≡ connected_to name contents (state_of bytes r files)
 connected_state bytes r file kept name contents files files1 a b f = rw (a, b, f) refl
 
 module _ {F : Type 0} (bytes : F → List ℕ) (r : Running F) (file : F) (kept name : List ℕ) (files files1 : Files) where
   pub opens_new : kept ≡ name → bytes file ≡ [] → files1 ≡ map.remove files name
-      → (None, state_of bytes (record { variables = r.variables; connected = Some (record { name = kept; file = file; at = 0; after_end = false }) }) files1) ≡ opened name true (state_of bytes r files)
+      → (None, [], state_of bytes (record { values = r.values; connected = Some (record { name = kept; file = file; at = 0; after_end = false }) }) files1) ≡ opened name true (state_of bytes r files)
   opens_new a b f = ap goes (connected_state bytes r file kept name [] files files1 a b f)
 
   pub opens_old : kept ≡ name → map.get files name ≡ Some (bytes file) → length (bytes file) ≤ file_limit → files1 ≡ map.remove files name
-      → (None, state_of bytes (record { variables = r.variables; connected = Some (record { name = kept; file = file; at = 0; after_end = false }) }) files1) ≡ opened name false (state_of bytes r files)
+      → (None, [], state_of bytes (record { values = r.values; connected = Some (record { name = kept; file = file; at = 0; after_end = false }) }) files1) ≡ opened name false (state_of bytes r files)
   opens_old a g h f =
       let fits : nat_lt file_limit (length (bytes file)) ≡ false = grind (arith, nat_tests) in
       rw (g, fits) (ap goes (connected_state bytes r file kept name (bytes file) files files1 a refl f))
 
   pub opens_too_long : (code : ℤ) → map.get files name ≡ Some (bytes file) → file_limit < length (bytes file) → files1 ≡ files → code ≡ code_of (Error 27)
-      → (Some (ErrorStop code), state_of bytes r files1) ≡ opened name false (state_of bytes r files)
+      → (Some (ErrorStop code), [], state_of bytes r files1) ≡ opened name false (state_of bytes r files)
   opens_too_long code g h f k =
       let long : nat_lt file_limit (length (bytes file)) ≡ true = grind (arith, nat_tests) in
       rw (g, long, f, k) refl
@@ -88,3 +88,7 @@ module _ {F : Type 0} (bytes : F → List ℕ) (r : Running F) (file : F) (kept 
 pub opens_absent : {F : Type 0} (bytes : F → List ℕ) (r : Running F) (name : List ℕ) (files : Files) (step : Step) → map.get files name ≡ None
     → step ≡ opened name true (state_of bytes r files) → step ≡ opened name false (state_of bytes r files)
 opens_absent bytes r name files step g e = rw g e
+
+-- nothing is connected
+pub left_state : {F : Type 0} (bytes : F → List ℕ) (r : Running F) (files : Files) → r.connected ≡ None → left r.values files ≡ state_of bytes r files
+left_state bytes r files e = rw e refl

@@ -1,3 +1,5 @@
+pub mod Taken
+pub mod Values
 pub mod Plain
 pub mod Running
 pub mod Halt

@@ -1,12 +1,14 @@
--- The plain execution: one step for each statement, on variables, a connection and the files of the disk.
-use Rattle.std.specs.Prelude.{ℕ, ℤ, ◌+◌, ◌-◌, ◌==◌, Bool, true, false, nat_eq, nat_lt, List, [], ◌∷◌, ◌++◌, length, take, drop, replicate, slice_set, slice_index_or, Option, Some, None, option_map, Result, Ok, Err, if◌then◌else◌}
+-- The plain execution: one step for each statement, on values, a connection and the files of the disk. It writes the records of unit `*`.
+use Rattle.std.specs.Prelude.{ℕ, ℤ, ◌+◌, ◌-◌, ◌==◌, Bool, true, false, nat_eq, nat_lt, List, [], ◌∷◌, ◌++◌, length, take, drop, map as list_map, max, replicate, sum_by, slice_set, slice_index_or, Option, Some, None, option_map, unwrap_or, Result, Ok, Err, if◌then◌else◌}
 use Rattle.std.specs.FinMap as map
 use Rattle.fj_value.specs.Condition.{code_of}
 use Rattle.fj_value.specs.declared.value.Value.{Value}
 use Rattle.fj_value.specs.declared.value.Value.TheVariants.{Undefined, Int}
+use Rattle.fj_value.specs.declared.value.Cell.{Cell}
 use Rattle.fj_value.specs.declared.condition.Condition.{Condition}
 use Rattle.fj_value.specs.declared.condition.Condition.TheVariants.{Fine, EndOfFile, Error}
 use Rattle.fj_value.specs.declared.condition.Rule.TheVariants.{P3, P5}
+use Rattle.fj_value.specs.declared.kind.Kind.{Kind}
 use Rattle.fj_outside.specs.Holdings.{Files}
 use Rattle.fj_span.specs.Change.{with_piece}
 use Rattle.fj_seqrec.specs.Lines.{first_line}
@@ -17,14 +19,20 @@ use Rattle.fj_value.specs.declared.edit.Edit.TheVariants as Edit
 use Rattle.fj_value.specs.declared.kind.Kind.TheVariants.{Int4}
 use Rattle.fj_edit_out.specs.OutputField.{integer_output}
 use Rattle.fj_edit_in.specs.InputField.{integer_input}
-use Rattle.fj_deck.specs.declared.deck.Source.{Source}
-use Rattle.fj_deck.specs.declared.deck.Source.TheVariants.{Literal, Variable}
-use Rattle.fj_deck.specs.declared.deck.Statement.{Statement}
-use Rattle.fj_deck.specs.declared.deck.Statement.TheVariants.{Assign, Open, Read, Write, Close, End}
-use Rattle.fj_deck.specs.declared.deck.Lined.{Lined}
-use Rattle.fj_deck.specs.declared.deck.Deck.{Deck}
+use Rattle.fj_format.specs.declared.item.FormatItem.{FormatItem}
+use Rattle.fj_list.specs.ListText.{text_of}
+use Rattle.fj_transfer.specs.Explicit.{Outcome, fails, prints, explicit_transfer, first as first_record}
+use Rattle.fj_statement.specs.declared.deck.Variable.{Variable}
+use Rattle.fj_built.specs.declared.deck.Source.{Source}
+use Rattle.fj_built.specs.declared.deck.Source.TheVariants.{Literal, Place}
+use Rattle.fj_built.specs.declared.deck.Item.{Item}
+use Rattle.fj_built.specs.declared.deck.Statement.{Statement}
+use Rattle.fj_built.specs.declared.deck.Statement.TheVariants.{Assign, Open, Read, Write, Print, Close, End}
+use Rattle.fj_built.specs.declared.deck.Lined.{Lined}
+use Rattle.fj_built.specs.declared.deck.Deck.{Deck}
 use Rattle.fj_run.specs.declared.ending.Ending.{Ending}
 use Rattle.fj_run.specs.declared.ending.Ending.TheVariants.{Ended, ErrorStop, Prohibited}
+use Rattle.fj_run.specs.Values.{is_undefined, fitted_text, fitted, filled, cells_of, are_defined, defines_item}
 
 -- a connection: the file's name and bytes, and the position
 pub record Connection : Type 0 where
@@ -33,37 +41,36 @@ pub record Connection : Type 0 where
   pub at : ℕ
   pub after_end : Bool
 
--- the values of the variables by their numbers, the connection of unit 10, and the files of the disk but its own
+-- the values of all places, the connection of unit 10, and the files of the disk but its own
 pub record State : Type 0 where
-  pub variables : List Value
+  pub values : List Value
   pub connection : Option Connection
   pub files : Files
 
--- how a statement ended the deck, if it did, and what it left
+-- how a statement ended the deck, if it did, the records that it wrote on unit `*`, and what it left
 abbrev pub Step : Type 0
-Step = Option Ending × State
+Step = Option Ending × List ℕ × State
 
 abbrev pub goes : State → Step
-goes s = (None, s)
+goes s = (None, [], s)
 
 abbrev pub stops : Ending → State → Step
-stops ending s = (Some ending, s)
+stops ending s = (Some ending, [], s)
 
 abbrev pub value_of : State → ℕ → Value
-value_of s place = slice_index_or s.variables place Undefined
+value_of s place = slice_index_or s.values place Undefined
 
 abbrev pub with_value : State → ℕ → Value → State
-with_value s place value = record s { variables = slice_set s.variables place value }
+with_value s place value = record s { values = slice_set s.values place value }
 
--- an assignment of a value, which is to be defined
-abbrev pub assigned : ℕ → Value → State → Step
-assigned to Undefined s = stops (Prohibited P3) s
-assigned to value s = goes (with_value s to value)
+-- places get a value, which is to be defined
+abbrev pub assigned : ℕ → ℕ → Value → State → Step
+assigned first count value s = if is_undefined value then stops (Prohibited P3) s else goes (record s { values = filled s.values first count value })
 
 -- the file of the connection is back on the disk
 abbrev pub without_connection : Option Connection → State → State
 without_connection None s = s
-without_connection (Some c) s = record { variables = s.variables; connection = None; files = map.insert s.files c.name c.bytes }
+without_connection (Some c) s = record { values = s.values; connection = None; files = map.insert s.files c.name c.bytes }
 
 abbrev pub closed : State → State
 closed s = without_connection s.connection s
@@ -77,7 +84,7 @@ abbrev pub record_limit : ℕ
 record_limit = 65536
 
 abbrev pub connected_to : List ℕ → List ℕ → State → State
-connected_to name bytes s = record { variables = s.variables; connection = Some (record { name = name; bytes = bytes; at = 0; after_end = false }); files = map.remove s.files name }
+connected_to name bytes s = record { values = s.values; connection = Some (record { name = name; bytes = bytes; at = 0; after_end = false }); files = map.remove s.files name }
 
 -- OPEN of a file that is there or not
 abbrev pub opened_old : List ℕ → Option (List ℕ) → State → Step
@@ -100,17 +107,13 @@ with_record text c = if c.after_end then (Error 20, c)
     else (if nat_lt file_limit (c.at + length text) then (Error 25, c)
     else (Fine, record c { bytes = with_piece c.bytes c.at text true; at = c.at + length text }))
 
--- the field of so many characters at the start of a record, blanks behind its end
-abbrev pub field_in : ℕ → List ℕ → List ℕ
-field_in width text = take width text ++ replicate (width - length text) 32
-
 -- the value of a field, which puts the position behind its record
 abbrev pub with_field : Result Value Condition → ℕ → Connection → Result Value Condition × Connection
 with_field (Ok value) next c = (Ok value, record c { at = next })
 with_field (Err condition) next c = (Err condition, c)
 
 abbrev pub with_next : ℕ → RecordRead → Connection → Result Value Condition × Connection
-with_next width (Line next) c = with_field (integer_input (Edit.Int width None) Int4 false (field_in width (first_line (drop c.at c.bytes)))) next c
+with_next width (Line next) c = with_field (integer_input (Edit.Int width None) Int4 false (fitted_text width (first_line (drop c.at c.bytes)))) next c
 with_next width EndOfRecords c = (Err EndOfFile, record c { after_end = true })
 with_next width TooLong c = (Err (Error 15), c)
 
@@ -156,44 +159,84 @@ record_of width value = option_map (λ field. field ++ 10 ∷ []) (integer_outpu
 abbrev pub was_written : Condition × Option Connection → State → Step
 was_written r s = told None r.0 (record s { connection = r.1 })
 
-abbrev pub is_undefined : Value → Bool
-is_undefined Undefined = true
-is_undefined _ = false
-
 abbrev pub write_step : ℕ → ℕ → State → Step
 write_step width item s = if is_undefined (value_of s item) then stops (Prohibited P3) s
     else was_written (put_to (record_of width (value_of s item)) s.connection) s
 
-abbrev pub assign_step : ℕ → Source → State → Step
-assign_step to (Literal value) s = assigned to value s
-assign_step to (Variable from) s = assigned to (value_of s from) s
+-- the value of a literal or of a place
+abbrev pub source_value : Source → State → Value
+source_value (Literal value) s = value
+source_value (Place from) s = value_of s from
+
+-- under an explicit format, with the sign mode that the statement gives
+abbrev pub print_outcome : List FormatItem → Option Bool → List Cell → Outcome
+print_outcome format plus cells = explicit_transfer (first_record record_limit 0) (unwrap_or plus false) true format (list_map Some cells)
+
+-- the first condition of the output is told, or its records are written
+abbrev pub printed : Option ℕ → Outcome → State → Step
+printed iostat (fails n) s = told iostat (Error n) s
+printed iostat (prints ended last) s = let t = told iostat Fine s in (t.0, text_of ended ++ last, t.2)
+
+-- WRITE on unit `*`
+abbrev pub print_step : List FormatItem → Option Bool → List Item → Option ℕ → State → Step
+print_step format plus items iostat s = let cells = cells_of s.values items in
+    if are_defined cells then (if defines_item iostat items then stops (Prohibited P5) s else printed iostat (print_outcome format plus cells) s)
+    else stops (Prohibited P3) s
 
 -- one statement
 abbrev pub step : Statement → State → Step
-step (Assign to from) s = assign_step to from s
+step (Assign first count kind from) s = assigned first count (fitted kind (source_value from s)) s
 step (Open name replaces) s = opened name replaces (closed s)
 step (Read width item iostat) s = read_step width item iostat s
 step (Write width item) s = write_step width item s
+step (Print format plus items iostat) s = print_step format plus items iostat s
 step Close s = goes (closed s)
 step End s = stops Ended (closed s)
 
--- statements one after another: the line of the one that ended them, how, and what they left, with the file back on the disk
-abbrev pub ended_by : ℕ → Step → (State → ℕ × Ending × State) → ℕ × Ending × State
-ended_by line (None, s) more = more s
-ended_by line (Some ending, s) more = (line, ending, closed s)
+-- how a deck went: the line of the statement that ended it, how, what it left, and what it wrote on unit `*`
+pub record Execution : Type 0 where
+  pub line : ℕ
+  pub ending : Ending
+  pub state : State
+  pub output : List ℕ
 
-abbrev pub execution : List Lined → State → ℕ × Ending × State
-execution [] s = (0, Ended, closed s)
+-- what was written before
+abbrev pub behind : List ℕ → Execution → Execution
+behind before e = record e { output = before ++ e.output }
+
+-- statements one after another, to the one that ends them; then the file is back on the disk
+abbrev pub ended_by : ℕ → Step → (State → Execution) → Execution
+ended_by line (None, piece, s) more = behind piece (more s)
+ended_by line (Some ending, piece, s) more = record { line = line; ending = ending; state = closed s; output = piece }
+
+abbrev pub execution : List Lined → State → Execution
+execution [] s = record { line = 0; ending = Ended; state = closed s; output = [] }
 execution (statement ∷ others) s = ended_by statement.line (step statement.what s) (execution others)
+
+-- what statements leave, and what they write, where none of them ends the deck
+abbrev pub with_piece_before : List ℕ → State × List ℕ → State × List ℕ
+with_piece_before piece (s, output) = (s, piece ++ output)
+
+abbrev pub passed_by : Step → (State → Option (State × List ℕ)) → Option (State × List ℕ)
+passed_by (None, piece, s) more = option_map (with_piece_before piece) (more s)
+passed_by (Some ending, piece, s) more = None
+
+abbrev pub passage : List Lined → State → Option (State × List ℕ)
+passage [] s = Some (s, [])
+passage (statement ∷ others) s = passed_by (step statement.what s) (passage others)
+
+-- the number of a variable's places; a scalar has one
+abbrev pub places_of : Variable → ℕ
+places_of variable = max variable.count 1
 
 -- nothing is defined, and nothing connected
 abbrev pub begun : Deck → Files → State
-begun deck files = record { variables = replicate (length deck.variables) Undefined; connection = None; files = files }
+begun deck files = record { values = replicate (sum_by places_of deck.variables) Undefined; connection = None; files = files }
 
 -- what a deck leaves: nothing is connected
 abbrev pub left : List Value → Files → State
-left variables files = record { variables = variables; connection = None; files = files }
+left values files = record { values = values; connection = None; files = files }
 
 -- the plain execution of a deck
-abbrev pub plain_execution : Deck → Files → ℕ × Ending × State
+abbrev pub plain_execution : Deck → Files → Execution
 plain_execution deck files = execution deck.statements (begun deck files)

@@ -11,7 +11,7 @@ connection_of bytes c = record { name = c.name; bytes = bytes c.file; at = c.at;
 
 -- over these files of the disk
 abbrev pub state_of : {F : Type 0} → (F → List ℕ) → Running F → Files → State
-state_of bytes r files = record { variables = r.variables; connection = option_map (connection_of bytes) r.connected; files = files }
+state_of bytes r files = record { values = r.values; connection = option_map (connection_of bytes) r.connected; files = files }
 
 abbrev pub names_of : {F : Type 0} → Option (Connected F) → Names
 names_of None = set.empty

@@ -1,18 +1,24 @@
 // OPEN: a file comes out of the disk.
-ghost use Rattle.std.specs.Prelude.{◌≡◌, ◌≢◌, ◌⊎◌, ◌≤◌, ◌↔◌, IfOk, OnErr, OnOk, Ok, Err, None, Some, true, false};
+ghost use Rattle.std.specs.Prelude.{◌≡◌, ◌≢◌, ◌⊎◌, ◌≤◌, ◌↔◌, IfOk, OnErr, OnOk, Ok, Err, [], None, Some, true, false};
 ghost use Rattle.fj_outside.specs.Faults.{Rose};
 ghost use Rattle.fj_run.specs.Plain.{opened};
 ghost use Rattle.fj_run.specs.Running.{state_of, HoldsAllBut, IsPlaced};
 
 use crate::ending::Ending;
 use crate::state::{Connected, Running};
-use fj_deck::FileName;
+use fj_modes::FileName;
 use fj_outside::{Disk, FileStore, Stop};
 use fj_value::Condition;
-use std::alloc::Global;
+use std::alloc::{AllocError, Global};
 
 /// The longest file, in bytes.
 pub const FILE_LIMIT: u64 = 268_435_456;
+
+fn copy_of(alloc: Global, name: &FileName) -> Result<FileName, AllocError>
+    ensures { IfOk result (λ copy. copy ≡ name.now) }
+{
+    FileName::new(alloc, name.as_str().as_bytes())
+}
 
 /// Connects to an empty file of that name, new or in place of one.
 fn open_new<D: Disk>(
@@ -25,7 +31,7 @@ fn open_new<D: Disk>(
     requires holds { D.tells disk.old → HoldsAllBut D.File.tells running.old (D.held disk.old) }
     ensures telling { D.tells disk.old ↔ D.tells disk.new }
     ensures step { D.tells disk.old → IfOk result (λ ending.
-        (ending, state_of D.File.bytes running.new (D.held disk.new).files)
+        (ending, [], state_of D.File.bytes running.new (D.held disk.new).files)
         ≡ opened name.now true (state_of D.File.bytes running.old (D.held disk.old).files)) }
     ensures holds { D.tells disk.old → HoldsAllBut D.File.tells running.new (D.held disk.new) }
     ensures placed { IsPlaced D.File.size running.new.connected }
@@ -35,7 +41,7 @@ fn open_new<D: Disk>(
     ensures later { D.count disk.old ≤ D.count disk.new }
     ensures failed { result ≡ Err Stop.Failed → Rose (D.count disk.old) (D.count disk.new) }
 {
-    let kept = name.try_clone()?;
+    let kept = copy_of(alloc, name)?;
     match disk.create(alloc, name.as_str()) {
         Ok(file) => {
             running.connected = Some(Connected {
@@ -61,7 +67,7 @@ fn open_old<D: Disk>(
     requires holds { D.tells disk.old → HoldsAllBut D.File.tells running.old (D.held disk.old) }
     ensures telling { D.tells disk.old ↔ D.tells disk.new }
     ensures step { D.tells disk.old → IfOk result (λ ending.
-        (ending, state_of D.File.bytes running.new (D.held disk.new).files)
+        (ending, [], state_of D.File.bytes running.new (D.held disk.new).files)
         ≡ opened name.now false (state_of D.File.bytes running.old (D.held disk.old).files)) }
     ensures holds { D.tells disk.old → HoldsAllBut D.File.tells running.new (D.held disk.new) }
     ensures placed { IsPlaced D.File.size running.new.connected }
@@ -71,7 +77,7 @@ fn open_old<D: Disk>(
     ensures later { D.count disk.old ≤ D.count disk.new }
     ensures failed { result ≡ Err Stop.Failed → Rose (D.count disk.old) (D.count disk.new) }
 {
-    let kept = name.try_clone()?;
+    let kept = copy_of(alloc, name)?;
     match disk.take(alloc, name.as_str()) {
         Ok(Some(file)) => {
             if file.len() > FILE_LIMIT {
@@ -105,7 +111,7 @@ pub fn open<D: Disk>(
     requires holds { D.tells disk.old → HoldsAllBut D.File.tells running.old (D.held disk.old) }
     ensures telling { D.tells disk.old ↔ D.tells disk.new }
     ensures step { D.tells disk.old → IfOk result (λ ending.
-        (ending, state_of D.File.bytes running.new (D.held disk.new).files)
+        (ending, [], state_of D.File.bytes running.new (D.held disk.new).files)
         ≡ opened name.now replaces (state_of D.File.bytes running.old (D.held disk.old).files)) }
     ensures holds { D.tells disk.old → HoldsAllBut D.File.tells running.new (D.held disk.new) }
     ensures placed { IsPlaced D.File.size running.new.connected }

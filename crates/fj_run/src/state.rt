@@ -1,7 +1,7 @@
 // What a run has between two statements.
 ghost use Rattle.std.specs.Prelude.{◌≡◌};
 
-use fj_deck::FileName;
+use fj_modes::FileName;
 use fj_value::{Items, Value};
 
 /// The file that unit 10 is connected to.
@@ -15,9 +15,9 @@ pub struct Connected<F> {
     pub after_end: bool,
 }
 
-/// The variables in the order of their declarations, and the connection of unit 10.
+/// The values of all places, and the connection of unit 10.
 #[derive(Drop)]
 pub struct Running<F> {
-    pub variables: Items<Value>,
+    pub values: Items<Value>,
     pub connected: Option<Connected<F>>,
 }

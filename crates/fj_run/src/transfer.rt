@@ -1,12 +1,13 @@
 // One record read from a connection, or put into it.
 ghost use Rattle.std.specs.Prelude.{◌≡◌, ◌≤◌, ◌+◌, ◌↔◌, ◌++◌, length, replicate, take, ◌-◌, IfOk, OnOk, Err, None, false};
 ghost use Rattle.fj_outside.specs.Faults.{Rose};
-ghost use Rattle.fj_run.specs.Plain.{with_record, with_reading, field_in};
+ghost use Rattle.fj_run.specs.Plain.{with_record, with_reading};
 ghost use Rattle.fj_edit_in.specs.InputField.{integer_input};
 ghost use Rattle.fj_run.specs.Running.{connection_of};
 
 use crate::open::FILE_LIMIT;
 use crate::state::Connected;
+use crate::values::fit_text;
 use fj_edit_in::read_int;
 use fj_outside::{FileStore, Stop};
 use fj_seqrec::{RecordRead, append_records, read_record};
@@ -54,18 +55,6 @@ pub fn put_record<F: FileStore>(
     }
 }
 
-/// The characters of a field at the start of a record, with blanks behind the record's end.
-fn field_in(width: u32, record: &mut Text) -> Result<(), AllocError>
-    ensures ok { OnOk result (record.new ≡ field_in width record.old) }
-{
-    let len = record.len();
-    if len >= width as usize {
-        record.truncate(width as usize);
-        return Ok(());
-    }
-    record.push_copies(b' ', width - len as u32)
-}
-
 /// What a field was read as, or the condition.
 fn value_in(alloc: Global, width: u32, chars: &[u8]) -> Result<Result<Value, Condition>, AllocError>
     ensures { IfOk result (λ read. read ≡ integer_input (Edit.Int width None) Kind.Int4 false chars.now) }
@@ -100,7 +89,7 @@ pub fn take_field<F: FileStore>(
     let mut record = Text::new(alloc);
     match read_record(&mut connected.file, connected.at, RECORD_LIMIT, &mut record) {
         Ok(RecordRead::Line { next }) => {
-            field_in(width, &mut record)?;
+            fit_text(width, &mut record)?;
             let read = value_in(alloc, width, record.bytes())?;
             if read.is_ok() {
                 connected.at = next;
