@@ -1,6 +1,6 @@
 -- Why a deck was not carried out.
 use Rattle.std.specs.Prelude.{◌≡◌, ℕ, List, Any}
-use Rattle.fj_deck.specs.declared.deck.Lined.{Lined}
+use Rattle.fj_built.specs.declared.deck.Lined.{Lined}
 use Rattle.fj_run.specs.declared.whole.Halt.{Halt}
 use Rattle.fj_run.specs.declared.whole.Halt.TheVariants.{Disk, Memory}
 

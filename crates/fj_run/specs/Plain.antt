@@ -17,12 +17,12 @@ use Rattle.fj_value.specs.declared.edit.Edit.TheVariants as Edit
 use Rattle.fj_value.specs.declared.kind.Kind.TheVariants.{Int4}
 use Rattle.fj_edit_out.specs.OutputField.{integer_output}
 use Rattle.fj_edit_in.specs.InputField.{integer_input}
-use Rattle.fj_deck.specs.declared.deck.Source.{Source}
-use Rattle.fj_deck.specs.declared.deck.Source.TheVariants.{Literal, Variable}
-use Rattle.fj_deck.specs.declared.deck.Statement.{Statement}
-use Rattle.fj_deck.specs.declared.deck.Statement.TheVariants.{Assign, Open, Read, Write, Close, End}
-use Rattle.fj_deck.specs.declared.deck.Lined.{Lined}
-use Rattle.fj_deck.specs.declared.deck.Deck.{Deck}
+use Rattle.fj_built.specs.declared.deck.Source.{Source}
+use Rattle.fj_built.specs.declared.deck.Source.TheVariants.{Literal, Variable}
+use Rattle.fj_built.specs.declared.deck.Statement.{Statement}
+use Rattle.fj_built.specs.declared.deck.Statement.TheVariants.{Assign, Open, Read, Write, Close, End}
+use Rattle.fj_built.specs.declared.deck.Lined.{Lined}
+use Rattle.fj_built.specs.declared.deck.Deck.{Deck}
 use Rattle.fj_run.specs.declared.ending.Ending.{Ending}
 use Rattle.fj_run.specs.declared.ending.Ending.TheVariants.{Ended, ErrorStop, Prohibited}
 

@@ -6,13 +6,19 @@ ghost use Rattle.fj_run.specs.Running.{state_of, HoldsAllBut, IsPlaced};
 
 use crate::ending::Ending;
 use crate::state::{Connected, Running};
-use fj_deck::FileName;
+use fj_modes::FileName;
 use fj_outside::{Disk, FileStore, Stop};
 use fj_value::Condition;
-use std::alloc::Global;
+use std::alloc::{AllocError, Global};
 
 /// The longest file, in bytes.
 pub const FILE_LIMIT: u64 = 268_435_456;
+
+fn copied(alloc: Global, name: &FileName) -> Result<FileName, AllocError>
+    ensures { IfOk result (λ copy. copy ≡ name.now) }
+{
+    FileName::new(alloc, name.as_str().as_bytes())
+}
 
 /// Connects to an empty file of that name, new or in place of one.
 fn open_new<D: Disk>(
@@ -35,7 +41,7 @@ fn open_new<D: Disk>(
     ensures later { D.count disk.old ≤ D.count disk.new }
     ensures failed { result ≡ Err Stop.Failed → Rose (D.count disk.old) (D.count disk.new) }
 {
-    let kept = name.try_clone()?;
+    let kept = copied(alloc, name)?;
     match disk.create(alloc, name.as_str()) {
         Ok(file) => {
             running.connected = Some(Connected {
@@ -71,7 +77,7 @@ fn open_old<D: Disk>(
     ensures later { D.count disk.old ≤ D.count disk.new }
     ensures failed { result ≡ Err Stop.Failed → Rose (D.count disk.old) (D.count disk.new) }
 {
-    let kept = name.try_clone()?;
+    let kept = copied(alloc, name)?;
     match disk.take(alloc, name.as_str()) {
         Ok(Some(file)) => {
             if file.len() > FILE_LIMIT {

@@ -1,7 +1,7 @@
 // What a run has between two statements.
 ghost use Rattle.std.specs.Prelude.{◌≡◌};
 
-use fj_deck::FileName;
+use fj_modes::FileName;
 use fj_value::{Items, Value};
 
 /// The file that unit 10 is connected to.

@@ -12,7 +12,7 @@ use crate::ending::Ending;
 use crate::open::open;
 use crate::state::{Connected, Running};
 use crate::transfer::{USUAL_MODES, put_record, take_field};
-use fj_deck::{Source, Statement};
+use fj_built::{Source, Statement};
 use fj_edit_out::int_field;
 use fj_outside::{Disk, FileStore, Stop};
 use fj_value::{Condition, Edit, Items, Kind, Rule, Text, Value};

@@ -10,7 +10,7 @@ use crate::close::close;
 use crate::ending::Ending;
 use crate::state::Running;
 use crate::statement::execute;
-use fj_deck::Deck;
+use fj_built::Deck;
 use fj_outside::{Disk, Stop};
 use fj_value::{Items, Value};
 use std::alloc::{AllocError, Global};
