@@ -1,0 +1,4 @@
+pub mod DecidedLemmas
+pub mod LawLemmas
+pub mod LineLemmas
+pub mod RunLemmas

@@ -1,0 +1,26 @@
+use Rattle.std.proofs.Common.{◌≡◌, ◌<◌, ◌∷◌, arith, length}
+use Rattle.std.specs.Str.Lines.{lines}
+use Rattle.fj_reader.specs.Deck.{IsRefused}
+use Rattle.fj_reader.proofs.RunLemmas.{shorter, one_more, fault_at, without_end}
+use Rattle.fj_reader.proofs.reader.parse_deck.Goals as goal
+
+pub returns-then-text-gt-MAX_TEXT : goal.returns-then-text-gt-MAX_TEXT
+returns-then-text-gt-MAX_TEXT c = IsRefused.long c.if-text-gt-MAX_TEXT.true
+
+pub returns-in-Err : goal.returns-in-Err
+returns-in-Err c =
+    rw c.at.ensures
+    (fault_at c.args.text.now c.reading.rest.now c.in-Some.line.now c.in-Some.more.now c.reading.number c.reading.draft c.in-Err.fault (omega arith) c.in-Some.ensures.first c.reading.invariant.read c.in-Err.ensures)
+
+pub reading-preserved : goal.reading-preserved
+reading-preserved c =
+    let first : lines c.reading.rest.now ≡ c.in-Some.line.now ∷ lines c.in-Some.more.now = c.in-Some.ensures.first in
+    let less : length c.in-Some.more.now < length c.reading.rest.now = shorter c.reading.rest.now c.in-Some.line.now c.in-Some.more.now first c.in-Some.ensures.behind in
+    record {
+      read = one_more c.args.text.now c.reading.rest.now c.in-Some.line.now c.in-Some.more.now c.reading.number c.reading.draft c.take.new.self first c.reading.invariant.read c.in_default-take.ensures;
+      small = omega arith;
+    }
+
+pub returns-then-not-draft : goal.returns-then-not-draft
+returns-then-not-draft c =
+    without_end c.args.text.now c.reading.rest.now c.reading.number c.reading.draft (omega arith) c.in_default.ensures.none c.reading.invariant.read c.if-not-draft.true

@@ -1,0 +1,12 @@
+use Rattle.std.proofs.Common.{◌≤◌, ◌+◌, length}
+use Rattle.fj_reader.proofs.RunLemmas.{HasRead}
+use Rattle.fj_reader.proofs.reader.parse_deck.Given as goal
+
+abbrev pub decreases-reading : goal.decreases-reading
+decreases-reading l = length l.rest
+
+abbrev pub invariant-reading : goal.invariant-reading
+invariant-reading l = record {
+  read : HasRead l.text l.rest l.number l.draft;
+  small : l.number + length l.rest ≤ 4194305;
+}

@@ -1,0 +1,12 @@
+// Laws of decks, which hold of every text.
+ghost use Rattle.fj_reader.specs.Deck.{OneDeck, NoneIsBoth, OneRefusal};
+
+/// A text is one deck or is refused at one line for one reason, so that what `parse_deck` answers is the only answer.
+pub fn one_answer()
+    ensures deck { OneDeck }
+    ensures apart { NoneIsBoth }
+    ensures refusal { OneRefusal }
+{
+    fj_syntax::one_meaning();
+    fj_meaning::one_meaning();
+}

@@ -1,0 +1,14 @@
+//! The text of a deck, read into variables and statements.
+#![tactic(auto)]
+
+mod draft;
+mod fault;
+mod laws;
+mod reader;
+
+pub use fault::DeckFault;
+pub use laws::one_answer;
+pub use reader::parse_deck;
+
+#[cfg(test)]
+mod tests;

@@ -1,0 +1,40 @@
+// The text of a deck, read line after line.
+ghost use Rattle.fj_reader.specs.Deck.{Reads};
+
+use crate::draft::Draft;
+use crate::fault::DeckFault;
+use fj_statement::{Deck, Reason};
+use fj_syntax::next_line;
+use std::alloc::Global;
+
+/// The longest text, in bytes.
+pub const MAX_TEXT: usize = 4_194_304;
+
+/// The deck that a text is, or the first line that is refused. Lines are numbered from 1.
+pub fn parse_deck(alloc: Global, text: &[u8]) -> Result<Deck, DeckFault>
+    ensures { Reads text.now result }
+{
+    if text.len() > MAX_TEXT {
+        return Err(DeckFault::Refused {
+            line: 1,
+            reason: Reason::TextTooLong,
+        });
+    }
+    let mut draft = Draft::new(alloc);
+    let mut rest = text;
+    let mut number = 1;
+    'reading: while let Some((line, more)) = next_line(rest) {
+        if let Err(fault) = draft.take(alloc, number, line) {
+            return Err(fault.at(number));
+        }
+        rest = more;
+        number += 1;
+    }
+    if !draft.ended {
+        return Err(DeckFault::Refused {
+            line: number,
+            reason: Reason::NoEnd,
+        });
+    }
+    Ok(draft.into_deck())
+}
