@@ -8,9 +8,7 @@ use Rattle.fj_format.specs.Marks.{outside}
 use Rattle.fj_format.specs.Grammar.{IsFormat, BeginsFormat}
 use Rattle.fj_format.specs.Scanning.{scan}
 use Rattle.fj_format.specs.Reading.{Answers}
-use Rattle.fj_format.specs.Parsing.{IsOnlyFormat, IsNoFormat, IsTooLong}
-use Rattle.fj_format.specs.Unfolding.{pass}
-use Rattle.fj_format.specs.Sound.{IsSound}
+use Rattle.fj_format.specs.Parsing.{AreOnlyItems, IsNoFormat}
 use Rattle.fj_format.proofs.Heights.{format_low}
 use Rattle.fj_format.proofs.Scanned.{Stands, stands_next, stands_begins, stands_refused, stands_short, stands_done, stands_only}
 
@@ -59,21 +57,15 @@ taken text i s new ok lt q st r e =
 done : (text : List ℕ) (i : ℕ) (s : Scanner) → s.reader.place ≡ Done → Stands (take i text) s → IsFormat text s.reader.items
 done text i s e st = subst (λ l. IsFormat l s.reader.items) (take-append-drop i text) (stands_done (take i text) (drop i text) s e st)
 
-pub done_short : (text : List ℕ) (i : ℕ) (s : Scanner) (items : List FormatItem) (count : ℕ) → s.reader.place ≡ Done → Stands (take i text) s →
-    items ≡ s.reader.items → count ≡ min (length (pass items)) 1000001 → count ≤ 1000000 → IsOnlyFormat text items
-done_short text i s items count e st is counts few = subst (IsOnlyFormat text) (sym is) (record {
-  is = done text i s e st;
-  only = λ f h. stands_only (take i text) (drop i text) s f e st (subst (λ l. IsFormat l f) (sym (take-append-drop i text)) h);
-  short = (let l : length (pass items) ≡ length (pass s.reader.items) = ap (λ xs. length (pass xs)) is in omega arith);
-})
-
-pub done_long : (text : List ℕ) (i : ℕ) (s : Scanner) (items : List FormatItem) (count : ℕ) → s.reader.place ≡ Done → Stands (take i text) s →
-    items ≡ s.reader.items → count ≡ min (length (pass items)) 1000001 → 1000000 < count → IsTooLong text
-done_long text i s items count e st is counts many =
-    record { items = items; is = subst (IsFormat text) (sym is) (done text i s e st); long = omega arith }
-
-pub sound : (text : List ℕ) (items : List FormatItem) → IsOnlyFormat text items → IsSound items
-sound text items h = record { written = ∣ (text, h.is) ∣₁; short = h.short; low = format_low items (outside text) h.is }
+pub done_items : (text : List ℕ) (i : ℕ) (s : Scanner) (items : List FormatItem) → s.reader.place ≡ Done → Stands (take i text) s →
+    items ≡ s.reader.items → AreOnlyItems text items
+done_items text i s items e st is =
+    let h : IsFormat text items = subst (IsFormat text) (sym is) (done text i s e st) in
+    record {
+      is = h;
+      only = λ f g. stands_only (take i text) (drop i text) s f e st (subst (λ l. IsFormat l f) (sym (take-append-drop i text)) g) ∙ sym is;
+      sound = record { written = ∣ (text, h) ∣₁; low = format_low items (outside text) h };
+    }
 
 take_whole : (l : List ℕ) → take (length l) l ≡ l
 take_whole [] = refl

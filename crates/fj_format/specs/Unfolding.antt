@@ -1,6 +1,8 @@
 -- A format with its repeats written out.
-use Rattle.std.specs.Prelude.{ℕ, zero, suc, ◌+◌, ◌*◌, Bool, true, false, if◌then◌else◌, unwrap_or, List, [], ◌∷◌, ◌++◌, max, Option, Some, None}
+use Rattle.std.specs.Prelude.{ℕ, zero, suc, ◌+◌, ◌*◌, ◌==◌, ◌||◌, Bool, true, false, if◌then◌else◌, unwrap_or, List, [], ◌∷◌, ◌++◌, max, Option, Some, None}
+use Rattle.std.specs.List.{list_any}
 use Rattle.fj_value.specs.declared.edit.Edit.{Edit}
+use Rattle.fj_value.specs.declared.edit.Edit.TheVariants as edits
 use Rattle.fj_format.specs.declared.item.ModeStep.{ModeStep}
 use Rattle.fj_format.specs.declared.item.FormatItem.{FormatItem}
 use Rattle.fj_format.specs.declared.item.FormatItem.TheOpen.{FormatItem-F}
@@ -72,6 +74,22 @@ again_items f = unwrap_or (from_last_group f) f
 -- what is used again at the end of a pass, behind a slash
 abbrev pub again : List FormatItem → Steps
 again f = pass (again_items f)
+
+-- I, B, O or Z of width 0
+abbrev pub is_unbounded : Edit → Bool
+is_unbounded (edits.Int w m) = w == 0
+is_unbounded (edits.Bits base w m) = w == 0
+is_unbounded _ = false
+
+abbrev pub unbounded_step : FormatItem-F Bool → Bool
+unbounded_step (FormatItem-F.Field r e) = is_unbounded e
+unbounded_step (FormatItem-F.Group r items) = list_any (λ b. b) items
+unbounded_step _ = false
+
+-- an edit descriptor of width 0 stands in a format
+abbrev pub has_width_zero : List FormatItem → Bool
+has_width_zero [] = false
+has_width_zero (x ∷ xs) = fold-FormatItem Bool unbounded_step x || has_width_zero xs
 
 -- how deep groups nest
 abbrev pub deepest : List ℕ → ℕ

@@ -1,5 +1,6 @@
 -- The steps of each kind of item.
-use Rattle.std.proofs.Common.{ℕ, Bool, true, false, ◌+◌, ◌*◌, ◌≡◌, ◌≤◌, arith, List, [], ◌∷◌, ◌++◌, map, max, refl, sym, subst, ap, ◌∙◌}
+use Rattle.std.proofs.Common.{ℕ, Bool, true, false, ◌||◌, ◌+◌, ◌*◌, ◌≡◌, ◌≤◌, arith, List, [], ◌∷◌, ◌++◌, map, max, refl, sym, subst, ap, ◌∙◌}
+use Rattle.std.specs.List.{list_any}
 use Rattle.fj_format.specs.declared.item.ModeStep.{ModeStep}
 use Rattle.fj_value.specs.declared.edit.Edit.{Edit}
 use Rattle.fj_format.specs.declared.item.FormatItem.{FormatItem, out-FormatItem}
@@ -7,7 +8,7 @@ use Rattle.fj_format.specs.declared.item.FormatItem.TheVariants as item
 use Rattle.fj_format.specs.declared.item.FormatItem.TheVariants.{rolls-Group, rolls-Field, rolls-Str, rolls-Tab, rolls-Left, rolls-Right, rolls-Skip, rolls-Slash, rolls-Colon, rolls-Mode}
 use Rattle.fj_format.specs.declared.item.FormatItem.TheOpen.{FormatItem-F}
 use Rattle.fj_format.specs.declared.item.FormatItem.TheFolds.{fold-FormatItem, fold-roll-FormatItem, fold_out-FormatItem, map-FormatItem}
-use Rattle.fj_format.specs.Unfolding.{edit, string, tab, left, right, slash, colon, mode, is_group, group_step, deepest, height_step, height, total, work_step, work, Steps, repeated, joined, item_step, written_out, pass}
+use Rattle.fj_format.specs.Unfolding.{edit, string, tab, left, right, slash, colon, mode, is_group, group_step, deepest, height_step, height, unbounded_step, has_width_zero, total, work_step, work, Steps, repeated, joined, item_step, written_out, pass}
 
 joined-map : (xs : List FormatItem) → joined (map written_out xs) ≡ pass xs
 joined-map [] = refl
@@ -49,6 +50,14 @@ deepest-map (x ∷ xs) = ap (λ n. max (fold-FormatItem ℕ height_step x) n) (d
 
 pub height-Group : (r : ℕ) (xs : List FormatItem) → fold-FormatItem ℕ height_step (item.Group r xs) ≡ height xs + 1
 height-Group r xs = ap (fold-FormatItem ℕ height_step) (sym (rolls-Group r xs)) ∙ fold-roll-FormatItem ℕ height_step (FormatItem-F.Group r xs) ∙ ap (λ n. n + 1) (deepest-map xs)
+
+any-map : (xs : List FormatItem) → list_any (λ b. b) (map (fold-FormatItem Bool unbounded_step) xs) ≡ has_width_zero xs
+any-map [] = refl
+any-map (x ∷ xs) = ap (λ b. fold-FormatItem Bool unbounded_step x || b) (any-map xs)
+
+pub has_width_zero-Group : (r : ℕ) (xs : List FormatItem) → fold-FormatItem Bool unbounded_step (item.Group r xs) ≡ has_width_zero xs
+has_width_zero-Group r xs =
+    ap (fold-FormatItem Bool unbounded_step) (sym (rolls-Group r xs)) ∙ fold-roll-FormatItem Bool unbounded_step (FormatItem-F.Group r xs) ∙ any-map xs
 
 total-map : (xs : List FormatItem) → total (map (fold-FormatItem ℕ work_step) xs) ≡ work xs
 total-map [] = refl

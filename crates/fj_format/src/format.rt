@@ -1,7 +1,7 @@
 // A format as a whole (ISO/IEC 1539-1:2004, 10.1 and 10.2).
-ghost use Rattle.std.specs.Prelude.{◌≡◌, ◌<◌, ◌≤◌, ◌^◌, IfOk, length, All};
-ghost use Rattle.fj_format.specs.Parsing.{Parses};
-ghost use Rattle.fj_format.specs.Sound.{IsSound};
+ghost use Rattle.std.specs.Prelude.{◌≡◌, ◌<◌, ◌≤◌, ◌^◌, IfOk, MatchOption, length, All};
+ghost use Rattle.fj_format.specs.Parsing.{Parses, ParsesItems};
+ghost use Rattle.fj_format.specs.Sound.{IsSound, IsWritten};
 ghost use Rattle.fj_format.specs.Unfolding.{height, pass};
 ghost use Rattle.fj_format.specs.Within.{IsStepWithin};
 
@@ -36,6 +36,17 @@ impl Model for Format {
 }
 
 impl Format {
+    /// The format of these items; `None` where one pass of it has more than 1,000,000 elementary items.
+    pub fn of(items: FormatItems) -> Option<Format>
+        requires { IsWritten items }
+        ensures { MatchOption result (1000000 < length (pass items)) (λ format. (format ≡ items) × (length (pass items) ≤ 1000000)) }
+    {
+        if pass_count(&items) > MOST_STEPS {
+            return None;
+        }
+        Some(Format { items })
+    }
+
     /// Its items.
     pub fn items(&self) -> &FormatItems
         ensures value { result.now ≡ self.now }
@@ -62,17 +73,25 @@ pub fn parse(alloc: Global, text: &[u8]) -> Result<Format, FormatFault>
     requires { length text.now < 2 ^ 32 }
     ensures { Parses text.now result }
 {
+    let items = parse_items(alloc, text)?;
+    match Format::of(items) {
+        Some(format) => Ok(format),
+        None => Err(FormatFault::TooMany),
+    }
+}
+
+/// Reads the items of a format, however long one pass of it is. It answers no `TooMany`.
+pub fn parse_items(alloc: Global, text: &[u8]) -> Result<FormatItems, FormatFault>
+    requires { length text.now < 2 ^ 32 }
+    ensures { ParsesItems text.now result }
+{
     let mut scanner = Scanner::new(alloc);
     for (i, c) in text.iter().enumerate() {
         if !scanner.take(*c)? {
             return Err(FormatFault::NotAFormat { at: i as u32 });
         }
         if scanner.is_done() {
-            let items = scanner.into_items();
-            if pass_count(&items) > MOST_STEPS {
-                return Err(FormatFault::TooMany);
-            }
-            return Ok(Format { items });
+            return Ok(scanner.into_items());
         }
     }
     Err(FormatFault::NotAFormat {

@@ -1,5 +1,7 @@
 // The items of a format (ISO/IEC 1539-1:2004, 10.2).
-ghost use Rattle.std.specs.Prelude.{◌≡◌, IfOk};
+ghost use Rattle.std.specs.Prelude.{◌≡◌, Bool, IfOk};
+ghost use Rattle.fj_format.specs.declared.item.FormatItem.TheFolds.{fold-FormatItem};
+ghost use Rattle.fj_format.specs.Unfolding.{is_unbounded, unbounded_step, has_width_zero};
 
 use fj_value::{Edit, Items, Text};
 use std::alloc::{AllocError, Global};
@@ -85,4 +87,38 @@ pub fn copy_items(alloc: Global, items: &FormatItems) -> Result<FormatItems, All
         copies.push(copy)?;
     }
     Ok(copies)
+}
+
+/// Whether this is I, B, O or Z of width 0.
+fn is_unbounded(edit: Edit) -> bool
+    ensures { result ≡ is_unbounded edit }
+{
+    match edit {
+        Edit::Int { w, .. } | Edit::Bits { w, .. } => w == 0,
+        Edit::Log { .. } | Edit::Chars { .. } | Edit::General { .. } => false,
+    }
+}
+
+#[cycle(width)]
+fn item_has_width_zero(item: &FormatItem) -> bool
+    ensures { result ≡ fold-FormatItem Bool unbounded_step item.now }
+{
+    match item {
+        FormatItem::Field { edit, .. } => is_unbounded(*edit),
+        FormatItem::Group { items, .. } => has_width_zero(items),
+        _ => false,
+    }
+}
+
+/// Whether an edit descriptor for integers has width 0, at which the field is as wide as its value (10.6.1.1).
+#[cycle(width)]
+pub fn has_width_zero(items: &FormatItems) -> bool
+    ensures { result ≡ has_width_zero items.now }
+{
+    for item in items.as_slice() {
+        if item_has_width_zero(item) {
+            return true;
+        }
+    }
+    false
 }

@@ -17,7 +17,7 @@ mod symbol;
 mod tests;
 
 pub use fault::FormatFault;
-pub use format::{Format, parse};
-pub use item::{FormatItem, FormatItems, ModeStep};
+pub use format::{Format, parse, parse_items};
+pub use item::{FormatItem, FormatItems, ModeStep, has_width_zero};
 pub use laws::{items_print, passes_unfold, texts_are_unambiguous};
 pub use printer::print;

@@ -2,8 +2,8 @@ use Rattle.std.proofs.Common.{◌≡◌, ◌+◌, true, false, [], subst, refl, 
 use Rattle.fj_format.specs.declared.place.Place.TheVariants.{Begin, Done}
 use Rattle.fj_format.specs.declared.scanner.Scanner.{Scanner}
 use Rattle.fj_format.proofs.Scanned.{Stands, stands_first}
-use Rattle.fj_format.proofs.Parsed.{refused, taken, done_short, done_long, sound, short}
-use Rattle.fj_format.proofs.format.parse.Goals as goal
+use Rattle.fj_format.proofs.Parsed.{refused, taken, done_items, short}
+use Rattle.fj_format.proofs.format.parse_items.Goals as goal
 
 pub loop-i-init : goal.loop-i-init
 loop-i-init c = record {
@@ -15,24 +15,11 @@ pub returns-then-not-branch : goal.returns-then-not-branch
 returns-then-not-branch c =
     refused c.args.text.now c.loop-i.i c.loop-i.scanner c.take.new.self c.in_ok-take.field-0 (omega arith) c.loop-i.invariant.not_done c.loop-i.invariant.stands c.in_ok-take.ensures c.if-not-branch.true
 
-pub returns-then-pass_count-gt-MOST_STEPS : goal.returns-then-pass_count-gt-MOST_STEPS
-returns-then-pass_count-gt-MOST_STEPS c =
-    done_long c.args.text.now (c.loop-i.i + 1) c.take.new.self c.into_items-items.result c.pass_count.result (c.if-is_done.ensures.0 refl)
-    (taken c.args.text.now c.loop-i.i c.loop-i.scanner c.take.new.self c.in_ok-take.field-0 (omega arith) c.loop-i.invariant.not_done c.loop-i.invariant.stands c.in_ok-take.ensures c.if-not-branch.false)
-    c.into_items-items.ensures c.pass_count.ensures c.if-pass_count-gt-MOST_STEPS.true
-
 pub returns-then-is_done : goal.returns-then-is_done
 returns-then-is_done c =
-    done_short c.args.text.now (c.loop-i.i + 1) c.take.new.self c.into_items-items.result c.pass_count.result (c.if-is_done.ensures.0 refl)
+    done_items c.args.text.now (c.loop-i.i + 1) c.take.new.self c.into_items.result (c.if-is_done.ensures.0 refl)
     (taken c.args.text.now c.loop-i.i c.loop-i.scanner c.take.new.self c.in_ok-take.field-0 (omega arith) c.loop-i.invariant.not_done c.loop-i.invariant.stands c.in_ok-take.ensures c.if-not-branch.false)
-    c.into_items-items.ensures c.pass_count.ensures c.if-pass_count-gt-MOST_STEPS.false
-
-pub invariant_of-result : goal.invariant_of-result
-invariant_of-result c =
-    sound c.args.text.now c.into_items-items.result
-    (done_short c.args.text.now (c.loop-i.i + 1) c.take.new.self c.into_items-items.result c.pass_count.result (c.if-is_done.ensures.0 refl)
-    (taken c.args.text.now c.loop-i.i c.loop-i.scanner c.take.new.self c.in_ok-take.field-0 (omega arith) c.loop-i.invariant.not_done c.loop-i.invariant.stands c.in_ok-take.ensures c.if-not-branch.false)
-    c.into_items-items.ensures c.pass_count.ensures c.if-pass_count-gt-MOST_STEPS.false)
+    c.into_items.ensures
 
 pub loop-i-preserved : goal.loop-i-preserved
 loop-i-preserved c = record {

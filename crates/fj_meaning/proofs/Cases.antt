@@ -1,0 +1,106 @@
+-- The definitions computed at worked cases.
+use Rattle.std.proofs.Common.{◌≡◌, ℕ, List, true, false, [], ◌∷◌, Some, None, refl, codes, pos}
+use Rattle.fj_value.specs.declared.kind.Kind.{Kind}
+use Rattle.fj_value.specs.declared.kind.Kind.TheVariants.{Int4, Int8, Logical, Chars}
+use Rattle.fj_value.specs.declared.value.Value.TheVariants as value
+use Rattle.fj_statement.specs.declared.statement.Operand.TheVariants as operand
+use Rattle.fj_statement.specs.declared.statement.Statement.TheVariants as statement
+use Rattle.fj_syntax.specs.declared.token.Sign.TheVariants.{Unsigned, Minus}
+use Rattle.fj_syntax.specs.declared.operand.Operand.TheVariants as written
+use Rattle.fj_meaning.specs.declared.scope.Scope.{Scope}
+use Rattle.fj_meaning.specs.Scope.{empty, named, found, members}
+use Rattle.fj_meaning.specs.Declaring.{with_declaration, with_group, is_within}
+use Rattle.fj_meaning.specs.Operands.{placed, integer_place, number, variable_meant, meant, integer_operand}
+use Rattle.fj_meaning.specs.Calls.{assigned}
+use Rattle.fj_meaning.specs.Transfer.{are_few}
+
+-- `INTEGER I, A(3)` on line 1, and `NAMELIST /G/ A, I, A` on line 2
+abbrev one_line : Scope
+one_line = record { variables = record { name = codes "I"; kind = Int4; count = 0; line = 1 } ∷ record { name = codes "A"; kind = Int4; count = 3; line = 1 } ∷ []; groups = []; lines = [] }
+
+abbrev two_lines : Scope
+two_lines = record one_line { groups = record { name = codes "G"; vars = 1 ∷ 0 ∷ 1 ∷ [] } ∷ []; lines = 2 ∷ [] }
+
+pub a_declaration : with_declaration empty 1 (record { kind = Int4; entities = record { name = codes "I"; number = None } ∷ record { name = codes "A"; number = Some 3 } ∷ [] }) ≡ Some one_line
+unfolding with_declaration named
+a_declaration = refl
+
+pub declared_twice : with_declaration empty 1 (record { kind = Int4; entities = record { name = codes "I"; number = None } ∷ record { name = codes "I"; number = Some 3 } ∷ [] }) ≡ None
+unfolding with_declaration named
+declared_twice = refl
+
+pub declared_before : with_declaration two_lines 3 (record { kind = Logical; entities = record { name = codes "L"; number = None } ∷ record { name = codes "G"; number = None } ∷ [] }) ≡ None
+unfolding with_declaration named
+declared_before = refl
+
+pub a_group : with_group one_line 2 (record { name = codes "G"; members = codes "A" ∷ codes "I" ∷ codes "A" ∷ [] }) ≡ Some two_lines
+unfolding with_group named found
+a_group = refl
+
+pub no_member : with_group two_lines 3 (record { name = codes "H"; members = codes "G" ∷ [] }) ≡ None
+unfolding with_group named found
+no_member = refl
+
+-- one place too many, and as many as may be
+pub too_many_places : is_within (record { name = codes "I"; kind = Int4; count = 0; line = 1 } ∷ record { name = codes "V"; kind = Int4; count = 1000000; line = 1 } ∷ []) ≡ false
+too_many_places = refl
+
+pub enough_characters : is_within (record { name = codes "W"; kind = Chars 65536; count = 256; line = 1 } ∷ []) ≡ true
+enough_characters = refl
+
+-- `A(3)`, `A(4)`, `A`, `I(1)` and `G`
+pub the_last_element : meant two_lines (written.Place (record { name = codes "A"; number = Some 3 })) ≡ Some (record { operand = operand.One (record { var = 1; index = 3 }); kind = Int4; count = 1 })
+unfolding meant variable_meant found named
+the_last_element = refl
+
+pub beyond_the_last : meant two_lines (written.Place (record { name = codes "A"; number = Some 4 })) ≡ None
+unfolding meant variable_meant found named
+beyond_the_last = refl
+
+pub an_array : meant two_lines (written.Place (record { name = codes "A"; number = None })) ≡ Some (record { operand = operand.Whole 1; kind = Int4; count = 3 })
+unfolding meant variable_meant found named
+an_array = refl
+
+pub no_array : meant two_lines (written.Place (record { name = codes "I"; number = Some 1 })) ≡ None
+unfolding meant variable_meant found named
+no_array = refl
+
+pub no_variable : meant two_lines (written.Place (record { name = codes "G"; number = None })) ≡ None
+unfolding meant variable_meant found named
+no_variable = refl
+
+pub the_members : members two_lines (codes "G") ≡ Some (1 ∷ 0 ∷ 1 ∷ [])
+unfolding members named
+the_members = refl
+
+-- 2147483648 and 9223372036854775808
+pub a_wide_literal : meant empty (written.Number Unsigned 2147483648) ≡ Some (record { operand = operand.Literal Int8 (value.Int (pos 2147483648)); kind = Int8; count = 1 })
+unfolding meant number
+a_wide_literal = refl
+
+pub no_literal : meant empty (written.Number Unsigned 9223372036854775808) ≡ None
+unfolding meant number
+no_literal = refl
+
+-- `A = 5`, and `A = I`
+pub an_assignment : assigned two_lines (record { to = record { name = codes "A"; number = None }; from = written.Number Unsigned 5 }) ≡ Some (statement.Assign (operand.Whole 1) (operand.Literal Int4 (value.Int (pos 5))))
+unfolding assigned meant variable_meant found named number
+an_assignment = refl
+
+pub no_assignment : assigned two_lines (record { to = record { name = codes "A"; number = None }; from = written.Place (record { name = codes "I"; number = None }) }) ≡ None
+unfolding assigned meant variable_meant found named number
+no_assignment = refl
+
+-- `ID=I`, and `ID=A`
+pub an_identifier : integer_operand two_lines (written.Place (record { name = codes "I"; number = None })) ≡ Some (operand.One (record { var = 0; index = 1 }))
+unfolding integer_operand meant variable_meant found named
+an_identifier = refl
+
+pub no_identifier : integer_place two_lines (record { name = codes "A"; number = None }) ≡ None
+unfolding integer_place placed found named
+no_identifier = refl
+
+-- two million elements
+pub many_elements : are_few (record { operand = operand.Whole 0; kind = Logical; count = 2000000 } ∷ []) ≡ false
+unfolding are_few
+many_elements = refl

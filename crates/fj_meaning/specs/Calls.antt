@@ -1,0 +1,155 @@
+-- What assignments, OPEN, CLOSE, WAIT, the motions and INQUIRE mean.
+use Rattle.std.specs.Prelude.{Bool, true, false, ◌&&◌, not, Option, Some, None, if◌then◌else◌}
+use Rattle.fj_value.specs.declared.kind.Kind.{Kind}
+use Rattle.fj_value.specs.declared.kind.Kind.TheVariants.{Int4, Int8, Logical, Chars}
+use Rattle.fj_modes.specs.declared.asked.Question.{Question}
+use Rattle.fj_modes.specs.declared.asked.Question.TheVariants.{Exist, Opened, Number, Named, Name, Access, Form, Recl, Nextrec, Pos, Size, Blank, Delim, Pad, Decimal, Sign, Action, Asynchronous, Pending}
+use Rattle.fj_modes.specs.declared.asked.Wanted.{Wanted}
+use Rattle.fj_modes.specs.declared.specifiers.OpenSpec.{OpenSpec}
+use Rattle.fj_statement.specs.declared.statement.Operand.{Operand}
+use Rattle.fj_statement.specs.declared.statement.Operand.TheVariants as operand
+use Rattle.fj_statement.specs.declared.statement.Motion.{Motion}
+use Rattle.fj_statement.specs.declared.statement.Motion.TheVariants as motion
+use Rattle.fj_statement.specs.declared.statement.Asking.{Asking}
+use Rattle.fj_statement.specs.declared.statement.Asking.TheVariants as asking
+use Rattle.fj_statement.specs.declared.statement.Statement.{Statement}
+use Rattle.fj_statement.specs.declared.statement.Statement.TheVariants as statement
+use Rattle.fj_syntax.specs.declared.written.Assignment.{Assignment}
+use Rattle.fj_syntax.specs.declared.written.Open.{Open}
+use Rattle.fj_syntax.specs.declared.written.Close.{Close}
+use Rattle.fj_syntax.specs.declared.written.Wait.{Wait}
+use Rattle.fj_syntax.specs.declared.written.Move.{Move}
+use Rattle.fj_syntax.specs.declared.written.Motion as written_motion
+use Rattle.fj_syntax.specs.declared.written.Motion.TheVariants as motion_as
+use Rattle.fj_syntax.specs.declared.written.Asking as written_asking
+use Rattle.fj_syntax.specs.declared.written.Subject.{Subject}
+use Rattle.fj_syntax.specs.declared.written.Subject.TheVariants as subject
+use Rattle.fj_syntax.specs.declared.written.Inquire.{Inquire}
+use Rattle.fj_meaning.specs.declared.operand.Meant.{Meant}
+use Rattle.fj_meaning.specs.declared.scope.Scope.{Scope}
+use Rattle.fj_meaning.specs.Giving.{◌>>=◌, optional, each}
+use Rattle.fj_meaning.specs.Operands.{is_integer, is_whole, placed, integer_place, variable_meant, meant, integer_operand}
+
+-- ---- assignments
+
+-- a variable takes a value of its kind, and characters of any length
+abbrev pub takes : Kind → Kind → Bool
+takes Int4 Int4 = true
+takes Int8 Int8 = true
+takes Logical Logical = true
+takes (Chars to) (Chars from) = true
+takes to from = false
+
+-- a literal of its class and range: INTEGER(8) has the numbers of INTEGER(4) too
+abbrev pub takes_literal : Kind → Kind → Bool
+takes_literal Int8 Int4 = true
+takes_literal to from = takes to from
+
+-- A whole array gets a literal, and is got from by none.
+abbrev pub goes_from : Operand → Meant → Meant → Bool
+goes_from (operand.Literal kind value) to from = takes_literal to.kind from.kind
+goes_from (operand.One place) to from = not (is_whole to.operand) && takes to.kind from.kind
+goes_from (operand.Whole var) to from = false
+
+abbrev pub goes_to : Meant → Meant → Bool
+goes_to to from = goes_from from.operand to from
+
+unfoldable pub assigned : Scope → Assignment → Option Statement
+assigned s a = do
+  to ← variable_meant s a.to
+  from ← meant s a.from
+  if goes_to to from then Some (statement.Assign to.operand from.operand) else None
+
+-- ---- files
+
+abbrev pub spec_of : Open → OpenSpec
+spec_of o = record {
+  file = o.file;
+  status = o.attributes.status;
+  access = o.attributes.access;
+  formatted = o.attributes.formatted;
+  recl = o.recl;
+  position = o.attributes.position;
+  action = o.attributes.action;
+  blank_zero = o.changes.blank_zero;
+  delim = o.changes.delim;
+  pad = o.changes.pad;
+  comma = o.changes.comma;
+  plus = o.changes.plus;
+  asynchronous = o.attributes.asynchronous;
+}
+
+unfoldable pub opened : Scope → Open → Option Statement
+opened s o = do
+  i ← optional (integer_place s) o.iostat
+  Some (statement.OpenUnit o.unit (spec_of o) i)
+
+unfoldable pub closed : Scope → Close → Option Statement
+closed s c = do
+  i ← optional (integer_place s) c.iostat
+  Some (statement.CloseUnit c.unit c.keep i)
+
+unfoldable pub awaited : Scope → Wait → Option Statement
+awaited s w = do
+  id ← optional (integer_operand s) w.id
+  i ← optional (integer_place s) w.iostat
+  Some (statement.WaitFor w.unit id i)
+
+abbrev pub motion_of : written_motion.Motion → Motion
+motion_of motion_as.Backspace = motion.Backspace
+motion_of motion_as.Rewind = motion.Rewind
+motion_of motion_as.Endfile = motion.Endfile
+motion_of motion_as.Flush = motion.Flush
+
+unfoldable pub moved : Scope → Move → Option Statement
+moved s m = do
+  i ← optional (integer_place s) m.iostat
+  Some (statement.Move (motion_of m.how) m.unit i)
+
+-- ---- INQUIRE
+
+abbrev pub is_logical : Kind → Bool
+is_logical Logical = true
+is_logical kind = false
+
+abbrev pub is_characters : Kind → Bool
+is_characters (Chars n) = true
+is_characters kind = false
+
+-- truth values go to logicals, numbers to integers, words to characters
+abbrev pub suits : Question → Kind → Bool
+suits Exist kind = is_logical kind
+suits Opened kind = is_logical kind
+suits Named kind = is_logical kind
+suits Pending kind = is_logical kind
+suits Number kind = is_integer kind
+suits Recl kind = is_integer kind
+suits Nextrec kind = is_integer kind
+suits Pos kind = is_integer kind
+suits Size kind = is_integer kind
+suits Name kind = is_characters kind
+suits Access kind = is_characters kind
+suits Form kind = is_characters kind
+suits Blank kind = is_characters kind
+suits Delim kind = is_characters kind
+suits Pad kind = is_characters kind
+suits Decimal kind = is_characters kind
+suits Sign kind = is_characters kind
+suits Action kind = is_characters kind
+suits Asynchronous kind = is_characters kind
+
+unfoldable pub wanted : Scope → written_asking.Asking → Option Wanted
+wanted s a = do
+  p ← placed s a.place
+  if suits a.what p.kind then Some (record { what = a.what; place = p.place; kind = p.kind }) else None
+
+abbrev pub subject_of : Subject → Asking
+subject_of (subject.Unit unit) = asking.Unit unit
+subject_of (subject.File name) = asking.File name
+
+unfoldable pub inquired : Scope → Inquire → Option Statement
+inquired s i = do
+  asked ← each (wanted s) i.asked
+  id ← optional (integer_operand s) i.id
+  iostat ← optional (integer_place s) i.iostat
+  Some (statement.Inquire (subject_of i.subject) asked id iostat)

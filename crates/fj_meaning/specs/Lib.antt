@@ -1,0 +1,9 @@
+pub mod Giving
+pub mod Scope
+pub mod Declaring
+pub mod Index
+pub mod Operands
+pub mod Calls
+pub mod Transfer
+pub mod Meaning
+pub mod Assembling

@@ -1,0 +1,173 @@
+-- What READ and WRITE mean, and which specifiers of theirs go together.
+use Rattle.std.specs.Prelude.{ℕ, Bool, true, false, ◌&&◌, ◌||◌, ◌==◌, ◌*◌, not, nat_le, List, length, map, Option, Some, None, is_some, if◌then◌else◌}
+use Rattle.std.specs.List.{list_all, sum_by}
+use Rattle.fj_value.specs.declared.kind.Kind.{Kind}
+use Rattle.fj_value.specs.declared.kind.Kind.TheVariants.{Int4, Int8, Logical, Chars}
+use Rattle.fj_format.specs.declared.item.FormatItem.{FormatItem}
+use Rattle.fj_format.specs.Unfolding.{has_width_zero, pass}
+use Rattle.fj_statement.specs.declared.statement.UnitRef.{UnitRef}
+use Rattle.fj_statement.specs.declared.statement.UnitRef.TheVariants as unit
+use Rattle.fj_statement.specs.declared.statement.Control.{Control}
+use Rattle.fj_statement.specs.declared.statement.Control.TheVariants as control
+use Rattle.fj_statement.specs.declared.statement.Transfer.{Transfer}
+use Rattle.fj_statement.specs.declared.statement.Statement.{Statement}
+use Rattle.fj_statement.specs.declared.statement.Statement.TheVariants as statement
+use Rattle.fj_syntax.specs.declared.operand.Operand as operand
+use Rattle.fj_syntax.specs.declared.operand.Operand.TheVariants as operand_as
+use Rattle.fj_syntax.specs.declared.written.Changes.{Changes}
+use Rattle.fj_syntax.specs.declared.written.Format.{Format}
+use Rattle.fj_syntax.specs.declared.written.Format.TheVariants as format
+use Rattle.fj_syntax.specs.declared.written.Unit.TheVariants as unit_as
+use Rattle.fj_syntax.specs.declared.written.Unit as written_unit
+use Rattle.fj_syntax.specs.declared.written.Transfer as written
+use Rattle.fj_meaning.specs.declared.operand.Meant.{Meant}
+use Rattle.fj_meaning.specs.declared.items.Chosen.{Chosen}
+use Rattle.fj_meaning.specs.declared.transfer.Parts.{Parts}
+use Rattle.fj_meaning.specs.declared.scope.Scope.{Scope}
+use Rattle.fj_meaning.specs.Giving.{◌>>=◌, optional, each}
+use Rattle.fj_meaning.specs.Operands.{integer_place, meant, integer_operand}
+use Rattle.fj_meaning.specs.Scope.{members}
+
+-- ---- the rules on specifiers and items
+
+infixr 5 ◌implies◌
+abbrev pub ◌implies◌ : Bool → Bool → Bool
+a implies b = not a || b
+
+abbrev pub given : {A : Type 0} → Option A → Bool
+given o = is_some o
+
+abbrev pub is_true : Option Bool → Bool
+is_true (Some b) = b
+is_true None = false
+
+abbrev pub is_list_directed : Option Format → Bool
+is_list_directed (Some format.Asterisk) = true
+is_list_directed f = false
+
+abbrev pub is_explicit : Option Format → Bool
+is_explicit (Some (format.Literal text)) = true
+is_explicit f = false
+
+abbrev pub is_place : operand.Operand → Bool
+is_place (operand_as.Place d) = true
+is_place o = false
+
+abbrev pub is_asterisk : written_unit.Unit → Bool
+is_asterisk unit_as.Asterisk = true
+is_asterisk (unit_as.Number n) = false
+
+-- BLANK=, DECIMAL=, DELIM=, PAD= or SIGN= stands
+abbrev pub changes_some : Changes → Bool
+changes_some c = given c.blank_zero || (given c.comma || (given c.delim || (given c.pad || given c.plus)))
+
+-- The format is list-directed, explicit with these items, or missing. ID= goes with ASYNCHRONOUS='YES', SIZE= with
+-- ADVANCE=, ADVANCE= with an explicit format, a mode with a format or a group.
+abbrev pub goes_together : written.Transfer → Bool
+goes_together t =
+    (given t.results.id implies is_true t.course.asynchronous)
+    && ((given t.results.size implies given t.course.advance)
+    && ((given t.course.advance implies is_explicit t.control.format)
+    && (changes_some t.control.changes implies (given t.control.format || given t.control.group))))
+
+-- REC= excludes POS=, a list-directed format and a group; a group excludes a format and items; `*` excludes REC= and POS=
+abbrev pub stands_alone : written.Transfer → Bool
+stands_alone t =
+    (given t.course.rec implies not (given t.course.pos || (is_list_directed t.control.format || given t.control.group)))
+    && ((given t.control.group implies (not (given t.control.format) && (length t.items == 0)))
+    && (is_asterisk t.control.unit implies not (given t.course.rec || given t.course.pos)))
+
+-- the items of READ are places, and its format has no width 0
+abbrev pub can_be_read : Option (List FormatItem) → List operand.Operand → Bool
+can_be_read None os = list_all is_place os
+can_be_read (Some items) os = list_all is_place os && not (has_width_zero items)
+
+unfoldable pub is_allowed : Option (List FormatItem) → written.Transfer → Bool
+is_allowed items t = goes_together t && (stands_alone t && (t.input implies can_be_read items t.items))
+
+-- ---- how much is transferred
+
+-- the bytes of a value of a kind
+abbrev pub size_of : Kind → ℕ
+size_of Int4 = 4
+size_of Int8 = 8
+size_of Logical = 4
+size_of (Chars n) = n
+
+-- how many elements items are, arrays unfolded
+abbrev pub elements : List Meant → ℕ
+elements ms = sum_by (λ m. m.count) ms
+
+abbrev pub bytes : List Meant → ℕ
+bytes ms = sum_by (λ m. m.count * size_of m.kind) ms
+
+-- no more than 1,000,000 elements and 16,777,216 bytes
+unfoldable pub are_few : List Meant → Bool
+are_few ms = nat_le (elements ms) 1000000 && nat_le (bytes ms) 16777216
+
+-- the items, and whether they are few
+unfoldable pub chosen : Scope → List operand.Operand → Option Chosen
+chosen s os = each (meant s) os >>= (λ ms. Some (record { items = map (λ m. m.operand) ms; few = are_few ms }))
+
+-- ---- what the names stand for
+
+unfoldable pub parts : Scope → written.Transfer → Option Parts
+parts s t = do
+  g ← optional (members s) t.control.group
+  c ← chosen s t.items
+  rec ← optional (integer_operand s) t.course.rec
+  pos ← optional (integer_operand s) t.course.pos
+  id ← optional (integer_place s) t.results.id
+  size ← optional (integer_place s) t.results.size
+  iostat ← optional (integer_place s) t.results.iostat
+  Some (record { group = g; items = c.items; few = c.few; rec = rec; pos = pos; id = id; size = size; iostat = iostat })
+
+abbrev pub unit_of : written_unit.Unit → UnitRef
+unit_of unit_as.Asterisk = unit.Star
+unit_of (unit_as.Number n) = unit.Number n
+
+-- a group with its members, an explicit format, a list-directed one, or none
+abbrev pub control_of : Option (List ℕ) → Option (List ℕ) → Option Format → Option (List FormatItem) → Control
+control_of (Some name) (Some vars) f items = control.Group name vars
+control_of g vars f (Some items) = control.Explicit items
+control_of g vars (Some f) None = control.Listed
+control_of g vars None None = control.Unformatted
+
+abbrev pub assembled : Option (List FormatItem) → written.Transfer → Parts → Transfer
+assembled items t p = record {
+  input = t.input;
+  unit = unit_of t.control.unit;
+  control = control_of t.control.group p.group t.control.format items;
+  items = p.items;
+  advance = t.course.advance;
+  asynchronous = t.course.asynchronous;
+  blank_zero = t.control.changes.blank_zero;
+  comma = t.control.changes.comma;
+  delim = t.control.changes.delim;
+  pad = t.control.changes.pad;
+  plus = t.control.changes.plus;
+  rec = p.rec;
+  pos = p.pos;
+  id = p.id;
+  size = p.size;
+  iostat = p.iostat;
+}
+
+unfoldable pub transferred : Scope → Option (List FormatItem) → written.Transfer → Option Statement
+transferred s items t = do
+  p ← parts s t
+  if is_allowed items t then Some (statement.Transfer (assembled items t p)) else None
+
+-- ---- limits
+
+-- one pass of a format has no more than 1,000,000 elementary items
+abbrev pub is_short : Option (List FormatItem) → Bool
+is_short None = true
+is_short (Some items) = nat_le (length (pass items)) 1000000
+
+abbrev pub of_parts : Option Parts → Bool
+of_parts None = true
+of_parts (Some p) = p.few
+
+unfoldable pub fits : Scope → Option (List FormatItem) → written.Transfer → Bool
+fits s items t = is_short items && of_parts (parts s t)

@@ -1,0 +1,205 @@
+// OPEN, CLOSE, WAIT, the motions and INQUIRE (ISO/IEC 1539-1:2004, 9.4 and 9.6 to 9.9).
+ghost use Rattle.std.specs.Prelude.{◌≡◌};
+ghost use Rattle.fj_meaning.specs.Giving.{Gives, optional, each};
+ghost use Rattle.fj_meaning.specs.Operands.{integer_place, integer_operand};
+ghost use Rattle.fj_meaning.specs.Calls.{spec_of, opened, closed, awaited, motion_of, moved, suits, wanted, subject_of, inquired};
+
+use crate::designator::{designated, integer_place, is_integer};
+use crate::fault::Fault;
+use crate::names::Names;
+use crate::operand::integer_operand;
+use fj_modes::{Asked, OpenSpec, Question, Wanted};
+use fj_statement::{Asking, Motion, Operand, Statement};
+use fj_syntax::{Close, Designator, Inquire, Move, Open, Subject, Wait};
+use fj_value::{Items, Kind, Place};
+use std::alloc::Global;
+
+/// The integer place of a specifier that may stand.
+pub fn optional_place(
+    names: &Names,
+    designator: &Option<Designator>,
+) -> Result<Option<Place>, Fault>
+    ensures { Gives result (optional (integer_place names.now) designator.now) }
+{
+    match designator {
+        None => Ok(None),
+        Some(designator) => match integer_place(names, designator) {
+            Some(place) => Ok(Some(place)),
+            None => Err(Fault::NoMeaning),
+        },
+    }
+}
+
+/// The integer literal or place of a specifier that may stand.
+pub fn optional_operand(
+    names: &Names,
+    operand: &Option<fj_syntax::Operand>,
+) -> Result<Option<Operand>, Fault>
+    ensures { Gives result (optional (integer_operand names.now) operand.now) }
+{
+    match operand {
+        None => Ok(None),
+        Some(operand) => {
+            let operand = integer_operand(names, operand)?;
+            Ok(Some(operand))
+        }
+    }
+}
+
+#[tactic(auto, unfolding(crate::specs::Calls::opened))]
+pub fn opened(names: &Names, statement: Open) -> Result<Statement, Fault>
+    ensures { Gives result (opened names.now statement) }
+{
+    let Open {
+        unit,
+        file,
+        recl,
+        attributes,
+        changes,
+        iostat,
+    } = statement;
+    let iostat = optional_place(names, &iostat)?;
+    let spec = OpenSpec {
+        file,
+        status: attributes.status,
+        access: attributes.access,
+        formatted: attributes.formatted,
+        recl,
+        position: attributes.position,
+        action: attributes.action,
+        blank_zero: changes.blank_zero,
+        delim: changes.delim,
+        pad: changes.pad,
+        comma: changes.comma,
+        plus: changes.plus,
+        asynchronous: attributes.asynchronous,
+    };
+    Ok(Statement::OpenUnit { unit, spec, iostat })
+}
+
+#[tactic(auto, unfolding(crate::specs::Calls::closed))]
+pub fn closed(names: &Names, close: Close) -> Result<Statement, Fault>
+    ensures { Gives result (closed names.now close) }
+{
+    let Close { unit, keep, iostat } = close;
+    let iostat = optional_place(names, &iostat)?;
+    Ok(Statement::CloseUnit { unit, keep, iostat })
+}
+
+#[tactic(auto, unfolding(crate::specs::Calls::awaited))]
+pub fn awaited(names: &Names, wait: Wait) -> Result<Statement, Fault>
+    ensures { Gives result (awaited names.now wait) }
+{
+    let Wait { unit, id, iostat } = wait;
+    let id = optional_operand(names, &id)?;
+    let iostat = optional_place(names, &iostat)?;
+    Ok(Statement::WaitFor { unit, id, iostat })
+}
+
+fn motion_of(how: fj_syntax::Motion) -> Motion
+    ensures { result ≡ motion_of how }
+{
+    match how {
+        fj_syntax::Motion::Backspace => Motion::Backspace,
+        fj_syntax::Motion::Rewind => Motion::Rewind,
+        fj_syntax::Motion::Endfile => Motion::Endfile,
+        fj_syntax::Motion::Flush => Motion::Flush,
+    }
+}
+
+#[tactic(auto, unfolding(crate::specs::Calls::moved))]
+pub fn moved(names: &Names, motion: Move) -> Result<Statement, Fault>
+    ensures { Gives result (moved names.now motion) }
+{
+    let Move { how, unit, iostat } = motion;
+    let iostat = optional_place(names, &iostat)?;
+    let how = motion_of(how);
+    Ok(Statement::Move { how, unit, iostat })
+}
+
+/// Whether a variable of a kind may take the answer to a question.
+fn suits(what: Question, kind: Kind) -> bool
+    ensures { result ≡ suits what kind }
+{
+    match what {
+        Question::Exist | Question::Opened | Question::Named | Question::Pending => {
+            matches!(kind, Kind::Logical)
+        }
+        Question::Number | Question::Recl | Question::Nextrec | Question::Pos | Question::Size =>
+            is_integer(kind),
+        Question::Name
+        | Question::Access
+        | Question::Form
+        | Question::Blank
+        | Question::Delim
+        | Question::Pad
+        | Question::Decimal
+        | Question::Sign
+        | Question::Action
+        | Question::Asynchronous => matches!(kind, Kind::Chars(_)),
+    }
+}
+
+#[tactic(auto, unfolding(crate::specs::Calls::wanted))]
+fn wanted(names: &Names, asking: &fj_syntax::Asking) -> Option<Wanted>
+    ensures { result ≡ wanted names.now asking.now }
+{
+    let placed = designated(names, &asking.place)?;
+    if suits(asking.what, placed.kind) {
+        Some(Wanted {
+            what: asking.what,
+            place: placed.place,
+            kind: placed.kind,
+        })
+    } else {
+        None
+    }
+}
+
+fn all_wanted(
+    alloc: Global,
+    names: &Names,
+    askings: &Items<fj_syntax::Asking>,
+) -> Result<Asked, Fault>
+    ensures { Gives result (each (wanted names.now) askings.now) }
+{
+    let mut asked = Items::new(alloc);
+    for asking in askings.as_slice() {
+        let Some(wanted) = wanted(names, asking) else {
+            return Err(Fault::NoMeaning);
+        };
+        asked.push(wanted)?;
+    }
+    Ok(asked)
+}
+
+fn subject(subject: Subject) -> Asking
+    ensures { result ≡ subject_of subject }
+{
+    match subject {
+        Subject::Unit(unit) => Asking::Unit(unit),
+        Subject::File(name) => Asking::File(name),
+    }
+}
+
+#[tactic(auto, unfolding(crate::specs::Calls::inquired))]
+pub fn inquired(alloc: Global, names: &Names, inquire: Inquire) -> Result<Statement, Fault>
+    ensures { Gives result (inquired names.now inquire) }
+{
+    let Inquire {
+        subject: about,
+        asked,
+        id,
+        iostat,
+    } = inquire;
+    let asked = all_wanted(alloc, names, &asked)?;
+    let id = optional_operand(names, &id)?;
+    let iostat = optional_place(names, &iostat)?;
+    let about = subject(about);
+    Ok(Statement::Inquire {
+        about,
+        asked,
+        id,
+        iostat,
+    })
+}

@@ -1,0 +1,195 @@
+// READ and WRITE (ISO/IEC 1539-1:2004, 9.5).
+ghost use Rattle.std.specs.Prelude.{◌≡◌, IfOk, MatchOption, true, false};
+ghost use Rattle.fj_meaning.specs.Giving.{Gives, each, optional};
+ghost use Rattle.fj_meaning.specs.Scope.{members};
+ghost use Rattle.fj_meaning.specs.Transfer.{parts, unit_of, control_of, is_short};
+ghost use Rattle.fj_meaning.specs.Meaning.{literal_of, Means};
+ghost use Rattle.fj_meaning.specs.Assembling.{ReadsFormat, AreWritten, Controls, Assembles};
+ghost use Rattle.fj_syntax.specs.declared.written.Written.TheVariants as written;
+
+use crate::calls::{optional_operand, optional_place};
+use crate::fault::Fault;
+use crate::items::choose;
+use crate::limits::narrow;
+use crate::names::Names;
+use crate::rules::is_allowed;
+use fj_format::{Format, FormatFault, FormatItems, parse_items};
+use fj_statement::{Control, Operand, Operands, Statement, Transfer, UnitRef, Vars};
+use fj_syntax::Unit;
+use fj_value::{Items, Place, Text};
+use std::alloc::{AllocError, Global};
+
+/// What the names in a transfer stand for.
+#[derive(Debug, Drop)]
+pub struct Parts {
+    /// The members of its group.
+    pub group: Option<Vars>,
+    pub items: Operands,
+    /// Whether the items are no more than a statement may have.
+    pub few: bool,
+    pub rec: Option<Operand>,
+    pub pos: Option<Operand>,
+    pub id: Option<Place>,
+    pub size: Option<Place>,
+    pub iostat: Option<Place>,
+}
+
+/// The items of an explicit format.
+fn format_items(
+    alloc: Global,
+    format: &Option<fj_syntax::Format>,
+) -> Result<Option<FormatItems>, Fault>
+    ensures { ReadsFormat (literal_of format.now) result }
+{
+    let Some(fj_syntax::Format::Literal(text)) = format else {
+        return Ok(None);
+    };
+    narrow(text.len())?;
+    match parse_items(alloc, text.bytes()) {
+        Ok(items) => Ok(Some(items)),
+        Err(FormatFault::Memory(error)) => Err(Fault::Memory(error)),
+        Err(FormatFault::NotAFormat { at }) => Err(Fault::Format { at }),
+        Err(FormatFault::TooMany) => unreachable!(),
+    }
+}
+
+fn copied(vars: &Vars) -> Result<Vars, AllocError>
+    ensures { IfOk result (λ copy. copy ≡ vars.now) }
+{
+    let mut copy = Items::new(vars.allocator());
+    for var in vars.as_slice() {
+        copy.push(*var)?;
+    }
+    Ok(copy)
+}
+
+/// The members of the group of a transfer.
+fn optional_group(names: &Names, group: &Option<Text>) -> Result<Option<Vars>, Fault>
+    ensures { Gives result (optional (members names.now) group.now) }
+{
+    match group {
+        None => Ok(None),
+        Some(name) => match names.members(name.bytes()) {
+            Some(vars) => {
+                let vars = copied(vars)?;
+                Ok(Some(vars))
+            }
+            None => Err(Fault::NoMeaning),
+        },
+    }
+}
+
+#[tactic(auto, unfolding(crate::specs::Transfer::parts))]
+fn parts_of(alloc: Global, names: &Names, transfer: &fj_syntax::Transfer) -> Result<Parts, Fault>
+    ensures { Gives result (parts names.now transfer.now) }
+{
+    let group = optional_group(names, &transfer.control.group)?;
+    let chosen = choose(alloc, names, transfer.items.as_slice())?;
+    let rec = optional_operand(names, &transfer.course.rec)?;
+    let pos = optional_operand(names, &transfer.course.pos)?;
+    let id = optional_place(names, &transfer.results.id)?;
+    let size = optional_place(names, &transfer.results.size)?;
+    let iostat = optional_place(names, &transfer.results.iostat)?;
+    Ok(Parts {
+        group,
+        items: chosen.items,
+        few: chosen.few,
+        rec,
+        pos,
+        id,
+        size,
+        iostat,
+    })
+}
+
+fn unit_of(unit: Unit) -> UnitRef
+    ensures { result ≡ unit_of unit }
+{
+    match unit {
+        Unit::Asterisk => UnitRef::Star,
+        Unit::Number(number) => UnitRef::Number(number),
+    }
+}
+
+/// A group with its members, an explicit format, a list-directed one, or none; nothing where the format is too long.
+fn control_of(
+    group: Option<Text>,
+    vars: Option<Vars>,
+    format: &Option<fj_syntax::Format>,
+    items: Option<FormatItems>,
+) -> Option<Control>
+    requires { AreWritten items }
+    ensures { Controls items (control_of group vars format.now items) result }
+{
+    let format_given = format.is_some();
+    let Some(items) = items else {
+        return Some(match (group, vars) {
+            (Some(name), Some(vars)) => Control::Group { name, vars },
+            _ => {
+                if format_given {
+                    Control::Listed
+                } else {
+                    Control::Unformatted
+                }
+            }
+        });
+    };
+    let format = Format::of(items)?;
+    match (group, vars) {
+        (Some(name), Some(vars)) => Some(Control::Group { name, vars }),
+        _ => Some(Control::Explicit(format)),
+    }
+}
+
+/// The statement of these parts, where no limit is passed.
+fn assembled(
+    transfer: fj_syntax::Transfer,
+    parts: Parts,
+    items: Option<FormatItems>,
+) -> Result<Statement, Fault>
+    requires { AreWritten items }
+    ensures { Assembles items transfer parts result }
+{
+    if !parts.few {
+        return Err(Fault::TooMany);
+    }
+    let control = transfer.control;
+    let changes = control.changes;
+    let Some(made) = control_of(control.group, parts.group, &control.format, items) else {
+        return Err(Fault::TooMany);
+    };
+    Ok(Statement::Transfer(Transfer {
+        input: transfer.input,
+        unit: unit_of(control.unit),
+        control: made,
+        items: parts.items,
+        advance: transfer.course.advance,
+        asynchronous: transfer.course.asynchronous,
+        blank_zero: changes.blank_zero,
+        comma: changes.comma,
+        delim: changes.delim,
+        pad: changes.pad,
+        plus: changes.plus,
+        rec: parts.rec,
+        pos: parts.pos,
+        id: parts.id,
+        size: parts.size,
+        iostat: parts.iostat,
+    }))
+}
+
+/// What a transfer means. Its format is looked at first, then its meaning, then the limits.
+pub fn transferred(
+    alloc: Global,
+    names: &Names,
+    transfer: fj_syntax::Transfer,
+) -> Result<Statement, Fault>
+    ensures { Means names.now (written.Transfer transfer) result }
+{
+    let items = format_items(alloc, &transfer.control.format)?;
+    if !is_allowed(&items, &transfer) {
+        return Err(Fault::NoMeaning);
+    }
+    let parts = parts_of(alloc, names, &transfer)?;
+    assembled(transfer, parts, items)
+}
