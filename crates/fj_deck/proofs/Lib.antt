@@ -1,4 +1,5 @@
-pub mod Numbers
-pub mod LineLaws
-pub mod ReadingLaws
-pub mod SpellingLaws
+pub mod Cases
+pub mod DecidedLemmas
+pub mod LawLemmas
+pub mod LineLemmas
+pub mod RunLemmas

@@ -1,5 +1,3 @@
-pub mod Split
-pub mod Words
+pub mod Deck
+pub mod Faults
 pub mod Line
-pub mod Reading
-pub mod Spelling

@@ -1,68 +1,82 @@
--- What one line says, with the names as they stand there.
-use Rattle.std.specs.Prelude.{◌≡◌, ℕ, ℤ, ◌==◌, nat_eq, Bool, true, false, List, [], ◌∷◌, ◌++◌, length, Option, Some, None, if◌then◌else◌, codes, option_and_then, option_map}
-use Rattle.std.specs.Str.{bytes_eq}
-use Rattle.fj_deck.specs.Split.{after, front_of, behind_of}
-use Rattle.fj_deck.specs.Words.{is_name, is_file_name, value_of, width_of}
-use Rattle.fj_deck.specs.declared.split.Class.TheVariants as class
-use Rattle.fj_value.specs.declared.value.Value.TheVariants.{Int}
-use Rattle.fj_deck.specs.declared.line.Operand.{Operand}
-use Rattle.fj_deck.specs.declared.line.Operand.TheVariants as operand
-use Rattle.fj_deck.specs.declared.line.Line.{Line}
-use Rattle.fj_deck.specs.declared.line.Line.TheVariants.{Declare, Assign, Open, Read, Write, Close, End}
+-- What a line adds to the deck so far, or why it is refused.
+use Rattle.std.specs.Prelude.{◌≡◌, ℕ, ◌<◌, ◌≤◌, Bool, true, false, ◌||◌, ◌&&◌, nat_lt, List, [], ◌∷◌, ◌++◌, length, Result, Ok, Err}
+use Rattle.fj_syntax.specs.Grammar.{IsStatement}
+use Rattle.fj_syntax.specs.Parsing.{IsBlankLine, IsNoStatement}
+use Rattle.fj_syntax.specs.declared.written.Written.{Written}
+use Rattle.fj_syntax.specs.declared.written.Written.TheVariants as written
+use Rattle.fj_statement.specs.declared.reason.Reason.{Reason}
+use Rattle.fj_statement.specs.declared.reason.Reason.TheVariants.{LineTooLong, Syntax, TooMany}
+use Rattle.fj_statement.specs.declared.statement.Statement.{Statement}
+use Rattle.fj_statement.specs.declared.statement.Statement.TheVariants as statement
+use Rattle.fj_meaning.specs.Declaring.{Declares, Groups, with_declaration, with_group}
+use Rattle.fj_meaning.specs.Meaning.{Means}
+use Rattle.fj_meaning.specs.Scope as scope
+use Rattle.fj_meaning.specs.declared.fault.Fault.{Fault}
+use Rattle.fj_meaning.specs.declared.scope.Scope.{Scope}
+use Rattle.fj_deck.specs.Faults.{of_meaning}
+use Rattle.fj_deck.specs.declared.draft.Draft.{Draft}
+use Rattle.fj_deck.specs.declared.fault.LineFault.{LineFault}
+use Rattle.fj_deck.specs.declared.fault.LineFault.TheVariants.{Memory, Refused}
 
--- the line where its name is one
-abbrev pub where_name : List ℕ → (List ℕ → Option Line) → Option Line
-where_name cs line = if is_name cs then line cs else None
+-- the draft behind a line, or the reason for which the line is refused
+abbrev pub Answer : Type 0
+Answer = Result Draft Reason
 
--- behind `INTEGER`
-unfoldable pub declared_of : List ℕ → Option Line
-declared_of rest = option_and_then (λ name. where_name name (λ n. Some (Declare n))) (after rest (codes " "))
+abbrev pub is_declaration : Written → Bool
+is_declaration (written.Declaration d) = true
+is_declaration (written.Group g) = true
+is_declaration w = false
 
-abbrev pub operand_of : List ℕ → Option Operand
-operand_of cs = if is_name cs then Some (operand.Name cs) else option_map (λ n. operand.Literal (Int n)) (value_of cs)
+-- behind END, or a declaration behind a statement
+abbrev pub is_misplaced : Draft → Written → Bool
+is_misplaced draft w = draft.ended || (is_declaration w && nat_lt 0 (length draft.statements))
 
--- behind the name of a variable
-unfoldable pub assigned_of : List ℕ → List ℕ → Option Line
-assigned_of to rest = if is_name to then option_and_then (λ from. option_map (Assign to) (operand_of from)) (after rest (codes " = ")) else None
+abbrev pub is_end : Statement → Bool
+is_end statement.End = true
+is_end s = false
 
-abbrev pub opening_of : List ℕ → List ℕ → Option Line
-opening_of file rest = if is_file_name file then (if bytes_eq rest (codes "')") then Some (Open file false)
-    else (if bytes_eq rest (codes "',STATUS='REPLACE')") then Some (Open file true) else None)) else None
+abbrev pub with_names : Draft → Scope → Draft
+with_names draft names = record draft { names = names }
 
--- behind `OPEN`
-unfoldable pub opened_of : List ℕ → Option Line
-opened_of rest = option_and_then (λ name. opening_of (front_of class.File name) (behind_of class.File name)) (after rest (codes "(10,FILE='"))
+-- with one more statement, which stands on the line of this number
+abbrev pub with_statement : Draft → ℕ → Statement → Draft
+with_statement draft number s = record draft { statements = draft.statements ++ record { line = number; what = s } ∷ []; ended = is_end s }
 
-abbrev pub telling_of : ℕ → List ℕ → List ℕ → Option Line
-telling_of width iostat rest = where_name iostat (λ s. option_and_then (λ item. where_name item (λ i. Some (Read width i (Some s)))) (after rest (codes ") ")))
+-- nothing is declared and nothing stated
+abbrev pub empty : Draft
+empty = record { names = scope.empty; statements = []; ended = false }
 
--- behind the width of a READ that tells its condition
-unfoldable pub read_telling_of : ℕ → List ℕ → Option Line
-read_telling_of width rest = option_and_then (λ name. telling_of width (front_of class.Name name) (behind_of class.Name name)) (after rest (codes ")',IOSTAT="))
+-- what a declaration adds
+pub data Declaring (draft : Draft) (Declared : Result (Unit {0}) Fault → Scope → Type 0) : Answer → Type 0 where
+  added : (names : Scope) → Declared (Ok tt) names → Declaring draft Declared (Ok (with_names draft names))
+  refused : (names : Scope) (fault : Fault) {reason : Reason} → Declared (Err fault) names → of_meaning fault ≡ Refused reason → Declaring draft Declared (Err reason)
 
-abbrev pub read_item : ℕ → List ℕ → Option (List ℕ) → Option Line
-read_item width rest (Some item) = where_name item (λ i. Some (Read width i None))
-read_item width rest None = read_telling_of width rest
+-- what an executable statement adds: no more than 100,000
+pub data Stating (draft : Draft) (number : ℕ) (w : Written) : Answer → Type 0 where
+  added : (s : Statement) → Means draft.names w (Ok s) → length draft.statements < 100000 → Stating draft number w (Ok (with_statement draft number s))
+  full : (s : Statement) → Means draft.names w (Ok s) → 100000 ≤ length draft.statements → Stating draft number w (Err TooMany)
+  refused : (fault : Fault) {reason : Reason} → Means draft.names w (Err fault) → of_meaning fault ≡ Refused reason → Stating draft number w (Err reason)
 
--- behind `READ`
-unfoldable pub read_of : List ℕ → Option Line
-read_of rest = option_and_then (λ format. option_and_then (λ width. read_item width (behind_of class.Digit format) (after (behind_of class.Digit format) (codes ")') ")))
-    (width_of (front_of class.Digit format))) (after rest (codes "(10,'(I"))
+-- what a statement or declaration adds
+abbrev pub Adds : Draft → ℕ → Written → Answer → Type 0
+Adds draft number (written.Declaration d) answer = Declaring draft (Declares (with_declaration draft.names number d)) answer
+Adds draft number (written.Group g) answer = Declaring draft (Groups (with_group draft.names number g)) answer
+Adds draft number w answer = Stating draft number w answer
 
--- behind `WRITE`
-unfoldable pub written_of : List ℕ → Option Line
-written_of rest = option_and_then (λ format. option_and_then (λ width. option_and_then (λ item. where_name item (λ i. Some (Write width i))) (after (behind_of class.Digit format) (codes ")') ")))
-    (width_of (front_of class.Digit format))) (after rest (codes "(10,'(I"))
+-- what a line of this number adds: a blank one nothing
+pub data LineIs (line : List ℕ) (number : ℕ) (draft : Draft) : Answer → Type 0 where
+  long : 1000 < length line → LineIs line number draft (Err LineTooLong)
+  blank : length line ≤ 1000 → IsBlankLine line → LineIs line number draft (Ok draft)
+  garbled : length line ≤ 1000 → IsNoStatement line → LineIs line number draft (Err Syntax)
+  misplaced : (w : Written) → length line ≤ 1000 → IsStatement line w → is_misplaced draft w ≡ true → LineIs line number draft (Err Syntax)
+  placed : (w : Written) {answer : Answer} → length line ≤ 1000 → IsStatement line w → is_misplaced draft w ≡ false → Adds draft number w answer → LineIs line number draft answer
 
--- by its first word
-abbrev pub line_by : List ℕ → List ℕ → Option Line
-line_by word rest = if bytes_eq word (codes "INTEGER") then declared_of rest
-    else (if bytes_eq word (codes "OPEN") then opened_of rest
-    else (if bytes_eq word (codes "READ") then read_of rest
-    else (if bytes_eq word (codes "WRITE") then written_of rest
-    else (if bytes_eq word (codes "CLOSE") then (if bytes_eq rest (codes "(10)") then Some Close else None)
-    else (if bytes_eq word (codes "END") then (if length rest == 0 then Some End else None)
-    else assigned_of word rest)))))
+-- the fault is a reason, unless memory ran out
+abbrev pub Refuses : (Answer → Type 0) → LineFault → Type 0
+Refuses Is (Memory error) = Unit {0}
+Refuses Is (Refused reason) = Is (Err reason)
 
-unfoldable pub line_of : List ℕ → Option Line
-line_of bytes = line_by (front_of class.Name bytes) (behind_of class.Name bytes)
+-- what was answered, with the new draft
+abbrev pub Takes : (Answer → Type 0) → Draft → Result (Unit {0}) LineFault → Type 0
+Takes Is new (Ok u) = Is (Ok new)
+Takes Is new (Err fault) = Refuses Is fault

@@ -1,9 +1,12 @@
-// Laws of the text of a deck.
-ghost use Rattle.fj_deck.specs.Spelling.{ReadsAsSpelled, SpellsOne};
+// Laws of decks, which hold of every text.
+ghost use Rattle.fj_deck.specs.Deck.{OneDeck, NoneIsBoth, OneRefusal};
 
-/// A line reads as what it spells, so that it spells one thing at most.
-#[tactic(auto, using(crate::proofs::SpellingLaws::reads_as_spelled, crate::proofs::SpellingLaws::spells_one))]
-pub fn reads_as_spelled()
-    ensures reads { ReadsAsSpelled }
-    ensures one { SpellsOne }
-{}
+/// A text is one deck or is refused at one line for one reason, so that what `parse_deck` answers is the only answer.
+pub fn one_answer()
+    ensures deck { OneDeck }
+    ensures apart { NoneIsBoth }
+    ensures refusal { OneRefusal }
+{
+    fj_syntax::one_meaning();
+    fj_meaning::one_meaning();
+}

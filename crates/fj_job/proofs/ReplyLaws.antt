@@ -1,30 +1,20 @@
 -- What is replied to a text that was read.
-use Rattle.std.proofs.Common.{◌≡◌, ◌⊎◌, inl, inr, ℕ, ◌<◌, List, length, Ok, Err, refl, ap, sym, ◌∙◌, subst}
-use Rattle.std.proofs.lemmas.Bool.{lt-ltb}
-use Rattle.fj_deck.specs.Reading.{deck_of}
-use Rattle.fj_deck.specs.declared.deck.Deck.{Deck}
-use Rattle.fj_deck.specs.declared.deck.Reason.TheVariants.{TextTooLong}
-use Rattle.fj_run.specs.Halt.{IsLineOf}
+use Rattle.std.proofs.Common.{◌≡◌, ◌⊎◌, inl, inr, ℕ, ◌<◌, ◌≤◌, List, length, Result, Ok, Err, refl, ap, sym, ◌∙◌, subst, arith}
+use Rattle.fj_outside.specs.Holdings.{Files}
+use Rattle.fj_statement.specs.declared.deck.Deck.{Deck as WholeDeck}
+use Rattle.fj_statement.specs.declared.reason.Reason.{Reason}
+use Rattle.fj_deck.specs.Deck.{IsDeck, IsRefused, OneDeck, NoneIsBoth, OneRefusal}
+use Rattle.fj_deck.specs.Deck as reading
+use Rattle.fj_built.specs.declared.deck.Deck.{Deck}
 use Rattle.fj_run.specs.Plain.{State}
 use Rattle.fj_run.specs.declared.ending.Ending.{Ending}
 use Rattle.fj_job.specs.Taken.{IsReadOf, TakesPrefix}
-use Rattle.fj_job.specs.Answers.{IfRefused, IfDiskFault, HasStatementOn, TakesDue}
-use Rattle.fj_job.specs.Reply.{report_text, IsRefusal}
-use Rattle.fj_job.specs.declared.status.Status.{Status}
-use Rattle.fj_job.specs.declared.status.Status.TheVariants.{Ended, ErrorStop, Prohibited, DeckRefused, Usage, ReadFault, WriteFault, DiskFault, Memory}
-
-too_long : (text : List ℕ) → 4194304 < length text → deck_of text ≡ Err (1, TextTooLong)
-unfolding deck_of
-too_long text h = rw (lt-ltb 4194304 (length text) h) refl
-
--- a text that was read in part is refused as the whole is
-pub same_reading : (held text : List ℕ) → IsReadOf 4194304 held text → deck_of held ≡ deck_of text
-same_reading held text (inl e) = ap deck_of (sym e)
-same_reading held text (inr h) = too_long held h.1 ∙ sym (too_long text h.0)
-
-pub later_lost : {A B C : Type 0} → A ⊎ C → A ⊎ (B ⊎ C)
-later_lost (inl a) = inl a
-later_lost (inr c) = inr (inr c)
+use Rattle.fj_report.specs.declared.status.Status.{Status}
+use Rattle.fj_report.specs.declared.status.Status.TheVariants.{Ended, ErrorStop, Prohibited, DeckRefused, Usage, ReadFault, WriteFault, DiskFault, Memory}
+use Rattle.fj_job.specs.Answers.{TakesDue, TakesReply, Replied, IfRefused, IfDiskFault, HasStatementOn}
+use Rattle.fj_job.specs.Reply.{Reply, Reading, IsReading, IsReplyTo, IsRefusal, IsBuiltText, OneReply, report_text, executed, checked}
+use Rattle.fj_job.specs.declared.task.Task.{Task}
+use Rattle.fj_job.specs.declared.task.Task.TheVariants.{Refuse, Check, Execute}
 
 -- a front of the report is a front of what is due
 pub report_due : (old new text : List ℕ) (deck : Deck) (line : ℕ) (ending : Ending) (s : State) (e : ℕ × Ending × State) (F : ℕ → Type 0)
@@ -38,37 +28,103 @@ pub due_weaker : (old new output : List ℕ) (F G : ℕ → Type 0) → ((n : �
 due_weaker old new output F G f (inl p) = inl p
 due_weaker old new output F G f (inr q) = inr (q.0, f q.0 q.1, q.2)
 
--- a refusal is that of the text
-pub refused_is : (status : Status) (held text : List ℕ) → deck_of held ≡ deck_of text → IfRefused status (IsRefusal text) → IfRefused status (IsRefusal held)
-refused_is Ended held text same h = tt
-refused_is (ErrorStop stmt code) held text same h = tt
-refused_is (Prohibited stmt rule) held text same h = tt
-refused_is (DeckRefused line reason) held text same h = same ∙ h
-refused_is Usage held text same h = tt
-refused_is ReadFault held text same h = tt
-refused_is WriteFault held text same h = tt
-refused_is (DiskFault stmt) held text same h = tt
-refused_is Memory held text same h = tt
+one_refusal : (line another : ℕ) (reason other : Reason) → line ≡ another → reason ≡ other → (let r : Reading = Err (line, reason) in r) ≡ Err (another, other)
+one_refusal line another reason other a b = rw (a, b) refl
 
--- the statement of a disk fault is one of the text
-pub statement_of : (status : Status) (text : List ℕ) (deck : Deck) → deck_of text ≡ Ok deck → IfDiskFault status (IsLineOf deck.statements) → IfDiskFault status (HasStatementOn text)
-statement_of Ended text deck e h = tt
-statement_of (ErrorStop stmt code) text deck e h = tt
-statement_of (Prohibited stmt rule) text deck e h = tt
-statement_of (DeckRefused line reason) text deck e h = tt
-statement_of Usage text deck e h = tt
-statement_of ReadFault text deck e h = tt
-statement_of WriteFault text deck e h = tt
-statement_of (DiskFault stmt) text deck e h = (deck, e, h)
-statement_of Memory text deck e h = tt
+-- a text has one reading at most
+one_reading : OneDeck → NoneIsBoth → OneRefusal → (text : List ℕ) (a b : Reading) → IsReading text a → IsReading text b → a ≡ b
+one_reading d n r text (Ok deck) (Ok other) h k = ap Ok (d text deck other h k)
+one_reading d n r text (Ok deck) (Err refusal) h k = absurd (n text deck refusal.0 refusal.1 h k)
+one_reading d n r text (Err refusal) (Ok deck) h k = absurd (n text deck refusal.0 refusal.1 k h)
+one_reading d n r text (Err refusal) (Err other) h k =
+    let same = r text refusal.0 other.0 refusal.1 other.1 h k in
+    one_refusal refusal.0 other.0 refusal.1 other.1 same.0 same.1
 
-pub statement_is : (status : Status) (held text : List ℕ) → deck_of held ≡ deck_of text → IfDiskFault status (HasStatementOn text) → IfDiskFault status (HasStatementOn held)
-statement_is Ended held text same h = tt
-statement_is (ErrorStop stmt code) held text same h = tt
-statement_is (Prohibited stmt rule) held text same h = tt
-statement_is (DeckRefused line reason) held text same h = tt
-statement_is Usage held text same h = tt
-statement_is ReadFault held text same h = tt
-statement_is WriteFault held text same h = tt
-statement_is (DiskFault stmt) held text same h = (h.0, same ∙ h.1, h.2)
-statement_is Memory held text same h = tt
+pub one_reply : OneDeck → NoneIsBoth → OneRefusal → OneReply
+one_reply d n r Refuse text files reply other h k = h ∙ sym k
+one_reply d n r Check text files reply other h k = h.2 ∙ ap (λ (x : Reading). checked x files) (one_reading d n r text h.0 k.0 h.1 k.1) ∙ sym k.2
+one_reply d n r Execute text files reply other h k = h.2 ∙ ap (λ (x : Reading). executed x files) (one_reading d n r text h.0 k.0 h.1 k.1) ∙ sym k.2
+
+-- a text that is too long is refused as every other one is
+long_is : (held text : List ℕ) (line : ℕ) (reason : Reason) → 4194304 < length text → 4194304 < length held → IsRefused text line reason → IsRefused held line reason
+long_is held text line reason t h (reading.IsRefused.long long) = reading.IsRefused.long h
+long_is held text line reason t h (reading.IsRefused.bad before bad behind short lines good refused) = absurd (omega arith)
+long_is held text line reason t h (reading.IsRefused.endless last short good ended) = absurd (omega arith)
+
+-- a text that was read in part is read as the whole is
+pub same_refusal : (held text : List ℕ) (line : ℕ) (reason : Reason) → IsReadOf 4194304 held text → IsRefused text line reason → IsRefused held line reason
+same_refusal held text line reason (inl e) h = subst (λ (x : List ℕ). IsRefused x line reason) e h
+same_refusal held text line reason (inr l) h = long_is held text line reason l.0 l.1 h
+
+pub same_deck : (held text : List ℕ) (deck : WholeDeck) → IsReadOf 4194304 held text → IsDeck text deck → IsDeck held deck
+same_deck held text deck (inl e) h = subst (λ (x : List ℕ). IsDeck x deck) e h
+same_deck held text deck (inr l) h = absurd (let s = h.short in omega (arith, s, l.0))
+
+same_reading : (held text : List ℕ) (r : Reading) → IsReadOf 4194304 held text → IsReading text r → IsReading held r
+same_reading held text (Ok deck) e h = same_deck held text deck e h
+same_reading held text (Err refusal) e h = same_refusal held text refusal.0 refusal.1 e h
+
+pub same_reply : (task : Task) (held text : List ℕ) (files : Files) (reply : Reply) → IsReadOf 4194304 held text → IsReplyTo task text files reply → IsReplyTo task held files reply
+same_reply Refuse held text files reply e h = h
+same_reply Check held text files reply e h = (h.0, same_reading held text h.0 e h.1, h.2)
+same_reply Execute held text files reply e h = (h.0, same_reading held text h.0 e h.1, h.2)
+
+-- what is replied to a text that was read in part is replied to the whole
+pub replied_whole : (task : Task) (held text : List ℕ) (files : Files) (status : Status) (left : Files) (Taken : List ℕ → Type 0) → IsReadOf 4194304 held text
+    → Replied task text files status left Taken → Replied task held files status left Taken
+replied_whole task held text files status left Taken e r =
+    record { reply = r.reply; is = same_reply task held text files r.reply e r.is; answer = r.answer; files_left = r.files_left; output = r.output }
+
+pub taken_whole : (task : Task) (held text : List ℕ) (files : Files) (old new : List ℕ) (F G : ℕ → Type 0) → IsReadOf 4194304 held text → ((n : ℕ) → F n → G n)
+    → TakesReply task text files old new F → TakesReply task held files old new G
+taken_whole task held text files old new F G e f (inl same) = inl same
+taken_whole task held text files old new F G e f (inr due) = inr (due.0, same_reply task held text files due.0 e due.1, due_weaker _ _ _ F G f due.2)
+
+pub built_whole : (held text : List ℕ) (small : Deck) → IsReadOf 4194304 held text → IsBuiltText text small → IsBuiltText held small
+built_whole held text small e b = (b.0, same_deck held text b.0 e b.1, b.2)
+
+pub changed_whole : (held text : List ℕ) (Same : Type 0) → IsReadOf 4194304 held text → Same ⊎ ((small : Deck) × IsBuiltText text small) → Same ⊎ ((small : Deck) × IsBuiltText held small)
+changed_whole held text Same e (inl same) = inl same
+changed_whole held text Same e (inr built) = inr (built.0, built_whole held text built.0 e built.1)
+
+pub statement_whole : (held text : List ℕ) (line : ℕ) → IsReadOf 4194304 held text → HasStatementOn text line → HasStatementOn held line
+statement_whole held text line e s = (s.0, built_whole held text s.0 e s.1, s.2)
+
+pub touching_whole : (held text : List ℕ) (status : Status) → IsReadOf 4194304 held text → IfDiskFault status (HasStatementOn text) → IfDiskFault status (HasStatementOn held)
+touching_whole held text Ended e h = tt
+touching_whole held text (ErrorStop stmt code) e h = tt
+touching_whole held text (Prohibited stmt rule) e h = tt
+touching_whole held text (DeckRefused line reason) e h = tt
+touching_whole held text Usage e h = tt
+touching_whole held text ReadFault e h = tt
+touching_whole held text WriteFault e h = tt
+touching_whole held text (DiskFault stmt) e h = statement_whole held text stmt e h
+touching_whole held text Memory e h = tt
+
+pub refusal_whole : (task : Task) (held text : List ℕ) (line : ℕ) (reason : Reason) → IsReadOf 4194304 held text → IsRefusal task text line reason → IsRefusal task held line reason
+refusal_whole Refuse held text line reason e h = h
+refusal_whole Check held text line reason e h = same_refusal held text line reason e h
+refusal_whole Execute held text line reason e (inl refused) = inl (same_refusal held text line reason e refused)
+refusal_whole Execute held text line reason e (inr deck) = inr (deck.0, same_deck held text deck.0 e deck.1, deck.2, deck.3)
+
+pub refused_whole : (task : Task) (held text : List ℕ) (status : Status) → IsReadOf 4194304 held text → IfRefused status (IsRefusal task text) → IfRefused status (IsRefusal task held)
+refused_whole task held text Ended e h = tt
+refused_whole task held text (ErrorStop stmt code) e h = tt
+refused_whole task held text (Prohibited stmt rule) e h = tt
+refused_whole task held text (DeckRefused line reason) e h = refusal_whole task held text line reason e h
+refused_whole task held text Usage e h = tt
+refused_whole task held text ReadFault e h = tt
+refused_whole task held text WriteFault e h = tt
+refused_whole task held text (DiskFault stmt) e h = tt
+refused_whole task held text Memory e h = tt
+
+-- by equal tasks
+pub replied_for : (task other : Task) (text : List ℕ) (files : Files) (status : Status) (left : Files) (Taken : List ℕ → Type 0) → task ≡ other
+    → Replied task text files status left Taken → Replied other text files status left Taken
+replied_for task other text files status left Taken e r = subst (λ (x : Task). Replied x text files status left Taken) e r
+
+pub taken_for : (task other : Task) (text : List ℕ) (files : Files) (old new : List ℕ) (F G : ℕ → Type 0) → task ≡ other → ((n : ℕ) → F n → G n)
+    → TakesReply task text files old new F → TakesReply other text files old new G
+taken_for task other text files old new F G e f (inl same) = inl same
+taken_for task other text files old new F G e f (inr due) =
+    inr (due.0, subst (λ (x : Task). IsReplyTo x text files due.0) e due.1, due_weaker _ _ _ F G f due.2)

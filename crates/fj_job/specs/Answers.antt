@@ -1,14 +1,15 @@
 -- Which answers are faults, and why they may come.
 use Rattle.std.specs.Prelude.{◌≡◌, ◌⊎◌, ℕ, List, Ok}
-use Rattle.fj_outside.specs.Holdings.{Holdings, IsHurt}
-use Rattle.fj_deck.specs.Reading.{deck_of}
-use Rattle.fj_deck.specs.declared.deck.Deck.{Deck}
-use Rattle.fj_deck.specs.declared.deck.Reason.{Reason}
+use Rattle.fj_outside.specs.Holdings.{Holdings, Files, IsHurt}
+use Rattle.fj_statement.specs.declared.reason.Reason.{Reason}
+use Rattle.fj_built.specs.declared.deck.Deck.{Deck}
 use Rattle.fj_run.specs.Halt.{IsLineOf}
+use Rattle.fj_report.specs.Lines.{status_text}
+use Rattle.fj_report.specs.declared.status.Status.{Status}
+use Rattle.fj_report.specs.declared.status.Status.TheVariants.{Ended, ErrorStop, Prohibited, DeckRefused, Usage, ReadFault, WriteFault, DiskFault, Memory}
+use Rattle.fj_job.specs.declared.task.Task.{Task}
 use Rattle.fj_job.specs.Taken.{TakesPrefix}
-use Rattle.fj_job.specs.Report.{disk_fault_text}
-use Rattle.fj_job.specs.declared.status.Status.{Status}
-use Rattle.fj_job.specs.declared.status.Status.TheVariants.{Ended, ErrorStop, Prohibited, DeckRefused, Usage, ReadFault, WriteFault, DiskFault, Memory}
+use Rattle.fj_job.specs.Reply.{Reply, IsReplyTo, IsBuiltText}
 
 -- neither a fault nor want of memory
 abbrev pub IsAnswer : Status → Type 0
@@ -52,9 +53,9 @@ abbrev pub IfDiskFault : Status → (ℕ → Type 0) → Type 0
 IfDiskFault (DiskFault stmt) P = P stmt
 IfDiskFault _ P = Unit {0}
 
--- the text is a deck with a statement on this line
+-- the text is a deck of today's forms with a statement on this line
 abbrev pub HasStatementOn : List ℕ → ℕ → Type 0
-HasStatementOn text line = (deck : Deck) × (deck_of text ≡ Ok deck) × IsLineOf deck.statements line
+HasStatementOn text line = (small : Deck) × IsBuiltText text small × IsLineOf small.statements line
 
 -- the disk itself failed, or a file did and is hurt now
 abbrev pub IsMet : Type 0 → Holdings → Type 0
@@ -62,4 +63,16 @@ IsMet refused held = refused ⊎ ((name : List ℕ) × IsHurt held name)
 
 -- what was taken is a front of what is due, or, where the disk may have failed, of the line of a disk fault
 abbrev pub TakesDue : List ℕ → List ℕ → List ℕ → (ℕ → Type 0) → Type 0
-TakesDue old new output failed = TakesPrefix old new output ⊎ ((stmt : ℕ) × failed stmt × TakesPrefix old new (disk_fault_text stmt))
+TakesDue old new output failed = TakesPrefix old new output ⊎ ((stmt : ℕ) × failed stmt × TakesPrefix old new (status_text (DiskFault stmt)))
+
+-- the answer and the files that are left are those of a reply, and its output was taken
+pub record Replied (task : Task) (text : List ℕ) (files : Files) (status : Status) (left : Files) (Taken : List ℕ → Type 0) : Type 0 where
+  pub reply : Reply
+  pub is : IsReplyTo task text files reply
+  pub answer : status ≡ reply.status
+  pub files_left : left ≡ reply.files
+  pub output : Taken reply.output
+
+-- nothing was taken, or what is due by a reply
+abbrev pub TakesReply : Task → List ℕ → Files → List ℕ → List ℕ → (ℕ → Type 0) → Type 0
+TakesReply task text files old new failed = (new ≡ old) ⊎ ((reply : Reply) × IsReplyTo task text files reply × TakesDue old new reply.output failed)

@@ -1,4 +1,4 @@
 pub mod Taken
-pub mod Report
+pub mod Task
 pub mod Reply
 pub mod Answers

@@ -2,11 +2,15 @@
 #![tactic(auto)]
 
 mod job;
+mod laws;
 mod report;
-mod status;
 mod streams;
+mod task;
 #[cfg(test)]
 mod tests;
+mod text;
 
+pub use fj_report::Status;
+pub use fj_statement::Reason;
 pub use job::{alone_job, run_job};
-pub use status::{Reason, Status};
+pub use laws::one_reply;

@@ -1,29 +1,26 @@
-use Rattle.std.proofs.Common.{◌≡◌, ◌∙◌, ◌≤◌, ◌<◌, ◌+◌, sym, arith, ap, true, false, Err, Some, None, length, rules}
-use Rattle.fj_deck.specs.Split.{lines, cut_line}
-use Rattle.fj_deck.specs.Reading.{read_from, begun, deck_of, finished, Gives, stepped_text, Takes}
-use Rattle.fj_deck.proofs.ReadingLaws.{deck_whole, refused_here, goes_on, ends, gives_as}
-use Rattle.fj_deck.proofs.LineLaws.{cut_some}
+use Rattle.std.proofs.Common.{◌≡◌, ◌<◌, ◌∷◌, arith, length}
+use Rattle.std.specs.Str.Lines.{lines}
+use Rattle.fj_deck.specs.Deck.{IsRefused}
+use Rattle.fj_deck.proofs.RunLemmas.{shorter, one_more, fault_at, without_end}
 use Rattle.fj_deck.proofs.reader.parse_deck.Goals as goal
 
-pub returns-then-not-branch : goal.returns-then-not-branch
-returns-then-not-branch c =
-    let cut : cut_line c.reading.rest.now ≡ Some (c.in-Some.line.now, c.in-Some.more.now) = sym c.in-Some.ensures in
-    let takes : Takes (stepped_text c.reading.reader c.reading.at c.in-Some.line.now) false c.take_text.new.self = rw c.if-not-branch.true at c.in_ok-take_text.ensures.fits in
-    deck_whole c.args.text.now (omega arith) ∙ sym c.reading.invariant.same ∙ refused_here c.reading.reader _ c.reading.at c.reading.rest.now _ _ cut takes
+pub returns-then-text-gt-MAX_TEXT : goal.returns-then-text-gt-MAX_TEXT
+returns-then-text-gt-MAX_TEXT c = IsRefused.long c.if-text-gt-MAX_TEXT.true
 
-pub reading-smaller : goal.reading-smaller
-reading-smaller c = (cut_some c.reading.rest.now c.in-Some.line.now c.in-Some.more.now (sym c.in-Some.ensures)).1
+pub returns-in-Err : goal.returns-in-Err
+returns-in-Err c =
+    rw c.at.ensures
+    (fault_at c.args.text.now c.reading.rest.now c.in-Some.line.now c.in-Some.more.now c.reading.number c.reading.draft c.in-Err.fault (omega arith) c.in-Some.ensures.first c.reading.invariant.read c.in-Err.ensures)
 
 pub reading-preserved : goal.reading-preserved
 reading-preserved c =
-    let cut : cut_line c.reading.rest.now ≡ Some (c.in-Some.line.now, c.in-Some.more.now) = sym c.in-Some.ensures in
-    let takes : Takes (stepped_text c.reading.reader c.reading.at c.in-Some.line.now) true c.take_text.new.self = rw c.if-not-branch.false at c.in_ok-take_text.ensures.fits in
-    let less : length c.in-Some.more.now < length c.reading.rest.now = (cut_some _ _ _ cut).1 in
+    let first : lines c.reading.rest.now ≡ c.in-Some.line.now ∷ lines c.in-Some.more.now = c.in-Some.ensures.first in
+    let less : length c.in-Some.more.now < length c.reading.rest.now = shorter c.reading.rest.now c.in-Some.line.now c.in-Some.more.now first c.in-Some.ensures.behind in
     record {
-      same = sym (goes_on c.reading.reader _ c.reading.at c.reading.rest.now _ _ cut takes) ∙ c.reading.invariant.same;
-      few = search rules;
+      read = one_more c.args.text.now c.reading.rest.now c.in-Some.line.now c.in-Some.more.now c.reading.number c.reading.draft c.take.new.self first c.reading.invariant.read c.in_default-take.ensures;
       small = omega arith;
     }
 
-pub returns : goal.returns
-returns c = gives_as c.finish.result _ _ (deck_whole c.args.text.now (omega arith) ∙ sym c.reading.invariant.same ∙ ends c.reading.reader c.reading.at c.reading.rest.now (sym c.in_default.ensures)) c.finish.ensures
+pub returns-then-not-draft : goal.returns-then-not-draft
+returns-then-not-draft c =
+    without_end c.args.text.now c.reading.rest.now c.reading.number c.reading.draft (omega arith) c.in_default.ensures.none c.reading.invariant.read c.if-not-draft.true

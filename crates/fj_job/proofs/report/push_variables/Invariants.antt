@@ -1,6 +1,6 @@
 use Rattle.std.proofs.Common.{◌≡◌, ◌++◌, drop}
-use Rattle.fj_job.specs.Report.{variable_lines}
+use Rattle.fj_job.specs.Reply.{variable_lines}
 use Rattle.fj_job.proofs.report.push_variables.Given as goal
 
 abbrev pub invariant-adding : goal.invariant-adding
-invariant-adding l = l.text.items ++ variable_lines (drop l.name-index l.names) l.rest ≡ l.fn.text.items ++ variable_lines l.fn.names l.fn.values
+invariant-adding l = l.text ++ variable_lines (drop l.name-index l.names) l.rest ≡ l.fn.text ++ variable_lines l.fn.names l.fn.values

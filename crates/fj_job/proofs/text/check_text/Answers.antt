@@ -1,0 +1,28 @@
+use Rattle.std.proofs.Common.{◌≡◌, refl, inl, inr, Ok, Err, rules}
+use Rattle.fj_job.specs.Reply.{checked}
+use Rattle.fj_job.proofs.text.check_text.Goals as goal
+
+pub returns-in-Ok-clause-replied : goal.returns-in-Ok-clause-replied
+returns-in-Ok-clause-replied g c = λ files a. record {
+  reply = checked (Ok c.in-Ok.deck) files;
+  is = (Ok c.in-Ok.deck, c.in-Ok.ensures, refl);
+  answer = search rules;
+  files_left = refl;
+  output = λ t. c.check_deck.ensures.output a t;
+}
+
+pub returns-in-Ok-clause-prefix : goal.returns-in-Ok-clause-prefix
+returns-in-Ok-clause-prefix g c = λ t files. inr (checked (Ok c.in-Ok.deck) files, (Ok c.in-Ok.deck, c.in-Ok.ensures, refl), inl (c.check_deck.ensures.prefix t))
+
+pub returns-in-Err-Refused-clause-replied : goal.returns-in-Err-Refused-clause-replied
+returns-in-Err-Refused-clause-replied g c = λ files a. record {
+  reply = checked (Err (c.in-Err-Refused.line, c.in-Err-Refused.reason)) files;
+  is = (Err (c.in-Err-Refused.line, c.in-Err-Refused.reason), search rules, refl);
+  answer = search rules;
+  files_left = refl;
+  output = λ t. c.refuse_line.ensures.output a t;
+}
+
+pub returns-in-Err-Refused-clause-prefix : goal.returns-in-Err-Refused-clause-prefix
+returns-in-Err-Refused-clause-prefix g c = λ t files. inr (checked (Err (c.in-Err-Refused.line, c.in-Err-Refused.reason)) files,
+    (Err (c.in-Err-Refused.line, c.in-Err-Refused.reason), search rules, refl), inl (c.refuse_line.ensures.prefix t))

@@ -1,0 +1,36 @@
+// What the words ask for.
+ghost use Rattle.std.specs.Prelude.{◌≡◌};
+ghost use Rattle.fj_job.specs.Task.{task_of, alone_task};
+
+use fj_report::Form;
+
+/// What is done with a deck.
+#[derive(Clone, Copy, Debug, PartialEq, Eq)]
+pub enum Task {
+    /// Nothing: the words are no form.
+    Refuse,
+    /// It is read.
+    Check,
+    /// It is carried out.
+    Execute,
+}
+
+pub fn task_of(form: Form) -> Task
+    ensures { result ≡ task_of form }
+{
+    match form {
+        Form::Run { .. } | Form::Alone { .. } => Task::Execute,
+        Form::Check => Task::Check,
+        Form::Gen { .. } | Form::Wrong => Task::Refuse,
+    }
+}
+
+/// The same where no worker may be started.
+pub fn alone_task(form: Form) -> Task
+    ensures { result ≡ alone_task form }
+{
+    match form {
+        Form::Run { .. } => Task::Refuse,
+        form => task_of(form),
+    }
+}

@@ -1,5 +1,0 @@
-pub mod Cases
-pub mod DecidedLemmas
-pub mod LawLemmas
-pub mod LineLemmas
-pub mod RunLemmas
