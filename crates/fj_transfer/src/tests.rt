@@ -104,7 +104,11 @@ fn transfer(
     requires defined { HasValues moved }
     ensures { IfOk result (λ job. IsRecords job.spec.layout) }
 {
-    let layout = Layout::Explicit(parse(alloc, format)?);
+    let layout = if format == b"*".as_slice() {
+        Layout::Listed
+    } else {
+        Layout::Explicit(parse(alloc, format)?)
+    };
     Ok(Transfer {
         stmt: 1,
         tag: Tag(0),
@@ -274,6 +278,105 @@ static ROWS: [Row; 65] = [
     ("(I1/('abc'))", &[I4(1), I4(2)], 0, 2, Err(15)),
 ];
 
+/// List-directed, as `*`.
+static LISTED: [Row; 12] = [
+    ("*", &[], 0, 80, Ok(b" \n")),
+    ("*", &[I4(1), I4(-2)], 0, 80, Ok(b" 1 -2\n")),
+    (
+        "*",
+        &[L(true), I8(9_000_000_000), L(false)],
+        0,
+        80,
+        Ok(b" T 9000000000 F\n"),
+    ),
+    (
+        "*",
+        &[A(b"ab"), A(b"cd"), I4(3), A(b"x"), A(b""), A(b"y")],
+        0,
+        80,
+        Ok(b" abcd 3 xy\n"),
+    ),
+    (
+        "*",
+        &[
+            I4(123_456_789),
+            I4(123_456_789),
+            I4(123_456_789),
+            I4(123_456_789),
+            I4(123_456_789),
+            I4(123_456_789),
+            I4(123_456_789),
+            I4(123_456_789),
+            I4(123_456_789),
+        ],
+        0,
+        80,
+        Ok(
+            b" 123456789 123456789 123456789 123456789 123456789 123456789 123456789 123456789\n 123456789\n",
+        ),
+    ),
+    (
+        "*",
+        &[
+            I4(123_456_789),
+            I4(123_456_789),
+            I4(123_456_789),
+            I4(123_456_789),
+            I4(123_456_789),
+            I4(123_456_789),
+            I4(123_456_789),
+            I4(123_456_789),
+            I4(123_456_789),
+        ],
+        0,
+        79,
+        Err(15),
+    ),
+    (
+        "*",
+        &[
+            A(
+                b"a-value-of-ninety-characters-.............................................................",
+            ),
+            I4(7),
+        ],
+        0,
+        91,
+        Ok(
+            b" a-value-of-ninety-characters-.............................................................\n 7\n",
+        ),
+    ),
+    (
+        "*",
+        &[
+            A(
+                b"a-value-of-ninety-characters-.............................................................",
+            ),
+            I4(7),
+        ],
+        0,
+        90,
+        Err(15),
+    ),
+    (
+        "*",
+        &[
+            I4(7),
+            A(
+                b"a-value-of-ninety-characters-.............................................................",
+            ),
+        ],
+        0,
+        91,
+        Ok(
+            b" 7\n a-value-of-ninety-characters-.............................................................\n",
+        ),
+    ),
+    ("*", &[], 5, 5, Err(15)),
+    ("*", &[I4(1)], 3, 5, Ok(b" 1\n")),
+    ("*", &[I4(1)], 4, 5, Err(15)),
+];
+
 /// With ADVANCE='NO': the last record stays open.
 static OPEN: [Row; 8] = [
     ("(I3)", &[I4(1), I4(2)], 0, 80, Ok(b"  1\n  2")),
@@ -321,7 +424,11 @@ fn is_added(got: (Condition, Text), want: Result<&[u8], u8>) -> bool {
 #[test]
 fn records(rt: HostRuntime) -> Result<(), Fail> {
     let alloc = rt.alloc();
-    for (advance, rows) in [(true, ROWS.as_slice()), (false, OPEN.as_slice())] {
+    for (advance, rows) in [
+        (true, ROWS.as_slice()),
+        (false, OPEN.as_slice()),
+        (false, LISTED.as_slice()),
+    ] {
         for (format, items, begun, recl, want) in rows {
             assert!(rt; format.len() < 100 && items.len() < 100);
             let items = moved(alloc, items, 1)?;
@@ -337,13 +444,15 @@ fn records(rt: HostRuntime) -> Result<(), Fail> {
 #[test]
 fn modes(rt: HostRuntime) -> Result<(), Fail> {
     let alloc = rt.alloc();
-    let rows: [(&str, bool, Option<bool>, &[u8]); 6] = [
+    let rows: [(&str, bool, Option<bool>, &[u8]); 8] = [
         ("(I3,I3)", true, None, b" +1 +2\n"),
         ("(I3,I3)", true, Some(false), b"  1  2\n"),
         ("(I3,I3)", false, Some(true), b" +1 +2\n"),
         ("(I3,I3)", false, None, b"  1  2\n"),
         ("(I3,S,I3)", true, None, b" +1  2\n"),
         ("(I3,SP,I3)", true, Some(false), b"  1 +2\n"),
+        ("*", true, None, b" +1 +2\n"),
+        ("*", true, Some(false), b" 1 2\n"),
     ];
     for (format, plus, change, want) in rows {
         assert!(rt; format.len() < 100);
@@ -356,6 +465,19 @@ fn modes(rt: HostRuntime) -> Result<(), Fail> {
         let got = added(alloc, &job, plus, 80, 0)?;
         assert!(rt; is_added(got, Ok(want)), "{format}");
     }
+    let edit = EditChange {
+        delim: Some(Delim::Quote),
+        ..NO_CHANGE
+    };
+    let job = transfer(
+        alloc,
+        b"*",
+        moved(alloc, &[A(b"a\"b"), A(b"'")], 1)?,
+        true,
+        edit,
+    )?;
+    let got = added(alloc, &job, false, 80, 0)?;
+    assert!(rt; is_added(got, Ok(b" \"a\"\"b\" \"'\"\n")));
     Ok(())
 }
 
