@@ -5,7 +5,7 @@
 .PHONY: build example examples test bench
 
 build:
-	(cd crates/fjob && rt run -- check </dev/null >/dev/null) || test $$? -eq 5
+	(cd crates/fjob && rt run -- check </dev/null >/dev/null) || test $$? -eq 4
 	cp crates/fjob/out/fjob fjob
 
 example: build
