@@ -15,9 +15,9 @@ use Rattle.fj_format.specs.declared.item.FormatItem.{FormatItem}
 use Rattle.fj_format.specs.declared.item.FormatItem.TheVariants.{Field, Group, Str, Skip, Tab}
 use Rattle.fj_format.specs.Unfolding as step
 use Rattle.fj_format.specs.Unfolding.{Steps, pass, again}
-use Rattle.fj_format.specs.UnfoldingLaws.{written_out-Field, written_out-Group, written_out-Skip, written_out-Str, written_out-Tab, is_group-Field, is_group-Group, is_group-Skip, is_group-Str, is_group-Tab}
+use Rattle.fj_format.specs.UnfoldingLaws.{written_out-Field, written_out-Group, written_out-Skip, written_out-Str, written_out-Tab, is_group-Field, is_group-Group, is_group-Str, is_group-Tab}
 use Rattle.fj_control.specs.Steps.{control, rounds}
-use Rattle.fj_transfer.specs.Explicit.{AtHand, first, Outcome, fails, prints, paired, carried_out, ending, explicit_transfer}
+use Rattle.fj_transfer.specs.Explicit.{AtHand, first, fails, prints, paired, carried_out, ending, explicit_transfer}
 
 by_steps : (page : AtHand) (advance : Bool) (f : List FormatItem) (items : List (Option Cell)) (p a : Steps) → pass f ≡ p → again f ≡ a
     → explicit_transfer page false advance f items ≡ carried_out page (paired false (control (p ++ rounds (length items) a) (length items)) items ++ ending advance)

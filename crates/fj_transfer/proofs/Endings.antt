@@ -1,5 +1,5 @@
 -- The steps that are left, the last record, and outcomes as they are told.
-use Rattle.std.proofs.Common.{◌≡◌, ℕ, suc, Bool, true, false, not, List, [], ◌∷◌, ◌++◌, length, map, Option, Some, None, Result, Ok, Err, sym, ap, ◌∙◌, append-nil, refl, arith}
+use Rattle.std.proofs.Common.{◌≡◌, ℕ, suc, Bool, false, not, List, [], ◌∷◌, ◌++◌, length, map, Some, None, Result, Ok, Err, sym, ap, ◌∙◌, append-nil, arith}
 use Rattle.std.specs.Prelude.{slice_get, OnOk, ◌==◌}
 use Rattle.std.proofs.lemmas.List.{length-map}
 use Rattle.std.proofs.lemmas.Bool.Decides.{nat_tests}
@@ -10,7 +10,7 @@ use Rattle.fj_control.specs.Walk.{Walk, begun, due, is_left}
 use Rattle.fj_transfer.specs.declared.writer.Writer.{Writer}
 use Rattle.fj_transfer.specs.declared.halt.Halt.{Halt}
 use Rattle.fj_transfer.specs.declared.halt.Halt.TheVariants.{Met, Memory}
-use Rattle.fj_transfer.specs.Explicit.{Action, end_record, Outcome, fails, prints, AtHand, page_behind, error_in, unless, with_ended, paired, carried_out, ending, explicit_transfer}
+use Rattle.fj_transfer.specs.Explicit.{Action, end_record, Outcome, fails, prints, AtHand, error_in, unless, paired, carried_out, ending, explicit_transfer}
 use Rattle.fj_transfer.specs.Printing.{Tells, Halts, printed, outcome_of}
 
 not_zero : (n : ℕ) → (suc n == 0) ≡ false

@@ -3,3 +3,4 @@ pub mod Cases
 pub mod RecordLaws
 pub mod Listings
 pub mod ListLaws
+pub mod FirstErrors

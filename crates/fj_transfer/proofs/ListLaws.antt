@@ -3,9 +3,9 @@ use Rattle.std.proofs.Common.{◌≡◌, ℕ, ◌+◌, Bool, true, false, cond, 
 use Rattle.fj_value.specs.declared.edit.EditModes.{EditModes}
 use Rattle.fj_value.specs.declared.value.Value.{Value}
 use Rattle.fj_control.specs.Line.{LineState, begun, written}
-use Rattle.fj_list.specs.ListText.{shown, gap, is_characters, continued, listed}
-use Rattle.fj_transfer.specs.Explicit.{Action, put, end_record, AtHand, first, Outcome, prints, page_behind, carried_out}
-use Rattle.fj_transfer.specs.Listing.{texts_behind, listed_texts, RecordsAreListed}
+use Rattle.fj_list.specs.ListText.{shown, gap, is_characters, continued}
+use Rattle.fj_transfer.specs.Explicit.{Action, put, end_record, AtHand, first, prints, page_behind, carried_out}
+use Rattle.fj_transfer.specs.Listing.{texts_behind, RecordsAreListed}
 use Rattle.fj_transfer.proofs.RecordLaws.{record_prints, behind_action}
 use Rattle.fj_transfer.proofs.Listings.{with_chars-end, line_begun}
 

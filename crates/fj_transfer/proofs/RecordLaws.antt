@@ -1,10 +1,10 @@
 -- Records are the texts of maps, and within their limits.
-use Rattle.std.proofs.Common.{◌≡◌, ℕ, ◌+◌, ◌≤◌, Bool, true, false, cond, nat_lt, List, [], ◌∷◌, ◌++◌, length, Option, Some, None, refl, sym, subst, ap, ◌∙◌, arith, length-append}
+use Rattle.std.proofs.Common.{◌≡◌, ℕ, ◌+◌, ◌≤◌, Bool, true, false, cond, nat_lt, List, [], ◌∷◌, ◌++◌, length, Option, Some, None, refl, subst, ap, ◌∙◌, arith, length-append}
 use Rattle.std.proofs.lemmas.Bool.Decides.{nat_tests}
-use Rattle.fj_control.specs.Line.{Characters, no_characters, overwritten, with_chars, IsTextOf, TextsAreOfMaps}
+use Rattle.fj_control.specs.Line.{Characters, no_characters, overwritten, IsTextOf, TextsAreOfMaps}
 use Rattle.fj_list.specs.ListText.{text_of}
 use Rattle.fj_transfer.specs.Explicit.{Action, put, move, end_record, stop, AtHand, first, most, Outcome, fails, prints, page_behind, excess, error_in, unless, with_record, with_ended, carried_out}
-use Rattle.fj_transfer.specs.Records.{lines_from, lines_of, AreTextsOf, RecordsAreTexts, Fit, RecordsFit}
+use Rattle.fj_transfer.specs.Records.{lines_from, AreTextsOf, RecordsAreTexts, Fit, RecordsFit}
 
 unless_prints : (error : Option ℕ) (o : Outcome) (ended : List (List ℕ)) (last : List ℕ) → unless error o ≡ prints ended last → (error ≡ None) × (o ≡ prints ended last)
 unless_prints (Some n) o ended last e = cc

@@ -1,5 +1,5 @@
 -- Formatted output of one statement, by its layout.
-use Rattle.std.specs.Prelude.{Bool, List, []}
+use Rattle.std.specs.Prelude.{Bool, []}
 use Rattle.fj_value.specs.declared.edit.EditModes.{EditModes}
 use Rattle.fj_list.specs.declared.moved.Moved.{Moved}
 use Rattle.fj_list.specs.Moved.{values_of}

@@ -2,7 +2,7 @@
 use Rattle.std.specs.Prelude.{ℕ, ◌+◌, ◌≡◌, ◌≤◌, List, [], ◌∷◌, ◌++◌, length}
 use Rattle.fj_control.specs.Line.{Characters, no_characters, overwritten, IsTextOf}
 use Rattle.fj_list.specs.ListText.{text_of}
-use Rattle.fj_transfer.specs.Explicit.{Action, put, move, end_record, stop, first, most, prints, carried_out}
+use Rattle.fj_transfer.specs.Explicit.{Action, put, move, end_record, stop, AtHand, first, most, fails, prints, carried_out}
 
 -- The lines between the ends of records, each a map from positions to characters. The last one is open.
 abbrev pub lines_from : ℕ → Characters → List Action → List Characters
@@ -34,3 +34,17 @@ Fit limit start (text ∷ texts) = (start + length text ≤ limit) × Fit limit 
 abbrev pub RecordsFit : Type 0
 RecordsFit = (limit start : ℕ) (actions : List Action) (ended : List (List ℕ)) (last : List ℕ) → start ≤ limit →
     carried_out (first limit start) actions ≡ prints ended last → Fit limit start (ended ++ last ∷ []) × (length (text_of ended ++ last) ≤ most)
+
+-- an error with the action that meets it: the actions before it fail nothing
+pub record IsFirstError (page : AtHand) (actions : List Action) (n : ℕ) : Type 0 where
+  pub front : List Action
+  pub action : Action
+  pub back : List Action
+  pub parts : actions ≡ front ++ action ∷ back
+  pub fine : (ended : List (List ℕ)) × (last : List ℕ) × (carried_out page front ≡ prints ended last)
+  pub error : carried_out page (front ++ action ∷ []) ≡ fails n
+
+-- The first error from the left to the right counts, and what stands behind it has no part.
+pub record FirstErrorCounts : Type 0 where
+  pub found : (page : AtHand) (actions : List Action) (n : ℕ) → carried_out page actions ≡ fails n → IsFirstError page actions n
+  pub stays : (page : AtHand) (front back : List Action) (n : ℕ) → carried_out page front ≡ fails n → carried_out page (front ++ back) ≡ fails n

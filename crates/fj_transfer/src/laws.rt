@@ -1,6 +1,6 @@
 // What holds of the records of all outputs.
 ghost use Rattle.fj_transfer.specs.Listing.{RecordsAreListed};
-ghost use Rattle.fj_transfer.specs.Records.{RecordsAreTexts, RecordsFit};
+ghost use Rattle.fj_transfer.specs.Records.{RecordsAreTexts, RecordsFit, FirstErrorCounts};
 
 use fj_control::texts_are_of_maps;
 
@@ -20,4 +20,9 @@ pub fn records_fit()
 /// The records of list-directed output are those of the values (10.9.2).
 pub fn records_are_listed()
     ensures { RecordsAreListed }
+{}
+
+/// The condition is that of the first text or step from the left to the right that meets one.
+pub fn first_error_counts()
+    ensures { FirstErrorCounts }
 {}

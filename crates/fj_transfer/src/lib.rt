@@ -13,6 +13,6 @@ mod transfer;
 mod writer;
 
 pub use change::EditChange;
-pub use laws::{records_are_listed, records_are_texts_of_maps, records_fit};
+pub use laws::{first_error_counts, records_are_listed, records_are_texts_of_maps, records_fit};
 pub use print::print_records;
 pub use transfer::{Layout, Members, Transfer, TransferSpec};

@@ -1,5 +1,5 @@
 // The record at hand of a statement, and how far its records may go.
-ghost use Rattle.std.specs.Prelude.{◌≡◌, ◌++◌, ◌∷◌, ◌+◌, ◌-◌, min, ◌≤◌, ◌<◌, ◌^◌, [], length, take, OnOk};
+ghost use Rattle.std.specs.Prelude.{◌≡◌, ◌++◌, ◌∷◌, ◌+◌, ◌-◌, min, ◌≤◌, ◌^◌, [], length, take, OnOk};
 ghost use Rattle.fj_control.specs.Line.{farthest};
 ghost use Rattle.fj_transfer.specs.Explicit.{first, put, move, end_record, page_behind, error_in, excess_at};
 ghost use Rattle.fj_transfer.specs.Printing.{Tells, widened};

@@ -1,5 +1,5 @@
 // Outputs under explicit formats, with their records written out by hand.
-ghost use Rattle.std.specs.Prelude.{◌≡◌, ◌<◌, ◌^◌, length, All, IfOk, true};
+ghost use Rattle.std.specs.Prelude.{◌<◌, ◌^◌, length, IfOk};
 ghost use Rattle.fj_value.specs.Kind.{IsOfKind};
 ghost use Rattle.fj_list.specs.Moved.{IsOrdered};
 ghost use Rattle.fj_transfer.specs.Moving.{HasValues};

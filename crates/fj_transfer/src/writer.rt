@@ -1,5 +1,5 @@
 // Format control carried out on the items of an output.
-ghost use Rattle.std.specs.Prelude.{◌≡◌, ◌≢◌, ◌++◌, ◌∷◌, length, map, slice_get, take, List, OnOk};
+ghost use Rattle.std.specs.Prelude.{◌≡◌, ◌≢◌, ◌∷◌, length, map, slice_get, take, List, OnOk};
 ghost use Rattle.fj_control.specs.Steps.{Given, gives, no_data};
 ghost use Rattle.fj_control.specs.Walk.{given, due, items_behind};
 ghost use Rattle.fj_format.specs.Unfolding as elementary;

@@ -1,4 +1,4 @@
-use Rattle.std.proofs.Common.{◌≡◌, ◌∷◌, ◌-◌, ◌<◌, [], ap, sym, ◌∙◌, length, map, get_or, take, drop, arith}
+use Rattle.std.proofs.Common.{◌≡◌, ◌∷◌, ◌-◌, [], ap, sym, ◌∙◌, length, map, get_or, take, drop, arith}
 use Rattle.std.proofs.lemmas.List.{drop_more, take_rest}
 use Rattle.fj_list.specs.Moved.{value_at}
 use Rattle.fj_transfer.specs.Explicit.{end_record}

@@ -1,4 +1,4 @@
-use Rattle.std.proofs.Common.{[], ◌∷◌, sym, ap, ◌∙◌, append-nil, Ok, ◌++◌, refl}
+use Rattle.std.proofs.Common.{[], ◌∷◌, sym, ap, ◌∙◌, Ok, ◌++◌}
 use Rattle.fj_transfer.specs.Explicit.{end_record, ending}
 use Rattle.fj_transfer.proofs.Endings.{last_halts, last_goes, as_explicit}
 use Rattle.fj_transfer.proofs.writer.Writer.write.Goals as goal

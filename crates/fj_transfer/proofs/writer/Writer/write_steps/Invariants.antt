@@ -1,4 +1,4 @@
-use Rattle.std.proofs.Common.{◌≡◌, ◌≤◌, List, length, take}
+use Rattle.std.proofs.Common.{◌≡◌, List, length, take}
 use Rattle.fj_control.specs.Walk.{due}
 use Rattle.fj_transfer.specs.Explicit.{Action}
 use Rattle.fj_transfer.specs.Printing.{printed, outcome_of}
