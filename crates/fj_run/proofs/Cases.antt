@@ -1,5 +1,5 @@
 -- Worked cases.
-use Rattle.std.proofs.Common.{◌≡◌, refl, ℕ, true, false, List, [], ◌∷◌, ◌++◌, Some, None, pos, negsuc}
+use Rattle.std.proofs.Common.{◌≡◌, refl, true, false, [], ◌∷◌, Some, None, pos, negsuc}
 use Rattle.std.specs.Prelude.{codes}
 use Rattle.fj_value.specs.declared.kind.Kind.TheVariants as kind
 use Rattle.fj_value.specs.declared.value.Value.TheVariants.{Undefined, Int, Log, Chars}

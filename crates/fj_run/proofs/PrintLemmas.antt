@@ -1,6 +1,5 @@
 -- The cells of an output, in their order.
-use Rattle.std.proofs.Common.{◌≡◌, refl, sym, ap, ◌∙◌, ℕ, zero, suc, ◌+◌, ◌-◌, ◌^◌, ◌<◌, ◌≤◌, ℤ, pos, negsuc, Bool, true, false, not, cond, List, [], ◌∷◌, ◌++◌, length, take, drop, map, get_or, All, Option, Some, append_assoc, add-one, arith, length-append, slice_get}
-use Rattle.std.specs.List.{flat_map, list_all}
+use Rattle.std.proofs.Common.{◌≡◌, refl, ap, ◌∙◌, ℕ, zero, suc, ◌+◌, ◌-◌, ◌^◌, ◌<◌, ℤ, pos, negsuc, Bool, true, false, not, cond, List, [], ◌∷◌, ◌++◌, length, take, drop, map, get_or, All, Some, add-one, arith, slice_get}
 use Rattle.std.proofs.lemmas.Int.{ints}
 use Rattle.std.proofs.lemmas.List.{map-append}
 use Rattle.std.proofs.lemmas.List.Elements.{All-nil, All-push, All-append, All-map}
@@ -15,7 +14,7 @@ use Rattle.fj_value.specs.declared.value.Value.{Value}
 use Rattle.fj_value.specs.declared.value.Value.TheVariants.{Undefined, Int, Log, Chars}
 use Rattle.fj_built.specs.declared.deck.Item.{Item}
 use Rattle.fj_built.specs.declared.deck.Item.TheVariants.{Literal, Places}
-use Rattle.fj_run.specs.Values.{is_undefined, fitted, fitted_text, fitted_integer, copied, item_cells, cells_of, are_defined}
+use Rattle.fj_run.specs.Values.{is_undefined, fitted, fitted_text, copied, item_cells, cells_of, are_defined}
 
 fits_true : (bits : ℕ) (z : ℤ) → fits_bits bits z ≡ true → FitsBits bits z
 fits_true bits (pos n) h = let low : n < 2 ^ (bits - 1) = grind (arith, nat_tests) in (omega (arith, ints), omega (arith, ints))

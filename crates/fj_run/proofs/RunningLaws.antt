@@ -1,20 +1,19 @@
 -- What calls of a disk leave of a run's state.
-use Rattle.std.proofs.Common.{◌≡◌, ◌≢◌, ℕ, ◌≤◌, ◌==◌, Bool, true, false, not, ◌&&◌, ◌||◌, List, [], Option, Some, None, refl, sym, ap, ◌∙◌, arith, rules, option_map, length, ◌<◌, nat_lt, cond, ℤ}
+use Rattle.std.proofs.Common.{◌≡◌, ℕ, ◌≤◌, Bool, true, false, not, ◌&&◌, ◌||◌, List, [], Option, Some, None, refl, sym, ap, ◌∙◌, arith, length, ◌<◌, nat_lt, cond, ℤ}
 use Rattle.std.specs.Ordering.{nat_cmp, eq_by_cmp}
 use Rattle.std.specs.Cmp.Lexicographic.{slice_cmp, nat_list_cmp_total}
 use Rattle.std.specs.FinMap as map
-use Rattle.std.specs.FinMap.{gets, slice_cmp-IsAntisymmetric, nat_cmp-IsAntisymmetric, same_map}
+use Rattle.std.specs.FinMap.{slice_cmp-IsAntisymmetric, nat_cmp-IsAntisymmetric, same_map}
 use Rattle.std.specs.FinSet as set
 use Rattle.std.specs.FinSet.{same_set}
-use Rattle.fj_outside.specs.Holdings.{Holdings, Names, Files, IsInUse, IsFree, out_of, given}
-use Rattle.fj_outside.proofs.HoldingLaws.{itself, files_given, same_name, files_back, in_use_back, free_of_empty}
-use Rattle.fj_run.specs.Plain.{State, Step, Connection, closed, connected_to, opened, opened_old, goes, stops, file_limit, left}
-use Rattle.fj_run.specs.declared.ending.Ending.{Ending}
+use Rattle.fj_outside.specs.Holdings.{Holdings, Files, IsInUse, out_of, given}
+use Rattle.fj_outside.proofs.HoldingLaws.{itself, same_name, files_back}
+use Rattle.fj_run.specs.Plain.{Step, closed, connected_to, opened, goes, file_limit, left}
 use Rattle.fj_run.specs.declared.ending.Ending.TheVariants.{ErrorStop}
 use Rattle.fj_value.specs.Condition.{code_of}
 use Rattle.fj_value.specs.declared.condition.Condition.TheVariants.{Error}
 use Rattle.std.proofs.lemmas.Bool.Decides.{nat_tests}
-use Rattle.fj_run.specs.Running.{state_of, connection_of}
+use Rattle.fj_run.specs.Running.{state_of}
 use Rattle.fj_run.specs.declared.state.Connected.{Connected}
 use Rattle.fj_run.specs.declared.state.Running.{Running}
 

@@ -1,5 +1,5 @@
 -- The plain execution: one step for each statement, on values, a connection and the files of the disk. It writes the records of unit `*`.
-use Rattle.std.specs.Prelude.{ℕ, ℤ, ◌+◌, ◌-◌, ◌==◌, Bool, true, false, nat_eq, nat_lt, List, [], ◌∷◌, ◌++◌, length, take, drop, map as list_map, max, replicate, sum_by, slice_set, slice_index_or, Option, Some, None, option_map, unwrap_or, Result, Ok, Err, if◌then◌else◌}
+use Rattle.std.specs.Prelude.{ℕ, ◌+◌, ◌==◌, Bool, true, false, nat_lt, List, [], ◌∷◌, ◌++◌, length, drop, map as list_map, max, replicate, sum_by, slice_set, slice_index_or, Option, Some, None, option_map, unwrap_or, Result, Ok, Err, if◌then◌else◌}
 use Rattle.std.specs.FinMap as map
 use Rattle.fj_value.specs.Condition.{code_of}
 use Rattle.fj_value.specs.declared.value.Value.{Value}
@@ -8,7 +8,6 @@ use Rattle.fj_value.specs.declared.value.Cell.{Cell}
 use Rattle.fj_value.specs.declared.condition.Condition.{Condition}
 use Rattle.fj_value.specs.declared.condition.Condition.TheVariants.{Fine, EndOfFile, Error}
 use Rattle.fj_value.specs.declared.condition.Rule.TheVariants.{P3, P5}
-use Rattle.fj_value.specs.declared.kind.Kind.{Kind}
 use Rattle.fj_outside.specs.Holdings.{Files}
 use Rattle.fj_span.specs.Change.{with_piece}
 use Rattle.fj_seqrec.specs.Lines.{first_line}

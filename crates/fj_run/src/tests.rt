@@ -11,39 +11,23 @@ use std::test::Fail;
 
 /// A value of a table.
 #[derive(Clone, Copy)]
-enum Shown<'a> {
+enum Shown {
     None,
     I(i64),
     L(bool),
-    C(&'a str),
+    C(&'static str),
 }
 
 use Shown::{C, I, L};
 
 /// An item of a table: a literal, or places from one on.
 #[derive(Clone, Copy)]
-enum Given<'a> {
-    Is(Kind, Shown<'a>),
+enum Given {
+    Is(Kind, Shown),
     At(u32, u32, Kind),
 }
 
 use Given::{At, Is};
-
-/// A statement of a table.
-#[derive(Clone, Copy)]
-enum Row<'a> {
-    /// From a literal, and from a place.
-    Set(u32, u32, Kind, Shown<'a>),
-    Copy(u32, u32, Kind, u32),
-    Open(&'a str, bool),
-    Read(u32, u32, Option<u32>),
-    Write(u32, u32),
-    Print(&'a str, Option<bool>, &'a [Given<'a>], Option<u32>),
-    Close,
-    End,
-}
-
-use Row::{Close, Copy, End, Open, Print, Read, Set, Write};
 
 const INT: Kind = Kind::Int4;
 
@@ -97,54 +81,113 @@ fn name_of(alloc: Global, text: &str) -> Result<FileName, AllocError> {
 fn items_of(alloc: Global, given: &[Given]) -> Result<Items<Item>, AllocError> {
     let mut items = Items::new(alloc);
     for item in given {
-        match item {
+        match *item {
             Is(kind, shown) => {
-                let value = value_of(alloc, *shown)?;
-                items.push(Item::Literal { kind: *kind, value })?;
+                let value = value_of(alloc, shown)?;
+                items.push(Item::Literal { kind, value })?;
             }
-            At(first, count, kind) => items.push(Item::Places {
-                first: *first,
-                count: *count,
-                kind: *kind,
-            })?,
+            At(first, count, kind) => items.push(Item::Places { first, count, kind })?,
         }
     }
     Ok(items)
 }
 
-fn statement_of(alloc: Global, row: Row) -> Result<Statement, AllocError> {
-    Ok(match row {
-        Set(first, count, kind, shown) => Statement::Assign {
+/// Statements on the lines from 1 on.
+#[derive(Drop)]
+struct Rows {
+    alloc: Global,
+    line: u32,
+    statements: Items<Lined>,
+}
+
+impl Rows {
+    fn new(alloc: Global) -> Rows {
+        Rows {
+            alloc,
+            line: 0,
+            statements: Items::new(alloc),
+        }
+    }
+
+    fn push(&mut self, what: Statement) -> Result<(), AllocError> {
+        self.line = self.line.saturating_add(1);
+        let line = self.line;
+        self.statements.push(Lined { line, what })
+    }
+
+    fn set(&mut self, first: u32, count: u32, kind: Kind, shown: Shown) -> Result<(), AllocError> {
+        let from = Source::Literal(value_of(self.alloc, shown)?);
+        self.push(Statement::Assign {
             first,
             count,
             kind,
-            from: Source::Literal(value_of(alloc, shown)?),
-        },
-        Copy(first, count, kind, from) => Statement::Assign {
+            from,
+        })
+    }
+
+    fn copy(&mut self, first: u32, kind: Kind, from: u32) -> Result<(), AllocError> {
+        let from = Source::Place(from);
+        self.push(Statement::Assign {
             first,
-            count,
+            count: 1,
             kind,
-            from: Source::Place(from),
-        },
-        Open(name, replaces) => Statement::Open {
-            file: name_of(alloc, name)?,
-            replaces,
-        },
-        Read(width, item, iostat) => Statement::Read {
+            from,
+        })
+    }
+
+    fn open(&mut self, name: &str, replaces: bool) -> Result<(), AllocError> {
+        let file = name_of(self.alloc, name)?;
+        self.push(Statement::Open { file, replaces })
+    }
+
+    fn read(&mut self, width: u32, item: u32, iostat: Option<u32>) -> Result<(), AllocError> {
+        self.push(Statement::Read {
             width,
             item,
             iostat,
-        },
-        Write(width, item) => Statement::Write { width, item },
-        Print(format, plus, items, iostat) => Statement::Print {
-            format: format_of(alloc, format)?,
+        })
+    }
+
+    fn write(&mut self, width: u32, item: u32) -> Result<(), AllocError> {
+        self.push(Statement::Write { width, item })
+    }
+
+    fn signed(
+        &mut self,
+        format: &str,
+        plus: Option<bool>,
+        given: &[Given],
+        iostat: Option<u32>,
+    ) -> Result<(), AllocError> {
+        let format = format_of(self.alloc, format)?;
+        let items = items_of(self.alloc, given)?;
+        self.push(Statement::Print {
+            format,
             plus,
-            items: items_of(alloc, items)?,
+            items,
             iostat,
-        },
-        Close => Statement::Close,
-        End => Statement::End,
-    })
+        })
+    }
+
+    fn print(
+        &mut self,
+        format: &str,
+        given: &[Given],
+        iostat: Option<u32>,
+    ) -> Result<(), AllocError> {
+        self.signed(format, None, given, iostat)
+    }
+
+    /// The deck with END behind its statements.
+    fn deck(self, kinds: &[(Kind, u32)]) -> Result<Deck, AllocError> {
+        let mut rows = self;
+        let variables = variables_of(rows.alloc, kinds)?;
+        rows.push(Statement::End)?;
+        Ok(Deck {
+            variables,
+            statements: rows.statements,
+        })
+    }
 }
 
 fn variables_of(alloc: Global, kinds: &[(Kind, u32)]) -> Result<Variables, AllocError> {
@@ -160,232 +203,207 @@ fn variables_of(alloc: Global, kinds: &[(Kind, u32)]) -> Result<Variables, Alloc
     Ok(variables)
 }
 
-/// The statements stand on the lines from 1 on.
-fn deck_of(alloc: Global, kinds: &[(Kind, u32)], rows: &[Row]) -> Result<Deck, AllocError> {
-    let mut statements = Items::new(alloc);
-    let mut line = 0_u32;
-    for row in rows {
-        line = line.saturating_add(1);
-        let what = statement_of(alloc, *row)?;
-        statements.push(Lined { line, what })?;
-    }
-    Ok(Deck {
-        variables: variables_of(alloc, kinds)?,
-        statements,
-    })
-}
-
 fn is_finished(done: &Finished, line: u32, ending: Ending, shown: &[Shown]) -> bool {
     done.line == line && done.ending == ending && are_values(done.values.as_slice(), shown)
 }
 
-/// Variables and statements; the line of the statement that ends the deck and how, the values, and what is written.
-#[test]
-fn writes_and_assigns(rt: HostRuntime) -> Result<(), Fail> {
-    let alloc = rt.alloc();
-    for (kinds, rows, line, ending, values, output) in [
-        (
-            [
-                (INT, 3),
-                (Kind::Chars(4), 0),
-                (Kind::Logical, 0),
-                (Kind::Int8, 0),
-                (INT, 0),
-            ]
-            .as_slice(),
-            [
-                Set(0, 3, INT, I(7)),
-                Set(3, 1, Kind::Chars(4), C("ab")),
-                Set(4, 1, Kind::Logical, L(true)),
-                Set(5, 1, Kind::Int8, I(5_000_000_000)),
-                Print(
-                    "(3I3,A,L2,I11)",
-                    None,
-                    &[
-                        At(0, 3, INT),
-                        At(3, 1, Kind::Chars(4)),
-                        At(4, 1, Kind::Logical),
-                        At(5, 1, Kind::Int8),
-                    ],
-                    Some(6),
-                ),
-                Set(1, 1, INT, I(-2_147_483_648)),
-                End,
-            ]
-            .as_slice(),
-            7,
-            Ending::Ended,
-            [
-                I(7),
-                I(-2_147_483_648),
-                I(7),
-                C("ab  "),
-                L(true),
-                I(5_000_000_000),
-                I(0),
-            ]
-            .as_slice(),
-            "  7  7  7ab   T 5000000000\n",
-        ),
-        (
-            &[(Kind::Chars(2), 2), (Kind::Chars(3), 1)],
-            &[
-                Set(2, 1, Kind::Chars(3), C("xyz")),
-                Copy(1, 1, Kind::Chars(2), 2),
-                Copy(2, 1, Kind::Chars(3), 1),
-                Print(
-                    "(A,'|')",
-                    None,
-                    &[Is(Kind::Chars(5), C("xy")), Is(Kind::Chars(1), C("xy"))],
-                    None,
-                ),
-                Print("(SP,I3,SS,I3)", None, &[Is(INT, I(5)), Is(INT, I(5))], None),
-                Print("(I3)", Some(true), &[Is(INT, I(5))], None),
-                Print("(I3)", Some(false), &[Is(Kind::Int8, I(-5))], None),
-                Print("()", None, &[], None),
-                End,
-            ],
-            9,
-            Ending::Ended,
-            &[Shown::None, C("xy"), C("xy ")],
-            "xy   |\nx|\n +5  5\n +5\n -5\n\n",
-        ),
-        (
-            &[(INT, 0), (INT, 0)],
-            &[
-                Set(0, 1, INT, I(1)),
-                Print("(I1)", None, &[At(0, 1, INT)], Some(1)),
-                Print(
-                    "(I1,'x',L1)",
-                    None,
-                    &[At(0, 1, INT), At(0, 1, INT)],
-                    Some(1),
-                ),
-                Print("(I1)", None, &[At(1, 1, INT)], None),
-                Print("(65536X,'a')", None, &[], Some(1)),
-                Print("('x')", None, &[At(1, 1, INT)], None),
-                End,
-            ],
-            6,
-            Ending::ErrorStop { code: 11 },
-            &[I(1), I(15)],
-            "1\n*\n",
-        ),
-        (
-            &[(INT, 0), (INT, 2)],
-            &[
-                Set(1, 1, INT, I(1)),
-                Print("(I1)", None, &[At(1, 2, INT)], Some(2)),
-                End,
-            ],
-            2,
-            P3,
-            &[Shown::None, I(1), Shown::None],
-            "",
-        ),
-        (
-            &[(INT, 0), (INT, 2)],
-            &[
-                Set(1, 2, INT, I(1)),
-                Print("(I1)", None, &[Is(INT, I(3)), At(1, 2, INT)], Some(2)),
-                End,
-            ],
-            2,
-            P5,
-            &[Shown::None, I(1), I(1)],
-            "",
-        ),
-        (
-            &[(INT, 0), (INT, 0)],
-            &[
-                Print("(I1)", None, &[Is(INT, I(3))], Some(0)),
-                Copy(0, 1, INT, 1),
-                End,
-            ],
-            2,
-            P3,
-            &[I(0), Shown::None],
-            "3\n",
-        ),
-        (
-            &[(INT, 0), (INT, 0)],
-            &[
-                Set(0, 1, INT, I(42)),
-                Open("F", true),
-                Write(4, 0),
-                Print("(I2)", None, &[At(0, 1, INT)], None),
-                Open("F", false),
-                Read(4, 1, None),
-                Print("(I4)", None, &[At(1, 1, INT)], None),
-                Close,
-                Read(4, 0, Some(1)),
-                End,
-            ],
-            10,
-            Ending::Ended,
-            &[Shown::None, I(1)],
-            "42\n  42\n",
-        ),
-    ] {
-        let deck = deck_of(alloc, kinds, rows)?;
-        let mut out = MemorySink::new(alloc);
-        let mut disk = MemoryDisk::new(alloc);
-        match run(alloc, &deck, &mut out, &mut disk) {
-            Ok(done) => assert!(rt; is_finished(&done, line, ending, values), "{output}"),
-            Err(_) => assert!(rt; false, "{output}"),
-        }
-        assert_eq!(rt; out.taken(), output.as_bytes());
+/// Whether a deck ends at that line and so, with these values and this output.
+fn ends(
+    alloc: Global,
+    deck: &Deck,
+    line: u32,
+    ending: Ending,
+    shown: &[Shown],
+    output: &str,
+) -> bool {
+    let mut out = MemorySink::new(alloc);
+    let mut disk = MemoryDisk::new(alloc);
+    match run(alloc, deck, &mut out, &mut disk) {
+        Ok(done) => is_finished(&done, line, ending, shown) && out.taken() == output.as_bytes(),
+        Err(_) => false,
     }
+}
+
+#[test]
+fn writes_values_of_all_kinds(rt: HostRuntime) -> Result<(), Fail> {
+    let alloc = rt.alloc();
+    let text = Kind::Chars(4);
+    let kinds = [
+        (INT, 3),
+        (text, 0),
+        (Kind::Logical, 0),
+        (Kind::Int8, 0),
+        (INT, 0),
+    ];
+    let items = [
+        At(0, 3, INT),
+        At(3, 1, text),
+        At(4, 1, Kind::Logical),
+        At(5, 1, Kind::Int8),
+    ];
+    let mut rows = Rows::new(alloc);
+    rows.set(0, 3, INT, I(7))?;
+    rows.set(3, 1, text, C("ab"))?;
+    rows.set(4, 1, Kind::Logical, L(true))?;
+    rows.set(5, 1, Kind::Int8, I(5_000_000_000))?;
+    rows.print("(3I3,A,L2,I11)", &items, Some(6))?;
+    rows.set(1, 1, INT, I(-2_147_483_648))?;
+    let deck = rows.deck(&kinds)?;
+    let values = [
+        I(7),
+        I(-2_147_483_648),
+        I(7),
+        C("ab  "),
+        L(true),
+        I(5_000_000_000),
+        I(0),
+    ];
+    let output = "  7  7  7ab   T 5000000000\n";
+    assert!(rt; ends(alloc, &deck, 7, Ending::Ended, &values, output));
     Ok(())
 }
 
-/// Each call of the sink (0), the disk (1) and the file (2) fails in turn, until a run meets no failure.
+#[test]
+fn pads_and_cuts_characters(rt: HostRuntime) -> Result<(), Fail> {
+    let alloc = rt.alloc();
+    let mut rows = Rows::new(alloc);
+    rows.set(2, 1, Kind::Chars(3), C("xyz"))?;
+    rows.copy(1, Kind::Chars(2), 2)?;
+    rows.copy(2, Kind::Chars(3), 1)?;
+    rows.print(
+        "(A,'|')",
+        &[Is(Kind::Chars(5), C("xy")), Is(Kind::Chars(1), C("xy"))],
+        None,
+    )?;
+    rows.print("(SP,I3,SS,I3)", &[Is(INT, I(5)), Is(INT, I(5))], None)?;
+    rows.signed("(I3)", Some(true), &[Is(INT, I(5))], None)?;
+    rows.signed("(I3)", Some(false), &[Is(Kind::Int8, I(-5))], None)?;
+    rows.print("()", &[], None)?;
+    let deck = rows.deck(&[(Kind::Chars(2), 2), (Kind::Chars(3), 1)])?;
+    let values = [Shown::None, C("xy"), C("xy ")];
+    let output = "xy   |\nx|\n +5  5\n +5\n -5\n\n";
+    assert!(rt; ends(alloc, &deck, 9, Ending::Ended, &values, output));
+    Ok(())
+}
+
+#[test]
+fn tells_conditions(rt: HostRuntime) -> Result<(), Fail> {
+    let alloc = rt.alloc();
+    let mut rows = Rows::new(alloc);
+    rows.set(0, 1, INT, I(1))?;
+    rows.print("(I1)", &[At(0, 1, INT)], Some(1))?;
+    rows.print("(I1,'x',L1)", &[At(0, 1, INT), At(0, 1, INT)], Some(1))?;
+    rows.print("(I1)", &[At(1, 1, INT)], None)?;
+    rows.print("(65536X,'a')", &[], Some(1))?;
+    rows.print("('x')", &[At(1, 1, INT)], None)?;
+    let deck = rows.deck(&[(INT, 0), (INT, 0)])?;
+    let ending = Ending::ErrorStop { code: 11 };
+    assert!(rt; ends(alloc, &deck, 6, ending, &[I(1), I(15)], "1\n*\n"));
+    Ok(())
+}
+
+/// A deck of two INTEGER(4), a scalar and an array of two: it gives so many elements a value and writes them.
+fn partly_defined(alloc: Global, count: u32) -> Result<Deck, AllocError> {
+    let mut rows = Rows::new(alloc);
+    rows.set(1, count, INT, I(1))?;
+    rows.print("(I1)", &[Is(INT, I(3)), At(1, 2, INT)], Some(2))?;
+    rows.deck(&[(INT, 0), (INT, 2)])
+}
+
+#[test]
+fn breaks_rules(rt: HostRuntime) -> Result<(), Fail> {
+    let alloc = rt.alloc();
+    let deck = partly_defined(alloc, 1)?;
+    assert!(rt; ends(alloc, &deck, 2, P3, &[Shown::None, I(1), Shown::None], ""));
+    let deck = partly_defined(alloc, 2)?;
+    assert!(rt; ends(alloc, &deck, 2, P5, &[Shown::None, I(1), I(1)], ""));
+    let mut rows = Rows::new(alloc);
+    rows.print("(I1)", &[Is(INT, I(3))], Some(0))?;
+    rows.copy(0, INT, 1)?;
+    let deck = rows.deck(&[(INT, 0), (INT, 0)])?;
+    assert!(rt; ends(alloc, &deck, 2, P3, &[I(0), Shown::None], "3\n"));
+    Ok(())
+}
+
+#[test]
+fn writes_on_both_units(rt: HostRuntime) -> Result<(), Fail> {
+    let alloc = rt.alloc();
+    let mut rows = Rows::new(alloc);
+    rows.set(0, 1, INT, I(42))?;
+    rows.open("F", true)?;
+    rows.write(4, 0)?;
+    rows.print("(I2)", &[At(0, 1, INT)], None)?;
+    rows.open("F", false)?;
+    rows.read(4, 1, None)?;
+    rows.print("(I4)", &[At(1, 1, INT)], None)?;
+    rows.push(Statement::Close)?;
+    rows.read(4, 0, Some(1))?;
+    let deck = rows.deck(&[(INT, 0), (INT, 0)])?;
+    assert!(rt;
+        ends(
+            alloc,
+            &deck,
+            10,
+            Ending::Ended,
+            &[Shown::None, I(1)],
+            "42\n  42\n"
+        )
+    );
+    Ok(())
+}
+
+/// A run of which one call fails: of the sink, of the disk or of the file. None where it meets no failure; else whether
+/// the halt and the output are these.
+fn halts(
+    alloc: Global,
+    deck: &Deck,
+    fails: [u64; 3],
+    halt: Halt,
+    output: &str,
+) -> Result<Option<bool>, AllocError> {
+    let mut out = FailingSink::new(alloc, MemorySink::new(alloc), &[fails[0]])?;
+    let mut disk = FailingDisk::new(alloc, MemoryDisk::new(alloc), &[fails[1]])?;
+    disk.fail_file("F", &[fails[2]])?;
+    match run(alloc, deck, &mut out, &mut disk) {
+        Ok(_) => Ok(None),
+        Err(met) => Ok(Some(met == halt && out.taken() == output.as_bytes())),
+    }
+}
+
+/// Three records, a file with one, and nothing else.
+fn three_records(alloc: Global) -> Result<Deck, AllocError> {
+    let mut rows = Rows::new(alloc);
+    rows.set(0, 1, INT, I(5))?;
+    rows.print("(I2)", &[At(0, 1, INT)], None)?;
+    rows.open("F", true)?;
+    rows.print("(I3)", &[At(0, 1, INT)], None)?;
+    rows.write(1, 0)?;
+    rows.print("(I4)", &[At(0, 1, INT)], None)?;
+    rows.deck(&[(INT, 0)])
+}
+
+/// Each call of the sink, the disk and the file fails in turn, until a run meets no failure.
 #[test]
 fn halts_at_each_fault(rt: HostRuntime) -> Result<(), Fail> {
     let alloc = rt.alloc();
-    let rows = [
-        Set(0, 1, INT, I(5)),
-        Print("(I2)", None, &[At(0, 1, INT)], None),
-        Open("F", true),
-        Print("(I3)", None, &[At(0, 1, INT)], None),
-        Write(1, 0),
-        Print("(I4)", None, &[At(0, 1, INT)], None),
-        Close,
-        End,
-    ];
-    let deck = deck_of(alloc, &[(INT, 0)], &rows)?;
-    let outputs = ["", " 5\n", " 5\n  5\n", " 5\n  5\n   5\n"];
-    for object in 0..3_usize {
-        let mut ended = false;
-        for k in 1..6_u64 {
-            if ended {
-                continue;
-            }
-            let sink = if object == 0 { k } else { 0 };
-            let own = if object == 1 { k } else { 0 };
-            let file = if object == 2 { k } else { 0 };
-            let mut out = FailingSink::new(alloc, MemorySink::new(alloc), &[sink])?;
-            let mut disk = FailingDisk::new(alloc, MemoryDisk::new(alloc), &[own])?;
-            disk.fail_file("F", &[file])?;
-            let (halt, before) = match object {
-                0 => (Halt::Sink, outputs[(k as usize - 1).min(2)]),
-                1 => (Halt::Disk { line: 3 }, outputs[1]),
-                _ => (Halt::Disk { line: 5 }, outputs[2]),
-            };
-            match run(alloc, &deck, &mut out, &mut disk) {
-                Ok(_) => {
-                    ended = true;
-                    assert_eq!(rt; out.taken(), outputs[3].as_bytes());
-                    assert_eq!(rt; disk.bytes_of("F"), Some(b"5\n".as_slice()));
-                }
-                Err(met) => {
-                    assert_eq!(rt; met, halt);
-                    assert_eq!(rt; out.taken(), before.as_bytes());
-                }
-            }
-            assert!(rt; !ended || k > 1, "object {object}");
-        }
-        assert!(rt; ended, "object {object}");
+    let deck = three_records(alloc)?;
+    for (k, output) in ["", " 5\n", " 5\n  5\n"].iter().enumerate() {
+        let call = k as u64 + 1;
+        assert_eq!(rt;
+            halts(alloc, &deck, [call, 0, 0], Halt::Sink, output)?,
+            Some(true)
+        );
     }
+    assert_eq!(rt; halts(alloc, &deck, [4, 0, 0], Halt::Sink, "")?, None);
+    assert_eq!(rt;
+        halts(alloc, &deck, [0, 1, 0], Halt::Disk { line: 3 }, " 5\n")?,
+        Some(true)
+    );
+    assert_eq!(rt; halts(alloc, &deck, [0, 2, 0], Halt::Sink, "")?, None);
+    assert_eq!(rt;
+        halts(alloc, &deck, [0, 0, 1], Halt::Disk { line: 5 }, " 5\n  5\n")?,
+        Some(true)
+    );
+    assert_eq!(rt; halts(alloc, &deck, [0, 0, 9], Halt::Sink, "")?, None);
     Ok(())
 }

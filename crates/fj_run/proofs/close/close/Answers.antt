@@ -1,8 +1,5 @@
-use Rattle.std.proofs.Common.{◌≡◌, ◌∙◌, sym, ap, Some, None, List, ℕ, Option}
-use Rattle.std.specs.FinSet as set
-use Rattle.fj_outside.specs.Holdings.{Holdings, Names}
+use Rattle.std.proofs.Common.{sym}
 use Rattle.fj_outside.proofs.HoldingLaws.{files_given, hurt_given}
-use Rattle.fj_run.specs.Running.{HoldsAllBut, names_of}
 use Rattle.fj_run.proofs.RunningLaws.{one_in_use, none_in_use, closed_state}
 use Rattle.fj_run.proofs.close.close.Goals as goal
 

@@ -1,8 +1,6 @@
-use Rattle.std.proofs.Common.{◌≡◌, ◌∙◌, sym, ap, Some, None, List, ℕ, []}
-use Rattle.std.specs.FinSet as set
+use Rattle.std.proofs.Common.{◌∙◌}
 use Rattle.fj_outside.proofs.HoldingLaws.{free_of_empty, in_use_refused}
-use Rattle.fj_run.specs.Running.{HoldsAllBut, names_of}
-use Rattle.fj_run.proofs.RunningLaws.{one_out, files_out, connected_state, opens_new}
+use Rattle.fj_run.proofs.RunningLaws.{one_out, files_out, opens_new}
 use Rattle.fj_run.proofs.open.open_new.Goals as goal
 
 pub create-requires : goal.create-requires

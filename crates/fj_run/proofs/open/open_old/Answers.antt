@@ -1,8 +1,6 @@
-use Rattle.std.proofs.Common.{◌≡◌, refl, ◌∙◌, ◌≤◌, ◌<◌, sym, ap, Some, None, List, ℕ, [], arith, length}
-use Rattle.std.specs.FinSet as set
+use Rattle.std.proofs.Common.{refl, ◌∙◌, ◌≤◌, ◌<◌, length}
 use Rattle.fj_outside.proofs.HoldingLaws.{free_of_empty, in_use_after, in_use_back}
-use Rattle.fj_run.specs.Running.{HoldsAllBut, names_of}
-use Rattle.fj_run.proofs.RunningLaws.{one_out, files_out, files_restored, opens_old, opens_absent, opens_too_long}
+use Rattle.fj_run.proofs.RunningLaws.{one_out, files_out, files_restored, opens_old, opens_too_long}
 use Rattle.fj_run.proofs.open.open_old.Goals as goal
 
 pub take-requires : goal.take-requires

@@ -1,4 +1,4 @@
-use Rattle.std.proofs.Common.{◌≡◌, ℕ, arith, ap, ◌∙◌}
+use Rattle.std.proofs.Common.{arith}
 use Rattle.fj_run.proofs.ValueLemmas.{filled_more}
 use Rattle.fj_run.proofs.values.fill.Goals as goal
 

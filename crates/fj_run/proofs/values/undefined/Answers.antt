@@ -1,4 +1,4 @@
-use Rattle.std.proofs.Common.{◌≡◌, ℕ, arith, ap, ◌∙◌, sym}
+use Rattle.std.proofs.Common.{arith, ◌∙◌, sym}
 use Rattle.fj_run.proofs.ValueLemmas.{places_more}
 use Rattle.fj_run.proofs.values.undefined.Goals as goal
 

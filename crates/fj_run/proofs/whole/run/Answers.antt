@@ -1,4 +1,4 @@
-use Rattle.std.proofs.Common.{◌≡◌, ◌∙◌, ◌<◌, ◌≤◌, ◌++◌, refl, ap, sym, ℕ, List, Some, None, length, take, append_assoc, arith}
+use Rattle.std.proofs.Common.{◌∙◌, ◌<◌, ◌≤◌, ◌++◌, ap, sym, length, append_assoc, arith}
 use Rattle.std.proofs.lemmas.List.{take_all}
 use Rattle.fj_run.specs.declared.ending.Ending.TheVariants.{Ended}
 use Rattle.fj_run.proofs.RunningLaws.{left_state}
