@@ -7,4 +7,4 @@ pub returns-in-Ok-clause-replied : goal.returns-in-Ok-clause-replied
 returns-in-Ok-clause-replied g c = λ a t u. replied_for _ _ _ _ _ _ _ (c.alone_task.ensures ∙ ap alone_task c.in-Ok.ensures) (c.reply.ensures.replied a t u)
 
 pub returns-in-Ok-clause-prefix : goal.returns-in-Ok-clause-prefix
-returns-in-Ok-clause-prefix g c = λ t w u. taken_for _ _ _ _ _ _ _ _ (c.alone_task.ensures ∙ ap alone_task c.in-Ok.ensures) (λ n f. f) (c.reply.ensures.prefix t w u)
+returns-in-Ok-clause-prefix g c = λ t w u. taken_for _ _ _ _ _ _ _ _ (c.alone_task.ensures ∙ ap alone_task c.in-Ok.ensures) (λ n o f. f) (c.reply.ensures.prefix t w u)

@@ -16,4 +16,4 @@ pub returns-in-Ok-clause-refused : goal.returns-in-Ok-clause-refused
 returns-in-Ok-clause-refused g c = λ t. refused_whole Check _ _ c.check_text.result (read g c t) c.check_text.ensures.refused
 
 pub returns-in-Ok-clause-prefix : goal.returns-in-Ok-clause-prefix
-returns-in-Ok-clause-prefix g c = λ t u files. taken_whole Check _ _ files _ _ _ _ (read g c t) (λ n f. f) (c.check_text.ensures.prefix u files)
+returns-in-Ok-clause-prefix g c = λ t u files. taken_whole Check _ _ files _ _ _ _ (read g c t) (λ n o f. f) (c.check_text.ensures.prefix u files)
