@@ -1,19 +1,19 @@
 -- What is replied to a text that was read.
-use Rattle.std.proofs.Common.{◌≡◌, ◌⊎◌, inl, inr, ℕ, ◌<◌, ◌≤◌, List, ◌++◌, length, append_assoc, Result, Ok, Err, refl, ap, sym, ◌∙◌, subst, arith}
+use Rattle.std.proofs.Common.{◌≡◌, ◌⊎◌, inl, inr, ℕ, ◌<◌, List, ◌++◌, length, append_assoc, Ok, Err, refl, ap, sym, ◌∙◌, subst, arith}
 use Rattle.fj_outside.specs.Holdings.{Files}
 use Rattle.fj_statement.specs.declared.deck.Deck.{Deck as WholeDeck}
 use Rattle.fj_statement.specs.declared.reason.Reason.{Reason}
 use Rattle.fj_deck.specs.Deck.{IsDeck, IsRefused, OneDeck, NoneIsBoth, OneRefusal}
 use Rattle.fj_deck.specs.Deck as reading
 use Rattle.fj_built.specs.declared.deck.Deck.{Deck}
-use Rattle.fj_run.specs.Plain.{State, plain_execution}
+use Rattle.fj_run.specs.Plain.{State, Execution}
 use Rattle.fj_run.specs.declared.ending.Ending.{Ending}
 use Rattle.fj_job.specs.Taken.{IsReadOf}
 use Rattle.fj_run.specs.Taken.{TakesPrefix}
 use Rattle.fj_report.specs.declared.status.Status.{Status}
 use Rattle.fj_report.specs.declared.status.Status.TheVariants.{Ended, ErrorStop, Prohibited, DeckRefused, Usage, ReadFault, WriteFault, DiskFault, Memory}
 use Rattle.fj_job.specs.Answers.{TakesDue, TakesFault, TakesReply, Replied, IfRefused, IfDiskFault, HasStatementOn, HasOutputBefore}
-use Rattle.fj_job.specs.Reply.{Reply, Reading, IsReading, IsReplyTo, IsRefusal, IsBuiltText, OneReply, report_text, run_reply, executed, checked}
+use Rattle.fj_job.specs.Reply.{Reply, Reading, IsReading, IsReplyTo, IsRefusal, IsBuiltText, OneReply, report_text, reply_of, executed, checked}
 use Rattle.fj_report.specs.Lines.{status_text}
 use Rattle.fj_job.specs.declared.task.Task.{Task}
 use Rattle.fj_job.specs.declared.task.Task.TheVariants.{Refuse, Check, Execute}
@@ -34,27 +34,19 @@ pub taken_alone : (old new before due : List ℕ) → new ≡ old ++ before → 
 taken_alone old new before due e = (before, due, refl, e)
 
 -- how a run that is done went
-pub went : Deck → Files → ℕ → Ending → State → Type 0
-went deck files line ending s = let e = plain_execution deck files in (line ≡ e.line) × (ending ≡ e.ending) × (s ≡ e.state)
+abbrev Went : Execution → ℕ → Ending → State → Type 0
+Went e line ending s = (line ≡ e.line) × (ending ≡ e.ending) × (s ≡ e.state)
 
-report_is : (deck : Deck) (files : Files) (line : ℕ) (ending : Ending) (s : State) → went deck files line ending s
-    → (let e = plain_execution deck files in report_text deck line ending s.values ≡ report_text deck e.line e.ending e.state.values)
-report_is deck files line ending s (a, b, c) =
-    rw (a, b, c) refl
+report_is : (deck : Deck) (e : Execution) (line : ℕ) (ending : Ending) (s : State) → Went e line ending s
+    → report_text deck line ending s.values ≡ report_text deck e.line e.ending e.state.values
+report_is deck e line ending s w = rw (w.0, w.1, w.2) refl
 
--- the output and the report were told
-pub told_whole : (old middle new text : List ℕ) (deck : Deck) (files : Files) (line : ℕ) (ending : Ending) (s : State)
-    → text ≡ report_text deck line ending s.values → went deck files line ending s
-    → middle ≡ old ++ (plain_execution deck files).output → new ≡ middle ++ text → new ≡ old ++ (run_reply deck files).output
-told_whole old middle new text deck files line ending s h w m n =
-    n ∙ ap (λ x. x ++ text) m ∙ append_assoc old (plain_execution deck files).output text
-    ∙ ap (λ x. old ++ ((plain_execution deck files).output ++ x)) (h ∙ report_is deck files line ending s w)
-
-pub told_front : (old middle new text : List ℕ) (deck : Deck) (files : Files) (line : ℕ) (ending : Ending) (s : State)
-    → text ≡ report_text deck line ending s.values → went deck files line ending s
-    → middle ≡ old ++ (plain_execution deck files).output → TakesPrefix middle new text → TakesPrefix old new (run_reply deck files).output
-told_front old middle new text deck files line ending s h w m p =
-    taken_behind old middle new (plain_execution deck files).output _ m (subst (TakesPrefix middle new) (h ∙ report_is deck files line ending s w) p)
+-- the output was told, and a front of the report
+pub told_front : (old middle new text : List ℕ) (deck : Deck) (e : Execution) (line : ℕ) (ending : Ending) (s : State)
+    → text ≡ report_text deck line ending s.values → Went e line ending s → middle ≡ old ++ e.output → TakesPrefix middle new text
+    → TakesPrefix old new (reply_of deck e).output
+told_front old middle new text deck e line ending s h w m p =
+    taken_behind old middle new e.output _ m (subst (TakesPrefix middle new) (h ∙ report_is deck e line ending s w) p)
 
 -- the line of a disk fault behind the output of the statements before that one
 pub fault_told : (old middle new text : List ℕ) (line : ℕ) (Before : ℕ → List ℕ → Type 0) → text ≡ status_text (DiskFault line)

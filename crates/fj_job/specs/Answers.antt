@@ -1,5 +1,5 @@
 -- Which answers are faults, and why they may come.
-use Rattle.std.specs.Prelude.{◌≡◌, ◌⊎◌, ℕ, List, ◌++◌, Ok}
+use Rattle.std.specs.Prelude.{◌≡◌, ◌⊎◌, ℕ, List, ◌++◌}
 use Rattle.fj_outside.specs.Holdings.{Holdings, Files, IsHurt}
 use Rattle.fj_statement.specs.declared.reason.Reason.{Reason}
 use Rattle.fj_built.specs.declared.deck.Deck.{Deck}

@@ -1,4 +1,4 @@
-use Rattle.std.proofs.Common.{◌≡◌, ◌∙◌, ap}
+use Rattle.std.proofs.Common.{◌∙◌, ap}
 use Rattle.fj_job.specs.Task.{alone_task}
 use Rattle.fj_job.proofs.ReplyLaws.{replied_for, taken_for}
 use Rattle.fj_job.proofs.job.alone_job.Goals as goal

@@ -1,7 +1,6 @@
-use Rattle.std.proofs.Common.{inl, inr}
 use Rattle.fj_job.specs.Taken.{IsReadOf}
 use Rattle.fj_job.specs.declared.task.Task.TheVariants.{Check}
-use Rattle.fj_job.proofs.ReplyLaws.{same_reply, replied_whole, taken_whole, refused_whole}
+use Rattle.fj_job.proofs.ReplyLaws.{replied_whole, taken_whole, refused_whole}
 use Rattle.fj_job.proofs.job.check_source.Given
 use Rattle.fj_job.proofs.job.check_source.Goals as goal
 

@@ -1,4 +1,4 @@
-use Rattle.std.proofs.Common.{◌≡◌, refl, sym, inl, inr, rules}
+use Rattle.std.proofs.Common.{refl, sym, inl, inr, rules}
 use Rattle.fj_job.specs.Reply.{usage_reply}
 use Rattle.fj_job.specs.declared.task.Task.TheVariants.{Refuse, Check, Execute}
 use Rattle.fj_job.proofs.ReplyLaws.{replied_for, taken_for}

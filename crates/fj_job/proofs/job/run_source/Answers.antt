@@ -1,4 +1,3 @@
-use Rattle.std.proofs.Common.{inl, inr}
 use Rattle.fj_job.specs.Taken.{IsReadOf}
 use Rattle.fj_job.specs.declared.task.Task.TheVariants.{Execute}
 use Rattle.fj_job.proofs.ReplyLaws.{replied_whole, taken_whole, refused_whole, changed_whole, touching_whole, before_whole, fault_whole}

@@ -1,4 +1,4 @@
-use Rattle.std.proofs.Common.{◌≡◌, refl, inl, inr, Ok, Err, rules}
+use Rattle.std.proofs.Common.{refl, inl, inr, Ok, Err, rules}
 use Rattle.fj_job.specs.Reply.{checked}
 use Rattle.fj_job.proofs.text.check_text.Goals as goal
 

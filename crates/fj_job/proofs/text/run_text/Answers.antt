@@ -1,4 +1,4 @@
-use Rattle.std.proofs.Common.{◌≡◌, refl, inl, inr, Ok, Err, rules}
+use Rattle.std.proofs.Common.{refl, inl, inr, Ok, Err, rules}
 use Rattle.fj_job.specs.Reply.{executed}
 use Rattle.fj_job.proofs.ReplyLaws.{due_weaker, fault_for}
 use Rattle.fj_job.proofs.text.run_text.Goals as goal
