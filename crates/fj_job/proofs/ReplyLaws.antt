@@ -1,32 +1,73 @@
 -- What is replied to a text that was read.
-use Rattle.std.proofs.Common.{◌≡◌, ◌⊎◌, inl, inr, ℕ, ◌<◌, ◌≤◌, List, length, Result, Ok, Err, refl, ap, sym, ◌∙◌, subst, arith}
+use Rattle.std.proofs.Common.{◌≡◌, ◌⊎◌, inl, inr, ℕ, ◌<◌, List, ◌++◌, length, append_assoc, Ok, Err, refl, ap, sym, ◌∙◌, subst, arith}
 use Rattle.fj_outside.specs.Holdings.{Files}
 use Rattle.fj_statement.specs.declared.deck.Deck.{Deck as WholeDeck}
 use Rattle.fj_statement.specs.declared.reason.Reason.{Reason}
 use Rattle.fj_deck.specs.Deck.{IsDeck, IsRefused, OneDeck, NoneIsBoth, OneRefusal}
 use Rattle.fj_deck.specs.Deck as reading
 use Rattle.fj_built.specs.declared.deck.Deck.{Deck}
-use Rattle.fj_run.specs.Plain.{State}
+use Rattle.fj_run.specs.Plain.{State, Execution}
 use Rattle.fj_run.specs.declared.ending.Ending.{Ending}
-use Rattle.fj_job.specs.Taken.{IsReadOf, TakesPrefix}
+use Rattle.fj_job.specs.Taken.{IsReadOf}
+use Rattle.fj_run.specs.Taken.{TakesPrefix}
 use Rattle.fj_report.specs.declared.status.Status.{Status}
 use Rattle.fj_report.specs.declared.status.Status.TheVariants.{Ended, ErrorStop, Prohibited, DeckRefused, Usage, ReadFault, WriteFault, DiskFault, Memory}
-use Rattle.fj_job.specs.Answers.{TakesDue, TakesReply, Replied, IfRefused, IfDiskFault, HasStatementOn}
-use Rattle.fj_job.specs.Reply.{Reply, Reading, IsReading, IsReplyTo, IsRefusal, IsBuiltText, OneReply, report_text, executed, checked}
+use Rattle.fj_job.specs.Answers.{TakesDue, TakesFault, TakesReply, Replied, IfRefused, IfDiskFault, HasStatementOn, HasOutputBefore}
+use Rattle.fj_job.specs.Reply.{Reply, Reading, IsReading, IsReplyTo, IsRefusal, IsBuiltText, OneReply, report_text, reply_of, executed, checked}
+use Rattle.fj_report.specs.Lines.{status_text}
 use Rattle.fj_job.specs.declared.task.Task.{Task}
 use Rattle.fj_job.specs.declared.task.Task.TheVariants.{Refuse, Check, Execute}
 
--- a front of the report is a front of what is due
-pub report_due : (old new text : List ℕ) (deck : Deck) (line : ℕ) (ending : Ending) (s : State) (e : ℕ × Ending × State) (F : ℕ → Type 0)
-    → text ≡ report_text deck line ending s.variables → (line, ending, s) ≡ e → TakesPrefix old new text
-    → TakesDue old new (report_text deck e.0 e.1 e.2.variables) F
-report_due old new text deck line ending s e F h d p =
-    let P : ℕ × Ending × State → Type 0 = λ x. TakesPrefix old new (report_text deck x.0 x.1 x.2.variables) in
-    inl (subst P d (subst (TakesPrefix old new) h p))
+-- what was taken of a piece behind another one
+pub taken_behind : (old middle new before due : List ℕ) → middle ≡ old ++ before → TakesPrefix middle new due → TakesPrefix old new (before ++ due)
+taken_behind old middle new before due e (part, rest, is, taken) = (
+  before ++ part,
+  rest,
+  ap (λ x. before ++ x) is ∙ sym (append_assoc before part rest),
+  taken ∙ ap (λ x. x ++ part) e ∙ append_assoc old before part,
+)
 
-pub due_weaker : (old new output : List ℕ) (F G : ℕ → Type 0) → ((n : ℕ) → F n → G n) → TakesDue old new output F → TakesDue old new output G
+pub taken_more : (old new due more : List ℕ) → TakesPrefix old new due → TakesPrefix old new (due ++ more)
+taken_more old new due more (part, rest, is, taken) = (part, rest ++ more, ap (λ x. x ++ more) is ∙ append_assoc part rest more, taken)
+
+pub taken_alone : (old new before due : List ℕ) → new ≡ old ++ before → TakesPrefix old new (before ++ due)
+taken_alone old new before due e = (before, due, refl, e)
+
+-- how a run that is done went
+abbrev Went : Execution → ℕ → Ending → State → Type 0
+Went e line ending s = (line ≡ e.line) × (ending ≡ e.ending) × (s ≡ e.state)
+
+report_is : (deck : Deck) (e : Execution) (line : ℕ) (ending : Ending) (s : State) → Went e line ending s
+    → report_text deck line ending s.values ≡ report_text deck e.line e.ending e.state.values
+report_is deck e line ending s w = rw (w.0, w.1, w.2) refl
+
+-- the output was told, and a front of the report
+pub told_front : (old middle new text : List ℕ) (deck : Deck) (e : Execution) (line : ℕ) (ending : Ending) (s : State)
+    → text ≡ report_text deck line ending s.values → Went e line ending s → middle ≡ old ++ e.output → TakesPrefix middle new text
+    → TakesPrefix old new (reply_of deck e).output
+told_front old middle new text deck e line ending s h w m p =
+    taken_behind old middle new e.output _ m (subst (TakesPrefix middle new) (h ∙ report_is deck e line ending s w) p)
+
+-- the line of a disk fault behind the output of the statements before that one
+pub fault_told : (old middle new text : List ℕ) (line : ℕ) (Before : ℕ → List ℕ → Type 0) → text ≡ status_text (DiskFault line)
+    → (output : List ℕ) × Before line output × (middle ≡ old ++ output) → new ≡ middle ++ text → TakesFault old new Before line
+fault_told old middle new text line Before h (output, before, m) n =
+    (output, before, n ∙ ap (λ x. x ++ text) m ∙ append_assoc old output text ∙ ap (λ x. old ++ (output ++ x)) h)
+
+pub fault_front : (old middle new text due : List ℕ) (line : ℕ) (Before : ℕ → List ℕ → Type 0) (Rises : Type 0) → text ≡ status_text (DiskFault line)
+    → (output : List ℕ) × Before line output × (middle ≡ old ++ output) → Rises → TakesPrefix middle new text
+    → TakesDue old new due (λ stmt before. Before stmt before × Rises)
+fault_front old middle new text due line Before Rises h (output, before, m) rises p =
+    inr (line, output, (before, rises), taken_behind old middle new output _ m (subst (TakesPrefix middle new) h p))
+
+pub fault_untold : (old new due : List ℕ) (line : ℕ) (Before : ℕ → List ℕ → Type 0) (Rises : Type 0)
+    → (output : List ℕ) × Before line output × (new ≡ old ++ output) → Rises → TakesDue old new due (λ stmt before. Before stmt before × Rises)
+fault_untold old new due line Before Rises (output, before, m) rises =
+    inr (line, output, (before, rises), taken_alone old new output _ m)
+
+pub due_weaker : (old new output : List ℕ) (F G : ℕ → List ℕ → Type 0) → ((n : ℕ) (o : List ℕ) → F n o → G n o) → TakesDue old new output F → TakesDue old new output G
 due_weaker old new output F G f (inl p) = inl p
-due_weaker old new output F G f (inr q) = inr (q.0, f q.0 q.1, q.2)
+due_weaker old new output F G f (inr q) = inr (q.0, q.1, f q.0 q.1 q.2, q.3)
 
 one_refusal : (line another : ℕ) (reason other : Reason) → line ≡ another → reason ≡ other → (let r : Reading = Err (line, reason) in r) ≡ Err (another, other)
 one_refusal line another reason other a b = rw (a, b) refl
@@ -75,7 +116,7 @@ pub replied_whole : (task : Task) (held text : List ℕ) (files : Files) (status
 replied_whole task held text files status left Taken e r =
     record { reply = r.reply; is = same_reply task held text files r.reply e r.is; answer = r.answer; files_left = r.files_left; output = r.output }
 
-pub taken_whole : (task : Task) (held text : List ℕ) (files : Files) (old new : List ℕ) (F G : ℕ → Type 0) → IsReadOf 4194304 held text → ((n : ℕ) → F n → G n)
+pub taken_whole : (task : Task) (held text : List ℕ) (files : Files) (old new : List ℕ) (F G : ℕ → List ℕ → Type 0) → IsReadOf 4194304 held text → ((n : ℕ) (o : List ℕ) → F n o → G n o)
     → TakesReply task text files old new F → TakesReply task held files old new G
 taken_whole task held text files old new F G e f (inl same) = inl same
 taken_whole task held text files old new F G e f (inr due) = inr (due.0, same_reply task held text files due.0 e due.1, due_weaker _ _ _ F G f due.2)
@@ -89,6 +130,25 @@ changed_whole held text Same e (inr built) = inr (built.0, built_whole held text
 
 pub statement_whole : (held text : List ℕ) (line : ℕ) → IsReadOf 4194304 held text → HasStatementOn text line → HasStatementOn held line
 statement_whole held text line e s = (s.0, built_whole held text s.0 e s.1, s.2)
+
+pub before_whole : (held text : List ℕ) (files : Files) (line : ℕ) (output : List ℕ) → IsReadOf 4194304 held text → HasOutputBefore text files line output → HasOutputBefore held files line output
+before_whole held text files line output e s = (s.0, built_whole held text s.0 e s.1, s.2)
+
+pub fault_for : (old new : List ℕ) (F G : ℕ → List ℕ → Type 0) (status : Status) → ((n : ℕ) (o : List ℕ) → F n o → G n o)
+    → IfDiskFault status (TakesFault old new F) → IfDiskFault status (TakesFault old new G)
+fault_for old new F G Ended f h = tt
+fault_for old new F G (ErrorStop stmt code) f h = tt
+fault_for old new F G (Prohibited stmt rule) f h = tt
+fault_for old new F G (DeckRefused line reason) f h = tt
+fault_for old new F G Usage f h = tt
+fault_for old new F G ReadFault f h = tt
+fault_for old new F G WriteFault f h = tt
+fault_for old new F G (DiskFault stmt) f h = (h.0, f stmt h.0 h.1, h.2)
+fault_for old new F G Memory f h = tt
+
+pub fault_whole : (held text : List ℕ) (files : Files) (old new : List ℕ) (status : Status) → IsReadOf 4194304 held text
+    → IfDiskFault status (TakesFault old new (HasOutputBefore text files)) → IfDiskFault status (TakesFault old new (HasOutputBefore held files))
+fault_whole held text files old new status e h = fault_for old new _ _ status (λ n o b. before_whole held text files n o e b) h
 
 pub touching_whole : (held text : List ℕ) (status : Status) → IsReadOf 4194304 held text → IfDiskFault status (HasStatementOn text) → IfDiskFault status (HasStatementOn held)
 touching_whole held text Ended e h = tt
@@ -123,7 +183,7 @@ pub replied_for : (task other : Task) (text : List ℕ) (files : Files) (status 
     → Replied task text files status left Taken → Replied other text files status left Taken
 replied_for task other text files status left Taken e r = subst (λ (x : Task). Replied x text files status left Taken) e r
 
-pub taken_for : (task other : Task) (text : List ℕ) (files : Files) (old new : List ℕ) (F G : ℕ → Type 0) → task ≡ other → ((n : ℕ) → F n → G n)
+pub taken_for : (task other : Task) (text : List ℕ) (files : Files) (old new : List ℕ) (F G : ℕ → List ℕ → Type 0) → task ≡ other → ((n : ℕ) (o : List ℕ) → F n o → G n o)
     → TakesReply task text files old new F → TakesReply other text files old new G
 taken_for task other text files old new F G e f (inl same) = inl same
 taken_for task other text files old new F G e f (inr due) =

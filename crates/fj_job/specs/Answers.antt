@@ -1,14 +1,14 @@
 -- Which answers are faults, and why they may come.
-use Rattle.std.specs.Prelude.{◌≡◌, ◌⊎◌, ℕ, List, Ok}
+use Rattle.std.specs.Prelude.{◌≡◌, ◌⊎◌, ℕ, List, ◌++◌}
 use Rattle.fj_outside.specs.Holdings.{Holdings, Files, IsHurt}
 use Rattle.fj_statement.specs.declared.reason.Reason.{Reason}
 use Rattle.fj_built.specs.declared.deck.Deck.{Deck}
-use Rattle.fj_run.specs.Halt.{IsLineOf}
+use Rattle.fj_run.specs.Halt.{IsLineOf, IsOutputBefore}
+use Rattle.fj_run.specs.Taken.{TakesPrefix}
 use Rattle.fj_report.specs.Lines.{status_text}
 use Rattle.fj_report.specs.declared.status.Status.{Status}
 use Rattle.fj_report.specs.declared.status.Status.TheVariants.{Ended, ErrorStop, Prohibited, DeckRefused, Usage, ReadFault, WriteFault, DiskFault, Memory}
 use Rattle.fj_job.specs.declared.task.Task.{Task}
-use Rattle.fj_job.specs.Taken.{TakesPrefix}
 use Rattle.fj_job.specs.Reply.{Reply, IsReplyTo, IsBuiltText}
 
 -- neither a fault nor want of memory
@@ -57,13 +57,23 @@ IfDiskFault _ P = Unit {0}
 abbrev pub HasStatementOn : List ℕ → ℕ → Type 0
 HasStatementOn text line = (small : Deck) × IsBuiltText text small × IsLineOf small.statements line
 
+-- the same, and this is what the statements before that one write on unit `*`
+abbrev pub HasOutputBefore : List ℕ → Files → ℕ → List ℕ → Type 0
+HasOutputBefore text files line before = (small : Deck) × IsBuiltText text small × IsOutputBefore small files line before
+
 -- the disk itself failed, or a file did and is hurt now
 abbrev pub IsMet : Type 0 → Holdings → Type 0
 IsMet refused held = refused ⊎ ((name : List ℕ) × IsHurt held name)
 
--- what was taken is a front of what is due, or, where the disk may have failed, of the line of a disk fault
-abbrev pub TakesDue : List ℕ → List ℕ → List ℕ → (ℕ → Type 0) → Type 0
-TakesDue old new output failed = TakesPrefix old new output ⊎ ((stmt : ℕ) × failed stmt × TakesPrefix old new (status_text (DiskFault stmt)))
+-- what was taken is a front of what is due, or, where the disk may have failed at a statement, of what those before it write
+-- and then the line of a disk fault
+abbrev pub TakesDue : List ℕ → List ℕ → List ℕ → (ℕ → List ℕ → Type 0) → Type 0
+TakesDue old new output failed = TakesPrefix old new output
+    ⊎ ((stmt : ℕ) × (before : List ℕ) × failed stmt before × TakesPrefix old new (before ++ status_text (DiskFault stmt)))
+
+-- after a disk fault exactly what the statements before that one write, and its line, was taken
+abbrev pub TakesFault : List ℕ → List ℕ → (ℕ → List ℕ → Type 0) → ℕ → Type 0
+TakesFault old new failed line = (before : List ℕ) × failed line before × (new ≡ old ++ (before ++ status_text (DiskFault line)))
 
 -- the answer and the files that are left are those of a reply, and its output was taken
 pub record Replied (task : Task) (text : List ℕ) (files : Files) (status : Status) (left : Files) (Taken : List ℕ → Type 0) : Type 0 where
@@ -74,5 +84,5 @@ pub record Replied (task : Task) (text : List ℕ) (files : Files) (status : Sta
   pub output : Taken reply.output
 
 -- nothing was taken, or what is due by a reply
-abbrev pub TakesReply : Task → List ℕ → Files → List ℕ → List ℕ → (ℕ → Type 0) → Type 0
+abbrev pub TakesReply : Task → List ℕ → Files → List ℕ → List ℕ → (ℕ → List ℕ → Type 0) → Type 0
 TakesReply task text files old new failed = (new ≡ old) ⊎ ((reply : Reply) × IsReplyTo task text files reply × TakesDue old new reply.output failed)

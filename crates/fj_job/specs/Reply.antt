@@ -1,14 +1,15 @@
 -- What a run answers, prints and leaves.
-use Rattle.std.specs.Prelude.{◌≡◌, ◌⊎◌, ℕ, List, [], ◌∷◌, ◌++◌, length, Some, Result, Ok, Err}
+use Rattle.std.specs.Prelude.{◌≡◌, ◌⊎◌, ℕ, ◌+◌, List, [], ◌∷◌, ◌++◌, length, take, drop, min, Some, Result, Ok, Err}
 use Rattle.fj_value.specs.declared.value.Value.{Value}
 use Rattle.fj_outside.specs.Holdings.{Files}
+use Rattle.fj_statement.specs.declared.deck.Variable.{Variable}
 use Rattle.fj_statement.specs.declared.deck.Deck.{Deck as WholeDeck}
 use Rattle.fj_statement.specs.declared.reason.Reason.{Reason}
 use Rattle.fj_statement.specs.declared.reason.Reason.TheVariants.{NotBuilt}
 use Rattle.fj_deck.specs.Deck.{IsDeck, IsRefused}
 use Rattle.fj_built.specs.declared.deck.Deck.{Deck}
 use Rattle.fj_built.specs.Built.{built_of}
-use Rattle.fj_run.specs.Plain.{State, plain_execution}
+use Rattle.fj_run.specs.Plain.{Execution, places_of, plain_execution}
 use Rattle.fj_run.specs.declared.ending.Ending.{Ending}
 use Rattle.fj_run.specs.declared.ending.Ending.TheVariants as ending
 use Rattle.fj_report.specs.Lines.{usage_text, status_text, check_text, variable_text}
@@ -27,18 +28,27 @@ status_of line ending.Ended = Ended
 status_of line (ending.ErrorStop code) = ErrorStop line code
 status_of line (ending.Prohibited rule) = Prohibited line rule
 
--- the lines of the variables, in the order of their declarations
-abbrev pub variable_lines : List (List ℕ) → List Value → List ℕ
+-- the lines of a variable's places: a scalar's has no index, and those of an array's elements begin with the first
+abbrev pub place_lines : List ℕ → ℕ → List Value → List ℕ
+place_lines name index [] = []
+place_lines name index (value ∷ values) = variable_text name index (Some value) ++ place_lines name (index + 1) values
+
+abbrev pub first_index : Variable → ℕ
+first_index variable = min variable.count 1
+
+-- the lines of the variables in the order of their declarations, over the values of all places
+abbrev pub variable_lines : List Variable → List Value → List ℕ
 variable_lines [] values = []
-variable_lines (name ∷ names) [] = []
-variable_lines (name ∷ names) (value ∷ values) = variable_text name 0 (Some value) ++ variable_lines names values
+variable_lines (variable ∷ variables) values =
+    place_lines variable.name (first_index variable) (take (places_of variable) values) ++ variable_lines variables (drop (places_of variable) values)
 
 -- how a deck ended, and its variables
 abbrev pub report_text : Deck → ℕ → Ending → List Value → List ℕ
 report_text deck line ending values = status_text (status_of line ending) ++ variable_lines deck.variables values
 
-abbrev pub reply_of : Deck → ℕ × Ending × State → Reply
-reply_of deck e = record { status = status_of e.0 e.1; output = report_text deck e.0 e.1 e.2.variables; files = e.2.files }
+-- what it writes on unit `*`, and then its report
+abbrev pub reply_of : Deck → Execution → Reply
+reply_of deck e = record { status = status_of e.line e.ending; output = e.output ++ report_text deck e.line e.ending e.state.values; files = e.state.files }
 
 -- to a deck that is carried out
 abbrev pub run_reply : Deck → Files → Reply

@@ -6,8 +6,7 @@ ghost use Rattle.fj_outside.specs.Faults.{Rose};
 ghost use Rattle.fj_outside.specs.Holdings.{Files};
 ghost use Rattle.fj_built.specs.declared.deck.Deck.{Deck};
 ghost use Rattle.fj_report.specs.Words.{form_of};
-ghost use Rattle.fj_report.specs.Lines.{status_text};
-ghost use Rattle.fj_job.specs.Answers.{IsAnswer, IsLost, LeavesDisk, HasCause, IfRefused, IfDiskFault, HasStatementOn, IsMet, Replied, TakesReply};
+ghost use Rattle.fj_job.specs.Answers.{IsAnswer, IsLost, LeavesDisk, HasCause, IfRefused, IfDiskFault, HasStatementOn, HasOutputBefore, IsMet, Replied, TakesFault, TakesReply};
 ghost use Rattle.fj_job.specs.Reply.{IsRefusal, IsBuiltText};
 ghost use Rattle.fj_job.specs.Task.{task_of, alone_task};
 
@@ -29,7 +28,7 @@ fn check_source<R: Source, W: Sink>(alloc: Global, deck: &mut R, out: &mut W) ->
     ensures refused { R.tells deck.old → IfRefused result (IsRefusal Task.Check (R.left deck.old)) }
     ensures untold { result ≡ Status.ReadFault → out.new ≡ out.old }
     ensures prefix { R.tells deck.old → W.tells out.old → (files : Files) →
-        TakesReply Task.Check (R.left deck.old) files (W.taken out.old) (W.taken out.new) (λ _. ⊥) }
+        TakesReply Task.Check (R.left deck.old) files (W.taken out.old) (W.taken out.new) (λ _ _. ⊥) }
     ensures cause { HasCause (Rose (R.count deck.old) (R.count deck.new)) (Rose (W.count out.old) (W.count out.new)) ⊥ result }
     ensures fine { (Rose (R.count deck.old) (R.count deck.new) → ⊥) → (Rose (W.count out.old) (W.count out.new) → ⊥) → (result ≡ Status.Memory) ⊎ IsAnswer result }
     ensures deck_telling { R.tells deck.old ↔ R.tells deck.new }
@@ -62,8 +61,9 @@ fn run_source<R: Source, W: Sink, D: Disk>(
     ensures untold { result ≡ Status.ReadFault → out.new ≡ out.old }
     ensures prefix { R.tells deck.old → W.tells out.old → D.tells disk.old →
         TakesReply Task.Execute (R.left deck.old) (D.held disk.old).files (W.taken out.old) (W.taken out.new)
-        (λ stmt. HasStatementOn (R.left deck.old) stmt × Rose (D.count disk.old) (D.count disk.new)) }
-    ensures fault_line { W.tells out.old → IfDiskFault result (λ line. W.taken out.new ≡ W.taken out.old ++ status_text (Status.DiskFault line)) }
+        (λ stmt before. HasOutputBefore (R.left deck.old) (D.held disk.old).files stmt before × Rose (D.count disk.old) (D.count disk.new)) }
+    ensures fault_line { R.tells deck.old → W.tells out.old → D.tells disk.old → IfDiskFault result
+        (TakesFault (W.taken out.old) (W.taken out.new) (HasOutputBefore (R.left deck.old) (D.held disk.old).files)) }
     ensures cause { HasCause (Rose (R.count deck.old) (R.count deck.new)) (Rose (W.count out.old) (W.count out.new))
         (Rose (D.count disk.old) (D.count disk.new)) result }
     ensures touching { R.tells deck.old → IfDiskFault result (HasStatementOn (R.left deck.old)) }
@@ -118,11 +118,13 @@ fn reply<R: Source, W: Sink, D: Disk>(
     ensures unread { task ≡ Task.Refuse → deck.new ≡ deck.old }
     ensures untold { result ≡ Status.ReadFault → out.new ≡ out.old }
 
-    // What the sink took is always a front of what is due, and after a disk fault it is that line.
+    // What the sink took is always a front of what is due, and after a disk fault it is what the statements before that one
+    // write, and the fault's line.
     ensures prefix { R.tells deck.old → W.tells out.old → D.tells disk.old →
         TakesReply task (R.left deck.old) (D.held disk.old).files (W.taken out.old) (W.taken out.new)
-        (λ stmt. HasStatementOn (R.left deck.old) stmt × Rose (D.count disk.old) (D.count disk.new)) }
-    ensures fault_line { W.tells out.old → IfDiskFault result (λ line. W.taken out.new ≡ W.taken out.old ++ status_text (Status.DiskFault line)) }
+        (λ stmt before. HasOutputBefore (R.left deck.old) (D.held disk.old).files stmt before × Rose (D.count disk.old) (D.count disk.new)) }
+    ensures fault_line { R.tells deck.old → W.tells out.old → D.tells disk.old → IfDiskFault result
+        (TakesFault (W.taken out.old) (W.taken out.new) (HasOutputBefore (R.left deck.old) (D.held disk.old).files)) }
 
     // Each fault has its cause. That of the disk has the line of the statement that met it.
     ensures cause { HasCause (Rose (R.count deck.old) (R.count deck.new)) (Rose (W.count out.old) (W.count out.new))
@@ -182,11 +184,13 @@ pub fn alone_job<R: Source, W: Sink, D: Disk>(
     ensures unread { (alone_task (form_of (list_map string_bytes words.now))) ≡ Task.Refuse → deck.new ≡ deck.old }
     ensures untold { result ≡ Status.ReadFault → out.new ≡ out.old }
 
-    // What the sink took is always a front of what is due, and after a disk fault it is that line.
+    // What the sink took is always a front of what is due, and after a disk fault it is what the statements before that one
+    // write, and the fault's line.
     ensures prefix { R.tells deck.old → W.tells out.old → D.tells disk.old →
         TakesReply (alone_task (form_of (list_map string_bytes words.now))) (R.left deck.old) (D.held disk.old).files (W.taken out.old) (W.taken out.new)
-        (λ stmt. HasStatementOn (R.left deck.old) stmt × Rose (D.count disk.old) (D.count disk.new)) }
-    ensures fault_line { W.tells out.old → IfDiskFault result (λ line. W.taken out.new ≡ W.taken out.old ++ status_text (Status.DiskFault line)) }
+        (λ stmt before. HasOutputBefore (R.left deck.old) (D.held disk.old).files stmt before × Rose (D.count disk.old) (D.count disk.new)) }
+    ensures fault_line { R.tells deck.old → W.tells out.old → D.tells disk.old → IfDiskFault result
+        (TakesFault (W.taken out.old) (W.taken out.new) (HasOutputBefore (R.left deck.old) (D.held disk.old).files)) }
 
     // Each fault has its cause. That of the disk has the line of the statement that met it.
     ensures cause { HasCause (Rose (R.count deck.old) (R.count deck.new)) (Rose (W.count out.old) (W.count out.new))
@@ -246,11 +250,13 @@ pub fn run_job<Rt: Threads + Wait + Sync, R: Source, W: Sink + Send, D: Disk + S
     ensures unread { (task_of (form_of (list_map string_bytes words.now))) ≡ Task.Refuse → deck.new ≡ deck.old }
     ensures untold { result ≡ Status.ReadFault → out.new ≡ out.old }
 
-    // What the sink took is always a front of what is due, and after a disk fault it is that line.
+    // What the sink took is always a front of what is due, and after a disk fault it is what the statements before that one
+    // write, and the fault's line.
     ensures prefix { R.tells deck.old → W.tells out.old → D.tells disk.old →
         TakesReply (task_of (form_of (list_map string_bytes words.now))) (R.left deck.old) (D.held disk.old).files (W.taken out.old) (W.taken out.new)
-        (λ stmt. HasStatementOn (R.left deck.old) stmt × Rose (D.count disk.old) (D.count disk.new)) }
-    ensures fault_line { W.tells out.old → IfDiskFault result (λ line. W.taken out.new ≡ W.taken out.old ++ status_text (Status.DiskFault line)) }
+        (λ stmt before. HasOutputBefore (R.left deck.old) (D.held disk.old).files stmt before × Rose (D.count disk.old) (D.count disk.new)) }
+    ensures fault_line { R.tells deck.old → W.tells out.old → D.tells disk.old → IfDiskFault result
+        (TakesFault (W.taken out.old) (W.taken out.new) (HasOutputBefore (R.left deck.old) (D.held disk.old).files)) }
 
     // Each fault has its cause. That of the disk has the line of the statement that met it.
     ensures cause { HasCause (Rose (R.count deck.old) (R.count deck.new)) (Rose (W.count out.old) (W.count out.new))

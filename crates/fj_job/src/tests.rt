@@ -1,1 +1,306 @@
-// tests
+// Rows that were worked by hand. The fields are those that gfortran 12 writes.
+use crate::{Reason, Status, alone_job, run_job};
+use fj_outside::{FailingDisk, FailingSink, FailingSource, MemoryDisk, MemorySink, MemorySource};
+use fj_value::Rule;
+use std::alloc::{AllocError, Global};
+use std::test::Fail;
+
+/// What the file G holds before a run.
+static OLD: &[u8] = b" 12\nx\n";
+
+/// The words, a deck, the answer, the output, and what the file G holds behind the run.
+static ROWS: [(&str, &[u8], Status, &[u8], &[u8]); 24] = [
+    ("alone", b"END\n", Status::Ended, b"= ended\n", b" 12\nx\n"),
+    (
+        "run --workers 0",
+        b"INTEGER K\nK = 42\nOPEN(10,FILE='G',STATUS='REPLACE')\nWRITE(10,'(I5)') K\nCLOSE(10)\nEND\n",
+        Status::Ended,
+        b"= ended\nK = 42\n",
+        b"   42\n",
+    ),
+    (
+        "alone",
+        b"INTEGER K\nK = -2147483648\nOPEN(10,FILE='G',STATUS='REPLACE')\nWRITE(10,'(I5)') K\nEND\n",
+        Status::Ended,
+        b"= ended\nK = -2147483648\n",
+        b"*****\n",
+    ),
+    (
+        "alone",
+        b"INTEGER A\nINTEGER B\nINTEGER S\nOPEN(10,FILE='G')\nREAD(10,'(I3)') A\nREAD(10,'(I3)',IOSTAT=S) B\nA = B\nEND\n",
+        Status::Prohibited {
+            stmt: 7,
+            rule: Rule::P3,
+        },
+        b"= prohibited at 7 by P3\nA = 12\nB = ?\nS = 13\n",
+        b" 12\nx\n",
+    ),
+    (
+        "alone",
+        b"INTEGER A\nOPEN(10,FILE='G')\nREAD(10,'(I3)') A\nREAD(10,'(I3)') A\nEND\n",
+        Status::ErrorStop { stmt: 4, code: 13 },
+        b"= error stop at 4 with 13\nA = ?\n",
+        b" 12\nx\n",
+    ),
+    (
+        "alone",
+        b"INTEGER A\nOPEN(10,FILE='G')\nREAD(10,'(I3)',IOSTAT=A) A\nEND\n",
+        Status::Prohibited {
+            stmt: 3,
+            rule: Rule::P5,
+        },
+        b"= prohibited at 3 by P5\nA = ?\n",
+        b" 12\nx\n",
+    ),
+    (
+        "alone",
+        b"WRITE(*,'(I5)') 42\nWRITE(*,'(I2)') 123\nWRITE(*,'(I0)') 0\nWRITE(*,'(I0.0)') 0\nWRITE(*,'(I5.3)') -7\nEND\n",
+        Status::Ended,
+        b"   42\n**\n0\n \n -007\n= ended\n",
+        b" 12\nx\n",
+    ),
+    (
+        "alone",
+        b"WRITE(*,'(Z8)') -1\nWRITE(*,'(B3)') -1\nEND\n",
+        Status::Ended,
+        b"FFFFFFFF\n***\n= ended\n",
+        b" 12\nx\n",
+    ),
+    (
+        "alone",
+        b"WRITE(*,'(I3,2(1X,I2))') 1,2,3,4,5,6\nEND\n",
+        Status::Ended,
+        b"  1  2  3\n  4  5\n  6\n= ended\n",
+        b" 12\nx\n",
+    ),
+    (
+        "alone",
+        b"WRITE(*,'(T4,A,T1,A)') 'CD','AB'\nEND\n",
+        Status::Ended,
+        b"AB CD\n= ended\n",
+        b" 12\nx\n",
+    ),
+    (
+        "alone",
+        b"INTEGER S\nWRITE(*,'(''x'')',IOSTAT=S) 5\nEND\n",
+        Status::Ended,
+        b"= ended\nS = 11\n",
+        b" 12\nx\n",
+    ),
+    (
+        "alone",
+        b"INTEGER A\nWRITE(*,'(I2)') 7\nWRITE(*,'(I2)') A\nEND\n",
+        Status::Prohibited {
+            stmt: 3,
+            rule: Rule::P3,
+        },
+        b" 7\n= prohibited at 3 by P3\nA = ?\n",
+        b" 12\nx\n",
+    ),
+    (
+        "alone",
+        b"CHARACTER(LEN=4) C\nINTEGER B(2)\nLOGICAL L\nINTEGER(8) N\nC = 'it''s'\nB(2) = 7\nL = .TRUE.\nN = 5000000000\nWRITE(*,'(A,L2,I11)') C,L,N\nEND\n",
+        Status::Ended,
+        b"it's T 5000000000\n= ended\nC = 'it''s'\nB(1) = ?\nB(2) = 7\nL = T\nN = 5000000000\n",
+        b" 12\nx\n",
+    ),
+    (
+        "alone",
+        b"",
+        Status::DeckRefused {
+            line: 1,
+            reason: Reason::NoEnd,
+        },
+        b"= refused at 1: no end\n",
+        b" 12\nx\n",
+    ),
+    (
+        "alone",
+        b"INTEGER K\nK = 1\nK = Q\nEND\n",
+        Status::DeckRefused {
+            line: 3,
+            reason: Reason::Meaning,
+        },
+        b"= refused at 3: meaning\n",
+        b" 12\nx\n",
+    ),
+    (
+        "alone",
+        b"WRITE(*,'(I5,Q2)') 1\nEND\n",
+        Status::DeckRefused {
+            line: 1,
+            reason: Reason::Format { at: 4 },
+        },
+        b"= refused at 1: format at 4\n",
+        b" 12\nx\n",
+    ),
+    (
+        "alone",
+        b"INTEGER K\nK = = 1\nEND\n",
+        Status::DeckRefused {
+            line: 2,
+            reason: Reason::Syntax,
+        },
+        b"= refused at 2: syntax\n",
+        b" 12\nx\n",
+    ),
+    (
+        "alone",
+        b"WRITE(*,*) 1\nEND\n",
+        Status::DeckRefused {
+            line: 1,
+            reason: Reason::NotBuilt,
+        },
+        b"= refused at 1: not built\n",
+        b" 12\nx\n",
+    ),
+    (
+        "check",
+        b"integer a ! x\na=5\nend\n",
+        Status::Ended,
+        b"= deck of 2 statements\n",
+        b" 12\nx\n",
+    ),
+    (
+        "check",
+        b"WRITE(*,*) 1\nEND\n",
+        Status::Ended,
+        b"= deck of 2 statements\n",
+        b" 12\nx\n",
+    ),
+    (
+        "check",
+        b"INTEGER A\nA = 'x'\nEND\n",
+        Status::DeckRefused {
+            line: 2,
+            reason: Reason::Meaning,
+        },
+        b"= refused at 2: meaning\n",
+        b" 12\nx\n",
+    ),
+    (
+        "check",
+        b"OPEN(10,FILE='G',STATUS='REPLACE')\nEND\n",
+        Status::Ended,
+        b"= deck of 2 statements\n",
+        b" 12\nx\n",
+    ),
+    (
+        "run --workers x",
+        b"END\n",
+        Status::Usage,
+        b"usage: fjob run [--workers N] [--trace] | alone [--trace] | check | gen --seed N --count M [--text]\n",
+        b" 12\nx\n",
+    ),
+    (
+        "",
+        b"END\n",
+        Status::Usage,
+        b"usage: fjob run [--workers N] [--trace] | alone [--trace] | check | gen --seed N --count M [--text]\n",
+        b" 12\nx\n",
+    ),
+];
+
+fn words_of(alloc: Global, text: &str) -> Result<Vec<String>, AllocError> {
+    let mut words = Vec::new(alloc);
+    if !text.is_empty() {
+        for word in text.split(' ') {
+            words.push(String::from_str(alloc, word)?)?;
+        }
+    }
+    Ok(words)
+}
+
+#[test]
+fn replies(rt: HostRuntime) -> Result<(), Fail> {
+    let alloc = rt.alloc();
+    for (words, text, status, output, file) in ROWS.iter() {
+        let words = words_of(alloc, words)?;
+        let mut deck = MemorySource::new(alloc, text)?;
+        let mut out = MemorySink::new(alloc);
+        let mut disk = MemoryDisk::new(alloc);
+        disk.add_file("G", OLD)?;
+        let answer = run_job(&rt, alloc, &words, &mut deck, &mut out, &mut disk);
+        assert!(rt; answer == *status);
+        assert_eq!(rt; out.taken(), *output);
+        assert_eq!(rt; disk.bytes_of("G"), Some(*file));
+    }
+    Ok(())
+}
+
+/// Decks that write on `*` before and behind what they do with the file G.
+const READS: &[u8] =
+    b"INTEGER A\nWRITE(*,'(I2)') 7\nOPEN(10,FILE='G')\nREAD(10,'(I3)') A\nWRITE(*,'(I3)') A\nEND\n";
+
+const WRITES: &[u8] =
+    b"INTEGER A\nA = 5\nWRITE(*,'(I2)') A\nOPEN(10,FILE='G',STATUS='REPLACE')\nWRITE(10,'(I2)') A\nWRITE(*,'(I3)') A\nCLOSE(10)\nEND\n";
+
+/// A deck, its answer where the call of that number of the source (0), the sink (1), the disk (2) or the file (3) fails, and
+/// what the sink took. Each object comes to a run that meets no failure.
+static FAULTS: [(&[u8], u8, u64, Status, &[u8]); 19] = [
+    (READS, 0, 1, Status::ReadFault, b""),
+    (READS, 0, 2, Status::ReadFault, b""),
+    (READS, 0, 3, Status::Ended, b" 7\n 12\n= ended\nA = 12\n"),
+    (READS, 1, 1, Status::WriteFault, b""),
+    (READS, 1, 2, Status::WriteFault, b" 7\n"),
+    (READS, 1, 3, Status::WriteFault, b" 7\n 12\n"),
+    (READS, 1, 4, Status::Ended, b" 7\n 12\n= ended\nA = 12\n"),
+    (
+        READS,
+        2,
+        1,
+        Status::DiskFault { stmt: 3 },
+        b" 7\n= disk fault at 3\n",
+    ),
+    (READS, 2, 2, Status::Ended, b" 7\n 12\n= ended\nA = 12\n"),
+    (
+        READS,
+        3,
+        1,
+        Status::DiskFault { stmt: 4 },
+        b" 7\n= disk fault at 4\n",
+    ),
+    (READS, 3, 2, Status::Ended, b" 7\n 12\n= ended\nA = 12\n"),
+    (WRITES, 1, 1, Status::WriteFault, b""),
+    (WRITES, 1, 2, Status::WriteFault, b" 5\n"),
+    (WRITES, 1, 3, Status::WriteFault, b" 5\n  5\n"),
+    (WRITES, 1, 4, Status::Ended, b" 5\n  5\n= ended\nA = 5\n"),
+    (
+        WRITES,
+        2,
+        1,
+        Status::DiskFault { stmt: 4 },
+        b" 5\n= disk fault at 4\n",
+    ),
+    (WRITES, 2, 2, Status::Ended, b" 5\n  5\n= ended\nA = 5\n"),
+    (
+        WRITES,
+        3,
+        1,
+        Status::DiskFault { stmt: 5 },
+        b" 5\n= disk fault at 5\n",
+    ),
+    (WRITES, 3, 2, Status::Ended, b" 5\n  5\n= ended\nA = 5\n"),
+];
+
+#[test]
+fn answers_faults(rt: HostRuntime) -> Result<(), Fail> {
+    let alloc = rt.alloc();
+    let words = words_of(alloc, "alone")?;
+    for (text, object, k, status, output) in FAULTS.iter() {
+        let source = if *object == 0 { *k } else { 0 };
+        let sink = if *object == 1 { *k } else { 0 };
+        let own = if *object == 2 { *k } else { 0 };
+        let file = if *object == 3 { *k } else { 0 };
+        let mut deck = FailingSource::new(alloc, MemorySource::new(alloc, text)?, &[source])?;
+        let mut out = FailingSink::new(alloc, MemorySink::new(alloc), &[sink])?;
+        let mut held = MemoryDisk::new(alloc);
+        held.add_file("G", OLD)?;
+        let mut disk = FailingDisk::new(alloc, held, &[own])?;
+        disk.fail_file("G", &[file])?;
+        let answer = alone_job(alloc, &words, &mut deck, &mut out, &mut disk);
+        assert!(rt; answer == *status, "call {k} of object {object}");
+        assert_eq!(rt; out.taken(), *output, "call {k} of object {object}");
+    }
+    Ok(())
+}

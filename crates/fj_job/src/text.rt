@@ -4,22 +4,21 @@ ghost use Rattle.std.specs.FinSet as set;
 ghost use Rattle.fj_outside.specs.Faults.{Rose};
 ghost use Rattle.fj_outside.specs.Holdings.{Files};
 ghost use Rattle.fj_built.specs.Built.{built_of};
-ghost use Rattle.fj_run.specs.Halt.{IsLineOf};
+ghost use Rattle.fj_run.specs.Halt.{IsLineOf, IsOutputBefore};
+ghost use Rattle.fj_run.specs.Taken.{TakesPrefix};
 ghost use Rattle.fj_report.specs.Lines.{status_text, check_text, usage_text};
 ghost use Rattle.fj_statement.specs.declared.reason.Reason.{Reason};
 ghost use Rattle.fj_built.specs.declared.deck.Deck.{Deck};
-ghost use Rattle.fj_job.specs.Answers.{IsAnswer, IsLost, LeavesDisk, HasCause, IfRefused, IfDiskFault, HasStatementOn, IsMet, TakesDue, Replied, TakesReply};
+ghost use Rattle.fj_job.specs.Answers.{IsAnswer, IsLost, LeavesDisk, HasCause, IfRefused, IfDiskFault, HasStatementOn, HasOutputBefore, IsMet, TakesDue, TakesFault, Replied, TakesReply};
 ghost use Rattle.fj_job.specs.Reply.{run_reply, built_reply, IsRefusal, IsBuiltText};
-ghost use Rattle.fj_job.specs.Taken.{TakesPrefix};
 
 use crate::report::{check_report, run_report, status_of, status_report};
-use crate::streams::put_all;
 use crate::task::Task;
 use fj_built::{Deck, Fault, built};
-use fj_outside::{Disk, Sink, Stop};
 use fj_deck::{DeckFault, parse_deck};
+use fj_outside::{Disk, Sink, Stop};
 use fj_report::{Status, usage};
-use fj_run::{Halt, run};
+use fj_run::{Halt, put_all, run};
 use fj_statement::{Deck as WholeDeck, Reason};
 use std::alloc::Global;
 
@@ -48,8 +47,9 @@ fn run_deck<W: Sink, D: Disk>(alloc: Global, deck: &Deck, out: &mut W, disk: &mu
     ensures files { IsAnswer result → D.tells disk.old → (D.held disk.new).files ≡ (run_reply deck.now (D.held disk.old).files).files }
     ensures no_leaving { LeavesDisk result → ⊥ }
     ensures prefix { W.tells out.old → D.tells disk.old → TakesDue (W.taken out.old) (W.taken out.new) (run_reply deck.now (D.held disk.old).files).output
-        (λ stmt. IsLineOf deck.now.statements stmt × Rose (D.count disk.old) (D.count disk.new)) }
-    ensures fault_line { W.tells out.old → IfDiskFault result (λ line. W.taken out.new ≡ W.taken out.old ++ status_text (Status.DiskFault line)) }
+        (λ stmt before. IsOutputBefore deck.now (D.held disk.old).files stmt before × Rose (D.count disk.old) (D.count disk.new)) }
+    ensures fault_line { W.tells out.old → D.tells disk.old → IfDiskFault result
+        (TakesFault (W.taken out.old) (W.taken out.new) (IsOutputBefore deck.now (D.held disk.old).files)) }
     ensures touching { IfDiskFault result (IsLineOf deck.now.statements) }
     ensures met { D.tells disk.old → IfDiskFault result (λ _. IsMet (Rose (D.refusals disk.old) (D.refusals disk.new)) (D.held disk.new)) }
     ensures cause { HasCause ⊥ (Rose (W.count out.old) (W.count out.new)) (Rose (D.count disk.old) (D.count disk.new)) result }
@@ -59,7 +59,7 @@ fn run_deck<W: Sink, D: Disk>(alloc: Global, deck: &Deck, out: &mut W, disk: &mu
     ensures out_later { W.count out.old ≤ W.count out.new }
     ensures disk_later { D.count disk.old ≤ D.count disk.new }
 {
-    match run(alloc, deck, disk) {
+    match run(alloc, deck, out, disk) {
         Ok(done) => match run_report(alloc, deck, &done) {
             Ok(text) => match tell(out, text.bytes()) {
                 Ok(()) => status_of(done.line, done.ending),
@@ -74,6 +74,7 @@ fn run_deck<W: Sink, D: Disk>(alloc: Global, deck: &Deck, out: &mut W, disk: &mu
             },
             Err(_) => Status::Memory,
         },
+        Err(Halt::Sink) => Status::WriteFault,
         Err(Halt::Memory) => Status::Memory,
     }
 }
@@ -123,8 +124,9 @@ fn run_built<W: Sink, D: Disk>(alloc: Global, deck: &WholeDeck, out: &mut W, dis
     ensures changed { (disk.new ≡ disk.old) ⊎ ((small : Deck) × (built_of deck.now ≡ Ok small)) }
     ensures kept_by_answer { LeavesDisk result → disk.new ≡ disk.old }
     ensures prefix { W.tells out.old → D.tells disk.old → TakesDue (W.taken out.old) (W.taken out.new) (built_reply (built_of deck.now) (D.held disk.old).files).output
-        (λ stmt. ((small : Deck) × (built_of deck.now ≡ Ok small) × IsLineOf small.statements stmt) × Rose (D.count disk.old) (D.count disk.new)) }
-    ensures fault_line { W.tells out.old → IfDiskFault result (λ line. W.taken out.new ≡ W.taken out.old ++ status_text (Status.DiskFault line)) }
+        (λ stmt before. ((small : Deck) × (built_of deck.now ≡ Ok small) × IsOutputBefore small (D.held disk.old).files stmt before) × Rose (D.count disk.old) (D.count disk.new)) }
+    ensures fault_line { W.tells out.old → D.tells disk.old → IfDiskFault result (TakesFault (W.taken out.old) (W.taken out.new)
+        (λ stmt before. (small : Deck) × (built_of deck.now ≡ Ok small) × IsOutputBefore small (D.held disk.old).files stmt before)) }
     ensures touching { IfDiskFault result (λ stmt. (small : Deck) × (built_of deck.now ≡ Ok small) × IsLineOf small.statements stmt) }
     ensures met { D.tells disk.old → IfDiskFault result (λ _. IsMet (Rose (D.refusals disk.old) (D.refusals disk.new)) (D.held disk.new)) }
     ensures cause { HasCause ⊥ (Rose (W.count out.old) (W.count out.new)) (Rose (D.count disk.old) (D.count disk.new)) result }
@@ -151,8 +153,9 @@ pub fn run_text<W: Sink, D: Disk>(alloc: Global, text: &[u8], out: &mut W, disk:
     ensures changed { (disk.new ≡ disk.old) ⊎ ((small : Deck) × IsBuiltText text.now small) }
     ensures kept_by_answer { LeavesDisk result → disk.new ≡ disk.old }
     ensures prefix { W.tells out.old → D.tells disk.old → TakesReply Task.Execute text.now (D.held disk.old).files (W.taken out.old) (W.taken out.new)
-        (λ stmt. HasStatementOn text.now stmt × Rose (D.count disk.old) (D.count disk.new)) }
-    ensures fault_line { W.tells out.old → IfDiskFault result (λ line. W.taken out.new ≡ W.taken out.old ++ status_text (Status.DiskFault line)) }
+        (λ stmt before. HasOutputBefore text.now (D.held disk.old).files stmt before × Rose (D.count disk.old) (D.count disk.new)) }
+    ensures fault_line { W.tells out.old → D.tells disk.old → IfDiskFault result
+        (TakesFault (W.taken out.old) (W.taken out.new) (HasOutputBefore text.now (D.held disk.old).files)) }
     ensures touching { IfDiskFault result (HasStatementOn text.now) }
     ensures met { D.tells disk.old → IfDiskFault result (λ _. IsMet (Rose (D.refusals disk.old) (D.refusals disk.new)) (D.held disk.new)) }
     ensures cause { HasCause ⊥ (Rose (W.count out.old) (W.count out.new)) (Rose (D.count disk.old) (D.count disk.new)) result }
@@ -194,7 +197,7 @@ pub fn check_text<W: Sink>(alloc: Global, text: &[u8], out: &mut W) -> Status
     ensures no_usage { result ≡ Status.Usage → ⊥ }
     ensures no_disk { IfDiskFault result (λ _. ⊥) }
     ensures refused { IfRefused result (IsRefusal Task.Check text.now) }
-    ensures prefix { W.tells out.old → (files : Files) → TakesReply Task.Check text.now files (W.taken out.old) (W.taken out.new) (λ _. ⊥) }
+    ensures prefix { W.tells out.old → (files : Files) → TakesReply Task.Check text.now files (W.taken out.old) (W.taken out.new) (λ _ _. ⊥) }
     ensures cause { HasCause ⊥ (Rose (W.count out.old) (W.count out.new)) ⊥ result }
     ensures telling { W.tells out.old ↔ W.tells out.new }
     ensures later { W.count out.old ≤ W.count out.new }

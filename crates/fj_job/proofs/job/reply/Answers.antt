@@ -1,4 +1,4 @@
-use Rattle.std.proofs.Common.{◌≡◌, refl, sym, inl, inr, rules}
+use Rattle.std.proofs.Common.{refl, sym, inl, inr, rules}
 use Rattle.fj_job.specs.Reply.{usage_reply}
 use Rattle.fj_job.specs.declared.task.Task.TheVariants.{Refuse, Check, Execute}
 use Rattle.fj_job.proofs.ReplyLaws.{replied_for, taken_for}
@@ -14,17 +14,17 @@ returns-in-Refuse-clause-replied g c = λ a t u. replied_for Refuse c.args.task 
 })
 
 pub returns-in-Refuse-clause-prefix : goal.returns-in-Refuse-clause-prefix
-returns-in-Refuse-clause-prefix g c = λ t w u. taken_for Refuse c.args.task _ _ _ _ _ _ (sym c.in-Refuse.is) (λ n f. f)
+returns-in-Refuse-clause-prefix g c = λ t w u. taken_for Refuse c.args.task _ _ _ _ _ _ (sym c.in-Refuse.is) (λ n o f. f)
     (inr (usage_reply (g.D.Disk.held c.args.disk.now).files, refl, inl (c.refuse_words.ensures.prefix w)))
 
 pub returns-in-Check-clause-replied : goal.returns-in-Check-clause-replied
 returns-in-Check-clause-replied g c = λ a t u. replied_for Check c.args.task _ _ _ _ _ (sym c.in-Check.is) (c.check_source.ensures.replied (g.D.Disk.held c.args.disk.now).files a t)
 
 pub returns-in-Check-clause-prefix : goal.returns-in-Check-clause-prefix
-returns-in-Check-clause-prefix g c = λ t w u. taken_for Check c.args.task _ _ _ _ _ _ (sym c.in-Check.is) (λ n f. absurd f) (c.check_source.ensures.prefix t w (g.D.Disk.held c.args.disk.now).files)
+returns-in-Check-clause-prefix g c = λ t w u. taken_for Check c.args.task _ _ _ _ _ _ (sym c.in-Check.is) (λ n o f. absurd f) (c.check_source.ensures.prefix t w (g.D.Disk.held c.args.disk.now).files)
 
 pub returns-in-Execute-clause-replied : goal.returns-in-Execute-clause-replied
 returns-in-Execute-clause-replied g c = λ a t u. replied_for Execute c.args.task _ _ _ _ _ (sym c.in-Execute.is) (c.run_source.ensures.replied a t u)
 
 pub returns-in-Execute-clause-prefix : goal.returns-in-Execute-clause-prefix
-returns-in-Execute-clause-prefix g c = λ t w u. taken_for Execute c.args.task _ _ _ _ _ _ (sym c.in-Execute.is) (λ n f. f) (c.run_source.ensures.prefix t w u)
+returns-in-Execute-clause-prefix g c = λ t w u. taken_for Execute c.args.task _ _ _ _ _ _ (sym c.in-Execute.is) (λ n o f. f) (c.run_source.ensures.prefix t w u)

@@ -1,7 +1,6 @@
-use Rattle.std.proofs.Common.{inl, inr}
 use Rattle.fj_job.specs.Taken.{IsReadOf}
 use Rattle.fj_job.specs.declared.task.Task.TheVariants.{Execute}
-use Rattle.fj_job.proofs.ReplyLaws.{replied_whole, taken_whole, refused_whole, changed_whole, touching_whole, statement_whole}
+use Rattle.fj_job.proofs.ReplyLaws.{replied_whole, taken_whole, refused_whole, changed_whole, touching_whole, before_whole, fault_whole}
 use Rattle.fj_job.proofs.job.run_source.Given
 use Rattle.fj_job.proofs.job.run_source.Goals as goal
 
@@ -22,4 +21,7 @@ pub returns-in-Ok-clause-touching : goal.returns-in-Ok-clause-touching
 returns-in-Ok-clause-touching g c = λ t. touching_whole _ _ c.run_text.result (read g c t) c.run_text.ensures.touching
 
 pub returns-in-Ok-clause-prefix : goal.returns-in-Ok-clause-prefix
-returns-in-Ok-clause-prefix g c = λ t u v. taken_whole Execute _ _ _ _ _ _ _ (read g c t) (λ n f. (statement_whole _ _ n (read g c t) f.0, f.1)) (c.run_text.ensures.prefix u v)
+returns-in-Ok-clause-prefix g c = λ t u v. taken_whole Execute _ _ _ _ _ _ _ (read g c t) (λ n o f. (before_whole _ _ _ n o (read g c t) f.0, f.1)) (c.run_text.ensures.prefix u v)
+
+pub returns-in-Ok-clause-fault_line : goal.returns-in-Ok-clause-fault_line
+returns-in-Ok-clause-fault_line g c = λ t u v. fault_whole _ _ _ _ _ c.run_text.result (read g c t) (c.run_text.ensures.fault_line u v)

@@ -1,4 +1,4 @@
-use Rattle.std.proofs.Common.{◌≡◌, refl, inl, inr, Ok, Err, rules}
+use Rattle.std.proofs.Common.{refl, inl, inr, Ok, Err, rules}
 use Rattle.fj_job.specs.Reply.{checked}
 use Rattle.fj_job.proofs.text.check_text.Goals as goal
 
@@ -24,5 +24,8 @@ returns-in-Err-Refused-clause-replied g c = λ files a. record {
 }
 
 pub returns-in-Err-Refused-clause-prefix : goal.returns-in-Err-Refused-clause-prefix
-returns-in-Err-Refused-clause-prefix g c = λ t files. inr (checked (Err (c.in-Err-Refused.line, c.in-Err-Refused.reason)) files,
-    (Err (c.in-Err-Refused.line, c.in-Err-Refused.reason), search rules, refl), inl (c.refuse_line.ensures.prefix t))
+returns-in-Err-Refused-clause-prefix g c = λ t files. inr (
+  checked (Err (c.in-Err-Refused.line, c.in-Err-Refused.reason)) files,
+  (Err (c.in-Err-Refused.line, c.in-Err-Refused.reason), search rules, refl),
+  inl (c.refuse_line.ensures.prefix t),
+)

@@ -1,6 +1,6 @@
-use Rattle.std.proofs.Common.{◌≡◌, refl, inl, inr, Ok, Err, rules}
+use Rattle.std.proofs.Common.{refl, inl, inr, Ok, Err, rules}
 use Rattle.fj_job.specs.Reply.{executed}
-use Rattle.fj_job.proofs.ReplyLaws.{due_weaker}
+use Rattle.fj_job.proofs.ReplyLaws.{due_weaker, fault_for}
 use Rattle.fj_job.proofs.text.run_text.Goals as goal
 
 pub returns-in-Ok-clause-replied : goal.returns-in-Ok-clause-replied
@@ -13,8 +13,11 @@ returns-in-Ok-clause-replied g c = λ a u. record {
 }
 
 pub returns-in-Ok-clause-prefix : goal.returns-in-Ok-clause-prefix
-returns-in-Ok-clause-prefix g c = λ t u. inr (executed (Ok c.in-Ok.deck) (g.D.Disk.held c.args.disk.now).files, (Ok c.in-Ok.deck, c.in-Ok.ensures, refl),
-    due_weaker _ _ _ _ _ (λ stmt f. ((f.0.0, (c.in-Ok.deck, c.in-Ok.ensures, f.0.1), f.0.2), f.1)) (c.run_built.ensures.prefix t u))
+returns-in-Ok-clause-prefix g c = λ t u. inr (
+  executed (Ok c.in-Ok.deck) (g.D.Disk.held c.args.disk.now).files,
+  (Ok c.in-Ok.deck, c.in-Ok.ensures, refl),
+  due_weaker _ _ _ _ _ (λ stmt o f. ((f.0.0, (c.in-Ok.deck, c.in-Ok.ensures, f.0.1), f.0.2), f.1)) (c.run_built.ensures.prefix t u),
+)
 
 pub returns-in-Err-Refused-clause-replied : goal.returns-in-Err-Refused-clause-replied
 returns-in-Err-Refused-clause-replied g c = λ a u. record {
@@ -26,5 +29,11 @@ returns-in-Err-Refused-clause-replied g c = λ a u. record {
 }
 
 pub returns-in-Err-Refused-clause-prefix : goal.returns-in-Err-Refused-clause-prefix
-returns-in-Err-Refused-clause-prefix g c = λ t u. inr (executed (Err (c.in-Err-Refused.line, c.in-Err-Refused.reason)) (g.D.Disk.held c.args.disk.now).files,
-    (Err (c.in-Err-Refused.line, c.in-Err-Refused.reason), search rules, refl), inl (c.refuse_line.ensures.prefix t))
+returns-in-Err-Refused-clause-prefix g c = λ t u. inr (
+  executed (Err (c.in-Err-Refused.line, c.in-Err-Refused.reason)) (g.D.Disk.held c.args.disk.now).files,
+  (Err (c.in-Err-Refused.line, c.in-Err-Refused.reason), search rules, refl),
+  inl (c.refuse_line.ensures.prefix t),
+)
+
+pub returns-in-Ok-clause-fault_line : goal.returns-in-Ok-clause-fault_line
+returns-in-Ok-clause-fault_line g c = λ t u. fault_for _ _ _ _ c.run_built.result (λ stmt o f. (f.0, (c.in-Ok.deck, c.in-Ok.ensures, f.1), f.2)) (c.run_built.ensures.fault_line t u)
