@@ -12,7 +12,7 @@ use Rattle.fj_job.specs.Taken.{IsReadOf}
 use Rattle.fj_run.specs.Taken.{TakesPrefix}
 use Rattle.fj_report.specs.declared.status.Status.{Status}
 use Rattle.fj_report.specs.declared.status.Status.TheVariants.{Ended, ErrorStop, Prohibited, DeckRefused, Usage, ReadFault, WriteFault, DiskFault, Memory}
-use Rattle.fj_job.specs.Answers.{TakesDue, TakesFault, TakesReply, Replied, IfRefused, IfDiskFault, HasStatementOn, HasOutputBefore}
+use Rattle.fj_job.specs.Answers.{TakesDue, TakesFault, TakesReply, Replied, IfEnded, IfRefused, IfDiskFault, IsLost, HasDeck, HasStatementOn, HasOutputBefore}
 use Rattle.fj_job.specs.Reply.{Reply, Reading, IsReading, IsReplyTo, IsRefusal, IsBuiltText, OneReply, report_text, reply_of, executed, checked}
 use Rattle.fj_report.specs.Lines.{status_text}
 use Rattle.fj_job.specs.declared.task.Task.{Task}
@@ -188,3 +188,54 @@ pub taken_for : (task other : Task) (text : List ℕ) (files : Files) (old new :
 taken_for task other text files old new F G e f (inl same) = inl same
 taken_for task other text files old new F G e f (inr due) =
     inr (due.0, subst (λ (x : Task). IsReplyTo x text files due.0) e due.1, due_weaker _ _ _ F G f due.2)
+
+-- ---- answers of a deck
+
+pub ended_by : (s : Status) (P : Type 0) → P → IfEnded s P
+ended_by Ended P p = p
+ended_by (ErrorStop stmt code) P p = p
+ended_by (Prohibited stmt rule) P p = p
+ended_by (DeckRefused line reason) P p = tt
+ended_by Usage P p = tt
+ended_by ReadFault P p = tt
+ended_by WriteFault P p = tt
+ended_by (DiskFault stmt) P p = tt
+ended_by Memory P p = tt
+
+pub ended_weaker : (s : Status) (P Q : Type 0) → (P → Q) → IfEnded s P → IfEnded s Q
+ended_weaker Ended P Q f h = f h
+ended_weaker (ErrorStop stmt code) P Q f h = f h
+ended_weaker (Prohibited stmt rule) P Q f h = f h
+ended_weaker (DeckRefused line reason) P Q f h = tt
+ended_weaker Usage P Q f h = tt
+ended_weaker ReadFault P Q f h = tt
+ended_weaker WriteFault P Q f h = tt
+ended_weaker (DiskFault stmt) P Q f h = tt
+ended_weaker Memory P Q f h = tt
+
+lost_is_no_end : (s : Status) (P : Type 0) → IsLost s → IfEnded s P
+lost_is_no_end Ended P h = absurd h
+lost_is_no_end (ErrorStop stmt code) P h = absurd h
+lost_is_no_end (Prohibited stmt rule) P h = absurd h
+lost_is_no_end (DeckRefused line reason) P h = tt
+lost_is_no_end Usage P h = tt
+lost_is_no_end ReadFault P h = tt
+lost_is_no_end WriteFault P h = tt
+lost_is_no_end (DiskFault stmt) P h = tt
+lost_is_no_end Memory P h = tt
+
+-- an answer that is told or lost is none of a deck, where the one that is told is none
+pub no_end : (s told : Status) (P : Type 0) → IfEnded told P → (s ≡ told) ⊎ IsLost s → IfEnded s P
+no_end s told P h (inl e) = subst (λ (x : Status). IfEnded x P) (sym e) h
+no_end s told P h (inr lost) = lost_is_no_end s P lost
+
+deck_whole : (task : Task) (held text : List ℕ) → IsReadOf 4194304 held text → HasDeck task text → HasDeck task held
+deck_whole Refuse held text e h = h
+deck_whole Check held text e h = (h.0, same_deck held text h.0 e h.1)
+deck_whole Execute held text e h = (h.0, built_whole held text h.0 e h.1)
+
+pub ended_whole : (task : Task) (held text : List ℕ) (s : Status) → IsReadOf 4194304 held text → IfEnded s (HasDeck task text) → IfEnded s (HasDeck task held)
+ended_whole task held text s e h = ended_weaker s _ _ (deck_whole task held text e) h
+
+pub ended_for : (task other : Task) (text : List ℕ) (s : Status) → task ≡ other → IfEnded s (HasDeck task text) → IfEnded s (HasDeck other text)
+ended_for task other text s e h = subst (λ (x : Task). IfEnded s (HasDeck x text)) e h

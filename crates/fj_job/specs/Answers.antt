@@ -2,6 +2,8 @@
 use Rattle.std.specs.Prelude.{◌≡◌, ◌⊎◌, ℕ, List, ◌++◌}
 use Rattle.fj_outside.specs.Holdings.{Holdings, Files, IsHurt}
 use Rattle.fj_statement.specs.declared.reason.Reason.{Reason}
+use Rattle.fj_statement.specs.declared.deck.Deck.{Deck as WholeDeck}
+use Rattle.fj_deck.specs.Deck.{IsDeck}
 use Rattle.fj_built.specs.declared.deck.Deck.{Deck}
 use Rattle.fj_run.specs.Halt.{IsLineOf, IsOutputBefore}
 use Rattle.fj_run.specs.Taken.{TakesPrefix}
@@ -9,6 +11,7 @@ use Rattle.fj_report.specs.Lines.{status_text}
 use Rattle.fj_report.specs.declared.status.Status.{Status}
 use Rattle.fj_report.specs.declared.status.Status.TheVariants.{Ended, ErrorStop, Prohibited, DeckRefused, Usage, ReadFault, WriteFault, DiskFault, Memory}
 use Rattle.fj_job.specs.declared.task.Task.{Task}
+use Rattle.fj_job.specs.declared.task.Task.TheVariants.{Refuse, Check, Execute}
 use Rattle.fj_job.specs.Reply.{Reply, IsReplyTo, IsBuiltText}
 
 -- neither a fault nor want of memory
@@ -47,6 +50,19 @@ HasCause read write disk _ = Unit {0}
 abbrev pub IfRefused : Status → (ℕ → Reason → Type 0) → Type 0
 IfRefused (DeckRefused line reason) P = P line reason
 IfRefused _ P = Unit {0}
+
+-- of a deck that was carried out or checked to an end
+abbrev pub IfEnded : Status → Type 0 → Type 0
+IfEnded Ended P = P
+IfEnded (ErrorStop stmt code) P = P
+IfEnded (Prohibited stmt rule) P = P
+IfEnded _ P = Unit {0}
+
+-- the text is a deck that can be done what the words ask for
+abbrev pub HasDeck : Task → List ℕ → Type 0
+HasDeck Refuse text = ⊥
+HasDeck Check text = (deck : WholeDeck) × IsDeck text deck
+HasDeck Execute text = (small : Deck) × IsBuiltText text small
 
 -- of a disk fault, its line
 abbrev pub IfDiskFault : Status → (ℕ → Type 0) → Type 0

@@ -6,7 +6,7 @@ ghost use Rattle.fj_outside.specs.Faults.{Rose};
 ghost use Rattle.fj_outside.specs.Holdings.{Files};
 ghost use Rattle.fj_built.specs.declared.deck.Deck.{Deck};
 ghost use Rattle.fj_report.specs.Words.{form_of};
-ghost use Rattle.fj_job.specs.Answers.{IsAnswer, IsLost, LeavesDisk, HasCause, IfRefused, IfDiskFault, HasStatementOn, HasOutputBefore, IsMet, Replied, TakesFault, TakesReply};
+ghost use Rattle.fj_job.specs.Answers.{IsAnswer, IsLost, LeavesDisk, HasCause, IfEnded, IfRefused, IfDiskFault, HasDeck, HasStatementOn, HasOutputBefore, IsMet, Replied, TakesFault, TakesReply};
 ghost use Rattle.fj_job.specs.Reply.{IsRefusal, IsBuiltText};
 ghost use Rattle.fj_job.specs.Task.{task_of, alone_task};
 
@@ -25,6 +25,7 @@ fn check_source<R: Source, W: Sink>(alloc: Global, deck: &mut R, out: &mut W) ->
         (λ output. W.tells out.old → W.taken out.new ≡ W.taken out.old ++ output) }
     ensures no_usage { result ≡ Status.Usage → ⊥ }
     ensures no_disk { IfDiskFault result (λ _. ⊥) }
+    ensures ended { R.tells deck.old → IfEnded result (HasDeck Task.Check (R.left deck.old)) }
     ensures refused { R.tells deck.old → IfRefused result (IsRefusal Task.Check (R.left deck.old)) }
     ensures untold { result ≡ Status.ReadFault → out.new ≡ out.old }
     ensures prefix { R.tells deck.old → W.tells out.old → (files : Files) →
@@ -55,6 +56,7 @@ fn run_source<R: Source, W: Sink, D: Disk>(
         Replied Task.Execute (R.left deck.old) (D.held disk.old).files result (D.held disk.new).files
         (λ output. W.tells out.old → W.taken out.new ≡ W.taken out.old ++ output) }
     ensures no_usage { result ≡ Status.Usage → ⊥ }
+    ensures ended { R.tells deck.old → IfEnded result (HasDeck Task.Execute (R.left deck.old)) }
     ensures refused { R.tells deck.old → IfRefused result (IsRefusal Task.Execute (R.left deck.old)) }
     ensures changed { R.tells deck.old → (disk.new ≡ disk.old) ⊎ ((small : Deck) × IsBuiltText (R.left deck.old) small) }
     ensures kept_by_answer { LeavesDisk result → disk.new ≡ disk.old }
@@ -105,7 +107,9 @@ fn reply<R: Source, W: Sink, D: Disk>(
     ensures usage { result ≡ Status.Usage → task ≡ Task.Refuse }
     ensures no_form { task ≡ Task.Refuse → (result ≡ Status.Usage) ⊎ IsLost result }
 
-    // What is refused is so at the line and for the reason that it has.
+    // What is refused is so at the line and for the reason that it has, and what is not is a deck that can be done what the
+    // words ask for.
+    ensures ended { R.tells deck.old → IfEnded result (HasDeck task (R.left deck.old)) }
     ensures refused { R.tells deck.old → IfRefused result (IsRefusal task (R.left deck.old)) }
 
     // Where no deck is carried out, the disk is as it was.
@@ -171,7 +175,9 @@ pub fn alone_job<R: Source, W: Sink, D: Disk>(
     ensures usage { result ≡ Status.Usage → (alone_task (form_of (list_map string_bytes words.now))) ≡ Task.Refuse }
     ensures no_form { (alone_task (form_of (list_map string_bytes words.now))) ≡ Task.Refuse → (result ≡ Status.Usage) ⊎ IsLost result }
 
-    // What is refused is so at the line and for the reason that it has.
+    // What is refused is so at the line and for the reason that it has, and what is not is a deck that can be done what the
+    // words ask for.
+    ensures ended { R.tells deck.old → IfEnded result (HasDeck (alone_task (form_of (list_map string_bytes words.now))) (R.left deck.old)) }
     ensures refused { R.tells deck.old → IfRefused result (IsRefusal (alone_task (form_of (list_map string_bytes words.now))) (R.left deck.old)) }
 
     // Where no deck is carried out, the disk is as it was.
@@ -237,7 +243,9 @@ pub fn run_job<Rt: Threads + Wait + Sync, R: Source, W: Sink + Send, D: Disk + S
     ensures usage { result ≡ Status.Usage → (task_of (form_of (list_map string_bytes words.now))) ≡ Task.Refuse }
     ensures no_form { (task_of (form_of (list_map string_bytes words.now))) ≡ Task.Refuse → (result ≡ Status.Usage) ⊎ IsLost result }
 
-    // What is refused is so at the line and for the reason that it has.
+    // What is refused is so at the line and for the reason that it has, and what is not is a deck that can be done what the
+    // words ask for.
+    ensures ended { R.tells deck.old → IfEnded result (HasDeck (task_of (form_of (list_map string_bytes words.now))) (R.left deck.old)) }
     ensures refused { R.tells deck.old → IfRefused result (IsRefusal (task_of (form_of (list_map string_bytes words.now))) (R.left deck.old)) }
 
     // Where no deck is carried out, the disk is as it was.

@@ -9,7 +9,7 @@ ghost use Rattle.fj_run.specs.Taken.{TakesPrefix};
 ghost use Rattle.fj_report.specs.Lines.{status_text, check_text, usage_text};
 ghost use Rattle.fj_statement.specs.declared.reason.Reason.{Reason};
 ghost use Rattle.fj_built.specs.declared.deck.Deck.{Deck};
-ghost use Rattle.fj_job.specs.Answers.{IsAnswer, IsLost, LeavesDisk, HasCause, IfRefused, IfDiskFault, HasStatementOn, HasOutputBefore, IsMet, TakesDue, TakesFault, Replied, TakesReply};
+ghost use Rattle.fj_job.specs.Answers.{IsAnswer, IsLost, LeavesDisk, HasCause, IfEnded, IfRefused, IfDiskFault, HasDeck, HasStatementOn, HasOutputBefore, IsMet, TakesDue, TakesFault, Replied, TakesReply};
 ghost use Rattle.fj_job.specs.Reply.{run_reply, built_reply, IsRefusal, IsBuiltText};
 
 use crate::report::{check_report, run_report, status_of, status_report};
@@ -120,6 +120,7 @@ fn run_built<W: Sink, D: Disk>(alloc: Global, deck: &WholeDeck, out: &mut W, dis
         W.taken out.new ≡ W.taken out.old ++ (built_reply (built_of deck.now) (D.held disk.old).files).output }
     ensures files { IsAnswer result → D.tells disk.old → (D.held disk.new).files ≡ (built_reply (built_of deck.now) (D.held disk.old).files).files }
     ensures no_usage { result ≡ Status.Usage → ⊥ }
+    ensures ended { IfEnded result ((small : Deck) × (built_of deck.now ≡ Ok small)) }
     ensures refused { IfRefused result (λ line reason. (built_of deck.now ≡ Err line) × (reason ≡ Reason.NotBuilt)) }
     ensures changed { (disk.new ≡ disk.old) ⊎ ((small : Deck) × (built_of deck.now ≡ Ok small)) }
     ensures kept_by_answer { LeavesDisk result → disk.new ≡ disk.old }
@@ -149,6 +150,7 @@ pub fn run_text<W: Sink, D: Disk>(alloc: Global, text: &[u8], out: &mut W, disk:
     ensures replied { IsAnswer result → D.tells disk.old → Replied Task.Execute text.now (D.held disk.old).files result (D.held disk.new).files
         (λ output. W.tells out.old → W.taken out.new ≡ W.taken out.old ++ output) }
     ensures no_usage { result ≡ Status.Usage → ⊥ }
+    ensures ended { IfEnded result (HasDeck Task.Execute text.now) }
     ensures refused { IfRefused result (IsRefusal Task.Execute text.now) }
     ensures changed { (disk.new ≡ disk.old) ⊎ ((small : Deck) × IsBuiltText text.now small) }
     ensures kept_by_answer { LeavesDisk result → disk.new ≡ disk.old }
@@ -196,6 +198,7 @@ pub fn check_text<W: Sink>(alloc: Global, text: &[u8], out: &mut W) -> Status
         (λ output. W.tells out.old → W.taken out.new ≡ W.taken out.old ++ output) }
     ensures no_usage { result ≡ Status.Usage → ⊥ }
     ensures no_disk { IfDiskFault result (λ _. ⊥) }
+    ensures ended { IfEnded result (HasDeck Task.Check text.now) }
     ensures refused { IfRefused result (IsRefusal Task.Check text.now) }
     ensures prefix { W.tells out.old → (files : Files) → TakesReply Task.Check text.now files (W.taken out.old) (W.taken out.new) (λ _ _. ⊥) }
     ensures cause { HasCause ⊥ (Rose (W.count out.old) (W.count out.new)) ⊥ result }

@@ -1,7 +1,7 @@
 use Rattle.std.proofs.Common.{refl, sym, inl, inr, rules}
 use Rattle.fj_job.specs.Reply.{usage_reply}
 use Rattle.fj_job.specs.declared.task.Task.TheVariants.{Refuse, Check, Execute}
-use Rattle.fj_job.proofs.ReplyLaws.{replied_for, taken_for}
+use Rattle.fj_job.proofs.ReplyLaws.{replied_for, taken_for, ended_for, no_end}
 use Rattle.fj_job.proofs.job.reply.Goals as goal
 
 pub returns-in-Refuse-clause-replied : goal.returns-in-Refuse-clause-replied
@@ -28,3 +28,12 @@ returns-in-Execute-clause-replied g c = λ a t u. replied_for Execute c.args.tas
 
 pub returns-in-Execute-clause-prefix : goal.returns-in-Execute-clause-prefix
 returns-in-Execute-clause-prefix g c = λ t w u. taken_for Execute c.args.task _ _ _ _ _ _ (sym c.in-Execute.is) (λ n o f. f) (c.run_source.ensures.prefix t w u)
+
+pub returns-in-Refuse-clause-ended : goal.returns-in-Refuse-clause-ended
+returns-in-Refuse-clause-ended g c = λ t. no_end _ _ _ tt c.refuse_words.ensures.usage
+
+pub returns-in-Check-clause-ended : goal.returns-in-Check-clause-ended
+returns-in-Check-clause-ended g c = λ t. ended_for Check c.args.task _ _ (sym c.in-Check.is) (c.check_source.ensures.ended t)
+
+pub returns-in-Execute-clause-ended : goal.returns-in-Execute-clause-ended
+returns-in-Execute-clause-ended g c = λ t. ended_for Execute c.args.task _ _ (sym c.in-Execute.is) (c.run_source.ensures.ended t)

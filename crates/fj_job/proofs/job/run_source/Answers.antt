@@ -1,6 +1,6 @@
 use Rattle.fj_job.specs.Taken.{IsReadOf}
 use Rattle.fj_job.specs.declared.task.Task.TheVariants.{Execute}
-use Rattle.fj_job.proofs.ReplyLaws.{replied_whole, taken_whole, refused_whole, changed_whole, touching_whole, before_whole, fault_whole}
+use Rattle.fj_job.proofs.ReplyLaws.{replied_whole, taken_whole, refused_whole, changed_whole, touching_whole, before_whole, fault_whole, ended_whole}
 use Rattle.fj_job.proofs.job.run_source.Given
 use Rattle.fj_job.proofs.job.run_source.Goals as goal
 
@@ -25,3 +25,6 @@ returns-in-Ok-clause-prefix g c = λ t u v. taken_whole Execute _ _ _ _ _ _ _ (r
 
 pub returns-in-Ok-clause-fault_line : goal.returns-in-Ok-clause-fault_line
 returns-in-Ok-clause-fault_line g c = λ t u v. fault_whole _ _ _ _ _ c.run_text.result (read g c t) (c.run_text.ensures.fault_line u v)
+
+pub returns-in-Ok-clause-ended : goal.returns-in-Ok-clause-ended
+returns-in-Ok-clause-ended g c = λ t. ended_whole Execute _ _ c.run_text.result (read g c t) c.run_text.ensures.ended

@@ -1,5 +1,6 @@
 use Rattle.std.proofs.Common.{refl, inl, inr, Ok, Err, rules}
 use Rattle.fj_job.specs.Reply.{checked}
+use Rattle.fj_job.proofs.ReplyLaws.{ended_by, no_end}
 use Rattle.fj_job.proofs.text.check_text.Goals as goal
 
 pub returns-in-Ok-clause-replied : goal.returns-in-Ok-clause-replied
@@ -29,3 +30,9 @@ returns-in-Err-Refused-clause-prefix g c = λ t files. inr (
   (Err (c.in-Err-Refused.line, c.in-Err-Refused.reason), search rules, refl),
   inl (c.refuse_line.ensures.prefix t),
 )
+
+pub returns-in-Ok-clause-ended : goal.returns-in-Ok-clause-ended
+returns-in-Ok-clause-ended g c = ended_by c.check_deck.result _ (c.in-Ok.deck, c.in-Ok.ensures)
+
+pub returns-in-Err-Refused-clause-ended : goal.returns-in-Err-Refused-clause-ended
+returns-in-Err-Refused-clause-ended g c = no_end _ _ _ tt c.refuse_line.ensures.refused

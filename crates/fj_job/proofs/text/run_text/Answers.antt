@@ -1,6 +1,6 @@
 use Rattle.std.proofs.Common.{refl, inl, inr, Ok, Err, rules}
 use Rattle.fj_job.specs.Reply.{executed}
-use Rattle.fj_job.proofs.ReplyLaws.{due_weaker, fault_for}
+use Rattle.fj_job.proofs.ReplyLaws.{due_weaker, fault_for, ended_weaker, no_end}
 use Rattle.fj_job.proofs.text.run_text.Goals as goal
 
 pub returns-in-Ok-clause-replied : goal.returns-in-Ok-clause-replied
@@ -37,3 +37,9 @@ returns-in-Err-Refused-clause-prefix g c = λ t u. inr (
 
 pub returns-in-Ok-clause-fault_line : goal.returns-in-Ok-clause-fault_line
 returns-in-Ok-clause-fault_line g c = λ t u. fault_for _ _ _ _ c.run_built.result (λ stmt o f. (f.0, (c.in-Ok.deck, c.in-Ok.ensures, f.1), f.2)) (c.run_built.ensures.fault_line t u)
+
+pub returns-in-Ok-clause-ended : goal.returns-in-Ok-clause-ended
+returns-in-Ok-clause-ended g c = ended_weaker c.run_built.result _ _ (λ h. (h.0, (c.in-Ok.deck, c.in-Ok.ensures, h.1))) c.run_built.ensures.ended
+
+pub returns-in-Err-Refused-clause-ended : goal.returns-in-Err-Refused-clause-ended
+returns-in-Err-Refused-clause-ended g c = no_end _ _ _ tt c.refuse_line.ensures.refused
