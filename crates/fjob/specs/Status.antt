@@ -1,7 +1,7 @@
 -- How the program ends.
 use Rattle.std.specs.Prelude.{ℕ}
-use Rattle.fj_job.specs.declared.status.Status.{Status}
-use Rattle.fj_job.specs.declared.status.Status.TheVariants.{Ended, ErrorStop, Prohibited, DeckRefused, Usage, ReadFault, WriteFault, DiskFault, Memory}
+use Rattle.fj_report.specs.declared.status.Status.{Status}
+use Rattle.fj_report.specs.declared.status.Status.TheVariants.{Ended, ErrorStop, Prohibited, DeckRefused, Usage, ReadFault, WriteFault, DiskFault, Memory}
 
 -- the exit status of each answer
 abbrev pub exit_status_of : Status → ℕ
