@@ -5,10 +5,7 @@ use fj_value::Rule;
 use std::alloc::{AllocError, Global};
 use std::test::Fail;
 
-/// What the file G holds before a run.
-static OLD: &[u8] = b" 12\nx\n";
-
-/// The words, a deck, the answer, the output, and what the file G holds behind the run.
+/// The words, a deck, the answer, the output, and what the file G holds behind the run. Before it, it holds ` 12` and `x`.
 static ROWS: [(&str, &[u8], Status, &[u8], &[u8]); 24] = [
     ("alone", b"END\n", Status::Ended, b"= ended\n", b" 12\nx\n"),
     (
@@ -219,7 +216,7 @@ fn replies(rt: HostRuntime) -> Result<(), Fail> {
         let mut deck = MemorySource::new(alloc, text)?;
         let mut out = MemorySink::new(alloc);
         let mut disk = MemoryDisk::new(alloc);
-        disk.add_file("G", OLD)?;
+        disk.add_file("G", b" 12\nx\n")?;
         let answer = run_job(&rt, alloc, &words, &mut deck, &mut out, &mut disk);
         assert!(rt; answer == *status);
         assert_eq!(rt; out.taken(), *output);
@@ -295,7 +292,7 @@ fn answers_faults(rt: HostRuntime) -> Result<(), Fail> {
         let mut deck = FailingSource::new(alloc, MemorySource::new(alloc, text)?, &[source])?;
         let mut out = FailingSink::new(alloc, MemorySink::new(alloc), &[sink])?;
         let mut held = MemoryDisk::new(alloc);
-        held.add_file("G", OLD)?;
+        held.add_file("G", b" 12\nx\n")?;
         let mut disk = FailingDisk::new(alloc, held, &[own])?;
         disk.fail_file("G", &[file])?;
         let answer = alone_job(alloc, &words, &mut deck, &mut out, &mut disk);
