@@ -1,4 +1,7 @@
 // Rows that were worked by hand. The fields are those that gfortran 12 writes.
+ghost use Rattle.std.specs.Prelude.{◌≡◌, IfOk};
+ghost use Rattle.std.specs.FinSet as set;
+
 use crate::{Reason, Status, alone_job, run_job};
 use fj_outside::{FailingDisk, FailingSink, FailingSource, MemoryDisk, MemorySink, MemorySource};
 use fj_value::Rule;
@@ -208,6 +211,16 @@ fn words_of(alloc: Global, text: &str) -> Result<Vec<String>, AllocError> {
     Ok(words)
 }
 
+/// A disk with the file G.
+#[tactic(auto, using(fj_outside::proofs::HoldingLaws::free_of_empty))]
+fn disk_of(alloc: Global) -> Result<MemoryDisk, AllocError>
+    ensures { IfOk result (λ disk. disk.in_use ≡ set.empty) }
+{
+    let mut disk = MemoryDisk::new(alloc);
+    disk.add_file("G", b" 12\nx\n")?;
+    Ok(disk)
+}
+
 #[test]
 fn replies(rt: HostRuntime) -> Result<(), Fail> {
     let alloc = rt.alloc();
@@ -215,8 +228,7 @@ fn replies(rt: HostRuntime) -> Result<(), Fail> {
         let words = words_of(alloc, words)?;
         let mut deck = MemorySource::new(alloc, text)?;
         let mut out = MemorySink::new(alloc);
-        let mut disk = MemoryDisk::new(alloc);
-        disk.add_file("G", b" 12\nx\n")?;
+        let mut disk = disk_of(alloc)?;
         let answer = run_job(&rt, alloc, &words, &mut deck, &mut out, &mut disk);
         assert!(rt; answer == *status);
         assert_eq!(rt; out.taken(), *output);
@@ -291,9 +303,7 @@ fn answers_faults(rt: HostRuntime) -> Result<(), Fail> {
         let file = if *object == 3 { *k } else { 0 };
         let mut deck = FailingSource::new(alloc, MemorySource::new(alloc, text)?, &[source])?;
         let mut out = FailingSink::new(alloc, MemorySink::new(alloc), &[sink])?;
-        let mut held = MemoryDisk::new(alloc);
-        held.add_file("G", b" 12\nx\n")?;
-        let mut disk = FailingDisk::new(alloc, held, &[own])?;
+        let mut disk = FailingDisk::new(alloc, disk_of(alloc)?, &[own])?;
         disk.fail_file("G", &[file])?;
         let answer = alone_job(alloc, &words, &mut deck, &mut out, &mut disk);
         assert!(rt; answer == *status, "call {k} of object {object}");
