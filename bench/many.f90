@@ -1,5 +1,6 @@
 ! runs: 5
 ! output: compared
+! base: check
 program many
   integer :: i, k
   k = 42
