@@ -2,7 +2,8 @@
 # example: runs the deck of examples/first in a folder of its own
 # test: the gate
 # bench: the benchmarks, beside gfortran where it is on the machine
-.PHONY: build example examples test bench
+# checks: what no gate asks for: refused allocations, and random formats beside gfortran
+.PHONY: build example examples test bench checks
 
 build:
 	(cd crates/fjob && rt run -- check </dev/null >/dev/null) || test $$? -eq 4
@@ -19,3 +20,7 @@ test:
 
 bench: build
 	bench/run
+
+checks: build
+	checks/memory
+	checks/formats

@@ -1,4 +1,6 @@
 -- What the words ask for.
+use Rattle.std.specs.Prelude.{List, map, String, string_bytes}
+use Rattle.fj_report.specs.Words.{form_of}
 use Rattle.fj_report.specs.declared.form.Form.{Form}
 use Rattle.fj_report.specs.declared.form.Form.TheVariants as form
 use Rattle.fj_job.specs.declared.task.Task.{Task}
@@ -18,3 +20,11 @@ alone_task (form.Alone trace) = Execute
 alone_task form.Check = Check
 alone_task (form.Gen seed count text) = Refuse
 alone_task form.Wrong = Refuse
+
+-- what words ask of a run with workers
+abbrev pub asked {Z : Type 0} : List (String Z) → Task
+asked words = task_of (form_of (map string_bytes words))
+
+-- what they ask of a run on one thread
+abbrev pub asked_alone {Z : Type 0} : List (String Z) → Task
+asked_alone words = alone_task (form_of (map string_bytes words))

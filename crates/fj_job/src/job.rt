@@ -1,14 +1,12 @@
 // The top calls: from the words and the text of a deck to its report and its files.
-ghost use Rattle.std.specs.Prelude.{◌≡◌, ◌⊎◌, ◌≤◌, ◌++◌, ◌↔◌, string_bytes};
-ghost use Rattle.std.specs.Prelude.{map as list_map};
+ghost use Rattle.std.specs.Prelude.{◌≡◌, ◌⊎◌, ◌≤◌, ◌++◌, ◌↔◌};
 ghost use Rattle.std.specs.FinSet as set;
 ghost use Rattle.fj_outside.specs.Faults.{Rose};
 ghost use Rattle.fj_outside.specs.Holdings.{Files};
 ghost use Rattle.fj_built.specs.declared.deck.Deck.{Deck};
-ghost use Rattle.fj_report.specs.Words.{form_of};
 ghost use Rattle.fj_job.specs.Answers.{IsAnswer, IsLost, LeavesDisk, HasCause, IfEnded, IfRefused, IfDiskFault, HasDeck, HasStatementOn, HasOutputBefore, IsMet, Replied, TakesFault, TakesReply};
 ghost use Rattle.fj_job.specs.Reply.{IsRefusal, IsBuiltText};
-ghost use Rattle.fj_job.specs.Task.{task_of, alone_task};
+ghost use Rattle.fj_job.specs.Task.{asked, asked_alone};
 
 use crate::streams::read_text;
 use crate::task::{Task, alone_task, task_of};
@@ -168,32 +166,32 @@ pub fn alone_job<R: Source, W: Sink, D: Disk>(
     // An answer that is no fault and no want of memory is that of a reply to the words and the text, whose output is taken
     // and whose files are left.
     ensures replied { IsAnswer result → R.tells deck.old → D.tells disk.old →
-        Replied (alone_task (form_of (list_map string_bytes words.now))) (R.left deck.old) (D.held disk.old).files result (D.held disk.new).files
+        Replied (asked_alone words.now) (R.left deck.old) (D.held disk.old).files result (D.held disk.new).files
         (λ output. W.tells out.old → W.taken out.new ≡ W.taken out.old ++ output) }
 
     // Words that are no form, and they alone, are refused, unless the sink or memory fails.
-    ensures usage { result ≡ Status.Usage → (alone_task (form_of (list_map string_bytes words.now))) ≡ Task.Refuse }
-    ensures no_form { (alone_task (form_of (list_map string_bytes words.now))) ≡ Task.Refuse → (result ≡ Status.Usage) ⊎ IsLost result }
+    ensures usage { result ≡ Status.Usage → asked_alone words.now ≡ Task.Refuse }
+    ensures no_form { asked_alone words.now ≡ Task.Refuse → (result ≡ Status.Usage) ⊎ IsLost result }
 
     // What is refused is so at the line and for the reason that it has, and what is not is a deck that can be done what the
     // words ask for.
-    ensures ended { R.tells deck.old → IfEnded result (HasDeck (alone_task (form_of (list_map string_bytes words.now))) (R.left deck.old)) }
-    ensures refused { R.tells deck.old → IfRefused result (IsRefusal (alone_task (form_of (list_map string_bytes words.now))) (R.left deck.old)) }
+    ensures ended { R.tells deck.old → IfEnded result (HasDeck (asked_alone words.now) (R.left deck.old)) }
+    ensures refused { R.tells deck.old → IfRefused result (IsRefusal (asked_alone words.now) (R.left deck.old)) }
 
     // Where no deck is carried out, the disk is as it was.
-    ensures kept_by_words { (alone_task (form_of (list_map string_bytes words.now))) ≡ Task.Refuse → disk.new ≡ disk.old }
-    ensures kept_by_check { (alone_task (form_of (list_map string_bytes words.now))) ≡ Task.Check → disk.new ≡ disk.old }
+    ensures kept_by_words { asked_alone words.now ≡ Task.Refuse → disk.new ≡ disk.old }
+    ensures kept_by_check { asked_alone words.now ≡ Task.Check → disk.new ≡ disk.old }
     ensures changed { R.tells deck.old → (disk.new ≡ disk.old) ⊎ ((small : Deck) × IsBuiltText (R.left deck.old) small) }
     ensures kept_by_answer { LeavesDisk result → disk.new ≡ disk.old }
 
     // Words that are no form leave the source, and a fault of the source leaves the sink.
-    ensures unread { (alone_task (form_of (list_map string_bytes words.now))) ≡ Task.Refuse → deck.new ≡ deck.old }
+    ensures unread { asked_alone words.now ≡ Task.Refuse → deck.new ≡ deck.old }
     ensures untold { result ≡ Status.ReadFault → out.new ≡ out.old }
 
     // What the sink took is always a front of what is due, and after a disk fault it is what the statements before that one
     // write, and the fault's line.
     ensures prefix { R.tells deck.old → W.tells out.old → D.tells disk.old →
-        TakesReply (alone_task (form_of (list_map string_bytes words.now))) (R.left deck.old) (D.held disk.old).files (W.taken out.old) (W.taken out.new)
+        TakesReply (asked_alone words.now) (R.left deck.old) (D.held disk.old).files (W.taken out.old) (W.taken out.new)
         (λ stmt before. HasOutputBefore (R.left deck.old) (D.held disk.old).files stmt before × Rose (D.count disk.old) (D.count disk.new)) }
     ensures fault_line { R.tells deck.old → W.tells out.old → D.tells disk.old → IfDiskFault result
         (TakesFault (W.taken out.old) (W.taken out.new) (HasOutputBefore (R.left deck.old) (D.held disk.old).files)) }
@@ -201,7 +199,7 @@ pub fn alone_job<R: Source, W: Sink, D: Disk>(
     // Each fault has its cause. That of the disk has the line of the statement that met it.
     ensures cause { HasCause (Rose (R.count deck.old) (R.count deck.new)) (Rose (W.count out.old) (W.count out.new))
         (Rose (D.count disk.old) (D.count disk.new)) result }
-    ensures touching { R.tells deck.old → IfDiskFault result (λ line. ((alone_task (form_of (list_map string_bytes words.now))) ≡ Task.Execute) × HasStatementOn (R.left deck.old) line) }
+    ensures touching { R.tells deck.old → IfDiskFault result (λ line. (asked_alone words.now ≡ Task.Execute) × HasStatementOn (R.left deck.old) line) }
     ensures met { D.tells disk.old → IfDiskFault result (λ _. IsMet (Rose (D.refusals disk.old) (D.refusals disk.new)) (D.held disk.new)) }
 
     // Where no count rises the answer is that of a reply, or memory was wanting.
@@ -236,32 +234,32 @@ pub fn run_job<Rt: Threads + Wait + Sync, R: Source, W: Sink + Send, D: Disk + S
     // An answer that is no fault and no want of memory is that of a reply to the words and the text, whose output is taken
     // and whose files are left.
     ensures replied { IsAnswer result → R.tells deck.old → D.tells disk.old →
-        Replied (task_of (form_of (list_map string_bytes words.now))) (R.left deck.old) (D.held disk.old).files result (D.held disk.new).files
+        Replied (asked words.now) (R.left deck.old) (D.held disk.old).files result (D.held disk.new).files
         (λ output. W.tells out.old → W.taken out.new ≡ W.taken out.old ++ output) }
 
     // Words that are no form, and they alone, are refused, unless the sink or memory fails.
-    ensures usage { result ≡ Status.Usage → (task_of (form_of (list_map string_bytes words.now))) ≡ Task.Refuse }
-    ensures no_form { (task_of (form_of (list_map string_bytes words.now))) ≡ Task.Refuse → (result ≡ Status.Usage) ⊎ IsLost result }
+    ensures usage { result ≡ Status.Usage → asked words.now ≡ Task.Refuse }
+    ensures no_form { asked words.now ≡ Task.Refuse → (result ≡ Status.Usage) ⊎ IsLost result }
 
     // What is refused is so at the line and for the reason that it has, and what is not is a deck that can be done what the
     // words ask for.
-    ensures ended { R.tells deck.old → IfEnded result (HasDeck (task_of (form_of (list_map string_bytes words.now))) (R.left deck.old)) }
-    ensures refused { R.tells deck.old → IfRefused result (IsRefusal (task_of (form_of (list_map string_bytes words.now))) (R.left deck.old)) }
+    ensures ended { R.tells deck.old → IfEnded result (HasDeck (asked words.now) (R.left deck.old)) }
+    ensures refused { R.tells deck.old → IfRefused result (IsRefusal (asked words.now) (R.left deck.old)) }
 
     // Where no deck is carried out, the disk is as it was.
-    ensures kept_by_words { (task_of (form_of (list_map string_bytes words.now))) ≡ Task.Refuse → disk.new ≡ disk.old }
-    ensures kept_by_check { (task_of (form_of (list_map string_bytes words.now))) ≡ Task.Check → disk.new ≡ disk.old }
+    ensures kept_by_words { asked words.now ≡ Task.Refuse → disk.new ≡ disk.old }
+    ensures kept_by_check { asked words.now ≡ Task.Check → disk.new ≡ disk.old }
     ensures changed { R.tells deck.old → (disk.new ≡ disk.old) ⊎ ((small : Deck) × IsBuiltText (R.left deck.old) small) }
     ensures kept_by_answer { LeavesDisk result → disk.new ≡ disk.old }
 
     // Words that are no form leave the source, and a fault of the source leaves the sink.
-    ensures unread { (task_of (form_of (list_map string_bytes words.now))) ≡ Task.Refuse → deck.new ≡ deck.old }
+    ensures unread { asked words.now ≡ Task.Refuse → deck.new ≡ deck.old }
     ensures untold { result ≡ Status.ReadFault → out.new ≡ out.old }
 
     // What the sink took is always a front of what is due, and after a disk fault it is what the statements before that one
     // write, and the fault's line.
     ensures prefix { R.tells deck.old → W.tells out.old → D.tells disk.old →
-        TakesReply (task_of (form_of (list_map string_bytes words.now))) (R.left deck.old) (D.held disk.old).files (W.taken out.old) (W.taken out.new)
+        TakesReply (asked words.now) (R.left deck.old) (D.held disk.old).files (W.taken out.old) (W.taken out.new)
         (λ stmt before. HasOutputBefore (R.left deck.old) (D.held disk.old).files stmt before × Rose (D.count disk.old) (D.count disk.new)) }
     ensures fault_line { R.tells deck.old → W.tells out.old → D.tells disk.old → IfDiskFault result
         (TakesFault (W.taken out.old) (W.taken out.new) (HasOutputBefore (R.left deck.old) (D.held disk.old).files)) }
@@ -269,7 +267,7 @@ pub fn run_job<Rt: Threads + Wait + Sync, R: Source, W: Sink + Send, D: Disk + S
     // Each fault has its cause. That of the disk has the line of the statement that met it.
     ensures cause { HasCause (Rose (R.count deck.old) (R.count deck.new)) (Rose (W.count out.old) (W.count out.new))
         (Rose (D.count disk.old) (D.count disk.new)) result }
-    ensures touching { R.tells deck.old → IfDiskFault result (λ line. ((task_of (form_of (list_map string_bytes words.now))) ≡ Task.Execute) × HasStatementOn (R.left deck.old) line) }
+    ensures touching { R.tells deck.old → IfDiskFault result (λ line. (asked words.now ≡ Task.Execute) × HasStatementOn (R.left deck.old) line) }
     ensures met { D.tells disk.old → IfDiskFault result (λ _. IsMet (Rose (D.refusals disk.old) (D.refusals disk.new)) (D.held disk.new)) }
 
     // Where no count rises the answer is that of a reply, or memory was wanting.

@@ -4,12 +4,12 @@ ghost use Rattle.std.specs.FinSet as set;
 
 use crate::{Reason, Status, alone_job, run_job};
 use fj_outside::{FailingDisk, FailingSink, FailingSource, MemoryDisk, MemorySink, MemorySource};
-use fj_value::Rule;
+use fj_value::{Rule, Text};
 use std::alloc::{AllocError, Global};
 use std::test::Fail;
 
 /// The words, a deck, the answer, the output, and what the file G holds behind the run. Before it, it holds ` 12` and `x`.
-static ROWS: [(&str, &[u8], Status, &[u8], &[u8]); 24] = [
+static ROWS: [(&str, &[u8], Status, &[u8], &[u8]); 25] = [
     ("alone", b"END\n", Status::Ended, b"= ended\n", b" 12\nx\n"),
     (
         "run --workers 0",
@@ -17,6 +17,13 @@ static ROWS: [(&str, &[u8], Status, &[u8], &[u8]); 24] = [
         Status::Ended,
         b"= ended\nK = 42\n",
         b"   42\n",
+    ),
+    (
+        "alone",
+        b"INTEGER K\nK = 42\nOPEN(10,FILE='G',STATUS='REPLACE')\nWRITE(10,'(I1)') K\nCLOSE(10)\nEND\n",
+        Status::Ended,
+        b"= ended\nK = 42\n",
+        b"*\n",
     ),
     (
         "alone",
@@ -234,6 +241,199 @@ fn replies(rt: HostRuntime) -> Result<(), Fail> {
         assert_eq!(rt; out.taken(), *output);
         assert_eq!(rt; disk.bytes_of("G"), Some(*file));
     }
+    Ok(())
+}
+
+/// The lines of a deck that is carried out.
+static LINES: [&[u8]; 6] = [
+    b"INTEGER K",
+    b"K = 42",
+    b"OPEN(10,FILE='G',STATUS='REPLACE')",
+    b"WRITE(10,'(I5)') K",
+    b"CLOSE(10)",
+    b"END",
+];
+
+/// What stands in place of the line of that number, and the line and the reason for which the deck is then refused, as the sink
+/// is told.
+static WRONG: [(usize, &[u8], u32, Reason, &[u8]); 19] = [
+    (
+        1,
+        b"INTEGER 1K",
+        1,
+        Reason::Syntax,
+        b"= refused at 1: syntax\n",
+    ),
+    (1, b"REAL K", 1, Reason::Syntax, b"= refused at 1: syntax\n"),
+    (
+        1,
+        b"INTEGER K, K",
+        1,
+        Reason::Meaning,
+        b"= refused at 1: meaning\n",
+    ),
+    (
+        1,
+        b"INTEGER J",
+        2,
+        Reason::Meaning,
+        b"= refused at 2: meaning\n",
+    ),
+    (
+        1,
+        b"LOGICAL K",
+        2,
+        Reason::Meaning,
+        b"= refused at 2: meaning\n",
+    ),
+    (
+        2,
+        b"K = 42 43",
+        2,
+        Reason::Syntax,
+        b"= refused at 2: syntax\n",
+    ),
+    (
+        2,
+        b"K = 2147483648",
+        2,
+        Reason::Meaning,
+        b"= refused at 2: meaning\n",
+    ),
+    (
+        2,
+        b"K = 'x'",
+        2,
+        Reason::Meaning,
+        b"= refused at 2: meaning\n",
+    ),
+    (
+        3,
+        b"OPEN(10,FILE='G/H')",
+        3,
+        Reason::Syntax,
+        b"= refused at 3: syntax\n",
+    ),
+    (
+        3,
+        b"OPEN(10,IOSTAT=J)",
+        3,
+        Reason::Meaning,
+        b"= refused at 3: meaning\n",
+    ),
+    (
+        4,
+        b"WRITE(10,'(I5)' K",
+        4,
+        Reason::Syntax,
+        b"= refused at 4: syntax\n",
+    ),
+    (
+        4,
+        b"WRITE(10,'(I5') K",
+        4,
+        Reason::Format { at: 3 },
+        b"= refused at 4: format at 3\n",
+    ),
+    (
+        4,
+        b"WRITE(10,'(I5)') J",
+        4,
+        Reason::Meaning,
+        b"= refused at 4: meaning\n",
+    ),
+    (
+        4,
+        b"WRITE(10,*) K",
+        4,
+        Reason::NotBuilt,
+        b"= refused at 4: not built\n",
+    ),
+    (
+        5,
+        b"CLOSE(10",
+        5,
+        Reason::Syntax,
+        b"= refused at 5: syntax\n",
+    ),
+    (
+        5,
+        b"REWIND 10",
+        5,
+        Reason::NotBuilt,
+        b"= refused at 5: not built\n",
+    ),
+    (6, b"END K", 6, Reason::Syntax, b"= refused at 6: syntax\n"),
+    (
+        6,
+        b"CLOSE(10)",
+        7,
+        Reason::NoEnd,
+        b"= refused at 7: no end\n",
+    ),
+    (6, b"", 7, Reason::NoEnd, b"= refused at 7: no end\n"),
+];
+
+/// That deck with another line in place of the one of that number.
+fn with_line(alloc: Global, number: usize, line: &[u8]) -> Result<Text, AllocError> {
+    let mut text = Text::new(alloc);
+    for (index, own) in LINES.iter().enumerate() {
+        text.push_all(if index + 1 == number { line } else { own })?;
+        text.push_all(b"\n")?;
+    }
+    Ok(text)
+}
+
+#[test]
+fn refuses_each_line_that_is_wrong(rt: HostRuntime) -> Result<(), Fail> {
+    let alloc = rt.alloc();
+    let words = words_of(alloc, "alone")?;
+    for (number, wrong, line, reason, output) in WRONG.iter() {
+        let text = with_line(alloc, *number, wrong)?;
+        let mut deck = MemorySource::new(alloc, text.bytes())?;
+        let mut out = MemorySink::new(alloc);
+        let mut disk = disk_of(alloc)?;
+        let answer = alone_job(alloc, &words, &mut deck, &mut out, &mut disk);
+        let refused = Status::DeckRefused {
+            line: *line,
+            reason: *reason,
+        };
+        assert!(rt; answer == refused, "{wrong:?}");
+        assert_eq!(rt; out.taken(), *output, "{wrong:?}");
+        assert_eq!(rt;
+            disk.bytes_of("G"),
+            Some(b" 12\nx\n".as_slice()),
+            "{wrong:?}"
+        );
+    }
+    Ok(())
+}
+
+/// Whether a deck with comments of two bytes behind its end, and a last part, makes this answer and this output.
+fn is_told(alloc: Global, last: &[u8], status: Status, output: &[u8]) -> Result<bool, AllocError> {
+    let mut text = Text::from_bytes(alloc, b"END\n")?;
+    for _ in 0..2_097_150_u32 {
+        text.push_all(b"!\n")?;
+    }
+    text.push_all(last)?;
+    let words = words_of(alloc, "alone")?;
+    let mut deck = MemorySource::new(alloc, text.bytes())?;
+    let mut out = MemorySink::new(alloc);
+    let mut disk = disk_of(alloc)?;
+    let answer = alone_job(alloc, &words, &mut deck, &mut out, &mut disk);
+    Ok(answer == status && out.taken() == output)
+}
+
+/// A text has 4,194,304 bytes at most.
+#[test]
+fn refuses_a_text_one_byte_too_long(rt: HostRuntime) -> Result<(), AllocError> {
+    let alloc = rt.alloc();
+    let refused = Status::DeckRefused {
+        line: 1,
+        reason: Reason::TextTooLong,
+    };
+    assert!(rt; is_told(alloc, b"", Status::Ended, b"= ended\n")?);
+    assert!(rt; is_told(alloc, b"!", refused, b"= refused at 1: text too long\n")?);
     Ok(())
 }
 

@@ -162,6 +162,7 @@ impl Scan {
         ensures line { self.new.line ≡ self.old.line }
         ensures at { self.new.at
             ≡ self.old.at + position_or_len is_no_blank (drop self.old.at self.old.line) }
+        ensures kept { self.new ≡ record self.old { at = self.new.at } }
     {
         let rest = &self.line.bytes()[self.at..];
         let width = width_to(no_blank_in(rest), rest);
@@ -263,6 +264,7 @@ impl Scan {
         ensures sound { IsSound self.new }
         ensures count { self.new.count ≡ self.old.count }
         ensures form { self.new.form ≡ self.old.form }
+        ensures kept { self.new ≡ record self.old { at = self.new.at; characters = self.new.characters } }
         ensures piece { IfOk result (λ closes. (to_come : List (List ℕ)) →
             with_front self.old.characters (delimited mark false (ahead self.old to_come))
             ≡ piece_end closes mark self.new to_come) }

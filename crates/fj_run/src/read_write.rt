@@ -119,23 +119,23 @@ fn record_of(alloc: Global, width: u32, value: &Value) -> Result<Option<Text>, A
 /// Writes to the connection, if there is one.
 fn write_to<F: FileStore>(
     connected: &mut Option<Connected<F>>,
-    record: Option<&Text>,
+    text: Option<&Text>,
 ) -> Result<Condition, Stop>
     requires { IsPlaced F.size connected.old }
     ensures telling { IfSome connected.old (λ c. F.tells c.file) → IfSome connected.new (λ c. F.tells c.file) }
     ensures written { IfSome connected.old (λ c. F.tells c.file) → IfOk result (λ condition.
         (condition, option_map (connection_of F.bytes) connected.new)
-        ≡ put_to (option_map (λ text. text.now) record.entry) (option_map (connection_of F.bytes) connected.old)) }
+        ≡ put_to (option_map (λ chars. chars.now) text.entry) (option_map (connection_of F.bytes) connected.old)) }
     ensures names { names_of connected.new ≡ names_of connected.old }
     ensures placed { IsPlaced F.size connected.new }
     ensures failed { result ≡ Err Stop.Failed → IsHurtFile F.count connected.new }
 {
-    let record = match record {
-        Some(record) => record,
+    let text = match text {
+        Some(text) => text,
         None => return Ok(Condition::Error(12)),
     };
     match connected {
-        Some(connected) => put_record(connected, record.bytes()),
+        Some(connected) => put_record(connected, text.bytes()),
         None => Ok(Condition::Error(1)),
     }
 }

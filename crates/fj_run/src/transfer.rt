@@ -29,12 +29,12 @@ pub const USUAL_MODES: EditModes = EditModes {
 /// Puts a record, with its LF, behind the position. It is the last of the file.
 pub fn put_record<F: FileStore>(
     connected: &mut Connected<F>,
-    record: &[u8],
+    chars: &[u8],
 ) -> Result<Condition, Stop>
     requires { connected.old.at ≤ F.size connected.old.file }
     ensures telling { F.tells connected.old.file ↔ F.tells connected.new.file }
     ensures put { F.tells connected.old.file → IfOk result (λ condition.
-        (condition, connection_of F.bytes connected.new) ≡ with_record record.now (connection_of F.bytes connected.old)) }
+        (condition, connection_of F.bytes connected.new) ≡ with_record chars.now (connection_of F.bytes connected.old)) }
     ensures name { connected.new.name ≡ connected.old.name }
     ensures placed { connected.new.at ≤ F.size connected.new.file }
     ensures later { F.count connected.old.file ≤ F.count connected.new.file }
@@ -43,10 +43,10 @@ pub fn put_record<F: FileStore>(
     if connected.after_end {
         return Ok(Condition::Error(20));
     }
-    if connected.at > FILE_LIMIT || record.len() as u64 > FILE_LIMIT - connected.at {
+    if connected.at > FILE_LIMIT || chars.len() as u64 > FILE_LIMIT - connected.at {
         return Ok(Condition::Error(25));
     }
-    match append_records(&mut connected.file, connected.at, record, true) {
+    match append_records(&mut connected.file, connected.at, chars, true) {
         Ok(behind) => {
             connected.at = behind;
             Ok(Condition::Fine)

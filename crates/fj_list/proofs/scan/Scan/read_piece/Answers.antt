@@ -1,6 +1,7 @@
 use Rattle.std.proofs.Common.{◌≡◌, ◌+◌, ◌-◌, ◌∷◌, [], ◌++◌, eqb, take, drop, false, Some, slice_get, ap, sym, ◌∙◌, arith}
 use Rattle.std.proofs.lemmas.List.{take_rest}
 use Rattle.std.proofs.lemmas.Option.{slice_get_within}
+use Rattle.fj_list.specs.declared.scan.Scan.{Scan}
 use Rattle.fj_list.specs.Stream.{stream}
 use Rattle.fj_list.specs.ListInput.{delimited, with_front}
 use Rattle.fj_list.proofs.Widths.{width_found}
@@ -48,6 +49,7 @@ pieces-preserved c =
       sound = record { at = omega arith; start = kept.sound.start; end = kept.sound.end };
       count = kept.count;
       form = kept.form;
+      kept = ap {A = Scan} (λ t. record t { at = s.at + w + 1 + 1; characters = c.push_all-in-pieces.new.self }) kept.kept;
       piece = λ to_come.
           ap (λ cs. with_front cs (delimited mark false (stream (drop (s.at + w + 1 + 1) s.line ∷ to_come)))) (c.in_ok-push_all-2.ensures.ok ∙ ap (λ xs. xs ++ mark ∷ []) pushed)
           ∙ sym (piece_doubled mark s.line s.at w s.characters to_come kept.sound.at is (omega arith) star) ∙ kept.piece to_come;

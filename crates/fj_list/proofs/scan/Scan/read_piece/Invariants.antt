@@ -8,6 +8,7 @@ invariant-pieces l = record {
   sound : IsSound l.self;
   count : l.self.count ≡ l.fn.self.count;
   form : l.self.form ≡ l.fn.self.form;
+  kept : l.self ≡ record l.fn.self { at = l.self.at; characters = l.self.characters };
   piece : (to_come : List (List ℕ)) → with_front l.self.characters (delimited l.mark false (ahead l.self to_come)) ≡ with_front l.fn.self.characters (delimited l.mark false (ahead l.fn.self to_come));
 }
 
