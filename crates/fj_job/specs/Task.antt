@@ -22,9 +22,9 @@ alone_task (form.Gen seed count text) = Refuse
 alone_task form.Wrong = Refuse
 
 -- what words ask of a run with workers
-abbrev pub asked {Z : Type 0} : List (String Z) → Task
+abbrev pub asked : {Z : Type 0} → List (String Z) → Task
 asked words = task_of (form_of (map string_bytes words))
 
 -- what they ask of a run on one thread
-abbrev pub asked_alone {Z : Type 0} : List (String Z) → Task
+abbrev pub asked_alone : {Z : Type 0} → List (String Z) → Task
 asked_alone words = alone_task (form_of (map string_bytes words))
