@@ -21,9 +21,9 @@ pub use moved::{Cells, GroupMember, Moved, Order};
 pub use read::{read_list, serve};
 pub use records::{More, Records};
 pub use scan::{Scan, Token, is_separator};
-pub use shown::push_value;
+pub use shown::{gap, is_characters, push_value};
 pub use split::{advance, skip, split_value, supply};
-pub use write::write_list;
+pub use write::{COLUMNS, write_list};
 
 #[cfg(test)]
 mod tests;

@@ -1,6 +1,6 @@
 // The text of a value in list-directed output.
 ghost use Rattle.std.specs.Prelude.{◌≡◌, ◌++◌, OnOk};
-ghost use Rattle.fj_list.specs.ListText.{mark_of, doubled, characters_shown, integer_shown, shown, is_characters};
+ghost use Rattle.fj_list.specs.ListText.{mark_of, doubled, characters_shown, integer_shown, shown, gap, is_characters};
 
 use fj_value::{Delim, EditModes, Text, Value};
 use itoa::Buffer;
@@ -17,10 +17,22 @@ pub fn mark_of(delim: Delim) -> Option<u8>
     }
 }
 
+/// Whether a value is of type CHARACTER.
 pub fn is_characters(value: &Value) -> bool
     ensures { result ≡ is_characters value.now }
 {
     matches!(value, Value::Chars(_))
+}
+
+/// What stands before a value that is not the first in its record.
+pub fn gap(modes: EditModes, before: bool, after: bool) -> &'static [u8]
+    ensures { result.now ≡ gap modes before after }
+{
+    if before && after && modes.delim == Delim::Plain {
+        b""
+    } else {
+        b" "
+    }
 }
 
 fn push_integer(out: &mut Text, plus: bool, n: i64) -> Result<(), AllocError>

@@ -2,34 +2,23 @@
 ghost use Rattle.std.specs.Prelude.{◌≡◌, ◌++◌, ◌<◌, ◌≤◌, ◌-◌, ◌∷◌, List, All, length, map, IfOk, OnOk};
 ghost use Rattle.fj_value.specs.declared.value.Value.{Value};
 ghost use Rattle.fj_list.specs.Moved.{value_at, values_of, IsOrdered};
-ghost use Rattle.fj_list.specs.ListText.{listed, text_of, gap, is_characters, shown};
+ghost use Rattle.fj_list.specs.ListText.{listed, text_of, is_characters, shown};
 ghost use Rattle.fj_list.specs.Layout.{text_behind};
 ghost use Rattle.fj_list.specs.ReadAgain.{AreReadAgain};
 
 use crate::moved::{Cells, Moved};
-use crate::shown::{is_characters, push_value};
-use fj_value::{Delim, EditModes, Text, Value};
+use crate::shown::{gap, is_characters, push_value};
+use fj_value::{EditModes, Text, Value};
 use std::alloc::{AllocError, Global};
 
 /// A record has no more columns, unless its one value is longer.
-const COLUMNS: usize = 80;
+pub const COLUMNS: usize = 80;
 
 fn value_at(cells: &Cells, at: u32) -> &Value
     requires { at < length cells.now }
     ensures { result.now ≡ value_at cells.now at }
 {
     &cells.as_slice()[at as usize].value
-}
-
-/// What stands before a value that is not the first in its record.
-fn gap(modes: EditModes, before: bool, after: bool) -> &'static [u8]
-    ensures { result.now ≡ gap modes before after }
-{
-    if before && after && modes.delim == Delim::Plain {
-        b""
-    } else {
-        b" "
-    }
 }
 
 /// Appends the next value and answers where its record begins.

@@ -2,36 +2,16 @@
 ghost use Rattle.std.specs.Prelude.{◌≡◌, ◌++◌, ◌∷◌, ◌+◌, ◌≤◌, ◌<◌, [], All, List, length, map, take, drop, OnOk, Ok};
 ghost use Rattle.fj_control.specs.Line.{begun};
 ghost use Rattle.fj_list.specs.Moved.{value_at};
-ghost use Rattle.fj_list.specs.ListText.{gap, is_characters, shown};
+ghost use Rattle.fj_list.specs.ListText.{shown};
 ghost use Rattle.fj_transfer.specs.Explicit.{Action, put, end_record, carried_out, fails};
 ghost use Rattle.fj_transfer.specs.Listing.{next_text, width_behind, texts_behind, listed_texts, listed_transfer};
 ghost use Rattle.fj_transfer.specs.Printing.{Halts, printed};
 
 use crate::halt::Halt;
 use crate::page::Page;
-use fj_list::push_value;
-use fj_value::{Cell, Delim, EditModes, Text, Value};
+use fj_list::{COLUMNS, gap, is_characters, push_value};
+use fj_value::{Cell, EditModes, Text, Value};
 use std::alloc::AllocError;
-
-/// A record has no more columns, unless its one value is longer.
-const COLUMNS: u64 = 80;
-
-fn is_characters(value: &Value) -> bool
-    ensures { result ≡ is_characters value.now }
-{
-    matches!(value, Value::Chars(_))
-}
-
-/// What stands before a value that is not the first in its record.
-fn gap(modes: EditModes, before: bool, after: bool) -> &'static [u8]
-    ensures { result.now ≡ gap modes before after }
-{
-    if before && after && modes.delim == Delim::Plain {
-        b""
-    } else {
-        b" "
-    }
-}
 
 /// Puts the text of a value into the buffer, behind what stands before it.
 fn show(buffer: &mut Text, modes: EditModes, before: &[u8], value: &Value) -> Result<(), AllocError>
@@ -84,7 +64,7 @@ fn put_next(page: &mut Page, before: usize, text: &[u8], out: &mut Text) -> Resu
         ≡ width_behind (length page.old.line.text) (take before text.now) (drop before text.now)) }
     ensures kept { take (length out.old) out.new ≡ out.old }
 {
-    if page.width() + text.len() as u64 <= COLUMNS {
+    if page.width() + text.len() as u64 <= COLUMNS as u64 {
         return page.put(text);
     }
     put_first(page, &text[before..], out)
