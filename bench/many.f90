@@ -1,4 +1,4 @@
-! runs: 5
+! runs: 15
 ! output: compared
 ! base: check
 program many

@@ -1,4 +1,4 @@
-! runs: 5
+! runs: 15
 ! output: compared
 program wide
   integer, allocatable :: v(:)

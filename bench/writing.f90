@@ -1,4 +1,4 @@
-! runs: 5
+! runs: 15
 ! base: check
 program writing
   integer :: i, k

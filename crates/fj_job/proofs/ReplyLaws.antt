@@ -134,32 +134,27 @@ statement_whole held text line e s = (s.0, built_whole held text s.0 e s.1, s.2)
 pub before_whole : (held text : List ℕ) (files : Files) (line : ℕ) (output : List ℕ) → IsReadOf 4194304 held text → HasOutputBefore text files line output → HasOutputBefore held files line output
 before_whole held text files line output e s = (s.0, built_whole held text s.0 e s.1, s.2)
 
+pub fault_weaker : (s : Status) (P Q : ℕ → Type 0) → ((n : ℕ) → P n → Q n) → IfDiskFault s P → IfDiskFault s Q
+fault_weaker Ended P Q f h = tt
+fault_weaker (ErrorStop stmt code) P Q f h = tt
+fault_weaker (Prohibited stmt rule) P Q f h = tt
+fault_weaker (DeckRefused line reason) P Q f h = tt
+fault_weaker Usage P Q f h = tt
+fault_weaker ReadFault P Q f h = tt
+fault_weaker WriteFault P Q f h = tt
+fault_weaker (DiskFault stmt) P Q f h = f stmt h
+fault_weaker Memory P Q f h = tt
+
 pub fault_for : (old new : List ℕ) (F G : ℕ → List ℕ → Type 0) (status : Status) → ((n : ℕ) (o : List ℕ) → F n o → G n o)
     → IfDiskFault status (TakesFault old new F) → IfDiskFault status (TakesFault old new G)
-fault_for old new F G Ended f h = tt
-fault_for old new F G (ErrorStop stmt code) f h = tt
-fault_for old new F G (Prohibited stmt rule) f h = tt
-fault_for old new F G (DeckRefused line reason) f h = tt
-fault_for old new F G Usage f h = tt
-fault_for old new F G ReadFault f h = tt
-fault_for old new F G WriteFault f h = tt
-fault_for old new F G (DiskFault stmt) f h = (h.0, f stmt h.0 h.1, h.2)
-fault_for old new F G Memory f h = tt
+fault_for old new F G status f h = fault_weaker status (TakesFault old new F) (TakesFault old new G) (λ n t. (t.0, f n t.0 t.1, t.2)) h
 
 pub fault_whole : (held text : List ℕ) (files : Files) (old new : List ℕ) (status : Status) → IsReadOf 4194304 held text
     → IfDiskFault status (TakesFault old new (HasOutputBefore text files)) → IfDiskFault status (TakesFault old new (HasOutputBefore held files))
 fault_whole held text files old new status e h = fault_for old new _ _ status (λ n o b. before_whole held text files n o e b) h
 
 pub touching_whole : (held text : List ℕ) (status : Status) → IsReadOf 4194304 held text → IfDiskFault status (HasStatementOn text) → IfDiskFault status (HasStatementOn held)
-touching_whole held text Ended e h = tt
-touching_whole held text (ErrorStop stmt code) e h = tt
-touching_whole held text (Prohibited stmt rule) e h = tt
-touching_whole held text (DeckRefused line reason) e h = tt
-touching_whole held text Usage e h = tt
-touching_whole held text ReadFault e h = tt
-touching_whole held text WriteFault e h = tt
-touching_whole held text (DiskFault stmt) e h = statement_whole held text stmt e h
-touching_whole held text Memory e h = tt
+touching_whole held text status e h = fault_weaker status (HasStatementOn text) (HasStatementOn held) (λ n t. statement_whole held text n e t) h
 
 pub refusal_whole : (task : Task) (held text : List ℕ) (line : ℕ) (reason : Reason) → IsReadOf 4194304 held text → IsRefusal task text line reason → IsRefusal task held line reason
 refusal_whole Refuse held text line reason e h = h
@@ -178,16 +173,10 @@ refused_whole task held text WriteFault e h = tt
 refused_whole task held text (DiskFault stmt) e h = tt
 refused_whole task held text Memory e h = tt
 
--- by equal tasks
-pub replied_for : (task other : Task) (text : List ℕ) (files : Files) (status : Status) (left : Files) (Taken : List ℕ → Type 0) → task ≡ other
-    → Replied task text files status left Taken → Replied other text files status left Taken
-replied_for task other text files status left Taken e r = subst (λ (x : Task). Replied x text files status left Taken) e r
-
-pub taken_for : (task other : Task) (text : List ℕ) (files : Files) (old new : List ℕ) (F G : ℕ → List ℕ → Type 0) → task ≡ other → ((n : ℕ) (o : List ℕ) → F n o → G n o)
-    → TakesReply task text files old new F → TakesReply other text files old new G
-taken_for task other text files old new F G e f (inl same) = inl same
-taken_for task other text files old new F G e f (inr due) =
-    inr (due.0, subst (λ (x : Task). IsReplyTo x text files due.0) e due.1, due_weaker _ _ _ F G f due.2)
+pub taken_weaker : (task : Task) (text : List ℕ) (files : Files) (old new : List ℕ) (F G : ℕ → List ℕ → Type 0) → ((n : ℕ) (o : List ℕ) → F n o → G n o)
+    → TakesReply task text files old new F → TakesReply task text files old new G
+taken_weaker task text files old new F G f (inl same) = inl same
+taken_weaker task text files old new F G f (inr due) = inr (due.0, due.1, due_weaker _ _ _ F G f due.2)
 
 -- ---- answers of a deck
 
@@ -236,6 +225,3 @@ deck_whole Execute held text e h = (h.0, built_whole held text h.0 e h.1)
 
 pub ended_whole : (task : Task) (held text : List ℕ) (s : Status) → IsReadOf 4194304 held text → IfEnded s (HasDeck task text) → IfEnded s (HasDeck task held)
 ended_whole task held text s e h = ended_weaker s _ _ (deck_whole task held text e) h
-
-pub ended_for : (task other : Task) (text : List ℕ) (s : Status) → task ≡ other → IfEnded s (HasDeck task text) → IfEnded s (HasDeck other text)
-ended_for task other text s e h = subst (λ (x : Task). IfEnded s (HasDeck x text)) e h

@@ -12,7 +12,7 @@ use Rattle.fj_report.specs.declared.status.Status.{Status}
 use Rattle.fj_report.specs.declared.status.Status.TheVariants.{Ended, ErrorStop, Prohibited, DeckRefused, Usage, ReadFault, WriteFault, DiskFault, Memory}
 use Rattle.fj_job.specs.declared.task.Task.{Task}
 use Rattle.fj_job.specs.declared.task.Task.TheVariants.{Refuse, Check, Execute}
-use Rattle.fj_job.specs.Reply.{Reply, IsReplyTo, IsBuiltText}
+use Rattle.fj_job.specs.Reply.{Reply, IsReplyTo, IsBuiltText, IsRefusal}
 
 -- neither a fault nor want of memory
 abbrev pub IsAnswer : Status → Type 0
@@ -102,3 +102,27 @@ pub record Replied (task : Task) (text : List ℕ) (files : Files) (status : Sta
 -- nothing was taken, or what is due by a reply
 abbrev pub TakesReply : Task → List ℕ → Files → List ℕ → List ℕ → (ℕ → List ℕ → Type 0) → Type 0
 TakesReply task text files old new failed = (new ≡ old) ⊎ ((reply : Reply) × IsReplyTo task text files reply × TakesDue old new reply.output failed)
+
+-- What a run tells. Source, sink and disk each tell what they hold or do not, and their counts of faults rose or did not. The
+-- source has this text, the disk has these files before and those after, and the sink took this before and that after.
+pub record Told (task : Task) (status : Status) (SourceTells SinkTells DiskTells : Type 0) (text : List ℕ) (files left : Files)
+    (old new : List ℕ) (SourceRose SinkRose DiskRose : Type 0) : Type 0 where
+  -- An answer that is no fault and no want of memory is that of a reply to the words and the text, whose output is taken and
+  -- whose files are left.
+  pub replied : IsAnswer status → SourceTells → DiskTells → Replied task text files status left (λ output. SinkTells → new ≡ old ++ output)
+  -- Words that are no form, and they alone, are refused, unless the sink or memory fails.
+  pub usage : status ≡ Usage → task ≡ Refuse
+  pub no_form : task ≡ Refuse → (status ≡ Usage) ⊎ IsLost status
+  -- What is refused is so at the line and for the reason that it has, and what is not is a deck that can be done what the
+  -- words ask for.
+  pub ended : SourceTells → IfEnded status (HasDeck task text)
+  pub refused : SourceTells → IfRefused status (IsRefusal task text)
+  -- What the sink took is always a front of what is due, and after a disk fault it is what the statements before that one
+  -- write, and the fault's line.
+  pub prefix : SourceTells → SinkTells → DiskTells → TakesReply task text files old new (λ stmt before. HasOutputBefore text files stmt before × DiskRose)
+  pub fault_line : SourceTells → SinkTells → DiskTells → IfDiskFault status (TakesFault old new (HasOutputBefore text files))
+  -- Each fault has its cause. That of the disk has the line of the statement that met it.
+  pub cause : HasCause SourceRose SinkRose DiskRose status
+  pub touching : SourceTells → IfDiskFault status (λ line. (task ≡ Execute) × HasStatementOn text line)
+  -- Where no count rises the answer is that of a reply, or memory was wanting.
+  pub fine : (SourceRose → ⊥) → (SinkRose → ⊥) → (DiskRose → ⊥) → (status ≡ Memory) ⊎ IsAnswer status

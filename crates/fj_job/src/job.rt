@@ -4,7 +4,7 @@ ghost use Rattle.std.specs.FinSet as set;
 ghost use Rattle.fj_outside.specs.Faults.{Rose};
 ghost use Rattle.fj_outside.specs.Holdings.{Files};
 ghost use Rattle.fj_built.specs.declared.deck.Deck.{Deck};
-ghost use Rattle.fj_job.specs.Answers.{IsAnswer, IsLost, LeavesDisk, HasCause, IfEnded, IfRefused, IfDiskFault, HasDeck, HasStatementOn, HasOutputBefore, IsMet, Replied, TakesFault, TakesReply};
+ghost use Rattle.fj_job.specs.Answers.{IsAnswer, LeavesDisk, HasCause, IfEnded, IfRefused, IfDiskFault, HasDeck, HasStatementOn, HasOutputBefore, IsMet, Replied, Told, TakesFault, TakesReply};
 ghost use Rattle.fj_job.specs.Reply.{IsRefusal, IsBuiltText};
 ghost use Rattle.fj_job.specs.Task.{asked, asked_alone};
 
@@ -95,20 +95,11 @@ fn reply<R: Source, W: Sink, D: Disk>(
 ) -> Status
     requires { D.tells disk.old → (D.held disk.old).in_use ≡ set.empty }
 
-    // An answer that is no fault and no want of memory is that of a reply to the words and the text, whose output is taken
-    // and whose files are left.
-    ensures replied { IsAnswer result → R.tells deck.old → D.tells disk.old →
-        Replied task (R.left deck.old) (D.held disk.old).files result (D.held disk.new).files
-        (λ output. W.tells out.old → W.taken out.new ≡ W.taken out.old ++ output) }
-
-    // Words that are no form, and they alone, are refused, unless the sink or memory fails.
-    ensures usage { result ≡ Status.Usage → task ≡ Task.Refuse }
-    ensures no_form { task ≡ Task.Refuse → (result ≡ Status.Usage) ⊎ IsLost result }
-
-    // What is refused is so at the line and for the reason that it has, and what is not is a deck that can be done what the
-    // words ask for.
-    ensures ended { R.tells deck.old → IfEnded result (HasDeck task (R.left deck.old)) }
-    ensures refused { R.tells deck.old → IfRefused result (IsRefusal task (R.left deck.old)) }
+    // What is answered, taken and left.
+    ensures told { Told task result (R.tells deck.old) (W.tells out.old) (D.tells disk.old) (R.left deck.old)
+        (D.held disk.old).files (D.held disk.new).files (W.taken out.old) (W.taken out.new)
+        (Rose (R.count deck.old) (R.count deck.new)) (Rose (W.count out.old) (W.count out.new)) (Rose (D.count disk.old) (D.count disk.new)) }
+    ensures met { D.tells disk.old → IfDiskFault result (λ _. IsMet (Rose (D.refusals disk.old) (D.refusals disk.new)) (D.held disk.new)) }
 
     // Where no deck is carried out, the disk is as it was.
     ensures kept_by_words { task ≡ Task.Refuse → disk.new ≡ disk.old }
@@ -119,24 +110,6 @@ fn reply<R: Source, W: Sink, D: Disk>(
     // Words that are no form leave the source, and a fault of the source leaves the sink.
     ensures unread { task ≡ Task.Refuse → deck.new ≡ deck.old }
     ensures untold { result ≡ Status.ReadFault → out.new ≡ out.old }
-
-    // What the sink took is always a front of what is due, and after a disk fault it is what the statements before that one
-    // write, and the fault's line.
-    ensures prefix { R.tells deck.old → W.tells out.old → D.tells disk.old →
-        TakesReply task (R.left deck.old) (D.held disk.old).files (W.taken out.old) (W.taken out.new)
-        (λ stmt before. HasOutputBefore (R.left deck.old) (D.held disk.old).files stmt before × Rose (D.count disk.old) (D.count disk.new)) }
-    ensures fault_line { R.tells deck.old → W.tells out.old → D.tells disk.old → IfDiskFault result
-        (TakesFault (W.taken out.old) (W.taken out.new) (HasOutputBefore (R.left deck.old) (D.held disk.old).files)) }
-
-    // Each fault has its cause. That of the disk has the line of the statement that met it.
-    ensures cause { HasCause (Rose (R.count deck.old) (R.count deck.new)) (Rose (W.count out.old) (W.count out.new))
-        (Rose (D.count disk.old) (D.count disk.new)) result }
-    ensures touching { R.tells deck.old → IfDiskFault result (λ line. (task ≡ Task.Execute) × HasStatementOn (R.left deck.old) line) }
-    ensures met { D.tells disk.old → IfDiskFault result (λ _. IsMet (Rose (D.refusals disk.old) (D.refusals disk.new)) (D.held disk.new)) }
-
-    // Where no count rises the answer is that of a reply, or memory was wanting.
-    ensures fine { (Rose (R.count deck.old) (R.count deck.new) → ⊥) → (Rose (W.count out.old) (W.count out.new) → ⊥)
-        → (Rose (D.count disk.old) (D.count disk.new) → ⊥) → (result ≡ Status.Memory) ⊎ IsAnswer result }
 
     ensures in_use { D.tells disk.old → (D.held disk.new).in_use ≡ set.empty }
     ensures deck_telling { R.tells deck.old ↔ R.tells deck.new }
@@ -163,20 +136,11 @@ pub fn alone_job<R: Source, W: Sink, D: Disk>(
 ) -> Status
     requires { D.tells disk.old → (D.held disk.old).in_use ≡ set.empty }
 
-    // An answer that is no fault and no want of memory is that of a reply to the words and the text, whose output is taken
-    // and whose files are left.
-    ensures replied { IsAnswer result → R.tells deck.old → D.tells disk.old →
-        Replied (asked_alone words.now) (R.left deck.old) (D.held disk.old).files result (D.held disk.new).files
-        (λ output. W.tells out.old → W.taken out.new ≡ W.taken out.old ++ output) }
-
-    // Words that are no form, and they alone, are refused, unless the sink or memory fails.
-    ensures usage { result ≡ Status.Usage → asked_alone words.now ≡ Task.Refuse }
-    ensures no_form { asked_alone words.now ≡ Task.Refuse → (result ≡ Status.Usage) ⊎ IsLost result }
-
-    // What is refused is so at the line and for the reason that it has, and what is not is a deck that can be done what the
-    // words ask for.
-    ensures ended { R.tells deck.old → IfEnded result (HasDeck (asked_alone words.now) (R.left deck.old)) }
-    ensures refused { R.tells deck.old → IfRefused result (IsRefusal (asked_alone words.now) (R.left deck.old)) }
+    // What is answered, taken and left.
+    ensures told { Told (asked_alone words.now) result (R.tells deck.old) (W.tells out.old) (D.tells disk.old) (R.left deck.old)
+        (D.held disk.old).files (D.held disk.new).files (W.taken out.old) (W.taken out.new)
+        (Rose (R.count deck.old) (R.count deck.new)) (Rose (W.count out.old) (W.count out.new)) (Rose (D.count disk.old) (D.count disk.new)) }
+    ensures met { D.tells disk.old → IfDiskFault result (λ _. IsMet (Rose (D.refusals disk.old) (D.refusals disk.new)) (D.held disk.new)) }
 
     // Where no deck is carried out, the disk is as it was.
     ensures kept_by_words { asked_alone words.now ≡ Task.Refuse → disk.new ≡ disk.old }
@@ -187,24 +151,6 @@ pub fn alone_job<R: Source, W: Sink, D: Disk>(
     // Words that are no form leave the source, and a fault of the source leaves the sink.
     ensures unread { asked_alone words.now ≡ Task.Refuse → deck.new ≡ deck.old }
     ensures untold { result ≡ Status.ReadFault → out.new ≡ out.old }
-
-    // What the sink took is always a front of what is due, and after a disk fault it is what the statements before that one
-    // write, and the fault's line.
-    ensures prefix { R.tells deck.old → W.tells out.old → D.tells disk.old →
-        TakesReply (asked_alone words.now) (R.left deck.old) (D.held disk.old).files (W.taken out.old) (W.taken out.new)
-        (λ stmt before. HasOutputBefore (R.left deck.old) (D.held disk.old).files stmt before × Rose (D.count disk.old) (D.count disk.new)) }
-    ensures fault_line { R.tells deck.old → W.tells out.old → D.tells disk.old → IfDiskFault result
-        (TakesFault (W.taken out.old) (W.taken out.new) (HasOutputBefore (R.left deck.old) (D.held disk.old).files)) }
-
-    // Each fault has its cause. That of the disk has the line of the statement that met it.
-    ensures cause { HasCause (Rose (R.count deck.old) (R.count deck.new)) (Rose (W.count out.old) (W.count out.new))
-        (Rose (D.count disk.old) (D.count disk.new)) result }
-    ensures touching { R.tells deck.old → IfDiskFault result (λ line. (asked_alone words.now ≡ Task.Execute) × HasStatementOn (R.left deck.old) line) }
-    ensures met { D.tells disk.old → IfDiskFault result (λ _. IsMet (Rose (D.refusals disk.old) (D.refusals disk.new)) (D.held disk.new)) }
-
-    // Where no count rises the answer is that of a reply, or memory was wanting.
-    ensures fine { (Rose (R.count deck.old) (R.count deck.new) → ⊥) → (Rose (W.count out.old) (W.count out.new) → ⊥)
-        → (Rose (D.count disk.old) (D.count disk.new) → ⊥) → (result ≡ Status.Memory) ⊎ IsAnswer result }
 
     ensures in_use { D.tells disk.old → (D.held disk.new).in_use ≡ set.empty }
     ensures deck_telling { R.tells deck.old ↔ R.tells deck.new }
@@ -231,20 +177,11 @@ pub fn run_job<Rt: Threads + Wait + Sync, R: Source, W: Sink + Send, D: Disk + S
 ) -> Status
     requires { D.tells disk.old → (D.held disk.old).in_use ≡ set.empty }
 
-    // An answer that is no fault and no want of memory is that of a reply to the words and the text, whose output is taken
-    // and whose files are left.
-    ensures replied { IsAnswer result → R.tells deck.old → D.tells disk.old →
-        Replied (asked words.now) (R.left deck.old) (D.held disk.old).files result (D.held disk.new).files
-        (λ output. W.tells out.old → W.taken out.new ≡ W.taken out.old ++ output) }
-
-    // Words that are no form, and they alone, are refused, unless the sink or memory fails.
-    ensures usage { result ≡ Status.Usage → asked words.now ≡ Task.Refuse }
-    ensures no_form { asked words.now ≡ Task.Refuse → (result ≡ Status.Usage) ⊎ IsLost result }
-
-    // What is refused is so at the line and for the reason that it has, and what is not is a deck that can be done what the
-    // words ask for.
-    ensures ended { R.tells deck.old → IfEnded result (HasDeck (asked words.now) (R.left deck.old)) }
-    ensures refused { R.tells deck.old → IfRefused result (IsRefusal (asked words.now) (R.left deck.old)) }
+    // What is answered, taken and left.
+    ensures told { Told (asked words.now) result (R.tells deck.old) (W.tells out.old) (D.tells disk.old) (R.left deck.old)
+        (D.held disk.old).files (D.held disk.new).files (W.taken out.old) (W.taken out.new)
+        (Rose (R.count deck.old) (R.count deck.new)) (Rose (W.count out.old) (W.count out.new)) (Rose (D.count disk.old) (D.count disk.new)) }
+    ensures met { D.tells disk.old → IfDiskFault result (λ _. IsMet (Rose (D.refusals disk.old) (D.refusals disk.new)) (D.held disk.new)) }
 
     // Where no deck is carried out, the disk is as it was.
     ensures kept_by_words { asked words.now ≡ Task.Refuse → disk.new ≡ disk.old }
@@ -255,24 +192,6 @@ pub fn run_job<Rt: Threads + Wait + Sync, R: Source, W: Sink + Send, D: Disk + S
     // Words that are no form leave the source, and a fault of the source leaves the sink.
     ensures unread { asked words.now ≡ Task.Refuse → deck.new ≡ deck.old }
     ensures untold { result ≡ Status.ReadFault → out.new ≡ out.old }
-
-    // What the sink took is always a front of what is due, and after a disk fault it is what the statements before that one
-    // write, and the fault's line.
-    ensures prefix { R.tells deck.old → W.tells out.old → D.tells disk.old →
-        TakesReply (asked words.now) (R.left deck.old) (D.held disk.old).files (W.taken out.old) (W.taken out.new)
-        (λ stmt before. HasOutputBefore (R.left deck.old) (D.held disk.old).files stmt before × Rose (D.count disk.old) (D.count disk.new)) }
-    ensures fault_line { R.tells deck.old → W.tells out.old → D.tells disk.old → IfDiskFault result
-        (TakesFault (W.taken out.old) (W.taken out.new) (HasOutputBefore (R.left deck.old) (D.held disk.old).files)) }
-
-    // Each fault has its cause. That of the disk has the line of the statement that met it.
-    ensures cause { HasCause (Rose (R.count deck.old) (R.count deck.new)) (Rose (W.count out.old) (W.count out.new))
-        (Rose (D.count disk.old) (D.count disk.new)) result }
-    ensures touching { R.tells deck.old → IfDiskFault result (λ line. (asked words.now ≡ Task.Execute) × HasStatementOn (R.left deck.old) line) }
-    ensures met { D.tells disk.old → IfDiskFault result (λ _. IsMet (Rose (D.refusals disk.old) (D.refusals disk.new)) (D.held disk.new)) }
-
-    // Where no count rises the answer is that of a reply, or memory was wanting.
-    ensures fine { (Rose (R.count deck.old) (R.count deck.new) → ⊥) → (Rose (W.count out.old) (W.count out.new) → ⊥)
-        → (Rose (D.count disk.old) (D.count disk.new) → ⊥) → (result ≡ Status.Memory) ⊎ IsAnswer result }
 
     ensures in_use { D.tells disk.old → (D.held disk.new).in_use ≡ set.empty }
     ensures deck_telling { R.tells deck.old ↔ R.tells deck.new }
