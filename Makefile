@@ -2,7 +2,7 @@
 # example: runs the deck of examples/first in a folder of its own
 # test: the gate
 # bench: the benchmarks, beside gfortran where it is on the machine
-# checks: what no gate asks for: refused allocations, and random formats beside gfortran
+# checks: what no gate asks for: refused allocations, and random statements beside gfortran
 .PHONY: build example examples test bench checks
 
 build:
@@ -24,3 +24,4 @@ bench: build
 checks: build
 	checks/memory
 	checks/formats
+	checks/reads
