@@ -69,7 +69,7 @@ abbrev pub IfDiskFault : Status → (ℕ → Type 0) → Type 0
 IfDiskFault (DiskFault stmt) P = P stmt
 IfDiskFault _ P = Unit {0}
 
--- the text is a deck of today's forms with a statement on this line
+-- the text is a deck of today's forms with a statement on a file on this line
 abbrev pub HasStatementOn : List ℕ → ℕ → Type 0
 HasStatementOn text line = (small : Deck) × IsBuiltText text small × IsLineOf small.statements line
 
@@ -121,7 +121,7 @@ pub record Told (task : Task) (status : Status) (SourceTells SinkTells DiskTells
   -- write, and the fault's line.
   pub prefix : SourceTells → SinkTells → DiskTells → TakesReply task text files old new (λ stmt before. HasOutputBefore text files stmt before × DiskRose)
   pub fault_line : SourceTells → SinkTells → DiskTells → IfDiskFault status (TakesFault old new (HasOutputBefore text files))
-  -- Each fault has its cause. That of the disk has the line of the statement that met it.
+  -- Each fault has its cause. That of the disk has the line of a statement on a file.
   pub cause : HasCause SourceRose SinkRose DiskRose status
   pub touching : SourceTells → IfDiskFault status (λ line. (task ≡ Execute) × HasStatementOn text line)
   -- Where no count rises the answer is that of a reply, or memory was wanting.

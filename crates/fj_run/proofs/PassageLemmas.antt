@@ -4,7 +4,7 @@ use Rattle.std.proofs.lemmas.List.{append-nil, take_more, take-append-drop}
 use Rattle.fj_outside.specs.Holdings.{Files}
 use Rattle.std.proofs.lemmas.Option.{slice_get_read}
 use Rattle.fj_run.specs.Taken.{TakesPrefix}
-use Rattle.fj_run.specs.Halt.{IfDisk, TakesOutputBefore}
+use Rattle.fj_run.specs.Halt.{IsAt, IfDisk, TakesOutputBefore}
 use Rattle.fj_run.specs.declared.whole.Halt.{Halt}
 use Rattle.fj_run.specs.declared.whole.Halt.TheVariants.{Disk, Sink, Memory}
 use Rattle.fj_run.specs.Plain.{State, Step, Execution, step, behind, ended_by, execution, with_piece_before, passed_by, passage, closed, begun, plain_execution}
@@ -124,10 +124,10 @@ whole_front old new due e = (due, [], sym (append-nil due), e)
 
 -- what the statements before a line write
 pub before_here : (halt : Halt) (deck : Deck) (files : Files) (i : ℕ) (x : Lined) (s : State) (output old mid new : List ℕ) → i < length deck.statements → get_or deck.statements i x ≡ x
-    → passage (take i deck.statements) (begun deck files) ≡ Some (s, output) → mid ≡ old ++ output → IfDisk halt (λ line. line ≡ x.line) → IfDisk halt (λ _. new ≡ mid)
+    → passage (take i deck.statements) (begun deck files) ≡ Some (s, output) → mid ≡ old ++ output → IfDisk halt (λ line. IsAt line x) → IfDisk halt (λ _. new ≡ mid)
     → IfDisk halt (TakesOutputBefore deck files old new)
 before_here (Disk line) deck files i x s output old mid new lt item h m e n =
     let found : slice_get deck.statements i ≡ Some x = slice_get_read deck.statements (length deck.statements) i x refl lt (sym item) in
-    (output, (i, s, rw found (sym e), h), n ∙ m)
+    (output, (i, s, rw found e, h), n ∙ m)
 before_here Sink deck files i x s output old mid new lt item h m e n = tt
 before_here Memory deck files i x s output old mid new lt item h m e n = tt

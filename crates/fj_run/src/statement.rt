@@ -1,6 +1,7 @@
 // One statement.
 ghost use Rattle.std.specs.Prelude.{◌≡◌, ◌≢◌, ◌⊎◌, ◌≤◌, ◌↔◌, [], IfOk, Err};
 ghost use Rattle.fj_outside.specs.Faults.{Rose};
+ghost use Rattle.fj_run.specs.Halt.{IsOnFile};
 ghost use Rattle.fj_run.specs.Plain.{State, step, assigned, source_value};
 ghost use Rattle.fj_run.specs.Values.{fitted};
 ghost use Rattle.fj_run.specs.Running.{state_of, HoldsAllBut, IsPlaced, IsHurtFile};
@@ -65,6 +66,7 @@ pub fn execute<D: Disk>(
     ensures own_later { D.tells disk.old → D.refusals disk.old ≤ D.refusals disk.new }
     ensures own { D.tells disk.old → result ≡ Err Stop.Failed →
         Rose (D.refusals disk.old) (D.refusals disk.new) ⊎ IsHurtFile D.File.count running.new.connected }
+    ensures on_file { result ≡ Err Stop.Failed → IsOnFile what.now }
     ensures later { D.count disk.old ≤ D.count disk.new }
     ensures failed { result ≡ Err Stop.Failed →
         Rose (D.count disk.old) (D.count disk.new) ⊎ IsHurtFile D.File.count running.new.connected }

@@ -4,7 +4,7 @@ ghost use Rattle.std.specs.FinSet as set;
 ghost use Rattle.fj_outside.specs.Faults.{Rose};
 ghost use Rattle.fj_outside.specs.Holdings.{IsHurt};
 ghost use Rattle.fj_run.specs.Plain.{Execution, left, step, plain_execution};
-ghost use Rattle.fj_run.specs.Halt.{IfDisk, IsLineOf, TakesOutputBefore};
+ghost use Rattle.fj_run.specs.Halt.{IfDisk, IsAt, IsLineOf, TakesOutputBefore};
 ghost use Rattle.fj_run.specs.Running.{state_of, HoldsAllBut, IsPlaced, IsHurtFile};
 ghost use Rattle.fj_run.specs.Taken.{TakesPrefix};
 
@@ -81,7 +81,7 @@ fn carry_out<W: Sink, D: Disk>(
     ensures own_later { D.tells disk.old → D.refusals disk.old ≤ D.refusals disk.new }
     ensures own { D.tells disk.old → IfErr result (λ halt. IfDisk halt (λ _.
         Rose (D.refusals disk.old) (D.refusals disk.new) ⊎ IsHurtFile D.File.count running.new.connected)) }
-    ensures line { IfErr result (λ halt. IfDisk halt (λ line. line ≡ lined.now.line)) }
+    ensures line { IfErr result (λ halt. IfDisk halt (λ line. IsAt line lined.now)) }
     ensures out_later { W.count out.old ≤ W.count out.new }
     ensures disk_later { D.count disk.old ≤ D.count disk.new }
     ensures disk_failed { IfErr result (λ halt. IfDisk halt (λ _.
