@@ -30,9 +30,6 @@ taken_behind old middle new before due e (part, rest, is, taken) = (
 pub taken_more : (old new due more : List ℕ) → TakesPrefix old new due → TakesPrefix old new (due ++ more)
 taken_more old new due more (part, rest, is, taken) = (part, rest ++ more, ap (λ x. x ++ more) is ∙ append_assoc part rest more, taken)
 
-pub taken_alone : (old new before due : List ℕ) → new ≡ old ++ before → TakesPrefix old new (before ++ due)
-taken_alone old new before due e = (before, due, refl, e)
-
 -- how a run that is done went
 abbrev Went : Execution → ℕ → Ending → State → Type 0
 Went e line ending s = (line ≡ e.line) × (ending ≡ e.ending) × (s ≡ e.state)
@@ -59,11 +56,6 @@ pub fault_front : (old middle new text due : List ℕ) (line : ℕ) (Before : �
     → TakesDue old new due (λ stmt before. Before stmt before × Rises)
 fault_front old middle new text due line Before Rises h (output, before, m) rises p =
     inr (line, output, (before, rises), taken_behind old middle new output _ m (subst (TakesPrefix middle new) h p))
-
-pub fault_untold : (old new due : List ℕ) (line : ℕ) (Before : ℕ → List ℕ → Type 0) (Rises : Type 0)
-    → (output : List ℕ) × Before line output × (new ≡ old ++ output) → Rises → TakesDue old new due (λ stmt before. Before stmt before × Rises)
-fault_untold old new due line Before Rises (output, before, m) rises =
-    inr (line, output, (before, rises), taken_alone old new output _ m)
 
 pub due_weaker : (old new output : List ℕ) (F G : ℕ → List ℕ → Type 0) → ((n : ℕ) (o : List ℕ) → F n o → G n o) → TakesDue old new output F → TakesDue old new output G
 due_weaker old new output F G f (inl p) = inl p
