@@ -1,5 +1,4 @@
 ! runs: 15
-! output: compared
 ! base: check
 program many
   integer :: i, k

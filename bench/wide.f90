@@ -1,5 +1,4 @@
 ! runs: 15
-! output: compared
 program wide
   integer, allocatable :: v(:)
   allocate(v(1000000))
