@@ -2,7 +2,7 @@
 # example: runs the deck of examples/first in a folder of its own
 # test: the gate
 # bench: the benchmarks, beside gfortran where it is on the machine
-# checks: what no gate asks for: refused allocations, and random statements beside gfortran
+# checks: what no gate asks for: refused allocations, random statements beside gfortran, and the lines of docs/DECKS.md
 .PHONY: build example examples test bench checks
 
 build:
@@ -25,3 +25,4 @@ checks: build
 	checks/memory
 	checks/formats
 	checks/reads
+	checks/decks

@@ -18,8 +18,8 @@ use Rattle.fj_format.specs.declared.item.FormatItem.TheVariants.{Field}
 use Rattle.fj_statement.specs.declared.deck.Variable.{Variable}
 use Rattle.fj_statement.specs.declared.statement.Operand.{Operand}
 use Rattle.fj_statement.specs.declared.statement.Operand.TheVariants as operand
-use Rattle.fj_statement.specs.declared.statement.UnitRef.{UnitRef}
-use Rattle.fj_statement.specs.declared.statement.UnitRef.TheVariants.{Star, Number}
+use Rattle.fj_modes.specs.declared.unit.UnitRef.{UnitRef}
+use Rattle.fj_modes.specs.declared.unit.UnitRef.TheVariants.{Star, Number}
 use Rattle.fj_statement.specs.declared.statement.Control.{Control}
 use Rattle.fj_statement.specs.declared.statement.Control.TheVariants.{Unformatted, Explicit, Listed, Group as Named}
 use Rattle.fj_statement.specs.declared.statement.Transfer.{Transfer}
@@ -109,28 +109,28 @@ named_is : (name : Option (List ℕ)) (status : Option FileStatus) (s : Statemen
 named_is None status s h = cc
 named_is (Some file) status s h = let m = map_some (Open file) (replaces_of status) s h in (file, m.0, refl, m.2, replaces_is status m.0 m.1)
 
-same_open : (unit : ℕ) (spec other : OpenSpec) (iostat : Option Place) → unit ≡ 10 → other ≡ spec → iostat ≡ None → whole.OpenUnit 10 other None ≡ whole.OpenUnit unit spec iostat
+same_open : (unit : ℕ) (spec other : OpenSpec) (iostat : Option Place) → unit ≡ 10 → other ≡ spec → iostat ≡ None → whole.OpenUnit (Number 10) other None ≡ whole.OpenUnit (Number unit) spec iostat
 same_open unit spec other iostat a b c = rw (a, b, c) refl
 
-open_is : (vs : List Variable) (unit : ℕ) (spec : OpenSpec) (iostat : Option Place) (s : Statement) → form_of (extents_of vs) (whole.OpenUnit unit spec iostat) ≡ Some s
-    → StandsFor vs s (whole.OpenUnit unit spec iostat)
+open_is : (vs : List Variable) (unit : ℕ) (spec : OpenSpec) (iostat : Option Place) (s : Statement) → form_of (extents_of vs) (whole.OpenUnit (Number unit) spec iostat) ≡ Some s
+    → StandsFor vs s (whole.OpenUnit (Number unit) spec iostat)
 open_is vs unit spec iostat s h =
     let c = chosen ((unit == 10) && is_none iostat) (open_form spec) s h in
     let t = both (unit == 10) (is_none iostat) c.0 in
     let o = chosen (has_only_file spec) (opening spec.file spec.status) s c.1 in
     let n = named_is spec.file spec.status s o.1 in
     let same : spelled_opening n.0 (cond n.1 (Some Replace) None) ≡ spec = rw n.4 (opening_is spec n.0 o.0 n.2) in
-    subst (λ (x : Statement). StandsFor vs x (whole.OpenUnit unit spec iostat)) n.3
+    subst (λ (x : Statement). StandsFor vs x (whole.OpenUnit (Number unit) spec iostat)) n.3
     (sym (same_open unit spec (spelled_opening n.0 (cond n.1 (Some Replace) None)) iostat (eqb-true unit 10 t.0) same (none_of iostat t.1)))
 
-close_is : (vs : List Variable) (unit : ℕ) (keep : Option Bool) (iostat : Option Place) (s : Statement) → form_of (extents_of vs) (whole.CloseUnit unit keep iostat) ≡ Some s
-    → StandsFor vs s (whole.CloseUnit unit keep iostat)
+close_is : (vs : List Variable) (unit : ℕ) (keep : Option Bool) (iostat : Option Place) (s : Statement) → form_of (extents_of vs) (whole.CloseUnit (Number unit) keep iostat) ≡ Some s
+    → StandsFor vs s (whole.CloseUnit (Number unit) keep iostat)
 close_is vs unit keep iostat s h =
     let c = chosen ((unit == 10) && (is_none keep && is_none iostat)) (Some Close) s h in
     let t = both (unit == 10) (is_none keep && is_none iostat) c.0 in
     let u = both (is_none keep) (is_none iostat) t.1 in
     let e : Close ≡ s = cc (c.1) in
-    subst (λ (x : Statement). StandsFor vs x (whole.CloseUnit unit keep iostat)) e (rw (eqb-true unit 10 t.0, none_of keep u.0, none_of iostat u.1) refl)
+    subst (λ (x : Statement). StandsFor vs x (whole.CloseUnit (Number unit) keep iostat)) e (rw (eqb-true unit 10 t.0, none_of keep u.0, none_of iostat u.1) refl)
 
 width_bounds : (w : ℕ) → (nat_le 1 w && nat_le w 20) ≡ true → (1 ≤ w) × (w ≤ 20)
 width_bounds w h = let b = both (nat_le 1 w) (nat_le w 20) h in (leb-true 1 w b.0, leb-true w 20 b.1)
@@ -353,8 +353,10 @@ by_unit vs t (Number unit) s e h =
 -- what is in today's form stands for it
 pub form_is : (vs : List Variable) (w : Whole) (s : Statement) → form_of (extents_of vs) w ≡ Some s → StandsFor vs s w
 form_is vs (whole.Assign to from) s h = assign_is vs to from s h
-form_is vs (whole.OpenUnit unit spec iostat) s h = open_is vs unit spec iostat s h
-form_is vs (whole.CloseUnit unit keep iostat) s h = close_is vs unit keep iostat s h
+form_is vs (whole.OpenUnit Star spec iostat) s h = cc
+form_is vs (whole.OpenUnit (Number unit) spec iostat) s h = open_is vs unit spec iostat s h
+form_is vs (whole.CloseUnit Star keep iostat) s h = cc
+form_is vs (whole.CloseUnit (Number unit) keep iostat) s h = close_is vs unit keep iostat s h
 form_is vs (whole.WaitFor unit id iostat) s h = cc
 form_is vs (whole.Move how unit iostat) s h = cc
 form_is vs (whole.Inquire about asked id iostat) s h = cc

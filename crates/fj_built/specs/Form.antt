@@ -10,8 +10,8 @@ use Rattle.fj_format.specs.declared.item.FormatItem.{FormatItem}
 use Rattle.fj_format.specs.declared.item.FormatItem.TheVariants.{Field}
 use Rattle.fj_statement.specs.declared.statement.Operand.{Operand}
 use Rattle.fj_statement.specs.declared.statement.Operand.TheVariants as operand
-use Rattle.fj_statement.specs.declared.statement.UnitRef.{UnitRef}
-use Rattle.fj_statement.specs.declared.statement.UnitRef.TheVariants.{Star, Number}
+use Rattle.fj_modes.specs.declared.unit.UnitRef.{UnitRef}
+use Rattle.fj_modes.specs.declared.unit.UnitRef.TheVariants.{Star, Number}
 use Rattle.fj_statement.specs.declared.statement.Control.{Control}
 use Rattle.fj_statement.specs.declared.statement.Control.TheVariants.{Explicit}
 use Rattle.fj_statement.specs.declared.statement.Transfer.{Transfer}
@@ -113,8 +113,8 @@ transfer_form extents t = on_unit extents t t.unit
 -- the statement in today's form
 abbrev pub form_of : List Extent → Whole → Option Statement
 form_of extents (whole.Assign to from) = assign_form extents to from
-form_of extents (whole.OpenUnit unit spec iostat) = if (unit == 10) && is_none iostat then open_form spec else None
-form_of extents (whole.CloseUnit unit keep iostat) = if (unit == 10) && (is_none keep && is_none iostat) then Some Close else None
+form_of extents (whole.OpenUnit (Number unit) spec iostat) = if (unit == 10) && is_none iostat then open_form spec else None
+form_of extents (whole.CloseUnit (Number unit) keep iostat) = if (unit == 10) && (is_none keep && is_none iostat) then Some Close else None
 form_of extents (whole.Transfer t) = transfer_form extents t
 form_of extents whole.End = Some End
 form_of extents _ = None

@@ -15,7 +15,7 @@ use Rattle.fj_statement.specs.declared.deck.Lined.{Lined as WholeLined}
 use Rattle.fj_statement.specs.declared.deck.Deck.{Deck as WholeDeck}
 use Rattle.fj_statement.specs.declared.statement.Operand.{Operand}
 use Rattle.fj_statement.specs.declared.statement.Operand.TheVariants as operand
-use Rattle.fj_statement.specs.declared.statement.UnitRef.TheVariants.{Star, Number}
+use Rattle.fj_modes.specs.declared.unit.UnitRef.TheVariants.{Star, Number}
 use Rattle.fj_statement.specs.declared.statement.Control.TheVariants.{Explicit}
 use Rattle.fj_statement.specs.declared.statement.Transfer.{Transfer}
 use Rattle.fj_statement.specs.declared.statement.Statement.{Statement as Whole}
@@ -170,11 +170,11 @@ PrintStands variables format plus items iostat w = (operands : List Operand) × 
 
 abbrev pub StandsFor : List Variable → Statement → Whole → Type 0
 StandsFor variables (Assign first count kind from) w = AssignStands variables first count kind from w
-StandsFor variables (Open file replaces) w = w ≡ whole.OpenUnit 10 (spelled_opening file (if replaces then Some Replace else None)) None
+StandsFor variables (Open file replaces) w = w ≡ whole.OpenUnit (Number 10) (spelled_opening file (if replaces then Some Replace else None)) None
 StandsFor variables (Read width item iostat) w = ((1 ≤ width) × (width ≤ 20)) × ReadStands variables width item iostat w
 StandsFor variables (Write width item) w = ((1 ≤ width) × (width ≤ 20)) × WriteStands variables width item w
 StandsFor variables (Print format plus items iostat) w = PrintStands variables format plus items iostat w
-StandsFor variables Close w = w ≡ whole.CloseUnit 10 None None
+StandsFor variables Close w = w ≡ whole.CloseUnit (Number 10) None None
 StandsFor variables End w = w ≡ whole.End
 
 -- a statement on the same line

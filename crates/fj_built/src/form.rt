@@ -6,8 +6,8 @@ use crate::deck::{Source, Statement};
 use crate::places::{Extent, number_of, stretch_of};
 use crate::print::print_form;
 use crate::transfer::record_form;
-use fj_modes::{FileName, FileStatus, OpenSpec};
-use fj_statement::{Operand, Statement as Whole, Transfer, UnitRef};
+use fj_modes::{FileName, FileStatus, OpenSpec, UnitRef};
+use fj_statement::{Operand, Statement as Whole, Transfer};
 use std::alloc::{AllocError, Global};
 
 /// What places are set to.
@@ -49,12 +49,6 @@ fn replaces_of(status: Option<FileStatus>) -> Option<bool>
     }
 }
 
-fn copied(alloc: Global, name: &FileName) -> Result<FileName, AllocError>
-    ensures { IfOk result (λ copy. copy ≡ name.now) }
-{
-    FileName::new(alloc, name.as_str().as_bytes())
-}
-
 /// The OPEN of unit 10 with these specifiers in today's form.
 fn open_form(alloc: Global, spec: &OpenSpec) -> Result<Option<Statement>, AllocError>
     ensures { IfOk result (λ form. form ≡ open_form spec.now) }
@@ -69,7 +63,7 @@ fn open_form(alloc: Global, spec: &OpenSpec) -> Result<Option<Statement>, AllocE
         return Ok(None);
     };
     Ok(Some(Statement::Open {
-        file: copied(alloc, name)?,
+        file: name.try_clone()?,
         replaces,
     }))
 }
@@ -120,12 +114,12 @@ pub fn form_of(
     match statement {
         Whole::Assign { to, from } => assign_form(extents, to, from),
         Whole::OpenUnit {
-            unit: 10,
+            unit: UnitRef::Number(10),
             spec,
             iostat: None,
         } => open_form(alloc, spec),
         Whole::CloseUnit {
-            unit: 10,
+            unit: UnitRef::Number(10),
             keep: None,
             iostat: None,
         } => Ok(Some(Statement::Close)),

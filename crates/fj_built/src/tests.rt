@@ -3,10 +3,9 @@ ghost use Rattle.std.specs.Prelude.{◌<◌, ◌^◌, length};
 
 use crate::{Deck, Fault, Item, Source, Statement, built};
 use fj_format::parse;
-use fj_modes::{FileName, FileStatus, OpenSpec};
+use fj_modes::{FileName, FileStatus, Motion, OpenSpec, UnitRef};
 use fj_statement::{
-    Control, Deck as Whole, Lined, Motion, Operand, Statement as WholeStatement, Transfer, UnitRef,
-    Variable,
+    Control, Deck as Whole, Lined, Operand, Statement as WholeStatement, Transfer, Variable,
 };
 use fj_value::{Delim, Items, Kind, Place, Text, Value};
 use std::alloc::{AllocError, Global};
@@ -129,7 +128,7 @@ fn assign(to: Operand, from: Operand) -> WholeStatement {
     WholeStatement::Assign { to, from }
 }
 
-#[tactic(auto, unfolding(fj_modes::specs::FileName::is_file_name))]
+#[tactic(auto, unfolding(fj_modes::specs::FileName::is_file_name, fj_modes::specs::FileName::is_disk_name))]
 fn opening(alloc: Global, unit: u32, status: Option<FileStatus>) -> Result<WholeStatement, Fail> {
     let spec = OpenSpec {
         file: Some(FileName::new(alloc, b"F1")?),
@@ -137,7 +136,7 @@ fn opening(alloc: Global, unit: u32, status: Option<FileStatus>) -> Result<Whole
         ..OpenSpec::default()
     };
     Ok(WholeStatement::OpenUnit {
-        unit,
+        unit: UnitRef::Number(unit),
         spec,
         iostat: None,
     })
@@ -250,13 +249,13 @@ fn statement_by(alloc: Global, letter: u8) -> Result<WholeStatement, Fail> {
         b'n' => opening(alloc, 10, Some(FileStatus::New)),
         b'u' => opening(alloc, 11, None),
         b'c' | b'k' => Ok(WholeStatement::CloseUnit {
-            unit: 10,
+            unit: UnitRef::Number(10),
             keep,
             iostat: None,
         }),
         b'b' => Ok(WholeStatement::Move {
             how: Motion::Backspace,
-            unit: 10,
+            unit: UnitRef::Number(10),
             iostat: None,
         }),
         b'.' => Ok(WholeStatement::End),

@@ -38,7 +38,7 @@ written_there old text size number fill some fits =
     ∙ ap Some (take_at here behind size long)
 
 -- a part that lies before a place up to which two lists agree
-part_before : (old front more : List ℕ) (at size low : ℕ) → at + size ≤ low → low ≤ length old → front ≡ take low old → take size (drop at (front ++ more)) ≡ take size (drop at old)
+pub part_before : (old front more : List ℕ) (at size low : ℕ) → at + size ≤ low → low ≤ length old → front ≡ take low old → take size (drop at (front ++ more)) ≡ take size (drop at old)
 part_before old front more at size low fits within is =
     let long : length front ≡ low = ap length is ∙ length-take-le low old within in
     let sum : at + (low - at) ≡ low = omega arith in

@@ -2,7 +2,8 @@
 use Rattle.std.proofs.Common.{◌≡◌, ℕ, ◌+◌, ◌-◌, ◌≤◌, List, ◌++◌, length, take, drop, replicate, max, sym, ap, ◌∙◌, arith, append_assoc}
 use Rattle.std.proofs.lemmas.List.{take_at, drop_at, drop-append-le, take-append-le, drop-drop, length-take-le, length-append, length-replicate, take-replicate, drop-replicate}
 use Rattle.fj_outside.specs.Bytes.{written}
-use Rattle.fj_span.proofs.ChangeLaws.{IsChanged, changed_none}
+use Rattle.fj_span.specs.Change.{IsChanged}
+use Rattle.fj_span.proofs.ChangeLaws.{changed_none}
 
 -- what stands in a file with a piece from the piece's place on
 pub drop_written : (old piece : List ℕ) (at n : ℕ) → at ≤ length old → n ≤ length piece → drop (at + n) (written old at piece) ≡ drop n piece ++ drop (at + length piece) old

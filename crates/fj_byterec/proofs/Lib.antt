@@ -2,3 +2,4 @@ mod Cases
 pub mod Apart
 pub mod CopyLaws
 pub mod RecordLaws
+pub mod Gaps

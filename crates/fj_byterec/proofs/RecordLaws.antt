@@ -4,8 +4,8 @@ use Rattle.std.proofs.lemmas.Bool.{cases_lt}
 use Rattle.std.proofs.lemmas.List.{append-nil, take_at, drop_at, take_all, drop_all, take-append-le, length-append, length-take-le, length-replicate, take-replicate, drop-replicate}
 use Rattle.std.proofs.Math.Seq.{take-append-add}
 use Rattle.fj_outside.specs.Bytes.{written}
-use Rattle.fj_span.specs.Change.{with_piece, KeepsUpToChange}
-use Rattle.fj_span.proofs.ChangeLaws.{IsChanged, changed_none, changed_next, kept_at_piece, made_whole}
+use Rattle.fj_span.specs.Change.{with_piece, KeepsUpToChange, IsChanged}
+use Rattle.fj_span.proofs.ChangeLaws.{changed_none, changed_next, kept_at_piece, made_whole}
 use Rattle.fj_byterec.specs.Pieces.{record_start, filled_to, with_record}
 
 -- a record ends where it begins and its size

@@ -6,11 +6,8 @@ ghost use Rattle.fj_byterec.specs.Pieces.{piece, with_record};
 
 use crate::fill::write_copies;
 use fj_outside::{FileStore, Stop};
-use fj_span::{put, read_span, write_span};
+use fj_span::{GATHERED, put, read_span, write_span};
 use fj_value::Text;
-
-/// Records of at most so many bytes are filled up first and written at once.
-const GATHERED: usize = 1024;
 
 /// Reads the record of a number, counted from 1, of `recl` bytes (ISO/IEC 1539-1:2004, 9.2.2.2). False is told where the
 /// file does not reach its end. `into` gets the record, and after a `Stop` is of no account.

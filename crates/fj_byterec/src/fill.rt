@@ -5,10 +5,7 @@ ghost use Rattle.fj_outside.specs.Bytes.{written};
 ghost use Rattle.fj_span.specs.Change.{KeepsUpToChange};
 
 use fj_outside::{FileStore, Stop};
-use fj_span::write_span;
-
-/// So many bytes are written at once.
-const PIECE: usize = 1024;
+use fj_span::{GATHERED, write_span};
 
 /// Puts copies of a byte from a place, which is at most the length, up to another.
 pub fn write_copies<F: FileStore>(file: &mut F, from: u64, to: u64, fill: u8) -> Result<(), Stop>
@@ -27,10 +24,10 @@ pub fn write_copies<F: FileStore>(file: &mut F, from: u64, to: u64, fill: u8) ->
 {
     let within = from <= file.len();
     prove!(within);
-    let copies = [fill; PIECE];
+    let copies = [fill; GATHERED];
     let mut place = from;
     'filling: while place < to {
-        let width = (to - place).min(PIECE as u64);
+        let width = (to - place).min(GATHERED as u64);
         write_span(file, place, &copies[..width as usize], false)?;
         place += width;
     }

@@ -7,7 +7,7 @@ mod laws;
 mod stream;
 
 pub use direct::{read_direct, write_direct};
-pub use laws::records_stand_apart;
+pub use laws::{gaps_are_filled, records_stand_apart};
 pub use stream::{read_stream, write_stream};
 
 #[cfg(test)]

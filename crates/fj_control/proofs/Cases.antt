@@ -7,7 +7,6 @@ use Rattle.fj_format.specs.declared.item.FormatItem.TheVariants.{Field, Group, S
 use Rattle.fj_format.specs.Unfolding.{Steps, edit, right, slash, colon, pass, again}
 use Rattle.fj_format.specs.UnfoldingLaws.{written_out-Field, written_out-Group, written_out-Skip, written_out-Slash, written_out-Colon, is_group-Colon, is_group-Field, is_group-Skip}
 use Rattle.std.specs.Prelude.{codes}
-use Rattle.fj_control.specs.Line.{begun, written, tabbed, tabbed_left, tabbed_right}
 use Rattle.fj_control.specs.Steps.{gives, done, no_data, control, rounds, steps}
 use Rattle.fj_control.proofs.Reversion.{again_from_group, again_from_start}
 
@@ -71,17 +70,3 @@ no_item = steps_by (Field 1 i1 ∷ Skip 1 ∷ []) (edit i1 ∷ right 1 ∷ []) _
 pub no_descriptor : steps (Skip 1 ∷ []) 1 ≡ gives (right 1) ∷ no_data ∷ []
 no_descriptor = steps_by (Skip 1 ∷ []) (right 1 ∷ []) (right 1 ∷ []) 1 (simp written_out-Skip)
     (again_from_start (Skip 1 ∷ []) (simp is_group-Skip) ∙ simp written_out-Skip)
-
--- ---- lines
-
--- T4,A,T1,A with CD and AB
-pub back_to_the_limit : (written (codes "AB") (tabbed 1 (written (codes "CD") (tabbed 4 begun)))).text ≡ codes "AB CD"
-back_to_the_limit = refl
-
--- 2X and an empty string
-pub nothing_behind_a_move : (written [] (tabbed_right 2 begun)).text ≡ []
-nothing_behind_a_move = refl
-
--- abc, TL9 and X; then behind a gap YZ
-pub over_and_behind : (written (codes "YZ") (tabbed_right 4 (written (codes "X") (tabbed_left 9 (written (codes "abc") begun))))).text ≡ codes "Xbc  YZ"
-over_and_behind = refl

@@ -1,4 +1,6 @@
 -- Control over lists, and the steps that are due.
+use Rattle.std.specs.Prelude.{replicate, Option, Some, None, IfSome}
+use Rattle.fj_value.specs.declared.edit.Edit.{Edit}
 use Rattle.std.proofs.Common.{ℕ, zero, suc, ◌+◌, ◌-◌, ◌≡◌, ◌≤◌, Bool, true, false, cond, List, [], ◌∷◌, ◌++◌, refl, sym, ap, ◌∙◌, arith, append_assoc, append-nil}
 use Rattle.fj_format.specs.Unfolding as step
 use Rattle.fj_format.specs.Unfolding.{Elementary, Steps, repeated, pass, again}
@@ -197,3 +199,24 @@ due_is_run walk n (g ∷ x ∷ rest) e =
 
 pub gives_the_steps : GivesTheSteps
 gives_the_steps f n out = (run_is_due (begun f) n out, due_is_run (begun f) n out)
+
+-- ---- a data descriptor that comes again
+
+pub repeats_are_due : (more : Steps) (e : Edit) (count : ℕ) (rest : Steps) (n : ℕ) → count ≤ n
+    → control ((repeated count (step.edit e ∷ []) ++ rest) ++ rounds n more) n ≡ replicate count (gives (step.edit e)) ++ control (rest ++ rounds (n - count) more) (n - count)
+repeats_are_due more e zero rest n h = let same : n - 0 ≡ n = omega arith in ap (λ k. control (rest ++ rounds k more) k) (sym same)
+repeats_are_due more e (suc count) rest zero h = absurd (omega arith)
+repeats_are_due more e (suc count) rest (suc n) h =
+    let all = repeated count (step.edit e ∷ []) ++ rest in
+    let same : suc n - suc count ≡ n - count = omega arith in
+    ap (λ l. gives (step.edit e) ∷ l)
+    (fewer_rounds all more n (has_data more) refl ∙ repeats_are_due more e count rest n (omega arith)
+    ∙ ap (λ k. replicate count (gives (step.edit e)) ++ control (rest ++ rounds k more) k) (sym same))
+
+pub runs_are_due : (r : Option (Edit × ℕ)) (walk next : Walk) (old new more : Steps) → walk ≡ record { at = walking old; again = more } → next ≡ record { at = walking new; again = more }
+    → IfSome r (λ (run : Edit × ℕ). old ≡ repeated run.1 (step.edit run.0 ∷ []) ++ new)
+    → IfSome r (λ (run : Edit × ℕ). (n : ℕ) → run.1 ≤ n → due walk n ≡ replicate run.1 (gives (step.edit run.0)) ++ due next (n - run.1))
+runs_are_due None walk next old new more is is' e = tt
+runs_are_due (Some run) walk next old new more is is' e =
+    λ n h. ap (λ (w : Walk). due w n) is ∙ ap (λ l. control (l ++ rounds n more) n) e ∙ repeats_are_due more run.0 run.1 new n h
+    ∙ ap (λ (w : Walk). replicate run.1 (gives (step.edit run.0)) ++ due w (n - run.1)) (sym is')

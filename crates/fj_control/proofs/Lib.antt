@@ -2,4 +2,4 @@ pub mod Walks
 pub mod Reversion
 pub mod Control
 pub mod Cases
-pub mod LineTexts
+pub mod Pairing

@@ -2,4 +2,4 @@ pub mod Steps
 pub mod Walk
 pub mod Walker
 pub mod Cursor
-pub mod Line
+pub mod Paired

@@ -1,13 +1,16 @@
 // A walk of a format, one step a call.
 ghost use Rattle.std.specs.Prelude.{◌≡◌};
-ghost use Rattle.fj_format.specs.Unfolding.{again};
-ghost use Rattle.fj_control.specs.Steps.{steps, RoundsAreEnough, RevertsToTheLastGroup, RevertsToTheStart};
-ghost use Rattle.fj_control.specs.Walk.{begun, given, next_of, GivesWhatIsDue, GivesTheSteps};
+ghost use Rattle.std.specs.Prelude.{ℕ, ◌-◌, ◌≤◌, ◌++◌, replicate, IfSome, IfNone};
+ghost use Rattle.fj_value.specs.declared.edit.Edit.{Edit};
+ghost use Rattle.fj_format.specs.Unfolding.{again, edit};
+ghost use Rattle.fj_control.specs.Steps.{steps, gives, RoundsAreEnough, RevertsToTheLastGroup, RevertsToTheStart};
+ghost use Rattle.fj_control.specs.Walk.{begun, given, due, next_of, GivesWhatIsDue, GivesTheSteps};
 
 use crate::again::{again_of, have_data};
 use crate::step::Step;
 use crate::walker::{Walked, Walker};
 use fj_format::{Format, FormatItem};
+use fj_value::Edit;
 use std::marker::Model;
 
 #[derive(Clone, Copy)]
@@ -62,6 +65,20 @@ impl<'a> Cursor<'a> {
         ensures due { GivesWhatIsDue self.old left (given result) self.new }
     {
         self.advance(left)
+    }
+
+    /// Where the same data descriptor comes again, up to so many times: the descriptor, and how often it comes. These steps
+    /// are then behind the cursor. It may be more often still.
+    pub fn run(&mut self, most: usize) -> Option<(Edit, usize)>
+        ensures due { IfSome result (λ (run : Edit × ℕ). (n : ℕ) → run.1 ≤ n
+            → due self.old n ≡ replicate run.1 (gives (edit run.0)) ++ due self.new (n - run.1)) }
+        ensures few { IfSome result (λ (run : Edit × ℕ). (1 ≤ run.1) × (run.1 ≤ most)) }
+        ensures none { IfNone result (self.new ≡ self.old) }
+    {
+        match self.state {
+            State::Walking => self.walker.run(most),
+            State::Done | State::NoData => None,
+        }
     }
 
     /// Goes on to the next step, or to the end of control.

@@ -3,12 +3,13 @@
 
 mod again;
 mod cursor;
-mod line;
+mod modes;
 mod step;
 #[cfg(test)]
 mod tests;
 mod walker;
 
 pub use cursor::{Cursor, gives_the_steps, reverts_to_the_last_group};
-pub use line::{LONGEST, Line, texts_are_of_maps};
+pub use fj_line::{Line, Move};
+pub use modes::modes_behind;
 pub use step::Step;

@@ -1,7 +1,7 @@
-// Runs of formats and lines, with steps and texts written out by hand.
+// Runs of formats, with steps written out by hand.
 ghost use Rattle.std.specs.Prelude.{◌<◌, ◌≤◌, ◌^◌, length};
 
-use crate::{Cursor, Line, Step};
+use crate::{Cursor, Step};
 use fj_format::{ModeStep, parse};
 use fj_value::Edit;
 use std::alloc::{AllocError, Global};
@@ -175,67 +175,15 @@ fn steps(rt: HostRuntime) -> Result<(), Fail> {
     Ok(())
 }
 
-/// A call on a line.
-#[derive(Clone, Copy)]
-enum Call {
-    T(u32),
-    L(u32),
-    R(u32),
-    P(&'static [u8]),
-}
-
-fn apply(line: &mut Line, call: Call) -> Result<(), Fail> {
-    match call {
-        Call::T(n) => {
-            if n > 0 {
-                line.tab(n);
-            }
-        }
-        Call::L(n) => line.tab_left(n),
-        Call::R(n) => line.tab_right(n),
-        Call::P(bytes) => {
-            let at = line.position();
-            if at < 1000 && bytes.len() < 1000 {
-                line.put(bytes)?;
-            }
-        }
-    }
-    Ok(())
-}
-
+/// A data descriptor that comes again.
 #[test]
-fn lines(rt: HostRuntime) -> Result<(), Fail> {
-    use Call::{L, P, R, T};
-    let mut line = Line::new(rt.alloc());
-    let runs: [(&[Call], &[u8], u64); 19] = [
-        (&[T(4), P(b"CD"), T(1), P(b"AB")], b"AB CD", 2),
-        (&[], b"", 0),
-        (&[R(5)], b"", 5),
-        (&[R(2), P(b"")], b"", 2),
-        (&[P(b"abc"), L(1), P(b"X")], b"abX", 3),
-        (&[P(b"abc"), L(9), P(b"X")], b"Xbc", 1),
-        (&[P(b"abc"), L(2), P(b"YZW")], b"aYZW", 4),
-        (&[R(3), P(b"x")], b"   x", 4),
-        (&[T(1), P(b"x")], b"x", 1),
-        (&[T(2), P(b"c")], b" c", 2),
-        (&[P(b"abc"), T(2), P(b" ")], b"a c", 2),
-        (&[P(b"ab"), R(3), P(b"c"), L(1), R(2)], b"ab   c", 7),
-        (&[T(10), T(3), P(b"q")], b"  q", 3),
-        (&[P(b"abcdef"), T(3), P(b"")], b"abcdef", 2),
-        (&[T(5), P(b"e"), T(3), P(b"c"), T(1), P(b"a")], b"a c e", 1),
-        (&[P(b"12345"), T(4), P(b"abc")], b"123abc", 6),
-        (&[P(b"ab"), L(1), L(1), L(1), P(b"c")], b"cb", 1),
-        (&[T(4294967295), L(4294967290), P(b"z")], b"    z", 5),
-        (&[P(b"a"), R(1), L(1), P(b"b")], b"ab", 2),
-    ];
-    for (calls, text, position) in runs {
-        line.clear();
-        for step in calls {
-            apply(&mut line, *step)?;
-        }
-        assert_eq!(rt; line.text(), text);
-        assert_eq!(rt; line.position(), position);
-        assert_eq!(rt; line.width(), text.len() as u64);
-    }
+fn runs(rt: HostRuntime) -> Result<(), Fail> {
+    let format = parse(rt.alloc(), b"(3I8,A)")?;
+    let mut cursor = Cursor::new(&format);
+    assert!(rt; cursor.run(5).is_none());
+    assert!(rt; matches!(cursor.next(true), Step::Edit(Edit::Int { w: 8, m: None })));
+    assert!(rt; matches!(cursor.run(1), Some((Edit::Int { w: 8, m: None }, 1))));
+    assert!(rt; matches!(cursor.run(5), Some((Edit::Int { w: 8, m: None }, 1))));
+    assert!(rt; cursor.run(5).is_none());
     Ok(())
 }

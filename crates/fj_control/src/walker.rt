@@ -1,7 +1,9 @@
 // A walk of a list of items with its repeats written out.
 ghost use Rattle.std.specs.Prelude.{◌≡◌, ◌≤◌, ◌<◌, ◌+◌, ◌*◌, ◌++◌, [], false, length, IsTrue};
 ghost use Rattle.std.specs.Prelude.{slice_set as set, slice_index_or};
-ghost use Rattle.fj_format.specs.Unfolding.{height, pass, repeated, work};
+ghost use Rattle.std.specs.Prelude.{ℕ, ◌∷◌, IfSome, IfNone};
+ghost use Rattle.fj_value.specs.declared.edit.Edit.{Edit};
+ghost use Rattle.fj_format.specs.Unfolding.{edit, height, pass, repeated, work};
 ghost use Rattle.fj_control.specs.Walker.{step_of, repeated_step, rest_of, work_of, IsSound, Moved, GaveOrMoved, GaveOrEnded, CameTo};
 
 use crate::step::Step;
@@ -215,6 +217,26 @@ impl<'a> Walker<'a> {
             } else if !self.up() {
                 return None;
             }
+        }
+    }
+}
+
+impl<'a> Walker<'a> {
+    /// Takes the data descriptor that is being repeated, up to so many times.
+    pub fn run(&mut self, most: usize) -> Option<(Edit, usize)>
+        requires { IsSound self.old }
+        ensures some { IfSome result (λ (run : Edit × ℕ). rest_of self.old ≡ repeated run.1 (edit run.0 ∷ []) ++ rest_of self.new) }
+        ensures few { IfSome result (λ (run : Edit × ℕ). (1 ≤ run.1) × (run.1 ≤ most)) }
+        ensures none { IfNone result (self.new ≡ self.old) }
+        ensures sound { IsSound self.new }
+    {
+        let count = most.min(self.times as usize);
+        match self.repeat {
+            Repeat::Edit(edit) if count > 0 => {
+                self.times -= count as u32;
+                Some((edit, count))
+            }
+            _ => None,
         }
     }
 }

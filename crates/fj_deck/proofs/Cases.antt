@@ -1,9 +1,12 @@
 -- The definitions at worked cases.
 use Rattle.std.proofs.Common.{◌≡◌, true, false, [], ◌∷◌, ◌++◌, Ok, None, refl, codes, replicate, rules, lit<, lit≤}
 use Rattle.fj_statement.specs.declared.reason.Reason.TheVariants.{LineTooLong, NoEnd}
-use Rattle.fj_statement.specs.declared.statement.Motion.TheVariants.{Rewind}
+use Rattle.fj_modes.specs.declared.unit.Motion.TheVariants.{Rewind}
+use Rattle.fj_modes.specs.declared.unit.UnitRef.TheVariants.{Number}
 use Rattle.fj_statement.specs.declared.statement.Statement.TheVariants.{End, Move}
-use Rattle.fj_syntax.specs.Grammar.{IsStatement}
+use Rattle.fj_syntax.specs.Parsing.{IsStatement}
+use Rattle.fj_syntax.specs.Statement.{written_of, begun_by, end_from}
+use Rattle.fj_syntax.specs.Words.{keyword_of}
 use Rattle.fj_syntax.specs.Tokens.{AreTokens}
 use Rattle.fj_syntax.specs.declared.token.Token.TheVariants as token
 use Rattle.fj_syntax.specs.declared.written.Written.TheVariants as written
@@ -22,6 +25,7 @@ no_statements =
 
 -- `end`
 is_end : IsStatement (codes "end") written.End
+unfolding written_of keyword_of begun_by end_from
 is_end = (
   token.Word (codes "END") ∷ [],
   AreTokens.token (codes "end") [] (record { letter = refl; all = search rules; short = lit≤ tt; upper = refl; ends = refl }) AreTokens.none,
@@ -50,11 +54,11 @@ a_long_line =
 pub an_end_behind_end : is_misplaced (with_statement empty 1 End) written.End ≡ true
 an_end_behind_end = refl
 
-pub a_group_behind_a_statement : is_misplaced (with_statement empty 1 (Move Rewind 10 None)) (written.Group (record { name = codes "G"; members = [] })) ≡ true
+pub a_group_behind_a_statement : is_misplaced (with_statement empty 1 (Move Rewind (Number 10) None)) (written.Group (record { name = codes "G"; members = [] })) ≡ true
 a_group_behind_a_statement = refl
 
 pub a_group : is_misplaced empty (written.Group (record { name = codes "G"; members = [] })) ≡ false
 a_group = refl
 
-pub a_statement_behind_another : is_misplaced (with_statement empty 1 (Move Rewind 10 None)) written.End ≡ false
+pub a_statement_behind_another : is_misplaced (with_statement empty 1 (Move Rewind (Number 10) None)) written.End ≡ false
 a_statement_behind_another = refl

@@ -1,7 +1,6 @@
 -- What a line adds to the deck so far, or why it is refused.
 use Rattle.std.specs.Prelude.{◌≡◌, ℕ, ◌<◌, ◌≤◌, Bool, true, false, ◌||◌, ◌&&◌, nat_lt, List, [], ◌∷◌, ◌++◌, length, Result, Ok, Err}
-use Rattle.fj_syntax.specs.Grammar.{IsStatement}
-use Rattle.fj_syntax.specs.Parsing.{IsBlankLine, IsNoStatement}
+use Rattle.fj_syntax.specs.Parsing.{IsStatement, IsBlankLine, IsNoStatement}
 use Rattle.fj_syntax.specs.declared.written.Written.{Written}
 use Rattle.fj_syntax.specs.declared.written.Written.TheVariants as written
 use Rattle.fj_statement.specs.declared.reason.Reason.{Reason}

@@ -7,7 +7,8 @@ use Rattle.fj_value.specs.declared.edit.Edit.TheVariants as edit
 use Rattle.fj_value.specs.declared.kind.Kind.{Kind}
 use Rattle.fj_value.specs.declared.kind.Kind.TheVariants.{Int4, Int8, Logical, Chars}
 use Rattle.fj_edit_in.specs.BlankLaws.{trimmed-blank}
-use Rattle.fj_edit_in.specs.InputField.{input_field, read_by, integer_value, bits_value, logical_value, logical_kind, signed_number, unsigned_number, truth_read}
+use Rattle.fj_value.specs.Reading.{truth_read}
+use Rattle.fj_edit_in.specs.InputField.{input_field, read_by, integer_value, bits_value, logical_value, logical_kind, signed_number, unsigned_number}
 
 integers : (d : Option (ℕ × Option ℕ)) (k : Kind) (blank_zero : Bool) (s t : List ℕ) → s ≡ t → read_by d (integer_bits k) (λ _ bits. integer_value bits (signed_number blank_zero s)) ≡ read_by d (integer_bits k) (λ _ bits. integer_value bits (signed_number blank_zero t))
 integers d k blank_zero s t same = ap (λ x. read_by d (integer_bits k) (λ _ bits. integer_value bits (signed_number blank_zero x))) same

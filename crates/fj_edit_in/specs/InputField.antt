@@ -5,6 +5,7 @@ use Rattle.std.specs.Option.{option_map}
 use Rattle.fj_value.specs.Digits.{number_in, from_twos_complement}
 use Rattle.fj_value.specs.Edit.{integer_widths, bits_widths, logical_width, text_width}
 use Rattle.fj_value.specs.Kind.{integer_bits, text_length, fits_bits}
+use Rattle.fj_value.specs.Reading.{with_sign, truth_read, assigned_text}
 use Rattle.fj_value.specs.declared.edit.Edit.{Edit}
 use Rattle.fj_value.specs.declared.edit.Edit.TheVariants as edit
 use Rattle.fj_value.specs.declared.kind.Kind.{Kind}
@@ -23,9 +24,6 @@ unfoldable pub blanks_read : Bool → List ℕ → List ℕ
 blanks_read true cs = map (λ c. if c == 32 then 48 else c) cs
 blanks_read false cs = filter (λ c. not (c == 32)) cs
 
-abbrev pub with_sign : Bool → ℕ → ℤ
-with_sign negative n = if negative then neg_ℤ (pos n) else pos n
-
 -- the number of decimal digits and blanks
 abbrev pub signed_digits : Bool → Bool → List ℕ → Option ℤ
 signed_digits negative blank_zero cs = option_map (with_sign negative) (number_in 10 (blanks_read blank_zero cs))
@@ -42,18 +40,9 @@ abbrev pub unsigned_number : ℕ → Bool → List ℕ → Option ℕ
 unsigned_number base blank_zero [] = Some 0
 unsigned_number base blank_zero (c ∷ cs) = number_in base (blanks_read blank_zero (c ∷ cs))
 
--- `T` or `F` of either case behind an optional period; what follows has no effect
-abbrev pub letter_read : List ℕ → Option Bool
-letter_read [] = None
-letter_read (c ∷ cs) = if (c == 84) || (c == 116) then Some true else (if (c == 70) || (c == 102) then Some false else None)
-
-abbrev pub truth_read : List ℕ → Option Bool
-truth_read [] = None
-truth_read (c ∷ cs) = if c == 46 then letter_read cs else letter_read (c ∷ cs)
-
 -- the last n characters, or all of them and blanks
 abbrev pub characters_read : ℕ → List ℕ → List ℕ
-characters_read n chars = drop (length chars - n) chars ++ replicate (n - length chars) 32
+characters_read n chars = assigned_text n (drop (length chars - n) chars)
 
 -- a number of so many bits: 13 where the characters are no number, 14 where it has more bits
 abbrev pub integer_value : ℕ → Option ℤ → Result Value Condition

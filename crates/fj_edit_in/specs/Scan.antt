@@ -21,10 +21,6 @@ abbrev pub amount_or_condition : Option ℕ → Result ℕ Condition
 amount_or_condition None = Err (Error 13)
 amount_or_condition (Some n) = if nat_lt n (2 ^ 64) then Ok n else Err (Error 14)
 
--- a number of so many bits
-abbrev pub in_range : ℕ → ℤ → Option ℤ
-in_range bits z = if fits_bits bits z then Some z else None
-
 -- 13 where the characters are no number, and 14 where it has more bits
 abbrev pub integer_or_condition : ℕ → Option ℤ → Result ℤ Condition
 integer_or_condition bits None = Err (Error 13)

@@ -1,29 +1,14 @@
 // Integers in decimal: I, and G at integers.
 ghost use Rattle.std.specs.Prelude.{◌≡◌, ◌≤◌, IsOkAnd};
 ghost use Rattle.fj_value.specs.Kind.{fits_bits};
-ghost use Rattle.fj_edit_in.specs.InputField.{integer_input, signed_number, signed_digits, with_sign, trimmed, Reads};
-ghost use Rattle.fj_edit_in.specs.Scan.{in_range, integer_or_condition};
+ghost use Rattle.fj_value.specs.Reading.{with_sign, in_range};
+ghost use Rattle.fj_edit_in.specs.InputField.{integer_input, signed_number, signed_digits, trimmed, Reads};
+ghost use Rattle.fj_edit_in.specs.Scan.{integer_or_condition};
 
 use crate::number::number;
 use crate::trim::skip_blanks;
-use fj_value::{Condition, Edit, EditModes, Kind, Value};
+use fj_value::{Condition, Edit, EditModes, Kind, Value, signed};
 use std::alloc::{AllocError, Global};
-
-/// The number of an amount and a sign, where it is one of so many bits.
-fn signed(bits: u32, negative: bool, amount: u64) -> Option<i64>
-    requires { (1 ≤ bits) × (bits ≤ 64) }
-    ensures { result ≡ in_range bits (with_sign negative amount) }
-{
-    let limit = 1 << (bits - 1);
-    if negative && amount == limit {
-        return Some(-((limit - 1) as i64) - 1);
-    }
-    if amount >= limit {
-        return None;
-    }
-    let amount = amount as i64;
-    Some(if negative { -amount } else { amount })
-}
 
 /// The number of digits behind a sign.
 #[tactic(auto, using(crate::proofs::Halves::half_small))]

@@ -1,21 +1,11 @@
 // Logicals: L, and G at logicals.
 ghost use Rattle.std.specs.Prelude.{◌≡◌, IsOkAnd};
-ghost use Rattle.fj_edit_in.specs.InputField.{logical_input, truth_read, trimmed, Reads};
+ghost use Rattle.fj_value.specs.Reading.{truth_read};
+ghost use Rattle.fj_edit_in.specs.InputField.{logical_input, trimmed, Reads};
 
 use crate::trim::skip_blanks;
-use fj_value::{Condition, Edit, EditModes, Kind, Value};
+use fj_value::{Condition, Edit, EditModes, Kind, Value, truth_of};
 use std::alloc::{AllocError, Global};
-
-/// The truth value of a field without blanks in front.
-fn truth_of(field: &[u8]) -> Option<bool>
-    ensures { result ≡ truth_read field.now }
-{
-    match field {
-        [b'T' | b't', ..] | [b'.', b'T' | b't', ..] => Some(true),
-        [b'F' | b'f', ..] | [b'.', b'F' | b'f', ..] => Some(false),
-        _ => None,
-    }
-}
 
 /// Reads a logical under L or G. It takes no memory.
 pub fn read_logical(

@@ -11,10 +11,7 @@ fn characters_of(alloc: Global, length: u32, chars: &[u8]) -> Result<Text, Alloc
     ensures { IfOk result (λ text. text ≡ characters_read length chars.now) }
 {
     let skipped = chars.len().saturating_sub(length as usize);
-    let missing = (length as usize).saturating_sub(chars.len());
-    let mut text = Text::from_bytes(alloc, &chars[skipped..])?;
-    text.push_copies(b' ', missing as u32)?;
-    Ok(text)
+    Text::assigned(alloc, length, &chars[skipped..])
 }
 
 /// Reads characters under A or G. Want of memory leaves the variable as it was.
@@ -34,6 +31,6 @@ pub fn read_text(
         return Ok(Condition::Error(12));
     };
     let text = characters_of(alloc, length, chars)?;
-    *out = Value::Chars(text);
+    out.set_chars(text)?;
     Ok(Condition::Fine)
 }

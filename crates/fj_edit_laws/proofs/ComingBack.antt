@@ -18,7 +18,8 @@ use Rattle.fj_value.specs.declared.value.Value.{Value}
 use Rattle.fj_value.specs.declared.value.Value.TheVariants as value
 use Rattle.fj_edit_out.specs.Item.{integer_in, bits_in, logical_in}
 use Rattle.fj_edit_out.specs.OutputField.{sign, with_sign as signed_text, zero_filled, integer_field, bits_field, logical_field, text_field, field_of, output_field}
-use Rattle.fj_edit_in.specs.InputField.{trimmed, blanks_read, with_sign, signed_number, unsigned_number, truth_read, characters_read, integer_value, bits_value, logical_value, read_by, logical_kind, input_field}
+use Rattle.fj_value.specs.Reading.{with_sign, truth_read, assigned_text}
+use Rattle.fj_edit_in.specs.InputField.{trimmed, blanks_read, signed_number, unsigned_number, characters_read, integer_value, bits_value, logical_value, read_by, logical_kind, input_field}
 use Rattle.fj_edit_laws.proofs.Blanks.{trimmed-blanks, trimmed-first, trimmed-none, trimmed-adjusted, none_or_some}
 use Rattle.fj_edit_laws.proofs.Numbers.{first_digit, no_blank, no_plus, no_minus, filled_digits, filled_read, filled_none}
 
@@ -157,15 +158,16 @@ drop-replicate : (count : ℕ) (cs : List ℕ) → drop count (replicate count 3
 drop-replicate zero cs = refl
 drop-replicate (suc count) cs = drop-replicate count cs
 
+whole_text : (text : List ℕ) → assigned_text (length text) text ≡ text
+whole_text text = grind (arith, common_steps)
+
 behind_blanks : (count : ℕ) (text : List ℕ) → characters_read (length text) (replicate count 32 ++ text) ≡ text
 behind_blanks count text =
     let long : length (replicate {A = ℕ} count 32 ++ text) ≡ count + length text = length-append (replicate {A = ℕ} count 32) text ∙ ap (λ n. n + length text) (length-replicate {A = ℕ} count 32) in
     let skipped : length (replicate {A = ℕ} count 32 ++ text) - length text ≡ count = omega arith in
-    let missing : length text - length (replicate {A = ℕ} count 32 ++ text) ≡ 0 = omega arith in
-    ap (λ n. drop n (replicate {A = ℕ} count 32 ++ text) ++ replicate {A = ℕ} (length text - length (replicate {A = ℕ} count 32 ++ text)) 32) skipped
-    ∙ ap (λ n. drop count (replicate {A = ℕ} count 32 ++ text) ++ replicate {A = ℕ} n 32) missing
-    ∙ append-nil (drop count (replicate {A = ℕ} count 32 ++ text))
-    ∙ drop-replicate count text
+    ap (λ n. assigned_text (length text) (drop n (replicate {A = ℕ} count 32 ++ text))) skipped
+    ∙ ap (assigned_text (length text)) (drop-replicate count text)
+    ∙ whole_text text
 
 text_in_width : (w : ℕ) (text : List ℕ) → length text ≤ w → characters_read (length text) (text_field (Some w) text) ≡ text
 text_in_width w text wide =

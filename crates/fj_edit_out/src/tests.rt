@@ -344,7 +344,7 @@ fn fields(rt: HostRuntime) -> Result<(), Fail> {
         assert_eq!(rt; out.bytes(), *expected, "base {base}, width {w}, {n}");
     }
     for (w, text, expected) in TEXTS.iter() {
-        let value = Value::Chars(Text::from_bytes(alloc, text)?);
+        let value = Value::of_text(Text::from_bytes(alloc, text)?)?;
         let out = written(alloc, Edit::Chars { w: *w }, &value, Kind::Chars(3), false)?;
         assert_eq!(rt; out.bytes(), *expected);
     }
@@ -372,7 +372,7 @@ fn fields(rt: HostRuntime) -> Result<(), Fail> {
 fn general_fields(rt: HostRuntime) -> Result<(), Fail> {
     let alloc = rt.alloc();
     let general = Edit::General { w: 5, d: 1 };
-    let text = Value::Chars(Text::from_bytes(alloc, b"abc")?);
+    let text = Value::of_text(Text::from_bytes(alloc, b"abc")?)?;
     let mut out = Text::new(alloc);
     let _ = int_field(general, &Value::Int(42), Kind::Int4, modes(false), &mut out)?;
     let _ = logical_field(
@@ -397,7 +397,7 @@ fn general_fields(rt: HostRuntime) -> Result<(), Fail> {
 #[test]
 fn conditions(rt: HostRuntime) -> Result<(), Fail> {
     let alloc = rt.alloc();
-    let text = Value::Chars(Text::new(alloc));
+    let text = Value::of_text(Text::new(alloc))?;
     let int = Edit::Int { w: 4, m: None };
     let bits = Edit::Bits {
         base: 16,

@@ -1,11 +1,17 @@
 -- The records of list-directed output, cut where they are full.
-use Rattle.std.proofs.Common.{◌≡◌, ℕ, ◌<◌, ◌≤◌, ◌⊎◌, cond, List, [], ◌∷◌, ◌++◌, length, sym, ap, subst, ◌∙◌, refl, inl, inr, arith, append_assoc, append-nil, length-append}
+use Rattle.std.proofs.Common.{◌≡◌, ℕ, ◌<◌, ◌≤◌, ◌⊎◌, Bool, true, false, nat_lt, cond, List, [], ◌∷◌, ◌++◌, length, sym, ap, subst, ◌∙◌, refl, inl, inr, arith, append_assoc, append-nil, length-append}
 use Rattle.std.proofs.lemmas.Bool.{cases_lt}
 use Rattle.fj_value.specs.declared.edit.EditModes.{EditModes}
 use Rattle.fj_value.specs.declared.value.Value.{Value}
 use Rattle.fj_list.specs.ListText.{shown, gap, is_characters, continued}
 use Rattle.fj_list.specs.Breaks.{Part, values_in, joined, line_of, lines_of, Fit, Full, RecordsBreakWhereFull, RecordsAreUnique}
-use Rattle.fj_list.proofs.LayoutLaws.{within_columns, beyond_columns}
+use Rattle.std.proofs.lemmas.Bool.Decides.{nat_tests}
+
+within_columns : (n : ℕ) → n ≤ 80 → nat_lt 80 n ≡ false
+within_columns n h = grind (arith, nat_tests)
+
+beyond_columns : (n : ℕ) → 80 < n → nat_lt 80 n ≡ true
+beyond_columns n h = grind (arith, nat_tests)
 
 last_of : Value → List Value → Value
 last_of v [] = v

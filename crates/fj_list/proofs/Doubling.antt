@@ -1,6 +1,6 @@
 -- Doubling marks, a piece at a time.
 use Rattle.std.proofs.Common.{◌≡◌, ℕ, ◌+◌, ◌-◌, ◌<◌, ◌≤◌, cond, eqb, true, false, List, [], ◌∷◌, ◌++◌, length, get_or, take, drop, sym, ap, ◌∙◌, arith, append_assoc, append-nil}
-use Rattle.std.proofs.lemmas.List.{take_more, drop-append-le, drop_at, drop-take, length-take-le}
+use Rattle.std.proofs.lemmas.List.{take_more, take-append-le, drop-append-le, drop_at, drop-take, length-take, length-take-le}
 use Rattle.std.proofs.lemmas.Grind.{flat_map-append}
 use Rattle.fj_list.specs.ListText.{doubled}
 
@@ -49,3 +49,7 @@ pub slice_is : (xs : List ℕ) (start i : ℕ) → start ≤ i → take (i + 1 -
 slice_is xs start i within =
     let whole : start + (i + 1 - start) ≡ i + 1 = omega arith in
     sym (drop-take start (i + 1 - start) xs) ∙ ap (λ n. drop start (take n xs)) whole
+
+-- what stood in front stays in front
+pub take_grown : (old out more : List ℕ) → take (length old) out ≡ old → take (length old) (out ++ more) ≡ old
+take_grown old out more e = take-append-le (length old) out more (omega (arith, ap length e, length-take (length old) out)) ∙ e

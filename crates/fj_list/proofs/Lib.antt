@@ -1,5 +1,4 @@
 pub mod Doubling
-pub mod LayoutLaws
 pub mod Widths
 pub mod StreamLaws
 pub mod Delimiting
@@ -10,4 +9,10 @@ pub mod Plain
 pub mod ReadAgain
 pub mod ListCases
 pub mod BreakLaws
-pub mod Ends
+pub mod Looking
+pub mod GrammarLaws
+pub mod Understanding
+pub mod Meaning
+pub mod Constants
+mod ListLaws
+pub mod ItemLemmas

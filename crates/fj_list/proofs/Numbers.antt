@@ -15,7 +15,8 @@ use Rattle.fj_value.specs.declared.value.Value.TheVariants as value
 use Rattle.fj_value.specs.declared.condition.Condition.TheVariants.{Error}
 use Rattle.fj_list.specs.declared.constant.Read.{Read}
 use Rattle.fj_list.specs.declared.constant.Read.TheVariants as read
-use Rattle.fj_list.specs.Constant.{with_sign, signed_number, integer_read}
+use Rattle.fj_value.specs.Reading.{with_sign, in_range}
+use Rattle.fj_list.specs.Constant.{signed_number, integer_read}
 use Rattle.fj_list.specs.Scanned.{Scanned}
 
 pub digit_is : (c : ℕ) → is_ascii_digit c ≡ true → (is_digit c 10 ≡ true) × (digit_value c ≡ c - 48) × (48 ≤ c)

@@ -91,6 +91,11 @@ places_kept [] at v = refl
 places_kept (c ∷ cells) zero v = refl
 places_kept (c ∷ cells) (suc at) v = ap (λ ps. (c.place, c.kind) ∷ ps) (places_kept cells at v)
 
+pub count_kept : (cells : List Cell) (at : ℕ) (v : Value) → length (with_value cells at v) ≡ length cells
+count_kept [] at v = refl
+count_kept (c ∷ cells) zero v = refl
+count_kept (c ∷ cells) (suc at) v = ap suc (count_kept cells at v)
+
 -- items
 pub items_step : (comma : Bool) (ending : Condition) (order : List ℕ) (i : ℕ) (cells : List Cell) (first : Bool) (count : ℕ) (form : Form) (cs : List ℕ) (s : Stream) → i < length order
     → items_read comma ending (drop i order) cells first count form cs s

@@ -17,7 +17,8 @@ use Rattle.fj_list.specs.declared.constant.Form.TheVariants.{Null, Undelimited, 
 use Rattle.fj_list.specs.declared.constant.Read.TheVariants as read
 use Rattle.fj_list.specs.Stream.{Stream, front, behind, is_blank, skipped}
 use Rattle.fj_list.specs.ListText.{doubled, integer_shown}
-use Rattle.fj_list.specs.Constant.{with_sign, signed_number, integer_in, integer_read, assigned}
+use Rattle.fj_value.specs.Reading.{with_sign, assigned_text}
+use Rattle.fj_list.specs.Constant.{signed_number, integer_in, integer_read}
 use Rattle.fj_list.specs.ListInput.{Split, value, stopped, is_separator, ends_constant, is_mark, has_ended, with_front, delimited, closed, constant_at, repeated, counted, is_no_digit, token_at, value_at, past_separator, value_start, split}
 use Rattle.fj_list.proofs.Numbers.{half_small, number_in-nil}
 
@@ -96,16 +97,16 @@ counted_plain comma ending s (Some n) (Some c ∷ t) h = ap (λ b. cond b (repea
 token_plain : (comma : Bool) (ending : Condition) (s : Stream) → NoStar (behind is_no_digit s) → token_at comma ending s ≡ constant_at comma ending 1 s
 token_plain comma ending s h = counted_plain comma ending s (number_in 10 (front is_no_digit s)) (behind is_no_digit s) h
 
-to_token : (comma : Bool) (ending : Condition) (c : ℕ) (s : Stream) → eqb c 47 ≡ false → is_separator comma c ≡ false → value_at comma ending (Some c ∷ s) ≡ token_at comma ending (Some c ∷ s)
+pub to_token : (comma : Bool) (ending : Condition) (c : ℕ) (s : Stream) → eqb c 47 ≡ false → is_separator comma c ≡ false → value_at comma ending (Some c ∷ s) ≡ token_at comma ending (Some c ∷ s)
 to_token comma ending c s slash separator =
     let by : Bool → Bool → Split = λ b d. cond b (stopped Fine (Some c ∷ s)) (cond d (value 1 Null [] (Some c ∷ s)) (token_at comma ending (Some c ∷ s))) in
     ap (λ b. by b (is_separator comma c)) slash ∙ ap (by false) separator
 
 -- where a value begins
-skip_none : (c : ℕ) (s : Stream) → is_blank c ≡ false → skipped (Some c ∷ s) ≡ Some c ∷ s
+pub skip_none : (c : ℕ) (s : Stream) → is_blank c ≡ false → skipped (Some c ∷ s) ≡ Some c ∷ s
 skip_none c s e = ap (λ b. cond b (skipped s) (Some c ∷ s)) e
 
-begins_at : (comma first : Bool) (c : ℕ) (s t : Stream) → is_blank c ≡ false → is_separator comma c ≡ false → skipped t ≡ skipped (Some c ∷ s) → value_start comma first t ≡ Some c ∷ s
+pub begins_at : (comma first : Bool) (c : ℕ) (s t : Stream) → is_blank c ≡ false → is_separator comma c ≡ false → skipped t ≡ skipped (Some c ∷ s) → value_start comma first t ≡ Some c ∷ s
 begins_at comma true c s t blank separator e = e ∙ skip_none c s blank
 begins_at comma false c s t blank separator e =
     ap (λ u. skipped (past_separator comma u)) (e ∙ skip_none c s blank)
@@ -238,7 +239,7 @@ number_in-decimal (suc n) h = ap (number_in 10) (sym (numeral-decimal (suc n) (o
 unsigned_digit : (d : ℕ) → d < 10 → (eqb (48 + d) 45 ≡ false) × (eqb (48 + d) 43 ≡ false)
 unsigned_digit d h = (grind (arith, nat_tests), grind (arith, nat_tests))
 
-abbrev NoSign : List ℕ → Type 0
+abbrev pub NoSign : List ℕ → Type 0
 NoSign [] = Unit {0}
 NoSign (c ∷ cs) = (eqb c 45 ≡ false) × (eqb c 43 ≡ false)
 
@@ -249,7 +250,7 @@ no_sign_push (d ∷ ds) c h k = h
 decimal_no_sign : (n : ℕ) → n < 2 ^ 64 → NoSign (decimal n)
 decimal_no_sign = decimal_by_steps (λ n ds. NoSign ds) (λ n h. unsigned_digit n h) (λ n ds h before. no_sign_push ds (48 + n % 10) before (unsigned_digit (n % 10) (omega arith)))
 
-integer_unsigned : (ds : List ℕ) → NoSign ds → integer_in ds ≡ signed_number false ds
+pub integer_unsigned : (ds : List ℕ) → NoSign ds → integer_in ds ≡ signed_number false ds
 integer_unsigned [] h = sym (ap (option_map (with_sign false)) number_in-nil)
 integer_unsigned (c ∷ cs) h =
     ap (λ b. cond b (signed_number true cs) (cond (eqb c 43) (signed_number false cs) (signed_number false (c ∷ cs)))) h.0
@@ -267,7 +268,7 @@ integer_again bits plus z few h =
     ∙ ap (λ b. cond b (read.Defined (value'.Int z)) (read.Wrong (Error 14))) m.0
 
 -- characters of the right length
-pub assigned_whole : (n : ℕ) (cs : List ℕ) → length cs ≡ n → assigned n cs ≡ cs
+pub assigned_whole : (n : ℕ) (cs : List ℕ) → length cs ≡ n → assigned_text n cs ≡ cs
 assigned_whole n cs e =
     let none : n - length cs ≡ 0 = omega arith in
     ap (λ k. take n cs ++ replicate k 32) none ∙ append-nil (take n cs) ∙ take_all n cs (omega arith)

@@ -23,16 +23,15 @@ is_other c d h = grind (arith, nat_tests)
 
 -- a constant that begins with no mark
 pub constant_undelimited : (comma : Bool) (ending : Condition) (count : ℕ) (line : List ℕ) (at width : ℕ) (lines : List (List ℕ)) → at < length line
-    → (get_or line at 0 ≡ 39 → ⊥) → (get_or line at 0 ≡ 34 → ⊥) → width ≡ position_or_len (ends_constant comma) (drop at line)
+    → is_mark (get_or line at 0) ≡ false → width ≡ position_or_len (ends_constant comma) (drop at line)
     → constant_at comma ending count (stream (drop at line ∷ lines)) ≡ value count Undelimited (take (at + width - at) (drop at line)) (stream (drop (at + width) line ∷ lines))
-constant_undelimited comma ending count line at width lines there no39 no34 is =
+constant_undelimited comma ending count line at width lines there plain is =
     let c = get_or line at 0 in
     let cs = drop at line in
     let ends = ends_constant comma in
     let here = stream_on line at lines there in
     let rest = stream (drop (at + 1) line ∷ lines) in
     let n = position_or_len ends cs in
-    let plain : is_mark c ≡ false = ap (λ b. b || eqb c 34) (is_other c 39 no39) ∙ is_other c 34 no34 in
     let same : at + width - at ≡ n = omega arith in
     let next : at + width ≡ at + n = omega arith in
     ap (constant_at comma ending count) here
@@ -71,7 +70,7 @@ repeated_most comma ending n s =
           ap (λ b. outcome b n) (too_great n (omega arith)) ∙ sym (ap (λ b. outcome b m) (too_great m great))
     ]
 
-token_is : (comma : Bool) (ending : Condition) (cs : List ℕ) (width : ℕ) (lines : List (List ℕ)) → width ≡ position_or_len is_no_digit cs
+pub token_is : (comma : Bool) (ending : Condition) (cs : List ℕ) (width : ℕ) (lines : List (List ℕ)) → width ≡ position_or_len is_no_digit cs
     → token_at comma ending (stream (cs ∷ lines)) ≡ counted comma ending (stream (cs ∷ lines)) (number_in 10 (take width cs)) (stream (drop width cs ∷ lines))
 token_is comma ending cs width lines is =
     let s = stream (cs ∷ lines) in

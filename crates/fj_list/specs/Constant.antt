@@ -3,6 +3,7 @@ use Rattle.std.specs.Prelude.{ℕ, ◌-◌, Bool, true, false, ◌||◌, ◌==�
 use Rattle.std.specs.Option.{option_map}
 use Rattle.fj_value.specs.Digits.{number_in}
 use Rattle.fj_value.specs.Kind.{fits_bits}
+use Rattle.fj_value.specs.Reading.{with_sign, truth_read, assigned_text}
 use Rattle.fj_value.specs.declared.kind.Kind.{Kind}
 use Rattle.fj_value.specs.declared.kind.Kind.TheVariants.{Int4, Int8, Logical, Chars}
 use Rattle.fj_value.specs.declared.value.Value.TheVariants as value
@@ -11,9 +12,6 @@ use Rattle.fj_list.specs.declared.constant.Form.{Form}
 use Rattle.fj_list.specs.declared.constant.Form.TheVariants as form
 use Rattle.fj_list.specs.declared.constant.Read.{Read}
 use Rattle.fj_list.specs.declared.constant.Read.TheVariants as read
-
-abbrev pub with_sign : Bool → ℕ → ℤ
-with_sign negative n = if negative then neg_ℤ (pos n) else pos n
 
 abbrev pub signed_number : Bool → List ℕ → Option ℤ
 signed_number negative digits = option_map (with_sign negative) (number_in 10 digits)
@@ -28,33 +26,20 @@ abbrev pub integer_read : ℕ → Option ℤ → Read
 integer_read bits None = read.Wrong (Error 13)
 integer_read bits (Some n) = if fits_bits bits n then read.Defined (value.Int n) else read.Wrong (Error 14)
 
--- `T` or `F` of either case behind an optional period; what follows has no effect
-abbrev pub letter_in : List ℕ → Option Bool
-letter_in [] = None
-letter_in (c ∷ cs) = if (c == 84) || (c == 116) then Some true else (if (c == 70) || (c == 102) then Some false else None)
-
-abbrev pub truth_in : List ℕ → Option Bool
-truth_in [] = None
-truth_in (c ∷ cs) = if c == 46 then letter_in cs else letter_in (c ∷ cs)
-
 abbrev pub logical_read : Option Bool → Read
 logical_read None = read.Wrong (Error 13)
 logical_read (Some truth) = read.Defined (value.Log truth)
-
--- as by assignment: the first n characters, or all of them and blanks
-abbrev pub assigned : ℕ → List ℕ → List ℕ
-assigned n cs = take n cs ++ replicate (n - length cs) 32
 
 -- a constant without delimiters
 abbrev pub undelimited_read : Kind → List ℕ → Read
 undelimited_read Int4 cs = integer_read 32 (integer_in cs)
 undelimited_read Int8 cs = integer_read 64 (integer_in cs)
-undelimited_read Logical cs = logical_read (truth_in cs)
-undelimited_read (Chars n) cs = read.Defined (value.Chars (assigned n cs))
+undelimited_read Logical cs = logical_read (truth_read cs)
+undelimited_read (Chars n) cs = read.Defined (value.Chars (assigned_text n cs))
 
 -- a delimited constant is for character items alone
 abbrev pub delimited_read : Kind → List ℕ → Read
-delimited_read (Chars n) cs = read.Defined (value.Chars (assigned n cs))
+delimited_read (Chars n) cs = read.Defined (value.Chars (assigned_text n cs))
 delimited_read _ cs = read.Wrong (Error 13)
 
 abbrev pub read_as : Kind → Form → List ℕ → Read

@@ -1,7 +1,8 @@
 pub mod Records
 pub mod Moved
 pub mod ListText
-pub mod Layout
+pub mod Items
+pub mod Listing
 pub mod Stream
 pub mod Constant
 pub mod ListInput
@@ -10,3 +11,6 @@ pub mod Scanned
 pub mod ReadAgain
 pub mod Breaks
 pub mod LookedAt
+pub mod Grammar
+pub mod Understood
+pub mod ConstantLaws

@@ -46,13 +46,20 @@ is_characters _ = false
 abbrev pub gap : EditModes → Bool → Bool → List ℕ
 gap modes before after = if (before && after) && is_none (mark_of modes.delim) then [] else 32 ∷ []
 
--- The records of a record so far, which ends with a given value, and of more values. Where a value would pass column 80
--- it is the first of a new record.
+-- A record has at most 80 columns, unless its one value is longer.
+abbrev pub columns : ℕ
+columns = 80
+
+abbrev pub passes_columns : ℕ → Bool
+passes_columns width = nat_lt columns width
+
+-- The records of a record so far, which ends with a given value, and of more values. Where a value would pass the last
+-- column it is the first of a new record.
 abbrev pub continued : EditModes → List ℕ → Value → List Value → List (List ℕ)
 continued modes line last [] = line ∷ []
 continued modes line last (v ∷ vs) =
     let longer = line ++ (gap modes (is_characters last) (is_characters v) ++ shown modes v) in
-    if nat_lt 80 (length longer) then line ∷ continued modes (32 ∷ shown modes v) v vs else continued modes longer v vs
+    if passes_columns (length longer) then line ∷ continued modes (32 ∷ shown modes v) v vs else continued modes longer v vs
 
 -- the records of values; without any there is one record of one blank
 abbrev pub listed : EditModes → List Value → List (List ℕ)

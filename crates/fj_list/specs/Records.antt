@@ -9,3 +9,8 @@ abbrev pub Brings : More → List (List ℕ) → Option Condition → List ℕ �
 Brings Record old ending text new = old ≡ text ∷ new
 Brings End old ending text new = (old ≡ []) × (ending ≡ None) × (new ≡ [])
 Brings (Refused condition) old ending text new = (old ≡ []) × (ending ≡ Some condition) × (new ≡ [])
+
+-- the next record is the first of those to come, or they have ended in this condition
+abbrev pub IsNext : Option Condition → List (List ℕ) → Condition → List ℕ → List (List ℕ) → Type 0
+IsNext None old ending text new = old ≡ text ∷ new
+IsNext (Some condition) old ending text new = (old ≡ []) × (condition ≡ ending) × (new ≡ [])

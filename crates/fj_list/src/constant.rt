@@ -3,9 +3,10 @@ ghost use Rattle.std.specs.Prelude.{◌≡◌, ◌≤◌, min, ◌^◌, ◌-◌,
 ghost use Rattle.std.specs.Option.{option_map};
 ghost use Rattle.fj_value.specs.Digits.{number_in};
 ghost use Rattle.fj_value.specs.Kind.{fits_bits};
-ghost use Rattle.fj_list.specs.Constant.{with_sign, integer_in, integer_read, truth_in, logical_read, assigned, undelimited_read, delimited_read, read_as, signed_number};
+ghost use Rattle.fj_value.specs.Reading.{with_sign, in_range, truth_read, assigned_text};
+ghost use Rattle.fj_list.specs.Constant.{integer_in, integer_read, logical_read, undelimited_read, delimited_read, read_as, signed_number};
 
-use fj_value::{Condition, Kind, Text, Value};
+use fj_value::{Condition, Kind, Text, Value, signed, truth_of};
 use std::alloc::{AllocError, Global};
 
 /// What stands for an item.
@@ -48,20 +49,15 @@ pub fn number(chars: &[u8]) -> Option<u64>
     Some(amount)
 }
 
-/// The number of an amount and a sign, where it is one of so many bits.
-fn signed(bits: u32, negative: bool, amount: u64) -> Read
+/// The number of an amount and a sign.
+fn read_signed(bits: u32, negative: bool, amount: u64) -> Read
     requires { (1 ≤ bits) × (bits ≤ 64) }
     ensures { result ≡ integer_read bits (Some (with_sign negative amount)) }
 {
-    let limit = 1 << (bits - 1);
-    if negative && amount == limit {
-        return Read::Defined(Value::Int(-((limit - 1) as i64) - 1));
+    match signed(bits, negative, amount) {
+        Some(n) => Read::Defined(Value::Int(n)),
+        None => Read::Wrong(Condition::Error(14)),
     }
-    if amount >= limit {
-        return Read::Wrong(Condition::Error(14));
-    }
-    let amount = amount as i64;
-    Read::Defined(Value::Int(if negative { -amount } else { amount }))
 }
 
 fn signed_digits(bits: u32, negative: bool, digits: &[u8]) -> Read
@@ -69,7 +65,7 @@ fn signed_digits(bits: u32, negative: bool, digits: &[u8]) -> Read
     ensures { result ≡ integer_read bits (signed_number negative digits.now) }
 {
     match number(digits) {
-        Some(amount) => signed(bits, negative, amount),
+        Some(amount) => read_signed(bits, negative, amount),
         None => Read::Wrong(Condition::Error(13)),
     }
 }
@@ -86,33 +82,21 @@ fn read_integer(bits: u32, chars: &[u8]) -> Read
     }
 }
 
-fn truth_in(chars: &[u8]) -> Option<bool>
-    ensures { result ≡ truth_in chars.now }
-{
-    match chars {
-        [b'T' | b't', ..] | [b'.', b'T' | b't', ..] => Some(true),
-        [b'F' | b'f', ..] | [b'.', b'F' | b'f', ..] => Some(false),
-        _ => None,
-    }
-}
-
 fn read_logical(chars: &[u8]) -> Read
-    ensures { result ≡ logical_read (truth_in chars.now) }
+    ensures { result ≡ logical_read (truth_read chars.now) }
 {
-    match truth_in(chars) {
+    match truth_of(chars) {
         Some(truth) => Read::Defined(Value::Log(truth)),
         None => Read::Wrong(Condition::Error(13)),
     }
 }
 
 /// Characters as an assignment gives them to a variable of a length.
-fn assigned(alloc: Global, length: u32, chars: &[u8]) -> Result<Text, AllocError>
-    ensures { IfOk result (λ text. text ≡ assigned length chars.now) }
+fn characters_of(alloc: Global, length: u32, chars: &[u8]) -> Result<Read, AllocError>
+    ensures { IfOk result (λ read. read ≡ Read.Defined (Value.Chars (assigned_text length chars.now))) }
 {
-    let taken = chars.len().min(length as usize);
-    let mut text = Text::from_bytes(alloc, &chars[..taken])?;
-    text.push_copies(b' ', length - taken as u32)?;
-    Ok(text)
+    let text = Text::assigned(alloc, length, chars)?;
+    Ok(Read::Defined(Value::of_text(text)?))
 }
 
 fn read_undelimited(alloc: Global, kind: Kind, chars: &[u8]) -> Result<Read, AllocError>
@@ -122,7 +106,7 @@ fn read_undelimited(alloc: Global, kind: Kind, chars: &[u8]) -> Result<Read, All
         Kind::Int4 => Ok(read_integer(32, chars)),
         Kind::Int8 => Ok(read_integer(64, chars)),
         Kind::Logical => Ok(read_logical(chars)),
-        Kind::Chars(length) => Ok(Read::Defined(Value::Chars(assigned(alloc, length, chars)?))),
+        Kind::Chars(length) => characters_of(alloc, length, chars),
     }
 }
 
@@ -130,7 +114,7 @@ fn read_delimited(alloc: Global, kind: Kind, chars: &[u8]) -> Result<Read, Alloc
     ensures { IfOk result (λ read. read ≡ delimited_read kind chars.now) }
 {
     match kind {
-        Kind::Chars(length) => Ok(Read::Defined(Value::Chars(assigned(alloc, length, chars)?))),
+        Kind::Chars(length) => characters_of(alloc, length, chars),
         _ => Ok(Read::Wrong(Condition::Error(13))),
     }
 }

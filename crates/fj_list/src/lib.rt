@@ -2,6 +2,7 @@
 #![tactic(auto)]
 
 mod constant;
+mod items;
 mod laws;
 mod memory_records;
 mod moved;
@@ -12,18 +13,23 @@ mod shown;
 mod split;
 mod write;
 
-pub use constant::{Form, Read, read_as};
+pub use constant::{Form, Read, number, read_as};
+pub use items::{Item, OutputItems, Run, Values};
 pub use laws::{
-    records_are_read_in_order, records_are_unique, records_break_where_full, values_are_read_again,
+    cells_keep_kinds, constants_are_of_kind, integers_are_read, records_are_listed,
+    records_are_looked_at_as_needed, records_are_unique, records_break_where_full,
+    text_has_a_meaning, text_has_one_meaning, text_is_read_as_its_values, values_are_read_again,
 };
 pub use memory_records::MemoryRecords;
 pub use moved::{Cells, GroupMember, Moved, Order};
-pub use read::{read_list, serve};
-pub use records::{More, Records};
-pub use scan::{Scan, Token, is_separator};
-pub use shown::{gap, is_characters, push_value};
-pub use split::{advance, skip, split_value, supply};
-pub use write::{COLUMNS, write_list};
+pub use read::{define, read_list};
+pub use records::{More, Records, next_line};
+pub use scan::{
+    blanks_width, digits_width, ends_constant, is_blank, is_mark, is_separator, text_width,
+    width_before,
+};
+pub use shown::push_value;
+pub use write::{COLUMNS, put_list, write_list};
 
 #[cfg(test)]
 mod tests;

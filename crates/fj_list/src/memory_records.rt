@@ -1,4 +1,7 @@
 // Records in memory.
+ghost use Rattle.std.specs.Prelude.{◌≢◌, Some};
+ghost use Rattle.fj_value.specs.declared.condition.Condition.TheVariants.{Fine};
+
 use crate::records::{More, Records};
 use fj_outside::Stop;
 use fj_value::{Condition, Items, Text};
@@ -11,6 +14,7 @@ pub struct MemoryRecords {
     pub looked_at: usize,
     /// The condition that stands behind them, or none at the end.
     pub ending: Option<Condition>,
+    ghost refused: { ending ≢ Some Fine },
 }
 
 impl Records for MemoryRecords {

@@ -23,14 +23,16 @@ fn kind_at(cells: &Cells, at: u32) -> Kind
 }
 
 /// Gives a value to a cell.
-fn define(cells: &mut Cells, at: u32, value: Value)
+pub fn define(cells: &mut Cells, at: usize, value: Value)
     requires { at < length cells.old }
-    ensures { cells.new ≡ with_value cells.old at value }
+    ensures value { cells.new ≡ with_value cells.old at value }
+    ensures places { places_of cells.new ≡ places_of cells.old }
+    ensures count { length cells.new ≡ length cells.old }
 {
-    let cell = &cells.as_slice()[at as usize];
+    let cell = &cells.as_slice()[at];
     let place = cell.place;
     let kind = cell.kind;
-    cells.replace(at as usize, Cell { place, kind, value });
+    cells.replace(at, Cell { place, kind, value });
 }
 
 /// Serves the constant at hand to an item, or answers the condition where its characters are no value of the item's
@@ -51,7 +53,7 @@ pub fn serve(
         Read::Null => Ok(None),
         Read::Wrong(condition) => Ok(Some(condition)),
         Read::Defined(value) => {
-            define(cells, at, value);
+            define(cells, at as usize, value);
             Ok(None)
         }
     }

@@ -1,8 +1,9 @@
 // Where list-directed and namelist input take their records from.
-ghost use Rattle.std.specs.Prelude.{◌≡◌, ◌<◌, ◌≤◌, ◌↔◌, List, ℕ, Option, IfOk};
+ghost use Rattle.std.specs.Prelude.{◌≡◌, ◌≢◌, ◌<◌, ◌≤◌, ◌↔◌, List, ℕ, Option, None, IfOk};
 ghost use Rattle.fj_outside.specs.Faults.{Rose};
 ghost use Rattle.fj_value.specs.declared.condition.Condition.{Condition};
-ghost use Rattle.fj_list.specs.Records.{Brings};
+ghost use Rattle.fj_list.specs.ListInput.{condition_of};
+ghost use Rattle.fj_list.specs.Records.{Brings, IsNext};
 
 use fj_outside::Stop;
 use fj_value::{Condition, Text};
@@ -14,7 +15,7 @@ pub enum More {
     Record,
     /// The end of the records.
     End,
-    /// The condition of a record that cannot be had.
+    /// The condition of a record that cannot be had. It is never `Fine`.
     Refused(Condition),
 }
 
@@ -41,6 +42,7 @@ pub trait Records {
         ensures contents { tells self.old → IfOk result (λ more.
             Brings more (to_come self.old) (ending self.old) into.new (to_come self.new)) }
         ensures same { tells self.old → IfOk result (λ _. ending self.new ≡ ending self.old) }
+        ensures refused { IfOk result (λ more. more ≢ More.Refused Condition.Fine) }
         ensures fewer { result ≡ Ok More.Record → bound self.new < bound self.old }
         ensures bounded { bound self.new ≤ bound self.old }
         ensures later { count self.old ≤ count self.new }
@@ -49,4 +51,21 @@ pub trait Records {
     /// How many faults it had. The count stays at `u64::MAX` once it is there.
     fn faults(&self) -> u64
         ensures { result ≡ count self.now };
+}
+
+/// Replaces a text by the next record. Where there is none it answers the condition in which the records end.
+pub fn next_line<R: Records>(records: &mut R, line: &mut Text) -> Result<Option<Condition>, Stop>
+    ensures telling { R.tells records.old ↔ R.tells records.new }
+    ensures contents { R.tells records.old → IfOk result (λ end. IsNext end
+        (R.to_come records.old) (condition_of (R.ending records.old)) line.new (R.to_come records.new)) }
+    ensures same { R.tells records.old → IfOk result (λ _. R.ending records.new ≡ R.ending records.old) }
+    ensures fewer { result ≡ Ok None → R.bound records.new < R.bound records.old }
+    ensures later { R.count records.old ≤ R.count records.new }
+    ensures failed { result ≡ Err Stop.Failed → Rose (R.count records.old) (R.count records.new) }
+{
+    match records.next(line)? {
+        More::Record => Ok(None),
+        More::End => Ok(Some(Condition::EndOfFile)),
+        More::Refused(condition) => Ok(Some(condition)),
+    }
 }

@@ -1,5 +1,5 @@
 // A scan of records: the record at hand, and the constant that is served.
-ghost use Rattle.std.specs.Prelude.{◌≡◌, ◌≢◌, ◌+◌, ◌<◌, ◌≤◌, ◌==◌, List, ℕ, length, drop, slice_get, unwrap_or, true, false, IfOk, IfSome, IfNone};
+ghost use Rattle.std.specs.Prelude.{◌≡◌, ◌≢◌, ◌+◌, ◌<◌, ◌≤◌, ◌==◌, List, [], ℕ, length, drop, slice_get, unwrap_or, true, false, IfOk, IfSome, IfNone};
 ghost use Rattle.std.specs.List.{position, position_or_len};
 ghost use Rattle.fj_value.specs.declared.condition.Condition.{Condition};
 ghost use Rattle.fj_list.specs.Stream.{is_blank, is_no_blank};
@@ -38,7 +38,8 @@ pub enum Token {
     Stopped(Condition),
 }
 
-fn is_blank(c: u8) -> bool
+/// A blank or a tab.
+pub fn is_blank(c: u8) -> bool
     ensures { result ≡ is_blank c }
 {
     c == b' ' || c == b'\t'
@@ -51,16 +52,30 @@ pub fn is_separator(comma: bool, c: u8) -> bool
     c == if comma { b';' } else { b',' }
 }
 
-fn ends_constant(comma: bool, c: u8) -> bool
+/// A blank, a tab, a separator or a slash.
+pub fn ends_constant(comma: bool, c: u8) -> bool
     ensures { result ≡ ends_constant comma c }
 {
     is_blank(c) || is_separator(comma, c) || c == b'/'
+}
+
+/// An apostrophe or a quotation mark.
+pub fn is_mark(c: u8) -> bool
+    ensures { result ≡ is_mark c }
+{
+    c == b'\'' || c == b'"'
 }
 
 fn no_blank_in(chars: &[u8]) -> Option<usize>
     ensures { result ≡ position is_no_blank chars.now }
 {
     chars.iter().position(|c| !is_blank(*c))
+}
+
+fn blank_in(chars: &[u8]) -> Option<usize>
+    ensures { result ≡ position is_blank chars.now }
+{
+    chars.iter().position(|c| is_blank(*c))
 }
 
 fn end_in(comma: bool, chars: &[u8]) -> Option<usize>
@@ -86,6 +101,42 @@ fn width_to(place: Option<usize>, chars: &[u8]) -> usize
     ensures { result ≡ unwrap_or place (length chars.now) }
 {
     place.unwrap_or(chars.len())
+}
+
+/// How many blanks and tabs characters begin with.
+pub fn blanks_width(chars: &[u8]) -> usize
+    ensures width { result ≡ position_or_len is_no_blank chars.now }
+    ensures within { result ≤ length chars.now }
+{
+    let place = no_blank_in(chars);
+    width_to(place, chars)
+}
+
+/// How many characters stand before the first blank or tab, or before the end.
+pub fn text_width(chars: &[u8]) -> usize
+    ensures width { result ≡ position_or_len is_blank chars.now }
+    ensures within { result ≤ length chars.now }
+{
+    let place = blank_in(chars);
+    width_to(place, chars)
+}
+
+/// How many digits characters begin with.
+pub fn digits_width(chars: &[u8]) -> usize
+    ensures width { result ≡ position_or_len is_no_digit chars.now }
+    ensures within { result ≤ length chars.now }
+{
+    let place = no_digit_in(chars);
+    width_to(place, chars)
+}
+
+/// How many characters stand before the first of this kind, or before the end.
+pub fn width_before(mark: u8, chars: &[u8]) -> usize
+    ensures width { result ≡ position_or_len (λ c. c == mark) chars.now }
+    ensures within { result ≤ length chars.now }
+{
+    let place = mark_in(mark, chars);
+    width_to(place, chars)
 }
 
 fn char_at(chars: &[u8], at: usize) -> Option<u8>
@@ -123,8 +174,13 @@ impl Scan {
     /// A scan without a record at hand.
     pub fn new(alloc: Global) -> Scan
         ensures sound { IsSound result }
+        ensures line { result.line ≡ [] }
+        ensures at { result.at ≡ 0 }
         ensures count { result.count ≡ 0 }
         ensures form { result.form ≡ Form.Null }
+        ensures start { result.start ≡ 0 }
+        ensures end { result.end ≡ 0 }
+        ensures characters { result.characters ≡ [] }
     {
         Scan {
             line: Text::new(alloc),
@@ -190,7 +246,7 @@ impl Scan {
     {
         self.count = count;
         let c = self.line.bytes()[self.at];
-        if c == b'\'' || c == b'"' {
+        if is_mark(c) {
             self.at += 1;
             return Token::Opened(c);
         }

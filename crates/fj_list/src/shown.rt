@@ -1,5 +1,5 @@
 // The text of a value in list-directed output.
-ghost use Rattle.std.specs.Prelude.{◌≡◌, ◌++◌, OnOk};
+ghost use Rattle.std.specs.Prelude.{◌≡◌, ◌++◌, OnOk, length, take};
 ghost use Rattle.fj_list.specs.ListText.{mark_of, doubled, characters_shown, integer_shown, shown, gap, is_characters};
 
 use fj_value::{Delim, EditModes, Text, Value};
@@ -35,8 +35,10 @@ pub fn gap(modes: EditModes, before: bool, after: bool) -> &'static [u8]
     }
 }
 
+#[tactic(auto, using(crate::proofs::Doubling::take_grown))]
 fn push_integer(out: &mut Text, plus: bool, n: i64) -> Result<(), AllocError>
-    ensures { OnOk result (out.new ≡ out.old ++ integer_shown plus n) }
+    ensures ok { OnOk result (out.new ≡ out.old ++ integer_shown plus n) }
+    ensures kept { take (length out.old) out.new ≡ out.old }
 {
     if plus && n >= 0 {
         out.push_all(b"+")?;
@@ -46,8 +48,10 @@ fn push_integer(out: &mut Text, plus: bool, n: i64) -> Result<(), AllocError>
 }
 
 /// Appends characters with each mark among them doubled.
+#[tactic(auto, using(crate::proofs::Doubling::take_grown))]
 fn push_doubled(out: &mut Text, mark: u8, characters: &[u8]) -> Result<(), AllocError>
-    ensures { OnOk result (out.new ≡ out.old ++ doubled mark characters.now) }
+    ensures ok { OnOk result (out.new ≡ out.old ++ doubled mark characters.now) }
+    ensures kept { take (length out.old) out.new ≡ out.old }
 {
     let mut start = 0;
     for (i, c) in characters.iter().enumerate() {
@@ -59,8 +63,10 @@ fn push_doubled(out: &mut Text, mark: u8, characters: &[u8]) -> Result<(), Alloc
     out.push_all(&characters[start..])
 }
 
+#[tactic(auto, using(crate::proofs::Doubling::take_grown))]
 fn push_characters(out: &mut Text, mark: Option<u8>, characters: &[u8]) -> Result<(), AllocError>
-    ensures { OnOk result (out.new ≡ out.old ++ characters_shown mark characters.now) }
+    ensures ok { OnOk result (out.new ≡ out.old ++ characters_shown mark characters.now) }
+    ensures kept { take (length out.old) out.new ≡ out.old }
 {
     let Some(mark) = mark else {
         return out.push_all(characters);
@@ -70,9 +76,10 @@ fn push_characters(out: &mut Text, mark: Option<u8>, characters: &[u8]) -> Resul
     out.push_all(&[mark])
 }
 
-/// Appends the text of a value. After want of memory nothing is said of the text.
+/// Appends the text of a value, or after want of memory a part of it.
 pub fn push_value(out: &mut Text, modes: EditModes, value: &Value) -> Result<(), AllocError>
-    ensures { OnOk result (out.new ≡ out.old ++ shown modes value.now) }
+    ensures ok { OnOk result (out.new ≡ out.old ++ shown modes value.now) }
+    ensures kept { take (length out.old) out.new ≡ out.old }
 {
     match value {
         Value::Undefined => Ok(()),

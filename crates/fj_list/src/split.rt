@@ -6,7 +6,7 @@ ghost use Rattle.fj_list.specs.ListInput.{condition_of, delimited, value_at, val
 ghost use Rattle.fj_list.specs.Scan.{IsSound, ahead, constant_of, Reaches, Closes, IsSplit};
 
 use crate::constant::Form;
-use crate::records::{More, Records};
+use crate::records::{Records, next_line};
 use crate::scan::{Scan, Token, is_separator};
 use fj_outside::Stop;
 use fj_value::Condition;
@@ -30,11 +30,7 @@ pub fn advance<R: Records>(records: &mut R, scan: &mut Scan) -> Result<Option<Co
     scan.at = 0;
     scan.start = 0;
     scan.end = 0;
-    match records.next(&mut scan.line)? {
-        More::Record => Ok(None),
-        More::End => Ok(Some(Condition::EndOfFile)),
-        More::Refused(condition) => Ok(Some(condition)),
-    }
+    next_line(records, &mut scan.line)
 }
 
 /// Goes on to the next character that is no blank, in later records too.

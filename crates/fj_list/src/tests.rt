@@ -203,7 +203,7 @@ fn initial(alloc: Global, kind: Kind) -> Result<Value, AllocError> {
         Kind::Chars(length) => {
             let mut text = Text::new(alloc);
             text.push_copies(b'#', length)?;
-            Ok(Value::Chars(text))
+            Value::of_text(text)
         }
     }
 }
@@ -441,12 +441,12 @@ fn moved_of(alloc: Global, items: &[Item]) -> Result<Moved, AllocError> {
             Item::Text(text) => {
                 let length = u32::try_from(text.len()).unwrap_or(0);
                 let text = Text::from_bytes(alloc, text.as_bytes())?;
-                add(&mut moved, Kind::Chars(length), Value::Chars(text))?;
+                add(&mut moved, Kind::Chars(length), Value::of_text(text)?)?;
             }
             Item::Long(length) => {
                 let mut text = Text::new(alloc);
                 text.push_copies(b'x', length)?;
-                add(&mut moved, Kind::Chars(length), Value::Chars(text))?;
+                add(&mut moved, Kind::Chars(length), Value::of_text(text)?)?;
             }
         }
     }

@@ -1,97 +1,187 @@
 // List-directed output.
-ghost use Rattle.std.specs.Prelude.{◌≡◌, ◌++◌, ◌<◌, ◌≤◌, ◌-◌, ◌∷◌, List, All, length, map, IfOk, OnOk};
-ghost use Rattle.fj_value.specs.declared.value.Value.{Value};
-ghost use Rattle.fj_list.specs.Moved.{value_at, values_of, IsOrdered};
-ghost use Rattle.fj_list.specs.ListText.{listed, text_of, is_characters, shown};
-ghost use Rattle.fj_list.specs.Layout.{text_behind};
+ghost use Rattle.std.specs.Prelude.{◌≡◌, ◌∷◌, ◌+◌, [], length, OnOk, IfOk};
+ghost use Rattle.fj_line.specs.Actions.{put, end_record};
+ghost use Rattle.fj_line.specs.Page.{at_hand, IsIn, IsAtEnd, Keeps, Carries};
+ghost use Rattle.fj_list.specs.Items.{items_left, items_of, values_in};
+ghost use Rattle.fj_list.specs.ListText.{gap, is_characters, listed, shown, text_of};
+ghost use Rattle.fj_list.specs.Listing.{next_text, width_behind, texts_behind, list_texts, list_actions};
 ghost use Rattle.fj_list.specs.ReadAgain.{AreReadAgain};
 
-use crate::moved::{Cells, Moved};
+use crate::items::OutputItems;
+use crate::moved::Moved;
 use crate::shown::{gap, is_characters, push_value};
+use fj_line::{Page, Unwritten};
 use fj_value::{EditModes, Text, Value};
 use std::alloc::{AllocError, Global};
 
 /// A record has no more columns, unless its one value is longer.
 pub const COLUMNS: usize = 80;
 
-fn value_at(cells: &Cells, at: u32) -> &Value
-    requires { at < length cells.now }
-    ensures { result.now ≡ value_at cells.now at }
+/// Writes a blank at the end of the record.
+fn put_blank(page: &mut Page, text: &mut Text) -> Result<(), Unwritten>
+    requires { IsAtEnd page.old text.old }
+    ensures done { Carries (at_hand page.old text.old) (put (32 ∷ []) ∷ []) result (at_hand page.new text.new) }
+    ensures end { OnOk result (IsAtEnd page.new text.new) }
+    ensures at { OnOk result (page.new.at ≡ page.old.at + 1) }
+    ensures kept { Keeps page.old text.old page.new text.new }
 {
-    &cells.as_slice()[at as usize].value
+    text.push_all(b" ")?;
+    page.take_in(text)
 }
 
-/// Appends the next value and answers where its record begins.
-fn push_next(
-    out: &mut Text,
+/// Writes a value at the end of the record.
+#[tactic(auto, using(fj_line::proofs::PageLemmas::only_grew))]
+fn put_value(
+    page: &mut Page,
+    text: &mut Text,
     modes: EditModes,
-    start: usize,
+    value: &Value,
+) -> Result<(), Unwritten>
+    requires { IsAtEnd page.old text.old }
+    ensures done { Carries (at_hand page.old text.old) (put (shown modes value.now) ∷ []) result (at_hand page.new text.new) }
+    ensures end { OnOk result (IsAtEnd page.new text.new) }
+    ensures at { OnOk result (page.new.at ≡ page.old.at + length (shown modes value.now)) }
+    ensures kept { Keeps page.old text.old page.new text.new }
+{
+    push_value(text, modes, value)?;
+    page.take_in(text)
+}
+
+/// Writes a blank and a value on a record that begins.
+fn begin(page: &mut Page, text: &mut Text, modes: EditModes, value: &Value) -> Result<(), Unwritten>
+    requires end { IsAtEnd page.old text.old }
+    requires at { page.old.at ≡ 0 }
+    ensures done { Carries (at_hand page.old text.old) (put (32 ∷ []) ∷ put (shown modes value.now) ∷ []) result (at_hand page.new text.new) }
+    ensures end { OnOk result (IsAtEnd page.new text.new) }
+    ensures at { OnOk result (page.new.at ≡ 1 + length (shown modes value.now)) }
+    ensures kept { Keeps page.old text.old page.new text.new }
+{
+    put_blank(page, text)?;
+    put_value(page, text, modes, value)
+}
+
+/// Ends the record and writes a value as the first of a new one.
+fn put_first(
+    page: &mut Page,
+    text: &mut Text,
+    modes: EditModes,
+    value: &Value,
+) -> Result<(), Unwritten>
+    requires { IsAtEnd page.old text.old }
+    ensures done { Carries (at_hand page.old text.old) (end_record ∷ put (32 ∷ []) ∷ put (shown modes value.now) ∷ []) result (at_hand page.new text.new) }
+    ensures end { OnOk result (IsAtEnd page.new text.new) }
+    ensures at { OnOk result (page.new.at ≡ 1 + length (shown modes value.now)) }
+    ensures kept { Keeps page.old text.old page.new text.new }
+{
+    page.end_record(text)?;
+    begin(page, text, modes, value)
+}
+
+/// Writes a value behind another one with what stands between them; or where it would pass the last column, as the first of a
+/// new record.
+#[tactic(auto, using(fj_line::proofs::PageLemmas::only_grew))]
+fn put_next(
+    page: &mut Page,
+    text: &mut Text,
+    modes: EditModes,
     characters: bool,
     value: &Value,
-) -> Result<usize, AllocError>
-    requires { start ≤ length out.old }
-    ensures within { IfOk result (λ next. next ≤ length out.new) }
-    ensures text { IfOk result (λ next. (rest : List Value) →
-        out.new ++ text_behind modes (length out.new - next) (is_characters value.now) rest
-        ≡ out.old ++ text_behind modes (length out.old - start) characters (value.now ∷ rest)) }
+) -> Result<(), Unwritten>
+    requires { IsAtEnd page.old text.old }
+    ensures done { Carries (at_hand page.old text.old)
+        (next_text page.old.at (gap modes characters (is_characters value.now)) (shown modes value.now)) result (at_hand page.new text.new) }
+    ensures end { OnOk result (IsAtEnd page.new text.new) }
+    ensures at { OnOk result (page.new.at ≡ width_behind page.old.at (gap modes characters (is_characters value.now)) (shown modes value.now)) }
+    ensures kept { Keeps page.old text.old page.new text.new }
 {
-    let end = out.len();
-    out.push_all(gap(modes, characters, is_characters(value)))?;
-    push_value(out, modes, value)?;
-    if out.len() - start <= COLUMNS {
-        return Ok(start);
+    let end = text.len();
+    text.push_all(gap(modes, characters, is_characters(value)))?;
+    push_value(text, modes, value)?;
+    if page.width(text) <= COLUMNS {
+        return page.take_in(text);
     }
-    out.truncate(end);
-    out.push_all(b"\n ")?;
-    let next = out.len() - 1;
-    push_value(out, modes, value)?;
-    Ok(next)
+    text.truncate(end);
+    put_first(page, text, modes, value)
 }
 
-/// Appends the values of more items behind a record that begins the text, and the last line feed.
-fn push_rest(
-    out: &mut Text,
+/// Writes values behind another one.
+fn put_rest(
+    page: &mut Page,
+    text: &mut Text,
     modes: EditModes,
     mut characters: bool,
-    cells: &Cells,
-    rest: &[u32],
-) -> Result<(), AllocError>
-    requires { All (λ at. at < length cells.now) rest.now }
-    ensures { OnOk result (out.new
-        ≡ out.old ++ text_behind modes (length out.old) characters (map (value_at cells.now) rest.now)) }
+    mut items: OutputItems,
+) -> Result<(), Unwritten>
+    requires { IsAtEnd page.old text.old }
+    ensures done { Carries (at_hand page.old text.old)
+        (texts_behind modes page.old.at characters (values_in (items_left items.entry))) result (at_hand page.new text.new) }
+    ensures end { OnOk result (IsAtEnd page.new text.new) }
+    ensures kept { Keeps page.old text.old page.new text.new }
 {
-    let mut start = 0;
-    for at in rest {
-        let value = value_at(cells, *at);
-        start = push_next(out, modes, start, characters, value)?;
-        characters = is_characters(value);
+    while let Some(item) = items.next() {
+        put_next(page, text, modes, characters, item.value)?;
+        characters = is_characters(item.value);
     }
-    out.push_all(b"\n")
+    Ok(())
+}
+
+/// Writes values on a record that begins.
+fn put_values(
+    page: &mut Page,
+    text: &mut Text,
+    modes: EditModes,
+    mut items: OutputItems,
+) -> Result<(), Unwritten>
+    requires end { IsAtEnd page.old text.old }
+    requires at { page.old.at ≡ 0 }
+    ensures done { Carries (at_hand page.old text.old) (list_texts modes (values_in (items_left items.entry))) result (at_hand page.new text.new) }
+    ensures end { OnOk result (IsAtEnd page.new text.new) }
+    ensures kept { Keeps page.old text.old page.new text.new }
+{
+    let Some(first) = items.next() else {
+        return put_blank(page, text);
+    };
+    begin(page, text, modes, first.value)?;
+    put_rest(page, text, modes, is_characters(first.value), items)
+}
+
+/// Writes values as list-directed output on a record that begins (ISO/IEC 1539-1:2004, 10.9.2), and ends the last record.
+pub fn put_list(
+    page: &mut Page,
+    text: &mut Text,
+    modes: EditModes,
+    items: OutputItems,
+) -> Result<(), Unwritten>
+    requires end { IsAtEnd page.old text.old }
+    requires at { page.old.at ≡ 0 }
+    ensures done { Carries (at_hand page.old text.old) (list_actions modes (values_in (items_left items.entry))) result (at_hand page.new text.new) }
+    ensures within { OnOk result (IsIn page.new text.new) }
+    ensures kept { Keeps page.old text.old page.new text.new }
+{
+    put_values(page, text, modes, items)?;
+    page.end_record(text)
 }
 
 /// The records of the items' values.
 fn push_records(alloc: Global, moved: &Moved, modes: EditModes) -> Result<Text, AllocError>
-    requires { IsOrdered moved.now }
-    ensures { IfOk result (λ text. text ≡ text_of (listed modes (values_of moved.now))) }
+    ensures { IfOk result (λ text. text ≡ text_of (listed modes (values_in (items_of moved.now)))) }
 {
-    let [first, rest @ ..] = moved.order.as_slice() else {
-        return Text::from_bytes(alloc, b" \n");
-    };
-    let value = value_at(&moved.cells, *first);
-    let mut out = Text::new(alloc);
-    out.push_all(b" ")?;
-    push_value(&mut out, modes, value)?;
-    push_rest(&mut out, modes, is_characters(value), &moved.cells, rest)?;
-    Ok(out)
+    let mut text = Text::new(alloc);
+    let mut page = Page::unlimited(&text);
+    let items = OutputItems::of_cells(moved.cells.as_slice(), moved.order.as_slice());
+    match put_list(&mut page, &mut text, modes, items) {
+        Ok(()) => Ok(text),
+        Err(Unwritten::Memory(error)) => Err(error),
+        Err(Unwritten::Met(_)) => unreachable!(),
+    }
 }
 
 /// The records of the items' values, each followed by a line feed (ISO/IEC 1539-1:2004, 10.9.2).
 pub fn write_list(alloc: Global, moved: &Moved, modes: EditModes) -> Result<Text, AllocError>
-    requires { IsOrdered moved.now }
-    ensures text { IfOk result (λ text. text ≡ text_of (listed modes (values_of moved.now))) }
+    ensures text { IfOk result (λ text. text ≡ text_of (listed modes (values_in (items_of moved.now)))) }
 
     // With delimiters these records are read again as these values.
-    ensures again { AreReadAgain modes (values_of moved.now) }
+    ensures again { AreReadAgain modes (values_in (items_of moved.now)) }
 {
     push_records(alloc, moved, modes)
 }

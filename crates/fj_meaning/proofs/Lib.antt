@@ -4,3 +4,6 @@ pub mod NameLemmas
 pub mod IndexLemmas
 pub mod Transferring
 pub mod Unique
+pub mod SoundLemmas
+pub mod StatementSound
+pub mod ScopeSound

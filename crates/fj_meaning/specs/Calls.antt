@@ -5,13 +5,8 @@ use Rattle.fj_value.specs.declared.kind.Kind.TheVariants.{Int4, Int8, Logical, C
 use Rattle.fj_modes.specs.declared.asked.Question.{Question}
 use Rattle.fj_modes.specs.declared.asked.Question.TheVariants.{Exist, Opened, Number, Named, Name, Access, Form, Recl, Nextrec, Pos, Size, Blank, Delim, Pad, Decimal, Sign, Action, Asynchronous, Pending}
 use Rattle.fj_modes.specs.declared.asked.Wanted.{Wanted}
-use Rattle.fj_modes.specs.declared.specifiers.OpenSpec.{OpenSpec}
 use Rattle.fj_statement.specs.declared.statement.Operand.{Operand}
 use Rattle.fj_statement.specs.declared.statement.Operand.TheVariants as operand
-use Rattle.fj_statement.specs.declared.statement.Motion.{Motion}
-use Rattle.fj_statement.specs.declared.statement.Motion.TheVariants as motion
-use Rattle.fj_statement.specs.declared.statement.Asking.{Asking}
-use Rattle.fj_statement.specs.declared.statement.Asking.TheVariants as asking
 use Rattle.fj_statement.specs.declared.statement.Statement.{Statement}
 use Rattle.fj_statement.specs.declared.statement.Statement.TheVariants as statement
 use Rattle.fj_syntax.specs.declared.written.Assignment.{Assignment}
@@ -19,11 +14,7 @@ use Rattle.fj_syntax.specs.declared.written.Open.{Open}
 use Rattle.fj_syntax.specs.declared.written.Close.{Close}
 use Rattle.fj_syntax.specs.declared.written.Wait.{Wait}
 use Rattle.fj_syntax.specs.declared.written.Move.{Move}
-use Rattle.fj_syntax.specs.declared.written.Motion as written_motion
-use Rattle.fj_syntax.specs.declared.written.Motion.TheVariants as motion_as
-use Rattle.fj_syntax.specs.declared.written.Asking as written_asking
-use Rattle.fj_syntax.specs.declared.written.Subject.{Subject}
-use Rattle.fj_syntax.specs.declared.written.Subject.TheVariants as subject
+use Rattle.fj_syntax.specs.declared.written.Asking.{Asking}
 use Rattle.fj_syntax.specs.declared.written.Inquire.{Inquire}
 use Rattle.fj_meaning.specs.declared.operand.Meant.{Meant}
 use Rattle.fj_meaning.specs.declared.scope.Scope.{Scope}
@@ -62,27 +53,10 @@ assigned s a = do
 
 -- ---- files
 
-abbrev pub spec_of : Open → OpenSpec
-spec_of o = record {
-  file = o.file;
-  status = o.attributes.status;
-  access = o.attributes.access;
-  formatted = o.attributes.formatted;
-  recl = o.recl;
-  position = o.attributes.position;
-  action = o.attributes.action;
-  blank_zero = o.changes.blank_zero;
-  delim = o.changes.delim;
-  pad = o.changes.pad;
-  comma = o.changes.comma;
-  plus = o.changes.plus;
-  asynchronous = o.attributes.asynchronous;
-}
-
 unfoldable pub opened : Scope → Open → Option Statement
 opened s o = do
   i ← optional (integer_place s) o.iostat
-  Some (statement.OpenUnit o.unit (spec_of o) i)
+  Some (statement.OpenUnit o.unit o.spec i)
 
 unfoldable pub closed : Scope → Close → Option Statement
 closed s c = do
@@ -95,16 +69,10 @@ awaited s w = do
   i ← optional (integer_place s) w.iostat
   Some (statement.WaitFor w.unit id i)
 
-abbrev pub motion_of : written_motion.Motion → Motion
-motion_of motion_as.Backspace = motion.Backspace
-motion_of motion_as.Rewind = motion.Rewind
-motion_of motion_as.Endfile = motion.Endfile
-motion_of motion_as.Flush = motion.Flush
-
 unfoldable pub moved : Scope → Move → Option Statement
 moved s m = do
   i ← optional (integer_place s) m.iostat
-  Some (statement.Move (motion_of m.how) m.unit i)
+  Some (statement.Move m.how m.unit i)
 
 -- ---- INQUIRE
 
@@ -138,18 +106,14 @@ suits Sign kind = is_characters kind
 suits Action kind = is_characters kind
 suits Asynchronous kind = is_characters kind
 
-unfoldable pub wanted : Scope → written_asking.Asking → Option Wanted
+unfoldable pub wanted : Scope → Asking → Option Wanted
 wanted s a = do
   p ← placed s a.place
   if suits a.what p.kind then Some (record { what = a.what; place = p.place; kind = p.kind }) else None
-
-abbrev pub subject_of : Subject → Asking
-subject_of (subject.Unit unit) = asking.Unit unit
-subject_of (subject.File name) = asking.File name
 
 unfoldable pub inquired : Scope → Inquire → Option Statement
 inquired s i = do
   asked ← each (wanted s) i.asked
   id ← optional (integer_operand s) i.id
   iostat ← optional (integer_place s) i.iostat
-  Some (statement.Inquire (subject_of i.subject) asked id iostat)
+  Some (statement.Inquire i.about asked id iostat)

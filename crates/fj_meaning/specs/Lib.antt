@@ -7,3 +7,4 @@ pub mod Calls
 pub mod Transfer
 pub mod Meaning
 pub mod Assembling
+pub mod Sound

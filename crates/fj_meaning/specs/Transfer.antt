@@ -5,8 +5,8 @@ use Rattle.fj_value.specs.declared.kind.Kind.{Kind}
 use Rattle.fj_value.specs.declared.kind.Kind.TheVariants.{Int4, Int8, Logical, Chars}
 use Rattle.fj_format.specs.declared.item.FormatItem.{FormatItem}
 use Rattle.fj_format.specs.Unfolding.{has_width_zero, pass}
-use Rattle.fj_statement.specs.declared.statement.UnitRef.{UnitRef}
-use Rattle.fj_statement.specs.declared.statement.UnitRef.TheVariants as unit
+use Rattle.fj_modes.specs.declared.unit.UnitRef.{UnitRef}
+use Rattle.fj_modes.specs.declared.unit.UnitRef.TheVariants as unit
 use Rattle.fj_statement.specs.declared.statement.Control.{Control}
 use Rattle.fj_statement.specs.declared.statement.Control.TheVariants as control
 use Rattle.fj_statement.specs.declared.statement.Transfer.{Transfer}
@@ -17,8 +17,6 @@ use Rattle.fj_syntax.specs.declared.operand.Operand.TheVariants as operand_as
 use Rattle.fj_syntax.specs.declared.written.Changes.{Changes}
 use Rattle.fj_syntax.specs.declared.written.Format.{Format}
 use Rattle.fj_syntax.specs.declared.written.Format.TheVariants as format
-use Rattle.fj_syntax.specs.declared.written.Unit.TheVariants as unit_as
-use Rattle.fj_syntax.specs.declared.written.Unit as written_unit
 use Rattle.fj_syntax.specs.declared.written.Transfer as written
 use Rattle.fj_meaning.specs.declared.operand.Meant.{Meant}
 use Rattle.fj_meaning.specs.declared.items.Chosen.{Chosen}
@@ -53,9 +51,9 @@ abbrev pub is_place : operand.Operand → Bool
 is_place (operand_as.Place d) = true
 is_place o = false
 
-abbrev pub is_asterisk : written_unit.Unit → Bool
-is_asterisk unit_as.Asterisk = true
-is_asterisk (unit_as.Number n) = false
+abbrev pub is_star : UnitRef → Bool
+is_star unit.Star = true
+is_star (unit.Number n) = false
 
 -- BLANK=, DECIMAL=, DELIM=, PAD= or SIGN= stands
 abbrev pub changes_some : Changes → Bool
@@ -75,7 +73,7 @@ abbrev pub stands_alone : written.Transfer → Bool
 stands_alone t =
     (given t.course.rec implies not (given t.course.pos || (is_list_directed t.control.format || given t.control.group)))
     && ((given t.control.group implies (not (given t.control.format) && (length t.items == 0)))
-    && (is_asterisk t.control.unit implies not (given t.course.rec || given t.course.pos)))
+    && (is_star t.control.unit implies not (given t.course.rec || given t.course.pos)))
 
 -- the items of READ are places, and its format has no width 0
 abbrev pub can_be_read : Option (List FormatItem) → List operand.Operand → Bool
@@ -122,10 +120,6 @@ parts s t = do
   iostat ← optional (integer_place s) t.results.iostat
   Some (record { group = g; items = c.items; few = c.few; rec = rec; pos = pos; id = id; size = size; iostat = iostat })
 
-abbrev pub unit_of : written_unit.Unit → UnitRef
-unit_of unit_as.Asterisk = unit.Star
-unit_of (unit_as.Number n) = unit.Number n
-
 -- a group with its members, an explicit format, a list-directed one, or none
 abbrev pub control_of : Option (List ℕ) → Option (List ℕ) → Option Format → Option (List FormatItem) → Control
 control_of (Some name) (Some vars) f items = control.Group name vars
@@ -136,7 +130,7 @@ control_of g vars None None = control.Unformatted
 abbrev pub assembled : Option (List FormatItem) → written.Transfer → Parts → Transfer
 assembled items t p = record {
   input = t.input;
-  unit = unit_of t.control.unit;
+  unit = t.control.unit;
   control = control_of t.control.group p.group t.control.format items;
   items = p.items;
   advance = t.course.advance;

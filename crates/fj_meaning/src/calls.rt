@@ -2,15 +2,15 @@
 ghost use Rattle.std.specs.Prelude.{◌≡◌};
 ghost use Rattle.fj_meaning.specs.Giving.{Gives, optional, each};
 ghost use Rattle.fj_meaning.specs.Operands.{integer_place, integer_operand};
-ghost use Rattle.fj_meaning.specs.Calls.{spec_of, opened, closed, awaited, motion_of, moved, suits, wanted, subject_of, inquired};
+ghost use Rattle.fj_meaning.specs.Calls.{opened, closed, awaited, moved, suits, wanted, inquired};
 
 use crate::designator::{designated, integer_place, is_integer};
 use crate::fault::Fault;
 use crate::names::Names;
 use crate::operand::integer_operand;
-use fj_modes::{Asked, OpenSpec, Question, Wanted};
-use fj_statement::{Asking, Motion, Operand, Statement};
-use fj_syntax::{Close, Designator, Inquire, Move, Open, Subject, Wait};
+use fj_modes::{Asked, Question, Wanted};
+use fj_statement::{Operand, Statement};
+use fj_syntax::{Asking, Close, Designator, Inquire, Move, Open, Wait};
 use fj_value::{Items, Kind, Place};
 use std::alloc::Global;
 
@@ -50,30 +50,8 @@ pub fn optional_operand(
 pub fn opened(names: &Names, statement: Open) -> Result<Statement, Fault>
     ensures { Gives result (opened names.now statement) }
 {
-    let Open {
-        unit,
-        file,
-        recl,
-        attributes,
-        changes,
-        iostat,
-    } = statement;
+    let Open { unit, spec, iostat } = statement;
     let iostat = optional_place(names, &iostat)?;
-    let spec = OpenSpec {
-        file,
-        status: attributes.status,
-        access: attributes.access,
-        formatted: attributes.formatted,
-        recl,
-        position: attributes.position,
-        action: attributes.action,
-        blank_zero: changes.blank_zero,
-        delim: changes.delim,
-        pad: changes.pad,
-        comma: changes.comma,
-        plus: changes.plus,
-        asynchronous: attributes.asynchronous,
-    };
     Ok(Statement::OpenUnit { unit, spec, iostat })
 }
 
@@ -96,24 +74,12 @@ pub fn awaited(names: &Names, wait: Wait) -> Result<Statement, Fault>
     Ok(Statement::WaitFor { unit, id, iostat })
 }
 
-fn motion_of(how: fj_syntax::Motion) -> Motion
-    ensures { result ≡ motion_of how }
-{
-    match how {
-        fj_syntax::Motion::Backspace => Motion::Backspace,
-        fj_syntax::Motion::Rewind => Motion::Rewind,
-        fj_syntax::Motion::Endfile => Motion::Endfile,
-        fj_syntax::Motion::Flush => Motion::Flush,
-    }
-}
-
 #[tactic(auto, unfolding(crate::specs::Calls::moved))]
 pub fn moved(names: &Names, motion: Move) -> Result<Statement, Fault>
     ensures { Gives result (moved names.now motion) }
 {
     let Move { how, unit, iostat } = motion;
     let iostat = optional_place(names, &iostat)?;
-    let how = motion_of(how);
     Ok(Statement::Move { how, unit, iostat })
 }
 
@@ -141,7 +107,7 @@ fn suits(what: Question, kind: Kind) -> bool
 }
 
 #[tactic(auto, unfolding(crate::specs::Calls::wanted))]
-fn wanted(names: &Names, asking: &fj_syntax::Asking) -> Option<Wanted>
+fn wanted(names: &Names, asking: &Asking) -> Option<Wanted>
     ensures { result ≡ wanted names.now asking.now }
 {
     let placed = designated(names, &asking.place)?;
@@ -156,11 +122,7 @@ fn wanted(names: &Names, asking: &fj_syntax::Asking) -> Option<Wanted>
     }
 }
 
-fn all_wanted(
-    alloc: Global,
-    names: &Names,
-    askings: &Items<fj_syntax::Asking>,
-) -> Result<Asked, Fault>
+fn all_wanted(alloc: Global, names: &Names, askings: &Items<Asking>) -> Result<Asked, Fault>
     ensures { Gives result (each (wanted names.now) askings.now) }
 {
     let mut asked = Items::new(alloc);
@@ -173,21 +135,12 @@ fn all_wanted(
     Ok(asked)
 }
 
-fn subject(subject: Subject) -> Asking
-    ensures { result ≡ subject_of subject }
-{
-    match subject {
-        Subject::Unit(unit) => Asking::Unit(unit),
-        Subject::File(name) => Asking::File(name),
-    }
-}
-
 #[tactic(auto, unfolding(crate::specs::Calls::inquired))]
 pub fn inquired(alloc: Global, names: &Names, inquire: Inquire) -> Result<Statement, Fault>
     ensures { Gives result (inquired names.now inquire) }
 {
     let Inquire {
-        subject: about,
+        about,
         asked,
         id,
         iostat,
@@ -195,7 +148,6 @@ pub fn inquired(alloc: Global, names: &Names, inquire: Inquire) -> Result<Statem
     let asked = all_wanted(alloc, names, &asked)?;
     let id = optional_operand(names, &id)?;
     let iostat = optional_place(names, &iostat)?;
-    let about = subject(about);
     Ok(Statement::Inquire {
         about,
         asked,

@@ -1,5 +1,6 @@
 // The law of the definitions.
 ghost use Rattle.fj_meaning.specs.Meaning.{OneMeaning};
+ghost use Rattle.fj_meaning.specs.Sound.{EmptyIsSound, DeclaredIsSound, GroupedIsSound, MeaningIsSound};
 
 use fj_format::texts_are_unambiguous;
 
@@ -9,3 +10,11 @@ pub fn one_meaning()
 {
     texts_are_unambiguous();
 }
+
+/// What is declared is sound after each declaration, and so is what a statement means.
+pub fn meaning_is_sound()
+    ensures empty { EmptyIsSound }
+    ensures declared { DeclaredIsSound }
+    ensures grouped { GroupedIsSound }
+    ensures meaning { MeaningIsSound }
+{}

@@ -70,7 +70,7 @@ pub fn meaning_of(names: &Names, operand: &fj_syntax::Operand) -> Result<Meant, 
         fj_syntax::Operand::Literal(text) => {
             let len = narrow(text.len())?;
             let text = text.try_clone()?;
-            Ok(literal(Kind::Chars(len), Value::Chars(text)))
+            Ok(literal(Kind::Chars(len), Value::of_text(text)?))
         }
         fj_syntax::Operand::Place(designator) => some(variable_meant(names, designator)),
     }

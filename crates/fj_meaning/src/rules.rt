@@ -1,10 +1,11 @@
 // Which specifiers and items of READ and WRITE go together (ISO/IEC 1539-1:2004, 9.5.1).
 ghost use Rattle.std.specs.Prelude.{◌≡◌};
 ghost use Rattle.std.specs.List.{list_all};
-ghost use Rattle.fj_meaning.specs.Transfer.{is_true, is_list_directed, is_explicit, is_place, is_asterisk, changes_some, goes_together, stands_alone, can_be_read, is_allowed};
+ghost use Rattle.fj_meaning.specs.Transfer.{is_true, is_list_directed, is_explicit, is_place, changes_some, goes_together, stands_alone, can_be_read, is_allowed};
 
 use fj_format::{FormatItems, has_width_zero};
-use fj_syntax::{Changes, Format, Operand, Transfer, Unit};
+use fj_modes::UnitRef;
+use fj_syntax::{Changes, Format, Operand, Transfer};
 
 fn is_list_directed(format: &Option<Format>) -> bool
     ensures { result ≡ is_list_directed format.now }
@@ -67,7 +68,7 @@ fn stands_alone(transfer: &Transfer) -> bool
     if group && (control.format.is_some() || !transfer.items.is_empty()) {
         return false;
     }
-    !(control.unit == Unit::Asterisk && (rec || pos))
+    !(control.unit == UnitRef::Star && (rec || pos))
 }
 
 fn are_places(operands: &[Operand]) -> bool

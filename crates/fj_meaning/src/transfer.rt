@@ -2,7 +2,7 @@
 ghost use Rattle.std.specs.Prelude.{◌≡◌, IfOk, MatchOption, true, false};
 ghost use Rattle.fj_meaning.specs.Giving.{Gives, each, optional};
 ghost use Rattle.fj_meaning.specs.Scope.{members};
-ghost use Rattle.fj_meaning.specs.Transfer.{parts, unit_of, control_of, is_short};
+ghost use Rattle.fj_meaning.specs.Transfer.{parts, control_of, is_short};
 ghost use Rattle.fj_meaning.specs.Meaning.{literal_of, Means};
 ghost use Rattle.fj_meaning.specs.Assembling.{ReadsFormat, AreWritten, Controls, Assembles};
 ghost use Rattle.fj_syntax.specs.declared.written.Written.TheVariants as written;
@@ -14,8 +14,7 @@ use crate::limits::narrow;
 use crate::names::Names;
 use crate::rules::is_allowed;
 use fj_format::{Format, FormatFault, FormatItems, parse_items};
-use fj_statement::{Control, Operand, Operands, Statement, Transfer, UnitRef, Vars};
-use fj_syntax::Unit;
+use fj_statement::{Control, Operand, Operands, Statement, Transfer, Vars};
 use fj_value::{Items, Place, Text};
 use std::alloc::{AllocError, Global};
 
@@ -102,15 +101,6 @@ fn parts_of(alloc: Global, names: &Names, transfer: &fj_syntax::Transfer) -> Res
     })
 }
 
-fn unit_of(unit: Unit) -> UnitRef
-    ensures { result ≡ unit_of unit }
-{
-    match unit {
-        Unit::Asterisk => UnitRef::Star,
-        Unit::Number(number) => UnitRef::Number(number),
-    }
-}
-
 /// A group with its members, an explicit format, a list-directed one, or none; nothing where the format is too long.
 fn control_of(
     group: Option<Text>,
@@ -160,7 +150,7 @@ fn assembled(
     };
     Ok(Statement::Transfer(Transfer {
         input: transfer.input,
-        unit: unit_of(control.unit),
+        unit: control.unit,
         control: made,
         items: parts.items,
         advance: transfer.course.advance,

@@ -1,4 +1,4 @@
-pub mod Words
+pub mod WordLemmas
 pub mod Refusals
 pub mod Reopening
 pub mod FileNameLemmas

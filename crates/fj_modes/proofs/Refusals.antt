@@ -13,7 +13,7 @@ use Rattle.fj_modes.specs.declared.specifiers.Start.TheVariants.{AsIs}
 use Rattle.fj_modes.specs.Words.{same_access, same_action, is_old, is_as_is, is_scratch, Differs}
 use Rattle.fj_modes.specs.OpenSpec.{access_asked, formatted_asked, record_limit, names_edit_mode, is_refused, IsRefused, direct_lacks_length, stream_has_length, length_is_zero, length_is_above_limit, direct_has_position, unformatted_has_edit_mode, scratch_has_name}
 use Rattle.fj_modes.specs.Modes.{is_conflict, IsConflict, changes_access, changes_form, changes_length, changes_action, changes_asynchronous, status_is_not_old, position_is_not_as_is, connection_has_no_edit_mode}
-use Rattle.fj_modes.proofs.Words.{same_access-decides, same_action-decides, is_old-decides, is_scratch-decides, is_as_is-decides, given_and-decides, differs-decides}
+use Rattle.fj_modes.proofs.WordLemmas.{same_access-decides, same_action-decides, is_old-decides, is_scratch-decides, is_as_is-decides, given_and-decides, differs-decides}
 
 itself : (b : Bool) → Decides b (b ≡ true)
 itself b = (λ e. e, λ e. e)

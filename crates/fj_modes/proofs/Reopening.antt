@@ -15,7 +15,7 @@ use Rattle.fj_modes.specs.Words.{Differs, Agrees, TakesOrKeeps}
 use Rattle.fj_modes.specs.OpenSpec.{access_asked, formatted_asked, record_limit, names_edit_mode, is_refused, IsRefused, stream_has_length, length_is_zero, length_is_above_limit, direct_has_position, unformatted_has_edit_mode}
 use Rattle.fj_modes.specs.Modes.{usual_edit, edit_asked, modes_asked, changed, is_conflict, IsConflict, changes_access, changes_form, changes_length, changes_action, changes_asynchronous, status_is_not_old, position_is_not_as_is, connection_has_no_edit_mode, IsConsistent, IsInEffect, IsChangeBy}
 use Rattle.fj_modes.specs.Laws.{SettledIsConsistent, ChangedIsConsistent, InEffectStays, OpenedAgainStays, ChangedTakesOrKeeps, ChangedTwiceStays}
-use Rattle.fj_modes.proofs.Words.{unwrap_or-agrees}
+use Rattle.fj_modes.proofs.WordLemmas.{unwrap_or-agrees}
 use Rattle.fj_modes.proofs.Refusals.{is_refused-decides, is_conflict-decides}
 
 -- an answer that is no refusal

@@ -4,6 +4,7 @@ use Rattle.fj_modes.specs.declared.specifiers.OpenSpec.{OpenSpec}
 use Rattle.fj_modes.specs.declared.specifiers.Access.{Access}
 use Rattle.fj_modes.specs.declared.specifiers.Access.TheVariants.{Sequential, Direct, Stream}
 use Rattle.fj_modes.specs.declared.specifiers.FileStatus.TheVariants.{Scratch}
+use Rattle.fj_modes.specs.Limits.{longest_formatted, longest_unformatted}
 use Rattle.fj_modes.specs.Words.{same_access, is_scratch, given_and}
 
 -- no specifier stands
@@ -32,10 +33,9 @@ access_asked spec = unwrap_or spec.access Sequential
 abbrev pub formatted_asked : OpenSpec → Bool
 formatted_asked spec = unwrap_or spec.formatted (same_access (access_asked spec) Sequential)
 
--- the longest record of a form, in characters where it is formatted, else in bytes; 9.4.5.12 leaves the choice to the
--- processor
+-- the longest record of a form
 abbrev pub record_limit : Bool → ℕ
-record_limit formatted = if formatted then 65536 else 16777216
+record_limit formatted = if formatted then longest_formatted else longest_unformatted
 
 -- BLANK=, DECIMAL=, DELIM=, PAD= or SIGN= stands
 abbrev pub names_edit_mode : OpenSpec → Bool

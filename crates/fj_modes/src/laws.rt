@@ -1,5 +1,6 @@
-// What OPEN of a new connection and OPEN of a connected unit have to do with each other. Each function does nothing: its
+// What OPEN of a new connection, OPEN of a connected unit and names of files have to do with each other. Each function does nothing: its
 // contract is the law.
+ghost use Rattle.fj_modes.specs.NameLaws.{NamesStandApart};
 ghost use Rattle.fj_modes.specs.Laws.{DefaultsAreUsual, SettledIsConsistent, ChangedIsConsistent, InEffectStays, OpenedAgainStays, ChangedTakesOrKeeps, ChangedTwiceStays};
 
 /// The defaults of OPEN, written out.
@@ -34,4 +35,10 @@ pub fn changed_takes_or_keeps()
 
 pub fn changed_twice_stays()
     ensures { ChangedTwiceStays }
+{}
+
+/// No name of a deck is a scratch file's, two units have two scratch files and two files by default, and all are names
+/// of the disk.
+pub fn names_stand_apart()
+    ensures { NamesStandApart }
 {}

@@ -5,19 +5,25 @@ mod asked;
 mod edit;
 mod file_name;
 mod laws;
+mod limits;
 mod modes;
 mod settle;
 mod specifiers;
 #[cfg(test)]
 mod tests;
+mod unit;
+mod words;
 
-pub use asked::{Asked, Question, Wanted};
+pub use asked::{Asked, Question, Subject, Wanted};
 pub use edit::usual_edit;
 pub use file_name::{FileName, is_file_name};
 pub use laws::{
     changed_is_consistent, changed_takes_or_keeps, changed_twice_stays, defaults_are_usual,
-    in_effect_stays, opened_again_stays, settled_is_consistent,
+    in_effect_stays, names_stand_apart, opened_again_stays, settled_is_consistent,
 };
+pub use limits::{LONGEST_FILE, LONGEST_FORMATTED, LONGEST_UNFORMATTED, limits_are_named};
 pub use modes::Modes;
 pub use settle::settle_open;
 pub use specifiers::{Access, Action, FileStatus, OpenSpec, Start};
+pub use unit::{Motion, UnitRef};
+pub use words::{Answer, Blank, Decimal, Disposition, Form, Sign, WordKind};

@@ -5,6 +5,7 @@ ghost use Rattle.fj_modes.specs.Modes.{modes_asked, settled, IsConsistent};
 ghost use Rattle.fj_modes.specs.Words.{given_and, is_scratch};
 
 use crate::edit::{edit_asked, names_edit_mode, usual_edit};
+use crate::limits::{LONGEST_FORMATTED, LONGEST_UNFORMATTED};
 use crate::modes::Modes;
 use crate::specifiers::{Access, Action, FileStatus, OpenSpec, Start};
 use fj_value::Condition;
@@ -25,7 +26,11 @@ fn formatted_asked(spec: &OpenSpec) -> bool
 fn record_limit(formatted: bool) -> u32
     ensures { result ≡ record_limit formatted }
 {
-    if formatted { 65_536 } else { 16_777_216 }
+    if formatted {
+        LONGEST_FORMATTED
+    } else {
+        LONGEST_UNFORMATTED
+    }
 }
 
 fn length_is_out_of_range(spec: &OpenSpec) -> bool

@@ -3,3 +3,4 @@ mod Cases
 mod FaultLaws
 pub mod HoldingLaws
 mod TableLaws
+mod WindowLaws

@@ -1,6 +1,9 @@
 pub mod Faults
+pub mod Refusals
 pub mod Bytes
 pub mod Holdings
+pub mod Windows
+pub mod Buffered
 pub mod Table
 pub mod Plan
 pub mod Plans
@@ -8,3 +11,5 @@ pub mod FailingSource
 pub mod FailingSink
 pub mod FailingFile
 pub mod FailingDisk
+pub mod Looks
+pub mod Gate

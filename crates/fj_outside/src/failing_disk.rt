@@ -1,9 +1,10 @@
 // A disk in memory of which some calls fail, and some calls on its files.
-ghost use Rattle.std.specs.Prelude.{◌≡◌, ◌≢◌, ◌⊎◌, ◌<◌, ◌≤◌, ◌==◌, [], List, ℕ, IfOk, OnOk, OnErr, IfSome, IfNone, IsTrue, IsErr, ◌↔◌, Some, None, false, alloc_error};
+ghost use Rattle.std.specs.Prelude.{◌≡◌, ◌≢◌, ◌⊎◌, ◌<◌, ◌≤◌, ◌==◌, [], List, ℕ, IfOk, OnOk, OnErr, IfSome, IfNone, IsTrue, IsErr, ◌↔◌, Some, None, false, is_err};
 ghost use Rattle.std.specs.Option.{option_copied};
 ghost use Rattle.std.specs.FinMap as map;
 ghost use Rattle.std.specs.BTreeMap.{IsEmpty};
 ghost use Rattle.fj_outside.specs.Faults.{Rose};
+ghost use Rattle.fj_outside.specs.Refusals.{CountsFailure, has_failed};
 ghost use Rattle.fj_outside.specs.Holdings.{Exists, IsInUse, IsFree, out_of, given, without};
 ghost use Rattle.fj_outside.specs.Plan.{planned, FailsNext, after_call};
 ghost use Rattle.fj_outside.specs.Plans.{plan_under, HasPlace, KeepsPlans, ChangesPlan};
@@ -82,9 +83,7 @@ impl FailingDisk {
         ensures plans { disk_plans self.new ≡ disk_plans self.old }
         ensures later { disk_count self.old ≤ disk_count self.new }
         ensures failed { IsTrue result → Rose (disk_count self.old) (disk_count self.new) }
-        ensures own_later { disk_refusals self.old ≤ disk_refusals self.new }
-        ensures own_failed { IsTrue result → Rose (disk_refusals self.old) (disk_refusals self.new) }
-        ensures own { result ≡ false → disk_refusals self.new ≡ disk_refusals self.old }
+        ensures own { CountsFailure result (disk_refusals self.old) (disk_refusals self.new) }
     {
         if self.plan.step() {
             self.faults = self.faults.saturating_add(1);
@@ -118,9 +117,7 @@ impl Disk for FailingDisk {
         // The others are those of a disk in memory.
         ensures same { disk_held self.new ≡ disk_held self.old }
         ensures answer { IfOk result (λ there. IsTrue there ↔ Exists (disk_held self.old) name.now) }
-        ensures own { OnOk result (disk_refusals self.new ≡ disk_refusals self.old) }
-        ensures own_failed { OnErr result (Rose (disk_refusals self.old) (disk_refusals self.new)) }
-        ensures own_later { disk_refusals self.old ≤ disk_refusals self.new }
+        ensures own { CountsFailure (is_err result) (disk_refusals self.old) (disk_refusals self.new) }
         ensures later { disk_count self.old ≤ disk_count self.new }
         ensures failed { OnErr result (Rose (disk_count self.old) (disk_count self.new)) }
     {
@@ -149,10 +146,7 @@ impl Disk for FailingDisk {
             × (disk_held self.new ≡ out_of (disk_held self.old) name.now))) }
         ensures sound { IfOk result (λ found. IfSome found (λ file. file_count file ≡ 0)) }
         ensures err { OnErr result (disk_held self.new ≡ disk_held self.old) }
-        ensures own { OnOk result (disk_refusals self.new ≡ disk_refusals self.old) }
-        ensures own_failed { result ≡ Err Stop.Failed → Rose (disk_refusals self.old) (disk_refusals self.new) }
-        ensures own_memory { result ≡ Err (Stop.Memory alloc_error) → disk_refusals self.new ≡ disk_refusals self.old }
-        ensures own_later { disk_refusals self.old ≤ disk_refusals self.new }
+        ensures own { CountsFailure (has_failed result) (disk_refusals self.old) (disk_refusals self.new) }
         ensures later { disk_count self.old ≤ disk_count self.new }
         ensures failed { result ≡ Err Stop.Failed → Rose (disk_count self.old) (disk_count self.new) }
     {
@@ -183,10 +177,7 @@ impl Disk for FailingDisk {
         ensures ok { IfOk result (λ file. (file_bytes file ≡ []) × (disk_held self.new ≡ out_of (disk_held self.old) name.now)) }
         ensures empty { IfOk result (λ file. file_count file ≡ 0) }
         ensures err { OnErr result (disk_held self.new ≡ disk_held self.old) }
-        ensures own { OnOk result (disk_refusals self.new ≡ disk_refusals self.old) }
-        ensures own_failed { result ≡ Err Stop.Failed → Rose (disk_refusals self.old) (disk_refusals self.new) }
-        ensures own_memory { result ≡ Err (Stop.Memory alloc_error) → disk_refusals self.new ≡ disk_refusals self.old }
-        ensures own_later { disk_refusals self.old ≤ disk_refusals self.new }
+        ensures own { CountsFailure (has_failed result) (disk_refusals self.old) (disk_refusals self.new) }
         ensures later { disk_count self.old ≤ disk_count self.new }
         ensures failed { result ≡ Err Stop.Failed → Rose (disk_count self.old) (disk_count self.new) }
     {
@@ -212,7 +203,7 @@ impl Disk for FailingDisk {
             (record (plan_under (disk_plans self.old) name.now) { made = (file_calls file).made }) }
 
         ensures back { disk_held self.new ≡ given (disk_held self.old) name.now (file_bytes file) (file_count file == 0) }
-        ensures own { disk_refusals self.new ≡ disk_refusals self.old }
+        ensures own { CountsFailure false (disk_refusals self.old) (disk_refusals self.new) }
         ensures later { disk_count self.old ≤ disk_count self.new }
         ensures hurt { file_count file ≢ 0 → Rose (disk_count self.old) (disk_count self.new) }
     {
@@ -236,9 +227,7 @@ impl Disk for FailingDisk {
         // The others are those of a disk in memory.
         ensures ok { OnOk result (disk_held self.new ≡ without (disk_held self.old) name.now) }
         ensures err { OnErr result (disk_held self.new ≡ disk_held self.old) }
-        ensures own { OnOk result (disk_refusals self.new ≡ disk_refusals self.old) }
-        ensures own_failed { OnErr result (Rose (disk_refusals self.old) (disk_refusals self.new)) }
-        ensures own_later { disk_refusals self.old ≤ disk_refusals self.new }
+        ensures own { CountsFailure (is_err result) (disk_refusals self.old) (disk_refusals self.new) }
         ensures later { disk_count self.old ≤ disk_count self.new }
         ensures failed { OnErr result (Rose (disk_count self.old) (disk_count self.new)) }
     {

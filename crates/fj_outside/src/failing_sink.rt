@@ -58,8 +58,8 @@ impl Sink for FailingSink {
         ensures counted { sink_calls self.new ≡ after_call (sink_calls self.old) }
 
         // The others are those of a sink in memory.
-        ensures bound { IfOk result (λ n. (0 < n) × (n ≤ length piece.now)) }
-        ensures bytes { IfOk result (λ n. sink_taken self.new ≡ sink_taken self.old ++ take n piece.now) }
+        ensures bound { IfOk result (λ n. n ≡ length piece.now) }
+        ensures bytes { OnOk result (sink_taken self.new ≡ sink_taken self.old ++ piece.now) }
         ensures err { OnErr result (sink_taken self.new ≡ sink_taken self.old) }
         ensures later { sink_count self.old ≤ sink_count self.new }
         ensures failed { result ≡ Err Stop.Failed → Rose (sink_count self.old) (sink_count self.new) }

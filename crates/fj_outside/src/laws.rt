@@ -2,6 +2,7 @@
 ghost use Rattle.fj_outside.specs.Faults.{RisesToMoreOrTheEnd};
 ghost use Rattle.fj_outside.specs.Holdings.{StepsChangeOneName};
 ghost use Rattle.fj_outside.specs.Bytes.{WrittenByPlace};
+ghost use Rattle.fj_outside.specs.Windows.{ReadsAnswerAsTheFile};
 
 /// A count that rose is greater than before, or stands at the end of its range.
 #[tactic(auto, using(crate::proofs::FaultLaws::rose))]
@@ -18,4 +19,10 @@ pub fn steps_change_one_name()
 #[tactic(auto, using(crate::proofs::ByteLaws::placed))]
 pub fn written_by_place()
     ensures { WrittenByPlace }
+{}
+
+/// What a chain of reads through a window answers.
+#[tactic(auto, using(crate::proofs::WindowLaws::read_through))]
+pub fn reads_answer_as_the_file()
+    ensures { ReadsAnswerAsTheFile }
 {}

@@ -1,5 +1,5 @@
 // A sink that keeps what it takes.
-ghost use Rattle.std.specs.Prelude.{◌≡◌, [], ◌++◌, take, IfOk, OnErr};
+ghost use Rattle.std.specs.Prelude.{◌≡◌, ◌≢◌, ◌<◌, [], ◌++◌, length, IfOk, OnOk, OnErr};
 
 use crate::errors::Stop;
 use crate::outside::Sink;
@@ -44,7 +44,14 @@ impl Sink for MemorySink {
 
     ghost count = { λ _. 0 };
 
-    fn write(&mut self, piece: &[u8]) -> Result<usize, Stop> {
+    /// It takes whole pieces.
+    fn write(&mut self, piece: &[u8]) -> Result<usize, Stop>
+        requires { 0 < length piece.now }
+        ensures bound { IfOk result (λ n. n ≡ length piece.now) }
+        ensures bytes { OnOk result (self.new ≡ self.old ++ piece.now) }
+        ensures err { OnErr result (self.new ≡ self.old) }
+        ensures failed { result ≢ Err Stop.Failed }
+    {
         self.bytes.extend_from_slice(piece)?;
         Ok(piece.len())
     }

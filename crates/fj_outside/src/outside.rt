@@ -2,9 +2,10 @@
 //
 // Each counts its faults. An object may tell what it holds: then `tells` is true of it, and goes on being true. The
 // clauses that speak of what it holds begin with that premise; over an object that does not tell they are void.
-ghost use Rattle.std.specs.Prelude.{◌≡◌, ◌≢◌, ◌⊎◌, ◌+◌, ◌-◌, ◌<◌, ◌≤◌, ◌==◌, [], ◌++◌, List, ℕ, length, take, drop, min, max, IfOk, OnOk, OnErr, IfSome, IfNone, IsTrue, ◌↔◌, Some, None, alloc_error};
+ghost use Rattle.std.specs.Prelude.{◌≡◌, ◌≢◌, ◌⊎◌, ◌+◌, ◌-◌, ◌<◌, ◌≤◌, ◌==◌, [], ◌++◌, List, ℕ, length, take, drop, min, max, IfOk, OnOk, OnErr, IfSome, IfNone, IsTrue, ◌↔◌, Some, None, is_err, false};
 ghost use Rattle.std.specs.FinMap as map;
 ghost use Rattle.fj_outside.specs.Faults.{Rose};
+ghost use Rattle.fj_outside.specs.Refusals.{CountsFailure, has_failed};
 ghost use Rattle.fj_outside.specs.Bytes.{written, IsPartlyWritten};
 ghost use Rattle.fj_outside.specs.Holdings.{Holdings, Exists, IsInUse, IsFree, out_of, given, without};
 
@@ -121,6 +122,25 @@ pub trait FileStore: Drop {
         ensures later { count self.old ≤ count self.new }
         ensures failed { OnErr result (Rose (count self.old) (count self.new)) };
 
+    /// Has bytes from a place on at hand, where the file keeps a window. After `Failed` the file is as before.
+    fn fill(&mut self, _at: u64) -> Result<(), Failed>
+        ensures size { size self.new ≡ size self.old }
+        ensures telling { tells self.old ↔ tells self.new }
+        ensures same { tells self.old → bytes self.new ≡ bytes self.old }
+        ensures later { count self.old ≤ count self.new }
+        ensures failed { OnErr result (Rose (count self.old) (count self.new)) }
+    {
+        Ok(())
+    }
+
+    /// The bytes from a place on that it has at hand, maybe none. It calls nothing.
+    fn at_hand(&self, _at: u64) -> &[u8]
+        ensures within { length result.now ≤ size self.now - _at }
+        ensures bytes { tells self.now → result.now ≡ take (length result.now) (drop _at (bytes self.now)) }
+    {
+        &[]
+    }
+
     /// How many faults it had since it came out of the disk. The count stays at `u64::MAX` once it is there.
     fn faults(&self) -> u64
         ensures { result ≡ count self.now };
@@ -148,9 +168,7 @@ pub trait Disk {
         ensures telling { tells self.old ↔ tells self.new }
         ensures same { tells self.old → held self.new ≡ held self.old }
         ensures answer { tells self.old → IfOk result (λ there. IsTrue there ↔ Exists (held self.old) name.now) }
-        ensures own { tells self.old → OnOk result (refusals self.new ≡ refusals self.old) }
-        ensures own_failed { tells self.old → OnErr result (Rose (refusals self.old) (refusals self.new)) }
-        ensures own_later { tells self.old → refusals self.old ≤ refusals self.new }
+        ensures own { tells self.old → CountsFailure (is_err result) (refusals self.old) (refusals self.new) }
         ensures later { count self.old ≤ count self.new }
         ensures failed { OnErr result (Rose (count self.old) (count self.new)) };
 
@@ -166,10 +184,7 @@ pub trait Disk {
             × (held self.new ≡ out_of (held self.old) name.now))) }
         ensures sound { IfOk result (λ found. IfSome found (λ file. Self.File.count file ≡ 0)) }
         ensures err { tells self.old → OnErr result (held self.new ≡ held self.old) }
-        ensures own { tells self.old → OnOk result (refusals self.new ≡ refusals self.old) }
-        ensures own_failed { tells self.old → result ≡ Err Stop.Failed → Rose (refusals self.old) (refusals self.new) }
-        ensures own_memory { tells self.old → result ≡ Err (Stop.Memory alloc_error) → refusals self.new ≡ refusals self.old }
-        ensures own_later { tells self.old → refusals self.old ≤ refusals self.new }
+        ensures own { tells self.old → CountsFailure (has_failed result) (refusals self.old) (refusals self.new) }
         ensures later { count self.old ≤ count self.new }
         ensures failed { result ≡ Err Stop.Failed → Rose (count self.old) (count self.new) };
 
@@ -182,10 +197,7 @@ pub trait Disk {
             × (held self.new ≡ out_of (held self.old) name.now)) }
         ensures empty { IfOk result (λ file. (Self.File.size file ≡ 0) × (Self.File.count file ≡ 0)) }
         ensures err { tells self.old → OnErr result ((held self.new ≡ held self.old) ⊎ (held self.new ≡ without (held self.old) name.now)) }
-        ensures own { tells self.old → OnOk result (refusals self.new ≡ refusals self.old) }
-        ensures own_failed { tells self.old → result ≡ Err Stop.Failed → Rose (refusals self.old) (refusals self.new) }
-        ensures own_memory { tells self.old → result ≡ Err (Stop.Memory alloc_error) → refusals self.new ≡ refusals self.old }
-        ensures own_later { tells self.old → refusals self.old ≤ refusals self.new }
+        ensures own { tells self.old → CountsFailure (has_failed result) (refusals self.old) (refusals self.new) }
         ensures later { count self.old ≤ count self.new }
         ensures failed { result ≡ Err Stop.Failed → Rose (count self.old) (count self.new) };
 
@@ -196,7 +208,7 @@ pub trait Disk {
         ensures telling { tells self.old ↔ tells self.new }
         ensures back { tells self.old →
             held self.new ≡ given (held self.old) name.now (Self.File.bytes file) (Self.File.count file == 0) }
-        ensures own { tells self.old → refusals self.new ≡ refusals self.old }
+        ensures own { tells self.old → CountsFailure false (refusals self.old) (refusals self.new) }
         ensures later { count self.old ≤ count self.new }
         ensures hurt { Self.File.count file ≢ 0 → Rose (count self.old) (count self.new) };
 
@@ -207,9 +219,7 @@ pub trait Disk {
         ensures telling { tells self.old ↔ tells self.new }
         ensures ok { tells self.old → OnOk result (held self.new ≡ without (held self.old) name.now) }
         ensures err { tells self.old → OnErr result (held self.new ≡ held self.old) }
-        ensures own { tells self.old → OnOk result (refusals self.new ≡ refusals self.old) }
-        ensures own_failed { tells self.old → OnErr result (Rose (refusals self.old) (refusals self.new)) }
-        ensures own_later { tells self.old → refusals self.old ≤ refusals self.new }
+        ensures own { tells self.old → CountsFailure (is_err result) (refusals self.old) (refusals self.new) }
         ensures later { count self.old ≤ count self.new }
         ensures failed { OnErr result (Rose (count self.old) (count self.new)) };
 

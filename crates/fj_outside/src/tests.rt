@@ -3,12 +3,14 @@ ghost use Rattle.std.specs.Prelude.{◌≡◌, IfOk};
 ghost use Rattle.fj_outside.specs.FailingDisk.{disk_held};
 ghost use Rattle.std.specs.FinSet as set;
 
+use crate::gate::Gate;
 use crate::{
-    Disk, Failed, FailingDisk, FailingSink, FailingSource, FileStore, MemoryDisk, MemorySink,
-    MemorySource, Sink, Source, Stop,
+    Disk, Failed, FailingDisk, FailingSink, FailingSource, FileStore, GateDisk, GateFile,
+    MemoryDisk, MemoryFile, MemorySink, MemorySource, Sink, Source, Stop,
 };
 use std::alloc::{AllocError, Global};
 use std::test::Fail;
+use std::thread;
 
 /// What five reads of two bytes gave, each ended by a bar; `!` for one that failed.
 fn reads<S: Source>(alloc: Global, source: &mut S) -> Result<Vec<u8>, AllocError> {
@@ -321,4 +323,52 @@ fn calls_on_a_file_count_on(rt: HostRuntime) -> Result<(), Fail> {
 fn refusals_convert(rt: HostRuntime) {
     assert_eq!(rt; Stop::from(Failed), Stop::Failed);
     assert_eq!(rt; Stop::from(AllocError), Stop::Memory(AllocError));
+}
+
+/// Whether a file at a gate is at home with these bytes.
+fn has(disk: &GateDisk, name: &str, bytes: &[u8]) -> bool {
+    match disk.bytes_of(name) {
+        Some(held) => held == bytes,
+        None => false,
+    }
+}
+
+// What is written to the file that waits, and to the one that opens the gate, in both orders by one thread.
+#[test]
+#[tactic(auto, using(crate::proofs::HoldingLaws::free_of_none))]
+fn a_gate_holds_one_file_until_another_is_written(rt: HostRuntime) -> Result<(), Fail> {
+    let alloc = rt.alloc();
+    let mut disk = GateDisk::new(alloc, "H", "J", 1000)?;
+    assert_eq!(rt; act(alloc, &mut disk, "H", Step::Add), b'!');
+    assert!(rt; has(&disk, "H", b""));
+    assert_eq!(rt; disk.faults(), 1);
+    assert_eq!(rt; act(alloc, &mut disk, "K", Step::Add), b'.');
+    assert_eq!(rt; act(alloc, &mut disk, "H", Step::Add), b'!');
+    assert_eq!(rt; act(alloc, &mut disk, "J", Step::Add), b'.');
+    assert_eq!(rt; act(alloc, &mut disk, "H", Step::Add), b'.');
+    assert!(rt; has(&disk, "H", b"de"));
+    assert_eq!(rt; disk.faults(), 2);
+    let mut disk = GateDisk::new(alloc, "H", "J", 0)?;
+    assert_eq!(rt; act(alloc, &mut disk, "J", Step::Add), b'.');
+    assert_eq!(rt; act(alloc, &mut disk, "H", Step::Add), b'!');
+    assert_eq!(rt; story(alloc, &mut disk), *b"..1.r-");
+    assert_eq!(rt; disk.faults(), 1);
+    Ok(())
+}
+
+/// Whether a write of two bytes went through.
+fn written(mut file: GateFile) -> bool {
+    done(&mut file, Step::Add) == b'.'
+}
+
+// The file that waits is written by one thread, and the one that opens the gate by another.
+#[test]
+fn a_gate_is_opened_by_another_thread(rt: HostRuntime) -> Result<(), Fail> {
+    let alloc = rt.alloc();
+    let gate = Gate::new(alloc, 1_000_000_000)?;
+    let waiting = GateFile::new(MemoryFile::new(alloc), gate.try_clone()?, true, false);
+    let opening = GateFile::new(MemoryFile::new(alloc), gate, false, true);
+    let both = thread::join(&rt, || written(waiting), || written(opening));
+    assert_eq!(rt; both, (true, true));
+    Ok(())
 }

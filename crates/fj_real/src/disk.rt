@@ -32,13 +32,24 @@ fn create_file<R: Files<File = File>>(rt: &R, name: &str) -> io::Result<RealFile
     Ok(RealFile::new(file, 0))
 }
 
-/// The file of that name.
+/// The file of that name: open for reading and writing, or for reading where it may not be written.
 fn open_file<R: Files<File = File>>(rt: &R, name: &str) -> io::Result<RealFile>
     ensures { IfOk result (λ file. file_count file ≡ 0) }
 {
-    let file = OpenOptions::new().read(true).write(true).open(rt, name)?;
+    let file = match OpenOptions::new().read(true).write(true).open(rt, name) {
+        Err(e) if may_not_be_written(e.kind()) => OpenOptions::new().read(true).open(rt, name)?,
+        opened => opened?,
+    };
     let size = file.metadata()?.len();
     Ok(RealFile::new(file, size))
+}
+
+/// Whether a file could not be opened because it is to be written.
+fn may_not_be_written(kind: ErrorKind) -> bool {
+    matches!(
+        kind,
+        ErrorKind::PermissionDenied | ErrorKind::ReadOnlyFilesystem | ErrorKind::ExecutableFileBusy
+    )
 }
 
 impl<R: Files<File = File>> RealDisk<R> {
@@ -79,7 +90,7 @@ impl<R: Files<File = File>> Disk for RealDisk<R> {
         }
     }
 
-    /// A folder, and a file that may not be read and written, is a fault.
+    /// A file that may only be read is there; a write to it fails. A folder, and a file that may not be read, is a fault.
     fn take(&mut self, _alloc: Global, name: &str) -> Result<Option<RealFile>, Stop> {
         match open_file(&self.rt, name) {
             Ok(file) => Ok(Some(file)),

@@ -1,6 +1,6 @@
 // One run over a real file. The expected values are those of any file system.
 use crate::{RealDisk, RealSink, RealSource};
-use fj_outside::{Disk, Failed, FileStore, Sink, Source};
+use fj_outside::{Disk, Failed, FileStore, Sink, Source, Stop};
 use std::fs;
 use std::test::Fail;
 
@@ -72,5 +72,21 @@ fn a_folder_is_no_file(rt: HostRuntime) -> Result<(), Fail> {
     assert!(rt; disk.create(alloc, ".").is_err());
     assert!(rt; disk.remove("fj_real-test-absent.tmp").is_err());
     assert_eq!(rt; disk.faults(), 3);
+    Ok(())
+}
+
+// The program that runs may not be written; it begins as each program of this system does.
+#[test]
+fn a_file_that_may_only_be_read_is_read(rt: HostRuntime) -> Result<(), Fail> {
+    let mut disk = RealDisk::new(rt.clone()?);
+    let mut file = disk.take(rt.alloc(), "/proc/self/exe")?.ok_or(Failed)?;
+    let mut front = [b'.'; 4];
+    assert_eq!(rt; file.read_at(0, &mut front), Ok(4));
+    assert_eq!(rt; front, *b"\x7fELF");
+    assert_eq!(rt; file.faults(), 0);
+    assert_eq!(rt; file.write_at(0, b"\x7f"), Err(Stop::Failed));
+    assert_eq!(rt; file.faults(), 1);
+    disk.give("/proc/self/exe", file);
+    assert_eq!(rt; disk.faults(), 1);
     Ok(())
 }

@@ -1,5 +1,7 @@
-//! Tests of all calls on records over a file of which a call fails.
+//! Tests of all calls on records, over a file of which a call fails and through a window.
 #![tactic(auto)]
 
 #[cfg(test)]
 mod tests;
+#[cfg(test)]
+mod windows;

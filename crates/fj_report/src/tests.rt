@@ -196,7 +196,7 @@ fn variables(rt: HostRuntime) -> Result<(), Fail> {
     assert_eq!(rt; out.bytes(), lines.as_slice());
     for (characters, line) in CHARACTERS.iter() {
         out.clear();
-        let value = Value::Chars(Text::from_bytes(alloc, characters)?);
+        let value = Value::of_text(Text::from_bytes(alloc, characters)?)?;
         variable_line(b"C", 0, Some(&value), &mut out)?;
         assert_eq!(rt; out.bytes(), *line);
     }

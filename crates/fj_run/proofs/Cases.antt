@@ -1,11 +1,11 @@
 -- Worked cases.
-use Rattle.std.proofs.Common.{◌≡◌, refl, true, false, [], ◌∷◌, Some, None, pos, negsuc}
+use Rattle.std.proofs.Common.{◌≡◌, refl, true, false, [], ◌∷◌, Some, None, Ok, Err, pos, negsuc}
 use Rattle.std.specs.Prelude.{codes}
 use Rattle.fj_value.specs.declared.kind.Kind.TheVariants as kind
 use Rattle.fj_value.specs.declared.value.Value.TheVariants.{Undefined, Int, Log, Chars}
 use Rattle.fj_value.specs.declared.condition.Rule.TheVariants.{P3, P5}
 use Rattle.fj_outside.specs.Holdings.{Files}
-use Rattle.fj_transfer.specs.Explicit.{prints, fails}
+use Rattle.fj_value.specs.declared.condition.Condition.TheVariants.{Error}
 use Rattle.fj_built.specs.declared.deck.Item.TheVariants as item
 use Rattle.fj_built.specs.declared.deck.Source.TheVariants as source
 use Rattle.fj_built.specs.declared.deck.Statement.TheVariants.{Assign, Print, End}
@@ -48,14 +48,14 @@ module _ (files : Files) where
   abbrev with_status : State
   with_status = record { values = Int (pos 7) ∷ Int (pos 12) ∷ []; connection = None; files = files }
 
-  records_are_written : printed (Some 0) (prints (codes "a" ∷ codes "bc" ∷ []) []) with_status
+  records_are_written : printed (Some 0) (Ok (97 ∷ 10 ∷ 98 ∷ 99 ∷ 10 ∷ [])) with_status
       ≡ (None, 97 ∷ 10 ∷ 98 ∷ 99 ∷ 10 ∷ [], record { values = Int (pos 0) ∷ Int (pos 12) ∷ []; connection = None; files = files })
   records_are_written = refl
 
-  condition_is_told : printed (Some 1) (fails 12) here ≡ (None, [], with_status)
+  condition_is_told : printed (Some 1) (Err (Error 12)) here ≡ (None, [], with_status)
   condition_is_told = refl
 
-  condition_stops : printed None (fails 12) here ≡ (Some (ErrorStop (pos 12)), [], here)
+  condition_stops : printed None (Err (Error 12)) here ≡ (Some (ErrorStop (pos 12)), [], here)
   condition_stops = refl
 
   undefined_comes_first : step (Print [] None (item.Places 0 2 kind.Int4 ∷ []) (Some 1)) here ≡ (Some (Prohibited P3), [], here)

@@ -1,75 +1,39 @@
--- The cells of an output, in their order.
-use Rattle.std.proofs.Common.{◌≡◌, refl, ap, ◌∙◌, ℕ, zero, suc, ◌+◌, ◌-◌, ◌^◌, ◌<◌, ℤ, pos, negsuc, Bool, true, false, not, cond, List, [], ◌∷◌, ◌++◌, length, take, drop, map, get_or, All, Some, add-one, arith, slice_get}
-use Rattle.std.proofs.lemmas.Int.{ints}
-use Rattle.std.proofs.lemmas.List.{map-append}
-use Rattle.std.proofs.lemmas.List.Elements.{All-nil, All-push, All-append, All-map}
-use Rattle.std.proofs.lemmas.List.Sums.{AllPass-from_list_all}
-use Rattle.std.proofs.lemmas.Grind.{common_steps}
-use Rattle.std.proofs.lemmas.Bool.Decides.{nat_tests}
-use Rattle.fj_value.specs.Kind.{IsOfKind, FitsBits, fits_bits}
-use Rattle.fj_value.specs.declared.kind.Kind.{Kind}
-use Rattle.fj_value.specs.declared.kind.Kind.TheVariants as kind
-use Rattle.fj_value.specs.declared.value.Cell.{Cell}
+-- The values of an output, run by run, and what a WRITE on unit `*` comes to.
+use Rattle.std.proofs.Common.{◌≡◌, ℕ, Bool, true, false, List, [], ◌∷◌, ◌++◌, Option, Result, Ok, Err, ap, subst, ◌∙◌, append-nil}
+use Rattle.std.proofs.lemmas.Grind.{flat_map-append}
+use Rattle.fj_list.specs.declared.items.Run.{Run}
+use Rattle.fj_list.specs.Items.{in_run, in_runs}
+use Rattle.fj_line.specs.Actions.{Appends}
+use Rattle.fj_value.specs.declared.condition.Condition.{Condition}
+use Rattle.fj_value.specs.declared.condition.Condition.TheVariants.{Fine}
 use Rattle.fj_value.specs.declared.value.Value.{Value}
-use Rattle.fj_value.specs.declared.value.Value.TheVariants.{Undefined, Int, Log, Chars}
+use Rattle.fj_format.specs.declared.item.FormatItem.{FormatItem}
 use Rattle.fj_built.specs.declared.deck.Item.{Item}
-use Rattle.fj_built.specs.declared.deck.Item.TheVariants.{Literal, Places}
-use Rattle.fj_run.specs.Values.{is_undefined, fitted, fitted_text, copied, item_cells, cells_of, are_defined}
+use Rattle.fj_run.specs.declared.ending.Ending.{Ending}
+use Rattle.fj_run.specs.Plain.{State, Step, told, printed, print_output, print_step}
+use Rattle.fj_run.specs.Values.{outputs_of, are_defined, defines_item}
 
-fits_true : (bits : ℕ) (z : ℤ) → fits_bits bits z ≡ true → FitsBits bits z
-fits_true bits (pos n) h = let low : n < 2 ^ (bits - 1) = grind (arith, nat_tests) in (omega (arith, ints), omega (arith, ints))
-fits_true bits (negsuc n) h = let low : n < 2 ^ (bits - 1) = grind (arith, nat_tests) in (omega (arith, ints), omega (arith, ints))
+-- one more run
+pub in_runs_push : (runs : List Run) (run : Run) → in_runs (runs ++ run ∷ []) ≡ in_runs runs ++ in_run run
+in_runs_push runs run = flat_map-append in_run runs (run ∷ []) ∙ ap (λ l. in_runs runs ++ l) (append-nil (in_run run))
 
-fitted_number : (bits : ℕ) (z : ℤ) (P : Value → Type 0) → (FitsBits bits z → P (Int z)) → (fits : Bool) → fits_bits bits z ≡ fits
-    → not (is_undefined (cond fits (Int z) Undefined)) ≡ true → P (cond fits (Int z) Undefined)
-fitted_number bits z P f true e h = f (fits_true bits z e)
-fitted_number bits z P f false e h = cc
+-- what is told of an output is its condition, or its records
+printed_as : (iostat : Option ℕ) (out : Result (List ℕ) Condition) (old new : List ℕ) (condition : Condition) (ending : Option Ending) (s s' : State)
+    → old ≡ [] → Appends out old condition new → (ending, [], s') ≡ told iostat condition s → (ending, new, s') ≡ printed iostat out s
+printed_as iostat (Ok text) old new condition ending s s' empty h t =
+    let told_fine : ◌≡◌ {A = Step} (ending, [], s') (told iostat Fine s) = t ∙ ap (λ c. told iostat c s) h.0 in
+    let text_new : new ≡ text = h.1 ∙ ap (λ (o : List ℕ). o ++ text) empty in
+    λ i. ((told_fine i).0, text_new i, (told_fine i).2)
+printed_as iostat (Err met) old new condition ending s s' empty h t =
+    let nothing : ◌≡◌ {A = Step} (ending, new, s') (ending, [], s') = ap (λ (n : List ℕ). (ending, n, s')) (h.1 ∙ empty) in
+    nothing ∙ t ∙ ap (λ c. told iostat c s) h.0
 
-padded : (len : ℕ) (text : List ℕ) → length (fitted_text len text) ≡ len
-padded len text = grind (arith, common_steps)
-
--- a defined value that was fitted is of its kind
-fitted_kind : (kind : Kind) (value : Value) → not (is_undefined (fitted kind value)) ≡ true → IsOfKind kind (fitted kind value)
-fitted_kind kind.Int4 (Int z) h = fitted_number 32 z (IsOfKind kind.Int4) (λ x. x) (fits_bits 32 z) refl h
-fitted_kind kind.Int8 (Int z) h = fitted_number 64 z (IsOfKind kind.Int8) (λ x. x) (fits_bits 64 z) refl h
-fitted_kind kind.Logical (Log truth) h = tt
-fitted_kind (kind.Chars len) (Chars text) h = padded len text
-fitted_kind kind.Int4 Undefined h = cc
-fitted_kind kind.Int4 (Log truth) h = cc
-fitted_kind kind.Int4 (Chars text) h = cc
-fitted_kind kind.Int8 Undefined h = cc
-fitted_kind kind.Int8 (Log truth) h = cc
-fitted_kind kind.Int8 (Chars text) h = cc
-fitted_kind kind.Logical Undefined h = cc
-fitted_kind kind.Logical (Int z) h = cc
-fitted_kind kind.Logical (Chars text) h = cc
-fitted_kind (kind.Chars len) Undefined h = cc
-fitted_kind (kind.Chars len) (Int z) h = cc
-fitted_kind (kind.Chars len) (Log truth) h = cc
-
-module _ (P : Cell → Type 0) (each : (kind : Kind) (value : Value) → P (copied kind value)) (values : List Value) where
-  of_item : (item : Item) → All P (item_cells values item)
-  of_item (Literal kind value) = All-push P [] (copied kind value) (All-nil P) (each kind value)
-  of_item (Places first count kind) = All-map P (copied kind) (take count (drop first values)) (λ k d h. each kind (get_or (take count (drop first values)) k d))
-
-  of_items : (items : List Item) → All P (cells_of values items)
-  of_items [] = All-nil P
-  of_items (item ∷ items) = All-append P (item_cells values item) (cells_of values items) (of_item item) (of_items items)
-
--- where all are defined, each is of its kind
-pub of_kinds : (values : List Value) (items : List Item) → are_defined (cells_of values items) ≡ true → All (λ (cell : Cell). IsOfKind cell.kind cell.value) (cells_of values items)
-of_kinds values items h =
-    let P : Cell → Type 0 = λ cell. not (is_undefined cell.value) ≡ true → IsOfKind cell.kind cell.value in
-    λ k d lt. of_items P fitted_kind values items k d lt (AllPass-from_list_all (λ (cell : Cell). not (is_undefined cell.value)) (cells_of values items) h k d lt)
-
-take_one : {A : Type 0} (xs : List A) (i : ℕ) → i < length xs → map Some (take i xs) ++ (slice_get xs i ∷ []) ≡ map Some (take (i + 1) xs)
-take_one [] i h = absurd (omega arith)
-take_one (x ∷ xs) zero h = refl
-take_one (x ∷ xs) (suc i) h = let more = take_one xs i (omega arith) in rw add-one (ap (λ ys. Some x ∷ ys) (rw add-one at more))
-
--- one more number
-pub numbered : (cells : List Cell) (order : List ℕ) (i n : ℕ) → n ≡ i → i < length cells → map (slice_get cells) order ≡ map Some (take i cells) → map (slice_get cells) (order ++ (n ∷ [])) ≡ map Some (take (i + 1) cells)
-numbered cells order i n e h same = rw e (map-append (slice_get cells) order (i ∷ []) ∙ ap (λ xs. xs ++ (slice_get cells i ∷ [])) same ∙ take_one cells i h)
-
-pub all_numbered : (cells : List Cell) (order : List ℕ) (i n : ℕ) → n ≡ i → i < length cells → All (λ at. at < length cells) order → All (λ at. at < length cells) (order ++ (n ∷ []))
-all_numbered cells order i n e h all = All-push (λ at. at < length cells) order n all (omega arith)
+pub print_as : (format : List FormatItem) (plus : Option Bool) (items : List Item) (iostat : Option ℕ) (values : List Value) (old new : List ℕ)
+    (condition : Condition) (ending : Option Ending) (s s' : State)
+    → values ≡ s.values → old ≡ [] → are_defined s.values items ≡ true → defines_item iostat items ≡ false
+    → Appends (print_output format plus (outputs_of values items)) old condition new → (ending, [], s') ≡ told iostat condition s
+    → (ending, new, s') ≡ print_step format plus items iostat s
+print_as format plus items iostat values old new condition ending s s' same empty defined once h t =
+    let appended : Appends (print_output format plus (outputs_of s.values items)) old condition new =
+    subst (λ (v : List Value). Appends (print_output format plus (outputs_of v items)) old condition new) same h in
+    rw (defined, once) (printed_as iostat (print_output format plus (outputs_of s.values items)) old new condition ending s s' empty appended t)

@@ -8,7 +8,8 @@ use Rattle.std.specs.FinSet as set
 use Rattle.std.specs.FinSet.{same_set}
 use Rattle.fj_outside.specs.Holdings.{Holdings, Files, IsInUse, out_of, given}
 use Rattle.fj_outside.proofs.HoldingLaws.{itself, same_name, files_back}
-use Rattle.fj_run.specs.Plain.{Step, closed, connected_to, opened, goes, file_limit, left}
+use Rattle.fj_modes.specs.Limits.{longest_file}
+use Rattle.fj_run.specs.Plain.{Step, closed, connected_to, opened, goes, left}
 use Rattle.fj_run.specs.declared.ending.Ending.TheVariants.{ErrorStop}
 use Rattle.fj_value.specs.Condition.{code_of}
 use Rattle.fj_value.specs.declared.condition.Condition.TheVariants.{Error}
@@ -72,16 +73,16 @@ module _ {F : Type 0} (bytes : F → List ℕ) (r : Running F) (file : F) (kept 
       → (None, [], state_of bytes (record { values = r.values; connected = Some (record { name = kept; file = file; at = 0; after_end = false }) }) files1) ≡ opened name true (state_of bytes r files)
   opens_new a b f = ap goes (connected_state bytes r file kept name [] files files1 a b f)
 
-  pub opens_old : kept ≡ name → map.get files name ≡ Some (bytes file) → length (bytes file) ≤ file_limit → files1 ≡ map.remove files name
+  pub opens_old : kept ≡ name → map.get files name ≡ Some (bytes file) → length (bytes file) ≤ longest_file → files1 ≡ map.remove files name
       → (None, [], state_of bytes (record { values = r.values; connected = Some (record { name = kept; file = file; at = 0; after_end = false }) }) files1) ≡ opened name false (state_of bytes r files)
   opens_old a g h f =
-      let fits : nat_lt file_limit (length (bytes file)) ≡ false = grind (arith, nat_tests) in
+      let fits : nat_lt longest_file (length (bytes file)) ≡ false = grind (arith, nat_tests) in
       rw (g, fits) (ap goes (connected_state bytes r file kept name (bytes file) files files1 a refl f))
 
-  pub opens_too_long : (code : ℤ) → map.get files name ≡ Some (bytes file) → file_limit < length (bytes file) → files1 ≡ files → code ≡ code_of (Error 27)
+  pub opens_too_long : (code : ℤ) → map.get files name ≡ Some (bytes file) → longest_file < length (bytes file) → files1 ≡ files → code ≡ code_of (Error 27)
       → (Some (ErrorStop code), [], state_of bytes r files1) ≡ opened name false (state_of bytes r files)
   opens_too_long code g h f k =
-      let long : nat_lt file_limit (length (bytes file)) ≡ true = grind (arith, nat_tests) in
+      let long : nat_lt longest_file (length (bytes file)) ≡ true = grind (arith, nat_tests) in
       rw (g, long, f, k) refl
 
 pub opens_absent : {F : Type 0} (bytes : F → List ℕ) (r : Running F) (name : List ℕ) (files : Files) (step : Step) → map.get files name ≡ None

@@ -1,10 +1,9 @@
 -- The plain execution: one step for each statement, on values, a connection and the files of the disk. It writes the records of unit `*`.
-use Rattle.std.specs.Prelude.{ℕ, ◌+◌, ◌==◌, Bool, true, false, nat_lt, List, [], ◌∷◌, ◌++◌, length, drop, map as list_map, max, replicate, sum_by, slice_set, slice_index_or, Option, Some, None, option_map, unwrap_or, Result, Ok, Err, if◌then◌else◌}
+use Rattle.std.specs.Prelude.{ℕ, ◌+◌, ◌==◌, Bool, true, false, nat_lt, List, [], ◌∷◌, ◌++◌, length, drop, max, replicate, sum_by, slice_set, slice_index_or, Option, Some, None, option_map, unwrap_or, Result, Ok, Err, if◌then◌else◌}
 use Rattle.std.specs.FinMap as map
 use Rattle.fj_value.specs.Condition.{code_of}
 use Rattle.fj_value.specs.declared.value.Value.{Value}
 use Rattle.fj_value.specs.declared.value.Value.TheVariants.{Undefined, Int}
-use Rattle.fj_value.specs.declared.value.Cell.{Cell}
 use Rattle.fj_value.specs.declared.condition.Condition.{Condition}
 use Rattle.fj_value.specs.declared.condition.Condition.TheVariants.{Fine, EndOfFile, Error}
 use Rattle.fj_value.specs.declared.condition.Rule.TheVariants.{P3, P5}
@@ -19,8 +18,10 @@ use Rattle.fj_value.specs.declared.kind.Kind.TheVariants.{Int4}
 use Rattle.fj_edit_out.specs.OutputField.{integer_output}
 use Rattle.fj_edit_in.specs.InputField.{integer_input}
 use Rattle.fj_format.specs.declared.item.FormatItem.{FormatItem}
-use Rattle.fj_list.specs.ListText.{text_of}
-use Rattle.fj_transfer.specs.Explicit.{Outcome, fails, prints, explicit_transfer, first as first_record}
+use Rattle.fj_modes.specs.Modes.{usual_edit}
+use Rattle.fj_line.specs.Actions.{first_record, output}
+use Rattle.fj_list.specs.Items.{Output}
+use Rattle.fj_transfer.specs.Explicit.{explicit_actions}
 use Rattle.fj_statement.specs.declared.deck.Variable.{Variable}
 use Rattle.fj_built.specs.declared.deck.Source.{Source}
 use Rattle.fj_built.specs.declared.deck.Source.TheVariants.{Literal, Place}
@@ -31,7 +32,9 @@ use Rattle.fj_built.specs.declared.deck.Lined.{Lined}
 use Rattle.fj_built.specs.declared.deck.Deck.{Deck}
 use Rattle.fj_run.specs.declared.ending.Ending.{Ending}
 use Rattle.fj_run.specs.declared.ending.Ending.TheVariants.{Ended, ErrorStop, Prohibited}
-use Rattle.fj_run.specs.Values.{is_undefined, fitted_text, fitted, filled, cells_of, are_defined, defines_item}
+use Rattle.fj_value.specs.Reading.{assigned_text}
+use Rattle.fj_modes.specs.Limits.{longest_file, longest_formatted}
+use Rattle.fj_run.specs.Values.{is_undefined, fitted, filled, outputs_of, are_defined, defines_item}
 
 -- a connection: the file's name and bytes, and the position
 pub record Connection : Type 0 where
@@ -74,21 +77,13 @@ without_connection (Some c) s = record { values = s.values; connection = None; f
 abbrev pub closed : State → State
 closed s = without_connection s.connection s
 
--- the longest file, in bytes
-abbrev pub file_limit : ℕ
-file_limit = 268435456
-
--- the longest formatted record, in characters
-abbrev pub record_limit : ℕ
-record_limit = 65536
-
 abbrev pub connected_to : List ℕ → List ℕ → State → State
 connected_to name bytes s = record { values = s.values; connection = Some (record { name = name; bytes = bytes; at = 0; after_end = false }); files = map.remove s.files name }
 
 -- OPEN of a file that is there or not
 abbrev pub opened_old : List ℕ → Option (List ℕ) → State → Step
 opened_old name None s = goes (connected_to name [] s)
-opened_old name (Some bytes) s = if nat_lt file_limit (length bytes) then stops (ErrorStop (code_of (Error 27))) s else goes (connected_to name bytes s)
+opened_old name (Some bytes) s = if nat_lt longest_file (length bytes) then stops (ErrorStop (code_of (Error 27))) s else goes (connected_to name bytes s)
 
 abbrev pub opened : List ℕ → Bool → State → Step
 opened name true s = goes (connected_to name [] s)
@@ -103,7 +98,7 @@ told None condition s = stops (ErrorStop (code_of condition)) s
 -- a record is put behind the position, and is the last of the file
 abbrev pub with_record : List ℕ → Connection → Condition × Connection
 with_record text c = if c.after_end then (Error 20, c)
-    else (if nat_lt file_limit (c.at + length text) then (Error 25, c)
+    else (if nat_lt longest_file (c.at + length text) then (Error 25, c)
     else (Fine, record c { bytes = with_piece c.bytes c.at text true; at = c.at + length text }))
 
 -- the value of a field, which puts the position behind its record
@@ -112,13 +107,13 @@ with_field (Ok value) next c = (Ok value, record c { at = next })
 with_field (Err condition) next c = (Err condition, c)
 
 abbrev pub with_next : ℕ → RecordRead → Connection → Result Value Condition × Connection
-with_next width (Line next) c = with_field (integer_input (Edit.Int width None) Int4 false (fitted_text width (first_line (drop c.at c.bytes)))) next c
+with_next width (Line next) c = with_field (integer_input (Edit.Int width None) Int4 false (assigned_text width (first_line (drop c.at c.bytes)))) next c
 with_next width EndOfRecords c = (Err EndOfFile, record c { after_end = true })
 with_next width TooLong c = (Err (Error 15), c)
 
 -- the next record is read, and the field at its start
 abbrev pub with_reading : ℕ → Connection → Result Value Condition × Connection
-with_reading width c = if c.after_end then (Err (Error 20), c) else with_next width (record_at c.bytes c.at record_limit) c
+with_reading width c = if c.after_end then (Err (Error 20), c) else with_next width (record_at c.bytes c.at longest_formatted) c
 
 abbrev pub condition_of : Result Value Condition → Condition
 condition_of (Ok value) = Fine
@@ -168,18 +163,18 @@ source_value (Literal value) s = value
 source_value (Place from) s = value_of s from
 
 -- under an explicit format, with the sign mode that the statement gives
-abbrev pub print_outcome : List FormatItem → Option Bool → List Cell → Outcome
-print_outcome format plus cells = explicit_transfer (first_record record_limit 0) (unwrap_or plus false) true format (list_map Some cells)
+abbrev pub print_output : List FormatItem → Option Bool → List Output → Result (List ℕ) Condition
+print_output format plus items = output (first_record longest_formatted 0) (explicit_actions (record usual_edit { plus = unwrap_or plus false }) true format items)
 
 -- the first condition of the output is told, or its records are written
-abbrev pub printed : Option ℕ → Outcome → State → Step
-printed iostat (fails n) s = told iostat (Error n) s
-printed iostat (prints ended last) s = let t = told iostat Fine s in (t.0, text_of ended ++ last, t.2)
+abbrev pub printed : Option ℕ → Result (List ℕ) Condition → State → Step
+printed iostat (Ok text) s = let t = told iostat Fine s in (t.0, text, t.2)
+printed iostat (Err condition) s = told iostat condition s
 
 -- WRITE on unit `*`
 abbrev pub print_step : List FormatItem → Option Bool → List Item → Option ℕ → State → Step
-print_step format plus items iostat s = let cells = cells_of s.values items in
-    if are_defined cells then (if defines_item iostat items then stops (Prohibited P5) s else printed iostat (print_outcome format plus cells) s)
+print_step format plus items iostat s =
+    if are_defined s.values items then (if defines_item iostat items then stops (Prohibited P5) s else printed iostat (print_output format plus (outputs_of s.values items)) s)
     else stops (Prohibited P3) s
 
 -- one statement

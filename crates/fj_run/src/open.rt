@@ -6,19 +6,10 @@ ghost use Rattle.fj_run.specs.Running.{state_of, HoldsAllBut, IsPlaced};
 
 use crate::ending::Ending;
 use crate::state::{Connected, Running};
-use fj_modes::FileName;
+use fj_modes::{FileName, LONGEST_FILE};
 use fj_outside::{Disk, FileStore, Stop};
 use fj_value::Condition;
 use std::alloc::{AllocError, Global};
-
-/// The longest file, in bytes.
-pub const FILE_LIMIT: u64 = 268_435_456;
-
-fn copy_of(alloc: Global, name: &FileName) -> Result<FileName, AllocError>
-    ensures { IfOk result (λ copy. copy ≡ name.now) }
-{
-    FileName::new(alloc, name.as_str().as_bytes())
-}
 
 /// Connects to an empty file of that name, new or in place of one.
 fn open_new<D: Disk>(
@@ -41,7 +32,7 @@ fn open_new<D: Disk>(
     ensures later { D.count disk.old ≤ D.count disk.new }
     ensures failed { result ≡ Err Stop.Failed → Rose (D.count disk.old) (D.count disk.new) }
 {
-    let kept = copy_of(alloc, name)?;
+    let kept = name.try_clone()?;
     match disk.create(alloc, name.as_str()) {
         Ok(file) => {
             running.connected = Some(Connected {
@@ -77,10 +68,10 @@ fn open_old<D: Disk>(
     ensures later { D.count disk.old ≤ D.count disk.new }
     ensures failed { result ≡ Err Stop.Failed → Rose (D.count disk.old) (D.count disk.new) }
 {
-    let kept = copy_of(alloc, name)?;
+    let kept = name.try_clone()?;
     match disk.take(alloc, name.as_str()) {
         Ok(Some(file)) => {
-            if file.len() > FILE_LIMIT {
+            if file.len() > LONGEST_FILE {
                 disk.give(name.as_str(), file);
                 return Ok(Some(Ending::ErrorStop {
                     code: Condition::Error(27).code(),

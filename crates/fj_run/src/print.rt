@@ -1,79 +1,74 @@
 // WRITE on unit `*`.
-ghost use Rattle.std.specs.Prelude.{◌≡◌, ◌++◌, ◌<◌, [], IfOk, OnOk, All, Some, length, map, slice_get, true};
+ghost use Rattle.std.specs.Prelude.{◌≡◌, [], IfOk};
 ghost use Rattle.std.specs.List.{list_any};
-ghost use Rattle.fj_value.specs.Kind.{IsOfKind};
-ghost use Rattle.fj_value.specs.declared.value.Cell.{Cell};
-ghost use Rattle.fj_list.specs.Moved.{IsOrdered};
-ghost use Rattle.fj_transfer.specs.Explicit.{Prints, items_of};
-ghost use Rattle.fj_run.specs.Plain.{State, print_outcome, print_step};
-ghost use Rattle.fj_run.specs.Values.{copied, item_cells, cells_of, are_defined, has_place, defines_item};
+ghost use Rattle.fj_line.specs.Actions.{Appends};
+ghost use Rattle.fj_list.specs.Items.{in_run, in_runs};
+ghost use Rattle.fj_run.specs.Plain.{State, print_output, print_step};
+ghost use Rattle.fj_run.specs.Values.{item_values, outputs_of, all_defined, item_defined, are_defined, has_place, defines_item};
 
 use crate::ending::Ending;
 use crate::read_write::tell;
-use crate::transfer::{RECORD_LIMIT, USUAL_MODES};
-use crate::values::{fitted, is_undefined, values_from};
+use crate::transfer::USUAL_MODES;
+use crate::values::{is_undefined, values_from};
 use fj_built::Item;
 use fj_format::Format;
-use fj_list::{Cells, Moved, Order};
-use fj_transfer::{EditChange, Layout, Transfer, TransferSpec, print_records};
-use fj_value::{Cell, Condition, Items, Kind, Place, Rule, Tag, Text, Value};
+use fj_list::{OutputItems, Run, Values};
+use fj_modes::LONGEST_FORMATTED;
+use fj_transfer::print_explicit;
+use fj_value::{Condition, EditModes, Items, Rule, Text, Value};
 use std::alloc::{AllocError, Global};
 
-/// What a copy of a value has as its place.
-const COPY: Place = Place {
-    var: 4_294_967_295,
-    index: 0,
-};
-
-/// A copy of a value, as a place of the kind holds it.
-fn copied(kind: Kind, value: &Value) -> Result<Cell, AllocError>
-    ensures { IfOk result (λ cell. cell ≡ copied kind value.now) }
-{
-    let value = fitted(kind, value.try_clone()?)?;
-    Ok(Cell {
-        place: COPY,
-        kind,
-        value,
-    })
-}
-
-/// Adds copies of values.
-fn push_copies(cells: &mut Cells, kind: Kind, values: &[Value]) -> Result<(), AllocError>
-    ensures { OnOk result (cells.new ≡ cells.old ++ map (copied kind) values.now) }
-{
-    'copying: for value in values {
-        cells.push(copied(kind, value)?)?;
-    }
-    Ok(())
-}
-
-/// Adds the cells of an item.
-fn push_item(cells: &mut Cells, values: &[Value], item: &Item) -> Result<(), AllocError>
-    ensures { OnOk result (cells.new ≡ cells.old ++ item_cells values.now item.now) }
+/// The values of an item.
+fn run_of<'a>(values: &'a [Value], item: &'a Item) -> Run<'a>
+    ensures { in_run result ≡ item_values values.entry.now item.entry.now }
 {
     match item {
-        Item::Literal { kind, value } => cells.push(copied(*kind, value)?),
-        Item::Places { first, count, kind } => {
-            push_copies(cells, *kind, values_from(values, *first, *count))
-        }
+        Item::Literal { kind, value } => Run {
+            kind: *kind,
+            values: Values::One(value),
+        },
+        Item::Places { first, count, kind } => Run {
+            kind: *kind,
+            values: Values::Many(values_from(values, *first, *count)),
+        },
     }
 }
 
-/// The cells of the items, in their order.
-fn cells_of(alloc: Global, values: &[Value], items: &[Item]) -> Result<Cells, AllocError>
-    ensures { IfOk result (λ cells. cells ≡ cells_of values.now items.now) }
+/// The values of the items, in their order.
+#[tactic(auto, using(crate::proofs::PrintLemmas::in_runs_push))]
+fn runs_of<'a>(
+    alloc: Global,
+    values: &'a [Value],
+    items: &'a [Item],
+) -> Result<Vec<Run<'a>>, AllocError>
+    ensures { IfOk result (λ runs. in_runs runs.items ≡ outputs_of values.entry.now items.entry.now) }
 {
-    let mut cells = Items::new(alloc);
+    let mut runs = Vec::new(alloc);
     'listing: for item in items {
-        push_item(&mut cells, values, item)?;
+        runs.push(run_of(values, item))?;
     }
-    Ok(cells)
+    Ok(runs)
 }
 
-fn are_defined(cells: &[Cell]) -> bool
-    ensures { result ≡ are_defined cells.now }
+fn all_are_defined(values: &[Value]) -> bool
+    ensures { result ≡ all_defined values.now }
 {
-    cells.iter().all(|cell| !is_undefined(&cell.value))
+    values.iter().all(|value| !is_undefined(value))
+}
+
+fn is_defined(values: &[Value], item: &Item) -> bool
+    ensures { result ≡ item_defined values.now item.now }
+{
+    match item {
+        Item::Literal { value, .. } => !is_undefined(value),
+        Item::Places { first, count, .. } => all_are_defined(values_from(values, *first, *count)),
+    }
+}
+
+fn are_defined(values: &[Value], items: &[Item]) -> bool
+    ensures { result ≡ are_defined values.now items.now }
+{
+    items.iter().all(|item| is_defined(values, item))
 }
 
 fn has_place(item: &Item, place: u32) -> bool
@@ -102,66 +97,24 @@ fn defines_item(iostat: Option<u32>, items: &[Item]) -> bool
     }
 }
 
-/// The numbers of cells, from 0 on. More of them than there are numbers count as want of memory.
-fn numbers(alloc: Global, cells: &Cells) -> Result<Order, AllocError>
-    ensures ordered { IfOk result (λ order. All (λ at. at < length cells.now) order) }
-    ensures each { IfOk result (λ order. map (slice_get cells.now) order ≡ map Some cells.now) }
-{
-    let mut order = Items::new(alloc);
-    'numbering: for at in 0..cells.len() {
-        match u32::try_from(at) {
-            Ok(number) => order.push(number)?,
-            Err(_) => return Err(AllocError),
-        }
-    }
-    Ok(order)
-}
-
-/// The output of all cells in their order.
-fn moved(alloc: Global, cells: Cells) -> Result<Moved, AllocError>
-    ensures cells { IfOk result (λ moved. moved.cells ≡ cells) }
-    ensures ordered { IfOk result IsOrdered }
-    ensures items { IfOk result (λ moved. items_of moved ≡ map Some cells) }
-{
-    let order = numbers(alloc, &cells)?;
-    Ok(Moved { cells, order })
-}
-
-/// Appends the records of cells under a format, or answers the first condition.
-fn print_cells(
+/// Appends the records of items under a format, or answers the first condition.
+fn print_items(
     alloc: Global,
+    values: &[Value],
     format: &Format,
     plus: Option<bool>,
-    cells: Cells,
+    items: &[Item],
     piece: &mut Text,
 ) -> Result<Condition, AllocError>
-    requires { All (λ (cell : Cell). IsOfKind cell.kind cell.value) cells }
-    ensures { IfOk result (λ condition. Prints (print_outcome format.now plus cells) piece.old condition piece.new) }
+    ensures { IfOk result (λ condition. Appends (print_output format.now plus (outputs_of values.now items.now)) piece.old condition piece.new) }
 {
-    let layout = Layout::Explicit(format.try_clone()?);
-    let moved = moved(alloc, cells)?;
-    let job = Transfer {
-        stmt: 0,
-        tag: Tag(0),
-        spec: TransferSpec {
-            input: false,
-            layout,
-            advance: true,
-            rec: None,
-            pos: None,
-            edit: EditChange {
-                blank_zero: None,
-                comma: None,
-                delim: None,
-                pad: None,
-                plus,
-            },
-        },
-        moved,
-        size: None,
-        count: None,
+    let runs = runs_of(alloc, values, items)?;
+    let modes = EditModes {
+        plus: plus.unwrap_or(USUAL_MODES.plus),
+        ..USUAL_MODES
     };
-    print_records(alloc, &job, USUAL_MODES, RECORD_LIMIT, 0, piece)
+    let items = OutputItems::of_runs(&runs);
+    print_explicit(format, true, modes, items, LONGEST_FORMATTED, 0, piece)
 }
 
 /// Carries out WRITE on unit `*`. The piece gets the records.
@@ -178,13 +131,12 @@ pub fn print(
     ensures { IfOk result (λ ending. (s : State) → (ending, piece.new, record s { values = values.new })
         ≡ print_step format.now plus items.now iostat (record s { values = values.old })) }
 {
-    let cells = cells_of(alloc, values.as_slice(), items)?;
-    if !are_defined(cells.as_slice()) {
+    if !are_defined(values.as_slice(), items) {
         return Ok(Some(Ending::Prohibited { rule: Rule::P3 }));
     }
     if defines_item(iostat, items) {
         return Ok(Some(Ending::Prohibited { rule: Rule::P5 }));
     }
-    let condition = print_cells(alloc, format, plus, cells, piece)?;
+    let condition = print_items(alloc, values.as_slice(), format, plus, items, piece)?;
     Ok(tell(values, iostat, condition))
 }

@@ -40,7 +40,7 @@ fn value_of(alloc: Global, shown: Shown) -> Result<Value, AllocError> {
         Shown::None => Ok(Value::Undefined),
         I(number) => Ok(Value::Int(number)),
         L(truth) => Ok(Value::Log(truth)),
-        C(text) => Ok(Value::Chars(Text::from_bytes(alloc, text.as_bytes())?)),
+        C(text) => Value::of_text(Text::from_bytes(alloc, text.as_bytes())?),
     }
 }
 

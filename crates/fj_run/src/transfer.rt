@@ -5,17 +5,13 @@ ghost use Rattle.fj_run.specs.Plain.{with_record, with_reading};
 ghost use Rattle.fj_edit_in.specs.InputField.{integer_input};
 ghost use Rattle.fj_run.specs.Running.{connection_of};
 
-use crate::open::FILE_LIMIT;
 use crate::state::Connected;
-use crate::values::fit_text;
 use fj_edit_in::read_int;
+use fj_modes::{LONGEST_FILE, LONGEST_FORMATTED};
 use fj_outside::{FileStore, Stop};
 use fj_seqrec::{RecordRead, append_records, read_record};
 use fj_value::{Condition, Delim, Edit, EditModes, Kind, Text, Value};
 use std::alloc::{AllocError, Global};
-
-/// The longest formatted record, in characters.
-pub const RECORD_LIMIT: u32 = 65_536;
 
 /// The modes of a connection that OPEN gives no other.
 pub const USUAL_MODES: EditModes = EditModes {
@@ -43,7 +39,7 @@ pub fn put_record<F: FileStore>(
     if connected.after_end {
         return Ok(Condition::Error(20));
     }
-    if connected.at > FILE_LIMIT || chars.len() as u64 > FILE_LIMIT - connected.at {
+    if connected.at > LONGEST_FILE || chars.len() as u64 > LONGEST_FILE - connected.at {
         return Ok(Condition::Error(25));
     }
     match append_records(&mut connected.file, connected.at, chars, true) {
@@ -87,9 +83,14 @@ pub fn take_field<F: FileStore>(
         return Ok(Err(Condition::Error(20)));
     }
     let mut record = Text::new(alloc);
-    match read_record(&mut connected.file, connected.at, RECORD_LIMIT, &mut record) {
+    match read_record(
+        &mut connected.file,
+        connected.at,
+        LONGEST_FORMATTED,
+        &mut record,
+    ) {
         Ok(RecordRead::Line { next }) => {
-            fit_text(width, &mut record)?;
+            record.assign_length(width)?;
             let read = value_in(alloc, width, record.bytes())?;
             if read.is_ok() {
                 connected.at = next;

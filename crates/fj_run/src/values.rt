@@ -2,10 +2,10 @@
 ghost use Rattle.std.specs.Prelude.{◌≡◌, ◌++◌, [], IfOk, OnOk, replicate, sum_by, slice_set, slice_index_or, take, drop};
 ghost use Rattle.fj_value.specs.Kind.{fits_bits};
 ghost use Rattle.fj_run.specs.Plain.{places_of};
-ghost use Rattle.fj_run.specs.Values.{is_undefined, fitted_text, fitted, fitted_integer, filled};
+ghost use Rattle.fj_run.specs.Values.{is_undefined, fitted, fitted_integer, filled};
 
 use fj_statement::Variable;
-use fj_value::{Items, Kind, Text, Value};
+use fj_value::{Items, Kind, Value};
 use std::alloc::{AllocError, Global};
 
 pub fn is_undefined(value: &Value) -> bool
@@ -45,18 +45,6 @@ pub fn values_from(values: &[Value], first: u32, count: u32) -> &[Value]
     &rest[..count]
 }
 
-/// Characters in so many places: cut on the right, or with blanks behind them.
-pub fn fit_text(len: u32, text: &mut Text) -> Result<(), AllocError>
-    ensures ok { OnOk result (text.new ≡ fitted_text len text.old) }
-{
-    let count = text.len();
-    if count >= len as usize {
-        text.truncate(len as usize);
-        return Ok(());
-    }
-    text.push_copies(b' ', len - count as u32)
-}
-
 /// Whether INTEGER(4) has a number.
 fn fits_int4(number: i64) -> bool
     ensures { result ≡ fits_bits 32 number }
@@ -88,10 +76,10 @@ pub fn fitted(kind: Kind, value: Value) -> Result<Value, AllocError>
         (Kind::Int4, Value::Int(number)) => Ok(fitted_int4(number)),
         (Kind::Int8, Value::Int(number)) => Ok(fitted_int8(number)),
         (Kind::Logical, Value::Log(truth)) => Ok(Value::Log(truth)),
-        (Kind::Chars(len), Value::Chars(text)) => {
-            let mut text = text;
-            fit_text(len, &mut text)?;
-            Ok(Value::Chars(text))
+        (Kind::Chars(len), Value::Chars(characters)) => {
+            let mut characters = characters;
+            characters.assign_length(len)?;
+            Ok(Value::Chars(characters))
         }
         _ => Ok(Value::Undefined),
     }

@@ -3,9 +3,11 @@ use Rattle.std.proofs.Common.{◌≡◌, ◌≢◌, ℕ, zero, suc, ◌+◌, ◌
 use Rattle.std.proofs.lemmas.Bool.{ne_eqb, eqb-true, eq-eqb, cases_lt, cases_eq}
 use Rattle.std.proofs.lemmas.List.{take_all, drop_all, take-append-drop, length-drop, length-append, length-take-le, get_or-take, get_or-drop, get_or-append-add}
 use Rattle.std.specs.Prelude.{All}
+use Rattle.std.specs.List.{flat_map}
+use Rattle.std.proofs.lemmas.List.Elements.{All-tail}
 use Rattle.std.proofs.lemmas.List.Sums.{passes_at_first}
 use Rattle.fj_seqrec.specs.Lines.{is_line_feed, lines, first_line, behind_line, last_line_start}
-use Rattle.fj_seqrec.specs.LineLaws.{AreLinesOf, none, open_line, fed_line, returned_line, IsLastLineStart}
+use Rattle.fj_seqrec.specs.LineLaws.{AreLinesOf, none, open_line, fed_line, returned_line, IsLastLineStart, IsPlain, AreTheLinesBehind}
 use Rattle.fj_seqrec.proofs.Positions.{line_feed_place}
 use Rattle.fj_seqrec.proofs.BackspaceLaws.{start_is}
 use Rattle.fj_seqrec.proofs.LineLemmas.{lines_first, lines_stand, only_lines}
@@ -111,3 +113,17 @@ lines_last bytes start is =
     let behind : AreLinesOf (first_line (drop start bytes) ∷ []) (drop start bytes) = subst (λ (ls : List (List ℕ)). AreLinesOf ls (drop start bytes)) (one_line bytes start is) (lines_stand (drop start bytes)) in
     let all = joined (lines (take start bytes)) (first_line (drop start bytes) ∷ []) (take start bytes) (drop start bytes) (lines_stand (take start bytes)) (start_ends bytes start is) behind in
     sym (only_lines (lines (take start bytes) ++ first_line (drop start bytes) ∷ []) (take start bytes ++ drop start bytes) all ∙ ap lines (take-append-drop start bytes))
+
+-- plain records, each with its line feed, are lines
+stand : (records : List (List ℕ)) → All IsPlain records → AreLinesOf records (flat_map (λ line. line ++ 10 ∷ []) records)
+stand [] plain = none
+stand (first ∷ more) plain =
+    let here : IsPlain first = plain 0 first (omega arith) in
+    let behind = stand more (All-tail IsPlain first more plain) in
+    subst (AreLinesOf (first ∷ more)) (sym (append_assoc first (10 ∷ []) (flat_map (λ line. line ++ 10 ∷ []) more))) (fed_line here.0 here.1 behind)
+
+pub lines_behind : AreTheLinesBehind
+unfolding EndsLine
+lines_behind bytes records ends plain =
+    sym (only_lines (lines bytes ++ records) (bytes ++ flat_map (λ line. line ++ 10 ∷ []) records)
+    (joined (lines bytes) records bytes (flat_map (λ line. line ++ 10 ∷ []) records) (lines_stand bytes) ends (stand records plain)))

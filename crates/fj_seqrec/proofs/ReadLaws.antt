@@ -6,7 +6,10 @@ use Rattle.std.proofs.Math.Seq.{take-append-add}
 use Rattle.std.specs.Str.Lines.{strip_carriage_return}
 use Rattle.fj_seqrec.specs.declared.read.RecordRead.{RecordRead}
 use Rattle.fj_seqrec.specs.declared.read.RecordRead.TheVariants.{Line, End, TooLong}
+use Rattle.fj_seqrec.specs.declared.read.LinePart.{LinePart}
+use Rattle.fj_seqrec.specs.declared.read.LinePart.TheVariants.{Ended, Open}
 use Rattle.fj_seqrec.specs.Lines.{first_line, behind_line}
+use Rattle.fj_seqrec.specs.Parts.{IsPartOf}
 use Rattle.fj_seqrec.specs.Reading.{record_at, HoldsRecord, IsWithin}
 use Rattle.fj_seqrec.proofs.Positions.{line_feed_place, place-le-length, place_behind, place_in_front}
 
@@ -35,23 +38,31 @@ pub record IsRecord (bytes : List ℕ) (at : ℕ) (line : List ℕ) (next : ℕ)
   pub first : first_line (drop at bytes) ≡ line
   pub behind : length bytes - length (behind_line (drop at bytes)) ≡ next
 
--- so far no line feed was met, and the next piece has one
-pub record_found : (bytes held piece taken line : List ℕ) (at from count width : ℕ) → drop at bytes ≡ held ++ drop from bytes → line_feed_place held ≡ length held → at + length held ≡ from
-    → piece ≡ take count (drop from bytes) → width < length piece → width ≡ line_feed_place piece → taken ≡ held ++ take width piece → line ≡ strip_carriage_return taken → from + width < length bytes
-    → IsRecord bytes at line (from + width + 1)
-record_found bytes held piece taken line at from count width rest none place is some found now made within =
-    let ahead : line_feed_place (drop from bytes) ≡ width = place_in_front (drop from bytes) piece count is (omega arith) ∙ sym found in
-    let here : line_feed_place (drop at bytes) ≡ length held + width = ap line_feed_place rest ∙ place_behind held (drop from bytes) none ∙ ap (λ n. length held + n) ahead in
+-- so far no line feed was met, and one stands in what is left
+pub record_found : (bytes held taken line : List ℕ) (at from width : ℕ) → drop at bytes ≡ held ++ drop from bytes → line_feed_place held ≡ length held → at + length held ≡ from → width < length (drop from bytes)
+    → width ≡ line_feed_place (drop from bytes) → taken ≡ held ++ take width (drop from bytes) → line ≡ strip_carriage_return taken → IsRecord bytes at line (from + width + 1)
+record_found bytes held taken line at from width rest none place some found now made =
+    let here : line_feed_place (drop at bytes) ≡ length held + width = ap line_feed_place rest ∙ place_behind held (drop from bytes) none ∙ ap (λ n. length held + n) (sym found) in
     let all : length (drop at bytes) ≡ length bytes - at = length-drop at bytes in
-    let fits : width ≤ count = omega (arith, ap length is, length-take count (drop from bytes)) in
-    let front : take width (drop from bytes) ≡ take width piece = sym (take-take width count (drop from bytes) fits) ∙ ap (take width) (sym is) in
-    let text : take (line_feed_place (drop at bytes)) (drop at bytes) ≡ held ++ take width piece =
-    ap (λ n. take n (drop at bytes)) here ∙ ap (take (length held + width)) rest ∙ take-append-add held (drop from bytes) width ∙ ap (λ s. held ++ s) front in
+    let left : length (drop from bytes) ≡ length bytes - from = length-drop from bytes in
+    let text : take (line_feed_place (drop at bytes)) (drop at bytes) ≡ held ++ take width (drop from bytes) =
+    ap (λ n. take n (drop at bytes)) here ∙ ap (take (length held + width)) rest ∙ take-append-add held (drop from bytes) width in
     record {
       some = omega arith;
       first = first_line_ended (drop at bytes) (omega arith) ∙ ap strip_carriage_return (text ∙ sym now) ∙ sym made;
       behind = omega (arith, length-drop (line_feed_place (drop at bytes) + 1) (drop at bytes));
     }
+
+-- a part of a line, taken out of the front of what is left
+pub part_of_front : (rest piece old new : List ℕ) (part : LinePart) → piece ≡ take (length piece) rest → IsPartOf piece old part new → IsPartOf rest old part new
+part_of_front rest piece old new (Ended width) is (some, found, now) = (
+  omega (arith, ap length is, length-take (length piece) rest),
+  found ∙ sym (place_in_front rest piece (length piece) is (omega arith)),
+  now ∙ ap (λ s. old ++ s) (ap (take width) is ∙ take-take width (length piece) rest (omega arith)),
+)
+part_of_front rest piece old new (Open width) is (fits, found, now) =
+    let front : take width piece ≡ take width rest = ap (take width) is ∙ take-take width (length piece) rest fits in
+    (omega (arith, ap length is, length-take (length piece) rest), found ∙ ap line_feed_place front, now ∙ ap (λ s. old ++ s) front)
 
 -- up to the end of the file no line feed was met
 pub record_ended : (bytes held : List ℕ) (at from : ℕ) → drop at bytes ≡ held ++ drop from bytes → line_feed_place held ≡ length held → from ≡ length bytes → 0 < length held

@@ -1,5 +1,6 @@
 -- What holds of all bytes and their lines.
 use Rattle.std.specs.Prelude.{◌≡◌, ◌≢◌, ℕ, ◌+◌, ◌-◌, ◌<◌, ◌≤◌, List, [], ◌∷◌, ◌++◌, length, take, drop, slice_index, All}
+use Rattle.std.specs.List.{flat_map}
 use Rattle.fj_seqrec.specs.Lines.{lines, first_line, behind_line, last_line_start}
 
 -- Lines stand in bytes one behind the other, each with its end; only the last may have none. A carriage return directly
@@ -33,3 +34,13 @@ EndWithTheLast = (bytes : List ℕ) → 0 < length bytes
     → IsLastLineStart bytes (last_line_start bytes)
     × ((start : ℕ) → IsLastLineStart bytes start → start ≡ last_line_start bytes)
     × (lines bytes ≡ lines (take (last_line_start bytes) bytes) ++ first_line (drop (last_line_start bytes) bytes) ∷ [])
+
+-- a record that can be written as a line: it holds no line feed and does not end in a carriage return
+abbrev pub IsPlain : List ℕ → Type 0
+IsPlain line = All (λ byte. byte ≢ 10) line × (slice_index line (length line - 1) ≢ 13)
+
+-- records behind bytes that are empty or end with a line feed, each with its line feed, are the lines behind those of the
+-- bytes; so the lines of the text of records are the records
+abbrev pub AreTheLinesBehind : Type 0
+AreTheLinesBehind = (bytes : List ℕ) (records : List (List ℕ)) → (0 < length bytes → slice_index bytes (length bytes - 1) ≡ 10) → All IsPlain records
+    → lines (bytes ++ flat_map (λ line. line ++ 10 ∷ []) records) ≡ lines bytes ++ records

@@ -1,5 +1,5 @@
 // Formatted records put into a file.
-ghost use Rattle.std.specs.Prelude.{◌≡◌, ◌+◌, ◌≤◌, length, max, IfOk, OnOk, OnErr, if◌then◌else◌, ◌↔◌};
+ghost use Rattle.std.specs.Prelude.{◌≡◌, ◌+◌, ◌≤◌, length, min, max, IfOk, OnOk, OnErr, if◌then◌else◌, ◌↔◌};
 ghost use Rattle.fj_outside.specs.Faults.{Rose};
 ghost use Rattle.fj_span.specs.Change.{with_piece, KeepsUpToChange};
 
@@ -26,7 +26,7 @@ pub fn append_records<F: FileStore>(
     // The length, told or not.
     ensures size { OnOk result (F.size file.new ≡
         (if shorten then at + length bytes.now else max (F.size file.old) (at + length bytes.now))) }
-    ensures no_shorter { at ≤ F.size file.new }
+    ensures no_shorter { (if shorten then min (F.size file.old) (at + length bytes.now) else F.size file.old) ≤ F.size file.new }
     ensures no_longer { F.size file.new ≤ max (F.size file.old) (at + length bytes.now) }
     ensures later { F.count file.old ≤ F.count file.new }
     ensures failed { result ≡ Err Stop.Failed → Rose (F.count file.old) (F.count file.new) }

@@ -3,11 +3,8 @@ ghost use Rattle.std.specs.Prelude.{◌≡◌, ◌+◌, ◌-◌, ◌<◌, ◌≤
 ghost use Rattle.fj_outside.specs.Faults.{Rose};
 ghost use Rattle.fj_seqrec.specs.Lines.{last_line_start};
 
-use fj_outside::{Failed, FileStore};
+use fj_outside::{Failed, FileStore, WINDOW};
 use memchr::memrchr;
-
-/// So many bytes are asked of a file at once.
-const PIECE: usize = 1024;
 
 /// Answers where the formatted record begins that ends at a place, or 0 where none does (ISO/IEC 1539-1:2004, 9.7.1).
 /// The place is at most the file's length; where it lies inside a record, the record's bytes before it count as one.
@@ -25,13 +22,14 @@ pub fn backspace_line<F: FileStore>(file: &mut F, at: u64) -> Result<u64, Failed
 {
     let within = at <= file.len();
     prove!(within);
-    let mut piece = [0u8; PIECE];
+    let mut piece = [0u8; WINDOW];
     let mut end = at.saturating_sub(1);
     'looking: while 0 < end {
-        let width = end.min(PIECE as u64);
-        let from = end - width;
-        file.read_at(from, &mut piece)?;
-        match memrchr(b'\n', &piece[..width as usize]) {
+        let from = (end - 1) / WINDOW as u64 * WINDOW as u64;
+        let width = (end - from) as usize;
+        let part = &mut piece[..width];
+        file.read_at(from, part)?;
+        match memrchr(b'\n', part) {
             Some(place) => return Ok(from + place as u64 + 1),
             None => end = from,
         }

@@ -8,7 +8,10 @@ mod read;
 
 pub use append::append_records;
 pub use backspace::backspace_line;
-pub use laws::{lines_begin_with_the_first, lines_end_with_the_last, lines_put_together};
+pub use laws::{
+    lines_begin_with_the_first, lines_end_with_the_last, lines_put_together,
+    records_are_the_lines_behind,
+};
 pub use read::{RecordRead, read_record};
 
 #[cfg(test)]

@@ -4,15 +4,13 @@ ghost use Rattle.std.specs.List.{position_or_len};
 ghost use Rattle.std.specs.Str.Lines.{strip_carriage_return};
 ghost use Rattle.fj_outside.specs.Faults.{Rose};
 ghost use Rattle.fj_seqrec.specs.Lines.{is_line_feed};
+ghost use Rattle.fj_seqrec.specs.Parts.{IsPartOf, IsPartWithin};
 ghost use Rattle.fj_seqrec.specs.Reading.{record_at, HoldsRecord, IsWithin};
 
-use fj_outside::{FileStore, Stop};
+use fj_outside::{FileStore, Stop, WINDOW};
 use fj_value::Text;
 use memchr::memchr;
 use std::alloc::AllocError;
-
-/// So many bytes are asked of a file at once.
-const PIECE: usize = 1024;
 
 /// What a read of a formatted record found.
 #[derive(Clone, Copy, Debug, PartialEq, Eq)]
@@ -46,17 +44,15 @@ pub fn read_record<F: FileStore>(
     ensures failed { result ≡ Err Stop.Failed → Rose (F.count file.old) (F.count file.new) }
 {
     let len = file.len();
-    let mut piece = [0u8; PIECE];
     let mut from = at;
     into.clear();
     'reading: while from < len {
-        let count = file.read_at(from, &mut piece)?;
-        match take_line(&piece[..count], into)? {
-            Some(width) => {
+        match take_part(file, from, into)? {
+            LinePart::Ended(width) => {
                 drop_return(into);
-                return Ok(fitted(into, limit, from + width as u64 + 1));
+                return Ok(fitted(into, limit, from + width + 1));
             }
-            None => from += count as u64,
+            LinePart::Open(width) => from += width,
         }
         if into.len() > limit as usize + 1 {
             into.clear();
@@ -69,21 +65,66 @@ pub fn read_record<F: FileStore>(
     Ok(fitted(into, limit, len))
 }
 
-/// Adds the front of a piece up to its first line feed, whose place it answers, or the whole piece.
-fn take_line(piece: &[u8], into: &mut Text) -> Result<Option<usize>, AllocError>
-    ensures found { IfOk result (λ found. IfSome found (λ width.
-        (width < length piece.now) × (width ≡ position_or_len is_line_feed piece.now) × (into.new ≡ into.old ++ take width piece.now))) }
-    ensures none { IfOk result (λ found. IfNone found
-        ((length piece.now ≡ position_or_len is_line_feed piece.now) × (into.new ≡ into.old ++ piece.now))) }
+/// How many bytes of a line were added to a text.
+#[derive(Clone, Copy)]
+enum LinePart {
+    /// The line feed stands behind them.
+    Ended(u64),
+    /// No line feed stands in them.
+    Open(u64),
+}
+
+/// Adds the bytes from a place on up to a line feed: those that the file has at hand, or those that it reads at once.
+fn take_part<F: FileStore>(file: &mut F, from: u64, into: &mut Text) -> Result<LinePart, Stop>
+    requires { from < F.size file.old }
+    ensures telling { F.tells file.old ↔ F.tells file.new }
+    ensures same { F.tells file.old → F.bytes file.new ≡ F.bytes file.old }
+    ensures part { F.tells file.old → IfOk result (λ part. IsPartOf (drop from (F.bytes file.old)) into.old part into.new) }
+    ensures within { IfOk result (λ part. IsPartWithin (F.size file.old - from) into.old part into.new) }
+    ensures size { F.size file.new ≡ F.size file.old }
+    ensures later { F.count file.old ≤ F.count file.new }
+    ensures failed { result ≡ Err Stop.Failed → Rose (F.count file.old) (F.count file.new) }
+{
+    file.fill(from)?;
+    let hand = file.at_hand(from);
+    if hand.is_empty() {
+        return take_piece(file, from, into);
+    }
+    Ok(take_line(hand, into)?)
+}
+
+/// The same, of a file that has nothing at hand.
+fn take_piece<F: FileStore>(file: &mut F, from: u64, into: &mut Text) -> Result<LinePart, Stop>
+    requires { from < F.size file.old }
+    ensures telling { F.tells file.old ↔ F.tells file.new }
+    ensures same { F.tells file.old → F.bytes file.new ≡ F.bytes file.old }
+    ensures part { F.tells file.old → IfOk result (λ part. IsPartOf (drop from (F.bytes file.old)) into.old part into.new) }
+    ensures within { IfOk result (λ part. IsPartWithin (F.size file.old - from) into.old part into.new) }
+    ensures size { F.size file.new ≡ F.size file.old }
+    ensures later { F.count file.old ≤ F.count file.new }
+    ensures failed { result ≡ Err Stop.Failed → Rose (F.count file.old) (F.count file.new) }
+{
+    let within = from < file.len();
+    prove!(within);
+    let mut piece = [0u8; WINDOW];
+    let count = file.read_at(from, &mut piece)?;
+    Ok(take_line(&piece[..count], into)?)
+}
+
+/// Adds the front of a piece up to its first line feed, or the whole piece, which is not empty.
+fn take_line(piece: &[u8], into: &mut Text) -> Result<LinePart, AllocError>
+    requires { 0 < length piece.now }
+    ensures part { IfOk result (λ part. IsPartOf piece.now into.old part into.new) }
+    ensures within { IfOk result (λ part. IsPartWithin (length piece.now) into.old part into.new) }
 {
     match memchr(b'\n', piece) {
         Some(width) => {
             into.push_all(&piece[..width])?;
-            Ok(Some(width))
+            Ok(LinePart::Ended(width as u64))
         }
         None => {
             into.push_all(piece)?;
-            Ok(None)
+            Ok(LinePart::Open(piece.len() as u64))
         }
     }
 }

@@ -5,7 +5,8 @@ use Rattle.std.proofs.lemmas.Bool.{cases_lt}
 use Rattle.std.proofs.Math.Seq.{take-append-add, take-add}
 use Rattle.std.specs.Prelude.{Result, OnErr}
 use Rattle.fj_outside.specs.Bytes.{written, IsPartlyWritten}
-use Rattle.fj_span.specs.Change.{with_piece, KeepsUpToChange}
+use Rattle.fj_span.specs.Change.{with_piece, KeepsUpToChange, IsChanged}
+use Rattle.fj_span.specs.ChangeLaw.{WritesInTurnKeepWhatWasToStay}
 
 same_below : (old due new : List ℕ) (m n : ℕ) → take m new ≡ take m due → n ≤ m → take n due ≡ take n old → take n new ≡ take n old
 same_below old due new m n front below same = sym (take-take n m new below) ∙ ap (take n) front ∙ take-take n m due below ∙ same
@@ -62,12 +63,6 @@ kept_by_part old piece new at size len shorten place told is (k, fits, made) =
 pub kept_by_write : (old piece new : List ℕ) (at size len : ℕ) (shorten : Bool) → at ≤ size → len ≡ size → len ≡ length old → new ≡ written old at piece → KeepsUpToChange old (with_piece old at piece shorten) new
 kept_by_write old piece new at size len shorten place told is made =
     kept_by_part old piece new at size len shorten place told is (length piece, omega arith, made ∙ ap (written old at) (sym (take_all (length piece) piece (omega arith))))
-
--- on its way from old to due: due up to a place, and old from there on
-pub record IsChanged (old due : List ℕ) (place : ℕ) (now : List ℕ) : Type 0 where
-  pub front : take place now ≡ take place due
-  pub rest : drop place now ≡ drop place old
-  pub within : place ≤ length now
 
 -- so much of due is the next piece
 pub changed_more : (old due now piece : List ℕ) (place : ℕ) → IsChanged old due place now → piece ≡ take (length piece) (drop place due) → IsChanged old due (place + length piece) (with_piece now place piece false)
@@ -127,3 +122,13 @@ kept_as old due due' new same kept = subst (λ (d : List ℕ). KeepsUpToChange o
 
 pub made_as : (due due' new : List ℕ) → due ≡ due' → new ≡ due → new ≡ due'
 made_as due due' new same made = made ∙ same
+
+pub in_turn : WritesInTurnKeepWhatWasToStay
+in_turn old due = (
+  changed_none old due,
+  λ place now piece is next. (changed_more old due now piece place is next, λ new stopped. kept_at_piece old due now piece new place is next stopped),
+  λ place now piece is last. (
+    made_at_end old due now piece (with_piece now place piece true) place is (sym last) refl,
+    λ new stopped. kept_at_end old due now piece new place is (sym last) stopped,
+  ),
+)

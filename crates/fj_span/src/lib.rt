@@ -7,6 +7,6 @@ mod read;
 mod write;
 
 pub use buffer::put;
-pub use laws::stopped_changes_keep_what_was_to_stay;
+pub use laws::{stopped_changes_keep_what_was_to_stay, writes_in_turn_keep_what_was_to_stay};
 pub use read::read_span;
-pub use write::write_span;
+pub use write::{GATHERED, write_span};

@@ -7,6 +7,4 @@ mod statement;
 
 pub use deck::{Deck, Lined, Statements, Variable, Variables};
 pub use reason::Reason;
-pub use statement::{
-    Asking, Control, Motion, Operand, Operands, Statement, Transfer, UnitRef, Vars,
-};
+pub use statement::{Control, Operand, Operands, Statement, Transfer, Vars};

@@ -1,7 +1,7 @@
 // One statement in terms of places. A variable stands in it by its number, from 0 on.
 
 use fj_format::Format;
-use fj_modes::{Asked, FileName, OpenSpec};
+use fj_modes::{Asked, Motion, OpenSpec, Subject, UnitRef};
 use fj_value::{Delim, Items, Kind, Place, Text, Value};
 
 /// A literal with its kind, an element or scalar, or a whole array.
@@ -20,13 +20,6 @@ pub type Operands = Items<Operand>;
 /// Numbers of variables.
 pub type Vars = Items<u32>;
 
-/// The unit of a transfer: `*`, of WRITE alone, or a number.
-#[derive(Clone, Copy, Debug, PartialEq, Eq)]
-pub enum UnitRef {
-    Star,
-    Number(u32),
-}
-
 /// The format of a transfer (ISO/IEC 1539-1:2004, 9.5.1.1).
 #[derive(Drop)]
 pub enum Control {
@@ -35,22 +28,6 @@ pub enum Control {
     Listed,
     /// NML=, with the members of the group.
     Group { name: Text, vars: Vars },
-}
-
-/// A statement that moves the position of a file, or FLUSH (9.7 and 9.8).
-#[derive(Clone, Copy, Debug, PartialEq, Eq)]
-pub enum Motion {
-    Backspace,
-    Rewind,
-    Endfile,
-    Flush,
-}
-
-/// What INQUIRE asks about.
-#[derive(Debug, Drop)]
-pub enum Asking {
-    Unit(u32),
-    File(FileName),
 }
 
 /// READ or WRITE (9.5).
@@ -92,31 +69,31 @@ pub enum Statement {
         from: Operand,
     },
     OpenUnit {
-        unit: u32,
+        unit: UnitRef,
         spec: OpenSpec,
         iostat: Option<Place>,
     },
     CloseUnit {
-        unit: u32,
+        unit: UnitRef,
         /// STATUS='KEEP'.
         keep: Option<bool>,
         iostat: Option<Place>,
     },
     /// WAIT (9.6.1).
     WaitFor {
-        unit: u32,
+        unit: UnitRef,
         /// A literal or a place.
         id: Option<Operand>,
         iostat: Option<Place>,
     },
     Move {
         how: Motion,
-        unit: u32,
+        unit: UnitRef,
         iostat: Option<Place>,
     },
     /// INQUIRE (9.9).
     Inquire {
-        about: Asking,
+        about: Subject,
         asked: Asked,
         /// A literal or a place.
         id: Option<Operand>,

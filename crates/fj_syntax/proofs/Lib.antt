@@ -1,16 +1,8 @@
-pub mod ArgumentLemmas
-pub mod CallLemmas
-pub mod Cases
 pub mod ClassLemmas
-pub mod CompleteLemmas
 pub mod DigitLemmas
 pub mod FirstTokenLemmas
-pub mod KeywordLemmas
 pub mod LineLemmas
-pub mod ListLemmas
-pub mod ListedLemmas
 pub mod ParseLemmas
-pub mod PartLemmas
 pub mod ScanLemmas
-pub mod SoundLemmas
 pub mod TokenLemmas
+pub mod CutLemmas

@@ -1,65 +1,58 @@
--- The arguments of an input/output statement.
-use Rattle.std.specs.Prelude.{ℕ, Bool, true, ◌&&◌, not, List, [], ◌∷◌, length, drop, Option, Some, None, if◌then◌else◌}
-use Rattle.std.specs.List.{list_any}
+-- The arguments of an input/output statement (ISO/IEC 1539-1:2004, 9.4.5, 9.5.1): by specifiers in any order, each at most once.
+use Rattle.std.specs.Prelude.{ℕ, ◌+◌, ◌-◌, Bool, true, false, ◌&&◌, ◌==◌, not, List, [], ◌∷◌, take, drop, length, Option, Some, None, option_map, if◌then◌else◌}
+use Rattle.std.specs.List.{list_any, list_all}
 use Rattle.fj_syntax.specs.declared.token.Token.{Token}
-use Rattle.fj_syntax.specs.declared.token.Token.TheVariants.{Word}
+use Rattle.fj_syntax.specs.declared.token.Token.TheVariants.{Word, Mark}
 use Rattle.fj_syntax.specs.declared.token.Mark.TheVariants as mark
-use Rattle.fj_syntax.specs.declared.operand.Operand.TheVariants.{Place}
 use Rattle.fj_syntax.specs.declared.operand.Given as givens
 use Rattle.fj_syntax.specs.declared.operand.Given.TheVariants.{Asterisk, Operand as Given}
 use Rattle.fj_syntax.specs.declared.operand.Argument.{Argument}
-use Rattle.fj_syntax.specs.declared.arguments.Entry.{Entry}
-use Rattle.fj_syntax.specs.declared.arguments.Entry.TheVariants.{Keyword, Bare}
 use Rattle.fj_syntax.specs.declared.words.Specifier.{Specifier}
 use Rattle.fj_syntax.specs.declared.words.Specifier.TheVariants.{Unit, Fmt}
-use Rattle.fj_syntax.specs.Lists.{more_at, with_list}
-use Rattle.fj_syntax.specs.Parts.{Part, next_is, mark_at, designator_behind, operand_from, argument_behind, argument_at}
+use Rattle.fj_syntax.specs.Parts.{Tokens, is_mark, operand_of, cut}
 use Rattle.fj_syntax.specs.Reading.{◌>>=◌}
-use Rattle.fj_syntax.specs.Words.{same_specifier}
+use Rattle.fj_syntax.specs.Words.{specifier_of, same_specifier}
 
--- a word is a specifier where an equals sign is behind it
-unfoldable pub entry_word : List ℕ → List Token → Part Entry
-entry_word w ts = if next_is mark.Equals ts then (do
-  a ← argument_behind w (drop 1 ts)
-  Some (Keyword a.0, a.1)) else (do
-    d ← designator_behind w ts
-    Some (Bare (Given (Place d.0)), d.1))
+-- an asterisk or an operand
+unfoldable pub given_of : Tokens → Option givens.Given
+given_of (Mark mark.Asterisk ∷ []) = Some Asterisk
+given_of ts = operand_of ts >>= (λ o. Some (Given o))
 
-abbrev pub bare_from : Token → List Token → Part Entry
-bare_from (Word w) ts = entry_word w ts
-bare_from t ts = do
-  o ← operand_from t ts
-  Some (Bare (Given o.0), o.1)
+-- the argument for a specifier
+abbrev pub argument_for : Option Specifier → Tokens → Option Argument
+argument_for s ts = do
+  specifier ← s
+  value ← given_of ts
+  Some (record { specifier = specifier; value = value })
 
-abbrev pub entry_from : List Token → Part Entry
-entry_from [] = None
-entry_from (t ∷ ts) = bare_from t ts
+-- SPECIFIER = value, or a value alone where it may stand for a specifier
+unfoldable pub argument_of : Option Specifier → Tokens → Option Argument
+argument_of bare (Word w ∷ Mark mark.Equals ∷ value) = argument_for (specifier_of w) value
+argument_of bare ts = argument_for bare ts
 
-unfoldable pub entry_at : List Token → Part Entry
-entry_at ts = if next_is mark.Asterisk ts then Some (Bare Asterisk, drop 1 ts) else entry_from ts
+abbrev pub is_keyed : Tokens → Bool
+is_keyed (Word w ∷ Mark mark.Equals ∷ value) = true
+is_keyed ts = false
 
--- a bare unit is the argument for UNIT=
-abbrev pub as_unit : givens.Given → Argument
-as_unit v = record { specifier = Unit; value = v }
+-- behind a bare unit a bare format may stand
+abbrev pub behind_bare : Option Specifier → Option Specifier
+behind_bare (Some Unit) = Some Fmt
+behind_bare s = None
 
--- a bare format behind it is the argument for FMT=
-unfoldable pub as_format : Entry → Argument
-as_format (Keyword a) = a
-as_format (Bare v) = record { specifier = Fmt; value = v }
+unfoldable pub next_bare : Option Specifier → Tokens → Option Specifier
+next_bare bare ts = if is_keyed ts then None else behind_bare bare
 
-unfoldable pub second_at : givens.Given → List Token → Part (List Argument)
-second_at unit ts = if next_is mark.Comma ts then (do
-  e ← entry_at (drop 1 ts)
-  Some (as_unit unit ∷ as_format e.0 ∷ [], e.1)) else Some (as_unit unit ∷ [], ts)
+-- the arguments of parts, of which the first may be bare and stand for this specifier
+abbrev pub arguments_from : Option Specifier → List Tokens → Option (List Argument)
+arguments_from bare [] = Some []
+arguments_from bare (part ∷ parts) = do
+  a ← argument_of bare part
+  more ← arguments_from (next_bare bare part) parts
+  Some (a ∷ more)
 
-abbrev pub first_of : Entry → List Token → Part (List Argument)
-first_of (Keyword a) ts = Some (a ∷ [], ts)
-first_of (Bare unit) ts = second_at unit ts
-
-unfoldable pub first_at : List Token → Part (List Argument)
-first_at ts = do
-  e ← entry_at ts
-  first_of e.0 e.1
+-- the unit may stand bare as the first argument
+abbrev pub arguments_of : Tokens → Option (List Argument)
+arguments_of ts = arguments_from (Some Unit) (cut ts)
 
 abbrev pub is_given : Specifier → List Argument → Bool
 is_given s args = list_any (λ a. same_specifier a.specifier s) args
@@ -69,16 +62,37 @@ abbrev pub are_once : List Argument → Bool
 are_once [] = true
 are_once (a ∷ args) = not (is_given a.specifier args) && are_once args
 
--- all arguments, in parentheses
-unfoldable pub arguments_at : List Token → Part (List Argument)
-arguments_at ts = do
-  opened ← mark_at mark.LeftParenthesis ts
-  first ← first_at opened.1
-  all ← with_list first.0 (more_at argument_at (length first.1) first.1)
-  close ← mark_at mark.RightParenthesis all.1
-  if are_once all.0 then Some (all.0, close.1) else None
+-- how many parentheses are open behind a token
+abbrev pub depth_behind : ℕ → Token → ℕ
+depth_behind depth t = if is_mark mark.LeftParenthesis t then depth + 1 else (if is_mark mark.RightParenthesis t then depth - 1 else depth)
+
+-- how many tokens stand before the right parenthesis that closes, where so many are open
+abbrev pub closing : ℕ → Tokens → Option ℕ
+closing depth [] = None
+closing depth (t ∷ ts) = if (depth == 0) && is_mark mark.RightParenthesis t then Some 0 else option_map (λ n. 1 + n) (closing (depth_behind depth t) ts)
+
+-- arguments in parentheses, and the tokens behind them
+unfoldable pub call_of : Tokens → Option (List Argument × Tokens)
+call_of (Mark mark.LeftParenthesis ∷ ts) = do
+  n ← closing 0 ts
+  args ← arguments_of (take n ts)
+  if are_once args then Some (args, drop (n + 1) ts) else None
+call_of ts = None
+
+-- arguments in parentheses, and nothing behind them
+unfoldable pub whole_call_of : Tokens → Option (List Argument)
+whole_call_of ts = do
+  call ← call_of ts
+  if length call.1 == 0 then Some call.0 else None
 
 -- what is given for a specifier
 abbrev pub given_for : Specifier → List Argument → Option givens.Given
 given_for s [] = None
 given_for s (a ∷ args) = if same_specifier a.specifier s then Some a.value else given_for s args
+
+abbrev pub is_known : List Specifier → Specifier → Bool
+is_known known s = list_any (λ one. same_specifier one s) known
+
+-- the statement knows each specifier that stands there
+abbrev pub are_known : List Specifier → List Argument → Bool
+are_known known args = list_all (λ a. is_known known a.specifier) args

@@ -1,9 +1,12 @@
--- The input/output statements from their arguments.
-use Rattle.std.specs.Prelude.{Bool, not, List, [], ◌∷◌, ◌++◌, Option, Some, None, if◌then◌else◌}
-use Rattle.std.specs.List.{list_any, list_all}
+-- The input/output statements from their arguments: which specifiers each knows, and what is given for each.
+use Rattle.std.specs.Prelude.{Bool, true, false, not, List, [], ◌∷◌, ◌++◌, Option, Some, None, if◌then◌else◌}
 use Rattle.fj_modes.specs.declared.asked.Question.{Question}
 use Rattle.fj_modes.specs.declared.asked.Question.TheVariants as question
-use Rattle.fj_syntax.specs.declared.calls.TheConstants.{OF_OPEN, OF_CLOSE, OF_WAIT, OF_MOTIONS, OF_READ, OF_WRITE, OF_INQUIRE}
+use Rattle.fj_modes.specs.declared.asked.Subject.{Subject}
+use Rattle.fj_modes.specs.declared.asked.Subject.TheVariants as subject
+use Rattle.fj_modes.specs.declared.unit.Motion.{Motion}
+use Rattle.fj_modes.specs.declared.specifiers.OpenSpec.{OpenSpec}
+use Rattle.fj_modes.specs.ModeWords.{status_words, access_words, position_words, action_words, delim_words, disposition_words, form_words, blank_words, decimal_words, sign_words, answer_words}
 use Rattle.fj_syntax.specs.declared.operand.Operand.{Operand}
 use Rattle.fj_syntax.specs.declared.operand.Given as givens
 use Rattle.fj_syntax.specs.declared.operand.Argument.{Argument}
@@ -13,59 +16,51 @@ use Rattle.fj_syntax.specs.declared.written.Open.{Open}
 use Rattle.fj_syntax.specs.declared.written.Close.{Close}
 use Rattle.fj_syntax.specs.declared.written.Wait.{Wait}
 use Rattle.fj_syntax.specs.declared.written.Move.{Move}
-use Rattle.fj_syntax.specs.declared.written.Motion.{Motion}
 use Rattle.fj_syntax.specs.declared.written.Asking.{Asking}
-use Rattle.fj_syntax.specs.declared.written.Subject.{Subject}
-use Rattle.fj_syntax.specs.declared.written.Subject.TheVariants as subject
 use Rattle.fj_syntax.specs.declared.written.Inquire.{Inquire}
+use Rattle.fj_syntax.specs.declared.written.Changes.{Changes}
 use Rattle.fj_syntax.specs.declared.written.Control.{Control}
 use Rattle.fj_syntax.specs.declared.written.Course.{Course}
 use Rattle.fj_syntax.specs.declared.written.Results.{Results}
 use Rattle.fj_syntax.specs.declared.written.Transfer.{Transfer}
-use Rattle.fj_syntax.specs.Arguments.{given_for}
-use Rattle.fj_syntax.specs.Given.{place_given, place_at, integer_at, file_given, file_at, unit_number, unit_at, transfer_unit_at, format_at, group_at, recl_at}
-use Rattle.fj_syntax.specs.Choices.{keep_at, yes_at, changes_at, attributes_at}
+use Rattle.fj_syntax.specs.Arguments.{given_for, is_known, are_known}
+use Rattle.fj_syntax.specs.Given.{place_given, place_at, integer_at, mode_at, file_given, file_at, unit_given, unit_at, format_at, group_at, recl_at}
 use Rattle.fj_syntax.specs.Reading.{◌>>=◌}
-use Rattle.fj_syntax.specs.Words.{same_specifier}
 
-abbrev pub is_known : List Specifier → Specifier → Bool
-is_known known s = list_any (λ one. same_specifier one s) known
+-- ---- which specifiers each statement knows
 
--- the statement knows each specifier that stands there
-abbrev pub are_known : List Specifier → List Argument → Bool
-are_known known args = list_all (λ a. is_known known a.specifier) args
+-- OPEN (9.4.5)
+abbrev pub of_open : List Specifier
+of_open =
+    specifier.Unit ∷ specifier.File ∷ specifier.Status ∷ specifier.Access ∷ specifier.Form ∷ specifier.Recl ∷ specifier.Position ∷ specifier.Action
+    ∷ specifier.Blank ∷ specifier.Delim ∷ specifier.Pad ∷ specifier.Decimal ∷ specifier.Sign ∷ specifier.Asynchronous ∷ specifier.Iostat ∷ []
 
-unfoldable pub open_of : List Argument → Option Open
-open_of args = if not (are_known OF_OPEN args) then None else (do
-  u ← unit_at args
-  f ← file_at args
-  r ← recl_at args
-  a ← attributes_at args
-  c ← changes_at args
-  i ← place_at specifier.Iostat args
-  Some (record { unit = u; file = f; recl = r; attributes = a; changes = c; iostat = i }))
+-- CLOSE (9.4.6)
+abbrev pub of_close : List Specifier
+of_close = specifier.Unit ∷ specifier.Status ∷ specifier.Iostat ∷ []
 
-unfoldable pub close_of : List Argument → Option Close
-close_of args = if not (are_known OF_CLOSE args) then None else (do
-  u ← unit_at args
-  k ← keep_at args
-  i ← place_at specifier.Iostat args
-  Some (record { unit = u; keep = k; iostat = i }))
+-- WAIT (9.6.1)
+abbrev pub of_wait : List Specifier
+of_wait = specifier.Unit ∷ specifier.Id ∷ specifier.Iostat ∷ []
 
-unfoldable pub wait_of : List Argument → Option Wait
-wait_of args = if not (are_known OF_WAIT args) then None else (do
-  u ← unit_at args
-  id ← integer_at specifier.Id args
-  i ← place_at specifier.Iostat args
-  Some (record { unit = u; id = id; iostat = i }))
+-- BACKSPACE, ENDFILE, REWIND and FLUSH (9.7, 9.8)
+abbrev pub of_motions : List Specifier
+of_motions = specifier.Unit ∷ specifier.Iostat ∷ []
 
-unfoldable pub move_of : Motion → List Argument → Option Move
-move_of how args = if not (are_known OF_MOTIONS args) then None else (do
-  u ← unit_at args
-  i ← place_at specifier.Iostat args
-  Some (record { how = how; unit = u; iostat = i }))
+-- READ and WRITE (9.5.1)
+abbrev pub of_transfer : Bool → List Specifier
+of_transfer true =
+    specifier.Unit ∷ specifier.Fmt ∷ specifier.Nml ∷ specifier.Advance ∷ specifier.Asynchronous ∷ specifier.Blank ∷ specifier.Decimal ∷ specifier.Id
+    ∷ specifier.Iostat ∷ specifier.Pad ∷ specifier.Pos ∷ specifier.Rec ∷ specifier.Size ∷ []
+of_transfer false =
+    specifier.Unit ∷ specifier.Fmt ∷ specifier.Nml ∷ specifier.Advance ∷ specifier.Asynchronous ∷ specifier.Decimal ∷ specifier.Delim ∷ specifier.Id
+    ∷ specifier.Iostat ∷ specifier.Pos ∷ specifier.Rec ∷ specifier.Sign ∷ []
 
--- what a specifier of INQUIRE asks
+-- those of INQUIRE that ask nothing (9.9.1)
+abbrev pub of_inquire : List Specifier
+of_inquire = specifier.Unit ∷ specifier.File ∷ specifier.Id ∷ specifier.Iostat ∷ []
+
+-- what a specifier of INQUIRE asks (9.9.1)
 unfoldable pub question_of : Specifier → Option Question
 question_of specifier.Exist = Some question.Exist
 question_of specifier.Opened = Some question.Opened
@@ -86,21 +81,80 @@ question_of specifier.Sign = Some question.Sign
 question_of specifier.Action = Some question.Action
 question_of specifier.Asynchronous = Some question.Asynchronous
 question_of specifier.Pending = Some question.Pending
-question_of _ = None
+question_of s = None
 
--- a question with the place for its answer; others of INQUIRE ask nothing
-abbrev pub asking : Option Question → Argument → Option (Option Asking)
-asking None a = if is_known OF_INQUIRE a.specifier then Some None else None
-asking (Some q) a = do
-  d ← place_given a.value
-  Some (Some (record { what = q; place = d }))
+-- ---- the statements
 
-unfoldable pub asking_of : Argument → Option (Option Asking)
+unfoldable pub changes_of : List Argument → Option Changes
+changes_of args = do
+  blank_zero ← mode_at blank_words specifier.Blank args
+  comma ← mode_at decimal_words specifier.Decimal args
+  delim ← mode_at delim_words specifier.Delim args
+  pad ← mode_at answer_words specifier.Pad args
+  plus ← mode_at sign_words specifier.Sign args
+  Some (record { blank_zero = blank_zero; comma = comma; delim = delim; pad = pad; plus = plus })
+
+unfoldable pub spec_of : List Argument → Option OpenSpec
+spec_of args = do
+  file ← file_at args
+  status ← mode_at status_words specifier.Status args
+  access ← mode_at access_words specifier.Access args
+  formatted ← mode_at form_words specifier.Form args
+  recl ← recl_at args
+  position ← mode_at position_words specifier.Position args
+  action ← mode_at action_words specifier.Action args
+  asynchronous ← mode_at answer_words specifier.Asynchronous args
+  edit ← changes_of args
+  Some (record {
+    file = file;
+    status = status;
+    access = access;
+    formatted = formatted;
+    recl = recl;
+    position = position;
+    action = action;
+    blank_zero = edit.blank_zero;
+    delim = edit.delim;
+    pad = edit.pad;
+    comma = edit.comma;
+    plus = edit.plus;
+    asynchronous = asynchronous;
+  })
+
+unfoldable pub open_of : List Argument → Option Open
+open_of args = if are_known of_open args then (do
+  unit ← unit_at false args
+  spec ← spec_of args
+  iostat ← place_at specifier.Iostat args
+  Some (record { unit = unit; spec = spec; iostat = iostat })) else None
+
+unfoldable pub close_of : List Argument → Option Close
+close_of args = if are_known of_close args then (do
+  unit ← unit_at false args
+  keep ← mode_at disposition_words specifier.Status args
+  iostat ← place_at specifier.Iostat args
+  Some (record { unit = unit; keep = keep; iostat = iostat })) else None
+
+unfoldable pub wait_of : List Argument → Option Wait
+wait_of args = if are_known of_wait args then (do
+  unit ← unit_at false args
+  id ← integer_at specifier.Id args
+  iostat ← place_at specifier.Iostat args
+  Some (record { unit = unit; id = id; iostat = iostat })) else None
+
+unfoldable pub move_of : Motion → List Argument → Option Move
+move_of how args = if are_known of_motions args then (do
+  unit ← unit_at false args
+  iostat ← place_at specifier.Iostat args
+  Some (record { how = how; unit = unit; iostat = iostat })) else None
+
+-- a question with the place for its answer; other specifiers of INQUIRE ask nothing
+abbrev pub asking : Option Question → Argument → Option (List Asking)
+asking None a = if is_known of_inquire a.specifier then Some [] else None
+asking (Some q) a = place_given a.value >>= (λ d. Some (record { what = q; place = d } ∷ []))
+
+unfoldable pub asking_of : Argument → Option (List Asking)
 asking_of a = asking (question_of a.specifier) a
-
-abbrev pub as_list : Option Asking → List Asking
-as_list None = []
-as_list (Some a) = a ∷ []
 
 -- the questions, in order
 abbrev pub asked_of : List Argument → Option (List Asking)
@@ -108,55 +162,52 @@ asked_of [] = Some []
 asked_of (a ∷ args) = do
   one ← asking_of a
   more ← asked_of args
-  Some (as_list one ++ more)
+  Some (one ++ more)
 
 -- a unit or a file, and not both
 abbrev pub subject_from : Option givens.Given → Option givens.Given → Option Subject
-subject_from None None = None
 subject_from None (Some f) = file_given f >>= (λ name. Some (subject.File name))
-subject_from (Some u) None = unit_number u >>= (λ n. Some (subject.Unit n))
-subject_from (Some u) (Some f) = None
+subject_from (Some u) None = unit_given false u >>= (λ n. Some (subject.Unit n))
+subject_from u f = None
 
 unfoldable pub subject_of : List Argument → Option Subject
 subject_of args = subject_from (given_for specifier.Unit args) (given_for specifier.File args)
 
 unfoldable pub inquire_of : List Argument → Option Inquire
 inquire_of args = do
-  s ← subject_of args
-  a ← asked_of args
+  about ← subject_of args
+  asked ← asked_of args
   id ← integer_at specifier.Id args
-  i ← place_at specifier.Iostat args
-  Some (record { subject = s; asked = a; id = id; iostat = i })
+  iostat ← place_at specifier.Iostat args
+  Some (record { about = about; asked = asked; id = id; iostat = iostat })
 
 unfoldable pub course_of : List Argument → Option Course
 course_of args = do
-  r ← integer_at specifier.Rec args
-  p ← integer_at specifier.Pos args
-  a ← yes_at specifier.Advance args
-  y ← yes_at specifier.Asynchronous args
-  Some (record { rec = r; pos = p; advance = a; asynchronous = y })
+  rec ← integer_at specifier.Rec args
+  pos ← integer_at specifier.Pos args
+  advance ← mode_at answer_words specifier.Advance args
+  asynchronous ← mode_at answer_words specifier.Asynchronous args
+  Some (record { rec = rec; pos = pos; advance = advance; asynchronous = asynchronous })
 
 unfoldable pub results_of : List Argument → Option Results
 results_of args = do
   id ← place_at specifier.Id args
-  s ← place_at specifier.Size args
-  i ← place_at specifier.Iostat args
-  Some (record { id = id; size = s; iostat = i })
+  size ← place_at specifier.Size args
+  iostat ← place_at specifier.Iostat args
+  Some (record { id = id; size = size; iostat = iostat })
 
-abbrev pub of_transfer : Bool → List Specifier
-of_transfer input = if input then OF_READ else OF_WRITE
-
+-- only WRITE takes an asterisk for its unit
 unfoldable pub control_of : Bool → List Argument → Option Control
-control_of input args = do
-  u ← transfer_unit_at input args
-  f ← format_at args
-  g ← group_at args
-  c ← changes_at args
-  Some (record { unit = u; format = f; group = g; changes = c })
+control_of star args = do
+  unit ← unit_at star args
+  format ← format_at args
+  group ← group_at args
+  changes ← changes_of args
+  Some (record { unit = unit; format = format; group = group; changes = changes })
 
 unfoldable pub transfer_of : Bool → List Argument → List Operand → Option Transfer
-transfer_of input args items = if not (are_known (of_transfer input) args) then None else (do
-  c ← control_of input args
-  k ← course_of args
-  r ← results_of args
-  Some (record { input = input; control = c; course = k; results = r; items = items }))
+transfer_of input args items = if are_known (of_transfer input) args then (do
+  control ← control_of (not input) args
+  course ← course_of args
+  results ← results_of args
+  Some (record { input = input; control = control; course = course; results = results; items = items })) else None

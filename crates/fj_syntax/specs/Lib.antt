@@ -1,13 +1,11 @@
 pub mod Arguments
+pub mod CallWords
 pub mod Calls
-pub mod Choices
 pub mod Class
 pub mod FirstToken
 pub mod Given
-pub mod Grammar
-pub mod Lists
-pub mod PartLaws
 pub mod Parsing
+pub mod PartLaws
 pub mod Parts
 pub mod Reading
 pub mod Statement

@@ -4,8 +4,12 @@ use Rattle.fj_syntax.specs.declared.fault.SyntaxFault.{SyntaxFault}
 use Rattle.fj_syntax.specs.declared.fault.SyntaxFault.TheVariants as fault
 use Rattle.fj_syntax.specs.declared.token.Token.{Token}
 use Rattle.fj_syntax.specs.declared.written.Written.{Written}
-use Rattle.fj_syntax.specs.Grammar.{IsStatement}
+use Rattle.fj_syntax.specs.Statement.{written_of}
 use Rattle.fj_syntax.specs.Tokens.{AreTokens}
+
+-- the line has these tokens, with blanks between them and a comment behind them
+abbrev pub IsStatement : List ℕ → Written → Type 0
+IsStatement line w = (tokens : List Token) × AreTokens line tokens × (written_of tokens ≡ Some w)
 
 -- empty but for blanks and a comment
 abbrev pub IsBlankLine : List ℕ → Type 0

@@ -1,153 +1,142 @@
--- What there is to be read of a statement.
-use Rattle.std.specs.Prelude.{ℕ, Bool, true, false, ◌==◌, List, [], ◌∷◌, length, drop, Option, Some, None, if◌then◌else◌, codes}
+-- The statement that tokens are, all of them (ISO/IEC 1539-1:2004, clauses 5, 7 and 9, in part).
+use Rattle.std.specs.Prelude.{ℕ, Bool, true, false, ◌==◌, List, [], ◌∷◌, Option, Some, None, if◌then◌else◌, codes}
 use Rattle.std.specs.Str.{bytes_eq}
 use Rattle.fj_value.specs.declared.kind.Kind.{Kind}
 use Rattle.fj_value.specs.declared.kind.Kind.TheVariants.{Int4, Int8, Logical, Chars}
-use Rattle.fj_syntax.specs.declared.token.Token.{Token}
-use Rattle.fj_syntax.specs.declared.token.Token.TheVariants as token
-use Rattle.fj_syntax.specs.declared.token.Mark.TheVariants as mark
+use Rattle.fj_modes.specs.declared.unit.Motion.{Motion}
+use Rattle.fj_modes.specs.declared.unit.Motion.TheVariants as motion
+use Rattle.fj_syntax.specs.declared.token.Token.TheVariants.{Word, Number, Mark}
+use Rattle.fj_syntax.specs.declared.token.Mark.TheVariants.{LeftParenthesis, RightParenthesis, Comma, Equals, Slash, DoubleColon}
+use Rattle.fj_syntax.specs.declared.token.Sign.TheVariants.{Unsigned}
 use Rattle.fj_syntax.specs.declared.operand.Operand.{Operand}
 use Rattle.fj_syntax.specs.declared.words.Keyword.{Keyword}
 use Rattle.fj_syntax.specs.declared.words.Keyword.TheVariants as keyword
-use Rattle.fj_syntax.specs.declared.written.Motion.{Motion}
-use Rattle.fj_syntax.specs.declared.written.Motion.TheVariants as motion
 use Rattle.fj_syntax.specs.declared.written.Written.{Written}
 use Rattle.fj_syntax.specs.declared.written.Written.TheVariants as written
-use Rattle.fj_syntax.specs.Arguments.{arguments_at}
+use Rattle.fj_syntax.specs.Arguments.{call_of, whole_call_of}
 use Rattle.fj_syntax.specs.Calls.{open_of, close_of, wait_of, move_of, inquire_of, transfer_of}
-use Rattle.fj_syntax.specs.Lists.{list_at}
-use Rattle.fj_syntax.specs.Parts.{Part, next_is, skipped, mark_at, word_at, number_at, name_at, designator_behind, designator_at, operand_at}
+use Rattle.fj_syntax.specs.Given.{unit_number}
+use Rattle.fj_syntax.specs.Parts.{Tokens, is_from_to, is_name, name_of, designator_of, operand_of, parted, list_of}
 use Rattle.fj_syntax.specs.Reading.{◌>>=◌}
 use Rattle.fj_syntax.specs.Words.{keyword_of}
 
--- a word and an equals sign, or no word
-unfoldable pub skip_equals_at : List ℕ → List Token → Part (Unit {0})
-skip_equals_at text (token.Word w ∷ ts) = if bytes_eq w text then mark_at mark.Equals ts else None
-skip_equals_at text ts = Some (tt, ts)
+-- ---- declarations (5.1, 5.4)
 
-abbrev pub integer_kind : ℕ → Option Kind
-integer_kind n = if n == 4 then Some Int4 else (if n == 8 then Some Int8 else None)
+-- a number, or KEYWORD= and a number
+unfoldable pub value_of : List ℕ → Tokens → Option ℕ
+value_of word (Number Unsigned n ∷ []) = Some n
+value_of word (Word w ∷ Mark Equals ∷ Number Unsigned n ∷ []) = if bytes_eq w word then Some n else None
+value_of word ts = None
 
-unfoldable pub integer_kind_at : List Token → Part Kind
-integer_kind_at ts = if next_is mark.LeftParenthesis ts then (do
-  k ← skip_equals_at (codes "KIND") (drop 1 ts)
-  n ← number_at 4 8 k.1
-  closed ← mark_at mark.RightParenthesis n.1
-  kind ← integer_kind n.0
-  Some (kind, closed.1)) else Some (Int4, ts)
+-- the same in parentheses, if one opens; and what is behind it
+unfoldable pub number_in : List ℕ → Tokens → Option (Option ℕ × Tokens)
+number_in word (Mark LeftParenthesis ∷ ts) = do
+  sides ← parted RightParenthesis ts
+  n ← value_of word sides.0
+  Some (Some n, sides.1)
+number_in word ts = Some (None, ts)
 
-unfoldable pub length_at : List Token → Part Kind
-length_at ts = if next_is mark.LeftParenthesis ts then (do
-  l ← skip_equals_at (codes "LEN") (drop 1 ts)
-  n ← number_at 1 65536 l.1
-  closed ← mark_at mark.RightParenthesis n.1
-  Some (Chars n.0, closed.1)) else Some (Chars 1, ts)
+-- INTEGER is INTEGER(4)
+abbrev pub integer_kind : Option ℕ → Option Kind
+integer_kind None = Some Int4
+integer_kind (Some n) = if n == 4 then Some Int4 else (if n == 8 then Some Int8 else None)
 
-unfoldable pub colons_at : List Token → Part (Unit {0})
-colons_at ts = if next_is mark.Comma ts then (do
-  w ← word_at (drop 1 ts)
-  if bytes_eq w.0 (codes "ASYNCHRONOUS") then mark_at mark.DoubleColon w.1 else None) else Some (tt, (skipped mark.DoubleColon ts).1)
+-- CHARACTER has the length 1
+abbrev pub character_kind : Option ℕ → Option Kind
+character_kind None = Some (Chars 1)
+character_kind (Some n) = if is_from_to 1 65536 n then Some (Chars n) else None
 
-unfoldable pub declaration_at : Kind → List Token → Part Written
-declaration_at kind ts = do
-  c ← colons_at ts
-  e ← list_at designator_at c.1
-  Some (written.Declaration (record { kind = kind; entities = e.0 }), e.1)
+-- behind `::` or `, ASYNCHRONOUS ::`
+unfoldable pub behind_colons : Tokens → Tokens
+behind_colons (Mark DoubleColon ∷ ts) = ts
+behind_colons (Mark Comma ∷ Word w ∷ Mark DoubleColon ∷ ts) = if bytes_eq w (codes "ASYNCHRONOUS") then ts else Mark Comma ∷ Word w ∷ Mark DoubleColon ∷ ts
+behind_colons ts = ts
 
-unfoldable pub namelist_at : List Token → Part Written
-namelist_at ts = do
-  opened ← mark_at mark.Slash ts
-  g ← name_at opened.1
-  closed ← mark_at mark.Slash g.1
-  m ← list_at name_at closed.1
-  Some (written.Group (record { name = g.0; members = m.0 }), m.1)
+unfoldable pub declaration_of : Option Kind → Tokens → Option Written
+declaration_of kind ts = do
+  k ← kind
+  entities ← list_of designator_of (behind_colons ts)
+  Some (written.Declaration (record { kind = k; entities = entities }))
 
-unfoldable pub assignment_behind : List ℕ → List Token → Part Written
-assignment_behind w ts = do
-  to ← designator_behind w ts
-  equals ← mark_at mark.Equals to.1
-  from ← operand_at equals.1
-  Some (written.Assignment (record { to = to.0; from = from.0 }), from.1)
+-- / group / names
+unfoldable pub group_of : Tokens → Option Written
+group_of (Mark Slash ∷ Word name ∷ Mark Slash ∷ ts) = if is_name name then (do
+  members ← list_of name_of ts
+  Some (written.Group (record { name = name; members = members }))) else None
+group_of ts = None
 
-unfoldable pub items_at : List Token → Part (List Operand)
-items_at ts = if length ts == 0 then Some ([], ts) else list_at operand_at ts
+-- ---- statements
 
-unfoldable pub transfer_at : Bool → List Token → Part Written
-transfer_at input ts = do
-  args ← arguments_at ts
-  items ← items_at args.1
-  t ← transfer_of input args.0 items.0
-  Some (written.Transfer t, items.1)
+-- designator = operand
+unfoldable pub assignment_of : Tokens → Option Written
+assignment_of ts = do
+  sides ← parted Equals ts
+  to ← designator_of sides.0
+  from ← operand_of sides.1
+  Some (written.Assignment (record { to = to; from = from }))
 
-unfoldable pub motion_at : Motion → List Token → Part Written
-motion_at how ts = if next_is mark.LeftParenthesis ts then (do
-  args ← arguments_at ts
-  m ← move_of how args.0
-  Some (written.Move m, args.1)) else (do
-    u ← number_at 0 2147483647 ts
-    Some (written.Move (record { how = how; unit = u.0; iostat = None }), u.1))
+-- no items, or some
+unfoldable pub items_of : Tokens → Option (List Operand)
+items_of [] = Some []
+items_of (t ∷ ts) = list_of operand_of (t ∷ ts)
 
-unfoldable pub end_at : List Token → Part Written
-end_at ts = if length ts == 0 then Some (written.End, ts) else (do
-  w ← word_at ts
-  if bytes_eq w.0 (codes "FILE") then motion_at motion.Endfile w.1 else None)
+-- (arguments) items
+unfoldable pub transfer_from : Bool → Tokens → Option Written
+transfer_from input ts = do
+  call ← call_of ts
+  items ← items_of call.1
+  t ← transfer_of input call.0 items
+  Some (written.Transfer t)
 
-unfoldable pub open_at : List Token → Part Written
-open_at ts = do
-  args ← arguments_at ts
-  o ← open_of args.0
-  Some (written.Open o, args.1)
+-- a bare unit, or arguments
+unfoldable pub motion_from : Motion → Tokens → Option Written
+motion_from how (Number Unsigned n ∷ []) = unit_number n >>= (λ u. Some (written.Move (record { how = how; unit = u; iostat = None })))
+motion_from how ts = do
+  args ← whole_call_of ts
+  m ← move_of how args
+  Some (written.Move m)
 
-unfoldable pub close_at : List Token → Part Written
-close_at ts = do
-  args ← arguments_at ts
-  c ← close_of args.0
-  Some (written.Close c, args.1)
+-- END alone, or END FILE
+unfoldable pub end_from : Tokens → Option Written
+end_from [] = Some written.End
+end_from (Word w ∷ ts) = if bytes_eq w (codes "FILE") then motion_from motion.Endfile ts else None
+end_from ts = None
 
-unfoldable pub wait_at : List Token → Part Written
-wait_at ts = do
-  args ← arguments_at ts
-  w ← wait_of args.0
-  Some (written.Wait w, args.1)
+unfoldable pub open_from : Tokens → Option Written
+open_from ts = whole_call_of ts >>= open_of >>= (λ o. Some (written.Open o))
 
-unfoldable pub inquire_at : List Token → Part Written
-inquire_at ts = do
-  args ← arguments_at ts
-  i ← inquire_of args.0
-  Some (written.Inquire i, args.1)
+unfoldable pub close_from : Tokens → Option Written
+close_from ts = whole_call_of ts >>= close_of >>= (λ c. Some (written.Close c))
 
-unfoldable pub keyword_at : Keyword → List Token → Part Written
-keyword_at keyword.Integer ts = do
-  k ← integer_kind_at ts
-  declaration_at k.0 k.1
-keyword_at keyword.Logical ts = declaration_at Logical ts
-keyword_at keyword.Character ts = do
-  k ← length_at ts
-  declaration_at k.0 k.1
-keyword_at keyword.Namelist ts = namelist_at ts
-keyword_at keyword.Open ts = open_at ts
-keyword_at keyword.Close ts = close_at ts
-keyword_at keyword.Read ts = transfer_at true ts
-keyword_at keyword.Write ts = transfer_at false ts
-keyword_at keyword.Wait ts = wait_at ts
-keyword_at keyword.Backspace ts = motion_at motion.Backspace ts
-keyword_at keyword.Rewind ts = motion_at motion.Rewind ts
-keyword_at keyword.Endfile ts = motion_at motion.Endfile ts
-keyword_at keyword.Flush ts = motion_at motion.Flush ts
-keyword_at keyword.Inquire ts = inquire_at ts
-keyword_at keyword.End ts = end_at ts
+unfoldable pub wait_from : Tokens → Option Written
+wait_from ts = whole_call_of ts >>= wait_of >>= (λ w. Some (written.Wait w))
 
-abbrev pub begun_by : Option Keyword → List ℕ → List Token → Part Written
-begun_by (Some k) w ts = keyword_at k ts
-begun_by None w ts = assignment_behind w ts
+unfoldable pub inquire_from : Tokens → Option Written
+inquire_from ts = whole_call_of ts >>= inquire_of >>= (λ i. Some (written.Inquire i))
 
-unfoldable pub statement_at : List Token → Part Written
-statement_at ts = do
-  w ← word_at ts
-  begun_by (keyword_of w.0) w.0 w.1
+-- what a keyword begins
+unfoldable pub begun_by : Keyword → Tokens → Option Written
+begun_by keyword.Integer ts = number_in (codes "KIND") ts >>= (λ n. declaration_of (integer_kind n.0) n.1)
+begun_by keyword.Logical ts = declaration_of (Some Logical) ts
+begun_by keyword.Character ts = number_in (codes "LEN") ts >>= (λ n. declaration_of (character_kind n.0) n.1)
+begun_by keyword.Namelist ts = group_of ts
+begun_by keyword.Open ts = open_from ts
+begun_by keyword.Close ts = close_from ts
+begun_by keyword.Read ts = transfer_from true ts
+begun_by keyword.Write ts = transfer_from false ts
+begun_by keyword.Wait ts = wait_from ts
+begun_by keyword.Backspace ts = motion_from motion.Backspace ts
+begun_by keyword.Rewind ts = motion_from motion.Rewind ts
+begun_by keyword.Endfile ts = motion_from motion.Endfile ts
+begun_by keyword.Flush ts = motion_from motion.Flush ts
+begun_by keyword.Inquire ts = inquire_from ts
+begun_by keyword.End ts = end_from ts
 
--- the statement that the tokens are, all of them
-unfoldable pub written_of : List Token → Option Written
-written_of ts = do
-  s ← statement_at ts
-  if length s.1 == 0 then Some s.0 else None
+-- what does not begin with a keyword is an assignment
+abbrev pub begun : Option Keyword → Tokens → Tokens → Option Written
+begun (Some k) whole ts = begun_by k ts
+begun None whole ts = assignment_of whole
+
+unfoldable pub written_of : Tokens → Option Written
+written_of (Word w ∷ ts) = begun (keyword_of w) (Word w ∷ ts) ts
+written_of ts = None

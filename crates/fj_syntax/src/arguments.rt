@@ -1,96 +1,87 @@
 // The arguments of an input/output statement: which stand there, each at most once.
-ghost use Rattle.std.specs.Prelude.{◌≡◌, List, true};
+ghost use Rattle.std.specs.Prelude.{◌≡◌, ◌<◌, ◌==◌, List, true, option_map, length, IfSome};
+ghost use Rattle.std.specs.List.{list_any};
 ghost use Rattle.std.specs.Option.{option_copied};
-ghost use Rattle.fj_syntax.specs.Arguments.{is_given, are_once, given_for, entry_word, entry_at, as_format, second_at, first_at, arguments_at};
-ghost use Rattle.fj_syntax.specs.Reading.{Reads, Gives};
+ghost use Rattle.fj_syntax.specs.declared.words.Specifier.TheVariants as specifier;
+ghost use Rattle.fj_syntax.specs.Arguments.{given_of, argument_for, argument_of, is_keyed, behind_bare, next_bare, arguments_of, is_given, are_once, depth_behind, closing, call_of, whole_call_of, given_for, is_known, are_known};
+ghost use Rattle.fj_syntax.specs.Reading.{Gives};
 
 use crate::fault::SyntaxFault;
-use crate::list::more;
 use crate::operand::{Argument, Arguments, Given, Operand};
-use crate::reader::{argument_behind, designator_behind, expect, operand_from, skip};
+use crate::parts::{Part, first_part, is_mark};
 use crate::token::{Mark, Token};
-use crate::tokens::Tokens;
-use crate::words::Specifier;
-use fj_value::{Items, Text};
+use crate::words::{Specifier, specifier_of};
+use fj_value::Items;
 use std::alloc::Global;
 
-/// An argument with its specifier, or one that stands bare.
-#[derive(Debug, Drop)]
-enum Entry {
-    Keyword(Argument),
-    Bare(Given),
-}
-
-/// The entry that begins with a word.
-#[tactic(auto, unfolding(crate::specs::Arguments::entry_word))]
-fn entry_word(word: Text, tokens: &mut Tokens) -> Result<Entry, SyntaxFault>
-    ensures { Reads (entry_word word tokens.old) result tokens.new }
+#[tactic(auto, unfolding(crate::specs::Arguments::given_of))]
+fn given(tokens: &[Token]) -> Result<Given, SyntaxFault>
+    ensures { Gives (λ x. x) result (given_of tokens.now) }
 {
-    if skip(tokens, Mark::Equals) {
-        return Ok(Entry::Keyword(argument_behind(word, tokens)?));
+    match tokens {
+        [Token::Mark(Mark::Asterisk)] => Ok(Given::Asterisk),
+        _ => Ok(Given::Operand(Operand::read(tokens)?)),
     }
-    let place = Operand::Place(designator_behind(word, tokens)?);
-    Ok(Entry::Bare(Given::Operand(place)))
 }
 
-#[tactic(auto, unfolding(crate::specs::Arguments::entry_at))]
-fn read_entry(tokens: &mut Tokens) -> Result<Entry, SyntaxFault>
-    ensures { Reads (entry_at tokens.old) result tokens.new }
+fn argument_for(specifier: Option<Specifier>, tokens: &[Token]) -> Result<Argument, SyntaxFault>
+    ensures { Gives (λ x. x) result (argument_for specifier tokens.now) }
 {
-    if skip(tokens, Mark::Asterisk) {
-        return Ok(Entry::Bare(Given::Asterisk));
-    }
-    match tokens.next() {
-        Some(Token::Word(word)) => entry_word(word, tokens),
-        Some(token) => Ok(Entry::Bare(Given::Operand(operand_from(token, tokens)?))),
-        None => Err(SyntaxFault::NotAStatement),
-    }
+    let Some(specifier) = specifier else {
+        return Err(SyntaxFault::NotAStatement);
+    };
+    let value = given(tokens)?;
+    Ok(Argument { specifier, value })
 }
 
-/// A second bare argument is the format.
-#[tactic(auto, unfolding(crate::specs::Arguments::as_format))]
-fn as_format(entry: Entry) -> Argument
-    ensures { result ≡ as_format entry }
+/// A specifier and its value, or a value alone where it may stand for a specifier.
+#[tactic(auto, unfolding(crate::specs::Arguments::argument_of))]
+fn argument(bare: Option<Specifier>, tokens: &[Token]) -> Result<Argument, SyntaxFault>
+    ensures { Gives (λ x. x) result (argument_of bare tokens.now) }
 {
-    match entry {
-        Entry::Keyword(argument) => argument,
-        Entry::Bare(value) => Argument {
-            specifier: Specifier::Fmt,
-            value,
-        },
+    match tokens {
+        [Token::Word(word), Token::Mark(Mark::Equals), value @ ..] => {
+            argument_for(specifier_of(word.bytes()), value)
+        }
+        _ => argument_for(bare, tokens),
     }
 }
 
-/// A bare unit, and the argument behind it, if there is one.
-#[tactic(auto, unfolding(crate::specs::Arguments::second_at))]
-fn second(alloc: Global, unit: Given, tokens: &mut Tokens) -> Result<Arguments, SyntaxFault>
-    ensures { Reads (second_at unit tokens.old) result tokens.new }
+fn is_keyed(tokens: &[Token]) -> bool
+    ensures { result ≡ is_keyed tokens.now }
+{
+    matches!(tokens, [Token::Word(_), Token::Mark(Mark::Equals), ..])
+}
+
+/// What a bare argument stands for behind this one.
+#[tactic(auto, unfolding(crate::specs::Arguments::next_bare))]
+fn next_bare(bare: Option<Specifier>, tokens: &[Token]) -> Option<Specifier>
+    ensures { result ≡ next_bare bare tokens.now }
+{
+    if is_keyed(tokens) {
+        return None;
+    }
+    match bare {
+        Some(Specifier::Unit) => Some(Specifier::Fmt),
+        _ => None,
+    }
+}
+
+/// The arguments between commas. A bare one may stand first, as the unit, and behind it another, as the format.
+fn arguments(alloc: Global, tokens: &[Token]) -> Result<Arguments, SyntaxFault>
+    ensures { Gives (λ x. x) result (arguments_of tokens.now) }
 {
     let mut arguments = Items::new(alloc);
-    arguments.push(Argument {
-        specifier: Specifier::Unit,
-        value: unit,
-    })?;
-    if !skip(tokens, Mark::Comma) {
-        return Ok(arguments);
-    }
-    let entry = read_entry(tokens)?;
-    arguments.push(as_format(entry))?;
-    Ok(arguments)
-}
-
-/// The first argument, or a bare unit and the argument behind it.
-#[tactic(auto, unfolding(crate::specs::Arguments::first_at))]
-fn first(alloc: Global, tokens: &mut Tokens) -> Result<Arguments, SyntaxFault>
-    ensures { Reads (first_at tokens.old) result tokens.new }
-{
-    match read_entry(tokens)? {
-        Entry::Keyword(argument) => {
-            let mut arguments = Items::new(alloc);
-            arguments.push(argument)?;
-            Ok(arguments)
+    let mut bare = Some(Specifier::Unit);
+    let mut rest = tokens;
+    loop {
+        let (part, behind) = first_part(rest);
+        arguments.push(argument(bare, part)?)?;
+        bare = next_bare(bare, part);
+        match behind {
+            Some(behind) => rest = behind,
+            None => return Ok(arguments),
         }
-        Entry::Bare(unit) => second(alloc, unit, tokens),
     }
 }
 
@@ -116,17 +107,61 @@ fn are_once(arguments: &[Argument]) -> bool
     true
 }
 
-/// The arguments in parentheses. A bare one may stand first, as the unit, and behind it another, as the format.
-#[tactic(auto, unfolding(crate::specs::Arguments::arguments_at))]
-pub fn arguments(alloc: Global, tokens: &mut Tokens) -> Result<Arguments, SyntaxFault>
-    ensures { Reads (arguments_at tokens.old) result tokens.new }
+/// How many parentheses are open behind a token.
+fn depth_behind(depth: usize, token: &Token) -> usize
+    requires { depth < usize.MAX }
+    ensures { result ≡ depth_behind depth token.now }
 {
-    expect(tokens, Mark::LeftParenthesis)?;
-    let first = first(alloc, tokens)?;
-    let all = more(first, tokens)?;
-    expect(tokens, Mark::RightParenthesis)?;
-    if are_once(all.as_slice()) {
-        Ok(all)
+    if is_mark(token, Mark::LeftParenthesis) {
+        depth + 1
+    } else if is_mark(token, Mark::RightParenthesis) {
+        depth.saturating_sub(1)
+    } else {
+        depth
+    }
+}
+
+/// How many tokens stand before the right parenthesis that closes what was opened before them.
+fn closing(tokens: &[Token]) -> Option<usize>
+    ensures at { result ≡ closing 0 tokens.now }
+    ensures within { IfSome result (λ at. at < length tokens.now) }
+{
+    let mut depth = 0;
+    for (at, token) in tokens.iter().enumerate() {
+        if depth == 0 && is_mark(token, Mark::RightParenthesis) {
+            return Some(at);
+        }
+        depth = depth_behind(depth, token);
+    }
+    None
+}
+
+/// The arguments in parentheses, and the tokens behind them.
+#[tactic(auto, unfolding(crate::specs::Arguments::call_of))]
+pub fn call(alloc: Global, tokens: &[Token]) -> Result<(Arguments, &[Token]), SyntaxFault>
+    ensures { Gives (λ x. (x.0, x.1.now)) result (call_of tokens.now) }
+{
+    let [Token::Mark(Mark::LeftParenthesis), inside @ ..] = tokens else {
+        return Err(SyntaxFault::NotAStatement);
+    };
+    let Some(end) = closing(inside) else {
+        return Err(SyntaxFault::NotAStatement);
+    };
+    let arguments = arguments(alloc, &inside[..end])?;
+    if !are_once(arguments.as_slice()) {
+        return Err(SyntaxFault::NotAStatement);
+    }
+    Ok((arguments, &inside[end + 1..]))
+}
+
+/// The arguments in parentheses, with nothing behind them.
+#[tactic(auto, unfolding(crate::specs::Arguments::whole_call_of))]
+pub fn whole_call(alloc: Global, tokens: &[Token]) -> Result<Arguments, SyntaxFault>
+    ensures { Gives (λ x. x) result (whole_call_of tokens.now) }
+{
+    let (arguments, behind) = call(alloc, tokens)?;
+    if behind.is_empty() {
+        Ok(arguments)
     } else {
         Err(SyntaxFault::NotAStatement)
     }
@@ -142,4 +177,19 @@ pub fn given_for(arguments: &[Argument], specifier: Specifier) -> Option<&Given>
         }
     }
     None
+}
+
+pub fn is_known(known: &[Specifier], specifier: Specifier) -> bool
+    ensures { result ≡ is_known known.now specifier }
+{
+    known.iter().any(|one| *one == specifier)
+}
+
+/// Whether the statement knows each specifier that stands there.
+pub fn are_known(known: &[Specifier], arguments: &[Argument]) -> bool
+    ensures { result ≡ are_known known.now arguments.now }
+{
+    arguments
+        .iter()
+        .all(|argument| is_known(known, argument.specifier))
 }

@@ -1,25 +1,26 @@
 // The input/output statements from their arguments.
-ghost use Rattle.std.specs.Prelude.{◌≡◌, ◌++◌, Bool, true, List};
-ghost use Rattle.std.specs.List.{list_any};
-ghost use Rattle.fj_syntax.specs.Calls.{is_known, are_known, open_of, close_of, wait_of, move_of, question_of, asking_of, asked_of, subject_of, inquire_of, results_of, course_of, of_transfer, control_of, transfer_of};
+ghost use Rattle.std.specs.Prelude.{◌≡◌, ◌++◌, [], ◌∷◌, Bool, true, false, List};
+ghost use Rattle.fj_syntax.specs.Calls.{of_transfer, changes_of, spec_of, open_of, close_of, wait_of, move_of, question_of, asking_of, asked_of, subject_of, inquire_of, results_of, course_of, control_of, transfer_of};
+ghost use Rattle.fj_syntax.specs.Arguments.{are_known};
+ghost use Rattle.fj_syntax.specs.CallWords.{as_list};
 ghost use Rattle.fj_syntax.specs.Reading.{Gives};
 
-use crate::arguments::given_for;
-use crate::choices::{attributes, changes, keep, yes};
+use crate::arguments::{are_known, given_for, is_known};
 use crate::fault::SyntaxFault;
-use crate::given::{
-    file, file_given, format, group, integer, place, recl, transfer_unit, unit, unit_number,
-};
+use crate::given::{file, file_given, format, group, integer, mode, place, recl, unit, unit_given};
 use crate::operand::{Argument, Given, Operand};
 use crate::words::Specifier;
 use crate::written::{
-    Asking, Close, Control, Course, Inquire, Motion, Move, Open, Results, Subject, Transfer, Wait,
+    Asking, Changes, Close, Control, Course, Inquire, Move, Open, Results, Transfer, Wait,
 };
-use fj_modes::Question;
-use fj_value::Items;
+use fj_modes::{
+    Access, Action, Answer, Blank, Decimal, Disposition, FileStatus, Form, Motion, OpenSpec,
+    Question, Sign, Start, Subject,
+};
+use fj_value::{Delim, Items};
 use std::alloc::Global;
 
-pub const OF_OPEN: [Specifier; 15] = [
+const OF_OPEN: [Specifier; 15] = [
     Specifier::Unit,
     Specifier::File,
     Specifier::Status,
@@ -37,13 +38,13 @@ pub const OF_OPEN: [Specifier; 15] = [
     Specifier::Iostat,
 ];
 
-pub const OF_CLOSE: [Specifier; 3] = [Specifier::Unit, Specifier::Status, Specifier::Iostat];
+const OF_CLOSE: [Specifier; 3] = [Specifier::Unit, Specifier::Status, Specifier::Iostat];
 
-pub const OF_WAIT: [Specifier; 3] = [Specifier::Unit, Specifier::Id, Specifier::Iostat];
+const OF_WAIT: [Specifier; 3] = [Specifier::Unit, Specifier::Id, Specifier::Iostat];
 
-pub const OF_MOTIONS: [Specifier; 2] = [Specifier::Unit, Specifier::Iostat];
+const OF_MOTIONS: [Specifier; 2] = [Specifier::Unit, Specifier::Iostat];
 
-pub const OF_READ: [Specifier; 13] = [
+const OF_READ: [Specifier; 13] = [
     Specifier::Unit,
     Specifier::Fmt,
     Specifier::Nml,
@@ -59,7 +60,7 @@ pub const OF_READ: [Specifier; 13] = [
     Specifier::Size,
 ];
 
-pub const OF_WRITE: [Specifier; 12] = [
+const OF_WRITE: [Specifier; 12] = [
     Specifier::Unit,
     Specifier::Fmt,
     Specifier::Nml,
@@ -75,26 +76,60 @@ pub const OF_WRITE: [Specifier; 12] = [
 ];
 
 /// Those of INQUIRE that ask nothing.
-pub const OF_INQUIRE: [Specifier; 4] = [
+const OF_INQUIRE: [Specifier; 4] = [
     Specifier::Unit,
     Specifier::File,
     Specifier::Id,
     Specifier::Iostat,
 ];
 
-fn is_known(known: &[Specifier], specifier: Specifier) -> bool
-    ensures { result ≡ is_known known.now specifier }
+/// The modes that a transfer may change.
+#[tactic(auto, unfolding(crate::specs::Calls::changes_of))]
+fn changes(arguments: &[Argument]) -> Result<Changes, SyntaxFault>
+    ensures { Gives (λ x. x) result (changes_of arguments.now) }
 {
-    known.iter().any(|one| *one == specifier)
+    let blank_zero = mode::<Blank>(arguments, Specifier::Blank)?;
+    let comma = mode::<Decimal>(arguments, Specifier::Decimal)?;
+    let delim = mode::<Delim>(arguments, Specifier::Delim)?;
+    let pad = mode::<Answer>(arguments, Specifier::Pad)?;
+    let plus = mode::<Sign>(arguments, Specifier::Sign)?;
+    Ok(Changes {
+        blank_zero,
+        comma,
+        delim,
+        pad,
+        plus,
+    })
 }
 
-/// Whether the statement knows each specifier that stands there.
-fn are_known(known: &[Specifier], arguments: &[Argument]) -> bool
-    ensures { result ≡ are_known known.now arguments.now }
+#[tactic(auto, unfolding(crate::specs::Calls::spec_of))]
+fn spec(alloc: Global, arguments: &[Argument]) -> Result<OpenSpec, SyntaxFault>
+    ensures { Gives (λ x. x) result (spec_of arguments.now) }
 {
-    arguments
-        .iter()
-        .all(|argument| is_known(known, argument.specifier))
+    let file = file(alloc, arguments)?;
+    let status = mode::<FileStatus>(arguments, Specifier::Status)?;
+    let access = mode::<Access>(arguments, Specifier::Access)?;
+    let formatted = mode::<Form>(arguments, Specifier::Form)?;
+    let recl = recl(arguments)?;
+    let position = mode::<Start>(arguments, Specifier::Position)?;
+    let action = mode::<Action>(arguments, Specifier::Action)?;
+    let asynchronous = mode::<Answer>(arguments, Specifier::Asynchronous)?;
+    let edit = changes(arguments)?;
+    Ok(OpenSpec {
+        file,
+        status,
+        access,
+        formatted,
+        recl,
+        position,
+        action,
+        blank_zero: edit.blank_zero,
+        delim: edit.delim,
+        pad: edit.pad,
+        comma: edit.comma,
+        plus: edit.plus,
+        asynchronous,
+    })
 }
 
 #[tactic(auto, unfolding(crate::specs::Calls::open_of))]
@@ -104,20 +139,10 @@ pub fn make_open(alloc: Global, arguments: &[Argument]) -> Result<Open, SyntaxFa
     if !are_known(&OF_OPEN, arguments) {
         return Err(SyntaxFault::NotAStatement);
     }
-    let unit = unit(arguments)?;
-    let file = file(alloc, arguments)?;
-    let recl = recl(arguments)?;
-    let attributes = attributes(arguments)?;
-    let changes = changes(arguments)?;
+    let unit = unit(false, arguments)?;
+    let spec = spec(alloc, arguments)?;
     let iostat = place(arguments, Specifier::Iostat)?;
-    Ok(Open {
-        unit,
-        file,
-        recl,
-        attributes,
-        changes,
-        iostat,
-    })
+    Ok(Open { unit, spec, iostat })
 }
 
 #[tactic(auto, unfolding(crate::specs::Calls::close_of))]
@@ -127,8 +152,8 @@ pub fn make_close(arguments: &[Argument]) -> Result<Close, SyntaxFault>
     if !are_known(&OF_CLOSE, arguments) {
         return Err(SyntaxFault::NotAStatement);
     }
-    let unit = unit(arguments)?;
-    let keep = keep(arguments)?;
+    let unit = unit(false, arguments)?;
+    let keep = mode::<Disposition>(arguments, Specifier::Status)?;
     let iostat = place(arguments, Specifier::Iostat)?;
     Ok(Close { unit, keep, iostat })
 }
@@ -140,7 +165,7 @@ pub fn make_wait(arguments: &[Argument]) -> Result<Wait, SyntaxFault>
     if !are_known(&OF_WAIT, arguments) {
         return Err(SyntaxFault::NotAStatement);
     }
-    let unit = unit(arguments)?;
+    let unit = unit(false, arguments)?;
     let id = integer(arguments, Specifier::Id)?;
     let iostat = place(arguments, Specifier::Iostat)?;
     Ok(Wait { unit, id, iostat })
@@ -153,7 +178,7 @@ pub fn make_move(how: Motion, arguments: &[Argument]) -> Result<Move, SyntaxFaul
     if !are_known(&OF_MOTIONS, arguments) {
         return Err(SyntaxFault::NotAStatement);
     }
-    let unit = unit(arguments)?;
+    let unit = unit(false, arguments)?;
     let iostat = place(arguments, Specifier::Iostat)?;
     Ok(Move { how, unit, iostat })
 }
@@ -190,7 +215,7 @@ fn question_of(specifier: Specifier) -> Option<Question>
 /// The question of an argument, if it asks one.
 #[tactic(auto, unfolding(crate::specs::Calls::asking_of))]
 fn asking_of(argument: &Argument) -> Result<Option<Asking>, SyntaxFault>
-    ensures { Gives (λ x. x) result (asking_of argument.now) }
+    ensures { Gives as_list result (asking_of argument.now) }
 {
     let Some(what) = question_of(argument.specifier) else {
         if is_known(&OF_INQUIRE, argument.specifier) {
@@ -222,13 +247,13 @@ fn asked_of(alloc: Global, arguments: &[Argument]) -> Result<Items<Asking>, Synt
 
 /// A unit or a file, and not both.
 #[tactic(auto, unfolding(crate::specs::Calls::subject_of))]
-fn make_subject(alloc: Global, arguments: &[Argument]) -> Result<Subject, SyntaxFault>
+fn subject(alloc: Global, arguments: &[Argument]) -> Result<Subject, SyntaxFault>
     ensures { Gives (λ x. x) result (subject_of arguments.now) }
 {
     match given_for(arguments, Specifier::Unit) {
         Some(unit) => match given_for(arguments, Specifier::File) {
             Some(_) => Err(SyntaxFault::NotAStatement),
-            None => Ok(Subject::Unit(unit_number(unit)?)),
+            None => Ok(Subject::Unit(unit_given(false, unit)?)),
         },
         None => match given_for(arguments, Specifier::File) {
             Some(file) => Ok(Subject::File(file_given(alloc, file)?)),
@@ -241,12 +266,12 @@ fn make_subject(alloc: Global, arguments: &[Argument]) -> Result<Subject, Syntax
 pub fn make_inquire(alloc: Global, arguments: &[Argument]) -> Result<Inquire, SyntaxFault>
     ensures { Gives (λ x. x) result (inquire_of arguments.now) }
 {
-    let subject = make_subject(alloc, arguments)?;
+    let about = subject(alloc, arguments)?;
     let asked = asked_of(alloc, arguments)?;
     let id = integer(arguments, Specifier::Id)?;
     let iostat = place(arguments, Specifier::Iostat)?;
     Ok(Inquire {
-        subject,
+        about,
         asked,
         id,
         iostat,
@@ -254,13 +279,13 @@ pub fn make_inquire(alloc: Global, arguments: &[Argument]) -> Result<Inquire, Sy
 }
 
 #[tactic(auto, unfolding(crate::specs::Calls::course_of))]
-fn make_course(arguments: &[Argument]) -> Result<Course, SyntaxFault>
+fn course(arguments: &[Argument]) -> Result<Course, SyntaxFault>
     ensures { Gives (λ x. x) result (course_of arguments.now) }
 {
     let rec = integer(arguments, Specifier::Rec)?;
     let pos = integer(arguments, Specifier::Pos)?;
-    let advance = yes(arguments, Specifier::Advance)?;
-    let asynchronous = yes(arguments, Specifier::Asynchronous)?;
+    let advance = mode::<Answer>(arguments, Specifier::Advance)?;
+    let asynchronous = mode::<Answer>(arguments, Specifier::Asynchronous)?;
     Ok(Course {
         rec,
         pos,
@@ -270,7 +295,7 @@ fn make_course(arguments: &[Argument]) -> Result<Course, SyntaxFault>
 }
 
 #[tactic(auto, unfolding(crate::specs::Calls::results_of))]
-fn make_results(arguments: &[Argument]) -> Result<Results, SyntaxFault>
+fn results(arguments: &[Argument]) -> Result<Results, SyntaxFault>
     ensures { Gives (λ x. x) result (results_of arguments.now) }
 {
     let id = place(arguments, Specifier::Id)?;
@@ -290,10 +315,10 @@ fn are_known_to_transfer(input: bool, arguments: &[Argument]) -> bool
 }
 
 #[tactic(auto, unfolding(crate::specs::Calls::control_of))]
-fn make_control(input: bool, arguments: &[Argument]) -> Result<Control, SyntaxFault>
-    ensures { Gives (λ x. x) result (control_of input arguments.now) }
+fn control(star: bool, arguments: &[Argument]) -> Result<Control, SyntaxFault>
+    ensures { Gives (λ x. x) result (control_of star arguments.now) }
 {
-    let unit = transfer_unit(input, arguments)?;
+    let unit = unit(star, arguments)?;
     let format = format(arguments)?;
     let group = group(arguments)?;
     let changes = changes(arguments)?;
@@ -318,9 +343,9 @@ pub fn make_transfer(
     if !known {
         return Err(SyntaxFault::NotAStatement);
     }
-    let control = make_control(input, arguments)?;
-    let course = make_course(arguments)?;
-    let results = make_results(arguments)?;
+    let control = control(!input, arguments)?;
+    let course = course(arguments)?;
+    let results = results(arguments)?;
     Ok(Transfer {
         input,
         control,

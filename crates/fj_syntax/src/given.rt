@@ -1,22 +1,20 @@
-// What is given for a specifier, by its form: a place, an integer, a word, a name.
-ghost use Rattle.std.specs.Prelude.{◌≡◌, ◌-◌, ◌==◌, ◌∷◌, IfOk, length, map, take};
-ghost use Rattle.std.specs.List.{suffix_len};
-ghost use Rattle.std.specs.Str.{str_eq_ignore_ascii_case};
-ghost use Rattle.fj_syntax.specs.Given.{look_up_any_case, choice_of, trimmed, place_at, integer_at, choice_at, file_given, file_at, unit_number, unit_at, transfer_unit_at, format_at, group_at, recl_at};
+// What is given for a specifier, by its form.
+ghost use Rattle.std.specs.Prelude.{◌≡◌, ◌≤◌, IfOk, length};
+ghost use Rattle.fj_syntax.specs.Given.{trimmed, place_at, integer_at, mode_at, file_given, file_at, unit_number, unit_given, unit_at, format_at, group_at, recl_at};
 ghost use Rattle.fj_syntax.specs.Reading.{Gives};
 
 use crate::arguments::given_for;
 use crate::fault::SyntaxFault;
 use crate::operand::{Argument, Designator, Given, Operand};
 use crate::token::Sign;
-use crate::words::{CHOICES, Choice, Specifier};
-use crate::written::{Format, Unit};
-use fj_modes::{FileName, is_file_name};
+use crate::words::Specifier;
+use crate::written::Format;
+use fj_modes::{FileName, UnitRef, WordKind, is_file_name};
 use fj_value::Text;
 use std::alloc::{AllocError, Global};
 
 /// The largest unit, and the largest record length.
-pub const MAX_UNIT: u32 = 2_147_483_647;
+const MAX_UNIT: u64 = 2_147_483_647;
 
 impl Designator {
     pub fn try_clone(&self) -> Result<Designator, AllocError>
@@ -38,31 +36,6 @@ fn trimmed(text: &[u8]) -> &[u8]
         len -= 1;
     }
     &text[..len]
-}
-
-fn is_same_word(text: &str, word: &[u8]) -> bool
-    ensures { result ≡ str_eq_ignore_ascii_case text.now word.now }
-{
-    text.as_bytes().eq_ignore_ascii_case(word)
-}
-
-/// What a word, in either case, stands for in a table.
-fn find_any_case<T: Copy>(table: &[(&str, T)], word: &[u8]) -> Option<T>
-    ensures { result ≡ look_up_any_case (map (λ entry. (entry.0.now, entry.1)) table.now) word.now }
-{
-    for entry in table {
-        if is_same_word(entry.0, word) {
-            return Some(entry.1);
-        }
-    }
-    None
-}
-
-#[tactic(auto, unfolding(crate::specs::Given::choice_of))]
-fn choice_of(word: &[u8]) -> Option<Choice>
-    ensures { result ≡ choice_of word.now }
-{
-    find_any_case(&CHOICES, word)
 }
 
 /// The place for a specifier.
@@ -96,15 +69,18 @@ pub fn integer(arguments: &[Argument], specifier: Specifier) -> Result<Option<Op
     }
 }
 
-/// The word for a specifier.
-#[tactic(auto, unfolding(crate::specs::Given::choice_at))]
-pub fn choice(arguments: &[Argument], specifier: Specifier) -> Result<Option<Choice>, SyntaxFault>
-    ensures { Gives (λ x. x) result (choice_at specifier arguments.now) }
+/// The mode that the word for a specifier names.
+#[tactic(auto, unfolding(crate::specs::Given::mode_at))]
+pub fn mode<W: WordKind>(
+    arguments: &[Argument],
+    specifier: Specifier,
+) -> Result<Option<W::Mode>, SyntaxFault>
+    ensures { Gives (λ x. x) result (mode_at W.words specifier arguments.now) }
 {
     match given_for(arguments, specifier) {
         None => Ok(None),
-        Some(Given::Operand(Operand::Literal(text))) => match choice_of(trimmed(text.bytes())) {
-            Some(choice) => Ok(Some(choice)),
+        Some(Given::Operand(Operand::Literal(text))) => match W::mode_of(trimmed(text.bytes())) {
+            Some(mode) => Ok(Some(mode)),
             None => Err(SyntaxFault::NotAStatement),
         },
         Some(_) => Err(SyntaxFault::NotAStatement),
@@ -137,9 +113,19 @@ pub fn file(alloc: Global, arguments: &[Argument]) -> Result<Option<FileName>, S
     }
 }
 
-#[tactic(auto, unfolding(crate::specs::Given::unit_number))]
-pub fn unit_number(given: &Given) -> Result<u32, SyntaxFault>
-    ensures { Gives (λ x. x) result (unit_number given.now) }
+pub fn unit_number(amount: u64) -> Result<UnitRef, SyntaxFault>
+    ensures { Gives (λ x. x) result (unit_number amount) }
+{
+    if amount > MAX_UNIT {
+        return Err(SyntaxFault::NotAStatement);
+    }
+    Ok(UnitRef::Number(amount as u32))
+}
+
+/// A unit: a number, or an asterisk where that may stand.
+#[tactic(auto, unfolding(crate::specs::Given::unit_given))]
+pub fn unit_given(star: bool, given: &Given) -> Result<UnitRef, SyntaxFault>
+    ensures { Gives (λ x. x) result (unit_given star given.now) }
 {
     match given {
         Given::Operand(
@@ -147,40 +133,19 @@ pub fn unit_number(given: &Given) -> Result<u32, SyntaxFault>
                 sign: Sign::Unsigned,
                 amount,
             },
-        ) => {
-            if *amount > u64::from(MAX_UNIT) {
-                return Err(SyntaxFault::NotAStatement);
-            }
-            Ok(*amount as u32)
-        }
+        ) => unit_number(*amount),
+        Given::Asterisk if star => Ok(UnitRef::Star),
         _ => Err(SyntaxFault::NotAStatement),
     }
 }
 
-/// The unit of a statement that takes none but a number.
+/// UNIT=.
 #[tactic(auto, unfolding(crate::specs::Given::unit_at))]
-pub fn unit(arguments: &[Argument]) -> Result<u32, SyntaxFault>
-    ensures { Gives (λ x. x) result (unit_at arguments.now) }
+pub fn unit(star: bool, arguments: &[Argument]) -> Result<UnitRef, SyntaxFault>
+    ensures { Gives (λ x. x) result (unit_at star arguments.now) }
 {
     match given_for(arguments, Specifier::Unit) {
-        Some(given) => unit_number(given),
-        None => Err(SyntaxFault::NotAStatement),
-    }
-}
-
-/// The unit of READ, or of WRITE, which takes an asterisk too.
-#[tactic(auto, unfolding(crate::specs::Given::transfer_unit_at))]
-pub fn transfer_unit(input: bool, arguments: &[Argument]) -> Result<Unit, SyntaxFault>
-    ensures { Gives (λ x. x) result (transfer_unit_at input arguments.now) }
-{
-    match given_for(arguments, Specifier::Unit) {
-        Some(Given::Asterisk) => {
-            if input {
-                return Err(SyntaxFault::NotAStatement);
-            }
-            Ok(Unit::Asterisk)
-        }
-        Some(given) => Ok(Unit::Number(unit_number(given)?)),
+        Some(given) => unit_given(star, given),
         None => Err(SyntaxFault::NotAStatement),
     }
 }
@@ -222,7 +187,7 @@ pub fn recl(arguments: &[Argument]) -> Result<Option<u32>, SyntaxFault>
     match given_for(arguments, Specifier::Recl) {
         None => Ok(None),
         Some(Given::Operand(Operand::Number { sign, amount })) => {
-            if *amount > u64::from(MAX_UNIT) {
+            if *amount > MAX_UNIT {
                 return Err(SyntaxFault::NotAStatement);
             }
             if *sign == Sign::Minus && *amount != 0 {

@@ -3,20 +3,17 @@
 
 mod arguments;
 mod calls;
-mod choices;
 mod class;
 mod fault;
 mod given;
 mod laws;
 mod lines;
-mod list;
 mod operand;
 mod parse;
-mod reader;
+mod parts;
 mod scanner;
 mod statement;
 mod token;
-mod tokens;
 mod words;
 mod written;
 
@@ -27,8 +24,8 @@ pub use operand::{Designator, Operand};
 pub use parse::parse_line;
 pub use token::Sign;
 pub use written::{
-    Asking, Assignment, Attributes, Changes, Close, Control, Course, Declaration, Format, Group,
-    Inquire, Motion, Move, Open, Results, Subject, Transfer, Unit, Wait, Written,
+    Asking, Assignment, Changes, Close, Control, Course, Declaration, Format, Group, Inquire, Move,
+    Open, Results, Transfer, Wait, Written,
 };
 
 #[cfg(test)]

@@ -1,11 +1,25 @@
 // One line of a deck.
 ghost use Rattle.fj_syntax.specs.Parsing.{Parses};
+ghost use Rattle.fj_syntax.specs.Tokens.{HasTokens};
 
 use crate::fault::SyntaxFault;
-use crate::scanner::tokens_of;
+use crate::scanner::scanned;
 use crate::statement::written;
+use crate::token::Token;
 use crate::written::Written;
 use std::alloc::Global;
+
+/// The statement or declaration that the tokens of a line are.
+fn parsed(alloc: Global, line: &[u8], tokens: &[Token]) -> Result<Option<Written>, SyntaxFault>
+    requires { HasTokens line.now tokens.now }
+    ensures { Parses line.now result }
+{
+    let _line = line;
+    if tokens.is_empty() {
+        return Ok(None);
+    }
+    Ok(Some(written(alloc, tokens)?))
+}
 
 /// The statement or declaration of a line; `None` where the line is empty but for blanks and a comment.
 ///
@@ -13,9 +27,6 @@ use std::alloc::Global;
 pub fn parse_line(alloc: Global, line: &[u8]) -> Result<Option<Written>, SyntaxFault>
     ensures { Parses line.now result }
 {
-    let tokens = tokens_of(alloc, line)?;
-    if tokens.is_empty() {
-        return Ok(None);
-    }
-    Ok(Some(written(alloc, tokens)?))
+    let tokens = scanned(alloc, line)?;
+    parsed(alloc, line, tokens.as_slice())
 }

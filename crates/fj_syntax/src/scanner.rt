@@ -13,7 +13,6 @@ ghost use Rattle.fj_syntax.specs.Reading.{Gives};
 use crate::class::{Class, is_of, run_len};
 use crate::fault::SyntaxFault;
 use crate::token::{Mark, Sign, Token};
-use crate::tokens::Tokens;
 use fj_value::Text;
 use std::alloc::{AllocError, Global};
 
@@ -200,7 +199,7 @@ fn ends_line(line: &[u8]) -> bool
 }
 
 /// The tokens of a line, first to last.
-fn scanned(alloc: Global, line: &[u8]) -> Result<Vec<Token>, SyntaxFault>
+pub fn scanned(alloc: Global, line: &[u8]) -> Result<Vec<Token>, SyntaxFault>
     ensures { Scanned line.now result (λ tokens. tokens.items) }
 {
     let mut found = Vec::new(alloc);
@@ -214,11 +213,4 @@ fn scanned(alloc: Global, line: &[u8]) -> Result<Vec<Token>, SyntaxFault>
         found.push(token)?;
         rest = behind;
     }
-}
-
-/// The tokens of a line.
-pub fn tokens_of(alloc: Global, line: &[u8]) -> Result<Tokens, SyntaxFault>
-    ensures { Scanned line.now result (λ tokens. tokens) }
-{
-    Ok(Tokens::from_vec(scanned(alloc, line)?))
 }

@@ -1,137 +1,178 @@
-// A statement from its tokens.
-ghost use Rattle.std.specs.Prelude.{◌≡◌, ◌==◌, Bool, length};
+// The statement that tokens are.
+ghost use Rattle.std.specs.Prelude.{◌≡◌, Bool};
 ghost use Rattle.std.specs.Str.{bytes_eq};
-ghost use Rattle.fj_syntax.specs.Statement.{skip_equals_at, integer_kind_at, length_at, colons_at, declaration_at, namelist_at, assignment_behind, items_at, transfer_at, motion_at, end_at, open_at, close_at, wait_at, inquire_at, keyword_at, statement_at, written_of};
-ghost use Rattle.fj_syntax.specs.Reading.{Reads, Gives};
+ghost use Rattle.fj_syntax.specs.Statement.{value_of, number_in, integer_kind, character_kind, behind_colons, declaration_of, group_of, assignment_of, items_of, transfer_from, motion_from, end_from, open_from, close_from, wait_from, inquire_from, begun_by, written_of};
+ghost use Rattle.fj_syntax.specs.Reading.{Gives};
 
-use crate::arguments::arguments;
+use crate::arguments::{call, whole_call};
 use crate::calls::{make_close, make_inquire, make_move, make_open, make_transfer, make_wait};
 use crate::fault::SyntaxFault;
-use crate::given::MAX_UNIT;
-use crate::list::list;
-use crate::operand::Operand;
-use crate::reader::{designator_behind, expect, name, next_is, number, operand, skip, word};
-use crate::token::{Mark, Token};
-use crate::tokens::Tokens;
+use crate::given::unit_number;
+use crate::operand::{Designator, Operand};
+use crate::parts::{Part, is_name, list, parted};
+use crate::token::{Mark, Sign, Token};
 use crate::words::{Keyword, keyword_of};
-use crate::written::{Assignment, Declaration, Group, Motion, Move, Written};
+use crate::written::{Assignment, Declaration, Group, Move, Written};
+use fj_modes::Motion;
 use fj_value::{Items, Kind, Text};
 use std::alloc::Global;
 
 /// The largest length of characters.
-const MAX_LENGTH: u32 = 65_536;
+const MAX_LENGTH: u64 = 65_536;
 
-fn is_text(word: &[u8], text: &str) -> bool
+fn is_text(word: &Text, text: &str) -> bool
     ensures { result ≡ bytes_eq word.now text.now }
 {
-    word == text.as_bytes()
+    word.bytes() == text.as_bytes()
 }
 
-/// Takes this word and an equals sign, where a word is next.
-#[tactic(auto, unfolding(crate::specs::Statement::skip_equals_at))]
-fn skip_equals(tokens: &mut Tokens, text: &str) -> Result<(), SyntaxFault>
-    ensures { Reads (skip_equals_at text.now tokens.old) result tokens.new }
+/// A number, or KEYWORD= and a number.
+#[tactic(auto, unfolding(crate::specs::Statement::value_of))]
+fn value(keyword: &str, tokens: &[Token]) -> Option<u64>
+    ensures { result ≡ value_of keyword.now tokens.now }
 {
-    if !matches!(tokens.peek(), Some(Token::Word(_))) {
-        return Ok(());
-    }
-    let word = word(tokens)?;
-    if is_text(word.bytes(), text) {
-        expect(tokens, Mark::Equals)
-    } else {
-        Err(SyntaxFault::NotAStatement)
+    match tokens {
+        [
+            Token::Number {
+                sign: Sign::Unsigned,
+                amount,
+            },
+        ] => Some(*amount),
+        [
+            Token::Word(word),
+            Token::Mark(Mark::Equals),
+            Token::Number {
+                sign: Sign::Unsigned,
+                amount,
+            },
+        ] => {
+            if is_text(word, keyword) {
+                Some(*amount)
+            } else {
+                None
+            }
+        }
+        _ => None,
     }
 }
 
-/// `INTEGER`, `INTEGER(8)` or `INTEGER(KIND=8)`, behind the word.
-#[tactic(auto, unfolding(crate::specs::Statement::integer_kind_at))]
-fn integer_kind(tokens: &mut Tokens) -> Result<Kind, SyntaxFault>
-    ensures { Reads (integer_kind_at tokens.old) result tokens.new }
+/// The same in parentheses, if one opens; and what is behind it.
+#[tactic(auto, unfolding(crate::specs::Statement::number_in))]
+fn number_in<'a>(
+    keyword: &str,
+    tokens: &'a [Token],
+) -> Result<(Option<u64>, &'a [Token]), SyntaxFault>
+    ensures { Gives (λ x. (x.0, x.1.now)) result (number_in keyword.now tokens.now) }
 {
-    if !skip(tokens, Mark::LeftParenthesis) {
-        return Ok(Kind::Int4);
+    let [Token::Mark(Mark::LeftParenthesis), rest @ ..] = tokens else {
+        return Ok((None, tokens));
+    };
+    let Some((inside, behind)) = parted(rest, Mark::RightParenthesis) else {
+        return Err(SyntaxFault::NotAStatement);
+    };
+    match value(keyword, inside) {
+        Some(number) => Ok((Some(number), behind)),
+        None => Err(SyntaxFault::NotAStatement),
     }
-    skip_equals(tokens, "KIND")?;
-    let number = number(tokens, 4, 8)?;
-    expect(tokens, Mark::RightParenthesis)?;
+}
+
+fn integer_kind(number: Option<u64>) -> Option<Kind>
+    ensures { result ≡ integer_kind number }
+{
     match number {
-        4 => Ok(Kind::Int4),
-        8 => Ok(Kind::Int8),
-        _ => Err(SyntaxFault::NotAStatement),
+        None | Some(4) => Some(Kind::Int4),
+        Some(8) => Some(Kind::Int8),
+        _ => None,
     }
 }
 
-/// `CHARACTER`, `CHARACTER(5)` or `CHARACTER(LEN=5)`, behind the word.
-#[tactic(auto, unfolding(crate::specs::Statement::length_at))]
-fn character_kind(tokens: &mut Tokens) -> Result<Kind, SyntaxFault>
-    ensures { Reads (length_at tokens.old) result tokens.new }
+fn character_kind(number: Option<u64>) -> Option<Kind>
+    ensures { result ≡ character_kind number }
 {
-    if !skip(tokens, Mark::LeftParenthesis) {
-        return Ok(Kind::Chars(1));
+    match number {
+        None => Some(Kind::Chars(1)),
+        Some(length) => {
+            if length < 1 || length > MAX_LENGTH {
+                return None;
+            }
+            Some(Kind::Chars(length as u32))
+        }
     }
-    skip_equals(tokens, "LEN")?;
-    let number = number(tokens, 1, MAX_LENGTH)?;
-    expect(tokens, Mark::RightParenthesis)?;
-    Ok(Kind::Chars(number))
 }
 
-/// `, ASYNCHRONOUS ::`, `::` or nothing.
-#[tactic(auto, unfolding(crate::specs::Statement::colons_at))]
-fn colons(tokens: &mut Tokens) -> Result<(), SyntaxFault>
-    ensures { Reads (colons_at tokens.old) result tokens.new }
+/// What is behind `::` or `, ASYNCHRONOUS ::`.
+#[tactic(auto, unfolding(crate::specs::Statement::behind_colons))]
+fn behind_colons(tokens: &[Token]) -> &[Token]
+    ensures { result.now ≡ behind_colons tokens.now }
 {
-    if !skip(tokens, Mark::Comma) {
-        let _colons = skip(tokens, Mark::DoubleColon);
-        return Ok(());
-    }
-    let word = word(tokens)?;
-    if is_text(word.bytes(), "ASYNCHRONOUS") {
-        expect(tokens, Mark::DoubleColon)
-    } else {
-        Err(SyntaxFault::NotAStatement)
+    match tokens {
+        [Token::Mark(Mark::DoubleColon), behind @ ..] => behind,
+        [
+            Token::Mark(Mark::Comma),
+            Token::Word(word),
+            Token::Mark(Mark::DoubleColon),
+            behind @ ..,
+        ] => {
+            if is_text(word, "ASYNCHRONOUS") {
+                behind
+            } else {
+                tokens
+            }
+        }
+        _ => tokens,
     }
 }
 
 /// A declaration of variables of a kind, behind the kind.
-#[tactic(auto, unfolding(crate::specs::Statement::declaration_at))]
-fn declaration(alloc: Global, kind: Kind, tokens: &mut Tokens) -> Result<Written, SyntaxFault>
-    ensures { Reads (declaration_at kind tokens.old) result tokens.new }
+#[tactic(auto, unfolding(crate::specs::Statement::declaration_of))]
+fn declaration(alloc: Global, kind: Option<Kind>, tokens: &[Token]) -> Result<Written, SyntaxFault>
+    ensures { Gives (λ x. x) result (declaration_of kind tokens.now) }
 {
-    colons(tokens)?;
-    let entities = list(alloc, tokens)?;
+    let Some(kind) = kind else {
+        return Err(SyntaxFault::NotAStatement);
+    };
+    let entities = list(alloc, behind_colons(tokens))?;
     Ok(Written::Declaration(Declaration { kind, entities }))
 }
 
 /// NAMELIST, behind the word.
-#[tactic(auto, unfolding(crate::specs::Statement::namelist_at))]
-fn namelist(alloc: Global, tokens: &mut Tokens) -> Result<Written, SyntaxFault>
-    ensures { Reads (namelist_at tokens.old) result tokens.new }
+#[tactic(auto, unfolding(crate::specs::Statement::group_of))]
+fn group(alloc: Global, tokens: &[Token]) -> Result<Written, SyntaxFault>
+    ensures { Gives (λ x. x) result (group_of tokens.now) }
 {
-    expect(tokens, Mark::Slash)?;
-    let group = name(tokens)?;
-    expect(tokens, Mark::Slash)?;
-    let members = list(alloc, tokens)?;
-    Ok(Written::Group(Group {
-        name: group,
-        members,
-    }))
+    let [
+        Token::Mark(Mark::Slash),
+        Token::Word(name),
+        Token::Mark(Mark::Slash),
+        names @ ..,
+    ] = tokens
+    else {
+        return Err(SyntaxFault::NotAStatement);
+    };
+    if !is_name(name.bytes()) {
+        return Err(SyntaxFault::NotAStatement);
+    }
+    let members = list(alloc, names)?;
+    let name = name.try_clone()?;
+    Ok(Written::Group(Group { name, members }))
 }
 
-/// An assignment to what begins with a word.
-#[tactic(auto, unfolding(crate::specs::Statement::assignment_behind))]
-fn assignment(word: Text, tokens: &mut Tokens) -> Result<Written, SyntaxFault>
-    ensures { Reads (assignment_behind word tokens.old) result tokens.new }
+#[tactic(auto, unfolding(crate::specs::Statement::assignment_of))]
+fn assignment(tokens: &[Token]) -> Result<Written, SyntaxFault>
+    ensures { Gives (λ x. x) result (assignment_of tokens.now) }
 {
-    let to = designator_behind(word, tokens)?;
-    expect(tokens, Mark::Equals)?;
-    let from = operand(tokens)?;
+    let Some((to, from)) = parted(tokens, Mark::Equals) else {
+        return Err(SyntaxFault::NotAStatement);
+    };
+    let to = Designator::read(to)?;
+    let from = Operand::read(from)?;
     Ok(Written::Assignment(Assignment { to, from }))
 }
 
 /// The items of a transfer, if there are some.
-#[tactic(auto, unfolding(crate::specs::Statement::items_at))]
-fn items(alloc: Global, tokens: &mut Tokens) -> Result<Items<Operand>, SyntaxFault>
-    ensures { Reads (items_at tokens.old) result tokens.new }
+#[tactic(auto, unfolding(crate::specs::Statement::items_of))]
+fn items(alloc: Global, tokens: &[Token]) -> Result<Items<Operand>, SyntaxFault>
+    ensures { Gives (λ x. x) result (items_of tokens.now) }
 {
     if tokens.is_empty() {
         return Ok(Items::new(alloc));
@@ -140,101 +181,104 @@ fn items(alloc: Global, tokens: &mut Tokens) -> Result<Items<Operand>, SyntaxFau
 }
 
 /// READ or WRITE, behind the word.
-#[tactic(auto, unfolding(crate::specs::Statement::transfer_at))]
-fn transfer(alloc: Global, input: bool, tokens: &mut Tokens) -> Result<Written, SyntaxFault>
-    ensures { Reads (transfer_at input tokens.old) result tokens.new }
+#[tactic(auto, unfolding(crate::specs::Statement::transfer_from))]
+fn transfer(alloc: Global, input: bool, tokens: &[Token]) -> Result<Written, SyntaxFault>
+    ensures { Gives (λ x. x) result (transfer_from input tokens.now) }
 {
-    let control = arguments(alloc, tokens)?;
-    let items = items(alloc, tokens)?;
-    let transfer = make_transfer(input, control.as_slice(), items)?;
+    let (arguments, behind) = call(alloc, tokens)?;
+    let items = items(alloc, behind)?;
+    let transfer = make_transfer(input, arguments.as_slice(), items)?;
     Ok(Written::Transfer(transfer))
 }
 
 /// A motion, behind its words: a bare unit, or arguments in parentheses.
-#[tactic(auto, unfolding(crate::specs::Statement::motion_at))]
-fn motion(alloc: Global, how: Motion, tokens: &mut Tokens) -> Result<Written, SyntaxFault>
-    ensures { Reads (motion_at how tokens.old) result tokens.new }
+#[tactic(auto, unfolding(crate::specs::Statement::motion_from))]
+fn motion(alloc: Global, how: Motion, tokens: &[Token]) -> Result<Written, SyntaxFault>
+    ensures { Gives (λ x. x) result (motion_from how tokens.now) }
 {
-    if next_is(tokens, Mark::LeftParenthesis) {
-        let arguments = arguments(alloc, tokens)?;
-        return Ok(Written::Move(make_move(how, arguments.as_slice())?));
+    match tokens {
+        [
+            Token::Number {
+                sign: Sign::Unsigned,
+                amount,
+            },
+        ] => Ok(Written::Move(Move {
+            how,
+            unit: unit_number(*amount)?,
+            iostat: None,
+        })),
+        _ => {
+            let arguments = whole_call(alloc, tokens)?;
+            Ok(Written::Move(make_move(how, arguments.as_slice())?))
+        }
     }
-    let unit = number(tokens, 0, MAX_UNIT)?;
-    Ok(Written::Move(Move {
-        how,
-        unit,
-        iostat: None,
-    }))
 }
 
 /// END alone, or END FILE.
-#[tactic(auto, unfolding(crate::specs::Statement::end_at))]
-fn end(alloc: Global, tokens: &mut Tokens) -> Result<Written, SyntaxFault>
-    ensures { Reads (end_at tokens.old) result tokens.new }
+#[tactic(auto, unfolding(crate::specs::Statement::end_from))]
+fn end(alloc: Global, tokens: &[Token]) -> Result<Written, SyntaxFault>
+    ensures { Gives (λ x. x) result (end_from tokens.now) }
 {
-    if tokens.is_empty() {
-        return Ok(Written::End);
-    }
-    let word = word(tokens)?;
-    if is_text(word.bytes(), "FILE") {
-        motion(alloc, Motion::Endfile, tokens)
-    } else {
-        Err(SyntaxFault::NotAStatement)
+    match tokens {
+        [] => Ok(Written::End),
+        [Token::Word(word), behind @ ..] => {
+            if !is_text(word, "FILE") {
+                return Err(SyntaxFault::NotAStatement);
+            }
+            motion(alloc, Motion::Endfile, behind)
+        }
+        _ => Err(SyntaxFault::NotAStatement),
     }
 }
 
-#[tactic(auto, unfolding(crate::specs::Statement::open_at))]
-fn open(alloc: Global, tokens: &mut Tokens) -> Result<Written, SyntaxFault>
-    ensures { Reads (open_at tokens.old) result tokens.new }
+#[tactic(auto, unfolding(crate::specs::Statement::open_from))]
+fn open(alloc: Global, tokens: &[Token]) -> Result<Written, SyntaxFault>
+    ensures { Gives (λ x. x) result (open_from tokens.now) }
 {
-    let arguments = arguments(alloc, tokens)?;
+    let arguments = whole_call(alloc, tokens)?;
     Ok(Written::Open(make_open(alloc, arguments.as_slice())?))
 }
 
-#[tactic(auto, unfolding(crate::specs::Statement::close_at))]
-fn close(alloc: Global, tokens: &mut Tokens) -> Result<Written, SyntaxFault>
-    ensures { Reads (close_at tokens.old) result tokens.new }
+#[tactic(auto, unfolding(crate::specs::Statement::close_from))]
+fn close(alloc: Global, tokens: &[Token]) -> Result<Written, SyntaxFault>
+    ensures { Gives (λ x. x) result (close_from tokens.now) }
 {
-    let arguments = arguments(alloc, tokens)?;
+    let arguments = whole_call(alloc, tokens)?;
     Ok(Written::Close(make_close(arguments.as_slice())?))
 }
 
-#[tactic(auto, unfolding(crate::specs::Statement::wait_at))]
-fn wait(alloc: Global, tokens: &mut Tokens) -> Result<Written, SyntaxFault>
-    ensures { Reads (wait_at tokens.old) result tokens.new }
+#[tactic(auto, unfolding(crate::specs::Statement::wait_from))]
+fn wait(alloc: Global, tokens: &[Token]) -> Result<Written, SyntaxFault>
+    ensures { Gives (λ x. x) result (wait_from tokens.now) }
 {
-    let arguments = arguments(alloc, tokens)?;
+    let arguments = whole_call(alloc, tokens)?;
     Ok(Written::Wait(make_wait(arguments.as_slice())?))
 }
 
-#[tactic(auto, unfolding(crate::specs::Statement::inquire_at))]
-fn inquire(alloc: Global, tokens: &mut Tokens) -> Result<Written, SyntaxFault>
-    ensures { Reads (inquire_at tokens.old) result tokens.new }
+#[tactic(auto, unfolding(crate::specs::Statement::inquire_from))]
+fn inquire(alloc: Global, tokens: &[Token]) -> Result<Written, SyntaxFault>
+    ensures { Gives (λ x. x) result (inquire_from tokens.now) }
 {
-    let arguments = arguments(alloc, tokens)?;
+    let arguments = whole_call(alloc, tokens)?;
     Ok(Written::Inquire(make_inquire(alloc, arguments.as_slice())?))
 }
 
 /// What a keyword begins, behind the keyword.
-#[tactic(auto, unfolding(crate::specs::Statement::keyword_at))]
-fn keyword_statement(
-    alloc: Global,
-    keyword: Keyword,
-    tokens: &mut Tokens,
-) -> Result<Written, SyntaxFault>
-    ensures { Reads (keyword_at keyword tokens.old) result tokens.new }
+#[tactic(auto, unfolding(crate::specs::Statement::begun_by))]
+fn begun_by(alloc: Global, keyword: Keyword, tokens: &[Token]) -> Result<Written, SyntaxFault>
+    ensures { Gives (λ x. x) result (begun_by keyword tokens.now) }
 {
     match keyword {
         Keyword::Integer => {
-            let kind = integer_kind(tokens)?;
-            declaration(alloc, kind, tokens)
+            let (number, behind) = number_in("KIND", tokens)?;
+            declaration(alloc, integer_kind(number), behind)
         }
-        Keyword::Logical => declaration(alloc, Kind::Logical, tokens),
+        Keyword::Logical => declaration(alloc, Some(Kind::Logical), tokens),
         Keyword::Character => {
-            let kind = character_kind(tokens)?;
-            declaration(alloc, kind, tokens)
+            let (number, behind) = number_in("LEN", tokens)?;
+            declaration(alloc, character_kind(number), behind)
         }
-        Keyword::Namelist => namelist(alloc, tokens),
+        Keyword::Namelist => group(alloc, tokens),
         Keyword::Open => open(alloc, tokens),
         Keyword::Close => close(alloc, tokens),
         Keyword::Read => transfer(alloc, true, tokens),
@@ -249,27 +293,16 @@ fn keyword_statement(
     }
 }
 
-#[tactic(auto, unfolding(crate::specs::Statement::statement_at))]
-fn statement(alloc: Global, tokens: &mut Tokens) -> Result<Written, SyntaxFault>
-    ensures { Reads (statement_at tokens.old) result tokens.new }
-{
-    let word = word(tokens)?;
-    match keyword_of(word.bytes()) {
-        Some(keyword) => keyword_statement(alloc, keyword, tokens),
-        None => assignment(word, tokens),
-    }
-}
-
 /// The statement that the tokens are, all of them.
 #[tactic(auto, unfolding(crate::specs::Statement::written_of))]
-pub fn written(alloc: Global, tokens: Tokens) -> Result<Written, SyntaxFault>
-    ensures { Gives (λ x. x) result (written_of tokens) }
+pub fn written(alloc: Global, tokens: &[Token]) -> Result<Written, SyntaxFault>
+    ensures { Gives (λ x. x) result (written_of tokens.now) }
 {
-    let mut tokens = tokens;
-    let written = statement(alloc, &mut tokens)?;
-    if tokens.is_empty() {
-        Ok(written)
-    } else {
-        Err(SyntaxFault::NotAStatement)
+    let [Token::Word(word), behind @ ..] = tokens else {
+        return Err(SyntaxFault::NotAStatement);
+    };
+    match keyword_of(word.bytes()) {
+        Some(keyword) => begun_by(alloc, keyword, behind),
+        None => assignment(tokens),
     }
 }

@@ -1,5 +1,7 @@
 use crate::*;
-use fj_modes::{Access, Action, FileName, FileStatus, Question, Start};
+use fj_modes::{
+    Access, Action, FileName, FileStatus, Motion, OpenSpec, Question, Start, Subject, UnitRef,
+};
 use fj_value::{Delim, Kind};
 use std::alloc::Global;
 use std::test::*;
@@ -348,7 +350,7 @@ fn is_element(place: Option<&Designator>, name: &[u8], number: u32) -> bool {
     }
 }
 
-fn are_attributes(attributes: Attributes) -> bool {
+fn are_attributes(attributes: &OpenSpec) -> bool {
     attributes.status == Some(FileStatus::Old)
         && attributes.access == Some(Access::Direct)
         && attributes.formatted == Some(true)
@@ -380,7 +382,7 @@ fn is_item(item: Option<&Operand>) -> bool {
 
 fn is_write(write: &Transfer) -> bool {
     !write.input
-        && write.control.unit == Unit::Asterisk
+        && write.control.unit == UnitRef::Star
         && is_format(write.control.format.as_ref(), b"('a',I5)")
         && are_changes(write.control.changes)
         && write.course.advance == Some(false)
@@ -389,7 +391,7 @@ fn is_write(write: &Transfer) -> bool {
 }
 
 fn asks(inquire: &Inquire) -> bool {
-    matches!(inquire.subject, Subject::File(_))
+    matches!(inquire.about, Subject::File(_))
         && inquire.asked.len() == 2
         && matches!(
             inquire.asked.get(0),
@@ -403,12 +405,12 @@ fn asks(inquire: &Inquire) -> bool {
 fn is_right(case: Case, written: &Written) -> bool {
     match (case, written) {
         (Case::Open, Written::Open(open)) => {
-            open.unit == 10
-                && is_name(open.file.as_ref(), "x.Y")
-                && open.recl == Some(80)
+            open.unit == UnitRef::Number(10)
+                && is_name(open.spec.file.as_ref(), "x.Y")
+                && open.spec.recl == Some(80)
                 && is_element(open.iostat.as_ref(), b"S", 2)
         }
-        (Case::Attributes, Written::Open(open)) => are_attributes(open.attributes),
+        (Case::Attributes, Written::Open(open)) => are_attributes(&open.spec),
         (Case::Write, Written::Transfer(write)) => is_write(write),
         (Case::Inquire, Written::Inquire(inquire)) => asks(inquire),
         (Case::Character, Written::Declaration(declaration)) => {
@@ -417,9 +419,12 @@ fn is_right(case: Case, written: &Written) -> bool {
                 && is_element(declaration.entities.get(0), b"C", 2)
         }
         (Case::EndFile, Written::Move(motion)) => {
-            motion.how == Motion::Endfile && motion.unit == 7 && motion.iostat.is_none()
+            motion.how == Motion::Endfile
+                && motion.unit == UnitRef::Number(7)
+                && motion.iostat.is_none()
         }
-        (Case::Close, Written::Close(close)) => close.unit == 7 && close.keep == Some(true),
+        (Case::Close, Written::Close(close)) => close.unit == UnitRef::Number(7)
+            && close.keep == Some(true),
         _ => false,
     }
 }

@@ -1,7 +1,7 @@
 // One statement as it is written: what its tokens say, before any name has a meaning.
 
 use crate::operand::{Designator, Operand};
-use fj_modes::{Access, Action, FileName, FileStatus, Question, Start};
+use fj_modes::{Motion, OpenSpec, Question, Subject, UnitRef};
 use fj_value::{Delim, Items, Kind, Text};
 
 /// A type declaration. The attribute ASYNCHRONOUS has no effect.
@@ -24,7 +24,7 @@ pub struct Assignment {
     pub from: Operand,
 }
 
-/// The specifiers of the modes that an OPEN of a connected unit and a transfer may change.
+/// The specifiers of the modes that a transfer may change.
 #[derive(Clone, Copy, Debug)]
 pub struct Changes {
     /// BLANK='ZERO'.
@@ -38,35 +38,18 @@ pub struct Changes {
     pub plus: Option<bool>,
 }
 
-/// The further specifiers of OPEN that are words.
-#[derive(Clone, Copy, Debug)]
-pub struct Attributes {
-    pub status: Option<FileStatus>,
-    pub access: Option<Access>,
-    /// FORM='FORMATTED'.
-    pub formatted: Option<bool>,
-    pub position: Option<Start>,
-    pub action: Option<Action>,
-    /// ASYNCHRONOUS='YES'.
-    pub asynchronous: Option<bool>,
-}
-
 /// OPEN.
 #[derive(Debug, Drop)]
 pub struct Open {
-    pub unit: u32,
-    pub file: Option<FileName>,
-    /// RECL=.
-    pub recl: Option<u32>,
-    pub attributes: Attributes,
-    pub changes: Changes,
+    pub unit: UnitRef,
+    pub spec: OpenSpec,
     pub iostat: Option<Designator>,
 }
 
 /// CLOSE.
 #[derive(Debug, Drop)]
 pub struct Close {
-    pub unit: u32,
+    pub unit: UnitRef,
     /// STATUS='KEEP'.
     pub keep: Option<bool>,
     pub iostat: Option<Designator>,
@@ -75,34 +58,18 @@ pub struct Close {
 /// WAIT.
 #[derive(Debug, Drop)]
 pub struct Wait {
-    pub unit: u32,
+    pub unit: UnitRef,
     /// An integer literal or a place.
     pub id: Option<Operand>,
     pub iostat: Option<Designator>,
-}
-
-/// What a motion does.
-#[derive(Clone, Copy, Debug, PartialEq, Eq)]
-pub enum Motion {
-    Backspace,
-    Rewind,
-    Endfile,
-    Flush,
 }
 
 /// BACKSPACE, REWIND, ENDFILE or FLUSH.
 #[derive(Debug, Drop)]
 pub struct Move {
     pub how: Motion,
-    pub unit: u32,
+    pub unit: UnitRef,
     pub iostat: Option<Designator>,
-}
-
-/// What INQUIRE asks about.
-#[derive(Debug, Drop)]
-pub enum Subject {
-    Unit(u32),
-    File(FileName),
 }
 
 /// A question of INQUIRE, and the place for its answer.
@@ -115,20 +82,12 @@ pub struct Asking {
 /// INQUIRE.
 #[derive(Debug, Drop)]
 pub struct Inquire {
-    pub subject: Subject,
+    pub about: Subject,
     /// In order as they are written.
     pub asked: Items<Asking>,
     /// An integer literal or a place.
     pub id: Option<Operand>,
     pub iostat: Option<Designator>,
-}
-
-/// The unit of a transfer.
-#[derive(Clone, Copy, Debug, PartialEq, Eq)]
-pub enum Unit {
-    /// `*`, of WRITE alone.
-    Asterisk,
-    Number(u32),
 }
 
 /// The format of a transfer.
@@ -164,7 +123,7 @@ pub struct Results {
 /// What a transfer transfers to or from, and in which form.
 #[derive(Debug, Drop)]
 pub struct Control {
-    pub unit: Unit,
+    pub unit: UnitRef,
     pub format: Option<Format>,
     /// NML=.
     pub group: Option<Text>,

@@ -1,6 +1,2 @@
-pub mod Endings
+pub mod WriterLemmas
 pub mod Cases
-pub mod RecordLaws
-pub mod Listings
-pub mod ListLaws
-pub mod FirstErrors

@@ -2,10 +2,7 @@
 #![tactic(auto)]
 
 mod change;
-mod halt;
 mod laws;
-mod list;
-mod page;
 mod print;
 #[cfg(test)]
 mod tests;
@@ -13,6 +10,6 @@ mod transfer;
 mod writer;
 
 pub use change::EditChange;
-pub use laws::{first_error_counts, records_are_listed, records_are_texts_of_maps, records_fit};
-pub use print::print_records;
+pub use laws::items_are_in_order;
+pub use print::{print_explicit, print_records};
 pub use transfer::{Layout, Members, Transfer, TransferSpec};

@@ -1,53 +1,104 @@
 // The records of a formatted output.
-ghost use Rattle.std.specs.Prelude.{◌≡◌, length, take, IfOk, OnOk, OnErr, Ok};
-ghost use Rattle.fj_control.specs.Line.{begun};
+ghost use Rattle.std.specs.Prelude.{◌≡◌, take, IfOk, IfErr, IfSome, OnOk, OnErr, Ok};
+ghost use Rattle.fj_value.specs.declared.condition.Condition.TheVariants.{Fine};
+ghost use Rattle.fj_line.specs.Actions.{Appends, first_record, output};
+ghost use Rattle.fj_line.specs.Page.{at_hand, IsIn, Keeps, Carries, told_by};
+ghost use Rattle.fj_list.specs.Items.{items_of, items_left, values_in};
+ghost use Rattle.fj_list.specs.Listing.{list_actions};
 ghost use Rattle.fj_transfer.specs.Change.{changed};
-ghost use Rattle.fj_transfer.specs.Explicit.{Prints, fails, first};
-ghost use Rattle.fj_transfer.specs.Output.{IsRecords, output_of};
-ghost use Rattle.fj_transfer.specs.Printing.{Halts, printed};
+ghost use Rattle.fj_transfer.specs.Explicit.{explicit_actions};
+ghost use Rattle.fj_transfer.specs.Output.{IsRecords, actions_of};
 
-use crate::halt::Halt;
-use crate::list::{Values, write_list};
-use crate::page::Page;
 use crate::transfer::{Layout, Transfer};
 use crate::writer::Writer;
+use fj_format::Format;
+use fj_line::{Page, Unwritten};
+use fj_list::{OutputItems, put_list};
 use fj_value::{Condition, EditModes, Text};
 use std::alloc::{AllocError, Global};
 
-/// Appends the records of an output, or a part of them where it halts.
-fn write_records(
-    page: Page,
-    job: &Transfer,
+/// Writes items under an explicit format on a record that begins.
+fn write_explicit(
+    page: &mut Page,
+    text: &mut Text,
     modes: EditModes,
-    mut field: Text,
-    out: &mut Text,
-) -> Result<(), Halt>
-    requires records { IsRecords job.now.spec.layout }
-    requires begun { page.line ≡ begun }
-    ensures halted { Halts (λ n. output_of page modes job.now.spec.advance job.now.spec.layout job.now.moved ≡ fails n) result }
-    ensures goes { OnOk result (printed out.old
-        (output_of page modes job.now.spec.advance job.now.spec.layout job.now.moved) ≡ Ok out.new) }
-    ensures kept { take (length out.old) out.new ≡ out.old }
+    format: &Format,
+    advance: bool,
+    mut items: OutputItems,
+) -> Result<(), Unwritten>
+    requires { IsIn page.old text.old }
+    ensures done { Carries (at_hand page.old text.old) (explicit_actions modes advance format.now (items_left items.entry)) result (at_hand page.new text.new) }
+    ensures within { OnOk result (IsIn page.new text.new) }
+    ensures kept { Keeps page.old text.old page.new text.new }
 {
-    let cells = job.moved.cells.as_slice();
-    let order = job.moved.order.as_slice();
-    match &job.spec.layout {
-        Layout::Explicit(format) => {
-            let mut writer = Writer {
-                page,
-                cells,
-                left: order,
-                modes,
-                field,
-            };
-            writer.write(format, job.spec.advance, out)
+    let item = items.next();
+    let mut writer = Writer {
+        page: *page,
+        modes,
+        item,
+        items,
+        field: Text::new(text.allocator()),
+    };
+    let written = writer.write(text, format, advance);
+    *page = writer.page;
+    written
+}
+
+/// What is told of an output. After a condition, and want of memory, the text is as it was.
+fn finished(
+    written: Result<(), Unwritten>,
+    end: usize,
+    text: &mut Text,
+) -> Result<Condition, AllocError>
+    ensures ok { OnOk written ((result ≡ Ok Fine) × (text.new ≡ text.old)) }
+    ensures err { OnErr written (text.new ≡ take end text.old) }
+    ensures told { IfErr written (λ unwritten. result ≡ told_by unwritten) }
+{
+    match written {
+        Ok(()) => Ok(Condition::Fine),
+        Err(unwritten) => {
+            text.truncate(end);
+            unwritten.told()
         }
-        Layout::Listed => {
-            let mut page = page;
-            write_list(&mut page, modes, Values { cells, order }, &mut field, out)
-        }
-        Layout::Unformatted | Layout::Group(..) => unreachable!(),
     }
+}
+
+/// The output of items under an explicit format behind so many characters of an open record, as `print_records` writes it.
+pub fn print_explicit(
+    format: &Format,
+    advance: bool,
+    modes: EditModes,
+    items: OutputItems,
+    recl: u32,
+    begun: u32,
+    out: &mut Text,
+) -> Result<Condition, AllocError>
+    ensures records { IfOk result (λ condition. Appends
+        (output (first_record recl begun) (explicit_actions modes advance format.now (items_left items.entry))) out.old condition out.new) }
+    ensures err { OnErr result (out.new ≡ out.old) }
+{
+    let end = out.len();
+    let mut page = Page::new(out, recl, begun);
+    let written = write_explicit(&mut page, out, modes, format, advance, items);
+    finished(written, end, out)
+}
+
+/// The list-directed output of items, likewise.
+fn print_listed(
+    modes: EditModes,
+    items: OutputItems,
+    recl: u32,
+    begun: u32,
+    out: &mut Text,
+) -> Result<Condition, AllocError>
+    ensures records { IfOk result (λ condition. Appends
+        (output (first_record recl begun) (list_actions modes (values_in (items_left items.entry)))) out.old condition out.new) }
+    ensures err { OnErr result (out.new ≡ out.old) }
+{
+    let end = out.len();
+    let mut page = Page::new(out, recl, begun);
+    let written = put_list(&mut page, out, modes, items);
+    finished(written, end, out)
 }
 
 /// The formatted output of one statement behind so many characters of an open record: its records, each with a line feed
@@ -58,7 +109,7 @@ fn write_records(
 ///
 /// The layout is an explicit format or list-directed. Namelist output comes next.
 pub fn print_records(
-    alloc: Global,
+    _alloc: Global,
     job: &Transfer,
     modes: EditModes,
     recl: u32,
@@ -66,19 +117,18 @@ pub fn print_records(
     out: &mut Text,
 ) -> Result<Condition, AllocError>
     requires { IsRecords job.now.spec.layout }
-    ensures records { IfOk result (λ condition. Prints
-        (output_of (first recl begun) (changed job.now.spec.edit modes) job.now.spec.advance job.now.spec.layout job.now.moved)
-        out.old condition out.new) }
+    ensures records { IfOk result (λ condition. IfSome
+        (actions_of (changed job.now.spec.edit modes) job.now.spec.advance job.now.spec.layout (items_of job.now.moved))
+        (λ actions. Appends (output (first_record recl begun) actions) out.old condition out.new)) }
     ensures err { OnErr result (out.new ≡ out.old) }
 {
-    let page = Page::new(alloc, recl, begun);
     let modes = job.spec.edit.change(modes);
-    let end = out.len();
-    match write_records(page, job, modes, Text::new(alloc), out) {
-        Ok(()) => Ok(Condition::Fine),
-        Err(halt) => {
-            out.truncate(end);
-            halt.told()
+    let items = OutputItems::of_cells(job.moved.cells.as_slice(), job.moved.order.as_slice());
+    match &job.spec.layout {
+        Layout::Explicit(format) => {
+            print_explicit(format, job.spec.advance, modes, items, recl, begun, out)
         }
+        Layout::Listed => print_listed(modes, items, recl, begun, out),
+        Layout::Unformatted | Layout::Group(..) => unreachable!(),
     }
 }

@@ -5,9 +5,9 @@ ghost use Rattle.fj_list.specs.Moved.{IsOrdered};
 ghost use Rattle.fj_transfer.specs.Moving.{HasValues};
 ghost use Rattle.fj_transfer.specs.Output.{IsRecords};
 
-use crate::{EditChange, Layout, Transfer, TransferSpec, print_records};
+use crate::{EditChange, Layout, Transfer, TransferSpec, print_explicit, print_records};
 use fj_format::parse;
-use fj_list::Moved;
+use fj_list::{Moved, OutputItems, Run, Values};
 use fj_value::{Cell, Condition, Delim, EditModes, Items, Kind, Place, Tag, Text, Value};
 use std::alloc::{AllocError, Global};
 use std::test::Fail;
@@ -47,7 +47,7 @@ fn text_cell(alloc: Global, place: Place, bytes: &[u8]) -> Result<Cell, AllocErr
     Ok(Cell {
         place,
         kind: Kind::Chars(bytes.len() as u32),
-        value: Value::Chars(text),
+        value: Value::of_text(text)?,
     })
 }
 
@@ -517,5 +517,30 @@ fn limits(rt: HostRuntime) -> Result<(), Fail> {
         assert_eq!(rt; told, condition, "{format}");
         assert_eq!(rt; out.len(), bytes + 1, "{format}");
     }
+    Ok(())
+}
+
+/// Values that are borrowed in runs.
+#[test]
+fn runs(rt: HostRuntime) -> Result<(), Fail> {
+    let alloc = rt.alloc();
+    let numbers = [Value::Int(1), Value::Int(-2), Value::Int(3)];
+    let truth = Value::Log(true);
+    let runs = [
+        Run {
+            kind: Kind::Int4,
+            values: Values::Many(&numbers),
+        },
+        Run {
+            kind: Kind::Logical,
+            values: Values::One(&truth),
+        },
+    ];
+    let format = parse(alloc, b"(3I3,L2)")?;
+    let items = OutputItems::of_runs(&runs);
+    let mut out = Text::from_bytes(alloc, b"=")?;
+    let condition = print_explicit(&format, true, MODES, items, 80, 0, &mut out)?;
+    assert_eq!(rt; condition, Condition::Fine);
+    assert_eq!(rt; out.bytes(), b"=  1 -2  3 T\n".as_slice());
     Ok(())
 }

@@ -1,147 +1,178 @@
 // Format control carried out on the items of an output.
-ghost use Rattle.std.specs.Prelude.{◌≡◌, ◌≢◌, ◌∷◌, length, map, slice_get, take, List, OnOk};
+ghost use Rattle.std.specs.Prelude.{◌≡◌, ◌≢◌, [], ◌∷◌, List, length, OnOk, Ok};
+ghost use Rattle.fj_format.specs.Unfolding as elementary;
+ghost use Rattle.fj_line.specs.Page.{at_hand, IsIn, IsAtEnd, Keeps, Carries};
+ghost use Rattle.fj_line.specs.Actions.{move, behind};
 ghost use Rattle.fj_control.specs.Steps.{Given, gives, no_data};
 ghost use Rattle.fj_control.specs.Walk.{given, due, items_behind};
-ghost use Rattle.fj_format.specs.Unfolding as elementary;
-ghost use Rattle.fj_transfer.specs.Explicit.{Action, sign_behind, item_put, fails, error_in, page_behind, carried_out, explicit_transfer};
-ghost use Rattle.fj_transfer.specs.Printing.{Tells, Halts, printed, outcome_of};
+ghost use Rattle.fj_transfer.specs.Explicit.{item_put, explicit_actions};
+ghost use Rattle.fj_transfer.specs.Writing.{items_of_writer, IsReady, actions_left, CarriesFirst};
 
-use crate::halt::Halt;
-use crate::page::Page;
-use fj_control::{Cursor, Step};
+use fj_control::{Cursor, Move, Step, modes_behind};
 use fj_edit_out::field;
-use fj_format::{Format, ModeStep};
-use fj_value::{Cell, Condition, Edit, EditModes, Text};
+use fj_format::Format;
+use fj_line::{Page, Unwritten};
+use fj_list::{Item, OutputItems};
+use fj_value::{Condition, Edit, EditModes, Text};
 
 /// An output under an explicit format.
 #[derive(Drop)]
 pub struct Writer<'a> {
     pub page: Page,
-    pub cells: &'a [Cell],
-    /// The cells of the items that are left.
-    pub left: &'a [u32],
     pub modes: EditModes,
-    /// The field at hand.
+    /// The next item.
+    pub item: Option<Item<'a>>,
+    /// The items behind it.
+    pub items: OutputItems<'a>,
+    /// A field that is written over others.
     pub field: Text,
 }
 
-/// The sign mode behind a control edit descriptor (ISO/IEC 1539-1:2004, 10.7.4).
-fn sign_behind(mode: ModeStep, plus: bool) -> bool
-    ensures { result ≡ sign_behind mode plus }
+/// Writes an item's field at the end of the text.
+fn add_field(
+    page: &mut Page,
+    text: &mut Text,
+    edit: Edit,
+    item: Item,
+    modes: EditModes,
+) -> Result<(), Unwritten>
+    requires { IsAtEnd page.old text.old }
+    ensures done { Carries (at_hand page.old text.old) (item_put modes.plus edit (item.entry.kind, item.entry.value.now) ∷ []) result (at_hand page.new text.new) }
+    ensures within { OnOk result (IsIn page.new text.new) }
+    ensures kept { Keeps page.old text.old page.new text.new }
 {
-    match mode {
-        ModeStep::Plus => true,
-        ModeStep::Suppress | ModeStep::Usual => false,
-        ModeStep::BlankNull | ModeStep::BlankZero | ModeStep::Comma | ModeStep::Point => plus,
+    match field(edit, item.value, item.kind, modes, text)? {
+        Condition::Fine => page.take_in(text),
+        condition => Err(Unwritten::Met(condition)),
     }
 }
 
-/// Writes an item's field.
+/// Writes an item's field at the position.
 fn put_field(
     page: &mut Page,
+    text: &mut Text,
     edit: Edit,
-    cell: &Cell,
+    item: Item,
     modes: EditModes,
     buffer: &mut Text,
-) -> Result<(), Halt>
-    ensures told { Tells (error_in (item_put modes.plus edit (Some cell.now)) page.old) result }
-    ensures page { OnOk result (page.new ≡ page_behind (item_put modes.plus edit (Some cell.now)) page.old) }
+) -> Result<(), Unwritten>
+    requires { IsIn page.old text.old }
+    ensures done { Carries (at_hand page.old text.old) (item_put modes.plus edit (item.entry.kind, item.entry.value.now) ∷ []) result (at_hand page.new text.new) }
+    ensures within { OnOk result (IsIn page.new text.new) }
+    ensures kept { Keeps page.old text.old page.new text.new }
 {
+    if page.is_at_end(text) {
+        return add_field(page, text, edit, item, modes);
+    }
     buffer.clear();
-    match field(edit, &cell.value, cell.kind, modes, buffer)? {
-        Condition::Fine => page.put(buffer.bytes()),
-        _ => Err(Halt::Met(12)),
+    match field(edit, item.value, item.kind, modes, buffer)? {
+        Condition::Fine => page.put(text, buffer.bytes()),
+        condition => Err(Unwritten::Met(condition)),
     }
 }
 
 impl<'a> Writer<'a> {
     /// Writes the next item's field.
-    fn put_item(&mut self, edit: Edit) -> Result<(), Halt>
-        ensures halted { Halts (λ n. (more : List Given) (last : List Action) →
-            outcome_of self.old (gives (elementary.edit edit) ∷ more) last ≡ fails n) result }
-        ensures goes { OnOk result ((more : List Given) (last : List Action) →
-            outcome_of self.new more last ≡ outcome_of self.old (gives (elementary.edit edit) ∷ more) last) }
-        ensures left { OnOk result (length self.new.left.now
-            ≡ items_behind (gives (elementary.edit edit)) (length self.old.left.now)) }
+    fn put_item(&mut self, text: &mut Text, edit: Edit) -> Result<(), Unwritten>
+        requires within { IsIn self.old.page text.old }
+        requires ready { IsReady self.old }
+        ensures done { (more : List Given) → CarriesFirst (at_hand self.old.page text.old)
+            (actions_left self.old (gives (elementary.edit edit) ∷ more)) result (at_hand self.new.page text.new) (actions_left self.new more) }
+        ensures left { OnOk result (length (items_of_writer self.new) ≡ items_behind (gives (elementary.edit edit)) (length (items_of_writer self.old))) }
+        ensures within { OnOk result (IsIn self.new.page text.new) }
+        ensures ready { OnOk result (IsReady self.new) }
+        ensures kept { Keeps self.old.page text.old self.new.page text.new }
     {
-        let [at, left @ ..] = self.left else {
+        let Some(item) = self.item else {
             return Ok(());
         };
-        self.left = left;
-        match self.cells.get(*at as usize) {
-            None => Err(Halt::Met(12)),
-            Some(cell) => put_field(&mut self.page, edit, cell, self.modes, &mut self.field),
-        }
+        put_field(
+            &mut self.page,
+            text,
+            edit,
+            item,
+            self.modes,
+            &mut self.field,
+        )?;
+        self.item = self.items.next();
+        Ok(())
+    }
+
+    /// Moves the position.
+    fn go(&mut self, text: &Text, how: Move) -> Result<(), Unwritten>
+        requires within { IsIn self.old.page text.now }
+        ensures page { (at_hand self.new.page text.now ≡ behind (move how) (at_hand self.old.page text.now)) × (self.new ≡ record self.old { page = self.new.page }) }
+        ensures ok { result ≡ Ok tt }
+        ensures within { IsIn self.new.page text.now }
+        ensures begin { self.new.page.begin ≡ self.old.page.begin }
+    {
+        self.page.go(how, text);
+        Ok(())
     }
 
     /// Carries out a step of format control.
-    fn carry_out(&mut self, step: Step, out: &mut Text) -> Result<(), Halt>
-        ensures halted { Halts (λ n. (more : List Given) (last : List Action) →
-            outcome_of self.old (given step.entry ∷ more) last ≡ fails n) result }
-        ensures goes { OnOk result ((more : List Given) (last : List Action) →
-            printed out.new (outcome_of self.new more last)
-            ≡ printed out.old (outcome_of self.old (given step.entry ∷ more) last)) }
-        ensures left { OnOk result (length self.new.left.now
-            ≡ items_behind (given step.entry) (length self.old.left.now)) }
+    fn carry_out(&mut self, text: &mut Text, step: Step) -> Result<(), Unwritten>
+        requires within { IsIn self.old.page text.old }
+        requires ready { IsReady self.old }
+        ensures done { (more : List Given) → CarriesFirst (at_hand self.old.page text.old)
+            (actions_left self.old (given step.entry ∷ more)) result (at_hand self.new.page text.new) (actions_left self.new more) }
+        ensures left { OnOk result (length (items_of_writer self.new) ≡ items_behind (given step.entry) (length (items_of_writer self.old))) }
         ensures some { OnOk result (given step.entry ≢ no_data) }
-        ensures kept { take (length out.old) out.new ≡ out.old }
+        ensures within { OnOk result (IsIn self.new.page text.new) }
+        ensures ready { OnOk result (IsReady self.new) }
+        ensures kept { Keeps self.old.page text.old self.new.page text.new }
     {
         match step {
-            Step::Edit(edit) => self.put_item(edit),
-            Step::Slash => self.page.end_record(out),
-            Step::Str(text) => self.page.put(text),
-            Step::Tab(n) => {
-                self.page.tab(n);
-                Ok(())
-            }
-            Step::Left(n) => {
-                self.page.tab_left(n);
-                Ok(())
-            }
-            Step::Right(n) => {
-                self.page.tab_right(n);
-                Ok(())
-            }
+            Step::Edit(edit) => self.put_item(text, edit),
+            Step::Slash => self.page.end_record(text),
+            Step::Str(chars) => self.page.put(text, chars),
+            Step::Tab(n) => self.go(text, Move::To(n)),
+            Step::Left(n) => self.go(text, Move::Back(n)),
+            Step::Right(n) => self.go(text, Move::Ahead(n)),
             Step::Mode(mode) => {
-                self.modes.plus = sign_behind(mode, self.modes.plus);
+                self.modes = modes_behind(mode, self.modes);
                 Ok(())
             }
             Step::Done => Ok(()),
-            Step::NoData => Err(Halt::Met(11)),
+            Step::NoData => Err(Unwritten::Met(Condition::Error(11))),
         }
     }
 
     /// Carries out all steps of format control.
-    pub fn write_steps(&mut self, mut cursor: Cursor, out: &mut Text) -> Result<(), Halt>
-        ensures halted { Halts (λ n. (last : List Action) →
-            outcome_of self.old (due cursor.entry (length self.old.left.now)) last ≡ fails n) result }
-        ensures goes { OnOk result ((last : List Action) →
-            printed out.new (carried_out self.new.page last)
-            ≡ printed out.old (outcome_of self.old (due cursor.entry (length self.old.left.now)) last)) }
-        ensures kept { take (length out.old) out.new ≡ out.old }
+    pub fn write_steps(&mut self, text: &mut Text, mut cursor: Cursor) -> Result<(), Unwritten>
+        requires within { IsIn self.old.page text.old }
+        requires ready { IsReady self.old }
+        ensures done { Carries (at_hand self.old.page text.old)
+            (actions_left self.old (due cursor.entry (length (items_of_writer self.old)))) result (at_hand self.new.page text.new) }
+        ensures within { OnOk result (IsIn self.new.page text.new) }
+        ensures kept { Keeps self.old.page text.old self.new.page text.new }
     {
         loop {
-            match cursor.next(!self.left.is_empty()) {
+            match cursor.next(self.item.is_some()) {
                 Step::Done => return Ok(()),
-                step => self.carry_out(step, out)?,
+                step => self.carry_out(text, step)?,
             }
         }
     }
 
     /// Writes the records under a format.
-    pub fn write(&mut self, format: &Format, advance: bool, out: &mut Text) -> Result<(), Halt>
-        ensures halted { Halts (λ n. explicit_transfer self.old.page self.old.modes.plus advance format.now
-            (map (slice_get self.old.cells.now) self.old.left.now) ≡ fails n) result }
-        ensures goes { OnOk result (printed out.old (explicit_transfer self.old.page self.old.modes.plus advance format.now
-            (map (slice_get self.old.cells.now) self.old.left.now)) ≡ Ok out.new) }
-        ensures kept { take (length out.old) out.new ≡ out.old }
+    pub fn write(
+        &mut self,
+        text: &mut Text,
+        format: &Format,
+        advance: bool,
+    ) -> Result<(), Unwritten>
+        requires within { IsIn self.old.page text.old }
+        requires ready { IsReady self.old }
+        ensures done { Carries (at_hand self.old.page text.old)
+            (explicit_actions self.old.modes advance format.now (items_of_writer self.old)) result (at_hand self.new.page text.new) }
+        ensures within { OnOk result (IsIn self.new.page text.new) }
+        ensures kept { Keeps self.old.page text.old self.new.page text.new }
     {
-        self.write_steps(Cursor::new(format), out)?;
+        self.write_steps(text, Cursor::new(format))?;
         if advance {
-            self.page.end_record(out)
-        } else {
-            out.push_all(self.page.text())?;
-            Ok(())
+            return self.page.end_record(text);
         }
+        Ok(())
     }
 }

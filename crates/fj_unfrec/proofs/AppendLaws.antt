@@ -3,8 +3,8 @@ use Rattle.std.proofs.Common.{◌≡◌, ℕ, ◌+◌, ◌≤◌, true, false, L
 use Rattle.std.proofs.lemmas.List.{take_at, drop_at, length-append, length-take-le, drop-drop}
 use Rattle.std.specs.Int.{w32, to_le_bytes}
 use Rattle.fj_outside.specs.Bytes.{written}
-use Rattle.fj_span.specs.Change.{with_piece, KeepsUpToChange}
-use Rattle.fj_span.proofs.ChangeLaws.{IsChanged, changed_more, kept_at_piece, kept_at_end}
+use Rattle.fj_span.specs.Change.{with_piece, KeepsUpToChange, IsChanged}
+use Rattle.fj_span.proofs.ChangeLaws.{changed_more, kept_at_piece, kept_at_end}
 use Rattle.fj_unfrec.specs.Frames.{framed}
 
 -- the front of a buffer up to the end of a piece that was put into it

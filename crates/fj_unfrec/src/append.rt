@@ -5,10 +5,7 @@ ghost use Rattle.fj_span.specs.Change.{KeepsUpToChange};
 ghost use Rattle.fj_unfrec.specs.Frames.{framed};
 
 use fj_outside::{FileStore, Stop};
-use fj_span::{put, write_span};
-
-/// Bodies of at most so many bytes are gathered with their lengths and written at once.
-const GATHERED: usize = 1024;
+use fj_span::{GATHERED, put, write_span};
 
 /// The bytes of a frame that is written at once.
 const FRAME: usize = GATHERED + 8;

@@ -15,7 +15,7 @@ pub fn backspace_frame<F: FileStore>(file: &mut F, at: u64) -> Result<Option<u64
     ensures start { F.tells file.old → IfOk result (λ start. start ≡ frame_start (take at (F.bytes file.old))) }
 
     // Told or not.
-    ensures before { IfOk result (λ start. IfSome start (λ place. place ≤ at)) }
+    ensures before { IfOk result (λ start. IfSome start (λ place. (at ≡ 0 → place ≡ 0) × (0 < at → place + 8 ≤ at))) }
     ensures none { IfOk result (λ start. IfNone start (0 < at)) }
     ensures size { F.size file.new ≡ F.size file.old }
     ensures later { F.count file.old ≤ F.count file.new }

@@ -135,12 +135,12 @@ fn appends_frames(rt: HostRuntime) -> Result<(), Fail> {
 fn stores_values(rt: HostRuntime) -> Result<(), Fail> {
     let place = Place { var: 0, index: 1 };
     let mut out = Text::new(rt.alloc());
-    let chars = Text::from_bytes(rt.alloc(), b"abc")?;
+    let chars = Value::of_text(Text::from_bytes(rt.alloc(), b"abc")?)?;
     for (kind, value) in [
         (Kind::Int4, Value::Int(5)),
         (Kind::Int8, Value::Int(-2)),
         (Kind::Logical, Value::Log(true)),
-        (Kind::Chars(3), Value::Chars(chars)),
+        (Kind::Chars(3), chars),
     ] {
         put_value(&Cell { place, kind, value }, &mut out)?;
     }

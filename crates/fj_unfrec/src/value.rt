@@ -37,7 +37,7 @@ pub fn get_value(alloc: Global, kind: Kind, bytes: &[u8], out: &mut Value) -> Re
         Kind::Logical => Value::Log(
             u32::from_le_bytes([bytes[0], bytes[1], bytes[2], bytes[3]]) != 0,
         ),
-        Kind::Chars(_) => Value::Chars(Text::from_bytes(alloc, bytes)?),
+        Kind::Chars(_) => Value::of_text(Text::from_bytes(alloc, bytes)?)?,
     };
     Ok(())
 }

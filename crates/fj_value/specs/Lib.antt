@@ -4,3 +4,5 @@ pub mod Edit
 pub mod Kind
 pub mod Digits
 pub mod DigitLaws
+pub mod Order
+pub mod Reading

@@ -28,7 +28,7 @@ impl Condition {
 }
 
 /// The prohibitions on a statement, in the order in which they are looked at. The report prints their names.
-#[derive(Clone, Copy, Debug, PartialEq, Eq)]
+#[derive(Clone, Copy, Debug, PartialEq, Eq, PartialOrd, Ord)]
 pub enum Rule {
     /// It references a variable of a pending input.
     P1,
@@ -40,4 +40,16 @@ pub enum Rule {
     P4,
     /// It defines a variable by a specifier that another of its parts defines or transfers.
     P5,
+}
+
+impl Rule {
+    ghost use Rattle.std.specs.Prelude.{◌<◌, ◌↔◌, IsTrue};
+    ghost use Rattle.fj_value.specs.Order.{number_of};
+
+    /// Whether it is told in place of another, where both are broken.
+    pub fn is_below(self, other: Rule) -> bool
+        ensures { IsTrue result ↔ (number_of self < number_of other) }
+    {
+        self < other
+    }
 }

@@ -1,20 +1,24 @@
 //! Values, kinds, places, conditions and edit descriptors of a deck, and the list that all list types are.
 #![tactic(auto)]
 
+mod characters;
 mod condition;
 mod digits;
 mod edit;
 mod items;
 mod kind;
 mod place;
+mod reading;
 mod text;
 mod value;
 
+pub use characters::Characters;
 pub use condition::{Condition, Rule};
 pub use digits::{digits_are_unique, numerals_are_read, twos_complement_is_exact};
 pub use edit::{Delim, Edit, EditModes};
 pub use items::Items;
 pub use kind::Kind;
 pub use place::{Place, Tag};
+pub use reading::{signed, truth_of};
 pub use text::Text;
 pub use value::{Cell, Value};

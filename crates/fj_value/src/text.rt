@@ -1,5 +1,7 @@
 // Texts of bytes.
-ghost use Rattle.std.specs.Prelude.{◌≡◌, ◌==◌, [], ◌++◌, IfOk, OnOk, OnErr, length, take, replicate};
+ghost use Rattle.std.specs.Prelude.{◌≡◌, ◌==◌, [], ◌++◌, ◌+◌, ◌-◌, ◌≤◌, IfOk, OnOk, OnErr, length, take, drop, replicate, IsSome, ◌↔◌, ◌<◌};
+ghost use Rattle.std.specs.Option.{option_to_list};
+ghost use Rattle.fj_value.specs.Reading.{assigned_text};
 
 use std::alloc::{AllocError, Global};
 use std::marker::Model;
@@ -42,6 +44,28 @@ impl Text {
         Text { bytes }
     }
 
+    /// The bytes by themselves, where a push behind a `reserve` takes no memory.
+    pub fn into_vec(self) -> Vec<u8>
+        ensures { result.items ≡ self }
+    {
+        self.bytes
+    }
+
+    /// Makes room for so many more bytes. It changes none.
+    pub fn reserve(&mut self, more: usize) -> Result<(), AllocError>
+        ensures { self.new ≡ self.old }
+    {
+        self.bytes.reserve(more)
+    }
+
+    /// Takes the last byte off.
+    pub fn pop(&mut self) -> Option<u8>
+        ensures bytes { self.old ≡ self.new ++ option_to_list result }
+        ensures some { IsSome result ↔ (0 < length self.old) }
+    {
+        self.bytes.pop()
+    }
+
     pub fn bytes(&self) -> &[u8]
         ensures { result.now ≡ self.now }
     {
@@ -82,11 +106,51 @@ impl Text {
         self.bytes.resize(len + count as usize, byte)
     }
 
+    /// Adds copies of one byte up to a length, where the text is shorter. Want of memory changes nothing.
+    pub fn fill_to(&mut self, len: usize, byte: u8) -> Result<(), AllocError>
+        ensures ok { OnOk result (self.new ≡ self.old ++ replicate (len - length self.old) byte) }
+        ensures err { OnErr result (self.new ≡ self.old) }
+    {
+        let len = len.max(self.bytes.len());
+        self.bytes.resize(len, byte)
+    }
+
+    /// Writes bytes over those from a place on.
+    pub fn write_over(&mut self, at: usize, bytes: &[u8])
+        requires { at + length bytes.now ≤ length self.old }
+        ensures { self.new ≡ take at self.old ++ (bytes.now ++ drop (at + length bytes.now) self.old) }
+    {
+        self.bytes[at..at + bytes.len()].copy_from_slice(bytes);
+    }
+
     /// Keeps the first `len` bytes.
     pub fn truncate(&mut self, len: usize)
         ensures { self.new ≡ take len self.old }
     {
         self.bytes.truncate(len);
+    }
+
+    /// Characters as an assignment gives them to a variable of a length: cut on the right, or with blanks behind them.
+    pub fn assigned(alloc: Global, length: u32, chars: &[u8]) -> Result<Text, AllocError>
+        ensures { IfOk result (λ text. text ≡ assigned_text length chars.now) }
+    {
+        let taken = chars.len().min(length as usize);
+        let mut text = Text::from_bytes(alloc, &chars[..taken])?;
+        text.push_copies(b' ', length - taken as u32)?;
+        Ok(text)
+    }
+
+    /// The same of a text that is there already. Want of memory changes nothing.
+    pub fn assign_length(&mut self, length: u32) -> Result<(), AllocError>
+        ensures ok { OnOk result (self.new ≡ assigned_text length self.old) }
+        ensures err { OnErr result (self.new ≡ self.old) }
+    {
+        let count = self.bytes.len();
+        if count >= length as usize {
+            self.bytes.truncate(length as usize);
+            return Ok(());
+        }
+        self.push_copies(b' ', length - count as u32)
     }
 
     pub fn try_clone(&self) -> Result<Text, AllocError>

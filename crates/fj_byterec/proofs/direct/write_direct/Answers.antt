@@ -1,7 +1,8 @@
 use Rattle.std.proofs.Common.{◌≡◌, ◌+◌, ◌-◌, ◌*◌, length, take, arith}
 use Rattle.std.proofs.lemmas.Result.{on_err_weaker, on_ok_weaker}
 use Rattle.fj_outside.specs.Bytes.{written}
-use Rattle.fj_span.proofs.ChangeLaws.{IsChanged, on_any_err, kept_as, made_as}
+use Rattle.fj_span.specs.Change.{IsChanged}
+use Rattle.fj_span.proofs.ChangeLaws.{on_any_err, kept_as, made_as}
 use Rattle.fj_byterec.specs.Pieces.{with_record}
 use Rattle.fj_byterec.proofs.RecordLaws.{start_is, end_is, filled_front, inside_is, kept_in_gap, after_gap, kept_in_text, after_text, kept_in_rest, after_rest}
 use Rattle.fj_byterec.proofs.direct.write_direct.Goals as goal

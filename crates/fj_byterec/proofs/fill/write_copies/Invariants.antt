@@ -1,5 +1,5 @@
 use Rattle.std.proofs.Common.{◌-◌, ◌≡◌, ◌≤◌, ◌↔◌, max}
-use Rattle.fj_span.proofs.ChangeLaws.{IsChanged}
+use Rattle.fj_span.specs.Change.{IsChanged}
 use Rattle.fj_byterec.proofs.CopyLaws.{copied}
 use Rattle.fj_byterec.proofs.fill.write_copies.Given as goal
 

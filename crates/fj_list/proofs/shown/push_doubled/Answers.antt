@@ -1,6 +1,6 @@
 use Rattle.std.proofs.Common.{◌≡◌, true, false, eqb, get_or, arith}
 use Rattle.std.proofs.lemmas.Bool.Decides.{nat_tests}
-use Rattle.fj_list.proofs.Doubling.{other_more, mark_more, slice_is}
+use Rattle.fj_list.proofs.Doubling.{other_more, mark_more, slice_is, take_grown}
 use Rattle.fj_list.proofs.shown.push_doubled.Goals as goal
 use Rattle.fj_list.proofs.shown.push_doubled.Goals.{then-c-mark+in_ok-push_all, else-c-mark}
 
@@ -16,6 +16,7 @@ loop-i-preserved c =
           record {
             within = omega (arith, w.start-is);
             inside = omega (arith, w.start-is);
+            kept = rw (w.out-is, w.in_ok-push_all.ensures.ok) (take_grown c.args.out.now c.loop-i.out _ kept.kept);
             written = rw (w.out-is, w.start-is) (rw (w.in_ok-push_all.ensures.ok, slice_is xs c.loop-i.start i kept.within) (mark_more mark c.loop-i.start i xs c.loop-i.out c.args.out.now kept.within c.loop-i-test.true same kept.written));
           }
       | else-c-mark w ↦
@@ -23,6 +24,7 @@ loop-i-preserved c =
           record {
             within = omega (arith, w.start-is);
             inside = omega (arith, w.start-is);
+            kept = rw w.out-is kept.kept;
             written = rw (w.out-is, w.start-is) (other_more mark c.loop-i.start i xs c.loop-i.out c.args.out.now kept.within c.loop-i-test.true other kept.written);
           }
     ]

@@ -6,5 +6,6 @@ abbrev pub invariant-loop-i : goal.invariant-loop-i
 invariant-loop-i l = record {
   within : l.start ≤ l.i;
   inside : l.start ≤ length l.characters;
+  kept : take (length l.initial.out) l.out ≡ l.initial.out;
   written : l.out ++ drop l.start (take l.i l.characters) ≡ l.initial.out ++ doubled l.mark (take l.i l.characters);
 }

@@ -1,20 +1,20 @@
-use Rattle.std.proofs.Common.{◌≡◌, ◌<◌, ◌∷◌, ◌-◌, List, ℕ, All, length, get_or, take, drop, sym, ap, subst, ◌∙◌, arith}
-use Rattle.std.proofs.lemmas.List.{drop_more, take_rest}
-use Rattle.std.proofs.lemmas.List.Elements.{All-take, All-drop}
-use Rattle.std.proofs.lemmas.Grind.{common_steps}
-use Rattle.fj_list.specs.ListText.{shown}
-use Rattle.fj_list.proofs.LayoutLaws.{listed_items}
+use Rattle.std.proofs.Common.{ap, ◌∙◌, length, List, ℕ}
+use Rattle.fj_value.specs.declared.value.Cell.{Cell}
+use Rattle.fj_line.specs.Page.{at_hand}
+use Rattle.fj_list.specs.Items.{Output, in_cells, items_left, values_in}
+use Rattle.fj_list.specs.ListText.{listed, text_of}
+use Rattle.fj_list.proofs.ListLaws.{never_met, all_listed}
 use Rattle.fj_list.proofs.write.push_records.Goals as goal
 
-pub push_rest-requires : goal.push_rest-requires
-push_rest-requires c =
-    let items = c.as_slice.result.now in
-    let P : ℕ → Type 0 = λ at. at < length c.args.moved.now.cells in
-    All-take P (length items - 1) (drop 1 items) (All-drop P 1 items (subst (λ (l : List ℕ). All P l) (sym c.as_slice.ensures) c.requires))
+pub unreachable-requires : goal.unreachable-requires
+unreachable-requires c =
+    never_met (at_hand c.unlimited-page.result c.new-text.result) c.args.modes (values_in (items_left c.of_cells-items.result)) c.in-Err-Met.field-0-0 c.unlimited-page.ensures.hand
+    (rw c.in-Err-Met.field-0-is at c.in-Err-Met.ensures.done)
 
-pub returns : goal.returns
-returns c =
-    let items = c.as_slice.result.now in
-    let begun : c.push_value.new.out ≡ 32 ∷ shown c.args.modes c.value_at-value.result.now = grind (arith, common_steps) in
-    listed_items c.args.modes c.args.moved.now.cells c.args.moved.now.order (take (length items - 1) (drop 1 items)) (get_or items 0 0) c.value_at-value.result.now c.is_characters.result c.push_value.new.out c.push_rest.new.out
-    (sym c.as_slice.ensures ∙ drop_more items 0 0 (omega arith) ∙ ap (λ r. get_or items 0 0 ∷ r) (sym (take_rest items 1))) c.value_at-value.ensures c.is_characters.ensures begun c.in_ok-push_rest.ensures
+pub returns-in-Ok : goal.returns-in-Ok
+returns-in-Ok c =
+    let start = c.in-Ok.ensures.kept.begin ∙ c.unlimited-page.ensures.begin ∙ ap length c.new-text.ensures in
+    let shown = λ (items : List Output). text_of (listed c.args.modes (values_in items)) in
+    all_listed (at_hand c.unlimited-page.result c.new-text.result) c.args.modes (values_in (items_left c.of_cells-items.result)) c.put_list.new.page c.put_list.new.text
+    c.unlimited-page.ensures.hand c.in-Ok.ensures.done start c.in-Ok.ensures.within.begin c.in-Ok.ensures.within.line
+    ∙ ap shown (c.of_cells-items.ensures ∙ ap (λ (cells : List Cell). in_cells cells c.as_slice-2.result.now) c.as_slice.ensures ∙ ap (in_cells c.args.moved.now.cells) c.as_slice-2.ensures)

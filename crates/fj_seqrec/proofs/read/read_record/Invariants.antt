@@ -13,7 +13,7 @@ invariant-reading g l =
       telling : tells l.fn.file ↔ tells l.file;
       same : tells l.fn.file → bytes l.file ≡ bytes l.fn.file;
       rest : tells l.fn.file → drop l.at (bytes l.fn.file) ≡ l.into ++ drop l.from (bytes l.fn.file);
-      none : line_feed_place l.into ≡ length l.into;
+      none : tells l.fn.file → line_feed_place l.into ≡ length l.into;
       size : g.F.FileStore.size l.file ≡ g.F.FileStore.size l.fn.file;
       later : g.F.FileStore.count l.fn.file ≤ g.F.FileStore.count l.file;
     }

@@ -1,26 +1,24 @@
-use Rattle.std.proofs.Common.{[], ◌∷◌, sym, ap, ◌∙◌, Ok, ◌++◌}
-use Rattle.fj_transfer.specs.Explicit.{end_record, ending}
-use Rattle.fj_transfer.proofs.Endings.{last_halts, last_goes, as_explicit}
+use Rattle.std.proofs.Common.{[], ◌∷◌, length, sym, ap, refl}
+use Rattle.std.proofs.lemmas.Result.{err_from_is_err_and}
+use Rattle.fj_line.specs.Actions.{end_record}
+use Rattle.fj_line.specs.Page.{at_hand}
+use Rattle.fj_control.specs.Walk.{Walk, due}
+use Rattle.fj_transfer.specs.Explicit.{ending}
+use Rattle.fj_transfer.specs.Writing.{items_of_writer, actions_left}
+use Rattle.fj_transfer.proofs.WriterLemmas.{whole_stops, whole_ends}
 use Rattle.fj_transfer.proofs.writer.Writer.write.Goals as goal
 
-pub returns-then-advance-clause-halted : goal.returns-then-advance-clause-halted
-returns-then-advance-clause-halted c =
-    last_halts c.args.out.now c.write_steps.new.out c.write_steps.new.self.page _ _
-    (c.in_ok-write_steps.ensures.goes (end_record ∷ [])
-    ∙ as_explicit c.args.out.now c.args.self.now.page c.args.self.now.modes.plus c.args.advance c.args.format.now c.args.self.now.cells.now c.args.self.now.left.now _ _ c.new.ensures (sym (ap ending c.if-advance.true)))
-    c.end_record.ensures.told
+pub returns-in_err-write_steps-clause-done : goal.returns-in_err-write_steps-clause-done
+returns-in_err-write_steps-clause-done c =
+    let p = err_from_is_err_and c.from_residual.result c.from_residual.ensures.1 in
+    let w = c.args.self.now in
+    let left = λ (walk : Walk). actions_left w (due walk (length (items_of_writer w))) in
+    rw (p.1, p.2) (whole_stops (at_hand w.page c.args.text.now) (at_hand c.write_steps.new.self.page c.write_steps.new.text) (left c.new.result) _ (ending c.args.advance) c.in_err-write_steps.field-0.0
+    (ap left c.new.ensures) c.in_err-write_steps.ensures.done)
 
-pub returns-then-advance-clause-goes : goal.returns-then-advance-clause-goes
-returns-then-advance-clause-goes c =
-    last_goes c.args.out.now c.write_steps.new.out c.write_steps.new.self.page _ _ _
-    (c.in_ok-write_steps.ensures.goes (end_record ∷ [])
-    ∙ as_explicit c.args.out.now c.args.self.now.page c.args.self.now.modes.plus c.args.advance c.args.format.now c.args.self.now.cells.now c.args.self.now.left.now _ _ c.new.ensures (sym (ap ending c.if-advance.true)))
-    c.end_record.ensures.told
-    c.end_record.ensures.out
-
-pub returns-in_ok-push_all-clause-goes : goal.returns-in_ok-push_all-clause-goes
-returns-in_ok-push_all-clause-goes c =
-    sym (as_explicit c.args.out.now c.args.self.now.page c.args.self.now.modes.plus c.args.advance c.args.format.now c.args.self.now.cells.now c.args.self.now.left.now _ _ c.new.ensures (sym (ap ending c.if-advance.false)))
-    ∙ sym (c.in_ok-write_steps.ensures.goes [])
-    ∙ ap (λ l. Ok (c.write_steps.new.out ++ l)) (sym c.text.ensures)
-    ∙ ap (λ l. Ok l) (sym c.in_ok-push_all.ensures.ok)
+pub returns-then-advance-clause-done : goal.returns-then-advance-clause-done
+returns-then-advance-clause-done c =
+    let w = c.args.self.now in
+    let left = λ (walk : Walk). actions_left w (due walk (length (items_of_writer w))) in
+    whole_ends (at_hand w.page c.args.text.now) (at_hand c.write_steps.new.self.page c.write_steps.new.text) (at_hand c.end_record.new.self c.end_record.new.text) (left c.new.result) _ (end_record ∷ []) (ending c.args.advance)
+    c.end_record.result (ap left c.new.ensures) (sym (ap ending c.if-advance.true)) c.in_ok-write_steps.ensures.done c.end_record.ensures.done

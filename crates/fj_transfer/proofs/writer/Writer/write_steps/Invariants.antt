@@ -1,14 +1,18 @@
-use Rattle.std.proofs.Common.{◌≡◌, List, length, take}
+use Rattle.std.proofs.Common.{◌≡◌, length}
+use Rattle.fj_line.specs.Actions.{carried_out}
+use Rattle.fj_line.specs.Page.{at_hand, IsIn, Keeps}
 use Rattle.fj_control.specs.Walk.{due}
-use Rattle.fj_transfer.specs.Explicit.{Action}
-use Rattle.fj_transfer.specs.Printing.{printed, outcome_of}
+use Rattle.fj_transfer.specs.Writing.{items_of_writer, IsReady, actions_left}
 use Rattle.fj_transfer.proofs.writer.Writer.write_steps.Given as goal
 
 abbrev pub invariant-loop-step : goal.invariant-loop-step
 invariant-loop-step l = record {
-  kept : take (length l.initial.out) l.out ≡ l.initial.out;
-  same : (last : List Action) → printed l.out (outcome_of l.self (due l.cursor (length l.self.left.now)) last) ≡ printed l.initial.out (outcome_of l.initial.self (due l.initial.cursor (length l.initial.self.left.now)) last);
+  within : IsIn l.self.page l.text;
+  ready : IsReady l.self;
+  kept : Keeps l.initial.self.page l.initial.text l.self.page l.text;
+  same : carried_out (at_hand l.initial.self.page l.initial.text) (actions_left l.initial.self (due l.initial.cursor (length (items_of_writer l.initial.self))))
+      ≡ carried_out (at_hand l.self.page l.text) (actions_left l.self (due l.cursor (length (items_of_writer l.self))));
 }
 
 abbrev pub decreases-loop-step : goal.decreases-loop-step
-decreases-loop-step l = length (due l.cursor (length l.self.left.now))
+decreases-loop-step l = length (due l.cursor (length (items_of_writer l.self)))

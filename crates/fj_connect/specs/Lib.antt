@@ -1,0 +1,9 @@
+pub mod Spot
+pub mod Connection
+pub mod Linked
+pub mod Opening
+pub mod OpeningLaws
+pub mod Faults
+pub mod Positions
+pub mod PositionLaws
+pub mod TransferLaws

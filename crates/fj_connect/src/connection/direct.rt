@@ -1,0 +1,64 @@
+// Records of direct access.
+ghost use Rattle.std.specs.Prelude.{◌≡◌, ◌+◌, ◌*◌, ◌<◌, ◌≤◌, ◌↔◌, length, max, IfOk, IsTrue, OnOk, OnErr, List, ℕ, Some, None, if◌then◌else◌};
+ghost use Rattle.fj_outside.specs.Faults.{Rose};
+ghost use Rattle.fj_span.specs.Change.{KeepsUpToChange};
+ghost use Rattle.fj_byterec.specs.Pieces.{piece};
+ghost use Rattle.fj_modes.specs.Limits.{longest_file};
+
+use crate::connection::Connection;
+use fj_byterec::{read_direct, write_direct};
+use fj_modes::Access;
+use fj_outside::{FileStore, Stop};
+use fj_value::Text;
+
+impl<F: FileStore> Connection<F> {
+    ghost use Rattle.fj_connect.specs.Connection.{with_direct};
+    ghost use Rattle.fj_connect.specs.Linked.{connection_of};
+
+    /// Reads the direct record of a number; false is told where there is none. The connection stays as it is. `into`
+    /// gets the record, and after a `Stop` is of no account.
+    pub fn read_direct(&mut self, number: u64, into: &mut Text) -> Result<bool, Stop>
+        requires { 0 < number }
+        ensures telling { F.tells self.old.file ↔ F.tells self.new.file }
+        ensures same { F.tells self.old.file → F.bytes self.new.file ≡ F.bytes self.old.file }
+        ensures record { F.tells self.old.file → IfOk result (λ there.
+            (if there then Some into.new else None) ≡ piece (F.bytes self.old.file) self.old.modes.recl number) }
+
+        // Told or not.
+        ensures there { IfOk result (λ there. IsTrue there ↔ (number * self.old.modes.recl ≤ F.size self.old.file)) }
+        ensures length { IfOk result (λ there. length into.new ≡ (if there then self.old.modes.recl else 0)) }
+        ensures rest { self.new ≡ record self.old { file = self.new.file } }
+        ensures size { F.size self.new.file ≡ F.size self.old.file }
+        ensures later { F.count self.old.file ≤ F.count self.new.file }
+        ensures failed { result ≡ Err Stop.Failed → Rose (F.count self.old.file) (F.count self.new.file) }
+    {
+        read_direct(&mut self.file, self.modes.recl, number, into)
+    }
+
+    /// Puts a direct record, filled up with a byte as the gap before it is. After a `Stop` nothing is said of the next
+    /// record's number.
+    pub fn put_direct(&mut self, number: u64, text: &[u8], fill: u8) -> Result<(), Stop>
+        requires access { self.old.modes.access ≡ Access.Direct }
+        requires number { 0 < number }
+        requires text { length text.now ≤ self.old.modes.recl }
+        requires limit { number * self.old.modes.recl ≤ longest_file }
+        ensures telling { F.tells self.old.file ↔ F.tells self.new.file }
+        ensures put { F.tells self.old.file → OnOk result
+            (connection_of F.bytes self.new ≡ with_direct (connection_of F.bytes self.old) number text.now fill) }
+        ensures stopped { F.tells self.old.file → OnErr result (KeepsUpToChange (F.bytes self.old.file)
+            (with_direct (connection_of F.bytes self.old) number text.now fill).bytes (F.bytes self.new.file)) }
+
+        // Told or not.
+        ensures spot { OnOk result (self.new.spot ≡ record self.old.spot { next_number = number + 1 }) }
+        ensures size { OnOk result (F.size self.new.file ≡ max (F.size self.old.file) (number * self.old.modes.recl)) }
+        ensures modes { self.new.modes ≡ self.old.modes }
+        ensures name { self.new.name ≡ self.old.name }
+        ensures later { F.count self.old.file ≤ F.count self.new.file }
+        ensures failed { result ≡ Err Stop.Failed → Rose (F.count self.old.file) (F.count self.new.file) }
+    {
+        self.looked = None;
+        write_direct(&mut self.file, self.modes.recl, number, text, fill)?;
+        self.spot.next_number = number + 1;
+        Ok(())
+    }
+}

@@ -1,0 +1,5 @@
+pub mod LineTexts
+pub mod PageLemmas
+pub mod RecordLaws
+pub mod Cases
+pub mod Carrying

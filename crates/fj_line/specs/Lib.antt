@@ -1,0 +1,4 @@
+pub mod Line
+pub mod Actions
+pub mod Records
+pub mod Page

@@ -1,0 +1,10 @@
+use Rattle.std.proofs.Common.{ℕ, length, refl, sym, subst, ◌≤◌, ◌≡◌}
+use Rattle.fj_list.specs.ListInput.{is_no_digit}
+use Rattle.fj_list.proofs.Widths.{width_found, width-le}
+use Rattle.fj_list.proofs.scan.digits_width.Goals as goal
+
+pub returns-clause-width : goal.returns-clause-width
+returns-clause-width c = width_found is_no_digit c.args.chars.now c.args.chars.now _ _ c.no_digit_in-place.ensures c.width_to.ensures refl
+
+pub returns-clause-within : goal.returns-clause-within
+returns-clause-within c = subst (λ (n : ℕ). n ≤ length c.args.chars.now) (sym (returns-clause-width c)) (width-le is_no_digit c.args.chars.now)

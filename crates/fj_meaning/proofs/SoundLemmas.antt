@@ -1,0 +1,185 @@
+-- What a statement means is sound, part by part.
+use Rattle.std.proofs.Common.{◌≡◌, ℕ, ◌+◌, ◌*◌, ◌<◌, ◌≤◌, Bool, true, false, not, ◌&&◌, cond, List, [], ◌∷◌, ◌++◌, length, map, max, Option, Some, None, refl, sym, ap, ◌∙◌, subst, inl, inr, ◌⊎◌, arith, eqb, leb, is_some, ◌-◌, ◌^◌, pos, negsuc, ℤ}
+use Rattle.std.proofs.lemmas.Int.{ints}
+use Rattle.std.proofs.lemmas.Bool.Decides.{nat_tests}
+use Rattle.std.specs.Prelude.{All, IsSome, IfSome, slice_get}
+use Rattle.std.specs.List.{sum_by}
+use Rattle.std.proofs.lemmas.Bool.{leb-true, eqb-true}
+use Rattle.std.proofs.lemmas.List.Elements.{All-nil, All-cons}
+use Rattle.fj_value.specs.declared.kind.Kind.{Kind}
+use Rattle.fj_value.specs.declared.kind.Kind.TheVariants.{Int4, Int8, Logical, Chars}
+use Rattle.fj_value.specs.declared.place.Place.{Place}
+use Rattle.fj_value.specs.Kind.{FitsBits, fits_bits, integer_bits, IsOfKind}
+use Rattle.fj_statement.specs.declared.deck.Variable.{Variable}
+use Rattle.fj_statement.specs.declared.statement.Operand.{Operand}
+use Rattle.fj_statement.specs.declared.statement.Operand.TheVariants as operand
+use Rattle.fj_statement.specs.Sound.{IsPlace, IsArray, IsOperand, IsInteger, IsIntegerPlace, IsIntegerOperand}
+use Rattle.fj_syntax.specs.declared.operand.Designator.{Designator}
+use Rattle.fj_syntax.specs.declared.operand.Operand as written
+use Rattle.fj_syntax.specs.declared.operand.Operand.TheVariants as written_as
+use Rattle.fj_meaning.specs.declared.designator.Placed.{Placed}
+use Rattle.fj_meaning.specs.declared.operand.Meant.{Meant}
+use Rattle.fj_meaning.specs.declared.scope.Found.{Found}
+use Rattle.fj_meaning.specs.declared.scope.Named.{Named}
+use Rattle.fj_meaning.specs.declared.scope.Named.TheVariants as stands_for
+use Rattle.fj_meaning.specs.declared.scope.Scope.{Scope}
+use Rattle.fj_meaning.specs.Giving.{◌>>=◌, optional}
+use Rattle.fj_meaning.specs.Operands.{index_in, placed, is_integer, integer_place, signed, number_kind, number, literal, element, whole, part, variable_meant, meant, is_whole, integer_operand}
+use Rattle.fj_meaning.specs.Scope.{found, variable_at, named}
+
+-- ---- steps
+
+pub bound : {A B : Type 0} (o : Option A) (f : A → Option B) (y : B) → (o >>= f) ≡ Some y → (x : A) × (o ≡ Some x) × (f x ≡ Some y)
+bound None f y h = cc
+bound (Some x) f y h = (x, refl, h)
+
+pub some_is : {A : Type 0} (x y : A) → Some x ≡ Some y → x ≡ y
+some_is x y h = cc
+
+pub chosen : {X : Type 0} (b : Bool) (x y z : X) → cond b x y ≡ z → ((b ≡ true) × (x ≡ z)) ⊎ ((b ≡ false) × (y ≡ z))
+chosen true x y z h = inl (refl, h)
+chosen false x y z h = inr (refl, h)
+
+-- where it is some, the test passed
+pub passed : {A : Type 0} (b : Bool) (o : Option A) (y : A) → cond b o None ≡ Some y → (b ≡ true) × (o ≡ Some y)
+passed true o y h = (refl, h)
+passed false o y h = cc
+
+pub both : (a b : Bool) → (a && b) ≡ true → (a ≡ true) × (b ≡ true)
+both true b h = (refl, h)
+both false b h = cc
+
+pub no_is : (b : Bool) → not b ≡ true → b ≡ false
+no_is true h = cc
+no_is false h = refl
+
+pub is_there : {A : Type 0} (o : Option A) → is_some o ≡ true → IsSome o
+is_there o h = h
+
+-- ---- places
+
+pub record FoundIs (s : Scope) (f : Found) : Type 0 where
+  pub variable : Variable
+  pub is : slice_get s.variables f.var ≡ Some variable
+  pub kind_is : variable.kind ≡ f.kind
+  pub count_is : variable.count ≡ f.count
+
+variable_found : (s : Scope) (n : Named) (f : Found) → variable_at s n ≡ Some f → FoundIs s f
+variable_found s (stands_for.Variable k) f h =
+    let b = bound (slice_get s.variables k) (λ v. Some (record { var = k; kind = v.kind; count = v.count })) f h in
+    subst (FoundIs s) (some_is (record { var = k; kind = b.0.kind; count = b.0.count }) f b.2) (record { variable = b.0; is = b.1; kind_is = refl; count_is = refl })
+variable_found s (stands_for.Group k) f h = cc
+
+pub found_is : (s : Scope) (name : List ℕ) (f : Found) → found s name ≡ Some f → FoundIs s f
+unfolding found
+found_is s name f h = let b = bound (named s name) (variable_at s) f h in variable_found s b.0 f b.2
+
+record IsIndex (count i : ℕ) : Type 0 where
+  from : 1 ≤ i
+  to : i ≤ max 1 count
+
+index_is : (count : ℕ) (number : Option ℕ) (i : ℕ) → index_in count number ≡ Some i → IsIndex count i
+index_is count None i h =
+    let p = passed (eqb count 0) (Some 1) i h in
+    subst (IsIndex count) (some_is 1 i p.1) (record { from = omega arith; to = omega arith })
+index_is count (Some n) i h =
+    let p = passed (leb 1 n && leb n count) (Some n) i h in
+    let b = both (leb 1 n) (leb n count) p.0 in
+    let low : 1 ≤ n = leb-true 1 n b.0 in
+    let high : n ≤ count = leb-true n count b.1 in
+    subst (IsIndex count) (some_is n i p.1) (record { from = low; to = omega arith })
+
+place_is : (s : Scope) (f : Found) (i : ℕ) → FoundIs s f → IsIndex f.count i → IsPlace s.variables (record { var = f.var; index = i }) f.kind
+place_is s f i found index = record {
+  variable = found.variable;
+  is = found.is;
+  kind_is = found.kind_is;
+  from = index.from;
+  to = subst (λ n. i ≤ max 1 n) (sym found.count_is) index.to;
+}
+
+abbrev PlacedIs : Scope → Placed → Type 0
+PlacedIs s p = IsPlace s.variables p.place p.kind
+
+pub placed_is : (s : Scope) (d : Designator) (p : Placed) → placed s d ≡ Some p → PlacedIs s p
+unfolding placed
+placed_is s d p h =
+    let f = bound (found s d.name) _ p h in
+    let i = bound (index_in f.0.count d.number) _ p f.2 in
+    subst (PlacedIs s) (some_is _ p i.2) (place_is s f.0 i.0 (found_is s d.name f.0 f.1) (index_is f.0.count d.number i.0 i.1))
+
+pub integer_place_is : (s : Scope) (d : Designator) (place : Place) → integer_place s d ≡ Some place → IsIntegerPlace s.variables place
+unfolding integer_place
+integer_place_is s d place h =
+    let b = bound (placed s d) _ place h in
+    let p = passed (is_integer b.0.kind) (Some b.0.place) place b.2 in
+    subst (IsIntegerPlace s.variables) (some_is b.0.place place p.1) (b.0.kind, placed_is s d b.0 b.1, is_there (integer_bits b.0.kind) p.0)
+
+-- ---- operands
+
+fits_true : (bits : ℕ) (z : ℤ) → fits_bits bits z ≡ true → FitsBits bits z
+fits_true bits (pos n) h = let low : n < 2 ^ (bits - 1) = grind (arith, nat_tests) in (omega (arith, ints), omega (arith, ints))
+fits_true bits (negsuc n) h = let low : n < 2 ^ (bits - 1) = grind (arith, nat_tests) in (omega (arith, ints), omega (arith, ints))
+
+abbrev MeantIs : Scope → Meant → Type 0
+MeantIs s m = IsOperand s.variables m.operand m.kind m.count
+
+number_is : (s : Scope) (n : ℤ) (m : Meant) → number n ≡ Some m → MeantIs s m
+unfolding number
+number_is s n m h =
+    let k = bound (number_kind n) _ m h in
+    let of_kind : IsOfKind k.0 (Rattle.fj_value.specs.declared.value.Value.TheVariants.Int n) = elim (chosen (fits_bits 32 n) (Some Int4) (cond (fits_bits 64 n) (Some Int8) None) (Some k.0) k.1) [
+      | inl four ↦ subst (λ kind. IsOfKind kind (Rattle.fj_value.specs.declared.value.Value.TheVariants.Int n)) (some_is Int4 k.0 four.1) (fits_true 32 n four.0)
+      | inr other ↦
+          let eight = passed (fits_bits 64 n) (Some Int8) k.0 other.1 in
+          subst (λ kind. IsOfKind kind (Rattle.fj_value.specs.declared.value.Value.TheVariants.Int n)) (some_is Int8 k.0 eight.1) (fits_true 64 n eight.0)
+    ] in
+    subst (MeantIs s) (some_is _ m k.2) (refl, of_kind, refl)
+
+-- an array has elements
+some_count : (n : ℕ) → eqb n 0 ≡ false → 1 ≤ n
+some_count n h = grind (arith, nat_tests)
+
+part_is : (s : Scope) (f : Found) (number : Option ℕ) (m : Meant) → FoundIs s f → part f number ≡ Some m → MeantIs s m
+part_is s f None m found h = elim (chosen (eqb f.count 0) (element f 1) (whole f) m (some_is _ m h)) [
+  | inl scalar ↦ subst (MeantIs s) scalar.1 (place_is s f 1 found (record { from = omega arith; to = omega arith }), refl)
+  | inr array ↦ subst (MeantIs s) array.1 (record { variable = found.variable; is = found.is; kind_is = found.kind_is; count_is = found.count_is; some = some_count f.count array.0 })
+]
+part_is s f (Some n) m found h =
+    let i = bound (index_in f.count (Some n)) _ m h in
+    subst (MeantIs s) (some_is _ m i.2) (place_is s f i.0 found (index_is f.count (Some n) i.0 i.1), refl)
+
+pub variable_is : (s : Scope) (d : Designator) (m : Meant) → variable_meant s d ≡ Some m → MeantIs s m
+unfolding variable_meant
+variable_is s d m h =
+    let f = bound (found s d.name) _ m h in
+    part_is s f.0 d.number m (found_is s d.name f.0 f.1) f.2
+
+pub meant_is : (s : Scope) (o : written.Operand) (m : Meant) → meant s o ≡ Some m → MeantIs s m
+unfolding meant
+meant_is s (written_as.Number sign amount) m h = number_is s (signed sign amount) m h
+meant_is s (written_as.Truth truth) m h = subst (MeantIs s) (some_is _ m h) (refl, tt, refl)
+meant_is s (written_as.Literal text) m h = subst (MeantIs s) (some_is _ m h) (refl, refl, refl)
+meant_is s (written_as.Place d) m h = variable_is s d m h
+
+integer_of : (s : Scope) (o : Operand) (kind : Kind) (count : ℕ) → IsOperand s.variables o kind count → is_integer kind ≡ true → is_whole o ≡ false → IsIntegerOperand s.variables o
+integer_of s (operand.Literal k value) kind count is integer single = (is.1, subst IsInteger (sym is.0) (is_there (integer_bits kind) integer))
+integer_of s (operand.One place) kind count is integer single = (kind, is.0, is_there (integer_bits kind) integer)
+integer_of s (operand.Whole var) kind count is integer single = cc
+
+pub integer_operand_is : (s : Scope) (o : written.Operand) (m : Operand) → integer_operand s o ≡ Some m → IsIntegerOperand s.variables m
+unfolding integer_operand
+integer_operand_is s o m h =
+    let b = bound (meant s o) _ m h in
+    let p = passed (is_integer b.0.kind && not (is_whole b.0.operand)) (Some b.0.operand) m b.2 in
+    let t = both (is_integer b.0.kind) (not (is_whole b.0.operand)) p.0 in
+    subst (IsIntegerOperand s.variables) (some_is b.0.operand m p.1) (integer_of s b.0.operand b.0.kind b.0.count (meant_is s o b.0 b.1) t.0 (no_is (is_whole b.0.operand) t.1))
+
+-- of what may be given
+pub given_is : {A B : Type 0} (f : A → Option B) (P : B → Type 0) → ((a : A) (b : B) → f a ≡ Some b → P b) → (o : Option A) (r : Option B) → optional f o ≡ Some r → IfSome r P
+given_is f P all None r h = subst (λ o. IfSome o P) (some_is None r h) tt
+given_is f P all (Some a) r h = let b = bound (f a) (λ y. Some (Some y)) r h in subst (λ o. IfSome o P) (some_is (Some b.0) r b.2) (all a b.0 b.1)
+
+pub given_same : {A B : Type 0} (f : A → Option B) (o : Option A) (r : Option B) → optional f o ≡ Some r → is_some r ≡ is_some o
+given_same f None r h = ap is_some (sym (some_is None r h))
+given_same f (Some a) r h = let b = bound (f a) (λ y. Some (Some y)) r h in ap is_some (sym (some_is (Some b.0) r b.2))

@@ -1,0 +1,451 @@
+-- What a statement means is sound.
+use Rattle.std.proofs.Common.{◌≡◌, ℕ, ◌+◌, ◌*◌, ◌<◌, ◌≤◌, Bool, true, false, not, ◌&&◌, ◌||◌, cond, List, [], ◌∷◌, ◌++◌, length, map, Option, Some, None, refl, sym, ap, ◌∙◌, subst, arith, eqb, leb, is_some}
+use Rattle.std.specs.Prelude.{All, IsSome, IfSome, slice_get}
+use Rattle.std.proofs.lemmas.Option.{slice_get_within, get_or_from_slice_get}
+use Rattle.std.specs.List.{sum_by, list_all, fold}
+use Rattle.std.proofs.lemmas.Bool.{leb-true, eqb-true}
+use Rattle.std.proofs.lemmas.List.Elements.{All-nil, All-cons}
+use Rattle.fj_value.specs.declared.kind.Kind.{Kind}
+use Rattle.fj_value.specs.declared.kind.Kind.TheVariants.{Int4, Int8, Logical, Chars}
+use Rattle.fj_value.specs.declared.value.Value.{Value}
+use Rattle.fj_value.specs.declared.place.Place as places
+use Rattle.fj_value.specs.Kind.{integer_bits, text_length}
+use Rattle.fj_modes.specs.declared.asked.Question.{Question}
+use Rattle.fj_modes.specs.declared.asked.Question.TheVariants as question
+use Rattle.fj_modes.specs.declared.asked.Wanted.{Wanted}
+use Rattle.fj_modes.specs.declared.unit.UnitRef.{UnitRef}
+use Rattle.fj_modes.specs.declared.unit.UnitRef.TheVariants.{Star, Number}
+use Rattle.fj_format.specs.declared.item.FormatItem.{FormatItem}
+use Rattle.fj_format.specs.Unfolding.{has_width_zero}
+use Rattle.fj_statement.specs.declared.statement.Operand as operands
+use Rattle.fj_statement.specs.declared.statement.Operand.TheVariants.{Literal, One, Whole}
+use Rattle.fj_statement.specs.declared.statement.Statement.{Statement}
+use Rattle.fj_statement.specs.declared.statement.Statement.TheVariants as statement
+use Rattle.fj_statement.specs.declared.statement.Transfer as made
+use Rattle.fj_statement.specs.Sound.{bytes_of, IsOperand, IsIntegerPlace, IsIntegerOperand, IsVariable, Takes, TakesLiteral, Fits, IsAssignment, IsAnswerKind, IsAsked, IsExplicit, IsFormatted, MayHaveRecord, HasNoZeroWidth, HasMembers, HasNoItems, AreItems, IsList, IsAllowed, IsTransfer, IsInquiry, IsSoundStatement}
+use Rattle.fj_syntax.specs.declared.operand.Designator.{Designator}
+use Rattle.fj_syntax.specs.declared.operand.Operand.{Operand}
+use Rattle.fj_syntax.specs.declared.operand.Operand.TheVariants as operand
+use Rattle.fj_syntax.specs.declared.written.Assignment.{Assignment}
+use Rattle.fj_syntax.specs.declared.written.Asking.{Asking}
+use Rattle.fj_syntax.specs.declared.written.Inquire.{Inquire}
+use Rattle.fj_syntax.specs.declared.written.Format.{Format}
+use Rattle.fj_syntax.specs.declared.written.Format.TheVariants as format
+use Rattle.fj_syntax.specs.declared.written.Transfer.{Transfer}
+use Rattle.fj_syntax.specs.declared.written.Written.{Written}
+use Rattle.fj_syntax.specs.declared.written.Written.TheVariants as written
+use Rattle.fj_meaning.specs.declared.operand.Meant.{Meant}
+use Rattle.fj_meaning.specs.declared.items.Chosen.{Chosen}
+use Rattle.fj_meaning.specs.declared.transfer.Parts.{Parts}
+use Rattle.fj_meaning.specs.declared.scope.Found.{Found}
+use Rattle.fj_meaning.specs.declared.scope.Named.{Named}
+use Rattle.fj_meaning.specs.declared.scope.Named.TheVariants as stands_for
+use Rattle.fj_meaning.specs.declared.scope.Scope.{Scope}
+use Rattle.fj_meaning.specs.Giving.{◌>>=◌, optional, each}
+use Rattle.fj_meaning.specs.Operands.{is_integer, is_whole, placed, integer_place, element, whole, part, variable_meant, meant, integer_operand}
+use Rattle.fj_meaning.specs.Calls.{takes, takes_literal, goes_from, goes_to, assigned, opened, closed, awaited, moved, is_logical, is_characters, suits, wanted, inquired}
+use Rattle.fj_meaning.specs.Transfer.{◌implies◌, given, is_true, is_list_directed, is_explicit, is_place, is_star, changes_some, goes_together, stands_alone, can_be_read, is_allowed, size_of, elements, bytes, are_few, chosen, parts, control_of, assembled, transferred, is_short, of_parts, fits}
+use Rattle.fj_meaning.specs.Meaning.{literal_of, IsFormatOf, meaning, is_within_limits, HasMeaning, format_text}
+use Rattle.fj_meaning.specs.Scope.{found, members, group_at, named}
+use Rattle.fj_meaning.specs.Sound.{IsSoundScope, MeaningIsSound}
+use Rattle.fj_meaning.proofs.SoundLemmas.{bound, some_is, passed, both, no_is, is_there, placed_is, integer_place_is, variable_is, meant_is, integer_operand_is, given_is, given_same}
+
+-- ---- assignments
+
+part_variable : (f : Found) (n : Option ℕ) (m : Meant) → part f n ≡ Some m → IsVariable m.operand
+part_variable f None m h = subst (λ x. IsVariable x.operand) (some_is _ m h) (either (eqb f.count 0)) where
+  either : (b : Bool) → IsVariable (cond b (element f 1) (whole f)).operand
+  either true = tt
+  either false = tt
+part_variable f (Some n) m h = let i = bound _ (λ i. Some (element f i)) m h in subst (λ x. IsVariable x.operand) (some_is _ m i.2) tt
+
+variable_only : (s : Scope) (d : Designator) (m : Meant) → variable_meant s d ≡ Some m → IsVariable m.operand
+unfolding variable_meant
+variable_only s d m h = let f = bound (found s d.name) (λ f. part f d.number) m h in part_variable f.0 d.number m f.2
+
+takes_is : (to from : Kind) → takes to from ≡ true → Takes to from
+takes_is Int4 Int4 h = refl
+takes_is Int8 Int8 h = refl
+takes_is Logical Logical h = refl
+takes_is (Chars to) (Chars from) h = tt
+takes_is to from h = cc
+
+takes_literal_is : (to from : Kind) → takes_literal to from ≡ true → TakesLiteral to from
+takes_literal_is Int8 Int4 h = tt
+takes_literal_is to from h = takes_is to from h
+
+fits_is : (from to : operands.Operand) (from_meant to_meant : Meant) → to_meant.operand ≡ to → IsVariable to → goes_from from to_meant from_meant ≡ true → Fits from to from_meant.kind to_meant.kind
+fits_is (Literal kind value) to from_meant to_meant e v h = takes_literal_is to_meant.kind from_meant.kind h
+fits_is (One place) (Literal kind value) from_meant to_meant e v h = absurd v
+fits_is (One place) (One to) from_meant to_meant e v h = takes_is to_meant.kind from_meant.kind (both (not (is_whole to_meant.operand)) (takes to_meant.kind from_meant.kind) h).1
+fits_is (One place) (Whole var) from_meant to_meant e v h =
+    let differs : false ≡ true = ap (λ o. not (is_whole o)) (sym e) ∙ (both (not (is_whole to_meant.operand)) (takes to_meant.kind from_meant.kind) h).0 in cc
+fits_is (Whole var) to from_meant to_meant e v h = cc
+
+assigned_is : (s : Scope) (a : Assignment) (m : Statement) → assigned s a ≡ Some m → IsSoundStatement s.variables m
+unfolding assigned
+assigned_is s a m h =
+    let to = bound (variable_meant s a.to) _ m h in
+    let from = bound (meant s a.from) _ m to.2 in
+    let p = passed (goes_to to.0 from.0) (Some (statement.Assign to.0.operand from.0.operand)) m from.2 in
+    let only = variable_only s a.to to.0 to.1 in
+    subst (IsSoundStatement s.variables) (some_is (statement.Assign to.0.operand from.0.operand) m p.1) (record {
+      to_kind = to.0.kind;
+      to_count = to.0.count;
+      from_kind = from.0.kind;
+      from_count = from.0.count;
+      to_is = variable_is s a.to to.0 to.1;
+      from_is = meant_is s a.from from.0 from.1;
+      variable = only;
+      fits = fits_is from.0.operand to.0.operand from.0 to.0 refl only p.0;
+    })
+
+-- ---- INQUIRE
+
+logical_is : (kind : Kind) → is_logical kind ≡ true → kind ≡ Logical
+logical_is Logical h = refl
+logical_is kind h = cc
+
+characters_is : (kind : Kind) → is_characters kind ≡ true → IsSome (text_length kind)
+characters_is (Chars n) h = refl
+characters_is kind h = cc
+
+suits_is : (what : Question) (kind : Kind) → suits what kind ≡ true → IsAnswerKind what kind
+suits_is question.Exist kind h = logical_is kind h
+suits_is question.Opened kind h = logical_is kind h
+suits_is question.Named kind h = logical_is kind h
+suits_is question.Pending kind h = logical_is kind h
+suits_is question.Number kind h = is_there (integer_bits kind) h
+suits_is question.Recl kind h = is_there (integer_bits kind) h
+suits_is question.Nextrec kind h = is_there (integer_bits kind) h
+suits_is question.Pos kind h = is_there (integer_bits kind) h
+suits_is question.Size kind h = is_there (integer_bits kind) h
+suits_is what kind h = characters_is kind h
+
+wanted_is : (s : Scope) (a : Asking) (w : Wanted) → wanted s a ≡ Some w → IsAsked s.variables w
+unfolding wanted
+wanted_is s a w h =
+    let p = bound (placed s a.place) _ w h in
+    let t = passed (suits a.what p.0.kind) (Some (record { what = a.what; place = p.0.place; kind = p.0.kind })) w p.2 in
+    subst (IsAsked s.variables) (some_is _ w t.1) (record { place = placed_is s a.place p.0 p.1; suits = suits_is a.what p.0.kind t.0 })
+
+-- what holds of each part holds of all
+pub each_is : {A B : Type 0} (f : A → Option B) (P : B → Type 0) → ((a : A) (b : B) → f a ≡ Some b → P b) → (xs : List A) (ys : List B) → each f xs ≡ Some ys → All P ys
+each_is f P is [] ys h = subst (All P) (some_is [] ys h) (All-nil P)
+each_is f P is (x ∷ xs) ys h =
+    let y = bound (f x) _ ys h in
+    let more = bound (each f xs) _ ys y.2 in
+    subst (All P) (some_is (y.0 ∷ more.0) ys more.2) (All-cons P y.0 more.0 (is x y.0 y.1) (each_is f P is xs more.0 more.1))
+
+inquired_is : (s : Scope) (i : Inquire) (m : Statement) → inquired s i ≡ Some m → IsSoundStatement s.variables m
+unfolding inquired
+inquired_is s i m h =
+    let asked = bound (each (wanted s) i.asked) _ m h in
+    let id = bound (optional (integer_operand s) i.id) _ m asked.2 in
+    let told = bound (optional (integer_place s) i.iostat) _ m id.2 in
+    subst (IsSoundStatement s.variables) (some_is (statement.Inquire i.about asked.0 id.0 told.0) m told.2) (record {
+      questions = each_is (wanted s) (IsAsked s.variables) (wanted_is s) i.asked asked.0 asked.1;
+      id_is = given_is (integer_operand s) (IsIntegerOperand s.variables) (integer_operand_is s) i.id id.0 id.1;
+      iostat_is = given_is (integer_place s) (IsIntegerPlace s.variables) (integer_place_is s) i.iostat told.0 told.1;
+    })
+
+-- ---- items
+
+abbrev shape : Meant → Kind × ℕ
+shape m = (m.kind, m.count)
+
+abbrev what : Meant → operands.Operand
+what m = m.operand
+
+are_items : (s : Scope) (os : List Operand) (ms : List Meant) → each (meant s) os ≡ Some ms → AreItems s.variables (map what ms) (map shape ms)
+are_items s [] ms h = subst (λ l. AreItems s.variables (map what l) (map shape l)) (some_is [] ms h) tt
+are_items s (o ∷ os) ms h =
+    let m = bound (meant s o) _ ms h in
+    let more = bound (each (meant s) os) _ ms m.2 in
+    subst (λ l. AreItems s.variables (map what l) (map shape l)) (some_is (m.0 ∷ more.0) ms more.2) (meant_is s o m.0 m.1, are_items s os more.0 more.1)
+
+same_size : (kind : Kind) → size_of kind ≡ bytes_of kind
+same_size Int4 = refl
+same_size Int8 = refl
+same_size Logical = refl
+same_size (Chars n) = refl
+
+-- a sum over what each one is seen as
+same_sum : {A B : Type 0} (f : A → ℕ) (g : B → ℕ) (view : A → B) → ((a : A) → f a ≡ g (view a)) → (n : ℕ) (xs : List A) → fold (λ sum x. sum + f x) n xs ≡ fold (λ sum x. sum + g x) n (map view xs)
+same_sum f g view same n [] = refl
+same_sum f g view same n (x ∷ xs) = ap (λ k. fold (λ sum x. sum + f x) (n + k) xs) (same x) ∙ same_sum f g view same (n + g (view x)) xs
+
+same_elements : (ms : List Meant) → elements ms ≡ sum_by (λ s. s.1) (map shape ms)
+same_elements ms = same_sum (λ m. m.count) (λ s. s.1) shape (λ m. refl) 0 ms
+
+same_bytes : (ms : List Meant) → bytes ms ≡ sum_by (λ s. s.1 * bytes_of s.0) (map shape ms)
+same_bytes ms = same_sum (λ m. m.count * size_of m.kind) (λ s. s.1 * bytes_of s.0) shape (λ m. ap (λ k. m.count * k) (same_size m.kind)) 0 ms
+
+list_is : (s : Scope) (os : List Operand) (ms : List Meant) → each (meant s) os ≡ Some ms → are_few ms ≡ true → IsList s.variables (map what ms)
+unfolding are_few
+list_is s os ms h few =
+    let b = both (leb (elements ms) 1000000) (leb (bytes ms) 16777216) few in
+    record {
+      shapes = map shape ms;
+      are = are_items s os ms h;
+      elements = subst (λ n. n ≤ 1000000) (same_elements ms) (leb-true (elements ms) 1000000 b.0);
+      bytes = subst (λ n. n ≤ 16777216) (same_bytes ms) (leb-true (bytes ms) 16777216 b.1);
+    }
+
+place_only : (s : Scope) (o : Operand) (m : Meant) → meant s o ≡ Some m → is_place o ≡ true → IsVariable m.operand
+unfolding meant
+place_only s (operand.Place d) m h e = variable_only s d m h
+place_only s (operand.Number sign amount) m h e = cc
+place_only s (operand.Truth truth) m h e = cc
+place_only s (operand.Literal text) m h e = cc
+
+are_variables : (s : Scope) (os : List Operand) (ms : List Meant) → each (meant s) os ≡ Some ms → list_all is_place os ≡ true → All IsVariable (map what ms)
+are_variables s [] ms h all = subst (λ l. All IsVariable (map what l)) (some_is [] ms h) (All-nil IsVariable)
+are_variables s (o ∷ os) ms h all =
+    let b = both (is_place o) (list_all is_place os) all in
+    let m = bound (meant s o) _ ms h in
+    let more = bound (each (meant s) os) _ ms m.2 in
+    subst (λ l. All IsVariable (map what l)) (some_is (m.0 ∷ more.0) ms more.2) (All-cons IsVariable m.0.operand (map what more.0) (place_only s o m.0 m.1 b.0) (are_variables s os more.0 more.1 b.1))
+
+-- ---- the rules
+
+implied : (a b : Bool) → (a implies b) ≡ true → a ≡ true → b ≡ true
+implied true b h e = h
+implied false b h e = cc
+
+some_true : {A : Type 0} (o : Option A) → IsSome o → is_some o ≡ true
+some_true o h = h
+
+none_is : {A : Type 0} (o : Option A) → is_some o ≡ false → o ≡ None
+none_is None h = refl
+none_is (Some x) h = cc
+
+neither : (a b : Bool) → not (a || b) ≡ true → (a ≡ false) × (b ≡ false)
+neither true b h = cc
+neither false b h = (refl, no_is b h)
+
+true_is : (o : Option Bool) → is_true o ≡ true → o ≡ Some true
+true_is None h = cc
+true_is (Some b) h = ap Some h
+
+explicit_is : (g : Option (List ℕ)) (vars : Option (List ℕ)) (f : Option Format) (items : Option (List FormatItem)) (few : Bool) → IsFormatOf (literal_of f) items
+    → (given g implies (not (given f) && few)) ≡ true → is_explicit f ≡ true → IsExplicit (control_of g vars f items)
+explicit_is g vars None items few is rule e = cc
+explicit_is g vars (Some format.Asterisk) items few is rule e = cc
+explicit_is (Some name) vars (Some (format.Literal text)) items few is rule e = cc
+explicit_is None vars (Some (format.Literal text)) None few is rule e = absurd is
+explicit_is None vars (Some (format.Literal text)) (Some items) few is rule e = tt
+
+formatted_is : (g : Option (List ℕ)) (vars : Option (List ℕ)) (f : Option Format) (items : Option (List FormatItem)) → IsFormatOf (literal_of f) items
+    → is_some vars ≡ is_some g → (given f || given g) ≡ true → IsFormatted (control_of g vars f items)
+formatted_is (Some name) None f items is same e = cc
+formatted_is (Some name) (Some vars) f items is same e = tt
+formatted_is None vars None items is same e = cc
+formatted_is None vars (Some format.Asterisk) None is same e = tt
+formatted_is None vars (Some format.Asterisk) (Some items) is same e = tt
+formatted_is None vars (Some (format.Literal text)) None is same e = absurd is
+formatted_is None vars (Some (format.Literal text)) (Some items) is same e = tt
+
+record_is : (g : Option (List ℕ)) (vars : Option (List ℕ)) (f : Option Format) (items : Option (List FormatItem)) → is_list_directed f ≡ false → given g ≡ false → IsFormatOf (literal_of f) items
+    → MayHaveRecord (control_of g vars f items)
+record_is (Some name) vars f items listed single is = cc
+record_is None vars None None listed single is = tt
+record_is None vars None (Some items) listed single is = tt
+record_is None vars (Some format.Asterisk) items listed single is = cc
+record_is None vars (Some (format.Literal text)) None listed single is = absurd is
+record_is None vars (Some (format.Literal text)) (Some items) listed single is = tt
+
+width_is : (g : Option (List ℕ)) (vars : Option (List ℕ)) (f : Option Format) (items : Option (List FormatItem)) (os : List Operand) → can_be_read items os ≡ true → HasNoZeroWidth (control_of g vars f items)
+width_is (Some name) (Some vars) f items os h = tt
+width_is (Some name) None f (Some items) os h = no_is (has_width_zero items) (both (list_all is_place os) (not (has_width_zero items)) h).1
+width_is (Some name) None (Some f) None os h = tt
+width_is (Some name) None None None os h = tt
+width_is None vars f (Some items) os h = no_is (has_width_zero items) (both (list_all is_place os) (not (has_width_zero items)) h).1
+width_is None vars (Some f) None os h = tt
+width_is None vars None None os h = tt
+
+places_read : (items : Option (List FormatItem)) (os : List Operand) → can_be_read items os ≡ true → list_all is_place os ≡ true
+places_read None os h = h
+places_read (Some items) os h = (both (list_all is_place os) (not (has_width_zero items)) h).0
+
+no_items : (s : Scope) (os : List Operand) (ms : List Meant) → each (meant s) os ≡ Some ms → eqb (length os) 0 ≡ true → map what ms ≡ []
+no_items s [] ms h e = ap (map what) (sym (some_is [] ms h))
+no_items s (o ∷ os) ms h e = let none : length (o ∷ os) ≡ 0 = eqb-true (length (o ∷ os)) 0 e in absurd (omega arith)
+
+group_is : (s : Scope) (os : List Operand) (ms : List Meant) (g : Option (List ℕ)) (vars : Option (List ℕ)) (f : Option Format) (items : Option (List FormatItem)) → each (meant s) os ≡ Some ms
+    → (given g implies (not (given f) && eqb (length os) 0)) ≡ true → HasNoItems (control_of g vars f items) (map what ms)
+group_is s os ms (Some name) (Some vars) f items h rule = no_items s os ms h (both (not (given f)) (eqb (length os) 0) rule).1
+group_is s os ms (Some name) None f (Some items) h rule = tt
+group_is s os ms (Some name) None (Some f) None h rule = tt
+group_is s os ms (Some name) None None None h rule = tt
+group_is s os ms None vars f (Some items) h rule = tt
+group_is s os ms None vars (Some f) None h rule = tt
+group_is s os ms None vars None None h rule = tt
+
+star_is : (u : UnitRef) → u ≡ Star → is_star u ≡ true
+star_is u e = ap is_star e
+
+all_at : {A : Type 0} (P : A → Type 0) (xs : List A) (n : ℕ) (x : A) → All P xs → slice_get xs n ≡ Some x → P x
+all_at P xs n x all h = subst P (get_or_from_slice_get xs n x x h) (all n x (slice_get_within xs n x h))
+
+abbrev AreMembers : Scope → List ℕ → Type 0
+AreMembers s vars = All (λ var. var < length s.variables) vars
+
+group_members : (s : Scope) → IsSoundScope s → (n : Named) (vars : List ℕ) → group_at s n ≡ Some vars → AreMembers s vars
+group_members s sound (stands_for.Variable k) vars h = cc
+group_members s sound (stands_for.Group k) vars h =
+    let g = bound (slice_get s.groups k) (λ g. Some g.vars) vars h in
+    subst (AreMembers s) (some_is g.0.vars vars g.2) (all_at (λ g. AreMembers s g.vars) s.groups k g.0 sound.members g.1)
+
+members_is : (s : Scope) → IsSoundScope s → (name vars : List ℕ) → members s name ≡ Some vars → AreMembers s vars
+unfolding members
+members_is s sound name vars h = let n = bound (named s name) (group_at s) vars h in group_members s sound n.0 vars n.2
+
+has_members : (s : Scope) → IsSoundScope s → (g : Option (List ℕ)) (vars : Option (List ℕ)) (f : Option Format) (items : Option (List FormatItem)) → optional (members s) g ≡ Some vars → HasMembers s.variables (control_of g vars f items)
+has_members s sound (Some name) (Some vars) f items h =
+    let b = bound (members s name) (λ y. Some (Some y)) (Some vars) h in
+    members_is s sound name vars (b.1 ∙ (let e : Some (Some b.0) ≡ Some (Some vars) = b.2 in cc))
+has_members s sound (Some name) None f (Some items) h = tt
+has_members s sound (Some name) None (Some f) None h = tt
+has_members s sound (Some name) None None None h = tt
+has_members s sound None vars f (Some items) h = tt
+has_members s sound None vars (Some f) None h = tt
+has_members s sound None vars None None h = tt
+
+-- ---- READ and WRITE
+
+-- what a transfer is made of
+record IsMade (s : Scope) (t : Transfer) (p : Parts) (ms : List Meant) : Type 0 where
+  group : optional (members s) t.control.group ≡ Some p.group
+  each_is : each (meant s) t.items ≡ Some ms
+  items : map what ms ≡ p.items
+  few : are_few ms ≡ p.few
+  rec : optional (integer_operand s) t.course.rec ≡ Some p.rec
+  pos : optional (integer_operand s) t.course.pos ≡ Some p.pos
+  id : optional (integer_place s) t.results.id ≡ Some p.id
+  size : optional (integer_place s) t.results.size ≡ Some p.size
+  iostat : optional (integer_place s) t.results.iostat ≡ Some p.iostat
+
+made_is : (s : Scope) (t : Transfer) (p : Parts) → parts s t ≡ Some p → (ms : List Meant) × IsMade s t p ms
+unfolding parts chosen
+made_is s t p h =
+    let g = bound (optional (members s) t.control.group) _ p h in
+    let c = bound (each (meant s) t.items >>= (λ ms. Some (record { items = map (λ m. m.operand) ms; few = are_few ms }))) _ p g.2 in
+    let ms = bound (each (meant s) t.items) _ c.0 c.1 in
+    let same : record { items = map what ms.0; few = are_few ms.0 } ≡ c.0 = some_is _ c.0 ms.2 in
+    let rec = bound (optional (integer_operand s) t.course.rec) _ p c.2 in
+    let pos = bound (optional (integer_operand s) t.course.pos) _ p rec.2 in
+    let id = bound (optional (integer_place s) t.results.id) _ p pos.2 in
+    let size = bound (optional (integer_place s) t.results.size) _ p id.2 in
+    let told = bound (optional (integer_place s) t.results.iostat) _ p size.2 in
+    let made : record { group = g.0; items = c.0.items; few = c.0.few; rec = rec.0; pos = pos.0; id = id.0; size = size.0; iostat = told.0 } ≡ p = some_is _ p told.2 in (
+      ms.0,
+      subst (λ q. IsMade s t q ms.0) made (record {
+        group = g.1;
+        each_is = ms.1;
+        items = ap (λ x. x.items) same;
+        few = ap (λ x. x.few) same;
+        rec = rec.1;
+        pos = pos.1;
+        id = id.1;
+        size = size.1;
+        iostat = told.1;
+      }),
+    )
+
+allowed_is : (s : Scope) (items : Option (List FormatItem)) (t : Transfer) (p : Parts) (ms : List Meant) → IsMade s t p ms → IsFormatOf (literal_of t.control.format) items → is_allowed items t ≡ true
+    → IsAllowed (assembled items t p)
+unfolding is_allowed
+allowed_is s items t p ms made is rules =
+    let a = both (goes_together t) (stands_alone t && (t.input implies can_be_read items t.items)) rules in
+    let b = both (stands_alone t) (t.input implies can_be_read items t.items) a.1 in
+    let g = t.control.group in
+    let f = t.control.format in
+    let id_rule = both (given t.results.id implies is_true t.course.asynchronous) _ a.0 in
+    let size_rule = both (given t.results.size implies given t.course.advance) _ id_rule.1 in
+    let advance_rule = both (given t.course.advance implies is_explicit f) (changes_some t.control.changes implies (given f || given g)) size_rule.1 in
+    let rec_rule = both (given t.course.rec implies not (given t.course.pos || (is_list_directed f || given g))) _ b.0 in
+    let group_rule = both (given g implies (not (given f) && eqb (length t.items) 0)) (is_star t.control.unit implies not (given t.course.rec || given t.course.pos)) rec_rule.1 in
+    let same_rec : is_some p.rec ≡ is_some t.course.rec = given_same (integer_operand s) t.course.rec p.rec made.rec in
+    let same_pos : is_some p.pos ≡ is_some t.course.pos = given_same (integer_operand s) t.course.pos p.pos made.pos in
+    let same_group : is_some p.group ≡ is_some g = given_same (members s) g p.group made.group in
+    let mode = λ (x : changes_some t.control.changes ≡ true). formatted_is g p.group f items is same_group (implied (changes_some t.control.changes) (given f || given g) advance_rule.1 x) in
+    let alone = λ (h : IsSome p.rec). neither (given t.course.pos) (is_list_directed f || given g) (implied (given t.course.rec) _ rec_rule.0 (sym same_rec ∙ some_true p.rec h)) in
+    let star = λ (h : t.control.unit ≡ Star). neither (given t.course.rec) (given t.course.pos) (implied (is_star t.control.unit) _ group_rule.1 (star_is t.control.unit h)) in
+    let read = λ (h : t.input ≡ true). implied t.input (can_be_read items t.items) b.1 h in
+    record {
+      id_needs_asynchronous = λ h. true_is t.course.asynchronous (implied (given t.results.id) _ id_rule.0 (sym (given_same (integer_place s) t.results.id p.id made.id) ∙ some_true p.id h));
+      size_needs_advance = λ h. is_there t.course.advance (implied (given t.results.size) _ size_rule.0 (sym (given_same (integer_place s) t.results.size p.size made.size) ∙ some_true p.size h));
+      advance_needs_format = λ h. explicit_is g p.group f items (eqb (length t.items) 0) is group_rule.0 (implied (given t.course.advance) (is_explicit f) advance_rule.0 (some_true t.course.advance h));
+      blank_needs_format = λ h. mode (some_of (given t.control.changes.blank_zero) _ (some_true t.control.changes.blank_zero h));
+      decimal_needs_format = λ h. mode (later (given t.control.changes.blank_zero) _ (some_of (given t.control.changes.comma) _ (some_true t.control.changes.comma h)));
+      delim_needs_format = λ h. mode (later (given t.control.changes.blank_zero) _ (later (given t.control.changes.comma) _ (some_of (given t.control.changes.delim) _ (some_true t.control.changes.delim h))));
+      pad_needs_format = λ h. mode (later (given t.control.changes.blank_zero) _ (later (given t.control.changes.comma) _ (later (given t.control.changes.delim) _ (some_of (given t.control.changes.pad) _ (some_true t.control.changes.pad h)))));
+      sign_needs_format = λ h. mode (later (given t.control.changes.blank_zero) _ (later (given t.control.changes.comma) _ (later (given t.control.changes.delim) _ (later (given t.control.changes.pad) _ (some_true t.control.changes.plus h)))));
+      record_excludes_position = λ h. none_is p.pos (same_pos ∙ (alone h).0);
+      record_excludes_lists = λ h. let n = none_of (is_list_directed f) (given g) (alone h).1 in record_is g p.group f items n.0 n.1 is;
+      group_excludes_items = subst (λ l. HasNoItems (control_of g p.group f items) l) made.items (group_is s t.items ms g p.group f items made.each_is group_rule.0);
+      star_has_no_record = λ h. none_is p.rec (same_rec ∙ (star h).0);
+      star_has_no_position = λ h. none_is p.pos (same_pos ∙ (star h).1);
+      read_has_places = λ h. subst (All IsVariable) made.items (are_variables s t.items ms made.each_is (places_read items t.items (read h)));
+      read_has_widths = λ h. width_is g p.group f items t.items (read h);
+    } where
+      some_of : (a b : Bool) → a ≡ true → (a || b) ≡ true
+      some_of true b h = refl
+      some_of false b h = cc
+
+      later : (a b : Bool) → b ≡ true → (a || b) ≡ true
+      later true b h = refl
+      later false b h = h
+
+      none_of : (a b : Bool) → (a || b) ≡ false → (a ≡ false) × (b ≡ false)
+      none_of true b h = cc
+      none_of false b h = (refl, h)
+
+transferred_is : (s : Scope) → IsSoundScope s → (items : Option (List FormatItem)) (t : Transfer) (m : Statement) → IsFormatOf (literal_of t.control.format) items → transferred s items t ≡ Some m → fits s items t ≡ true
+    → IsSoundStatement s.variables m
+unfolding transferred fits
+transferred_is s sound items t m is h limits =
+    let p = bound (parts s t) _ m h in
+    let r = passed (is_allowed items t) (Some (statement.Transfer (assembled items t p.0))) m p.2 in
+    let made = made_is s t p.0 p.1 in
+    let few : p.0.few ≡ true = sym (ap of_parts p.1) ∙ (both (is_short items) (of_parts (parts s t)) limits).1 in
+    subst (IsSoundStatement s.variables) (some_is (statement.Transfer (assembled items t p.0)) m r.1) (record {
+      allowed = allowed_is s items t p.0 made.0 made.1 is r.0;
+      items = subst (IsList s.variables) made.1.items (list_is s t.items made.0 made.1.each_is (made.1.few ∙ few));
+      members = has_members s sound t.control.group p.0.group t.control.format items made.1.group;
+      rec = given_is (integer_operand s) (IsIntegerOperand s.variables) (integer_operand_is s) t.course.rec p.0.rec made.1.rec;
+      pos = given_is (integer_operand s) (IsIntegerOperand s.variables) (integer_operand_is s) t.course.pos p.0.pos made.1.pos;
+      id = given_is (integer_place s) (IsIntegerPlace s.variables) (integer_place_is s) t.results.id p.0.id made.1.id;
+      size = given_is (integer_place s) (IsIntegerPlace s.variables) (integer_place_is s) t.results.size p.0.size made.1.size;
+      iostat = given_is (integer_place s) (IsIntegerPlace s.variables) (integer_place_is s) t.results.iostat p.0.iostat made.1.iostat;
+    })
+
+-- ---- all statements
+
+meant_sound : (s : Scope) → IsSoundScope s → (items : Option (List FormatItem)) (w : Written) (m : Statement) → IsFormatOf (format_text w) items → meaning s items w ≡ Some m
+    → is_within_limits s items w ≡ true → IsSoundStatement s.variables m
+unfolding meaning is_within_limits opened closed awaited moved
+meant_sound s sound items (written.Assignment a) m is h limits = assigned_is s a m h
+meant_sound s sound items (written.Open o) m is h limits =
+    let told = bound (optional (integer_place s) o.iostat) _ m h in
+    subst (IsSoundStatement s.variables) (some_is _ m told.2) (given_is (integer_place s) (IsIntegerPlace s.variables) (integer_place_is s) o.iostat told.0 told.1)
+meant_sound s sound items (written.Close c) m is h limits =
+    let told = bound (optional (integer_place s) c.iostat) _ m h in
+    subst (IsSoundStatement s.variables) (some_is _ m told.2) (given_is (integer_place s) (IsIntegerPlace s.variables) (integer_place_is s) c.iostat told.0 told.1)
+meant_sound s sound items (written.Wait w) m is h limits =
+    let id = bound (optional (integer_operand s) w.id) _ m h in
+    let told = bound (optional (integer_place s) w.iostat) _ m id.2 in
+    subst (IsSoundStatement s.variables) (some_is _ m told.2)
+    (given_is (integer_operand s) (IsIntegerOperand s.variables) (integer_operand_is s) w.id id.0 id.1, given_is (integer_place s) (IsIntegerPlace s.variables) (integer_place_is s) w.iostat told.0 told.1)
+meant_sound s sound items (written.Move how) m is h limits =
+    let told = bound (optional (integer_place s) how.iostat) _ m h in
+    subst (IsSoundStatement s.variables) (some_is _ m told.2) (given_is (integer_place s) (IsIntegerPlace s.variables) (integer_place_is s) how.iostat told.0 told.1)
+meant_sound s sound items (written.Inquire i) m is h limits = inquired_is s i m h
+meant_sound s sound items (written.Transfer t) m is h limits = transferred_is s sound items t m is h limits
+meant_sound s sound items written.End m is h limits = subst (IsSoundStatement s.variables) (some_is statement.End m h) tt
+meant_sound s sound items (written.Declaration d) m is h limits = cc
+meant_sound s sound items (written.Group g) m is h limits = cc
+
+pub meaning_sound : MeaningIsSound
+meaning_sound s w m sound has = meant_sound s sound has.items w m has.format has.is has.within

@@ -1,0 +1,20 @@
+//! Namelist text, both ways (ISO/IEC 1539-1:2004, 10.10): the records of a group, and a group read from records.
+#![tactic(auto)]
+
+mod heading;
+mod laws;
+mod lexing;
+mod member;
+mod names;
+mod place;
+mod read;
+mod token;
+mod write;
+
+pub use fj_list::GroupMember;
+pub use laws::groups_are_read_again;
+pub use read::read_group;
+pub use write::write_group;
+
+#[cfg(test)]
+mod tests;

@@ -1,0 +1,68 @@
+-- The places and values that a statement names.
+use Rattle.std.specs.Prelude.{ℕ, ℤ, suc, zero, ◌+◌, List, [], ◌∷◌, ◌++◌, map, slice_get, Option, Some, None, if◌then◌else◌}
+use Rattle.std.specs.Option.{option_map_or}
+use Rattle.fj_value.specs.declared.kind.Kind.{Kind}
+use Rattle.fj_value.specs.declared.kind.Kind.TheVariants.{Int8, Logical}
+use Rattle.fj_value.specs.declared.place.Place.{Place}
+use Rattle.fj_value.specs.declared.value.Cell.{Cell}
+use Rattle.fj_value.specs.declared.value.Value.{Value}
+use Rattle.fj_value.specs.declared.value.Value.TheVariants as value
+use Rattle.fj_value.specs.Kind.{fits_bits}
+use Rattle.fj_statement.specs.declared.deck.Variable.{Variable}
+use Rattle.fj_statement.specs.declared.statement.Operand.{Operand}
+use Rattle.fj_statement.specs.declared.statement.Operand.TheVariants as operand
+use Rattle.fj_plain.specs.State.{elements}
+use Rattle.fj_plain.specs.Variables.{Variables, value_at}
+
+-- the kind of a variable
+abbrev pub kind_of : List Variable → ℕ → Kind
+kind_of variables var = option_map_or (λ (v : Variable). v.kind) (slice_get variables var) Logical
+
+-- the places of a variable, in the order of its elements
+abbrev pub counted_from : ℕ → ℕ → ℕ → List Place
+counted_from var first zero = []
+counted_from var first (suc n) = record { var = var; index = first } ∷ counted_from var (first + 1) n
+
+abbrev pub places_of : List Variable → ℕ → List Place
+places_of variables var = counted_from var 1 (option_map_or elements (slice_get variables var) 0)
+
+abbrev pub operand_places : List Variable → Operand → List Place
+operand_places variables (operand.Literal kind value) = []
+operand_places variables (operand.One place) = place ∷ []
+operand_places variables (operand.Whole var) = places_of variables var
+
+-- a cell of a place with its value
+abbrev pub cell_at : List Variable → Variables → Place → Cell
+cell_at variables vars place = record { place = place; kind = kind_of variables place.var; value = value_at vars place }
+
+-- the place that a literal has as a cell: one of no variable, by its number among the literals
+abbrev pub no_variable : ℕ
+no_variable = 4294967295
+
+abbrev pub cells_from : List Variable → Variables → ℕ → List Operand → List Cell
+cells_from variables vars literals [] = []
+cells_from variables vars literals (operand.Literal kind value ∷ more) =
+    record { place = record { var = no_variable; index = literals }; kind = kind; value = value } ∷ cells_from variables vars (literals + 1) more
+cells_from variables vars literals (item ∷ more) = map (cell_at variables vars) (operand_places variables item) ++ cells_from variables vars literals more
+
+-- the cells of items one after another
+abbrev pub cells_of : List Variable → Variables → List Operand → List Cell
+cells_of variables vars items = cells_from variables vars 1 items
+
+-- the value of a literal or a place
+abbrev pub value_of : Variables → Operand → Value
+value_of vars (operand.Literal kind value) = value
+value_of vars (operand.One place) = value_at vars place
+value_of vars (operand.Whole var) = value.Undefined
+
+abbrev pub integer_of : Value → Option ℤ
+integer_of (value.Int n) = Some n
+integer_of _ = None
+
+abbrev pub bits_of : Kind → ℕ
+bits_of Int8 = 64
+bits_of _ = 32
+
+-- a number for an integer place; one that its kind does not have makes it undefined
+abbrev pub number_for : Kind → ℤ → Value
+number_for kind n = if fits_bits (bits_of kind) n then value.Int n else value.Undefined

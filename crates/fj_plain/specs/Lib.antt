@@ -1,0 +1,16 @@
+pub mod AtHand
+pub mod Input
+pub mod Printing
+pub mod Transfer
+pub mod Variables
+pub mod State
+pub mod Items
+pub mod Prohibitions
+pub mod Needs
+pub mod Telling
+pub mod Transfers
+pub mod Connecting
+pub mod Inquiring
+pub mod Statement
+pub mod DeckWords
+pub mod Cases

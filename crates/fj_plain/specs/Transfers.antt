@@ -1,0 +1,190 @@
+-- READ and WRITE (ISO/IEC 1539-1:2004, 9.5): what the statement itself tells, and a transfer carried out or made pending.
+use Rattle.std.specs.Prelude.{ℕ, ℤ, pos, ◌+◌, ◌==◌, ◌&&◌, ◌++◌, not, unwrap_or, is_some, true, List, [], ◌∷◌, length, map, slice_get, Option, Some, None, option_map, option_and_then, if◌then◌else◌, Result, Ok, Err}
+use Rattle.std.specs.List.{flat_map, position_or_len}
+use Rattle.fj_value.specs.declared.condition.Condition.{Condition}
+use Rattle.fj_value.specs.declared.condition.Condition.TheVariants.{Fine, Error}
+use Rattle.fj_value.specs.declared.place.Place.{Place}
+use Rattle.fj_value.specs.declared.value.Cell.{Cell}
+use Rattle.fj_modes.specs.Modes.{usual_edit}
+use Rattle.fj_modes.specs.declared.modes.Modes.{Modes}
+use Rattle.fj_list.specs.declared.moved.Moved.{Moved}
+use Rattle.fj_list.specs.declared.moved.GroupMember.{GroupMember}
+use Rattle.fj_list.specs.ListText.{text_of}
+use Rattle.fj_transfer.specs.Change.{changed}
+use Rattle.fj_transfer.specs.declared.transfer.TransferSpec.{TransferSpec}
+use Rattle.fj_transfer.specs.declared.transfer.Layout.{Layout}
+use Rattle.fj_transfer.specs.declared.transfer.Layout.TheVariants as layout
+use Rattle.fj_statement.specs.declared.deck.Variable.{Variable}
+use Rattle.fj_statement.specs.declared.statement.Control.{Control}
+use Rattle.fj_statement.specs.declared.statement.Control.TheVariants as control
+use Rattle.fj_statement.specs.declared.statement.Operand.{Operand}
+use Rattle.fj_modes.specs.declared.unit.UnitRef.{UnitRef}
+use Rattle.fj_modes.specs.declared.unit.UnitRef.TheVariants as unit
+use Rattle.fj_statement.specs.declared.statement.Transfer.{Transfer}
+use Rattle.fj_connect.specs.Connection.{Connection}
+use Rattle.fj_plain.specs.Variables.{Variables, with_value, given_back, undefined_at, moved_of, is_at}
+use Rattle.fj_plain.specs.Items.{kind_of, cell_at, cells_of, value_of, integer_of, number_for}
+use Rattle.fj_plain.specs.Needs.{transfer_places, group_places, if_given}
+use Rattle.fj_plain.specs.Telling.{is_asynchronous, with_size}
+use Rattle.fj_plain.specs.Printing.{Printed, printed}
+use Rattle.fj_plain.specs.State.{State, Unit, Entry, Output, found, with_unit, elements, halts}
+use Rattle.fj_control.specs.Steps.{Given}
+use Rattle.fj_plain.specs.Transfer.{Done, transfer_by, is_formatted, unfitness, with_undefined}
+
+-- ---- the statement as a transfer
+
+-- a variable of a group, with its first cell
+abbrev pub member_of : List Cell → ℕ → Variable → GroupMember
+member_of cells var v = record {
+  name = v.name;
+  kind = v.kind;
+  first = position_or_len (is_at (record { var = var; index = 1 })) cells;
+  count = elements v;
+  scalar = v.count == 0;
+}
+
+abbrev pub members_of : List Variable → List Cell → List ℕ → List GroupMember
+members_of variables cells vars = flat_map (λ var. if_given (option_map (member_of cells var) (slice_get variables var))) vars
+
+abbrev pub layout_of : List Variable → List Cell → Control → Layout
+layout_of variables cells control.Unformatted = layout.Unformatted
+layout_of variables cells (control.Explicit f) = layout.Explicit f
+layout_of variables cells control.Listed = layout.Listed
+layout_of variables cells (control.Group name vars) = layout.Group name (members_of variables cells vars)
+
+-- the cells of the items or of the group
+abbrev pub moved_by : List Variable → State → Transfer → Moved
+moved_by variables s t = moved_of (cells_of variables s.vars t.items ++ map (cell_at variables s.vars) (group_places variables t.control))
+
+-- the value of REC= or POS=
+abbrev pub number_in : State → Option Operand → Option ℤ
+number_in s o = option_and_then (λ (x : Operand). integer_of (value_of s.vars x)) o
+
+abbrev pub spec_of : List Variable → State → Transfer → List Cell → TransferSpec
+spec_of variables s t cells = record {
+  input = t.input;
+  layout = layout_of variables cells t.control;
+  advance = unwrap_or t.advance true;
+  rec = number_in s t.rec;
+  pos = number_in s t.pos;
+  edit = record { blank_zero = t.blank_zero; comma = t.comma; delim = t.delim; pad = t.pad; plus = t.plus };
+}
+
+-- ---- what the statement itself tells: 2 where the unit is not open for asynchronous transfer, then 16 and 10
+
+abbrev pub refusal : Modes → Transfer → Layout → Condition
+refusal modes t layout =
+    if is_asynchronous t && not modes.asynchronous then Error 2
+    else unfitness modes layout t.input (is_some t.advance) (is_some t.rec) (is_some t.pos)
+
+-- ---- values
+
+-- the items of an input and SIZE= are undefined
+abbrev pub without_values : List Variable → Transfer → Moved → Variables → Variables
+without_values variables t moved vars = if t.input then with_size variables t.size None (undefined_at moved.cells vars) else vars
+
+abbrev pub with_number : List Variable → Option Place → ℤ → Variables → Variables
+with_number variables None n vars = vars
+with_number variables (Some place) n vars = with_value vars place (number_for (kind_of variables place.var) n)
+
+-- ---- a synchronous transfer
+
+-- the items and SIZE= of an input have their values
+abbrev pub with_values : List Variable → Transfer → Done → Variables → Variables
+with_values variables t done vars = if t.input then with_size variables t.size done.count (given_back done.cells vars) else vars
+
+abbrev pub carried_out : List Variable → State → Transfer → Unit → Done → State × Condition
+carried_out variables s t u done =
+    (record s { vars = with_values variables t done s.vars; units = with_unit (record u { connection = done.connection }) s.units }, done.condition)
+
+-- ---- a pending transfer
+
+-- in a halt it is skipped and has the cause as its condition
+abbrev pub unless_halted : Option Condition → Connection → Done → Done
+unless_halted None c done = done
+unless_halted (Some cause) c done = record { connection = c; cells = with_undefined done.cells; count = None; condition = cause }
+
+-- an error or the end of the file halts the unit
+abbrev pub halt_behind : Option Condition → Condition → Option Condition
+halt_behind (Some cause) condition = Some cause
+halt_behind None condition = if halts condition then Some condition else None
+
+abbrev pub entry_of : List Variable → State → Transfer → Unit → Done → Entry
+entry_of variables s t u done = record {
+  id = s.next;
+  unit = u.number;
+  input = t.input;
+  places = transfer_places variables t ++ (if t.input then if_given t.size else []);
+  cells = if t.input then done.cells else [];
+  size = t.size;
+  count = done.count;
+  condition = done.condition;
+}
+
+-- it is pending under the next identifier, which ID= gets, with what became of it; until it is told its items have no value
+abbrev pub pending_with : List Variable → State → Transfer → Moved → Unit → Done → State × Condition
+pending_with variables s t moved u done = (
+  record s {
+    vars = with_number variables t.id (pos s.next) (without_values variables t moved s.vars);
+    book = s.book ++ entry_of variables s t u done ∷ [];
+    units = with_unit (record u { connection = done.connection; halt = halt_behind u.halt done.condition }) s.units;
+    next = s.next + 1;
+  },
+  Fine,
+)
+
+abbrev pub made_pending : List Variable → State → Transfer → Moved → Unit → Done → State × Condition
+made_pending variables s t moved u done = pending_with variables s t moved u (unless_halted u.halt u.connection done)
+
+-- ---- on a connected unit
+
+abbrev pub refused : List Variable → State → Transfer → Moved → Condition → State × Condition
+refused variables s t moved condition = (record s { vars = without_values variables t moved s.vars }, condition)
+
+abbrev pub transferred : (ℕ → List Given) → List Variable → State → Transfer → Moved → Unit → State × Condition
+transferred control variables s t moved u =
+    let done = transfer_by control u.connection (spec_of variables s t moved.cells) moved in
+    if is_asynchronous t then made_pending variables s t moved u done else carried_out variables s t u done
+
+abbrev pub unless_refused : (ℕ → List Given) → List Variable → State → Transfer → Moved → Unit → Condition → State × Condition
+unless_refused control variables s t moved u Fine = transferred control variables s t moved u
+unless_refused control variables s t moved u condition = refused variables s t moved condition
+
+abbrev pub on_unit : (ℕ → List Given) → List Variable → State → Transfer → Moved → Option Unit → State × Condition
+on_unit control variables s t moved None = refused variables s t moved (Error 1)
+on_unit control variables s t moved (Some u) = unless_refused control variables s t moved u (refusal u.connection.modes t (layout_of variables moved.cells t.control))
+
+-- ---- on `*`
+
+-- the longest record of `*`, in characters
+abbrev pub star_limit : ℕ
+star_limit = 65536
+
+abbrev pub with_printed : Output → Printed → Output
+with_printed output p = record {
+  text = output.text ++ text_of p.records ++ p.«open»;
+  begun = (if length p.records == 0 then output.begun else 0) + length p.«open»;
+}
+
+abbrev pub printed_to : State → Result Printed Condition → State × Condition
+printed_to s (Err condition) = (s, condition)
+printed_to s (Ok p) = (record s { output = with_printed s.output p }, Fine)
+
+abbrev pub on_star : (ℕ → List Given) → State → Transfer → Moved → TransferSpec → State × Condition
+on_star control s t moved spec =
+    if is_asynchronous t then (s, Error 2)
+    else (if not (is_formatted spec.layout) then (s, Error 16)
+    else printed_to s (printed star_limit s.output.begun spec control (changed spec.edit usual_edit) moved))
+
+-- ---- the statement
+
+abbrev pub transfer_at : (ℕ → List Given) → List Variable → State → Transfer → Moved → UnitRef → State × Condition
+transfer_at control variables s t moved unit.Star = on_star control s t moved (spec_of variables s t moved.cells)
+transfer_at control variables s t moved (unit.Number n) = on_unit control variables s t moved (found s.units n)
+
+abbrev pub reads_or_writes : (ℕ → List Given) → List Variable → State → Transfer → State × Condition
+reads_or_writes control variables s t = transfer_at control variables s t (moved_by variables s t) t.unit
+
+-- where the transfers that it waits for told a condition, a READ reads nothing
+abbrev pub transfers_nothing : List Variable → State → Transfer → State
+transfers_nothing variables s t = record s { vars = without_values variables t (moved_by variables s t) s.vars }

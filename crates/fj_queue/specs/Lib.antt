@@ -1,0 +1,9 @@
+pub mod Cell
+pub mod Rule
+pub mod Steps
+pub mod Seats
+pub mod Answers
+pub mod Inside
+pub mod Tokens
+pub mod Knows
+pub mod Laws

@@ -1,0 +1,129 @@
+//! What a submitter asks: that a job is appended, and what became of the first that was not told.
+ghost use Rattle.std.specs.Prelude.{◌≡◌, ◌+◌, ◌<◌, ◌≤◌, ◌^◌, true, None, IfOk, IfErr, OnOk};
+ghost use Rattle.fj_slot.specs.Ledger.{can_tell};
+ghost use Rattle.fj_queue.specs.Cell.{IsNext, told};
+ghost use Rattle.fj_queue.specs.Seats.{IsSubmitter};
+ghost use Rattle.fj_queue.specs.Inside.{IsInside, IsSame, Tells};
+ghost use Rattle.fj_queue.specs.Answers.{Settles};
+ghost use Rattle.fj_queue.specs.Knows.{knows, IsOf};
+ghost use Rattle.fj_queue.specs.Tokens.{Numbers, Keeps};
+
+use crate::law::Law;
+use crate::plays::{CountStop, CountSubmission, CountTell};
+use crate::seats::{Place, QueueOf, Submitter};
+use crossbeam_utils::Backoff;
+use fj_slot::{Engine, Refused, Slot, Told};
+use std::sync::Wait;
+
+impl<E: Engine> QueueOf<Slot<E>, E, E::Task, Law<E>> {
+    /// Submits a job, and answers its number. Where a plan was named, it is the plan's next. It performs nothing.
+    pub fn submit<R: Wait>(
+        &self,
+        rt: &R,
+        s: &mut Submitter<E>,
+        job: E::Job,
+    ) -> Result<u64, Refused<E::Job>>
+        requires own { IsOf self.now s.old }
+        requires room { (knows s.old).sent < 2 ^ 62 }
+        requires next { IsNext E.meaning (knows s.old).plan (knows s.old).sent job }
+        ensures own { IsOf self.entry.now s.new }
+        ensures number { IfOk result (λ n. n ≡ (knows s.old).sent) }
+        ensures ok { OnOk result (Keeps (knows s.old) (knows s.new) ((knows s.old).sent + 1) (knows s.old).heard (knows s.old).hands) }
+        ensures err { IfErr result (λ r. (r.job ≡ job) × Keeps (knows s.old) (knows s.new) (knows s.old).sent (knows s.old).heard (knows s.old).hands) }
+        ensures performs_nothing { (knows s.new).ended ≡ (knows s.old).ended }
+    {
+        let mut slot = self.enter(rt, &mut s.seat);
+        match slot.submit(job) {
+            Ok(_) => {
+                let number = self
+                    .table
+                    .shared
+                    .fetch_add::<CountSubmission>(&mut s.seat, 1, 1);
+                self.leave(&mut s.seat, slot);
+                Ok(number)
+            }
+            Err(refused) => {
+                self.leave(&mut s.seat, slot);
+                Err(refused)
+            }
+        }
+    }
+
+    // Tells the first answer, and lets go of the cell.
+    fn tell(&self, seat: &mut Place<E>, mut slot: Slot<E>) -> Told<E>
+        requires own { seat.old.table_id ≡ self.now.table.shared.table_id }
+        requires inside { IsInside E.meaning seat.old.me slot }
+        requires sends { (seat.old.me.0.sends ≡ true) × (told slot ≡ seat.old.me.0.heard) × (seat.old.me.0.heard < 2 ^ 63) }
+        requires ready { can_tell slot ≡ true }
+        ensures own { (seat.new.table_id ≡ seat.old.table_id) × (seat.new.id ≡ seat.old.id) }
+        ensures told { Tells E.meaning seat.old.me seat.new.me result }
+    {
+        match slot.tell() {
+            Told::Done { job, answer } => {
+                let _tells = self.table.shared.fetch_add::<CountTell>(seat, 3, 1);
+                self.leave(seat, slot);
+                Told::Done { job, answer }
+            }
+            Told::Stopped {
+                job,
+                stop,
+                before,
+                after,
+            } => {
+                let _tells = self.table.shared.fetch_add::<CountStop>(seat, 3, 1);
+                self.leave(seat, slot);
+                Told::Stopped {
+                    job,
+                    stop,
+                    before,
+                    after,
+                }
+            }
+        }
+    }
+
+    // Takes the turn, and performs the job in front where it is not done and no one has begun it; the cell is in hand at the end.
+    fn reach<R: Wait>(&self, rt: &R, seat: &mut Place<E>) -> Slot<E>
+        requires own { seat.old.table_id ≡ self.now.table.shared.table_id }
+        requires submitter { IsSubmitter seat.old.me }
+        ensures own { (seat.new.table_id ≡ seat.old.table_id) × (seat.new.id ≡ seat.old.id) }
+        ensures inside { IsInside E.meaning seat.new.me result }
+        ensures same { IsSame seat.old.me.0 seat.new.me.0 }
+        ensures idle { seat.new.me.0.runs ≡ None }
+        ensures told { told result ≡ seat.old.me.0.heard }
+    {
+        let mut slot = self.enter(rt, seat);
+        if slot.ready() {
+            return slot;
+        }
+        match slot.begin() {
+            Some(out) => self.perform(rt, seat, slot, out),
+            None => slot,
+        }
+    }
+
+    /// Tells the first answer that was not told. It performs the job in front where no one has begun it.
+    pub fn settle<R: Wait>(&self, rt: &R, s: &mut Submitter<E>) -> Told<E>
+        requires own { IsOf self.now s.old }
+        requires waits { (knows s.old).heard < (knows s.old).sent }
+        requires room { (knows s.old).sent ≤ 2 ^ 62 }
+        ensures own { IsOf self.entry.now s.new }
+        ensures numbers { Numbers (knows s.old) (knows s.new) (knows s.old).sent ((knows s.old).heard + 1) (knows s.old).hands }
+        ensures told { Settles E.meaning (knows s.old) (knows s.new) result }
+    {
+        let backoff = Backoff::new();
+        for _ in rt.forever() {
+            if self.seems_out() {
+                backoff.snooze();
+                continue;
+            }
+            let slot = self.reach(rt, &mut s.seat);
+            if slot.ready() {
+                return self.tell(&mut s.seat, slot);
+            }
+            self.leave(&mut s.seat, slot);
+            backoff.snooze();
+        }
+        unreachable!()
+    }
+}

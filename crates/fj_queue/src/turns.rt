@@ -1,0 +1,87 @@
+//! A turn: the seat that has it looks at the words and has the cell in hand.
+ghost use Rattle.std.specs.Prelude.{◌≡◌, ℕ, ◌+◌, ◌*◌, true, [], ◌∷◌, Some, None};
+ghost use Rattle.fj_slot.specs.Ledger.{IsSized};
+ghost use Rattle.fj_queue.specs.Cell.{IsFor, progress, submitted, told, stop_code};
+ghost use Rattle.fj_queue.specs.Seats.{IsResting};
+ghost use Rattle.fj_queue.specs.Inside.{IsInside, entered, left};
+ghost use Rattle.fj_queue.specs.Steps.{turning};
+
+use crate::law::Law;
+use crate::plays::{
+    GiveTurn, PutCell, SeeProgress, SeeStop, SeeSubmissions, SeeTells, TakeCell, TakeTurn,
+};
+use crate::seats::{Place, QueueOf};
+use crossbeam_utils::Backoff;
+use fj_slot::{Engine, Slot};
+use std::sync::Wait;
+
+impl<E: Engine> QueueOf<Slot<E>, E, E::Task, Law<E>> {
+    // Waits for the turn. A seat that did not get it tries again only once it looks free.
+    fn take_turn<R: Wait>(&self, rt: &R, seat: &mut Place<E>)
+        requires own { seat.old.table_id ≡ self.now.table.shared.table_id }
+        requires rests { IsResting seat.old.me }
+        ensures own { (seat.new.table_id ≡ seat.old.table_id) × (seat.new.id ≡ seat.old.id) }
+        ensures turn { seat.new.me ≡ (turning seat.old.me.0, []) }
+    {
+        let shared = &self.table.shared;
+        let backoff = Backoff::new();
+        let mut looks_free = true;
+        for _ in rt.forever() {
+            if looks_free && shared.compare_exchange::<TakeTurn>(seat, 0, 0, 1) == 0 {
+                return;
+            }
+            backoff.snooze();
+            looks_free = shared.peek(0) == 0;
+        }
+        unreachable!()
+    }
+
+    /// Takes the turn, looks at the words and takes the cell out.
+    pub(crate) fn enter<R: Wait>(&self, rt: &R, seat: &mut Place<E>) -> Slot<E>
+        requires own { seat.old.table_id ≡ self.now.table.shared.table_id }
+        requires rests { IsResting seat.old.me }
+        ensures own { (seat.new.table_id ≡ seat.old.table_id) × (seat.new.id ≡ seat.old.id) }
+        ensures seat { seat.new.me ≡ (entered seat.old.me.0 result, (0, None) ∷ []) }
+        ensures sized { IsSized result }
+        ensures sound { IsFor E.meaning seat.old.me.0.plan result }
+        ensures sends { seat.old.me.0.sends ≡ true → (submitted result ≡ seat.old.me.0.sent) × (told result ≡ seat.old.me.0.heard) }
+        ensures runs { (k : ℕ) → seat.old.me.0.runs ≡ Some k → (progress result ≡ 2 * k + 1) × (stop_code result.halt ≡ 0) }
+    {
+        self.take_turn(rt, seat);
+        let shared = &self.table.shared;
+        let _submissions = shared.load::<SeeSubmissions>(seat, 1);
+        let _progress = shared.load::<SeeProgress>(seat, 2);
+        let _tells = shared.load::<SeeTells>(seat, 3);
+        let _stop = shared.load::<SeeStop>(seat, 4);
+        let _cell = shared.load::<TakeCell>(seat, 1);
+        shared.exchange(seat, 0, None).unwrap()
+    }
+
+    /// Puts the cell back and gives the turn away.
+    pub(crate) fn leave(&self, seat: &mut Place<E>, slot: Slot<E>)
+        requires own { seat.old.table_id ≡ self.now.table.shared.table_id }
+        requires inside { IsInside E.meaning seat.old.me slot }
+        ensures own { (seat.new.table_id ≡ seat.old.table_id) × (seat.new.id ≡ seat.old.id) }
+        ensures seat { seat.new.me ≡ (left seat.old.me.0, []) }
+    {
+        let shared = &self.table.shared;
+        let nothing = shared.exchange(seat, 0, Some(slot));
+        let None = nothing else { unreachable!() };
+        let _submissions = shared.load::<PutCell>(seat, 1);
+        let _turn = shared.swap::<GiveTurn>(seat, 0, 0);
+    }
+
+    /// Whether a job waits and none is out, as it looks without the turn. No clause rests on it.
+    pub fn seems_due(&self) -> bool {
+        let shared = &self.table.shared;
+        let progress = shared.peek(2);
+        progress % 2 == 0 && progress / 2 < shared.peek(1) && shared.peek(4) == 0
+    }
+
+    /// Whether the job that is told next is out, as it looks without the turn. No clause rests on it.
+    pub(crate) fn seems_out(&self) -> bool {
+        let shared = &self.table.shared;
+        let progress = shared.peek(2);
+        progress % 2 == 1 && progress / 2 == shared.peek(3)
+    }
+}

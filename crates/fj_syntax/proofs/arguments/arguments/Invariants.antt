@@ -1,0 +1,12 @@
+use Rattle.std.proofs.Common.{◌≡◌, ◌++◌, length, Some}
+use Rattle.fj_syntax.specs.Arguments.{arguments_from, arguments_of}
+use Rattle.fj_syntax.specs.Parts.{cut}
+use Rattle.fj_syntax.specs.Reading.{◌>>=◌}
+use Rattle.fj_syntax.proofs.arguments.arguments.Given as goal
+
+-- the arguments so far, before those that are left
+abbrev pub invariant-loop-arguments : goal.invariant-loop-arguments
+invariant-loop-arguments l = (arguments_from l.bare (cut l.rest) >>= (λ more. Some (l.arguments ++ more))) ≡ arguments_of l.tokens
+
+abbrev pub decreases-loop-arguments : goal.decreases-loop-arguments
+decreases-loop-arguments l = length l.rest

@@ -1,0 +1,163 @@
+// The parts of a statement from the tokens that they are, and lists of parts.
+ghost use Rattle.std.specs.Prelude.{◌≡◌, ◌<◌, ◌&&◌, nat_le, IfOk, IfSome, ◌∷◌, [], length, option_map, position};
+ghost use Rattle.std.specs.Option.{option_copied};
+ghost use Rattle.fj_syntax.specs.Parts.{is_mark, is_from_to, is_name, named, name_of, designator_of, operand_of, parted, cut, list_of};
+ghost use Rattle.fj_syntax.specs.PartLaws.{parts_behind};
+ghost use Rattle.fj_syntax.specs.Reading.{Gives};
+
+use crate::fault::SyntaxFault;
+use crate::operand::{Designator, Operand};
+use crate::token::{Mark, Sign, Token};
+use crate::words::keyword_of;
+use fj_value::{Items, Text};
+use std::alloc::Global;
+
+/// The largest subscript and number of elements.
+const MAX_ELEMENTS: u64 = 1_000_000;
+
+pub fn is_mark(token: &Token, mark: Mark) -> bool
+    ensures { result ≡ is_mark mark token.now }
+{
+    match token {
+        Token::Mark(other) => *other == mark,
+        _ => false,
+    }
+}
+
+/// Whether a word is a name.
+pub fn is_name(word: &[u8]) -> bool
+    ensures { result ≡ is_name word.now }
+{
+    keyword_of(word).is_none()
+}
+
+fn named(word: &Text, number: Option<u32>) -> Result<Designator, SyntaxFault>
+    ensures { Gives (λ x. x) result (named word.now number) }
+{
+    if !is_name(word.bytes()) {
+        return Err(SyntaxFault::NotAStatement);
+    }
+    Ok(Designator {
+        name: word.try_clone()?,
+        number,
+    })
+}
+
+/// A part of a statement.
+pub trait Part: Drop {
+    ghost use Rattle.std.specs.Prelude.{List, Option};
+    ghost use Rattle.fj_syntax.specs.declared.token.Token.{Token};
+    ghost use Rattle.fj_syntax.specs.Reading.{Gives};
+
+    /// The part that tokens are.
+    ghost part_of: { List Token → Option Self };
+
+    fn read(tokens: &[Token]) -> Result<Self, SyntaxFault>
+        ensures { Gives (λ x. x) result (part_of tokens.now) };
+}
+
+impl Part for Text {
+    ghost use Rattle.fj_syntax.specs.Parts.{name_of};
+
+    ghost part_of = { name_of };
+
+    #[tactic(auto, unfolding(crate::specs::Parts::name_of))]
+    fn read(tokens: &[Token]) -> Result<Text, SyntaxFault> {
+        match tokens {
+            [Token::Word(word)] => Ok(named(word, None)?.name),
+            _ => Err(SyntaxFault::NotAStatement),
+        }
+    }
+}
+
+impl Part for Designator {
+    ghost use Rattle.fj_syntax.specs.Parts.{designator_of};
+
+    ghost part_of = { designator_of };
+
+    #[tactic(auto, unfolding(crate::specs::Parts::designator_of))]
+    fn read(tokens: &[Token]) -> Result<Designator, SyntaxFault> {
+        match tokens {
+            [Token::Word(word)] => named(word, None),
+            [
+                Token::Word(word),
+                Token::Mark(Mark::LeftParenthesis),
+                Token::Number {
+                    sign: Sign::Unsigned,
+                    amount,
+                },
+                Token::Mark(Mark::RightParenthesis),
+            ] => {
+                if *amount < 1 || *amount > MAX_ELEMENTS {
+                    return Err(SyntaxFault::NotAStatement);
+                }
+                named(word, Some(*amount as u32))
+            }
+            _ => Err(SyntaxFault::NotAStatement),
+        }
+    }
+}
+
+impl Part for Operand {
+    ghost use Rattle.fj_syntax.specs.Parts.{operand_of};
+
+    ghost part_of = { operand_of };
+
+    #[tactic(auto, unfolding(crate::specs::Parts::operand_of))]
+    fn read(tokens: &[Token]) -> Result<Operand, SyntaxFault> {
+        match tokens {
+            [Token::Number { sign, amount }] => Ok(Operand::Number {
+                sign: *sign,
+                amount: *amount,
+            }),
+            [Token::Truth(truth)] => Ok(Operand::Truth(*truth)),
+            [Token::Literal(text)] => Ok(Operand::Literal(text.try_clone()?)),
+            _ => Ok(Operand::Place(Designator::read(tokens)?)),
+        }
+    }
+}
+
+fn place_of(tokens: &[Token], mark: Mark) -> Option<usize>
+    ensures at { result ≡ position (is_mark mark) tokens.now }
+    ensures within { IfSome result (λ at. at < length tokens.now) }
+{
+    tokens.iter().position(|token| is_mark(token, mark))
+}
+
+/// The tokens before the first such mark, and those behind it, if there is one.
+pub fn parted(tokens: &[Token], mark: Mark) -> Option<(&[Token], &[Token])>
+    ensures { option_map (λ x. (x.0.now, x.1.now)) result ≡ parted mark tokens.now }
+{
+    match place_of(tokens, mark) {
+        Some(at) => Some((&tokens[..at], &tokens[at + 1..])),
+        None => None,
+    }
+}
+
+/// The part before the first comma, and the tokens behind the comma, if there is one.
+#[tactic(auto, using(crate::proofs::CutLemmas::last_cut))]
+pub fn first_part(tokens: &[Token]) -> (&[Token], Option<&[Token]>)
+    ensures parts { cut tokens.now ≡ result.0.now ∷ parts_behind (option_copied result.1) }
+    ensures shorter { IfSome result.1 (λ behind. length behind.now < length tokens.now) }
+{
+    match parted(tokens, Mark::Comma) {
+        Some((part, behind)) => (part, Some(behind)),
+        None => (tokens, None),
+    }
+}
+
+/// The parts between commas.
+pub fn list<T: Part>(alloc: Global, tokens: &[Token]) -> Result<Items<T>, SyntaxFault>
+    ensures { Gives (λ x. x) result (list_of T.part_of tokens.now) }
+{
+    let mut list = Items::new(alloc);
+    let mut rest = tokens;
+    loop {
+        let (part, behind) = first_part(rest);
+        list.push(T::read(part)?)?;
+        match behind {
+            Some(behind) => rest = behind,
+            None => return Ok(list),
+        }
+    }
+}

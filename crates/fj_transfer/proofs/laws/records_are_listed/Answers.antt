@@ -1,5 +1,0 @@
-use Rattle.fj_transfer.proofs.ListLaws as laws
-use Rattle.fj_transfer.proofs.laws.records_are_listed.Goals as goal
-
-pub returns : goal.returns
-returns c = laws.records_are_listed

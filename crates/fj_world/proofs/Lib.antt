@@ -1,0 +1,11 @@
+pub mod Places
+pub mod Order
+pub mod Fitting
+pub mod AloneSteps
+pub mod Kept
+pub mod Runs
+pub mod Running
+pub mod Commute
+pub mod Front
+pub mod Moving
+pub mod WorldLaws

@@ -1,0 +1,12 @@
+pub mod Conduct
+pub mod Rack
+pub mod Scene
+pub mod Plain
+pub mod Fits
+pub mod Steps
+pub mod Sketch
+pub mod Alone
+pub mod Happening
+pub mod Keeping
+pub mod Runs
+pub mod Laws
