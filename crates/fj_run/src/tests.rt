@@ -272,7 +272,7 @@ fn pads_and_cuts_characters(rt: HostRuntime) -> Result<(), Fail> {
     rows.copy(2, Kind::Chars(3), 1)?;
     rows.print(
         "(A,'|')",
-        &[Is(Kind::Chars(5), C("xy")), Is(Kind::Chars(1), C("xy"))],
+        &[Is(Kind::Chars(5), C("xy   ")), Is(Kind::Chars(1), C("x"))],
         None,
     )?;
     rows.print("(SP,I3,SS,I3)", &[Is(INT, I(5)), Is(INT, I(5))], None)?;
