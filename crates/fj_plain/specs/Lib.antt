@@ -1,7 +1,3 @@
-pub mod AtHand
-pub mod Input
-pub mod Printing
-pub mod Transfer
 pub mod Variables
 pub mod State
 pub mod Items

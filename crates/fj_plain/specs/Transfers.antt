@@ -26,10 +26,10 @@ use Rattle.fj_plain.specs.Variables.{Variables, with_value, given_back, undefine
 use Rattle.fj_plain.specs.Items.{kind_of, cell_at, cells_of, value_of, integer_of, number_for}
 use Rattle.fj_plain.specs.Needs.{transfer_places, group_places, if_given}
 use Rattle.fj_plain.specs.Telling.{is_asynchronous, with_size}
-use Rattle.fj_plain.specs.Printing.{Printed, printed}
+use Rattle.fj_transfer.specs.Printing.{Printed, printed}
 use Rattle.fj_plain.specs.State.{State, Unit, Entry, Output, found, with_unit, elements, halts}
 use Rattle.fj_control.specs.Steps.{Given}
-use Rattle.fj_plain.specs.Transfer.{Done, transfer_by, is_formatted, unfitness, with_undefined}
+use Rattle.fj_transfer.specs.Transfer.{Done, transfer_by, is_formatted, unfitness, with_undefined}
 
 -- ---- the statement as a transfer
 

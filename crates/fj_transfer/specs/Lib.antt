@@ -3,3 +3,7 @@ pub mod Moving
 pub mod Explicit
 pub mod Output
 pub mod Writing
+pub mod AtHand
+pub mod Input
+pub mod Printing
+pub mod Transfer

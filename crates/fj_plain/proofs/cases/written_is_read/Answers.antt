@@ -1,6 +1,6 @@
 use Rattle.std.proofs.Common.{refl}
 use Rattle.fj_plain.specs.Statement.{step}
-use Rattle.fj_plain.specs.Transfer.{transfer_by}
+use Rattle.fj_transfer.specs.Transfer.{transfer_by}
 use Rattle.fj_edit_in.specs.InputField.{trimmed, blanks_read}
 use Rattle.fj_value.specs.Digits.{number_in, numeral}
 use Rattle.fj_plain.proofs.cases.written_is_read.Goals as goal

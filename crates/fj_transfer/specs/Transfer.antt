@@ -29,9 +29,9 @@ use Rattle.fj_connect.specs.Connection.{Connection, bytes_behind, rest_of_record
 use Rattle.fj_connect.specs.Spot.{is_reading}
 use Rattle.fj_modes.specs.Limits.{longest_file}
 use Rattle.fj_connect.specs.Positions.{ended}
-use Rattle.fj_plain.specs.AtHand.{AtHand, behind, first_record}
-use Rattle.fj_plain.specs.Input.{Ended, explicit_input, left_at}
-use Rattle.fj_plain.specs.Printing.{Printed, printed}
+use Rattle.fj_transfer.specs.AtHand.{AtHand, behind, first_record}
+use Rattle.fj_transfer.specs.Input.{Ended, explicit_input, left_at}
+use Rattle.fj_transfer.specs.Printing.{Printed, printed}
 use Rattle.fj_namelist.specs.GroupInput.{group_input}
 
 -- What a transfer comes to: the connection then, the cells, how many characters data edit descriptors took (SIZE=), and the
