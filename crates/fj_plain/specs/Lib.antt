@@ -10,3 +10,5 @@ pub mod Inquiring
 pub mod Statement
 pub mod DeckWords
 pub mod Cases
+pub mod TransferCases
+pub mod FileCases

@@ -4,6 +4,8 @@
 #![tactic(auto)]
 
 mod cases;
+mod file_cases;
+mod transfer_cases;
 
 pub use cases::{
     direct_gap_is_filled, end_of_file_is_told, end_of_record_is_counted, file_of_another_unit,
@@ -11,4 +13,16 @@ pub use cases::{
     open_record_is_ended, output_is_the_last_record, pending_output_holds_its_places,
     pending_until_told, scratch_is_not_kept, skipped_tell_their_cause, stop_leaves_pending_written,
     stream_keeps_what_is_behind, write_goes_on_in_the_record, written_is_read,
+};
+pub use file_cases::{
+    direct_gap_is_zero, end_of_record_at_once, file_is_not_there, four_units_at_a_time,
+    frame_is_broken, frame_is_written_and_read, inquiry_is_behind, pending_by_identifier,
+    record_is_short,
+};
+pub use transfer_cases::{
+    blanks_are_read, closed_file_is_there, descriptor_is_wanting, end_alone_ends,
+    fields_are_written, format_is_used_again, group_is_another, group_is_read_and_written,
+    item_is_not_its_status, items_are_listed, list_goes_over_records, name_is_unknown,
+    null_keeps_the_value, open_record_goes_on, tabs_move, undefined_is_not_referenced,
+    wrong_field_stops,
 };
