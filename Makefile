@@ -26,6 +26,7 @@ test:
 	rt ci
 
 bench: build
+	(cd crates/fj_bench && rt run >/dev/null) || test $$? -eq 1
 	bench/run
 
 checks: build

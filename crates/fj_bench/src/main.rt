@@ -12,6 +12,7 @@ use std::process::ExitCode;
 const LIMIT: u32 = 65_536;
 
 /// How many records a file has, and how many characters they have together.
+#[derive(Clone, Copy)]
 struct Count {
     records: u64,
     characters: u64,
@@ -45,7 +46,10 @@ fn counted_in<D: Disk>(alloc: Global, disk: &mut D, name: &str) -> Result<Count,
     let Some(file) = disk.take(alloc, name)? else {
         return Err(Stop::Failed);
     };
-    let mut file = Buffered::new(alloc, file)?;
+    let mut file = match Buffered::new(alloc, file) {
+        Ok(file) => file,
+        Err(back) => return Err(Stop::Memory(back.error)),
+    };
     let mut into = Text::new(alloc);
     counted(&mut file, &mut into)
 }
@@ -57,8 +61,10 @@ fn main(rt: HostRuntime) -> ExitCode {
     let mut disk = RealDisk::new(files);
     match counted_in(rt.alloc(), &mut disk, "records") {
         Ok(count) => {
-            println!(rt; "{} {}", count.records, count.characters);
-            ExitCode::SUCCESS
+            match println!(rt; "{} {}", count.records, count.characters) {
+                Ok(()) => ExitCode::SUCCESS,
+                Err(_) => ExitCode::FAILURE,
+            }
         }
         Err(_) => ExitCode::FAILURE,
     }
