@@ -8,6 +8,11 @@ pub mod Transfers
 pub mod Connecting
 pub mod Inquiring
 pub mod Statement
+pub mod Reaching
+pub mod PendingLaws
+pub mod HaltLaws
+pub mod UnitLaws
+pub mod CutLaws
 pub mod DeckWords
 pub mod Cases
 pub mod TransferCases
