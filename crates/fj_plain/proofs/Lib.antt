@@ -6,3 +6,6 @@ pub mod Places
 pub mod Units
 pub mod Sound
 pub mod Reached
+pub mod Turning
+pub mod Halting
+pub mod Cutting

@@ -45,7 +45,7 @@ pub record Turns (variables : List Variable) (st : Stated) (s after : State) : T
   pub tells : after.tells ≡ s.tells ++ map (tell_of st.0.line) (waited s st.0.what)
   pub stays : becomes_pending variables s st.0.what ≡ false → (after.book ≡ filter (λ e. not (told e)) s.book) × (after.next ≡ s.next)
   pub begins : becomes_pending variables s st.0.what ≡ true
-      → (e : Entry) × (e.id ≡ s.next) × (after.book ≡ filter (λ e. not (told e)) s.book ++ e ∷ []) × (after.next ≡ s.next + 1) × (waited s st.0.what ≡ [])
+      → (e : Entry) × (e.id ≡ s.next) × (after.book ≡ s.book ++ e ∷ []) × (after.next ≡ s.next + 1) × (waited s st.0.what ≡ [])
 
 abbrev pub PendingTurns : Type 0
 PendingTurns = (variables : List Variable) (sts : List Stated) (files : Files) (st : Stated) → let s = reached variables sts files in
