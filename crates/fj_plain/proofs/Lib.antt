@@ -9,3 +9,5 @@ pub mod Reached
 pub mod Turning
 pub mod Halting
 pub mod Cutting
+pub mod Closing
+pub mod AtOnce

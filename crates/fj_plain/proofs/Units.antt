@@ -23,7 +23,7 @@ use Rattle.fj_plain.proofs.Walk.{Missing, found_is, not_true}
 pub bytes_are : (xs ys : List ℕ) → xs ≡ ys → bytes_eq xs ys ≡ true
 bytes_are xs ys e = (bytes_eq-Decides xs ys).1 e
 
-bytes_differ : (xs ys : List ℕ) → (xs ≡ ys → ⊥) → bytes_eq xs ys ≡ false
+pub bytes_differ : (xs ys : List ℕ) → (xs ≡ ys → ⊥) → bytes_eq xs ys ≡ false
 bytes_differ xs ys ne = by (bytes_eq xs ys) refl
   where
     by : (b : Bool) → bytes_eq xs ys ≡ b → b ≡ false

@@ -17,3 +17,4 @@ pub mod DeckWords
 pub mod Cases
 pub mod TransferCases
 pub mod FileCases
+pub mod StatementCases

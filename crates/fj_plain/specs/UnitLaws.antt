@@ -1,17 +1,19 @@
 -- What holds of units and files (ISO/IEC 1539-1:2004, 9.4), and what telling and assignment leave alone.
-use Rattle.std.specs.Prelude.{◌≡◌, ℕ, ◌<◌, ◌≤◌, Bool, true, List, map, Option, Some, None, length}
+use Rattle.std.specs.Prelude.{◌≡◌, ◌≢◌, ℕ, ◌<◌, ◌≤◌, ◌==◌, if◌then◌else◌, Bool, true, List, map, Option, Some, None, length}
 use Rattle.std.specs.List.{All, AllPairs, list_any}
-use Rattle.std.specs.Prelude.{◌==◌}
 use Rattle.fj_statement.specs.declared.deck.Variable.{Variable}
 use Rattle.fj_statement.specs.declared.deck.Lined.{Lined}
+use Rattle.fj_modes.specs.declared.unit.UnitRef.TheVariants as unit
 use Rattle.fj_statement.specs.declared.statement.Operand.{Operand}
+use Rattle.fj_statement.specs.declared.statement.Transfer.{Transfer}
 use Rattle.fj_statement.specs.declared.statement.Statement.TheVariants as statement
 use Rattle.fj_control.specs.Steps.{Given}
 use Rattle.fj_connect.specs.Connection.{Connection}
+use Rattle.fj_connect.specs.Positions.{ended}
 use Rattle.fj_plain.specs.Connecting.{most_units}
 use Rattle.fj_plain.specs.Telling.{after_tells}
-use Rattle.fj_plain.specs.State.{State, Files, Unit, Entry}
-use Rattle.fj_plain.specs.Statement.{Stated, step}
+use Rattle.fj_plain.specs.State.{State, Files, Unit, Entry, found, all_closed}
+use Rattle.fj_plain.specs.Statement.{Stated, step, own}
 use Rattle.fj_plain.specs.Reaching.{reached}
 
 -- units are in ascending order, and at most sixteen
@@ -41,8 +43,11 @@ PendingAreConnected = (variables : List Variable) (sts : List Stated) (files : F
     All (λ (e : Entry). is_connected s.units e.unit ≡ true) s.book
 
 -- the connections by unit
+abbrev pub joined : Unit → ℕ × Connection
+joined u = (u.number, u.connection)
+
 abbrev pub connections : State → List (ℕ × Connection)
-connections s = map (λ (u : Unit). (u.number, u.connection)) s.units
+connections s = map joined s.units
 
 -- telling changes no connection, no file and no output
 abbrev pub TellingChangesNoFile : Type 0
@@ -53,3 +58,22 @@ TellingChangesNoFile = (variables : List Variable) (line : ℕ) (told : List Ent
 abbrev pub AssignmentChangesVariables : Type 0
 AssignmentChangesVariables = (variables : List Variable) (line : ℕ) (to from : Operand) (control : ℕ → List Given) (s : State) →
     let after = (step variables (record { line = line; what = statement.Assign to from }, control) s).0 in after ≡ record s { vars = after.vars }
+
+-- where all units are closed, as at END and at a stop, the file of each has its bytes, with the line feed of a record that is open,
+-- or is gone where it is a scratch file; all others stay
+abbrev pub ClosingLeavesEach : Type 0
+ClosingLeavesEach = (variables : List Variable) (sts : List Stated) (files : Files) → let s = reached variables sts files in
+    All (λ (u : Unit). (all_closed s).files u.connection.name ≡ (if u.connection.modes.scratch then None else Some (ended u.connection).bytes)) s.units
+    × ((name : List ℕ) → All (λ (u : Unit). u.connection.name ≢ name) s.units → (all_closed s).files name ≡ s.files name)
+
+-- a transfer that becomes pending does to the file of its unit what it does at once, where the unit is not halted
+abbrev pub later : Transfer → Transfer
+later t = record t { asynchronous = Some true }
+
+abbrev pub at_once : Transfer → Transfer
+at_once t = record t { asynchronous = None; id = None }
+
+abbrev pub LaterIsAsAtOnce : Type 0
+LaterIsAsAtOnce = (control : ℕ → List Given) (variables : List Variable) (s : State) (t : Transfer) (number : ℕ) (u : Unit) →
+    t.unit ≡ unit.Number number → found s.units number ≡ Some u → u.connection.modes.asynchronous ≡ true → u.halt ≡ None →
+    connections (own control variables s (statement.Transfer (later t))).0 ≡ connections (own control variables s (statement.Transfer (at_once t))).0

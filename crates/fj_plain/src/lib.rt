@@ -8,6 +8,7 @@ mod cut_laws;
 mod file_cases;
 mod halt_laws;
 mod pending_laws;
+mod statement_cases;
 mod transfer_cases;
 mod unit_laws;
 
@@ -28,6 +29,11 @@ pub use halt_laws::{halts_are_caused, halts_begin_and_end, skipped_tell_the_caus
 pub use pending_laws::{
     identifiers_rise, nothing_is_told, pending_turns, places_are_apart, prohibited_does_nothing,
 };
+pub use statement_cases::{
+    close_tells, definitions_come_first, later_is_still_skipped, nothing_is_read,
+    scratch_file_is_gone, scratch_file_is_gone_at_a_stop, size_is_undefined, tells_come_first,
+    tests_are_in_order,
+};
 pub use transfer_cases::{
     blanks_are_read, closed_file_is_there, descriptor_is_wanting, end_alone_ends,
     fields_are_written, format_is_used_again, group_is_another, group_is_read_and_written,
@@ -36,6 +42,6 @@ pub use transfer_cases::{
     wrong_field_stops,
 };
 pub use unit_laws::{
-    assignment_changes_variables, files_are_apart, pending_are_connected, telling_changes_no_file,
-    units_ascend,
+    assignment_changes_variables, closing_leaves_each, files_are_apart, later_is_as_at_once,
+    pending_are_connected, telling_changes_no_file, units_ascend,
 };
