@@ -1,16 +1,15 @@
 -- A transfer that becomes pending, beside the same one carried out at once.
-use Rattle.std.proofs.Common.{◌≡◌, ℕ, Bool, true, false, not, List, [], ◌∷◌, map, Option, Some, None, refl, sym, ap, ◌∙◌, subst, ◌&&◌}
+use Rattle.std.proofs.Common.{◌≡◌, ℕ, Bool, true, false, not, List, [], ◌∷◌, map, Some, None, refl, sym, ap, ◌∙◌}
 use Rattle.std.specs.Prelude.{◌==◌, if◌then◌else◌, is_some}
 use Rattle.fj_value.specs.declared.condition.Condition.{Condition}
 use Rattle.fj_value.specs.declared.condition.Condition.TheVariants.{Fine, EndOfFile, EndOfRecord, Error}
 use Rattle.fj_control.specs.Steps.{Given}
-use Rattle.fj_connect.specs.Connection.{Connection}
 use Rattle.fj_modes.specs.declared.unit.UnitRef.TheVariants as unit
 use Rattle.fj_transfer.specs.Transfer.{Done, transfer_by, unfitness}
 use Rattle.fj_statement.specs.declared.deck.Variable.{Variable}
 use Rattle.fj_statement.specs.declared.statement.Transfer.{Transfer}
 use Rattle.fj_statement.specs.declared.statement.Statement.TheVariants as statement
-use Rattle.fj_plain.specs.Transfers.{moved_by, spec_of, layout_of, unless_halted, halt_behind, made_pending, carried_out, unless_refused, on_unit, transfer_at}
+use Rattle.fj_plain.specs.Transfers.{moved_by, spec_of, layout_of, unless_halted, halt_behind, unless_refused, on_unit, transfer_at}
 use Rattle.fj_plain.specs.State.{State, Unit, found, with_unit}
 use Rattle.fj_plain.specs.Statement.{own}
 use Rattle.fj_plain.specs.UnitLaws.{joined, connections, later, at_once}

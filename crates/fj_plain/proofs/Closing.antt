@@ -1,12 +1,12 @@
 -- The files that closing all units leaves.
-use Rattle.std.proofs.Common.{◌≡◌, ◌≢◌, ℕ, ◌<◌, Bool, true, false, not, List, [], ◌∷◌, Option, Some, None, refl, sym, ap, ◌∙◌, subst, arith}
+use Rattle.std.proofs.Common.{◌≡◌, ◌≢◌, ℕ, ◌<◌, Bool, true, false, not, List, [], ◌∷◌, Some, None, refl, sym, ap, ◌∙◌, arith}
 use Rattle.std.specs.Prelude.{if◌then◌else◌}
 use Rattle.std.specs.List.{All}
 use Rattle.std.specs.Str.{bytes_eq}
 use Rattle.std.proofs.lemmas.List.Elements.{All-nil, All-cons, All-head, All-tail, All-weaker}
 use Rattle.fj_connect.specs.Connection.{Connection}
 use Rattle.fj_connect.specs.Positions.{ended}
-use Rattle.fj_plain.specs.State.{State, Files, Unit, left, keeps, files_closed}
+use Rattle.fj_plain.specs.State.{Files, Unit, left, keeps, files_closed}
 use Rattle.fj_plain.specs.UnitLaws.{Ascends, OneUnit}
 use Rattle.fj_plain.proofs.Lists.{pairs_head, pairs_tail, all_both}
 use Rattle.fj_plain.proofs.Units.{bytes_are, bytes_differ}

@@ -1,5 +1,5 @@
 -- What a statement does to the halt of a unit.
-use Rattle.std.proofs.Common.{◌≡◌, ◌⊎◌, ℕ, Bool, true, false, List, [], ◌∷◌, ◌++◌, Option, Some, None, refl, sym, ap, ◌∙◌, subst, inl, inr, ◌&&◌}
+use Rattle.std.proofs.Common.{◌≡◌, ◌⊎◌, ℕ, Bool, true, false, List, [], ◌∷◌, ◌++◌, Option, Some, None, refl, sym, ap, ◌∙◌, inl, inr, ◌&&◌}
 use Rattle.std.specs.Prelude.{◌==◌, if◌then◌else◌, filter}
 use Rattle.std.specs.List.{list_any}
 use Rattle.std.proofs.lemmas.Bool.{eqb-true}
@@ -8,7 +8,7 @@ use Rattle.fj_value.specs.declared.condition.Rule.{Rule}
 use Rattle.fj_statement.specs.declared.deck.Variable.{Variable}
 use Rattle.fj_plain.specs.Prohibitions.{prohibited}
 use Rattle.fj_plain.specs.Needs.{need, holders}
-use Rattle.fj_plain.specs.Telling.{waited, ends_halt}
+use Rattle.fj_plain.specs.Telling.{waited}
 use Rattle.fj_plain.specs.State.{State, Unit, Entry, found, halts}
 use Rattle.fj_plain.specs.Statement.{Stated, step}
 use Rattle.fj_plain.specs.Reaching.{cause_of, becomes_pending}

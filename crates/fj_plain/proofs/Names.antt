@@ -1,19 +1,16 @@
 -- A motion and a transfer keep the file of their connection.
-use Rattle.std.proofs.Common.{◌≡◌, ℕ, ℤ, pos, negsuc, ◌+◌, ◌-◌, Bool, true, false, List, [], ◌∷◌, ◌++◌, length, drop, map, Option, Some, None, Result, Ok, Err, refl, sym, ap, subst, ◌∙◌}
+use Rattle.std.proofs.Common.{◌≡◌, ℕ, ℤ, pos, negsuc, ◌+◌, ◌-◌, Bool, true, false, List, [], ◌∷◌, ◌++◌, length, drop, Option, Some, None, Result, Ok, Err, refl, subst, ◌∙◌}
 use Rattle.std.specs.Prelude.{if◌then◌else◌, is_some, ◌==◌, ◌||◌, not, nat_lt, replicate}
 use Rattle.fj_value.specs.declared.edit.EditModes.{EditModes}
-use Rattle.fj_value.specs.declared.edit.Edit.{Edit}
 use Rattle.fj_value.specs.declared.value.Cell.{Cell}
 use Rattle.fj_value.specs.declared.value.Value.{Value}
 use Rattle.fj_value.specs.declared.value.Value.TheVariants.{Undefined}
 use Rattle.fj_value.specs.declared.condition.Condition.{Condition}
 use Rattle.fj_value.specs.declared.condition.Condition.TheVariants.{Fine, EndOfFile, EndOfRecord, Error}
-use Rattle.fj_value.specs.declared.kind.Kind.{Kind}
 use Rattle.fj_modes.specs.declared.specifiers.Access.{Access}
 use Rattle.fj_modes.specs.declared.specifiers.Access.TheVariants.{Sequential, Direct, Stream}
 use Rattle.fj_modes.specs.Words.{same_access}
 use Rattle.fj_list.specs.declared.moved.Moved.{Moved}
-use Rattle.fj_list.specs.declared.moved.GroupMember.{GroupMember}
 use Rattle.fj_list.specs.ListInput.{Outcome, list_input, kind_at}
 use Rattle.fj_namelist.specs.GroupInput.{group_input}
 use Rattle.fj_unfrec.specs.Frames.{frame}
@@ -33,9 +30,9 @@ use Rattle.fj_transfer.specs.declared.transfer.TransferSpec.{TransferSpec}
 use Rattle.fj_transfer.specs.declared.transfer.Layout.{Layout}
 use Rattle.fj_transfer.specs.declared.transfer.Layout.TheVariants.{Unformatted, Explicit, Listed, Group}
 use Rattle.fj_transfer.specs.AtHand.{AtHand, behind, first_record, next_record, numbered, line_at}
-use Rattle.fj_transfer.specs.Input.{Ended, Progress, width_for, characters_for, without_padding, carried_out, explicit_input, left_at, field_from, field_read, with_record, with_field, stopped}
+use Rattle.fj_transfer.specs.Input.{Ended, Progress, width_for, characters_for, without_padding, carried_out, explicit_input, left_at, field_read, with_record, with_field, stopped}
 use Rattle.fj_transfer.specs.Printing.{Printed, printed}
-use Rattle.fj_transfer.specs.Transfer.{Done, Ways, transfer_by, if_fit, from_place, in_error, begins_at, placed, at_byte, at_record, read_by, written_by, input_done, output_done, explicit_read, explicit_ended, records_read, past_records, unformatted_read, sequential_read, frame_read, piece_read, bytes_read, body_read, unformatted_written, records_written, with_pieces, with_text, unfit, is_explicit, with_undefined, records_to_come, condition_to_come, bytes_needed, body_of, values_from}
+use Rattle.fj_transfer.specs.Transfer.{Done, Ways, transfer_by, if_fit, from_place, in_error, begins_at, placed, at_byte, at_record, read_by, written_by, input_done, output_done, explicit_read, records_read, past_records, unformatted_read, frame_read, piece_read, bytes_read, body_read, unformatted_written, records_written, with_pieces, with_text, unfit, is_explicit, with_undefined, records_to_come, condition_to_come, bytes_needed, body_of, values_from}
 
 abbrev Is : List ℕ → Connection → Type 0
 Is name c = c.name ≡ name

@@ -1,10 +1,8 @@
 -- Each statement of a deck keeps what holds of its states.
-use Rattle.std.proofs.Common.{◌≡◌, ℕ, Bool, true, false, not, List, [], ◌∷◌, map, Option, Some, None, refl, sym, ap, ◌∙◌, subst}
+use Rattle.std.proofs.Common.{◌≡◌, ℕ, true, not, List, [], ◌∷◌, Option, Some, None, refl, sym, ap, ◌∙◌, subst}
 use Rattle.std.specs.Prelude.{if◌then◌else◌, filter}
-use Rattle.std.specs.List.{All, AllPairs}
-use Rattle.fj_value.specs.declared.condition.Condition.{Condition}
+use Rattle.std.specs.List.{AllPairs}
 use Rattle.fj_value.specs.declared.condition.Rule.{Rule}
-use Rattle.fj_control.specs.Steps.{Given}
 use Rattle.fj_statement.specs.declared.deck.Variable.{Variable}
 use Rattle.fj_statement.specs.declared.statement.Transfer.{Transfer}
 use Rattle.fj_statement.specs.declared.statement.Statement.{Statement}
@@ -12,7 +10,7 @@ use Rattle.fj_statement.specs.declared.statement.Statement.TheVariants as statem
 use Rattle.fj_plain.specs.Prohibitions.{prohibited}
 use Rattle.fj_plain.specs.Needs.{need, holders, number_of}
 use Rattle.fj_plain.specs.Telling.{waited, condition_of, is_asynchronous, is_told, of_unit, after_tells}
-use Rattle.fj_plain.specs.State.{State, Files, Entry, start}
+use Rattle.fj_plain.specs.State.{State, Files, start}
 use Rattle.fj_plain.specs.Statement.{Stated, Ran, Ending, step, acts, goes_on, executed, completed}
 use Rattle.fj_plain.specs.Reaching.{reached}
 use Rattle.fj_plain.proofs.Tells.{rising, Chosen, chosen, emptied, emptied_left, left, left_over, none_left, no_tells}

@@ -1,7 +1,7 @@
 -- What holds of each state that a deck reaches, and is kept by each change.
-use Rattle.std.proofs.Common.{◌≡◌, ℕ, ◌+◌, ◌<◌, ◌≤◌, Bool, true, false, not, List, [], ◌∷◌, ◌++◌, map, length, get_or, Option, Some, None, refl, sym, ap, ◌∙◌, subst, inl, inr, ◌&&◌, ◌||◌, arith}
+use Rattle.std.proofs.Common.{◌≡◌, ℕ, ◌+◌, ◌<◌, ◌≤◌, Bool, true, false, not, List, [], ◌∷◌, ◌++◌, map, length, get_or, Option, Some, None, refl, sym, ap, ◌∙◌, subst, inl, inr, ◌&&◌, arith}
 use Rattle.std.specs.Prelude.{◌==◌, if◌then◌else◌, filter, nat_lt}
-use Rattle.std.specs.List.{All, AllPairs, list_any}
+use Rattle.std.specs.List.{All, AllPairs}
 use Rattle.std.proofs.lemmas.Bool.{eq-eqb, ne_eqb}
 use Rattle.std.proofs.lemmas.Bool.Decides.{eqb_tells}
 use Rattle.std.proofs.lemmas.List.Elements.{All-nil, All-filter, All-map, All-weaker, All-push}
@@ -24,11 +24,11 @@ use Rattle.fj_plain.specs.Reaching.{cause_of}
 use Rattle.fj_plain.specs.PendingLaws.{AreApart}
 use Rattle.fj_plain.specs.HaltLaws.{IsSkipped}
 use Rattle.fj_plain.specs.UnitLaws.{Ascends, OneUnit, Away, is_connected}
-use Rattle.fj_plain.proofs.Lists.{no, pairs_none, pairs_map, all_both, any_map, no_longer}
-use Rattle.fj_plain.proofs.Tells.{rising, left, Whole, left_over, halting, no_cause, cause_told, cause_last, same_cause}
+use Rattle.fj_plain.proofs.Lists.{pairs_none, pairs_map, all_both, any_map, no_longer}
+use Rattle.fj_plain.proofs.Tells.{rising, Whole, left_over, no_cause, cause_told, cause_last, same_cause}
 use Rattle.fj_plain.proofs.Walk.{Missing, found_is}
 use Rattle.fj_plain.proofs.Places.{new_is_apart}
-use Rattle.fj_plain.proofs.Units.{found_all, found_connected, length_map, swap_number, replaced_ascend, replaced_few, replaced_one, replaced_away, replaced_connected, gone_connected, gone_one, gone_away, all_inserted, come_connected, come_ascend, come_few, come_one, come_away}
+use Rattle.fj_plain.proofs.Units.{found_all, found_connected, length_map, replaced_ascend, replaced_few, replaced_one, replaced_away, replaced_connected, gone_connected, gone_one, gone_away, all_inserted, come_connected, come_ascend, come_few, come_one, come_away}
 
 abbrev pub caused : List Entry → Unit → Type 0
 caused book u = u.halt ≡ cause_of book u.number

@@ -8,13 +8,11 @@ use Rattle.std.proofs.lemmas.List.Elements.{All-nil, All-cons, All-head, All-tai
 use Rattle.std.proofs.lemmas.List.Folds.{list_any_none}
 use Rattle.fj_value.specs.declared.condition.Condition.{Condition}
 use Rattle.fj_value.specs.declared.condition.Condition.TheVariants.{Fine, EndOfFile, EndOfRecord, Error}
-use Rattle.fj_modes.specs.declared.unit.UnitRef.{UnitRef}
-use Rattle.fj_modes.specs.declared.unit.UnitRef.TheVariants as unit
 use Rattle.fj_statement.specs.declared.deck.Variable.{Variable}
 use Rattle.fj_statement.specs.declared.statement.Statement.{Statement}
 use Rattle.fj_statement.specs.declared.statement.Statement.TheVariants as statement
 use Rattle.fj_plain.specs.Needs.{number_of, given_number}
-use Rattle.fj_plain.specs.Telling.{of_unit, of_id, graver, condition_of, waited_by, waited, is_asynchronous, is_told, ends_halt, tell_of, with_inputs, after_tells}
+use Rattle.fj_plain.specs.Telling.{of_unit, of_id, graver, condition_of, waited_by, waited, is_asynchronous, is_told, after_tells}
 use Rattle.fj_plain.specs.State.{State, Unit, Entry, halts}
 use Rattle.fj_plain.specs.Reaching.{cause_of}
 use Rattle.fj_plain.specs.HaltLaws.{IsSkipped}

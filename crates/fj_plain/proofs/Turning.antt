@@ -21,14 +21,14 @@ use Rattle.fj_statement.specs.declared.statement.Statement.{Statement}
 use Rattle.fj_statement.specs.declared.statement.Statement.TheVariants as statement
 use Rattle.fj_plain.specs.Prohibitions.{prohibited}
 use Rattle.fj_plain.specs.Needs.{need, holders, number_of}
-use Rattle.fj_plain.specs.Telling.{waited, condition_of, is_asynchronous, tell_of, after_tells}
+use Rattle.fj_plain.specs.Telling.{waited, condition_of, is_asynchronous, tell_of}
 use Rattle.fj_plain.specs.Transfers.{moved_by, spec_of, layout_of, refusal, entry_of, unless_halted, carried_out, made_pending, unless_refused, on_unit, star_limit, printed_to, transfer_at}
 use Rattle.fj_plain.specs.State.{State, Files, Unit, Entry, found, is_fine, start}
 use Rattle.fj_plain.specs.Statement.{Stated, Ran, Ending, step, own, acts, goes_on, executed, unit_at, stated, control_by, prohibition}
 use Rattle.fj_plain.specs.Reaching.{is_later, fits, becomes_pending}
 use Rattle.fj_plain.specs.PendingLaws.{Turns}
 use Rattle.fj_plain.proofs.Lists.{no, pairs_none}
-use Rattle.fj_plain.proofs.Tells.{rising, Chosen, chosen, emptied, left}
+use Rattle.fj_plain.proofs.Tells.{rising, chosen, left}
 use Rattle.fj_plain.proofs.Walk.{Ways, acts_walk}
 use Rattle.fj_plain.proofs.Reached.{told, told_book, later_waits, later_told}
 
@@ -108,7 +108,7 @@ module _ (control : ℕ → List Given) (variables : List Variable) (line : ℕ)
       → Stays variables (record { line = line; what = what }, control) s (acts control variables (told variables line what s) what (condition_of (waited s what))).0
   now_stays what h =
       let same : Same (told variables line what s) (acts control variables (told variables line what s) what (condition_of (waited s what))).0
-          = acts_walk control variables what (told variables line what s) (Same (told variables line what s)) (condition_of (waited s what)) (same_ways variables what (told variables line what s) h) in
+      = acts_walk control variables what (told variables line what s) (Same (told variables line what s)) (condition_of (waited s what)) (same_ways variables what (told variables line what s) h) in
       (same.tells, λ _. (same.book ∙ told_book variables line what s rises, same.next), λ k. no (sym (not_pending variables s what h) ∙ k))
 
   later_stays : (t : Transfer) → is_asynchronous t ≡ true

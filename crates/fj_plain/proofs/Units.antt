@@ -1,12 +1,12 @@
 -- Units by their numbers: one that is found, one that is replaced, one that goes and one that comes.
-use Rattle.std.proofs.Common.{◌≡◌, ℕ, suc, ◌+◌, ◌<◌, ◌≤◌, Bool, true, false, not, List, [], ◌∷◌, map, length, Option, Some, None, refl, sym, ap, ◌∙◌, subst, ◌⊎◌, inl, inr, ◌&&◌, ◌||◌, arith, length-append}
+use Rattle.std.proofs.Common.{◌≡◌, ℕ, suc, ◌+◌, ◌<◌, ◌≤◌, Bool, true, false, not, List, [], ◌∷◌, map, length, Some, None, refl, sym, ap, ◌∙◌, subst, ◌⊎◌, inl, inr, ◌||◌, arith, length-append}
 use Rattle.std.specs.Prelude.{◌==◌, if◌then◌else◌, filter, nat_lt}
-use Rattle.std.specs.List.{All, AllPairs, list_any}
+use Rattle.std.specs.List.{All}
 use Rattle.std.specs.Str.{bytes_eq}
 use Rattle.std.proofs.lemmas.Bool.{eq-eqb, eqb-true, eqb-false, ltb-true, lt-ltb, le-ltb, or_left, or_right, cases_lt}
 use Rattle.std.proofs.lemmas.Bool.Decides.{eqb_tells}
 use Rattle.std.proofs.lemmas.Slice.Eq.{bytes_eq-Decides}
-use Rattle.std.proofs.lemmas.List.Elements.{All-nil, All-cons, All-head, All-tail, All-append, All-filter, All-map, All-weaker, filter_passes}
+use Rattle.std.proofs.lemmas.List.Elements.{All-cons, All-head, All-tail, All-append, All-filter, All-map, All-weaker, filter_passes}
 use Rattle.std.proofs.lemmas.List.Folds.{list_any-append}
 use Rattle.std.proofs.lemmas.List.Kept.{AllPairs-cons, AllPairs-filter}
 use Rattle.std.proofs.lemmas.Map.Views.{any-filter_same}
@@ -14,8 +14,8 @@ use Rattle.fj_connect.specs.Connection.{Connection}
 use Rattle.fj_connect.specs.Positions.{ended}
 use Rattle.fj_plain.specs.Connecting.{most_units}
 use Rattle.fj_plain.specs.UnitLaws.{Ascends, OneUnit, is_connected}
-use Rattle.fj_plain.specs.State.{Files, Unit, found, with_unit, inserted, without_unit, with_file, without_file, left}
-use Rattle.fj_plain.proofs.Lists.{no, pairs_head, pairs_tail, pairs_append, pairs_map, pairs_weaker, all_both, any_map, any_same, no_longer, no_longer_both}
+use Rattle.fj_plain.specs.State.{Files, Unit, found, with_unit, inserted, without_unit, without_file, left}
+use Rattle.fj_plain.proofs.Lists.{no, pairs_head, pairs_tail, pairs_append, pairs_map, pairs_weaker, all_both, any_map, any_same, no_longer_both}
 use Rattle.fj_plain.proofs.Walk.{Missing, found_is, not_true}
 
 -- ---- names

@@ -1,6 +1,6 @@
 -- What a statement's own action, and what is done in its place, may make of a state.
-use Rattle.std.proofs.Common.{◌≡◌, ℕ, Bool, true, false, not, List, [], ◌∷◌, map, length, Option, Some, None, Result, Ok, Err, refl, sym, ap, ◌∙◌, subst, ◌&&◌}
-use Rattle.std.specs.Prelude.{◌==◌, if◌then◌else◌, nat_lt, option_and_then, unwrap_or}
+use Rattle.std.proofs.Common.{◌≡◌, ℕ, Bool, true, false, not, List, [], ◌∷◌, length, Option, Some, None, Result, Ok, Err, refl, sym, ap, ◌∙◌, subst, ◌&&◌}
+use Rattle.std.specs.Prelude.{◌==◌, if◌then◌else◌, nat_lt, unwrap_or}
 use Rattle.std.specs.List.{All, list_any}
 use Rattle.std.specs.Str.{bytes_eq}
 use Rattle.std.proofs.lemmas.Bool.{eqb-true}
@@ -32,12 +32,11 @@ use Rattle.fj_statement.specs.declared.statement.Transfer.{Transfer}
 use Rattle.fj_statement.specs.declared.statement.Statement.{Statement}
 use Rattle.fj_statement.specs.declared.statement.Statement.TheVariants as statement
 use Rattle.fj_plain.specs.Variables.{Variables}
-use Rattle.fj_plain.specs.Needs.{number_of}
 use Rattle.fj_plain.specs.Telling.{is_asynchronous}
 use Rattle.fj_plain.specs.Transfers.{moved_by, spec_of, layout_of, refusal, refused, with_values, carried_out, made_pending, transferred, unless_refused, on_unit, star_limit, printed_to, on_star, transfer_at, transfers_nothing}
 use Rattle.fj_plain.specs.Connecting.{file_due, keeps_file, with_modes, is_taken, most_units, with_opened, connects, without_old, opens_with, opens, closes, closes_anyway, with_move, moves}
-use Rattle.fj_plain.specs.State.{State, Unit, Output, found, with_unit, inserted, without_unit, without_file, with_connection, disconnected, keeps, all_closed}
-use Rattle.fj_plain.specs.Statement.{own, instead, acts, unit_at}
+use Rattle.fj_plain.specs.State.{State, Unit, Output, found, with_unit, inserted, without_unit, without_file, disconnected, keeps, all_closed}
+use Rattle.fj_plain.specs.Statement.{own, instead, acts}
 use Rattle.fj_plain.proofs.Lists.{none_passes, all_both}
 use Rattle.fj_plain.proofs.Names.{moved_is, transfer_is}
 use Rattle.fj_plain.proofs.Tells.{emptied}

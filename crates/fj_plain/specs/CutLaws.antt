@@ -2,7 +2,7 @@
 use Rattle.std.specs.Prelude.{◌≡◌, ℕ, List, ◌++◌, take, slice_get, Option, Some, None}
 use Rattle.fj_statement.specs.declared.deck.Variable.{Variable}
 use Rattle.fj_plain.specs.State.{State}
-use Rattle.fj_plain.specs.Statement.{Stated, Ran, Ending, executed, cut}
+use Rattle.fj_plain.specs.Statement.{Stated, Ran, executed, cut}
 
 -- where the statements before have not ended the deck, the next one stands in the state that they reach
 abbrev pub next_at : Ran → Option Stated → Option (Stated × State)

@@ -1,5 +1,5 @@
 -- Worked cases: the order in which a statement goes, in decks whose results are computed.
-use Rattle.std.specs.Prelude.{◌≡◌, ℕ, ℤ, pos, negsuc, true, false, List, [], ◌∷◌, Some, None, codes}
+use Rattle.std.specs.Prelude.{◌≡◌, ℕ, pos, negsuc, true, false, [], ◌∷◌, Some, None, codes}
 use Rattle.fj_value.specs.declared.value.Value.TheVariants.{Undefined}
 use Rattle.fj_value.specs.declared.condition.Condition.TheVariants.{EndOfFile}
 use Rattle.fj_list.specs.ListText.{text_of}

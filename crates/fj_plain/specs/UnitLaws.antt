@@ -1,8 +1,7 @@
 -- What holds of units and files (ISO/IEC 1539-1:2004, 9.4), and what telling and assignment leave alone.
-use Rattle.std.specs.Prelude.{◌≡◌, ◌≢◌, ℕ, ◌<◌, ◌≤◌, ◌==◌, if◌then◌else◌, Bool, true, List, map, Option, Some, None, length}
+use Rattle.std.specs.Prelude.{◌≡◌, ◌≢◌, ℕ, ◌<◌, ◌≤◌, ◌==◌, if◌then◌else◌, Bool, true, List, map, Some, None, length}
 use Rattle.std.specs.List.{All, AllPairs, list_any}
 use Rattle.fj_statement.specs.declared.deck.Variable.{Variable}
-use Rattle.fj_statement.specs.declared.deck.Lined.{Lined}
 use Rattle.fj_modes.specs.declared.unit.UnitRef.TheVariants as unit
 use Rattle.fj_statement.specs.declared.statement.Operand.{Operand}
 use Rattle.fj_statement.specs.declared.statement.Transfer.{Transfer}
