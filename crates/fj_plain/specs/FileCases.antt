@@ -1,6 +1,5 @@
 -- Worked cases: unformatted, direct and stream transfers, transfers on several units, and INQUIRE, in decks whose results are computed.
-use Rattle.std.specs.Prelude.{◌≡◌, ℕ, zero, suc, ◌+◌, ℤ, pos, negsuc, true, false, List, [], ◌∷◌, ◌++◌, Some, None, codes, map, replicate}
-use Rattle.fj_value.specs.declared.value.Value.{Value}
+use Rattle.std.specs.Prelude.{◌≡◌, ℕ, pos, negsuc, true, false, List, [], ◌∷◌, ◌++◌, Some, None, codes, map, replicate}
 use Rattle.fj_value.specs.declared.value.Value.TheVariants.{Undefined, Chars, Log}
 use Rattle.fj_value.specs.declared.kind.Kind.{Kind}
 use Rattle.fj_value.specs.declared.kind.Kind.TheVariants as kind
@@ -23,10 +22,9 @@ use Rattle.fj_statement.specs.declared.statement.Operand.{Operand}
 use Rattle.fj_statement.specs.declared.statement.Operand.TheVariants as operand
 use Rattle.fj_statement.specs.declared.statement.Control.TheVariants as control
 use Rattle.fj_statement.specs.declared.statement.Statement.TheVariants as statement
-use Rattle.fj_plain.specs.State.{Files}
 use Rattle.fj_plain.specs.Statement.{execution, ended, prohibition}
 use Rattle.fj_plain.specs.Cases.{Comes, int}
-use Rattle.fj_plain.specs.DeckWords.{Written, scalar, integers, at, var, whole, text, no_files, file, lines_from, opening, replacing, replacing_later, old_later, plain_open, wait, «end», motion, assign, close, transfer, i_transfer, a_transfer, now, later, by_i, by_a, bare, by, control_gives}
+use Rattle.fj_plain.specs.DeckWords.{scalar, integers, at, var, whole, text, no_files, file, lines_from, opening, replacing, replacing_later, old_later, plain_open, wait, «end», motion, assign, close, transfer, i_transfer, a_transfer, now, later, by_i, by_a, bare, by}
 
 -- ---- unformatted records
 

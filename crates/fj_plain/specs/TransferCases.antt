@@ -1,7 +1,6 @@
 -- Worked cases: formatted, list-directed and namelist transfers in decks whose results are computed.
-use Rattle.std.specs.Prelude.{◌≡◌, ℕ, ℤ, pos, negsuc, true, false, List, [], ◌∷◌, ◌++◌, Some, None, codes}
-use Rattle.fj_value.specs.declared.value.Value.{Value}
-use Rattle.fj_value.specs.declared.value.Value.TheVariants.{Undefined, Chars}
+use Rattle.std.specs.Prelude.{◌≡◌, ℕ, pos, negsuc, true, false, List, [], ◌∷◌, ◌++◌, Some, None, codes}
+use Rattle.fj_value.specs.declared.value.Value.TheVariants.{Undefined}
 use Rattle.fj_value.specs.declared.kind.Kind.TheVariants as kind
 use Rattle.fj_value.specs.declared.edit.Edit.{Edit}
 use Rattle.fj_value.specs.declared.edit.Edit.TheVariants as edit
@@ -17,7 +16,6 @@ use Rattle.fj_statement.specs.declared.deck.Variable.{Variable}
 use Rattle.fj_statement.specs.declared.statement.Operand.TheVariants as operand
 use Rattle.fj_statement.specs.declared.statement.Control.{Control}
 use Rattle.fj_statement.specs.declared.statement.Control.TheVariants as control
-use Rattle.fj_statement.specs.declared.statement.Statement.{Statement}
 use Rattle.fj_statement.specs.declared.statement.Statement.TheVariants as statement
 use Rattle.fj_modes.specs.declared.unit.UnitRef.TheVariants as unit
 use Rattle.fj_plain.specs.Statement.{execution, ended, error_stop, prohibition}
@@ -36,8 +34,8 @@ abbrev pub FieldsAreWritten : Type 0
 FieldsAreWritten = (execution [] (lines_from 1 (
     print_by (edit.Int 5 None) (whole (pos 42)) ∷ print_by (edit.Int 2 None) (whole (pos 123)) ∷ print_by (edit.Int 0 None) (whole (pos 0))
     ∷ print_by (edit.Int 0 (Some 0)) (whole (pos 0)) ∷ print_by (edit.Int 5 (Some 3)) (whole (negsuc 6))
-    ∷ print_by (edit.Bits 16 8 None) (whole (negsuc 0)) ∷ print_by (edit.Bits 2 3 None) (whole (negsuc 0)) ∷ «end» ∷ [])) no_files).output.text
-    ≡ text_of (codes "   42" ∷ codes "**" ∷ codes "0" ∷ codes " " ∷ codes " -007" ∷ codes "FFFFFFFF" ∷ codes "***" ∷ [])
+    ∷ print_by (edit.Bits 16 4 None) (whole (pos 255)) ∷ print_by (edit.Bits 2 3 None) (whole (pos 8)) ∷ «end» ∷ [])) no_files).output.text
+    ≡ text_of (codes "   42" ∷ codes "**" ∷ codes "0" ∷ codes " " ∷ codes " -007" ∷ codes "  FF" ∷ codes "***" ∷ [])
 
 abbrev pub i2 : Edit
 i2 = edit.Int 2 None
