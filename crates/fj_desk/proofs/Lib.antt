@@ -2,3 +2,5 @@ pub mod Apart
 pub mod Counting
 pub mod Carrying
 pub mod Seen
+pub mod Tied
+pub mod Resuming
