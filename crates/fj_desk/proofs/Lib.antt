@@ -4,3 +4,4 @@ pub mod Carrying
 pub mod Seen
 pub mod Tied
 pub mod Resuming
+pub mod Transferring
