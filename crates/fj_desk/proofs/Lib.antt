@@ -5,3 +5,8 @@ pub mod Seen
 pub mod Tied
 pub mod Resuming
 pub mod Transferring
+pub mod Positioning
+pub mod Closing
+pub mod Opening
+pub mod Steps
+pub mod Forgetting
