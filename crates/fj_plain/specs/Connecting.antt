@@ -26,9 +26,12 @@ file_due spec number = if given_and is_scratch spec.status then codes "SCRATCH."
     else unwrap_or spec.file (codes "fort." ++ decimal number)
 
 -- the statement keeps the file: it names none and asks for no scratch file, or it names the connected one
+abbrev pub keeps_name : List ℕ → OpenSpec → Option (List ℕ) → Bool
+keeps_name connected spec None = not (given_and is_scratch spec.status)
+keeps_name connected spec (Some name) = bytes_eq name connected
+
 abbrev pub keeps_file : Unit → OpenSpec → Option (List ℕ) → Bool
-keeps_file u spec None = not (given_and is_scratch spec.status)
-keeps_file u spec (Some name) = bytes_eq name u.connection.name
+keeps_file u spec name = keeps_name u.connection.name spec name
 
 -- the modes that may differ change, or nothing does (8)
 abbrev pub with_modes : State → Unit → Result Modes Condition → State × Condition

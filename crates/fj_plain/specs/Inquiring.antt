@@ -16,13 +16,8 @@ use Rattle.fj_modes.specs.declared.specifiers.Action.TheVariants.{Read, Write, R
 use Rattle.fj_modes.specs.declared.asked.Question.{Question}
 use Rattle.fj_modes.specs.declared.asked.Question.TheVariants as question
 use Rattle.fj_modes.specs.declared.asked.Wanted.{Wanted}
-use Rattle.fj_connect.specs.declared.spot.Spot.{Spot}
+use Rattle.fj_bay.specs.Jobs.{Looked}
 use Rattle.fj_plain.specs.Items.{number_for}
-
--- what is known of the file of a unit behind its pending transfers: where it stands, and its size
-pub record Look : Type 0 where
-  pub spot : Spot
-  pub size : ℕ
 
 -- what is asked about: a unit or a file, connected or not
 pub record About : Type 0 where
@@ -31,10 +26,10 @@ pub record About : Type 0 where
   -- the file that is asked about, and whether it is there
   pub file : Option (List ℕ)
   pub exists : Bool
-  -- of a connected unit or file, its name and modes, and a look at it
+  -- of a connected unit or file, its name and modes, and a look at it behind its pending transfers
   pub name : Option (List ℕ)
   pub modes : Option Modes
-  pub look : Option Look
+  pub look : Option Looked
   pub pending : Bool
 
 -- an answer: a truth value, a number, or a word; or there is none, and the variable becomes undefined
@@ -74,7 +69,7 @@ abbrev pub is_stream : Access → Bool
 is_stream Stream = true
 is_stream _ = false
 
-abbrev pub looked : Option Look → (Look → Answer) → Answer
+abbrev pub looked : Option Looked → (Looked → Answer) → Answer
 looked None answer = nothing
 looked (Some look) answer = answer look
 

@@ -18,6 +18,7 @@ use Rattle.fj_statement.specs.declared.statement.Statement.TheVariants as statem
 use Rattle.fj_plain.specs.Items.{operand_places, places_of, value_of, integer_of}
 use Rattle.fj_plain.specs.Prohibitions.{Need, Holder}
 use Rattle.fj_plain.specs.State.{State, Unit, Entry}
+use Rattle.fj_plain.specs.Variables.{Variables}
 
 -- the number of a unit; `*` has none
 abbrev pub number_of : UnitRef → Option ℕ
@@ -33,9 +34,12 @@ abbrev pub given_places : List Variable → Option Operand → List Place
 given_places variables None = []
 given_places variables (Some o) = operand_places variables o
 
--- the value of ID=
+-- the value of ID=, REC= or POS=
+abbrev pub number_given : Variables → Option Operand → Option ℤ
+number_given vars o = option_and_then (λ (x : Operand). integer_of (value_of vars x)) o
+
 abbrev pub given_number : State → Option Operand → Option ℤ
-given_number s o = option_and_then (λ (x : Operand). integer_of (value_of s.vars x)) o
+given_number s o = number_given s.vars o
 
 -- the members of a group
 abbrev pub group_places : List Variable → Control → List Place
@@ -74,27 +78,34 @@ unit_of_file [] name = None
 unit_of_file (u ∷ us) name = if bytes_eq u.connection.name name then Some u.number else unit_of_file us name
 
 -- the unit that INQUIRE asks about, or that the file is connected to
+abbrev pub unit_about : (List ℕ → Option ℕ) → Subject → Option ℕ
+unit_about unit_named (subject.Unit u) = number_of u
+unit_about unit_named (subject.File name) = unit_named name
+
 abbrev pub unit_asked : State → Subject → Option ℕ
-unit_asked s (subject.Unit u) = number_of u
-unit_asked s (subject.File name) = unit_of_file s.units name
+unit_asked s about = unit_about (unit_of_file s.units) about
 
 abbrev pub wanted_places : List Wanted → List Place
 wanted_places asked = map (λ (w : Wanted). w.place) asked
 
-abbrev pub inquiry_need : List Variable → State → Option ℕ → List Wanted → Option Operand → Option Place → Need
-inquiry_need variables s number asked id iostat =
-    record (need_of (wanted_places asked ++ if_given iostat)) { unit = number; references = given_places variables id; id = given_number s id }
+abbrev pub inquiry_need : List Variable → Variables → Option ℕ → List Wanted → Option Operand → Option Place → Need
+inquiry_need variables vars number asked id iostat =
+    record (need_of (wanted_places asked ++ if_given iostat)) { unit = number; references = given_places variables id; id = number_given vars id }
+
+-- by the variables, and by the unit that a file is connected to
+abbrev pub need_by : List Variable → Variables → (List ℕ → Option ℕ) → Statement → Need
+need_by variables vars unit_named (statement.Assign to from) = record no_need { references = operand_places variables from; defines = operand_places variables to }
+need_by variables vars unit_named (statement.OpenUnit u spec iostat) = need_of (if_given iostat)
+need_by variables vars unit_named (statement.CloseUnit u keep iostat) = need_of (if_given iostat)
+need_by variables vars unit_named (statement.WaitFor u id iostat) =
+    record (need_of (if_given iostat)) { unit = number_of u; references = given_places variables id; id = number_given vars id }
+need_by variables vars unit_named (statement.Move how u iostat) = need_of (if_given iostat)
+need_by variables vars unit_named (statement.Inquire about asked id iostat) = inquiry_need variables vars (unit_about unit_named about) asked id iostat
+need_by variables vars unit_named (statement.Transfer t) = transfer_need variables t
+need_by variables vars unit_named statement.End = no_need
 
 abbrev pub need : List Variable → State → Statement → Need
-need variables s (statement.Assign to from) = record no_need { references = operand_places variables from; defines = operand_places variables to }
-need variables s (statement.OpenUnit u spec iostat) = need_of (if_given iostat)
-need variables s (statement.CloseUnit u keep iostat) = need_of (if_given iostat)
-need variables s (statement.WaitFor u id iostat) =
-    record (need_of (if_given iostat)) { unit = number_of u; references = given_places variables id; id = given_number s id }
-need variables s (statement.Move how u iostat) = need_of (if_given iostat)
-need variables s (statement.Inquire about asked id iostat) = inquiry_need variables s (unit_asked s about) asked id iostat
-need variables s (statement.Transfer t) = transfer_need variables t
-need variables s statement.End = no_need
+need variables s st = need_by variables s.vars (unit_of_file s.units) st
 
 -- the pending transfers as prohibitions see them
 abbrev pub holders : List Entry → List Holder

@@ -4,11 +4,12 @@ use Rattle.fj_value.specs.declared.place.Place.{Place}
 use Rattle.fj_value.specs.declared.value.Cell.{Cell}
 use Rattle.fj_value.specs.declared.value.Value.TheVariants.{Undefined}
 use Rattle.fj_value.specs.declared.condition.Condition.{Condition}
-use Rattle.fj_value.specs.declared.condition.Condition.TheVariants.{Fine, EndOfFile, EndOfRecord, Error}
+use Rattle.fj_value.specs.declared.condition.Condition.TheVariants.{Fine}
 use Rattle.fj_statement.specs.declared.deck.Variable.{Variable}
 use Rattle.fj_connect.specs.Connection.{Connection}
 use Rattle.fj_connect.specs.Positions.{ended}
 use Rattle.std.specs.Str.{bytes_eq}
+pub use Rattle.fj_bay.specs.Halt.{halts}
 use Rattle.fj_plain.specs.Variables.{Variables}
 
 -- ---- files
@@ -71,13 +72,6 @@ pub record State : Type 0 where
 abbrev pub is_fine : Condition → Bool
 is_fine Fine = true
 is_fine _ = false
-
--- an error or the end of the file
-abbrev pub halts : Condition → Bool
-halts Fine = false
-halts EndOfRecord = false
-halts EndOfFile = true
-halts (Error n) = true
 
 -- ---- units
 

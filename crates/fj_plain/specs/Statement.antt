@@ -1,5 +1,6 @@
 -- What a deck means: its statements, executed one after another.
-use Rattle.std.specs.Prelude.{ℕ, zero, suc, ℤ, nat_lt, Bool, true, false, List, [], ◌∷◌, ◌++◌, length, map, take, replicate, Option, Some, None, is_some, option_and_then}
+use Rattle.std.specs.Prelude.{ℕ, zero, suc, ◌==◌, ℤ, Bool, true, false, List, [], ◌∷◌, ◌++◌, map, take, replicate, Option, Some, None, is_some, option_and_then}
+use Rattle.std.specs.List.{list_any}
 use Rattle.std.specs.Option.{option_map_or}
 use Rattle.fj_value.specs.Condition.{code_of}
 use Rattle.fj_value.specs.declared.condition.Condition.{Condition}
@@ -10,6 +11,7 @@ use Rattle.fj_value.specs.declared.kind.Kind.TheVariants.{Chars}
 use Rattle.fj_value.specs.declared.place.Place.{Place}
 use Rattle.fj_value.specs.declared.value.Value.{Value}
 use Rattle.fj_value.specs.declared.value.Value.TheVariants as value
+use Rattle.fj_modes.specs.declared.modes.Modes.{Modes}
 use Rattle.fj_modes.specs.declared.asked.Wanted.{Wanted}
 use Rattle.fj_modes.specs.declared.asked.Subject.{Subject}
 use Rattle.fj_modes.specs.declared.asked.Subject.TheVariants as subjects
@@ -21,11 +23,12 @@ use Rattle.fj_statement.specs.declared.statement.Control.TheVariants as control
 use Rattle.fj_control.specs.Steps.{Given, steps}
 use Rattle.fj_statement.specs.declared.statement.Statement.{Statement}
 use Rattle.fj_statement.specs.declared.statement.Statement.TheVariants as statement
+use Rattle.fj_bay.specs.Jobs.{Looked, looked_at}
 use Rattle.fj_plain.specs.Variables.{Variables, with_value, given_back}
 use Rattle.fj_plain.specs.Items.{kind_of, operand_places, value_of}
-use Rattle.fj_plain.specs.Prohibitions.{prohibited}
+use Rattle.fj_plain.specs.Prohibitions.{prohibited, Holder, has_id}
 use Rattle.fj_plain.specs.Needs.{number_of, need, holders, given_number, unit_asked}
-use Rattle.fj_plain.specs.Telling.{waited, condition_of, after_tells, of_unit, of_id}
+use Rattle.fj_plain.specs.Telling.{waited, condition_of, after_tells}
 use Rattle.fj_plain.specs.Transfers.{with_number, reads_or_writes, transfers_nothing}
 use Rattle.fj_plain.specs.Connecting.{opens, closes, closes_anyway, moves}
 use Rattle.fj_plain.specs.Inquiring.{About, inquired}
@@ -44,30 +47,36 @@ assigned variables (place ∷ places) v vars = assigned variables places v (with
 -- ---- INQUIRE (9.9)
 
 -- a transfer is pending on the unit, or the one of that identifier
-abbrev pub has_pending : State → Option ℕ → Option ℤ → Bool
-has_pending s number None = nat_lt 0 (length (of_unit s.book number))
-has_pending s number (Some id) = nat_lt 0 (length (of_id s.book number id))
+abbrev pub is_of_unit : Option ℕ → Holder → Bool
+is_of_unit None h = false
+is_of_unit (Some number) h = h.unit == number
 
--- the answers are those behind all pending transfers of the unit
-abbrev pub about : State → Option ℕ → Option (List ℕ) → Option ℤ → Option Unit → About
-about s number file id None = record {
+abbrev pub has_pending : List Holder → Option ℕ → Option ℤ → Bool
+has_pending book number None = list_any (is_of_unit number) book
+has_pending book number (Some id) = list_any (has_id number id) book
+
+-- of a unit or file that is not connected
+abbrev pub about_other : Files → Option (List ℕ) → About
+about_other files file = record {
   unit = None;
   file = file;
-  exists = option_map_or (λ name. is_some (s.files name)) file false;
+  exists = option_map_or (λ name. is_some (files name)) file false;
   name = None;
   modes = None;
   look = None;
   pending = false;
 }
-about s number file id (Some u) = record {
-  unit = Some u.number;
-  file = file;
-  exists = true;
-  name = Some u.connection.name;
-  modes = Some u.connection.modes;
-  look = Some (record { spot = u.connection.spot; size = length u.connection.bytes });
-  pending = has_pending s number id;
-}
+
+-- of a connected one
+abbrev pub about_connected : ℕ → Option (List ℕ) → List ℕ → Modes → Option Looked → Bool → About
+about_connected number file name modes look pending =
+    record { unit = Some number; file = file; exists = true; name = Some name; modes = Some modes; look = look; pending = pending }
+
+-- the answers are those behind all pending transfers of the unit
+abbrev pub about : State → Option ℕ → Option (List ℕ) → Option ℤ → Option Unit → About
+about s number file id None = about_other s.files file
+about s number file id (Some u) =
+    about_connected u.number file u.connection.name u.connection.modes (Some (looked_at u.connection)) (has_pending (holders s.book) number id)
 
 abbrev pub file_asked : Subject → Option (List ℕ)
 file_asked (subjects.Unit u) = None

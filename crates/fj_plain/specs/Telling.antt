@@ -13,7 +13,7 @@ use Rattle.fj_statement.specs.declared.statement.Statement.{Statement}
 use Rattle.fj_statement.specs.declared.statement.Statement.TheVariants as statement
 use Rattle.fj_plain.specs.Variables.{Variables, given_back, with_value}
 use Rattle.fj_plain.specs.Items.{kind_of, number_for}
-use Rattle.fj_plain.specs.Needs.{number_of, given_number}
+use Rattle.fj_plain.specs.Needs.{number_of, number_given}
 use Rattle.fj_plain.specs.State.{State, Unit, Entry, Tell, halts}
 
 -- the pending transfers of a unit
@@ -46,16 +46,19 @@ waited_by book number (Some id) = if halts (condition_of (of_id book number id))
 abbrev pub is_asynchronous : Transfer → Bool
 is_asynchronous t = unwrap_or t.asynchronous false
 
--- the transfers that a statement waits for, in ascending order of identifiers
+-- of pending transfers those that a statement waits for, in ascending order of identifiers
+abbrev pub waited_in : List Entry → Variables → Statement → List Entry
+waited_in book vars (statement.Assign to from) = []
+waited_in book vars (statement.OpenUnit u spec iostat) = of_unit book (number_of u)
+waited_in book vars (statement.CloseUnit u keep iostat) = of_unit book (number_of u)
+waited_in book vars (statement.WaitFor u id iostat) = waited_by book (number_of u) (number_given vars id)
+waited_in book vars (statement.Move how u iostat) = of_unit book (number_of u)
+waited_in book vars (statement.Inquire about asked id iostat) = []
+waited_in book vars (statement.Transfer t) = if is_asynchronous t then [] else of_unit book (number_of t.unit)
+waited_in book vars statement.End = book
+
 abbrev pub waited : State → Statement → List Entry
-waited s (statement.Assign to from) = []
-waited s (statement.OpenUnit u spec iostat) = of_unit s.book (number_of u)
-waited s (statement.CloseUnit u keep iostat) = of_unit s.book (number_of u)
-waited s (statement.WaitFor u id iostat) = waited_by s.book (number_of u) (given_number s id)
-waited s (statement.Move how u iostat) = of_unit s.book (number_of u)
-waited s (statement.Inquire about asked id iostat) = []
-waited s (statement.Transfer t) = if is_asynchronous t then [] else of_unit s.book (number_of t.unit)
-waited s statement.End = s.book
+waited s st = waited_in s.book s.vars st
 
 -- SIZE= gets the count of characters, or is undefined where there is none
 abbrev pub count_for : List Variable → Place → Option ℕ → Value
@@ -74,12 +77,19 @@ abbrev pub with_inputs : List Variable → List Entry → Variables → Variable
 with_inputs variables [] vars = vars
 with_inputs variables (e ∷ es) vars = with_inputs variables es (with_input variables e vars)
 
+-- a transfer of this identifier is among them
+abbrev pub tells_id : List Entry → ℕ → Bool
+tells_id es id = list_any (λ (x : Entry). x.id == id) es
+
 abbrev pub is_told : List Entry → Entry → Bool
-is_told es e = list_any (λ (x : Entry). x.id == e.id) es
+is_told es e = tells_id es e.id
 
 -- an error or the end of the file that is told ends the halt of its unit
+abbrev pub tells_cause : List Entry → ℕ → Bool
+tells_cause es number = list_any (λ (e : Entry). (e.unit == number) && halts e.condition) es
+
 abbrev pub ends_halt : List Entry → Unit → Bool
-ends_halt es u = list_any (λ (e : Entry). (e.unit == u.number) && halts e.condition) es
+ends_halt es u = tells_cause es u.number
 
 abbrev pub tell_of : ℕ → Entry → Tell
 tell_of line e = record { line = line; unit = e.unit; id = e.id; condition = e.condition }

@@ -1,5 +1,5 @@
 -- READ and WRITE (ISO/IEC 1539-1:2004, 9.5): what the statement itself tells, and a transfer carried out or made pending.
-use Rattle.std.specs.Prelude.{ℕ, ℤ, pos, ◌+◌, ◌==◌, ◌&&◌, ◌++◌, not, unwrap_or, is_some, true, List, [], ◌∷◌, length, map, slice_get, Option, Some, None, option_map, option_and_then, if◌then◌else◌, Result, Ok, Err}
+use Rattle.std.specs.Prelude.{ℕ, ℤ, pos, ◌+◌, ◌==◌, ◌&&◌, ◌++◌, not, unwrap_or, is_some, true, List, [], ◌∷◌, length, map, slice_get, Option, Some, None, option_map, if◌then◌else◌, Result, Ok, Err}
 use Rattle.std.specs.List.{flat_map, position_or_len}
 use Rattle.fj_value.specs.declared.condition.Condition.{Condition}
 use Rattle.fj_value.specs.declared.condition.Condition.TheVariants.{Fine, Error}
@@ -23,13 +23,14 @@ use Rattle.fj_modes.specs.declared.unit.UnitRef.TheVariants as unit
 use Rattle.fj_statement.specs.declared.statement.Transfer.{Transfer}
 use Rattle.fj_connect.specs.Connection.{Connection}
 use Rattle.fj_plain.specs.Variables.{Variables, with_value, given_back, undefined_at, moved_of, is_at}
-use Rattle.fj_plain.specs.Items.{kind_of, cell_at, cells_of, value_of, integer_of, number_for}
-use Rattle.fj_plain.specs.Needs.{transfer_places, group_places, if_given}
+use Rattle.fj_plain.specs.Items.{kind_of, cell_at, cells_of, number_for}
+use Rattle.fj_plain.specs.Needs.{transfer_places, group_places, if_given, number_given}
 use Rattle.fj_plain.specs.Telling.{is_asynchronous, with_size}
 use Rattle.fj_transfer.specs.Printing.{Printed, printed}
-use Rattle.fj_plain.specs.State.{State, Unit, Entry, Output, found, with_unit, elements, halts}
+use Rattle.fj_plain.specs.State.{State, Unit, Entry, Output, found, with_unit, elements}
 use Rattle.fj_control.specs.Steps.{Given}
-use Rattle.fj_transfer.specs.Transfer.{Done, transfer_by, is_formatted, unfitness, with_undefined}
+use Rattle.fj_transfer.specs.Transfer.{Done, transfer_by, is_formatted, unfitness}
+pub use Rattle.fj_bay.specs.Halt.{halt_behind, unless_halted}
 
 -- ---- the statement as a transfer
 
@@ -53,22 +54,24 @@ layout_of variables cells control.Listed = layout.Listed
 layout_of variables cells (control.Group name vars) = layout.Group name (members_of variables cells vars)
 
 -- the cells of the items or of the group
+abbrev pub moved_in : List Variable → Variables → Transfer → Moved
+moved_in variables vars t = moved_of (cells_of variables vars t.items ++ map (cell_at variables vars) (group_places variables t.control))
+
 abbrev pub moved_by : List Variable → State → Transfer → Moved
-moved_by variables s t = moved_of (cells_of variables s.vars t.items ++ map (cell_at variables s.vars) (group_places variables t.control))
+moved_by variables s t = moved_in variables s.vars t
 
--- the value of REC= or POS=
-abbrev pub number_in : State → Option Operand → Option ℤ
-number_in s o = option_and_then (λ (x : Operand). integer_of (value_of s.vars x)) o
-
-abbrev pub spec_of : List Variable → State → Transfer → List Cell → TransferSpec
-spec_of variables s t cells = record {
+abbrev pub spec_in : List Variable → Variables → Transfer → List Cell → TransferSpec
+spec_in variables vars t cells = record {
   input = t.input;
   layout = layout_of variables cells t.control;
   advance = unwrap_or t.advance true;
-  rec = number_in s t.rec;
-  pos = number_in s t.pos;
+  rec = number_given vars t.rec;
+  pos = number_given vars t.pos;
   edit = record { blank_zero = t.blank_zero; comma = t.comma; delim = t.delim; pad = t.pad; plus = t.plus };
 }
+
+abbrev pub spec_of : List Variable → State → Transfer → List Cell → TransferSpec
+spec_of variables s t cells = spec_in variables s.vars t cells
 
 -- ---- what the statement itself tells: 2 where the unit is not open for asynchronous transfer, then 16 and 10
 
@@ -90,31 +93,29 @@ with_number variables (Some place) n vars = with_value vars place (number_for (k
 -- ---- a synchronous transfer
 
 -- the items and SIZE= of an input have their values
-abbrev pub with_values : List Variable → Transfer → Done → Variables → Variables
-with_values variables t done vars = if t.input then with_size variables t.size done.count (given_back done.cells vars) else vars
+abbrev pub with_cells : List Variable → Transfer → List Cell → Option ℕ → Variables → Variables
+with_cells variables t cells count vars = if t.input then with_size variables t.size count (given_back cells vars) else vars
 
-abbrev pub carried_out : List Variable → State → Transfer → Unit → Done → State × Condition
-carried_out variables s t u done =
-    (record s { vars = with_values variables t done s.vars; units = with_unit (record u { connection = done.connection }) s.units }, done.condition)
+-- until it ends they have no value
+abbrev pub with_values : List Variable → Transfer → Moved → Done → Variables → Variables
+with_values variables t moved done vars = with_cells variables t done.cells done.count (without_values variables t moved vars)
+
+abbrev pub carried_out : List Variable → State → Transfer → Moved → Unit → Done → State × Condition
+carried_out variables s t moved u done =
+    (record s { vars = with_values variables t moved done s.vars; units = with_unit (record u { connection = done.connection }) s.units }, done.condition)
 
 -- ---- a pending transfer
 
--- in a halt it is skipped and has the cause as its condition
-abbrev pub unless_halted : Option Condition → Connection → Done → Done
-unless_halted None c done = done
-unless_halted (Some cause) c done = record { connection = c; cells = with_undefined done.cells; count = None; condition = cause }
-
--- an error or the end of the file halts the unit
-abbrev pub halt_behind : Option Condition → Condition → Option Condition
-halt_behind (Some cause) condition = Some cause
-halt_behind None condition = if halts condition then Some condition else None
+-- what it holds while it is pending: its items or its group, and of an input SIZE=
+abbrev pub held_places : List Variable → Transfer → List Place
+held_places variables t = transfer_places variables t ++ (if t.input then if_given t.size else [])
 
 abbrev pub entry_of : List Variable → State → Transfer → Unit → Done → Entry
 entry_of variables s t u done = record {
   id = s.next;
   unit = u.number;
   input = t.input;
-  places = transfer_places variables t ++ (if t.input then if_given t.size else []);
+  places = held_places variables t;
   cells = if t.input then done.cells else [];
   size = t.size;
   count = done.count;
@@ -134,7 +135,7 @@ pending_with variables s t moved u done = (
 )
 
 abbrev pub made_pending : List Variable → State → Transfer → Moved → Unit → Done → State × Condition
-made_pending variables s t moved u done = pending_with variables s t moved u (unless_halted u.halt u.connection done)
+made_pending variables s t moved u done = pending_with variables s t moved u (unless_halted u.halt u.connection t.input moved.cells done)
 
 -- ---- on a connected unit
 
@@ -144,7 +145,7 @@ refused variables s t moved condition = (record s { vars = without_values variab
 abbrev pub transferred : (ℕ → List Given) → List Variable → State → Transfer → Moved → Unit → State × Condition
 transferred control variables s t moved u =
     let done = transfer_by control u.connection (spec_of variables s t moved.cells) moved in
-    if is_asynchronous t then made_pending variables s t moved u done else carried_out variables s t u done
+    if is_asynchronous t then made_pending variables s t moved u done else carried_out variables s t moved u done
 
 abbrev pub unless_refused : (ℕ → List Given) → List Variable → State → Transfer → Moved → Unit → Condition → State × Condition
 unless_refused control variables s t moved u Fine = transferred control variables s t moved u
@@ -166,15 +167,19 @@ with_printed output p = record {
   begun = (if length p.records == 0 then output.begun else 0) + length p.«open»;
 }
 
-abbrev pub printed_to : State → Result Printed Condition → State × Condition
-printed_to s (Err condition) = (s, condition)
-printed_to s (Ok p) = (record s { output = with_printed s.output p }, Fine)
+-- the output then, or the condition
+abbrev pub printed_to : Output → Result Printed Condition → Output × Condition
+printed_to output (Err condition) = (output, condition)
+printed_to output (Ok p) = (with_printed output p, Fine)
+
+abbrev pub star_printed : (ℕ → List Given) → Output → Transfer → Moved → TransferSpec → Output × Condition
+star_printed control output t moved spec =
+    if is_asynchronous t then (output, Error 2)
+    else (if not (is_formatted spec.layout) then (output, Error 16)
+    else printed_to output (printed star_limit output.begun spec control (changed spec.edit usual_edit) moved))
 
 abbrev pub on_star : (ℕ → List Given) → State → Transfer → Moved → TransferSpec → State × Condition
-on_star control s t moved spec =
-    if is_asynchronous t then (s, Error 2)
-    else (if not (is_formatted spec.layout) then (s, Error 16)
-    else printed_to s (printed star_limit s.output.begun spec control (changed spec.edit usual_edit) moved))
+on_star control s t moved spec = let p = star_printed control s.output t moved spec in (record s { output = p.0 }, p.1)
 
 -- ---- the statement
 

@@ -1,0 +1,51 @@
+-- What a bay may be given to do, and what it answers.
+use Rattle.std.specs.Prelude.{ℕ, List, length, Option}
+use Rattle.fj_value.specs.declared.condition.Condition.{Condition}
+use Rattle.fj_value.specs.declared.edit.EditModes.{EditModes}
+use Rattle.fj_list.specs.declared.moved.Moved.{Moved}
+use Rattle.fj_control.specs.Steps.{Given}
+use Rattle.fj_connect.specs.Connection.{Connection}
+use Rattle.fj_connect.specs.declared.spot.Positioning.{Positioning}
+use Rattle.fj_connect.specs.declared.spot.Spot.{Spot}
+use Rattle.fj_transfer.specs.declared.transfer.TransferSpec.{TransferSpec}
+
+-- A READ or WRITE: of which statement it is, and under which identifier it is pending, which is 0 where it is not; what it says,
+-- what its format gives for so many items, and its items; the cell of SIZE=, and what SIZE= gets.
+pub record Moving : Type 0 where
+  pub stmt : ℕ
+  pub tag : ℕ
+  pub spec : TransferSpec
+  pub control : ℕ → List Given
+  pub moved : Moved
+  pub size : Option Moved
+  pub count : Option ℕ
+
+-- where a connection stands, and the size of its file
+pub record Looked : Type 0 where
+  pub spot : Spot
+  pub size : ℕ
+
+abbrev pub looked_at : Connection → Looked
+looked_at c = record { spot = c.spot; size = length c.bytes }
+
+pub data Job : Type 0 where
+  -- brings a connection
+  attach : Option Connection → Job
+  -- takes the connection out
+  detach : Option Connection → Job
+  -- READ or WRITE
+  move : Moving → Job
+  -- BACKSPACE, REWIND or ENDFILE
+  go : Positioning → Job
+  -- other modes of formatted editing
+  change : EditModes → Job
+  flush : Job
+  -- gets what is seen of the connection
+  look : Option Looked → Job
+  -- ends the halt
+  resume : Job
+
+pub data Answer : Type 0 where
+  done : Condition → Answer
+  -- not carried out in a halt, with its cause
+  skipped : Condition → Answer

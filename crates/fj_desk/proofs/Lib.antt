@@ -1,0 +1,12 @@
+pub mod Apart
+pub mod Counting
+pub mod Carrying
+pub mod Seen
+pub mod Tied
+pub mod Resuming
+pub mod Transferring
+pub mod Positioning
+pub mod Closing
+pub mod Opening
+pub mod Steps
+pub mod Forgetting

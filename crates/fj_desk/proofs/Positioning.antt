@@ -1,0 +1,301 @@
+-- The motions, the change of modes, and INQUIRE over desks.
+use Rattle.std.proofs.Common.{◌≡◌, ◌⊎◌, ℕ, ℤ, Bool, true, false, not, List, [], ◌∷◌, map, Option, Some, None, slice_get, refl, sym, ap, ◌∙◌, subst, inl, inr, Result, Ok, Err, ◌||◌}
+use Rattle.std.specs.Prelude.{◌==◌, if◌then◌else◌}
+use Rattle.std.specs.List.{list_any}
+use Rattle.std.proofs.lemmas.Bool.{eq-eqb, ne_eqb}
+use Rattle.std.proofs.lemmas.Bool.Decides.{eqb_tells}
+use Rattle.fj_value.specs.declared.condition.Condition.{Condition}
+use Rattle.fj_value.specs.declared.condition.Condition.TheVariants.{Fine, Error}
+use Rattle.fj_value.specs.declared.value.Cell.{Cell}
+use Rattle.fj_modes.specs.Modes as mode
+use Rattle.fj_modes.specs.declared.modes.Modes.{Modes}
+use Rattle.fj_modes.specs.declared.specifiers.OpenSpec.{OpenSpec}
+use Rattle.fj_modes.specs.declared.asked.Question.{Question}
+use Rattle.fj_modes.specs.declared.asked.Question.TheVariants as question
+use Rattle.fj_modes.specs.declared.asked.Wanted.{Wanted}
+use Rattle.fj_modes.specs.declared.asked.Subject.{Subject}
+use Rattle.fj_modes.specs.declared.asked.Subject.TheVariants as subject
+use Rattle.fj_modes.specs.declared.unit.Motion.{Motion}
+use Rattle.fj_modes.specs.declared.unit.Motion.TheVariants as motion
+use Rattle.fj_connect.specs.Connection.{Connection, with_edit}
+use Rattle.fj_connect.specs.Positions as position
+use Rattle.fj_connect.specs.declared.spot.Positioning.{Positioning}
+use Rattle.fj_connect.specs.declared.spot.Positioning.TheVariants as positioning
+use Rattle.fj_statement.specs.declared.statement.Operand.{Operand}
+use Rattle.fj_bay.specs.Bay.{Bay}
+use Rattle.fj_bay.specs.Jobs.{Looked, looked_at, Job, go, change, flush, look}
+use Rattle.fj_bay.specs.Serving.{serve}
+use Rattle.fj_bay.proofs.Keeping.{Kept, moved_kept}
+use Rattle.fj_plain.specs.Variables.{Variables, given_back}
+use Rattle.fj_plain.specs.Needs.{number_given, unit_about, unit_of_file, holders}
+use Rattle.fj_plain.specs.State.{State, found, with_unit}
+use Rattle.fj_plain.specs.State as plain
+use Rattle.fj_plain.specs.Connecting as plainly
+use Rattle.fj_plain.specs.Inquiring.{About, Answer, answer_to, connected_answer, value_for, inquired}
+use Rattle.fj_plain.specs.Statement as meant
+use Rattle.fj_plain.specs.Statement.{has_pending, about_other, about_connected, file_asked}
+use Rattle.fj_desk.specs.Core.{Core, Connected, connected_at, with_connected, pending_holders, unit_named}
+use Rattle.fj_desk.specs.Desks.{Desk, Outcome, carry, outcome, look_in, condition_in, log_length}
+use Rattle.fj_desk.specs.Doing.{Doing, Desked, acted, finishes, gives, awaits}
+use Rattle.fj_desk.specs.Acting.{moves, job_of, changes, asks_connection, answers, about_unit, inquires, unit_at}
+use Rattle.fj_desk.specs.Forgetting.{IsSeen, Same, bay_at}
+use Rattle.fj_desk.proofs.Apart.{Each, Apart, Differs, apart_map, map_same}
+use Rattle.fj_desk.proofs.Carrying.{Later, Reaches, Serves, serves_at}
+use Rattle.fj_desk.proofs.Seen.{Seen, At, at_unit, not_at_unit, both_at, slot_differs, named_same}
+use Rattle.fj_desk.proofs.Tied.{Idle, Tied, ActTied, bay_of, unit_moves, unit_stays, with_vars, holders_same, entries_later, placed_later, idle_else, replaced_numbers}
+
+-- ---- motions
+
+motion_tied : (p : Desked) (s : State) (how : Motion) (number : ℕ) (u : Connected) (at : At p.desks s.units number u) → Tied p s → connected_at p.core.units number ≡ Some u
+    → ActTied (acted p.desks (moves p.core how (Some u))) (plainly.moves s how (Some at.it))
+unfolding serve
+motion_tied p s how number u at t e =
+    subst (λ o. ActTied (acted (carry p.desks u.slot (job_of how)) (finishes p.core (condition_in o.1))) (plainly.moves s how (Some at.it))) (sym (job how).outcome_is) (by how)
+  where
+    job : (how : Motion) → Serves p.desks u.slot (job_of how) (bay_of at.it)
+    job how = serves_at p.desks u.slot (job_of how) (bay_of at.it) at.seen.bay
+
+    goes : (how : Positioning) → ActTied (record { core = p.core; desks = carry p.desks u.slot (go how) }, (position.moved at.it.connection how).1)
+        (record s { units = with_unit (record (at.it) { connection = (position.moved at.it.connection how).0 }) s.units }, (position.moved at.it.connection how).1)
+    goes how = (
+      refl,
+      unit_moves p s number u at (carry p.desks u.slot (go how)) (position.moved at.it.connection how).0 at.it.halt t e (serves_at p.desks u.slot (go how) (bay_of at.it) at.seen.bay).reaches
+          (moved_kept at.it.connection how).named (moved_kept at.it.connection how).modes,
+    )
+
+    by : (how : Motion) → ActTied (record { core = p.core; desks = carry p.desks u.slot (job_of how) }, condition_in (serve (bay_of at.it) (job_of how)).answer) (plainly.moves s how (Some at.it))
+    by motion.Flush = (refl, unit_stays p s number u (carry p.desks u.slot flush) (bay_of at.it) t e at.seen.bay (job motion.Flush).reaches)
+    by motion.Backspace = goes positioning.Backspace
+    by motion.Rewind = goes positioning.Rewind
+    by motion.Endfile = goes positioning.Endfile
+
+pub moves_tied : (p : Desked) (s : State) (how : Motion) (number : Option ℕ) → Tied p s → ActTied (acted p.desks (moves p.core how (unit_at p.core number))) (plainly.moves s how (meant.unit_at s number))
+moves_tied p s how None t = (refl, t)
+moves_tied p s how (Some number) t = by (connected_at p.core.units number) refl
+  where
+    by : (o : Option Connected) → connected_at p.core.units number ≡ o → ActTied (acted p.desks (moves p.core how o)) (plainly.moves s how (found s.units number))
+    by None e = subst (λ o. ActTied (p, Error 1) (plainly.moves s how o)) (sym (not_at_unit p.desks p.core.units s.units number t.same.units e).0) (refl, t)
+    by (Some u) e = let at = at_unit p.desks p.core.units s.units number u t.same.units e in
+        subst (λ o. ActTied (acted p.desks (moves p.core how (Some u))) (plainly.moves s how o)) (sym at.found_is) (motion_tied p s how number u at t e)
+
+-- ---- OPEN of the file that is connected
+
+-- the units, where one has other modes
+changed_tied : (p : Desked) (s : State) (number : ℕ) (u : Connected) (at : At p.desks s.units number u) (behind : List Desk) (modes : Modes) → Tied p s → connected_at p.core.units number ≡ Some u
+    → Reaches p.desks behind u.slot (record { connection = Some (record (at.it.connection) { modes = modes }); halt = at.it.halt })
+    → Tied (record { core = record (p.core) { units = with_connected (record u { modes = modes }) p.core.units }; desks = behind })
+    (record s { units = with_unit (record (at.it) { connection = record (at.it.connection) { modes = modes } }) s.units })
+changed_tied p s number u at behind modes t e r = record {
+  same = record {
+    vars = t.same.vars;
+    book = entries_later p.desks behind p.core.book r.later t.slots.placed ∙ t.same.book;
+    units = both_at p.desks behind p.core.units s.units number u (λ x. if x.number == u.number then new_u else x) (λ v. if v.number == at.it.number then new else v) t.same.units t.slots.apart t.numbers e r.others
+        (λ y is seen. subst (λ z. IsSeen behind z (if y.number == at.it.number then new else y)) (sym (ap (λ b. if b then new_u else u) (eq-eqb u.number u.number refl)))
+        (subst (λ z. IsSeen behind new_u z) (sym (ap (λ b. if b then new else y) (eq-eqb y.number at.it.number (is ∙ sym at.number_is))))
+        (record { number = at.seen.number; name = at.seen.name; modes = refl; bay = r.here })))
+        (λ x ne. ap (λ b. if b then new_u else x) (ne_eqb x.number u.number (λ q. ne (q ∙ at.own_number))))
+        (λ y ne. ap (λ b. if b then new else y) (ne_eqb y.number at.it.number (λ q. ne (q ∙ at.number_is))));
+    files = t.same.files;
+    output = t.same.output;
+    next = t.same.next;
+    tells = t.same.tells;
+  };
+  slots = record {
+    apart = slots_apart t.slots.apart;
+    idle = λ k l d. idle_else p.desks behind p.core.units number u t.slots.idle e r.others k l (back k d);
+    sixteen = r.later.long ∙ t.slots.sixteen;
+    placed = placed_later p.desks behind p.core.book r.later t.slots.placed;
+  };
+  numbers = replaced_numbers new s.units t.numbers;
+}
+  where
+    new_u : Connected
+    new_u = record u { modes = modes }
+
+    new : plain.Unit
+    new = record (at.it) { connection = record (at.it.connection) { modes = modes } }
+
+    numbers_apart : (desks : List Desk) (us : List Connected) (vs : List plain.Unit) → Seen desks us vs → Apart (λ (v : plain.Unit). v.number) vs → Apart (λ (x : Connected). x.number) us
+    numbers_apart desks [] [] b h = tt
+    numbers_apart desks [] (v ∷ vs) b h = absurd b
+    numbers_apart desks (x ∷ us) [] b h = absurd b
+    numbers_apart desks (x ∷ us) (v ∷ vs) b h = (differ us vs b.1 h.0, numbers_apart desks us vs b.1 h.1)
+      where
+        differ : (us : List Connected) (vs : List plain.Unit) → Seen desks us vs → Differs (λ (v : plain.Unit). v.number) v.number vs → Differs (λ (x : Connected). x.number) x.number us
+        differ [] [] c d = tt
+        differ [] (w ∷ ws) c d = absurd c
+        differ (y ∷ ys) [] c d = absurd c
+        differ (y ∷ ys) (w ∷ ws) c d = ((λ q. d.0 (sym c.0.number ∙ q ∙ b.0.number)), differ ys ws c.1 d.1)
+
+    -- only one unit has the number
+    whole : (us : List Connected) → connected_at us number ≡ Some u → Apart (λ (x : Connected). x.number) us → Each (λ (x : Connected). x.number ≡ u.number → x ≡ u) us
+    whole [] e h = tt
+    whole (x ∷ us) e h =
+        elim (eqb_tells x.number number) [
+          | inl a ↦
+              let z : Some x ≡ Some u = ap (λ k. if k then Some x else connected_at us number) (sym a.0) ∙ e in
+              let same : x ≡ u = cc in
+              ((λ q. same), none us (subst (λ y. Differs (λ (z : Connected). z.number) y.number us) same h.0))
+          | inr a ↦ ((λ q. absurd (a.1 (q ∙ at.own_number))), whole us (ap (λ k. if k then Some x else connected_at us number) (sym a.0) ∙ e) h.1)
+        ]
+      where
+        none : (xs : List Connected) → Differs (λ (z : Connected). z.number) u.number xs → Each (λ (y : Connected). y.number ≡ u.number → y ≡ u) xs
+        none [] d = tt
+        none (y ∷ ys) d = ((λ q. absurd (d.0 q)), none ys d.1)
+
+    unit_is : Each (λ (x : Connected). x.number ≡ u.number → x ≡ u) p.core.units
+    unit_is = whole p.core.units e (numbers_apart p.desks p.core.units s.units t.same.units t.numbers)
+
+    slot_same : (x : Connected) → (x.number ≡ u.number → x ≡ u) → (if x.number == u.number then new_u else x).slot ≡ x.slot
+    slot_same x f = elim (eqb_tells x.number u.number) [
+      | inl a ↦ ap (λ b. (if b then new_u else x).slot) a.0 ∙ sym (ap (λ (y : Connected). y.slot) (f a.1))
+      | inr a ↦ ap (λ b. (if b then new_u else x).slot) a.0
+    ]
+
+    differs_too : (k n : ℕ) (xs : List Connected) → Each (λ (x : Connected). x.number ≡ u.number → x ≡ u) xs → k ≡ n → Differs (λ (x : Connected). x.slot) n xs → Differs (λ (x : Connected). x.slot) k (with_connected new_u xs)
+    differs_too k n [] f q d = tt
+    differs_too k n (x ∷ xs) f q d = ((λ r. d.0 (sym (slot_same x f.0) ∙ r ∙ q)), differs_too k n xs f.1 q d.1)
+
+    apart_too : (xs : List Connected) → Each (λ (x : Connected). x.number ≡ u.number → x ≡ u) xs → Apart (λ (x : Connected). x.slot) xs → Apart (λ (x : Connected). x.slot) (with_connected new_u xs)
+    apart_too [] f h = tt
+    apart_too (x ∷ xs) f h = (differs_too (if x.number == u.number then new_u else x).slot x.slot xs f.1 (slot_same x f.0) h.0, apart_too xs f.1 h.1)
+
+    slots_apart : Apart (λ (x : Connected). x.slot) p.core.units → Apart (λ (x : Connected). x.slot) (with_connected new_u p.core.units)
+    slots_apart h = apart_too p.core.units unit_is h
+
+    back_each : (k : ℕ) (xs : List Connected) → Each (λ (x : Connected). x.number ≡ u.number → x ≡ u) xs → Differs (λ (x : Connected). x.slot) k (with_connected new_u xs) → Differs (λ (x : Connected). x.slot) k xs
+    back_each k [] f d = tt
+    back_each k (x ∷ xs) f d = ((λ q. d.0 (slot_same x f.0 ∙ q)), back_each k xs f.1 d.1)
+
+    back : (k : ℕ) → Differs (λ (x : Connected). x.slot) k (with_connected new_u p.core.units) → Differs (λ (x : Connected). x.slot) k p.core.units
+    back k d = back_each k p.core.units unit_is d
+
+pub changes_tied : (p : Desked) (s : State) (number : ℕ) (u : Connected) (at : At p.desks s.units number u) (spec : OpenSpec) → Tied p s → connected_at p.core.units number ≡ Some u
+    → ActTied (acted p.desks (changes p.core u (mode.changed u.modes spec))) (plainly.with_modes s at.it (mode.changed at.it.connection.modes spec))
+unfolding serve
+changes_tied p s number u at spec t e =
+    subst (λ m. ActTied (acted p.desks (changes p.core u (mode.changed m spec))) (plainly.with_modes s at.it (mode.changed at.it.connection.modes spec))) (sym at.seen.modes)
+    (by (mode.is_conflict at.it.connection.modes spec))
+  where
+    new : Modes
+    new = record (at.it.connection.modes) { edit = mode.edit_asked at.it.connection.modes.edit spec }
+
+    by : (b : Bool) → ActTied (acted p.desks (changes p.core u (if b then Err (Error 8) else Ok new))) (plainly.with_modes s at.it (if b then Err (Error 8) else Ok new))
+    by true = (refl, t)
+    by false =
+        let job = serves_at p.desks u.slot (change new.edit) (bay_of at.it) at.seen.bay in
+        subst (λ o. ActTied (acted (carry p.desks u.slot (change new.edit)) (finishes (record (p.core) { units = with_connected (record u { modes = new }) p.core.units }) (condition_in o.1)))
+        (record s { units = with_unit (record (at.it) { connection = record (at.it.connection) { modes = new } }) s.units }, Fine)) (sym job.outcome_is)
+        (refl, changed_tied p s number u at (carry p.desks u.slot (change new.edit)) new t e job.reaches)
+
+-- ---- INQUIRE
+
+-- an answer that does not look at the connection
+asks_less : (number : ℕ) (file : Option (List ℕ)) (name : List ℕ) (modes : Modes) (pending : Bool) (looked : Looked) (q : Question) → asks_connection q ≡ false
+    → answer_to (about_connected number file name modes None pending) q ≡ answer_to (about_connected number file name modes (Some looked) pending) q
+asks_less number file name modes pending looked question.Exist e = refl
+asks_less number file name modes pending looked question.Opened e = refl
+asks_less number file name modes pending looked question.Number e = refl
+asks_less number file name modes pending looked question.Named e = refl
+asks_less number file name modes pending looked question.Name e = refl
+asks_less number file name modes pending looked question.Access e = refl
+asks_less number file name modes pending looked question.Form e = refl
+asks_less number file name modes pending looked question.Recl e = refl
+asks_less number file name modes pending looked question.Nextrec e = cc
+asks_less number file name modes pending looked question.Pos e = cc
+asks_less number file name modes pending looked question.Size e = cc
+asks_less number file name modes pending looked question.Blank e = refl
+asks_less number file name modes pending looked question.Delim e = refl
+asks_less number file name modes pending looked question.Pad e = refl
+asks_less number file name modes pending looked question.Decimal e = refl
+asks_less number file name modes pending looked question.Sign e = refl
+asks_less number file name modes pending looked question.Action e = refl
+asks_less number file name modes pending looked question.Asynchronous e = refl
+asks_less number file name modes pending looked question.Pending e = refl
+
+all_less : (number : ℕ) (file : Option (List ℕ)) (name : List ℕ) (modes : Modes) (pending : Bool) (looked : Looked) (asked : List Wanted) → list_any (λ (w : Wanted). asks_connection w.what) asked ≡ false
+    → inquired (about_connected number file name modes None pending) asked ≡ inquired (about_connected number file name modes (Some looked) pending) asked
+all_less number file name modes pending looked [] e = refl
+all_less number file name modes pending looked (w ∷ ws) e = by (asks_connection w.what) refl e (λ q. all_less number file name modes pending looked ws q)
+  where
+    by : (b : Bool) → asks_connection w.what ≡ b → (b || list_any (λ (x : Wanted). asks_connection x.what) ws) ≡ false
+        → (list_any (λ (x : Wanted). asks_connection x.what) ws ≡ false → inquired (about_connected number file name modes None pending) ws ≡ inquired (about_connected number file name modes (Some looked) pending) ws)
+        → inquired (about_connected number file name modes None pending) (w ∷ ws) ≡ inquired (about_connected number file name modes (Some looked) pending) (w ∷ ws)
+    by true q e f = cc
+    by false q e f =
+        ap (λ a. let cell : Cell = record { place = w.place; kind = w.kind; value = value_for w.kind a } in cell ∷ inquired (about_connected number file name modes None pending) ws) (asks_less number file name modes pending looked w.what q)
+        ∙ ap (λ l. let cell : Cell = record { place = w.place; kind = w.kind; value = value_for w.kind (answer_to (about_connected number file name modes (Some looked) pending) w.what) } in cell ∷ l) (f e)
+
+found_inquires : (p : Desked) (s : State) (number : ℕ) (file : Option (List ℕ)) (asked : List Wanted) (id : Option ℤ) (u : Connected) (at : At p.desks s.units number u) → Tied p s → connected_at p.core.units number ≡ Some u
+    → ActTied (acted p.desks (inquires p.core (Some number) file asked id (Some u)))
+    (record s { vars = given_back (inquired (about_connected at.it.number file at.it.connection.name at.it.connection.modes (Some (looked_at at.it.connection)) (has_pending (holders s.book) (Some number) id)) asked) s.vars }, Fine)
+unfolding serve
+found_inquires p s number file asked id u at t e = by (list_any (λ (w : Wanted). asks_connection w.what) asked) refl
+  where
+    abouts : (looked : Option Looked) → about_unit p.core (Some number) file id u looked
+        ≡ about_connected at.it.number file at.it.connection.name at.it.connection.modes looked (has_pending (holders s.book) (Some number) id)
+    abouts looked =
+        ap (λ n. about_connected n file u.name u.modes looked (has_pending (pending_holders p.core.book) (Some number) id)) at.seen.number
+        ∙ ap (λ n. about_connected at.it.number file n u.modes looked (has_pending (pending_holders p.core.book) (Some number) id)) at.seen.name
+        ∙ ap (λ m. about_connected at.it.number file at.it.connection.name m looked (has_pending (pending_holders p.core.book) (Some number) id)) at.seen.modes
+        ∙ ap (λ h. about_connected at.it.number file at.it.connection.name at.it.connection.modes looked (has_pending h (Some number) id)) (holders_same p s t.same)
+
+    cells : List Cell
+    cells = inquired (about_connected at.it.number file at.it.connection.name at.it.connection.modes (Some (looked_at at.it.connection)) (has_pending (holders s.book) (Some number) id)) asked
+
+    by : (b : Bool) → list_any (λ (w : Wanted). asks_connection w.what) asked ≡ b
+        → ActTied (acted p.desks (if b then awaits u.slot (look None) p.core (λ o. answers p.core (about_unit p.core (Some number) file id u (look_in o.0)) asked) else answers p.core (about_unit p.core (Some number) file id u None) asked))
+        (record s { vars = given_back cells s.vars }, Fine)
+    by true q =
+        let job = serves_at p.desks u.slot (look None) (bay_of at.it) at.seen.bay in
+        subst (λ o. ActTied (acted (carry p.desks u.slot (look None)) (answers p.core (about_unit p.core (Some number) file id u (look_in o.0)) asked)) (record s { vars = given_back cells s.vars }, Fine)) (sym job.outcome_is) (
+          refl,
+          with_vars (record { core = p.core; desks = carry p.desks u.slot (look None) }) s (given_back (inquired (about_unit p.core (Some number) file id u (Some (looked_at at.it.connection))) asked) p.core.vars) (given_back cells s.vars)
+              (ap (λ a. given_back (inquired a asked) p.core.vars) (abouts (Some (looked_at at.it.connection))) ∙ ap (given_back cells) t.same.vars)
+              (unit_stays p s number u (carry p.desks u.slot (look None)) (bay_of at.it) t e at.seen.bay job.reaches),
+        )
+    by false q = (
+      refl,
+      with_vars p s (given_back (inquired (about_unit p.core (Some number) file id u None) asked) p.core.vars) (given_back cells s.vars)
+          (ap (λ a. given_back (inquired a asked) p.core.vars) (abouts None)
+          ∙ ap (λ l. given_back l p.core.vars) (all_less at.it.number file at.it.connection.name at.it.connection.modes (has_pending (holders s.book) (Some number) id) (looked_at at.it.connection) asked q)
+          ∙ ap (given_back cells) t.same.vars) t,
+    )
+
+none_inquires : (p : Desked) (s : State) (number : Option ℕ) (file : Option (List ℕ)) (asked : List Wanted) (id : Option ℤ) → Tied p s
+    → ActTied (acted p.desks (inquires p.core number file asked id None)) (record s { vars = given_back (inquired (meant.about s number file id None) asked) s.vars }, Fine)
+none_inquires p s number file asked id t = (
+  refl,
+  with_vars p s (given_back (inquired (about_other p.core.files file) asked) p.core.vars) (given_back (inquired (about_other s.files file) asked) s.vars)
+      (ap (λ f. given_back (inquired (about_other f file) asked) p.core.vars) t.same.files ∙ ap (given_back (inquired (about_other s.files file) asked)) t.same.vars) t,
+)
+
+unit_inquires : (p : Desked) (s : State) (number : Option ℕ) (file : Option (List ℕ)) (asked : List Wanted) (id : Option ℤ) → Tied p s
+    → ActTied (acted p.desks (inquires p.core number file asked id (unit_at p.core number))) (record s { vars = given_back (inquired (meant.about s number file id (meant.unit_at s number)) asked) s.vars }, Fine)
+unit_inquires p s None file asked id t = none_inquires p s None file asked id t
+unit_inquires p s (Some number) file asked id t = by (connected_at p.core.units number) refl
+  where
+    by : (o : Option Connected) → connected_at p.core.units number ≡ o
+        → ActTied (acted p.desks (inquires p.core (Some number) file asked id o)) (record s { vars = given_back (inquired (meant.about s (Some number) file id (found s.units number)) asked) s.vars }, Fine)
+    by None e =
+        subst (λ o. ActTied (acted p.desks (inquires p.core (Some number) file asked id None)) (record s { vars = given_back (inquired (meant.about s (Some number) file id o) asked) s.vars }, Fine))
+        (sym (not_at_unit p.desks p.core.units s.units number t.same.units e).0) (none_inquires p s (Some number) file asked id t)
+    by (Some u) e =
+        let at = at_unit p.desks p.core.units s.units number u t.same.units e in
+        subst (λ o. ActTied (acted p.desks (inquires p.core (Some number) file asked id (Some u))) (record s { vars = given_back (inquired (meant.about s (Some number) file id o) asked) s.vars }, Fine))
+        (sym at.found_is) (found_inquires p s number file asked id u at t e)
+
+pub inquires_tied : (p : Desked) (s : State) (about : Subject) (asked : List Wanted) (id : Option Operand) → Tied p s
+    → ActTied (acted p.desks (inquires p.core (unit_about (unit_named p.core.units) about) (file_asked about) asked (number_given p.core.vars id) (unit_at p.core (unit_about (unit_named p.core.units) about))))
+    (meant.inquires s (unit_about (unit_of_file s.units) about) (file_asked about) asked id)
+inquires_tied p s about asked id t =
+    subst (λ n. ActTied (acted p.desks (inquires p.core n (file_asked about) asked (number_given p.core.vars id) (unit_at p.core n))) (meant.inquires s (unit_about (unit_of_file s.units) about) (file_asked about) asked id)) (sym (asked_same about))
+    (subst (λ v. ActTied (acted p.desks (inquires p.core number (file_asked about) asked (number_given v id) (unit_at p.core number))) (meant.inquires s number (file_asked about) asked id)) (sym t.same.vars)
+    (unit_inquires p s number (file_asked about) asked (number_given s.vars id) t))
+  where
+    number : Option ℕ
+    number = unit_about (unit_of_file s.units) about
+
+    asked_same : (about : Subject) → unit_about (unit_named p.core.units) about ≡ unit_about (unit_of_file s.units) about
+    asked_same (subject.Unit ref) = refl
+    asked_same (subject.File name) = named_same p.desks p.core.units s.units name t.same.units
