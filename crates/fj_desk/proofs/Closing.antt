@@ -225,7 +225,7 @@ all_tied (u ∷ us) (v ∷ vs) p s condition t a b free =
     (λ q is x.
     let left_u : q.core.units ≡ us = is ∙ ap (without_connected u.number) a ∙ rest_left (λ (y : Connected). y.number) u us (differ_too p.desks us vs u.number v.number seen.0.number seen.1 numbers.0) in
     let left_v : without_unit v.number s.units ≡ vs = ap (without_unit v.number) b ∙ rest_left (λ (y : plain.Unit). y.number) v vs numbers.0 in
-    subst (λ k. ActTied (acted q.desks (all_closed us q.core condition)) (record s { units = []; files = plain.files_closed vs (plain.left v.connection k s.files) }, condition)) (keeps_v) 
+    subst (λ k. ActTied (acted q.desks (all_closed us q.core condition)) (record s { units = []; files = plain.files_closed vs (plain.left v.connection k s.files) }, condition)) (keeps_v)
     (all_tied us vs q (plain.disconnected s v (keeps u)) condition x left_u left_v free.1))
   where
     seen : Seen p.desks (u ∷ us) (v ∷ vs)

@@ -80,4 +80,3 @@ no_shorter f (suc n) xs h =
     let one = shorter f n xs (h n (omega (arith))) in
     let rest = no_shorter f n (filter (λ x. not (f x == n)) xs) (λ k l. still_any f n k xs (λ e. absurd (omega (arith, l, e))) (h k (omega (arith, l)))) in
     omega (arith, one, rest)
-

@@ -10,3 +10,4 @@ pub mod Closing
 pub mod Opening
 pub mod Steps
 pub mod Forgetting
+pub mod SoundStates

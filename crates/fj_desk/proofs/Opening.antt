@@ -150,30 +150,33 @@ attached : (p : Desked) (s : State) (number slot : ℕ) (c : Connection) → Tie
     → ActTied (acted p.desks (attaches p.core number slot (Ok c))) (plainly.with_opened s number (Ok c))
 unfolding serve
 attached p s number slot c t new_us new_vs f =
-    subst (λ o. ActTied (acted behind (finishes core (condition_in o.1))) (meant, Fine)) (sym job.outcome_is) (refl, record {
-      same = record {
-        vars = t.same.vars;
-        book = entries_later p.desks behind p.core.book job.reaches.later t.slots.placed ∙ t.same.book;
-        units = both_append behind (filter (λ (u : Connected). nat_lt u.number number) p.core.units) (new_u ∷ filter (λ (u : Connected). nat_lt number u.number) p.core.units)
-            (filter (λ (v : plain.Unit). nat_lt v.number number) s.units) (new_v ∷ filter (λ (v : plain.Unit). nat_lt number v.number) s.units)
-            (both_filter behind p.core.units s.units (λ k. nat_lt k number) others)
-            (record { number = refl; name = refl; modes = refl; bay = job.reaches.here }, both_filter behind p.core.units s.units (λ k. nat_lt number k) others);
-        files = ap (without_file c.name) t.same.files;
-        output = t.same.output;
-        next = t.same.next;
-        tells = t.same.tells;
-      };
-      slots = record {
-        apart = subst (λ l. Apart (λ (u : Connected). u.slot) (filter (λ (u : Connected). nat_lt u.number number) p.core.units ++ new_u ∷ l)) (sym us_above)
-            (apart_split (λ (u : Connected). u.slot) (λ (u : Connected). nat_lt u.number number) p.core.units new_u t.slots.apart f.differs);
-        idle = λ k l d. let two = differs_but p.core.units new_u k (subst (λ r. Differs (λ (u : Connected). u.slot) k (filter (λ (u : Connected). nat_lt u.number number) p.core.units ++ new_u ∷ r)) us_above d) in
-            ap bay_at (job.reaches.others k (λ q. two.0 (sym q))) ∙ t.slots.idle k l two.1;
-        sixteen = job.reaches.later.long ∙ t.slots.sixteen;
-        placed = placed_later p.desks behind p.core.book job.reaches.later t.slots.placed;
-      };
-      numbers = subst (λ l. Apart (λ (v : plain.Unit). v.number) (filter (λ (v : plain.Unit). nat_lt v.number number) s.units ++ new_v ∷ l)) (sym vs_above)
-          (apart_split (λ (v : plain.Unit). v.number) (λ (v : plain.Unit). nat_lt v.number number) s.units new_v t.numbers new_vs);
-    })
+    subst (λ o. ActTied (acted behind (finishes core (condition_in o.1))) (meant, Fine)) (sym job.outcome_is) (
+      refl,
+      record {
+        same = record {
+          vars = t.same.vars;
+          book = entries_later p.desks behind p.core.book job.reaches.later t.slots.placed ∙ t.same.book;
+          units = both_append behind (filter (λ (u : Connected). nat_lt u.number number) p.core.units) (new_u ∷ filter (λ (u : Connected). nat_lt number u.number) p.core.units)
+              (filter (λ (v : plain.Unit). nat_lt v.number number) s.units) (new_v ∷ filter (λ (v : plain.Unit). nat_lt number v.number) s.units)
+              (both_filter behind p.core.units s.units (λ k. nat_lt k number) others)
+              (record { number = refl; name = refl; modes = refl; bay = job.reaches.here }, both_filter behind p.core.units s.units (λ k. nat_lt number k) others);
+          files = ap (without_file c.name) t.same.files;
+          output = t.same.output;
+          next = t.same.next;
+          tells = t.same.tells;
+        };
+        slots = record {
+          apart = subst (λ l. Apart (λ (u : Connected). u.slot) (filter (λ (u : Connected). nat_lt u.number number) p.core.units ++ new_u ∷ l)) (sym us_above)
+              (apart_split (λ (u : Connected). u.slot) (λ (u : Connected). nat_lt u.number number) p.core.units new_u t.slots.apart f.differs);
+          idle = λ k l d. let two = differs_but p.core.units new_u k (subst (λ r. Differs (λ (u : Connected). u.slot) k (filter (λ (u : Connected). nat_lt u.number number) p.core.units ++ new_u ∷ r)) us_above d) in
+              ap bay_at (job.reaches.others k (λ q. two.0 (sym q))) ∙ t.slots.idle k l two.1;
+          sixteen = job.reaches.later.long ∙ t.slots.sixteen;
+          placed = placed_later p.desks behind p.core.book job.reaches.later t.slots.placed;
+        };
+        numbers = subst (λ l. Apart (λ (v : plain.Unit). v.number) (filter (λ (v : plain.Unit). nat_lt v.number number) s.units ++ new_v ∷ l)) (sym vs_above)
+            (apart_split (λ (v : plain.Unit). v.number) (λ (v : plain.Unit). nat_lt v.number number) s.units new_v t.numbers new_vs);
+      },
+    )
   where
     behind : List Desk
     behind = carry p.desks slot (attach (Some c))

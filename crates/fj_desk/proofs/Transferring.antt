@@ -59,27 +59,30 @@ module _ (control : ℕ → List Given) (variables : List Variable) (line : ℕ)
       → ActTied (acted p.desks (gives u.slot (move (moving p.core.next p.core.vars t moved)) (with_items_out variables p.core t moved) (λ n. finishes (with_pending variables p.core t moved u n) Fine)))
       (plainly.made_pending variables s t moved at.it (transfer_by control at.it.connection (spec_in variables s.vars t moved.cells) moved))
   unfolding serve
-  later_tied p s t moved number u at ties e = (refl, record {
-    same = record {
-      vars = ap (λ v. with_number variables t.id (pos p.core.next) (without_values variables t moved v)) ties.same.vars
-          ∙ ap (λ n. with_number variables t.id (pos n) (without_values variables t moved s.vars)) ties.same.next;
-      book = map-append (entry_of behind) p.core.book (pending_of variables p.core t u number_of_job ∷ [])
-          ∙ ap (λ l. l ++ entry_of behind (pending_of variables p.core t u number_of_job) ∷ []) moves.same.book
-          ∙ ap (λ x. s.book ++ x ∷ []) entry;
-      units = moves.same.units;
-      files = ties.same.files;
-      output = ties.same.output;
-      next = ap (λ n. n + 1) ties.same.next;
-      tells = ties.same.tells;
-    };
-    slots = record {
-      apart = moves.slots.apart;
-      idle = moves.slots.idle;
-      sixteen = moves.slots.sixteen;
-      placed = each_append (λ (x : Pending). x.number < log_length (slice_get behind x.slot)) p.core.book (pending_of variables p.core t u number_of_job ∷ []) moves.slots.placed (job.longer, tt);
-    };
-    numbers = moves.numbers;
-  })
+  later_tied p s t moved number u at ties e = (
+    refl,
+    record {
+      same = record {
+        vars = ap (λ v. with_number variables t.id (pos p.core.next) (without_values variables t moved v)) ties.same.vars
+            ∙ ap (λ n. with_number variables t.id (pos n) (without_values variables t moved s.vars)) ties.same.next;
+        book = map-append (entry_of behind) p.core.book (pending_of variables p.core t u number_of_job ∷ [])
+            ∙ ap (λ l. l ++ entry_of behind (pending_of variables p.core t u number_of_job) ∷ []) moves.same.book
+            ∙ ap (λ x. s.book ++ x ∷ []) entry;
+        units = moves.same.units;
+        files = ties.same.files;
+        output = ties.same.output;
+        next = ap (λ n. n + 1) ties.same.next;
+        tells = ties.same.tells;
+      };
+      slots = record {
+        apart = moves.slots.apart;
+        idle = moves.slots.idle;
+        sixteen = moves.slots.sixteen;
+        placed = each_append (λ (x : Pending). x.number < log_length (slice_get behind x.slot)) p.core.book (pending_of variables p.core t u number_of_job ∷ []) moves.slots.placed (job.longer, tt);
+      };
+      numbers = moves.numbers;
+    },
+  )
     where
       mv : Moving
       mv = moving p.core.next p.core.vars t moved
@@ -254,6 +257,8 @@ module _ (control : ℕ → List Given) (variables : List Variable) (line : ℕ)
 
   pub nothing_tied : (p : Desked) (s : State) (t : Transfer) (condition : Condition) → Tied p s
       → ActTied (acted p.desks (finishes (with_items_out variables p.core t (moved_in variables p.core.vars t)) condition)) (plainly.transfers_nothing variables s t, condition)
-  nothing_tied p s t condition ties =
-      (refl, with_vars p s (without_values variables t (moved_in variables p.core.vars t) p.core.vars) (without_values variables t (moved_in variables s.vars t) s.vars)
-      (ap (λ v. without_values variables t (moved_in variables v t) v) ties.same.vars) ties)
+  nothing_tied p s t condition ties = (
+    refl,
+    with_vars p s (without_values variables t (moved_in variables p.core.vars t) p.core.vars) (without_values variables t (moved_in variables s.vars t) s.vars)
+        (ap (λ v. without_values variables t (moved_in variables v t) v) ties.same.vars) ties,
+  )

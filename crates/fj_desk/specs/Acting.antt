@@ -82,7 +82,7 @@ abbrev pub transferred : (ℕ → List Given) → List Variable → ℕ → Core
 transferred control variables line core t moved u =
     if is_asynchronous t
     then gives u.slot (move (moving_of control variables line core.next core.vars t moved)) (with_items_out variables core t moved)
-        (λ number. finishes (with_pending variables core t moved u number) Fine)
+    (λ number. finishes (with_pending variables core t moved u number) Fine)
     else awaits u.slot (move (moving_of control variables line 0 core.vars t moved)) (with_items_out variables core t moved) (carried_out variables core t moved u)
 
 abbrev pub refused : List Variable → Core → Transfer → Moved → Condition → Doing

@@ -5,3 +5,4 @@ pub mod Acting
 pub mod Desking
 pub mod Both
 pub mod Forgetting
+pub mod Cases

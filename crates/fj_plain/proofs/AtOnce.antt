@@ -37,8 +37,8 @@ module _ (control : ℕ → List Given) (variables : List Variable) (s : State) 
 
   carried : (condition : Condition) → connections (unless_refused control variables s (later t) (moved_by variables s t) u condition).0 ≡ connections (unless_refused control variables s (at_once t) (moved_by variables s t) u condition).0
   carried Fine =
-      same_units (record u { connection = (unless_halted u.halt u.connection met).connection; halt = halt_behind u.halt (unless_halted u.halt u.connection met).condition }) (record u { connection = met.connection }) s.units refl
-      (ap (λ o. (unless_halted o u.connection met).connection) halt)
+      same_units (record u { connection = (unless_halted u.halt u.connection t.input (moved_by variables s t).cells met).connection; halt = halt_behind u.halt (unless_halted u.halt u.connection t.input (moved_by variables s t).cells met).condition }) (record u { connection = met.connection }) s.units refl
+      (ap (λ o. (unless_halted o u.connection t.input (moved_by variables s t).cells met).connection) halt)
   carried EndOfFile = refl
   carried EndOfRecord = refl
   carried (Error n) = refl

@@ -8,6 +8,7 @@ use Rattle.std.proofs.lemmas.List.Elements.{All-nil, All-filter, All-map, All-we
 use Rattle.std.proofs.lemmas.List.Kept.{AllPairs-filter}
 use Rattle.std.proofs.lemmas.List.Quantifiers.{all_pairs_push}
 use Rattle.fj_value.specs.declared.condition.Condition.{Condition}
+use Rattle.fj_value.specs.declared.value.Cell.{Cell}
 use Rattle.fj_connect.specs.Connection.{Connection}
 use Rattle.fj_transfer.specs.Transfer.{Done}
 use Rattle.fj_statement.specs.declared.deck.Variable.{Variable}
@@ -177,13 +178,13 @@ sound_closed s none h = record {
 
 -- ---- a transfer becomes pending
 
-skipped_has : (o : Option Condition) (cause : Condition) (c : Connection) (done : Done) → o ≡ Some cause → (unless_halted o c done).condition ≡ cause
-skipped_has None cause c done e = cc
-skipped_has (Some x) cause c done e = cc
+skipped_has : (o : Option Condition) (cause : Condition) (c : Connection) (input : Bool) (cells : List Cell) (done : Done) → o ≡ Some cause → (unless_halted o c input cells done).condition ≡ cause
+skipped_has None cause c input cells done e = cc
+skipped_has (Some x) cause c input cells done e = cc
 
-skipped_is : (o : Option Condition) (c : Connection) (done : Done) → done.connection.name ≡ c.name → (unless_halted o c done).connection.name ≡ c.name
-skipped_is None c done e = e
-skipped_is (Some x) c done e = refl
+skipped_is : (o : Option Condition) (c : Connection) (input : Bool) (cells : List Cell) (done : Done) → done.connection.name ≡ c.name → (unless_halted o c input cells done).connection.name ≡ c.name
+skipped_is None c input cells done e = e
+skipped_is (Some x) c input cells done e = refl
 
 pub sound_begun : (variables : List Variable) (s : State) (t : Transfer) (n : ℕ) (u : Unit) (done : Done) → found s.units n ≡ Some u → done.connection.name ≡ u.connection.name
     → prohibited s.vars (holders s.book) (need variables s (statement.Transfer t)) ≡ None → Sound s → Sound (made_pending variables s t (moved_by variables s t) u done).0
@@ -191,7 +192,7 @@ sound_begun variables s t n u done at name allowed h = record {
   rise = all_pairs_push rising s.book e h.rise h.below;
   below = All-push (λ (x : Entry). x.id < s.next + 1) s.book e (All-weaker (λ (x : Entry). x.id < s.next) (λ (x : Entry). x.id < s.next + 1) (λ x lt. omega (arith, lt)) s.book h.below) (omega arith);
   apart = all_pairs_push AreApart s.book e h.apart (new_is_apart variables s t allowed e refl refl);
-  skip = all_pairs_push IsSkipped s.book e h.skip (λ k d within same halting. skipped_has u.halt (get_or s.book k d).condition u.connection done (here ∙ same_cause u.number s.book h.skip k d within same halting));
+  skip = all_pairs_push IsSkipped s.book e h.skip (λ k d within same halting. skipped_has u.halt (get_or s.book k d).condition u.connection t.input (moved_by variables s t).cells done (here ∙ same_cause u.number s.book h.skip k d within same halting));
   join = All-push (joined (with_unit new s.units)) s.book e (All-weaker (joined s.units) (joined (with_unit new s.units)) (λ x k. replaced_connected s.units new x.unit ∙ k) s.book h.join)
       (replaced_connected s.units new u.number ∙ ap (is_connected s.units) (found_is s.units n u at) ∙ found_connected s.units n u at);
   halts = All-map (caused (s.book ++ e ∷ [])) (λ (x : Unit). if x.number == u.number then new else x) s.units
@@ -199,14 +200,14 @@ sound_begun variables s t n u done at name allowed h = record {
         | inl a ↦ subst (λ b. caused (s.book ++ e ∷ []) (if b then new else x)) (sym a.0) own
         | inr a ↦ subst (λ b. caused (s.book ++ e ∷ []) (if b then new else x)) (sym a.0) (other x (λ i. a.1 i) k)
       ]) s.units h.halts);
-  ascend = replaced_ascend s.units n u new h.ascend at refl (skipped_is u.halt u.connection done name);
-  few = replaced_few s.units n u new h.ascend at refl (skipped_is u.halt u.connection done name) h.few;
-  one = replaced_one s.units n u new h.ascend at refl (skipped_is u.halt u.connection done name) h.one;
-  away = replaced_away s.units n u new h.ascend at refl (skipped_is u.halt u.connection done name) s.files h.away;
+  ascend = replaced_ascend s.units n u new h.ascend at refl (skipped_is u.halt u.connection t.input (moved_by variables s t).cells done name);
+  few = replaced_few s.units n u new h.ascend at refl (skipped_is u.halt u.connection t.input (moved_by variables s t).cells done name) h.few;
+  one = replaced_one s.units n u new h.ascend at refl (skipped_is u.halt u.connection t.input (moved_by variables s t).cells done name) h.one;
+  away = replaced_away s.units n u new h.ascend at refl (skipped_is u.halt u.connection t.input (moved_by variables s t).cells done name) s.files h.away;
 }
   where
     met : Done
-    met = unless_halted u.halt u.connection done
+    met = unless_halted u.halt u.connection t.input (moved_by variables s t).cells done
 
     e : Entry
     e = entry_of variables s t u met

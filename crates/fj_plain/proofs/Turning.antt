@@ -59,10 +59,10 @@ module _ (control : ℕ → List Given) (variables : List Variable) (s : State) 
   unchanged = (λ _. record { book = refl; next = refl; tells = refl }, λ k. no k)
 
   begun : (u : Unit) (done : Done) → Out s true (made_pending variables s t (moved_by variables s t) u done).0
-  begun u done = (λ k. no (sym k), λ _. (entry_of variables s t u (unless_halted u.halt u.connection done), refl, refl, refl, refl))
+  begun u done = (λ k. no (sym k), λ _. (entry_of variables s t u (unless_halted u.halt u.connection t.input (moved_by variables s t).cells done), refl, refl, refl, refl))
 
   fitting_out : (u : Unit) (condition : Condition) → Out s (is_fine condition) (unless_refused control variables s t (moved_by variables s t) u condition).0
-  fitting_out u Fine = subst (λ b. Out s true (if b then made_pending variables s t (moved_by variables s t) u done else carried_out variables s t u done).0) (sym later) (begun u done)
+  fitting_out u Fine = subst (λ b. Out s true (if b then made_pending variables s t (moved_by variables s t) u done else carried_out variables s t (moved_by variables s t) u done).0) (sym later) (begun u done)
     where
       done : Done
       done = transfer_by control u.connection (spec_of variables s t (moved_by variables s t).cells) (moved_by variables s t)
@@ -77,7 +77,7 @@ module _ (control : ℕ → List Given) (variables : List Variable) (s : State) 
   ref_out : (ref : UnitRef) → Out s (fits variables s t (unit_at s (number_of ref))) (transfer_at control variables s t (moved_by variables s t) ref).0
   ref_out unit.Star = star (is_asynchronous t) later
     where
-      star : (b : Bool) → b ≡ true → Out s false (if b then (s, Error 2) else (if not (is_formatted (spec_of variables s t (moved_by variables s t).cells).layout) then (s, Error 16) else printed_to s (printed star_limit s.output.begun (spec_of variables s t (moved_by variables s t).cells) control (changed (spec_of variables s t (moved_by variables s t).cells).edit usual_edit) (moved_by variables s t)))).0
+      star : (b : Bool) → b ≡ true → Out s false (record s { output = (if b then (s.output, Error 2) else (if not (is_formatted (spec_of variables s t (moved_by variables s t).cells).layout) then (s.output, Error 16) else printed_to s.output (printed star_limit s.output.begun (spec_of variables s t (moved_by variables s t).cells) control (changed (spec_of variables s t (moved_by variables s t).cells).edit usual_edit) (moved_by variables s t)))).0 })
       star true k = unchanged
       star false k = no k
   ref_out (unit.Number n) = unit_out (found s.units n)

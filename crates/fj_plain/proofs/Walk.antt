@@ -199,9 +199,9 @@ module _ (control : ℕ → List Given) (variables : List Variable) (what : Stat
       name : done.connection.name ≡ u.connection.name
       name = transfer_is control u.connection (spec_of variables s t (moved_by variables s t).cells) (moved_by variables s t)
 
-      by : (b : Bool) → is_asynchronous t ≡ b → P (if b then made_pending variables s t (moved_by variables s t) u done else carried_out variables s t u done).0
+      by : (b : Bool) → is_asynchronous t ≡ b → P (if b then made_pending variables s t (moved_by variables s t) u done else carried_out variables s t (moved_by variables s t) u done).0
       by true e = w.pends t n u done is e k name
-      by false e = w.moves (with_values variables t done s.vars) n u done.connection k name
+      by false e = w.moves (with_values variables t (moved_by variables s t) done s.vars) n u done.connection k name
 
   unit_walk : (t : Transfer) (n : ℕ) (old : Option Unit) → what ≡ statement.Transfer t → found s.units n ≡ old → P (on_unit control variables s t (moved_by variables s t) old).0
   unit_walk t n None is k = refused_walk t (moved_by variables s t) (Error 1)
@@ -213,14 +213,14 @@ module _ (control : ℕ → List Given) (variables : List Variable) (what : Stat
       by EndOfRecord = refused_walk t (moved_by variables s t) EndOfRecord
       by (Error code) = refused_walk t (moved_by variables s t) (Error code)
 
-  printed_walk : (result : Result Printed Condition) → P (printed_to s result).0
+  printed_walk : (result : Result Printed Condition) → P (record s { output = (printed_to s.output result).0 })
   printed_walk (Err condition) = w.same
-  printed_walk (Ok p) = w.prints (printed_to s (Ok p)).0.output
+  printed_walk (Ok p) = w.prints (printed_to s.output (Ok p)).0
 
   star_walk : (t : Transfer) (moved : Moved) (spec : TransferSpec) → P (on_star control s t moved spec).0
   star_walk t moved spec = by (is_asynchronous t) (not (is_formatted spec.layout))
     where
-      by : (later unfit : Bool) → P (if later then (s, Error 2) else (if unfit then (s, Error 16) else printed_to s (printed star_limit s.output.begun spec control (changed spec.edit usual_edit) moved))).0
+      by : (later unfit : Bool) → P (record s { output = (if later then (s.output, Error 2) else (if unfit then (s.output, Error 16) else printed_to s.output (printed star_limit s.output.begun spec control (changed spec.edit usual_edit) moved))).0 })
       by true unfit = w.same
       by false true = w.same
       by false false = printed_walk (printed star_limit s.output.begun spec control (changed spec.edit usual_edit) moved)
