@@ -1,8 +1,15 @@
 // Laws of namelist text.
+ghost use Rattle.fj_namelist.specs.Breaks.{MembersBreakWhereFull};
 ghost use Rattle.fj_namelist.specs.GroupReadAgain.{GroupsAreReadAgain};
 
 /// What is written of a group under DELIM='APOSTROPHE' or 'QUOTE' is read under the same modes as the values that were
 /// written.
 pub fn groups_are_read_again()
     ensures { GroupsAreReadAgain }
+{}
+
+/// But for a separator in column 81, a record of a member has at most 80 characters, unless it has a single value; with
+/// the first value of the member's next record it would have more. No other records are such.
+pub fn members_break_where_full()
+    ensures { MembersBreakWhereFull }
 {}
