@@ -9,3 +9,5 @@ pub mod GroupCases
 pub mod BreakLaws
 pub mod Ahead
 pub mod Pieces
+pub mod Parts
+pub mod Meaning

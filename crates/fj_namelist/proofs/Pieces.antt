@@ -27,7 +27,7 @@ use Rattle.fj_namelist.specs.Grammar.{characters, Gap, Lacks, BeginsWithNo, Foll
 use Rattle.fj_namelist.proofs.Ahead.{step, Leads, leads_none, leads_on, leads_step, leads_behind}
 
 -- blanks, record ends and comments
-end_step : (comma fresh : Bool) (x : Option ℕ) → IsBlank x → step comma (Between fresh) x ≡ lexed [] (Between true)
+pub end_step : (comma fresh : Bool) (x : Option ℕ) → IsBlank x → step comma (Between fresh) x ≡ lexed [] (Between true)
 end_step comma fresh None is = refl
 end_step true fresh (Some c) (inl is) = ap (λ d. step true (Between fresh) (Some d)) is
 end_step true fresh (Some c) (inr is) = ap (λ d. step true (Between fresh) (Some d)) is
@@ -160,7 +160,7 @@ other_false : (c mark : ℕ) → c ≢ mark → eqb c mark ≡ false
 other_false c mark h = grind (arith, nat_tests)
 
 other_step : (comma : Bool) (d : Delimited) (c : ℕ) → c ≢ d.mark → stepped comma (Inside d) c ≡ lexed [] (Inside (Rattle.fj_namelist.specs.Tokens.with_character d c))
-other_step comma d c no = ap (λ b. lexed [] (cond b (Behind d) (Inside (Rattle.fj_namelist.specs.Tokens.with_character d c)))) (other_false c d.mark no)
+other_step comma d c other = ap (λ b. lexed [] (cond b (Behind d) (Inside (Rattle.fj_namelist.specs.Tokens.with_character d c)))) (other_false c d.mark other)
 
 again_step : (comma : Bool) (d : Delimited) (c : ℕ) → c ≡ d.mark → stepped comma (Behind d) c ≡ lexed [] (Inside (Rattle.fj_namelist.specs.Tokens.with_character d c))
 again_step comma d c is =
@@ -185,11 +185,11 @@ delimiting_leads comma n mark before _ _ o t e (grammar.doubled {cs} {s} c d is 
     (leads_on comma (Behind (so_far n mark before)) (Inside (so_far n mark longer)) (Behind (so_far n mark (before ++ (mark ∷ cs)))) (Some d ∷ s) s t [] []
     (leads_step comma (Behind (so_far n mark before)) (Inside (so_far n mark longer)) (Some d) s [] refl (again_step comma (so_far n mark before) d is'))
     (subst (λ (x : List ℕ). Leads comma (Inside (so_far n mark longer)) s [] (Behind (so_far n mark x)) t) whole on))
-delimiting_leads comma n mark before _ _ o t e (grammar.inside {cs} {s} c no more) =
+delimiting_leads comma n mark before _ _ o t e (grammar.inside {cs} {s} c other more) =
     let longer = before ++ c ∷ [] in
     let on = delimiting_leads comma n mark longer cs s o t e more in
     leads_on comma (Inside (so_far n mark before)) (Inside (so_far n mark longer)) (Behind (so_far n mark (before ++ (c ∷ cs)))) (Some c ∷ s) s t [] []
-    (leads_step comma (Inside (so_far n mark before)) (Inside (so_far n mark longer)) (Some c) s [] refl (other_step comma (so_far n mark before) c no))
+    (leads_step comma (Inside (so_far n mark before)) (Inside (so_far n mark longer)) (Some c) s [] refl (other_step comma (so_far n mark before) c other))
     (subst (λ (x : List ℕ). Leads comma (Inside (so_far n mark longer)) s [] (Behind (so_far n mark x)) t) (append_assoc before (c ∷ []) cs) on)
 delimiting_leads comma n mark before cs _ o t e (grammar.record_end {s} more) =
     leads_on comma (Inside (so_far n mark before)) (Inside (so_far n mark before)) (Behind (so_far n mark (before ++ cs))) (None ∷ s) s t [] []

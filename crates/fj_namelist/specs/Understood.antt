@@ -1,5 +1,5 @@
 -- What the assignments of a group do to its members.
-use Rattle.std.specs.Prelude.{◌≡◌, ℕ, ◌+◌, ◌^◌, ◌<◌, Bool, nat_lt, if◌then◌else◌, List, [], ◌∷◌, Option, Some, None, All}
+use Rattle.std.specs.Prelude.{◌≡◌, ℕ, ◌+◌, ◌^◌, ◌<◌, Bool, nat_lt, if◌then◌else◌, List, [], ◌∷◌, Option, Some, None}
 use Rattle.fj_value.specs.declared.value.Cell.{Cell}
 use Rattle.fj_value.specs.declared.condition.Condition.{Condition}
 use Rattle.fj_value.specs.declared.condition.Condition.TheVariants.{Error}
@@ -33,7 +33,8 @@ all_assigned members end (a ∷ rest) cells = assigned_at (place_of (member_of m
 
 -- members have as many elements as their type can count
 abbrev pub AreCounted : List GroupMember → Type 0
-AreCounted members = All (λ (m : GroupMember). m.count < 2 ^ 32) members
+AreCounted [] = Unit {0}
+AreCounted (m ∷ members) = (m.count < 2 ^ 32) × AreCounted members
 
 -- A statement reads the assignments of its group's text, the first condition from the left to the right ends it, and the
 -- records behind that of the slash are not looked at.

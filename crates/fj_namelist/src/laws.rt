@@ -1,6 +1,7 @@
 // Laws of namelist text.
 ghost use Rattle.fj_namelist.specs.Breaks.{MembersBreakWhereFull};
 ghost use Rattle.fj_namelist.specs.GroupReadAgain.{GroupsAreReadAgain};
+ghost use Rattle.fj_namelist.specs.Understood.{GroupTextIsRead};
 
 /// What is written of a group under DELIM='APOSTROPHE' or 'QUOTE' is read under the same modes as the values that were
 /// written.
@@ -12,4 +13,10 @@ pub fn groups_are_read_again()
 /// the first value of the member's next record it would have more. No other records are such.
 pub fn members_break_where_full()
     ensures { MembersBreakWhereFull }
+{}
+
+/// What stands in records by the grammar of 10.10.1 is read as its assignments: each constant so many times, null values
+/// leave their elements as they were, and no record behind that of the slash is looked at.
+pub fn group_text_is_read()
+    ensures { GroupTextIsRead }
 {}
