@@ -25,4 +25,5 @@ checks: build
 	checks/memory
 	checks/formats
 	checks/reads
+	checks/groups
 	checks/decks

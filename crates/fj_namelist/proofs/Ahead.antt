@@ -1,5 +1,5 @@
 -- Namelist input taken apart along one list of characters with record ends.
-use Rattle.std.proofs.Common.{◌≡◌, ℕ, ◌⊎◌, Bool, true, false, cond, List, [], ◌∷◌, ◌++◌, Option, Some, None, sym, ap, ◌∙◌, refl, inl, inr, append_assoc}
+use Rattle.std.proofs.Common.{◌≡◌, ℕ, ◌⊎◌, Bool, true, false, List, [], ◌∷◌, ◌++◌, Option, Some, None, sym, ap, ◌∙◌, refl, inl, inr, append_assoc}
 use Rattle.fj_value.specs.declared.condition.Condition.{Condition}
 use Rattle.fj_list.specs.Stream.{Stream, stream, records_behind}
 use Rattle.fj_list.proofs.StreamLaws.{records_behind-stream}

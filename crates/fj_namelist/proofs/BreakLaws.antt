@@ -1,5 +1,5 @@
 -- The records of a member, cut where they are full.
-use Rattle.std.proofs.Common.{◌≡◌, ℕ, ◌<◌, ◌≤◌, ◌⊎◌, cond, List, [], ◌∷◌, ◌++◌, length, sym, ap, subst, ◌∙◌, refl, inl, inr, arith, append_assoc, append-nil, length-append, ltb}
+use Rattle.std.proofs.Common.{◌≡◌, ℕ, ◌<◌, ◌≤◌, cond, List, [], ◌∷◌, ◌++◌, length, sym, ap, subst, ◌∙◌, refl, inl, inr, arith, append_assoc, append-nil, length-append, ltb}
 use Rattle.std.proofs.lemmas.Bool.{cases_lt}
 use Rattle.std.proofs.lemmas.List.Concat.{flat_map-append}
 use Rattle.fj_value.specs.declared.edit.EditModes.{EditModes}
@@ -9,7 +9,7 @@ use Rattle.fj_list.specs.Breaks.{Part, values_in}
 use Rattle.fj_namelist.specs.GroupText.{parting, name_shown, continued}
 use Rattle.fj_namelist.specs.Breaks.{joined, line_of, lines_of, Fits, Fit, Full, MembersBreakWhereFull}
 use Rattle.std.proofs.lemmas.Bool.Decides.{nat_tests}
-use Rattle.std.proofs.Common.{Bool, true, false}
+use Rattle.std.proofs.Common.{true, false}
 
 within_columns : (n : ℕ) → n ≤ 80 → ltb 80 n ≡ false
 within_columns n h = grind (arith, nat_tests)

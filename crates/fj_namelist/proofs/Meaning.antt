@@ -1,11 +1,11 @@
 -- A group's text is read as its assignments.
-use Rattle.std.proofs.Common.{◌≡◌, ◌≢◌, ℕ, zero, suc, ◌+◌, ◌-◌, ◌^◌, ◌<◌, ◌≤◌, ◌⊎◌, Bool, true, false, ◌||◌, ◌&&◌, not, cond, eqb, ltb, List, [], ◌∷◌, ◌++◌, length, map, take, drop, Option, Some, None, slice_get, sym, ap, subst, ◌∙◌, refl, inl, inr, arith, append_assoc, append-nil}
+use Rattle.std.proofs.Common.{◌≡◌, ℕ, zero, suc, ◌+◌, ◌-◌, ◌^◌, ◌<◌, ◌⊎◌, Bool, true, false, ◌||◌, ◌&&◌, not, cond, eqb, ltb, List, [], ◌∷◌, ◌++◌, length, take, drop, Option, Some, None, slice_get, sym, ap, subst, ◌∙◌, refl, inl, inr, arith, append_assoc, append-nil}
 use Rattle.std.specs.Prelude.{min, is_some, replicate}
-use Rattle.std.proofs.lemmas.Bool.{cases_Bool, cases_lt, false≢true}
+use Rattle.std.proofs.lemmas.Bool.{cases_lt, false≢true}
 use Rattle.std.proofs.lemmas.Bool.Decides.{nat_tests}
 use Rattle.std.proofs.Math.Seq.{take-append_seam, drop-append_seam}
 use Rattle.std.proofs.lemmas.List.{length-append}
-use Rattle.std.specs.List.{list_all, position_or_len, prefix_len, find}
+use Rattle.std.specs.List.{list_all, position_or_len, prefix_len}
 use Rattle.std.specs.Option.{option_map}
 use Rattle.fj_value.specs.Digits.{number_in}
 use Rattle.fj_value.specs.declared.kind.Kind.{Kind}
@@ -19,7 +19,7 @@ use Rattle.fj_list.specs.declared.constant.Form.TheVariants.{Null}
 use Rattle.fj_list.specs.declared.constant.Read.{Read}
 use Rattle.fj_list.specs.declared.constant.Read.TheVariants as read
 use Rattle.fj_list.specs.Stream.{Stream, stream, records_behind, is_blank, is_no_blank}
-use Rattle.fj_list.specs.ListInput.{ends_constant, is_mark, is_separator, with_value, Outcome}
+use Rattle.fj_list.specs.ListInput.{is_mark, with_value, Outcome}
 use Rattle.fj_list.specs.Grammar as grammar
 use Rattle.fj_list.specs.Grammar.{Given, given, separator_of, IsBlank, Item, Finish, at_records_end, at_slash}
 use Rattle.fj_list.specs.Understood.{Constant, constants, end_of}
@@ -27,23 +27,21 @@ use Rattle.fj_list.proofs.GrammarLaws.{blank_true}
 use Rattle.fj_list.proofs.StreamLaws.{records_behind-nil}
 use Rattle.fj_namelist.specs.declared.token.Token.{Token}
 use Rattle.fj_namelist.specs.declared.token.Token.TheVariants as token
-use Rattle.fj_namelist.specs.declared.token.State.{State}
 use Rattle.fj_namelist.specs.declared.token.State.TheVariants.{Between, InWord, Done}
 use Rattle.fj_namelist.specs.declared.place.Elements.{Elements}
-use Rattle.fj_namelist.specs.declared.place.Begun.{Begun}
 use Rattle.fj_namelist.specs.declared.place.Place.{Place}
 use Rattle.fj_namelist.specs.declared.place.Place.TheVariants as place
 use Rattle.fj_namelist.specs.Names.{Designator, designated, designator, subscripted, with_subscript, subscript_in, closed_number, member_of, same_name, is_opening, ends_at_equals}
-use Rattle.fj_namelist.specs.Tokens.{Lexed, lexed, marked, stepped, at_record_end, with_tokens, Group, lines_lexed}
-use Rattle.fj_namelist.specs.GroupInput.{Result, ended, elements, element_of, place_of, constant_read, given_to, filled, value_taken, taken, Name, name_of, name_at, is_equals, begun_at, begun, either_taken, tokens_taken, group_read, group_input}
+use Rattle.fj_namelist.specs.Tokens.{Lexed, lexed, stepped, Group, lines_lexed}
+use Rattle.fj_namelist.specs.GroupInput.{Result, ended, elements, element_of, place_of, constant_read, given_to, filled, Name, name_of, name_at, is_equals, begun_at, begun, either_taken, tokens_taken, group_read}
 use Rattle.fj_namelist.specs.GroupReadAgain.{in_name, IsName}
-use Rattle.fj_namelist.specs.Heading.{Heading, heading, heading_in, text_in, is_passed, behind_name, named}
+use Rattle.fj_namelist.specs.Heading.{heading, heading_in, text_in, is_passed, behind_name, named}
 use Rattle.fj_namelist.specs.Grammar as text
 use Rattle.fj_namelist.specs.Grammar.{characters, Gap, Named, Values, Assignment, Assignments, BeginsBlank, IsGroupText}
 use Rattle.fj_namelist.specs.Understood.{all_given, assigned_at, all_assigned, AreCounted, GroupTextIsRead}
 use Rattle.fj_namelist.proofs.Words.{one_more}
 use Rattle.fj_namelist.proofs.Ahead.{step, ahead, prepended, lines_ahead, Leads, leads_none, leads_on, leads_step}
-use Rattle.fj_namelist.proofs.Pieces.{end_step, gap_leads, GoesOn, on_step, begun_word, Stays, stays_append, word_leads, word_ends}
+use Rattle.fj_namelist.proofs.Pieces.{end_step, gap_leads, GoesOn, on_step, begun_word, Stays, stays_append, word_ends}
 use Rattle.fj_namelist.proofs.Parts.{characters_append, item_token, IsValueToken}
 
 -- tokens before which a word is no name

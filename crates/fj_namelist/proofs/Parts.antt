@@ -1,39 +1,36 @@
 -- Values and names of the grammar, taken apart into tokens.
-use Rattle.std.proofs.Common.{◌≡◌, ◌≢◌, ℕ, zero, suc, ◌+◌, ◌-◌, ◌^◌, ◌<◌, ◌≤◌, ◌⊎◌, Bool, true, false, ◌||◌, ◌&&◌, not, cond, eqb, ltb, List, [], ◌∷◌, ◌++◌, length, map, take, drop, get_or, Option, Some, None, slice_get, sym, ap, subst, ◌∙◌, refl, inl, inr, arith, append_assoc, append-nil}
-use Rattle.std.specs.Prelude.{min, is_some}
-use Rattle.std.proofs.lemmas.Bool.{cases_Bool, cases_lt, false≢true}
+use Rattle.std.proofs.Common.{◌≡◌, ◌≢◌, ℕ, suc, ◌+◌, ◌^◌, Bool, true, false, ◌&&◌, not, cond, eqb, ltb, List, [], ◌∷◌, ◌++◌, length, take, drop, Option, Some, None, sym, ap, subst, ◌∙◌, refl, inl, inr, arith, append_assoc}
+use Rattle.std.proofs.lemmas.Bool.{cases_Bool, false≢true}
 use Rattle.std.proofs.lemmas.Bool.Decides.{nat_tests}
 use Rattle.std.proofs.Math.Seq.{take-append_seam, drop-append_seam}
 use Rattle.std.proofs.lemmas.List.{map-append, take-append-drop}
 use Rattle.std.proofs.lemmas.Option.{none-some}
-use Rattle.std.specs.List.{list_all, position_or_len, prefix_len, find}
-use Rattle.std.specs.Char.{is_digit, is_ascii_digit, is_ascii_alphanumeric}
+use Rattle.std.specs.List.{list_all, position_or_len, prefix_len}
+use Rattle.std.specs.Char.{is_digit, is_ascii_digit}
 use Rattle.std.specs.Option.{option_map}
 use Rattle.fj_value.specs.Digits.{number_in}
 use Rattle.fj_value.specs.declared.value.Cell.{Cell}
-use Rattle.fj_list.specs.declared.moved.GroupMember.{GroupMember}
 use Rattle.fj_list.specs.declared.constant.Form.{Form}
-use Rattle.fj_list.specs.declared.constant.Form.TheVariants.{Null, Undelimited, Delimited}
+use Rattle.fj_list.specs.declared.constant.Form.TheVariants.{Null, Undelimited}
 use Rattle.fj_list.specs.Stream.{Stream}
-use Rattle.fj_list.specs.ListInput.{ends_constant, is_mark, is_no_digit}
+use Rattle.fj_list.specs.ListInput.{is_mark, is_no_digit}
 use Rattle.fj_list.specs.Grammar as grammar
 use Rattle.fj_list.specs.Grammar.{Given, given, separator_of, IsOrdinary, Ends, Characters, IsMark, Delimiting, Constant, Counts, IsNotCounted, IsRepeat, Item}
 use Rattle.fj_list.proofs.Numbers.{no_digit_is, number_in-nil}
 use Rattle.fj_list.proofs.GrammarLaws.{all_digits, digit_first, is_digit_ascii, star_is, opens_true}
 use Rattle.fj_namelist.specs.declared.token.Token.{Token}
 use Rattle.fj_namelist.specs.declared.token.Token.TheVariants as token
-use Rattle.fj_namelist.specs.declared.token.State.{State}
-use Rattle.fj_namelist.specs.declared.token.State.TheVariants.{Between, InWord, Inside, Behind, Done}
+use Rattle.fj_namelist.specs.declared.token.State.TheVariants.{Between, InWord, Inside}
 use Rattle.fj_namelist.specs.declared.place.Elements.{Elements}
 use Rattle.fj_namelist.specs.declared.place.Place.{Place}
 use Rattle.fj_namelist.specs.declared.place.Place.TheVariants as place
 use Rattle.fj_namelist.specs.Names.{starred, ranged, repeat_in, behind_star}
-use Rattle.fj_namelist.specs.Tokens.{Lexed, lexed, marked, stepped}
+use Rattle.fj_namelist.specs.Tokens.{lexed, marked, stepped}
 use Rattle.fj_namelist.specs.GroupInput.{Result, filled, word_given, value_taken}
-use Rattle.fj_namelist.specs.Grammar.{characters, Lacks, BeginsWithNo, IsAmongValues, Follows}
+use Rattle.fj_namelist.specs.Grammar.{characters, Lacks, IsAmongValues, Follows}
 use Rattle.fj_namelist.proofs.Words.{one_more}
-use Rattle.fj_namelist.proofs.Ahead.{Leads, leads_none, leads_on, leads_step}
-use Rattle.fj_namelist.proofs.Pieces.{word_ends, constant_leads, Stays, word_leads, stays_append, GoesOn, IsLonger, on_step, begun_word, so_far, opened_constant}
+use Rattle.fj_namelist.proofs.Ahead.{Leads, leads_on, leads_step}
+use Rattle.fj_namelist.proofs.Pieces.{word_ends, constant_leads, Stays, stays_append, GoesOn, on_step, begun_word, so_far, opened_constant}
 
 -- characters in front of others
 pub characters_append : (xs ys : List ℕ) (s : Stream) → characters (xs ++ ys) ++ s ≡ characters xs ++ (characters ys ++ s)

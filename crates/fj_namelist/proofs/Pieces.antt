@@ -1,26 +1,17 @@
 -- Blanks, words and constants of the grammar, taken apart into tokens.
-use Rattle.std.proofs.Common.{◌≡◌, ◌≢◌, ℕ, zero, suc, ◌+◌, ◌-◌, ◌^◌, ◌<◌, ◌≤◌, ◌⊎◌, Bool, true, false, ◌||◌, ◌&&◌, not, cond, eqb, ltb, List, [], ◌∷◌, ◌++◌, length, take, drop, Option, Some, None, sym, ap, subst, ◌∙◌, refl, inl, inr, arith, append_assoc, append-nil}
-use Rattle.std.proofs.lemmas.Bool.{cases_Bool, false≢true}
+use Rattle.std.proofs.Common.{◌≡◌, ◌≢◌, ℕ, ◌⊎◌, Bool, true, false, ◌&&◌, cond, eqb, List, [], ◌∷◌, ◌++◌, Option, Some, None, sym, ap, subst, ◌∙◌, refl, inl, inr, arith, append_assoc, append-nil}
+use Rattle.std.proofs.lemmas.Bool.{cases_Bool}
 use Rattle.std.proofs.lemmas.Bool.Decides.{nat_tests}
-use Rattle.std.specs.List.{list_all, position_or_len, prefix_len}
-use Rattle.std.specs.Char.{is_digit}
-use Rattle.std.specs.Option.{option_map}
-use Rattle.fj_value.specs.Digits.{number_in}
-use Rattle.fj_value.specs.declared.condition.Condition.{Condition}
-use Rattle.fj_list.specs.declared.constant.Form.{Form}
-use Rattle.fj_list.specs.declared.constant.Form.TheVariants.{Null, Undelimited}
-use Rattle.fj_list.specs.declared.constant.Form.TheVariants as form
-use Rattle.fj_list.specs.Stream.{Stream, is_blank}
-use Rattle.fj_list.specs.ListInput.{is_separator, ends_constant, is_mark, is_no_digit, has_ended}
+use Rattle.fj_list.specs.Stream.{Stream}
+use Rattle.fj_list.specs.ListInput.{is_separator, ends_constant, is_mark}
 use Rattle.fj_list.specs.Grammar as grammar
 use Rattle.fj_list.specs.Grammar.{Given, separator_of, IsBlank, IsOrdinary, Ends, Characters, IsMark, NoMark, Delimiting, Constant, Counts, IsNotCounted, IsRepeat, Item}
-use Rattle.fj_list.proofs.GrammarLaws.{blank_true, ends_true, opens_true, mark_true, all_digits, digit_first, is_digit_ascii}
+use Rattle.fj_list.proofs.GrammarLaws.{ends_true, mark_true}
 use Rattle.fj_namelist.specs.declared.token.Token.{Token}
 use Rattle.fj_namelist.specs.declared.token.Token.TheVariants as token
 use Rattle.fj_namelist.specs.declared.token.Delimited.{Delimited}
-use Rattle.fj_namelist.specs.declared.token.State.{State}
 use Rattle.fj_namelist.specs.declared.token.State.TheVariants.{Between, Comment, InWord, Inside, Behind, Done}
-use Rattle.fj_namelist.specs.Names.{ends_at_equals, starred, ranged, repeat_in, behind_star}
+use Rattle.fj_namelist.specs.Names.{ends_at_equals, repeat_in, behind_star}
 use Rattle.fj_namelist.specs.Tokens.{Lexed, lexed, at_end, marked, stepped, at_record_end, with_tokens, is_done}
 use Rattle.fj_namelist.specs.Grammar as text
 use Rattle.fj_namelist.specs.Grammar.{characters, Gap, Lacks, BeginsWithNo, Follows}

@@ -3,7 +3,7 @@
 use Rattle.std.specs.Prelude.{◌≡◌, ◌≢◌, ℕ, Bool, true, false, List, [], ◌∷◌, ◌++◌, map, Option, Some, None}
 use Rattle.fj_value.specs.Digits.{number_in}
 use Rattle.fj_list.specs.declared.constant.Form.{Form}
-use Rattle.fj_list.specs.declared.constant.Form.TheVariants.{Null, Undelimited, Delimited}
+use Rattle.fj_list.specs.declared.constant.Form.TheVariants.{Null, Undelimited}
 use Rattle.fj_list.specs.Stream.{Stream}
 use Rattle.fj_list.specs.Grammar.{Given, given, separator_of, IsBlank, Item, Finish, at_records_end, at_slash}
 use Rattle.fj_namelist.specs.Names.{same_name}
