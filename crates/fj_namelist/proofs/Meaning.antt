@@ -38,11 +38,11 @@ use Rattle.fj_namelist.specs.GroupReadAgain.{in_name, IsName}
 use Rattle.fj_namelist.specs.Heading.{heading, heading_in, text_in, is_passed, behind_name, named}
 use Rattle.fj_namelist.specs.Grammar as text
 use Rattle.fj_namelist.specs.Grammar.{characters, Gap, Named, Values, Assignment, Assignments, BeginsBlank, IsGroupText}
-use Rattle.fj_namelist.specs.Understood.{all_given, assigned_at, all_assigned, AreCounted, GroupTextIsRead}
+use Rattle.fj_namelist.specs.Understood.{all_given, assigned_at, all_assigned, AreCounted, GroupTextIsRead, GroupTextHasOneMeaning}
 use Rattle.fj_namelist.proofs.Words.{one_more}
 use Rattle.fj_namelist.proofs.Ahead.{step, ahead, prepended, lines_ahead, Leads, leads_none, leads_on, leads_step}
 use Rattle.fj_namelist.proofs.Pieces.{end_step, gap_leads, GoesOn, on_step, begun_word, Stays, stays_append, word_ends}
-use Rattle.fj_namelist.proofs.Parts.{characters_append, item_token, IsValueToken}
+use Rattle.fj_namelist.proofs.Parts.{characters_append, item_token, IsValueToken, value_of}
 
 -- tokens before which a word is no name
 record Calm (ts : List Token) : Type 0 where
@@ -101,6 +101,69 @@ null_read Int8 = refl
 null_read Logical = refl
 null_read (Chars n) = refl
 
+-- assignments among tokens, with the values that stand before the first of them
+record Parsed : Type 0 where
+  values : List Given
+  all : List Assignment
+
+abbrev nothing_parsed : Parsed
+nothing_parsed = record { values = []; all = [] }
+
+abbrev with_given : Given → Parsed → Parsed
+with_given g r = record { values = g ∷ r.values; all = r.all }
+
+-- the number between parentheses
+abbrev number_of_word : List ℕ → Option ℕ
+number_of_word [] = None
+number_of_word (c ∷ cs) = number_in 10 (take (length cs - 1) cs)
+
+abbrev assigned : List ℕ → Option ℕ → Parsed → Parsed
+assigned name n r = record { values = []; all = record { name = name; subscript = n; values = r.values } ∷ r.all }
+
+abbrev assignment_of : ℕ → Token → Option Token → Parsed → Parsed
+assignment_of (suc zero) (token.Word w) second r = assigned (take (position_or_len is_opening w) w) (number_of_word (drop (position_or_len is_opening w) w)) r
+assignment_of _ (token.Word w) (Some (token.Word u)) r = assigned w (number_of_word u) r
+assignment_of _ _ _ r = r
+
+abbrev token_parsed : Bool → Token → (Bool → Parsed) → Parsed
+token_parsed true token.Separator next = with_given (given 1 Null []) (next true)
+token_parsed false token.Separator next = next true
+token_parsed begins (token.Word w) next = with_given (value_of (token.Word w)) (next false)
+token_parsed begins (token.Constant n cs) next = with_given (value_of (token.Constant n cs)) (next false)
+token_parsed begins _ next = nothing_parsed
+
+abbrev either_parsed : Option Name → Bool → Token → Option Token → (ℕ → Bool → Parsed) → Parsed
+either_parsed None begins t second next = token_parsed begins t (λ b. next 0 b)
+either_parsed (Some name) begins t second next = assignment_of name.more t second (next name.more true)
+
+abbrev parsed : ℕ → Bool → List Token → Parsed
+parsed skip begins [] = nothing_parsed
+parsed (suc skip) begins (t ∷ ts) = parsed skip begins ts
+parsed zero begins (t ∷ ts) = either_parsed (name_at t (slice_get ts 0) (slice_get ts 1)) begins t (slice_get ts 0) (λ more b. parsed more b ts)
+
+-- the tokens are these assignments, whatever stands before them
+abbrev Parses : List Token → List Assignment → Type 0
+Parses ts all = (begins : Bool) → parsed 0 begins ts ≡ record { values = []; all = all }
+
+value_parsed : (t : Token) (begins : Bool) (next : Bool → Parsed) → IsValueToken t → token_parsed begins t next ≡ with_given (value_of t) (next false)
+value_parsed (token.Word w) true next is = refl
+value_parsed (token.Word w) false next is = refl
+value_parsed (token.Constant n cs) true next is = refl
+value_parsed (token.Constant n cs) false next is = refl
+value_parsed _ begins next is = absurd is
+
+-- how the tokens end
+abbrev finish_of : List Token → Finish
+finish_of [] = at_slash
+finish_of (token.Slash ∷ ts) = at_slash
+finish_of (token.End condition ∷ ts) = at_records_end
+finish_of (_ ∷ ts) = finish_of ts
+
+value_goes_on : (t : Token) (ts : List Token) → IsValueToken t → finish_of (t ∷ ts) ≡ finish_of ts
+value_goes_on (token.Word w) ts is = refl
+value_goes_on (token.Constant n cs) ts is = refl
+value_goes_on _ ts is = absurd is
+
 -- the values of an assignment
 record Reads (comma fresh begins : Bool) (s : Stream) (gs : List Given) (fresh' : Bool) (t : Stream) : Type 0 where
   tokens : List Token
@@ -108,6 +171,8 @@ record Reads (comma fresh begins : Bool) (s : Stream) (gs : List Given) (fresh' 
   calm : (ts : List Token) → Calm ts → Calm (tokens ++ ts)
   takes : (members : List GroupMember) (ts : List Token) (next : List Cell → Result) → Calm ts → Continues members ts next → (e : Elements) (i : ℕ) (cells : List Cell)
       → tokens_taken members (place.At e i begins) 0 (tokens ++ ts) cells ≡ all_given e i (constants gs) cells next
+  parses : (ts : List Token) (all : List Assignment) → Calm ts → Parses ts all → parsed 0 begins (tokens ++ ts) ≡ record { values = gs; all = all }
+  finishes : (ts : List Token) → finish_of (tokens ++ ts) ≡ finish_of ts
 
 separator_step : (comma fresh : Bool) (c : ℕ) → c ≡ separator_of comma → step comma (Between fresh) (Some c) ≡ lexed (token.Separator ∷ []) (Between true)
 separator_step true fresh c is = ap (λ d. step true (Between fresh) (Some d)) is
@@ -129,6 +194,8 @@ values_read comma fresh begins _ s _ _ text.no_more = record {
   leads = leads_none comma (Between fresh) s;
   calm = λ ts calm. calm;
   takes = λ members ts next calm on e i cells. on (place.At e i begins) cells;
+  parses = λ ts all calm h. h begins;
+  finishes = λ ts. refl;
 }
 values_read comma fresh begins fresh' s _ w (text.value {t} {u} {g} {gs} gap item among some more) =
     let on = gap_leads comma fresh s t gap in
@@ -145,6 +212,14 @@ values_read comma fresh begins fresh' s _ w (text.value {t} {u} {g} {gs} gap ite
           ∙ tok.1.0.gives e i begins cells (λ p cells'. tokens_taken members p 0 others cells')
           ∙ filled_given e g.form g.characters g.count i (constants gs) cells (λ i' cells'. tokens_taken members (place.At e i' false) 0 others cells') next
           (λ i' cells'. rest.takes members ts next calm follows e i' cells');
+      parses = λ ts all calm h.
+          let others = rest.tokens ++ ts in
+          let second = slice_get others 0 in
+          ap (λ (o : Option Name). either_parsed o begins tok.0 second (λ more' b. parsed more' b others)) (value_quiet tok.0 others tok.1.1 (rest.calm ts calm))
+          ∙ value_parsed tok.0 begins (λ b. parsed 0 b others) tok.1.1
+          ∙ ap (λ (x : Given). with_given x (parsed 0 false others)) tok.1.0.is
+          ∙ ap (with_given g) (rest.parses ts all calm h);
+      finishes = λ ts. value_goes_on tok.0 (rest.tokens ++ ts) tok.1.1 ∙ rest.finishes ts;
     }
 values_read comma fresh _ fresh' s gs w (text.separator {t} c is gap more) =
     let rest = values_read comma true true fresh' t gs w more in
@@ -153,6 +228,8 @@ values_read comma fresh _ fresh' s gs w (text.separator {t} c is gap more) =
       leads = leads_on comma (Between fresh) (Between true) (Between fresh') s t w (token.Separator ∷ []) rest.tokens (parted_leads comma fresh c s t is gap) rest.leads;
       calm = λ ts calm. separator_calm (rest.tokens ++ ts);
       takes = λ members ts next calm follows e i cells. rest.takes members ts next calm follows e i cells;
+      parses = λ ts all calm h. rest.parses ts all calm h;
+      finishes = λ ts. rest.finishes ts;
     }
 values_read comma fresh _ fresh' s _ w (text.null_value {t} {gs} c is gap more) =
     let rest = values_read comma true true fresh' t gs w more in
@@ -164,6 +241,8 @@ values_read comma fresh _ fresh' s _ w (text.null_value {t} {gs} c is gap more) 
           ap (λ (r : Result). cond (ltb i e.count) r (ended cells (Error 23)))
           (rest.takes members ts next calm follows e (i + 1) cells
           ∙ sym (ap (λ (r : Read). given_to r e i cells (λ cells'. all_given e (i + 1) (constants gs) cells' next)) (null_read e.kind)));
+      parses = λ ts all calm h. ap (with_given (given 1 Null [])) (rest.parses ts all calm h);
+      finishes = λ ts. rest.finishes ts;
     }
 
 -- an assignment begins
@@ -177,6 +256,8 @@ record Opens (comma fresh : Bool) (name : List ℕ) (n : Option ℕ) (s t : Stre
   calm : (ts : List Token) → Calm (tokens ++ ts)
   takes : (members : List GroupMember) (p : Place) (ts : List Token) (cells : List Cell) → AreCounted members
       → tokens_taken members p 0 (tokens ++ ts) cells ≡ opened (place_of (member_of members name) n) cells (λ p'. tokens_taken members p' 0 ts cells)
+  parses : (ts : List Token) (begins : Bool) → parsed 0 begins (tokens ++ ts) ≡ assigned name n (parsed 0 true ts)
+  finishes : (ts : List Token) → finish_of (tokens ++ ts) ≡ finish_of ts
 
 -- letters, digits and underscores
 record IsNameCharacter (comma : Bool) (c : ℕ) : Type 0 where
@@ -215,12 +296,16 @@ name_whole (c ∷ cs) e =
     let n = prefix_len (λ x. not (is_opening x)) cs in
     ap (λ b. cond (not b) (1 + n) 0) (name_character true c p.0).opening ∙ one_more n ∙ ap suc (name_whole cs p.1)
 
+all_taken : (w : List ℕ) → take (length w) w ≡ w
+all_taken w = ap (take (length w)) (sym (append-nil w)) ∙ take-append_seam w []
+
+none_left : (w : List ℕ) → drop (length w) w ≡ []
+none_left w = ap (drop (length w)) (sym (append-nil w)) ∙ drop-append_seam w []
+
 plain_designator : (c : ℕ) (cs : List ℕ) → list_all in_name (c ∷ cs) ≡ true → designator (c ∷ cs) ≡ Some (record { name = c ∷ cs; subscript = None })
 plain_designator c cs e =
     let w = c ∷ cs in
-    let front : take (length w) w ≡ w = ap (take (length w)) (sym (append-nil w)) ∙ take-append_seam w [] in
-    let rest : drop (length w) w ≡ [] = ap (drop (length w)) (sym (append-nil w)) ∙ drop-append_seam w [] in
-    ap (λ k. designated (take k w) (drop k w)) (name_whole w e) ∙ ap (λ (x : List ℕ). designated x (drop (length w) w)) front ∙ ap (λ (x : List ℕ). designated w x) rest
+    ap (λ k. designated (take k w) (drop k w)) (name_whole w e) ∙ ap (λ (x : List ℕ). designated x (drop (length w) w)) (all_taken w) ∙ ap (λ (x : List ℕ). designated w x) (none_left w)
 
 -- the greatest subscript
 abbrev bounded : ℕ → ℕ
@@ -243,6 +328,12 @@ in_parentheses ds n e =
     ∙ ap (λ k. option_map bounded (number_in 10 (take k cs))) width
     ∙ ap (λ (xs : List ℕ). option_map bounded (number_in 10 xs)) (take-append_seam ds (41 ∷ []))
     ∙ ap (λ (o : Option ℕ). option_map bounded o) e
+
+number_between : (ds : List ℕ) (n : ℕ) → number_in 10 ds ≡ Some n → number_of_word (40 ∷ (ds ++ 41 ∷ [])) ≡ Some n
+number_between ds n e =
+    let cs = ds ++ 41 ∷ [] in
+    let width : length cs - 1 ≡ length ds = omega (arith, length-append ds (41 ∷ [])) in
+    ap (λ k. number_in 10 (take k cs)) width ∙ ap (λ (xs : List ℕ). number_in 10 xs) (take-append_seam ds (41 ∷ [])) ∙ e
 
 element_designator : (c : ℕ) (cs ds : List ℕ) (n : ℕ) → list_all in_name (c ∷ cs) ≡ true → number_in 10 ds ≡ Some n
     → designator ((c ∷ cs) ++ 40 ∷ (ds ++ 41 ∷ [])) ≡ Some (record { name = c ∷ cs; subscript = Some (bounded n) })
@@ -355,6 +446,14 @@ whole_opens comma fresh (c ∷ cs) s t is gap =
       takes = λ members p ts cells counted.
           ap (λ (d : Option Designator). either_taken (begun_at members (name_of 1 d)) (token.Word w) p cells (λ p' more cells'. tokens_taken members p' more (token.Equals ∷ ts) cells')) designates
           ∙ by members ts cells (place_of (member_of members w) None);
+      parses = λ ts begins.
+          let r = parsed 0 true ts in
+          let word_parsed : Option Name → Parsed = λ o. either_parsed o begins (token.Word w) (Some token.Equals) (λ more b. parsed more b (token.Equals ∷ ts)) in
+          ap (λ (d : Option Designator). word_parsed (name_of 1 d)) designates
+          ∙ ap (λ k. assigned (take k w) (number_of_word (drop k w)) r) (name_whole w is.all)
+          ∙ ap (λ (x : List ℕ). assigned x (number_of_word (drop (length w) w)) r) (all_taken w)
+          ∙ ap (λ (x : List ℕ). assigned w (number_of_word x) r) (none_left w);
+      finishes = λ ts. refl;
     } where
       by : (members : List GroupMember) (ts : List Token) (cells : List Cell) (o : Option Place)
           → begun (record { place = o; more = 1 }) cells o (λ p' more cells'. tokens_taken members p' more (token.Equals ∷ ts) cells') ≡ opened o cells (λ p'. tokens_taken members p' 0 ts cells)
@@ -411,6 +510,15 @@ element_opens comma fresh (c ∷ cs) ds n s t u is number gap gap' = go (gap_or 
             ap (λ (d : Option Designator). either_taken (begun_at members (name_of 1 d)) (token.Word w) q cells (λ p' more cells'. tokens_taken members p' more (token.Equals ∷ ts) cells')) designates
             ∙ begun_one members ts cells (place_of (member_of members name) (Some (bounded n)))
             ∙ ap (λ (o : Option Place). opened o cells (λ p'. tokens_taken members p' 0 ts cells)) (place_bounded members name n counted);
+        parses = λ ts begins.
+            let r = parsed 0 true ts in
+            let word_parsed : Option Name → Parsed = λ o. either_parsed o begins (token.Word w) (Some token.Equals) (λ more b. parsed more b (token.Equals ∷ ts)) in
+            ap (λ (d : Option Designator). word_parsed (name_of 1 d)) designates
+            ∙ ap (λ k. assigned (take k w) (number_of_word (drop k w)) r) (name_width name (ds ++ 41 ∷ []) is.all)
+            ∙ ap (λ (x : List ℕ). assigned x (number_of_word (drop (length name) w)) r) (take-append_seam name sub)
+            ∙ ap (λ (x : List ℕ). assigned name (number_of_word x) r) (drop-append_seam name sub)
+            ∙ ap (λ (o : Option ℕ). assigned name o r) (number_between ds n number);
+        finishes = λ ts. refl;
       }
   go (inr found) =
       let name = c ∷ cs in
@@ -439,6 +547,13 @@ element_opens comma fresh (c ∷ cs) ds n s t u is number gap gap' = go (gap_or 
             ∙ ap (λ (o : Option ℕ). either_taken (begun_at members (name_of 2 (subscripted name None o))) (token.Word name) r cells (λ p' more cells'. tokens_taken members p' more (token.Word sub ∷ token.Equals ∷ ts) cells')) inside
             ∙ begun_two members ts cells (token.Word sub) place_there
             ∙ ap (λ (o : Option Place). opened o cells (λ p'. tokens_taken members p' 0 ts cells)) (place_bounded members name n counted);
+        parses = λ ts begins.
+            let r = parsed 0 true ts in
+            let word_parsed : Option Name → Parsed = λ o. either_parsed o begins (token.Word name) (Some (token.Word sub)) (λ more b. parsed more b (token.Word sub ∷ token.Equals ∷ ts)) in
+            ap (λ (d : Option Designator). word_parsed (name_of 2 (with_subscript d (subscript_in sub)))) designates
+            ∙ ap (λ (o : Option ℕ). word_parsed (name_of 2 (subscripted name None o))) inside
+            ∙ ap (λ (o : Option ℕ). assigned name o r) (number_between ds n number);
+        finishes = λ ts. refl;
       } where
         or_some : (d : Option Designator) (o : Option ℕ) (k : ℕ) → o ≡ Some k → (is_some d || is_some o) ≡ true
         or_some None o k e = ap is_some e
@@ -464,6 +579,8 @@ record Means (comma fresh : Bool) (s : Stream) (all : List Assignment) (f : Fini
   is_ahead : (e : Condition) → ahead comma e (Between fresh) s ≡ record { tokens = tokens e; left = records_behind t }
   calm : (e : Condition) → Calm (tokens e)
   takes : (members : List GroupMember) (e : Condition) → AreCounted members → Continues members (tokens e) (λ cells. all_assigned members (end_of f e) all cells)
+  parses : (e : Condition) → Parses (tokens e) all
+  finishes : (e : Condition) → finish_of (tokens e) ≡ f
 
 slash_step : (comma fresh : Bool) → step comma (Between fresh) (Some 47) ≡ lexed (token.Slash ∷ []) Done
 slash_step true fresh = refl
@@ -482,7 +599,13 @@ assignments_mean comma fresh s _ _ t (text.slash gap) =
       is_ahead = λ e. last.lead e ∙ ap (prepended (token.Slash ∷ [])) (done_ahead comma e t);
       calm = λ e. record { equals = refl; quiet = λ w. refl };
       takes = λ members e counted p cells. slash_taken members p cells;
+      parses = λ e begins. slash_parsed begins;
+      finishes = λ e. refl;
     } where
+      slash_parsed : (begins : Bool) → parsed 0 begins (token.Slash ∷ []) ≡ nothing_parsed
+      slash_parsed true = refl
+      slash_parsed false = refl
+
       slash_taken : (members : List GroupMember) (p : Place) (cells : List Cell) → tokens_taken members p 0 (token.Slash ∷ []) cells ≡ ended cells Fine
       slash_taken members place.Due cells = refl
       slash_taken members (place.At e i begins) cells = refl
@@ -493,7 +616,13 @@ assignments_mean comma fresh s _ _ _ (text.records_end gap) =
       is_ahead = λ e. on.1.lead e ∙ ap (λ (ls : List (List ℕ)). record { tokens = token.End e ∷ []; left = ls }) (sym records_behind-nil);
       calm = λ e. record { equals = refl; quiet = λ w. refl };
       takes = λ members e counted p cells. end_taken members e p cells;
+      parses = λ e begins. end_parsed e begins;
+      finishes = λ e. refl;
     } where
+      end_parsed : (e : Condition) (begins : Bool) → parsed 0 begins (token.End e ∷ []) ≡ nothing_parsed
+      end_parsed e true = refl
+      end_parsed e false = refl
+
       end_taken : (members : List GroupMember) (e : Condition) (p : Place) (cells : List Cell) → tokens_taken members p 0 (token.End e ∷ []) cells ≡ ended cells e
       end_taken members e place.Due cells = refl
       end_taken members e (place.At e' i begins) cells = refl
@@ -514,6 +643,10 @@ assignments_mean comma fresh s _ f w (text.assignment {fresh'} {t} {u} {v} {a} {
           opens.takes members p (reads.tokens ++ others.tokens e) cells counted
           ∙ opened_given (member_of members a.name) a.subscript (constants a.values) cells (λ p'. tokens_taken members p' 0 (reads.tokens ++ others.tokens e) cells) (λ cells'. all_assigned members (end_of f e) rest cells')
           (λ e' i. reads.takes members (others.tokens e) (λ cells'. all_assigned members (end_of f e) rest cells') (others.calm e) (others.takes members e counted) e' i cells);
+      parses = λ e begins.
+          opens.parses (reads.tokens ++ others.tokens e) begins
+          ∙ ap (assigned a.name a.subscript) (reads.parses (others.tokens e) rest (others.calm e) (others.parses e));
+      finishes = λ e. opens.finishes (reads.tokens ++ others.tokens e) ∙ reads.finishes (others.tokens e) ∙ others.finishes e;
     }
 
 -- the record with the group's name
@@ -604,16 +737,49 @@ blank_first : (comma : Bool) (e : Condition) (t : Stream) → BeginsBlank t → 
 blank_first comma e [] is = absurd is
 blank_first comma e (x ∷ t) is = ap (λ (l : Lexed). prepended l.tokens (ahead comma e l.state t)) (end_step comma true x is ∙ sym (end_step comma false x is))
 
-pub text_read : GroupTextIsRead
-text_read comma group lines _ _ _ (text.group_text {t} {u} {all} {f} name same is gap blank h) members cells ending counted =
+-- what a text is behind its heading
+record IsText (comma : Bool) (group : List ℕ) (lines : List (List ℕ)) (all : List Assignment) (f : Finish) (u : Stream) : Type 0 where
+  more : List ℕ
+  others : List (List ℕ)
+  at_name : heading group lines ≡ named more others
+  means : Means comma true (stream (more ∷ others)) all f u
+
+-- behind the name a blank follows, and so a comment may begin behind it
+from_blank : (comma : Bool) (t : Stream) (all : List Assignment) (f : Finish) (u : Stream) → BeginsBlank t → Means comma false t all f u → Means comma true t all f u
+from_blank comma t all f u blank m = record { tokens = m.tokens; is_ahead = λ e. blank_first comma e t blank ∙ m.is_ahead e; calm = m.calm; takes = m.takes; parses = m.parses; finishes = m.finishes }
+
+text_of : (comma : Bool) (group : List ℕ) (lines : List (List ℕ)) (all : List Assignment) (f : Finish) (u : Stream) → IsGroupText comma group (stream lines) all f u → IsText comma group lines all f u
+text_of comma group lines _ _ _ (text.group_text {t} {u} {all} {f} name same is gap blank h) =
     let start = headed group true (stream lines) (Some 38 ∷ (characters name ++ t)) (characters name ++ t) lines gap refl refl in
     let behind = behind_of name start.rest start.others t start.is in
-    let means = assignments_mean comma false t all f u h in
-    let at_name : heading group lines ≡ named behind.more start.others = start.heads ∙ ap (heading_in start.others) (name_behind group name start.rest start.others t same is blank behind) in
-    let tokens : lines_lexed comma ending (Between true) (behind.more ∷ start.others) ≡ record { tokens = means.tokens ending; left = records_behind u } =
-    lines_ahead comma ending (Between true) (behind.more ∷ start.others) refl ∙ ap (ahead comma ending (Between true)) (sym behind.then) ∙ blank_first comma ending t blank ∙ means.is_ahead ending in
-    ap (group_read comma ending members cells) at_name
-    ∙ ap (λ (g : Group). outcome g (tokens_taken members place.Due 0 g.tokens cells)) tokens
+    record {
+      more = behind.more;
+      others = start.others;
+      at_name = start.heads ∙ ap (heading_in start.others) (name_behind group name start.rest start.others t same is blank behind);
+      means = subst (λ (x : Stream). Means comma true x all f u) behind.then (from_blank comma t all f u blank (assignments_mean comma false t all f u h));
+    }
+
+pub text_read : GroupTextIsRead
+text_read comma group lines all f u h members cells ending counted =
+    let it = text_of comma group lines all f u h in
+    let means = it.means in
+    ap (group_read comma ending members cells) it.at_name
+    ∙ ap (λ (g : Group). outcome g (tokens_taken members place.Due 0 g.tokens cells)) (lines_ahead comma ending (Between true) (it.more ∷ it.others) refl ∙ means.is_ahead ending)
     ∙ ap (λ (r : Result). record { cells = r.cells; condition = r.condition; left = records_behind u }) (means.takes members ending counted place.Due cells) where
       outcome : Group → Result → Outcome
       outcome g r = record { cells = r.cells; condition = r.condition; left = g.left }
+
+pub one_meaning : GroupTextHasOneMeaning
+one_meaning comma group lines all all' f f' u u' h h' =
+    let it = text_of comma group lines all f u h in
+    let it' = text_of comma group lines all' f' u' h' in
+    let same : named it.more it.others ≡ named it'.more it'.others = sym it.at_name ∙ it'.at_name in
+    let more : it.more ≡ it'.more = cc in
+    let others : it.others ≡ it'.others = cc in
+    let streams : stream (it.more ∷ it.others) ≡ stream (it'.more ∷ it'.others) = ap (λ (x : List ℕ). stream (x ∷ it.others)) more ∙ ap (λ (ls : List (List ℕ)). stream (it'.more ∷ ls)) others in
+    let groups = sym (it.means.is_ahead Fine) ∙ ap (ahead comma Fine (Between true)) streams ∙ it'.means.is_ahead Fine in
+    let tokens : it.means.tokens Fine ≡ it'.means.tokens Fine = ap (λ (g : Group). g.tokens) groups in (
+      ap (λ (r : Parsed). r.all) (sym (it.means.parses Fine true) ∙ ap (parsed 0 true) tokens ∙ it'.means.parses Fine true),
+      sym (it.means.finishes Fine) ∙ ap finish_of tokens ∙ it'.means.finishes Fine,
+      ap (λ (g : Group). g.left) groups,
+    )

@@ -11,7 +11,7 @@ use Rattle.std.specs.Option.{option_map}
 use Rattle.fj_value.specs.Digits.{number_in}
 use Rattle.fj_value.specs.declared.value.Cell.{Cell}
 use Rattle.fj_list.specs.declared.constant.Form.{Form}
-use Rattle.fj_list.specs.declared.constant.Form.TheVariants.{Null, Undelimited}
+use Rattle.fj_list.specs.declared.constant.Form.TheVariants.{Null, Undelimited, Delimited}
 use Rattle.fj_list.specs.Stream.{Stream}
 use Rattle.fj_list.specs.ListInput.{is_mark, is_no_digit}
 use Rattle.fj_list.specs.Grammar as grammar
@@ -178,9 +178,22 @@ in_range r h =
 counted_in_range : (ds cs : List ℕ) (r : ℕ) → number_in 10 ds ≡ Some r → IsRepeat r → repeat_in (ds ++ 42 ∷ cs) ≡ Some (Some r)
 counted_in_range ds cs r number range = repeat_counted ds cs r number ∙ ap (λ (o : Option ℕ). Some o) (in_range r range)
 
+-- the value that a token is
+abbrev word_value : Option (Option ℕ) → List ℕ → List ℕ → Given
+word_value None rest w = given 1 Undelimited w
+word_value (Some None) rest w = given 1 Undelimited w
+word_value (Some (Some n)) [] w = given n Null []
+word_value (Some (Some n)) (c ∷ cs) w = given n Undelimited (c ∷ cs)
+
+abbrev pub value_of : Token → Given
+value_of (token.Word w) = word_value (repeat_in w) (behind_star w) w
+value_of (token.Constant n cs) = given n Delimited cs
+value_of _ = given 1 Null []
+
 -- the token of a value, and what it gives
 pub record IsToken (comma fresh fresh' : Bool) (g : Given) (s t : Stream) (tok : Token) : Type 0 where
   pub leads : Leads comma (Between fresh) s (tok ∷ []) (Between fresh') t
+  pub is : value_of tok ≡ g
   pub gives : (e : Elements) (i : ℕ) (begins : Bool) (cells : List Cell) (next : Place → List Cell → Result) → value_taken tok e i begins cells next ≡ filled e g.form g.characters g.count i cells (λ i' cells'. next (place.At e i' false) cells')
 
 -- a word or a constant
@@ -192,13 +205,14 @@ IsValueToken _ = ⊥
 abbrev pub TokenOf : Bool → Bool → Bool → Given → Stream → Stream → Type 0
 TokenOf comma fresh fresh' g s t = (tok : Token) × (IsToken comma fresh fresh' g s t tok × IsValueToken tok)
 
-word_token : (comma fresh fresh' : Bool) (g : Given) (w : List ℕ) (s t : Stream) → Leads comma (Between fresh) s [] (InWord w) t → Ends comma t → Follows t
+word_token : (comma fresh fresh' : Bool) (g : Given) (w : List ℕ) (s t : Stream) → Leads comma (Between fresh) s [] (InWord w) t → Ends comma t → Follows t → value_of (token.Word w) ≡ g
     → ((e : Elements) (i : ℕ) (cells : List Cell) (next : ℕ → List Cell → Result) → word_given (repeat_in w) (behind_star w) w e i cells next ≡ filled e g.form g.characters g.count i cells next) → TokenOf comma fresh fresh' g s t
-word_token comma fresh fresh' g w s t leads ends some gives = (
+word_token comma fresh fresh' g w s t leads ends some is gives = (
   token.Word w,
   (
     record {
       leads = leads_on comma (Between fresh) (InWord w) (Between fresh') s t t [] (token.Word w ∷ []) leads (word_ends comma fresh' w t ends some);
+      is = is;
       gives = λ e i begins cells next. gives e i cells (λ i' cells'. next (place.At e i' false) cells');
     },
     tt,
@@ -211,7 +225,7 @@ once_token comma fresh fresh' _ _ _ t none (grammar.plain {cs} {s} c no_mark h) 
     let not_counted : IsNotCounted (characters (c ∷ cs) ++ t) = subst (λ (u : Stream). IsNotCounted u) p.is none in
     let stays = stays_plain comma (c ∷ []) cs t p.all.1 not_counted in
     let leads = begun_word comma fresh c cs t p.all.0 (mark_false c no_mark) (comment_false c among.1) stays in
-    word_token comma fresh fresh' (given 1 Undelimited (c ∷ cs)) (c ∷ cs) (Some c ∷ s) t (subst (λ (u : Stream). Leads comma (Between fresh) u [] (InWord (c ∷ cs)) t) (sym p.is) leads) p.ends some
+    word_token comma fresh fresh' (given 1 Undelimited (c ∷ cs)) (c ∷ cs) (Some c ∷ s) t (subst (λ (u : Stream). Leads comma (Between fresh) u [] (InWord (c ∷ cs)) t) (sym p.is) leads) p.ends some (ap (λ (o : Option (Option ℕ)). word_value o (behind_star (c ∷ cs)) (c ∷ cs)) (not_counted_front (c ∷ cs) t not_counted))
     (λ e i cells next. ap (λ (o : Option (Option ℕ)). word_given o (behind_star (c ∷ cs)) (c ∷ cs) e i cells next) (not_counted_front (c ∷ cs) t not_counted)) where
       mark_false : (c : ℕ) → (IsMark c → ⊥) → is_mark c ≡ false
       mark_false c h = elim (cases_Bool (is_mark c)) [
@@ -223,7 +237,7 @@ once_token comma fresh fresh' _ _ _ t none (grammar.plain {cs} {s} c no_mark h) 
       comment_false c h = grind (arith, nat_tests)
 once_token comma fresh fresh' _ cs _ t none (grammar.delimited {s} mark is h ends) among some = (
   token.Constant 1 cs,
-  (record { leads = opened_constant comma fresh fresh' mark cs s t is h ends some; gives = λ e i begins cells next. refl }, tt),
+  (record { leads = opened_constant comma fresh fresh' mark cs s t is h ends some; is = refl; gives = λ e i begins cells next. refl }, tt),
 )
 
 mark_behind : (comma : Bool) (ds : List ℕ) (r mark : ℕ) → number_in 10 ds ≡ Some r → IsRepeat r → IsMark mark → stepped comma (InWord (ds ++ 42 ∷ [])) mark ≡ lexed [] (Inside (so_far r mark []))
@@ -249,6 +263,7 @@ repeated_token comma fresh fresh' _ r _ s _ t counts range (grammar.plain {cs} {
     let leads = count_leads comma fresh ds r (c ∷ cs) t counts.number (stays_append comma (ds ++ 42 ∷ []) (c ∷ []) cs first others) in
     let whole : s ≡ characters w ++ t = counts.whole ∙ ap (λ (x : Stream). characters ds ++ (Some 42 ∷ x)) p.is ∙ sym (characters_append ds (42 ∷ (c ∷ cs)) t) in
     word_token comma fresh fresh' (given r Undelimited (c ∷ cs)) w s t (subst (λ (x : Stream). Leads comma (Between fresh) x [] (InWord w) t) (sym whole) leads) p.ends some
+    (ap (λ (o : Option (Option ℕ)). word_value o (behind_star w) w) (counted_in_range ds (c ∷ cs) r counts.number range) ∙ ap (λ (b : List ℕ). word_value (Some (Some r)) b w) (behind_counted ds (c ∷ cs) digits))
     (λ e i cells next.
     ap (λ (o : Option (Option ℕ)). word_given o (behind_star w) w e i cells next) (counted_in_range ds (c ∷ cs) r counts.number range)
     ∙ ap (λ (b : List ℕ). word_given (Some (Some r)) b w e i cells next) (behind_counted ds (c ∷ cs) digits)) where
@@ -267,7 +282,7 @@ repeated_token comma fresh fresh' _ r cs s _ t counts range (grammar.delimited {
     (leads_step comma (InWord w) (Inside (so_far r mark [])) (Some mark) u [] refl (mark_behind comma ds r mark counts.number range is)) (constant_leads comma fresh' r mark cs u t is h ends some) in
     let all = leads_on comma (Between fresh) (InWord w) (Between fresh') (characters w ++ more) more t [] (token.Constant r cs ∷ []) front open_constant in (
       token.Constant r cs,
-      (record { leads = subst (λ (x : Stream). Leads comma (Between fresh) x (token.Constant r cs ∷ []) (Between fresh') t) (sym whole) all; gives = λ e i begins cells next. refl }, tt),
+      (record { leads = subst (λ (x : Stream). Leads comma (Between fresh) x (token.Constant r cs ∷ []) (Between fresh') t) (sym whole) all; is = refl; gives = λ e i begins cells next. refl }, tt),
     )
 
 pub item_token : (comma fresh fresh' : Bool) (g : Given) (s t : Stream) → Item comma g s t → IsAmongValues g.form g.characters → Follows t → TokenOf comma fresh fresh' g s t
@@ -279,6 +294,7 @@ item_token comma fresh fresh' _ s t (grammar.nulls r counts range ends) among so
     let whole : s ≡ characters w ++ t = counts.whole ∙ sym (characters_append ds (42 ∷ []) t) in
     let leads = count_leads comma fresh ds r [] t counts.number tt in
     word_token comma fresh fresh' (given r Null []) w s t (subst (λ (x : Stream). Leads comma (Between fresh) x [] (InWord w) t) (sym whole) leads) ends some
+    (ap (λ (o : Option (Option ℕ)). word_value o (behind_star w) w) (counted_in_range ds [] r counts.number range) ∙ ap (λ (b : List ℕ). word_value (Some (Some r)) b w) (behind_counted ds [] (all_digits ds r counts.number)))
     (λ e i cells next.
     ap (λ (o : Option (Option ℕ)). word_given o (behind_star w) w e i cells next) (counted_in_range ds [] r counts.number range)
     ∙ ap (λ (b : List ℕ). word_given (Some (Some r)) b w e i cells next) (behind_counted ds [] (all_digits ds r counts.number)))

@@ -43,3 +43,8 @@ GroupTextIsRead = (comma : Bool) (group : List ℕ) (lines : List (List ℕ)) (a
     → (members : List GroupMember) (cells : List Cell) (ending : Condition) → AreCounted members
     → let wanted = all_assigned members (end_of finish ending) all cells in
     group_input comma lines ending group members cells ≡ record { cells = wanted.cells; condition = wanted.condition; left = records_behind rest }
+
+-- By the grammar records have the assignments of one text at most, end in one way, and leave the same records.
+abbrev pub GroupTextHasOneMeaning : Type 0
+GroupTextHasOneMeaning = (comma : Bool) (group : List ℕ) (lines : List (List ℕ)) (all all' : List Assignment) (finish finish' : Finish) (rest rest' : Stream)
+    → IsGroupText comma group (stream lines) all finish rest → IsGroupText comma group (stream lines) all' finish' rest' → (all ≡ all') × (finish ≡ finish') × (records_behind rest ≡ records_behind rest')

@@ -1,7 +1,7 @@
 // Laws of namelist text.
 ghost use Rattle.fj_namelist.specs.Breaks.{MembersBreakWhereFull};
 ghost use Rattle.fj_namelist.specs.GroupReadAgain.{GroupsAreReadAgain};
-ghost use Rattle.fj_namelist.specs.Understood.{GroupTextIsRead};
+ghost use Rattle.fj_namelist.specs.Understood.{GroupTextHasOneMeaning, GroupTextIsRead};
 
 /// What is written of a group under DELIM='APOSTROPHE' or 'QUOTE' is read under the same modes as the values that were
 /// written.
@@ -19,4 +19,9 @@ pub fn members_break_where_full()
 /// leave their elements as they were, and no record behind that of the slash is looked at.
 pub fn group_text_is_read()
     ensures { GroupTextIsRead }
+{}
+
+/// By the grammar records have the assignments of one text at most, and end in one way.
+pub fn group_text_has_one_meaning()
+    ensures { GroupTextHasOneMeaning }
 {}

@@ -12,7 +12,9 @@ mod token;
 mod write;
 
 pub use fj_list::GroupMember;
-pub use laws::{group_text_is_read, groups_are_read_again, members_break_where_full};
+pub use laws::{
+    group_text_has_one_meaning, group_text_is_read, groups_are_read_again, members_break_where_full,
+};
 pub use read::read_group;
 pub use write::write_group;
 
