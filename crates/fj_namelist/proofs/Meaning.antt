@@ -37,7 +37,8 @@ use Rattle.fj_namelist.specs.GroupInput.{Result, ended, elements, element_of, pl
 use Rattle.fj_namelist.specs.GroupReadAgain.{in_name, IsName}
 use Rattle.fj_namelist.specs.Heading.{heading, heading_in, text_in, is_passed, behind_name, named}
 use Rattle.fj_namelist.specs.Grammar as text
-use Rattle.fj_namelist.specs.Grammar.{characters, Gap, Named, Values, Assignment, Assignments, BeginsBlank, IsGroupText}
+use Rattle.fj_list.specs.Cuts.{characters}
+use Rattle.fj_namelist.specs.Grammar.{Gap, Named, Values, Assignment, Assignments, BeginsBlank, IsGroupText}
 use Rattle.fj_namelist.specs.Understood.{all_given, assigned_at, all_assigned, AreCounted, GroupTextIsRead, GroupTextHasOneMeaning}
 use Rattle.fj_namelist.proofs.Words.{one_more}
 use Rattle.fj_namelist.proofs.Ahead.{step, ahead, prepended, lines_ahead, Leads, leads_none, leads_on, leads_step}

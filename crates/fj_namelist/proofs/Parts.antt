@@ -27,7 +27,8 @@ use Rattle.fj_namelist.specs.declared.place.Place.TheVariants as place
 use Rattle.fj_namelist.specs.Names.{starred, ranged, repeat_in, behind_star}
 use Rattle.fj_namelist.specs.Tokens.{lexed, marked, stepped}
 use Rattle.fj_namelist.specs.GroupInput.{Result, filled, word_given, value_taken}
-use Rattle.fj_namelist.specs.Grammar.{characters, Lacks, IsAmongValues, Follows}
+use Rattle.fj_list.specs.Cuts.{characters}
+use Rattle.fj_namelist.specs.Grammar.{Lacks, IsAmongValues, Follows}
 use Rattle.fj_namelist.proofs.Words.{one_more}
 use Rattle.fj_namelist.proofs.Ahead.{Leads, leads_on, leads_step}
 use Rattle.fj_namelist.proofs.Pieces.{word_ends, constant_leads, Stays, stays_append, GoesOn, on_step, begun_word, so_far, opened_constant}

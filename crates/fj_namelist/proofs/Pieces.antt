@@ -14,7 +14,8 @@ use Rattle.fj_namelist.specs.declared.token.State.TheVariants.{Between, Comment,
 use Rattle.fj_namelist.specs.Names.{ends_at_equals, repeat_in, behind_star}
 use Rattle.fj_namelist.specs.Tokens.{Lexed, lexed, at_end, marked, stepped, at_record_end, with_tokens, is_done}
 use Rattle.fj_namelist.specs.Grammar as text
-use Rattle.fj_namelist.specs.Grammar.{characters, Gap, Lacks, BeginsWithNo, Follows}
+use Rattle.fj_list.specs.Cuts.{characters}
+use Rattle.fj_namelist.specs.Grammar.{Gap, Lacks, BeginsWithNo, Follows}
 use Rattle.fj_namelist.proofs.Ahead.{step, Leads, leads_none, leads_on, leads_step, leads_behind}
 
 -- blanks, record ends and comments

@@ -1,16 +1,14 @@
 -- The grammar of namelist input (ISO/IEC 1539-1:2004, 10.10.1), as a relation between records and the assignments that
 -- stand in them. Each rule leads from characters with record ends to what is left of them.
-use Rattle.std.specs.Prelude.{◌≡◌, ◌≢◌, ℕ, Bool, true, false, List, [], ◌∷◌, ◌++◌, map, Option, Some, None}
+use Rattle.std.specs.Prelude.{◌≡◌, ◌≢◌, ℕ, Bool, true, false, List, [], ◌∷◌, ◌++◌, Option, Some, None}
 use Rattle.fj_value.specs.Digits.{number_in}
 use Rattle.fj_list.specs.declared.constant.Form.{Form}
 use Rattle.fj_list.specs.declared.constant.Form.TheVariants.{Null, Undelimited}
 use Rattle.fj_list.specs.Stream.{Stream}
+use Rattle.fj_list.specs.Cuts.{characters}
 use Rattle.fj_list.specs.Grammar.{Given, given, separator_of, IsBlank, Item, Finish, at_records_end, at_slash}
 use Rattle.fj_namelist.specs.Names.{same_name}
 use Rattle.fj_namelist.specs.GroupReadAgain.{IsName}
-
-abbrev pub characters : List ℕ → Stream
-characters cs = map (λ (c : ℕ). Some c) cs
 
 -- what is left of a record with a comment, and its end
 pub data Comment : Stream → Stream → Type 0 where
