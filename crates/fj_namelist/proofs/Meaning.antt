@@ -1,10 +1,10 @@
 -- A group's text is read as its assignments.
-use Rattle.std.proofs.Common.{◌≡◌, ℕ, zero, suc, ◌+◌, ◌-◌, ◌^◌, ◌<◌, ◌⊎◌, Bool, true, false, ◌||◌, ◌&&◌, not, cond, eqb, ltb, List, [], ◌∷◌, ◌++◌, length, take, drop, Option, Some, None, slice_get, sym, ap, subst, ◌∙◌, refl, inl, inr, arith, append_assoc, append-nil}
+use Rattle.std.proofs.Common.{◌≡◌, ◌≢◌, ℕ, zero, suc, ◌+◌, ◌-◌, ◌^◌, ◌<◌, ◌⊎◌, Bool, true, false, ◌||◌, ◌&&◌, not, cond, eqb, ltb, List, [], ◌∷◌, ◌++◌, length, take, drop, Option, Some, None, slice_get, sym, ap, subst, ◌∙◌, refl, inl, inr, arith, append_assoc, append-nil}
 use Rattle.std.specs.Prelude.{min, is_some, replicate}
-use Rattle.std.proofs.lemmas.Bool.{cases_lt, false≢true}
+use Rattle.std.proofs.lemmas.Bool.{cases_Bool, cases_lt, false≢true}
 use Rattle.std.proofs.lemmas.Bool.Decides.{nat_tests}
 use Rattle.std.proofs.Math.Seq.{take-append_seam, drop-append_seam}
-use Rattle.std.proofs.lemmas.List.{length-append}
+use Rattle.std.proofs.lemmas.List.{length-append, take-append-drop}
 use Rattle.std.specs.List.{list_all, position_or_len, prefix_len}
 use Rattle.std.specs.Option.{option_map}
 use Rattle.fj_value.specs.Digits.{number_in}
@@ -23,8 +23,8 @@ use Rattle.fj_list.specs.ListInput.{is_mark, with_value, Outcome}
 use Rattle.fj_list.specs.Grammar as grammar
 use Rattle.fj_list.specs.Grammar.{Given, given, separator_of, IsBlank, Item, Finish, at_records_end, at_slash}
 use Rattle.fj_list.specs.Understood.{Constant, constants, end_of}
-use Rattle.fj_list.proofs.GrammarLaws.{blank_true}
-use Rattle.fj_list.proofs.StreamLaws.{records_behind-nil}
+use Rattle.fj_list.proofs.GrammarLaws.{blank_true, blank_or}
+use Rattle.fj_list.proofs.StreamLaws.{records_behind-nil, records_behind-stream}
 use Rattle.fj_namelist.specs.declared.token.Token.{Token}
 use Rattle.fj_namelist.specs.declared.token.Token.TheVariants as token
 use Rattle.fj_namelist.specs.declared.token.State.TheVariants.{Between, InWord, Done}
@@ -35,11 +35,11 @@ use Rattle.fj_namelist.specs.Names.{Designator, designated, designator, subscrip
 use Rattle.fj_namelist.specs.Tokens.{Lexed, lexed, stepped, Group, lines_lexed}
 use Rattle.fj_namelist.specs.GroupInput.{Result, ended, elements, element_of, place_of, constant_read, given_to, filled, Name, name_of, name_at, is_equals, begun_at, begun, either_taken, tokens_taken, group_read}
 use Rattle.fj_namelist.specs.GroupReadAgain.{in_name, IsName}
-use Rattle.fj_namelist.specs.Heading.{heading, heading_in, text_in, is_passed, behind_name, named}
+use Rattle.fj_namelist.specs.Heading.{heading, heading_in, text_in, is_passed, behind_name, named, missing, misnamed}
 use Rattle.fj_namelist.specs.Grammar as text
 use Rattle.fj_list.specs.Cuts.{characters}
 use Rattle.fj_namelist.specs.Grammar.{Gap, Named, Values, Assignment, Assignments, BeginsBlank, IsGroupText}
-use Rattle.fj_namelist.specs.Understood.{all_given, assigned_at, all_assigned, AreCounted, GroupTextIsRead, GroupTextHasOneMeaning}
+use Rattle.fj_namelist.specs.Understood.{all_given, assigned_at, all_assigned, AreCounted, GroupTextIsRead, GroupTextHasOneMeaning, IsOtherText, GroupsNeedHeadings}
 use Rattle.fj_namelist.proofs.Words.{one_more}
 use Rattle.fj_namelist.proofs.Ahead.{step, ahead, prepended, lines_ahead, Leads, leads_none, leads_on, leads_step}
 use Rattle.fj_namelist.proofs.Pieces.{end_step, gap_leads, GoesOn, on_step, begun_word, Stays, stays_append, word_ends}
@@ -650,12 +650,12 @@ assignments_mean comma fresh s _ f w (text.assignment {fresh'} {t} {u} {v} {a} {
       finishes = λ e. opens.finishes (reads.tokens ++ others.tokens e) ∙ reads.finishes (others.tokens e) ∙ others.finishes e;
     }
 
--- the record with the group's name
-record IsHeaded (group : List ℕ) (lines : List (List ℕ)) (u : Stream) : Type 0 where
+-- the record with the first text
+record IsHeaded (group : List ℕ) (lines : List (List ℕ)) (c : ℕ) (u : Stream) : Type 0 where
   rest : List ℕ
   others : List (List ℕ)
   is : u ≡ stream (rest ∷ others)
-  heads : heading group lines ≡ heading_in others (behind_name group (38 ∷ rest))
+  heads : heading group lines ≡ heading_in others (behind_name group (c ∷ rest))
 
 comment_passed : (cs : List ℕ) (lines : List (List ℕ)) (s t : Stream) → s ≡ stream (cs ∷ lines) → text.Comment s t → t ≡ stream lines
 comment_passed [] lines _ t e text.ends = cc
@@ -671,33 +671,59 @@ blank_text c cs e =
 blank_headed : (group : List ℕ) (c : ℕ) (cs : List ℕ) (lines : List (List ℕ)) → is_blank c ≡ true → heading group ((c ∷ cs) ∷ lines) ≡ heading group (cs ∷ lines)
 blank_headed group c cs lines e = ap (λ (x : List ℕ). cond (is_passed x) (heading group lines) (heading_in lines (behind_name group x))) (blank_text c cs e)
 
-headed : (group : List ℕ) (fresh : Bool) (s v u : Stream) (lines : List (List ℕ)) → Gap fresh s v → v ≡ Some 38 ∷ u → s ≡ stream lines → IsHeaded group lines u
-headed group fresh s _ u [] text.nothing e e' = absurd (cc)
-headed group fresh s _ u ([] ∷ lines) text.nothing e e' = absurd (cc)
-headed group fresh s _ u ((c ∷ cs) ∷ lines) text.nothing e e' =
-    let first : c ≡ 38 = cc in
-    let rest : u ≡ stream (cs ∷ lines) = cc in
-    record { rest = cs; others = lines; is = rest; heads = ap (λ (d : ℕ). heading group ((d ∷ cs) ∷ lines)) first }
-headed group fresh _ v u [] (text.blank {s} x is more) e e' = absurd (cc)
-headed group fresh _ v u ([] ∷ lines) (text.blank {s} x is more) e e' =
-    let on : s ≡ stream lines = cc in
-    let h = headed group true s v u lines more e on in
-    record { rest = h.rest; others = h.others; is = h.is; heads = h.heads }
-headed group fresh _ v u ((c ∷ cs) ∷ lines) (text.blank {s} None is more) e e' = absurd (cc)
-headed group fresh _ v u ((c ∷ cs) ∷ lines) (text.blank {s} (Some d) is more) e e' =
+text_headed : (group : List ℕ) (c : ℕ) (cs : List ℕ) (lines : List (List ℕ)) → is_blank c ≡ false → eqb c 33 ≡ false → heading group ((c ∷ cs) ∷ lines) ≡ heading_in lines (behind_name group (c ∷ cs))
+text_headed group c cs lines e e' =
+    let n = prefix_len (λ x. not (is_no_blank x)) cs in
+    let first : text_in (c ∷ cs) ≡ c ∷ cs = ap (λ b. drop (cond (not (not b)) (1 + n) 0) (c ∷ cs)) e in
+    ap (λ (x : List ℕ). cond (is_passed x) (heading group lines) (heading_in lines (behind_name group x))) first
+    ∙ ap (λ b. cond b (heading group lines) (heading_in lines (behind_name group (c ∷ cs)))) e'
+
+-- how a record is passed over
+record Passes (s : Stream) (group : List ℕ) (lines : List (List ℕ)) : Type 0 where
+  left : List (List ℕ)
+  is : s ≡ stream left
+  same : heading group lines ≡ heading group left
+
+blank_passes : (group : List ℕ) (x : Option ℕ) (s : Stream) (lines : List (List ℕ)) → IsBlank x → x ∷ s ≡ stream lines → Passes s group lines
+blank_passes group x s [] is e = absurd (cc)
+blank_passes group x s ([] ∷ lines) is e = let on : s ≡ stream lines = cc in record { left = lines; is = on; same = refl }
+blank_passes group None s ((c ∷ cs) ∷ lines) is e = absurd (cc)
+blank_passes group (Some d) s ((c ∷ cs) ∷ lines) is e =
     let same : d ≡ c = cc in
     let on : s ≡ stream (cs ∷ lines) = cc in
-    let h = headed group true s v u (cs ∷ lines) more e on in
-    let blank : is_blank c ≡ true = ap is_blank (sym same) ∙ blank_true d is in
-    record { rest = h.rest; others = h.others; is = h.is; heads = blank_headed group c cs lines blank ∙ h.heads }
-headed group _ _ v u [] (text.comment {s} {t} c is comment more) e e' = absurd (cc)
-headed group _ _ v u ([] ∷ lines) (text.comment {s} {t} c is comment more) e e' = absurd (cc)
-headed group _ _ v u ((d ∷ cs) ∷ lines) (text.comment {s} {t} c is comment more) e e' =
+    record { left = cs ∷ lines; is = on; same = blank_headed group c cs lines (ap is_blank (sym same) ∙ blank_true d is) }
+
+comment_passes : (group : List ℕ) (c : ℕ) (s t : Stream) (lines : List (List ℕ)) → c ≡ 33 → text.Comment s t → Some c ∷ s ≡ stream lines → Passes t group lines
+comment_passes group c s t [] is comment e = absurd (cc)
+comment_passes group c s t ([] ∷ lines) is comment e = absurd (cc)
+comment_passes group c s t ((d ∷ cs) ∷ lines) is comment e =
     let same : d ≡ 33 = cc in
     let line : s ≡ stream (cs ∷ lines) = cc in
-    let on = comment_passed cs lines s t line comment in
-    let h = headed group true t v u lines more e on in
-    record { rest = h.rest; others = h.others; is = h.is; heads = ap (λ (x : ℕ). heading group ((x ∷ cs) ∷ lines)) same ∙ h.heads }
+    record { left = lines; is = comment_passed cs lines s t line comment; same = ap (λ (x : ℕ). heading group ((x ∷ cs) ∷ lines)) same }
+
+headed : (group : List ℕ) (fresh : Bool) (s v : Stream) (c : ℕ) (u : Stream) (lines : List (List ℕ)) → Gap fresh s v → v ≡ Some c ∷ u → is_blank c ≡ false → eqb c 33 ≡ false → s ≡ stream lines → IsHeaded group lines c u
+headed group fresh s _ c u [] text.nothing e first first' e' = absurd (cc)
+headed group fresh s _ c u ([] ∷ lines) text.nothing e first first' e' = absurd (cc)
+headed group fresh s _ c u ((d ∷ cs) ∷ lines) text.nothing e first first' e' =
+    let same : d ≡ c = cc in
+    let rest : u ≡ stream (cs ∷ lines) = cc in
+    record { rest = cs; others = lines; is = rest; heads = ap (λ (x : ℕ). heading group ((x ∷ cs) ∷ lines)) same ∙ text_headed group c cs lines first first' }
+headed group fresh _ v c u lines (text.blank {s} x is more) e first first' e' =
+    let p = blank_passes group x s lines is e' in
+    let h = headed group true s v c u p.left more e first first' p.is in
+    record { rest = h.rest; others = h.others; is = h.is; heads = p.same ∙ h.heads }
+headed group _ _ v c u lines (text.comment {s} {t} d is comment more) e first first' e' =
+    let p = comment_passes group d s t lines is comment e' in
+    let h = headed group true t v c u p.left more e first first' p.is in
+    record { rest = h.rest; others = h.others; is = h.is; heads = p.same ∙ h.heads }
+
+-- no text at all
+unheaded : (group : List ℕ) (fresh : Bool) (s v : Stream) (lines : List (List ℕ)) → Gap fresh s v → v ≡ [] → s ≡ stream lines → heading group lines ≡ missing
+unheaded group fresh s _ [] text.nothing e e' = refl
+unheaded group fresh s _ ([] ∷ lines) text.nothing e e' = absurd (cc)
+unheaded group fresh s _ ((c ∷ cs) ∷ lines) text.nothing e e' = absurd (cc)
+unheaded group fresh _ v lines (text.blank {s} x is more) e e' = let p = blank_passes group x s lines is e' in p.same ∙ unheaded group true s v p.left more e p.is
+unheaded group _ _ v lines (text.comment {s} {t} d is comment more) e e' = let p = comment_passes group d s t lines is comment e' in p.same ∙ unheaded group true t v p.left more e p.is
 
 -- what stands behind the group's name
 record IsBehind (name rest : List ℕ) (others : List (List ℕ)) (t : Stream) : Type 0 where
@@ -751,7 +777,7 @@ from_blank comma t all f u blank m = record { tokens = m.tokens; is_ahead = λ e
 
 text_of : (comma : Bool) (group : List ℕ) (lines : List (List ℕ)) (all : List Assignment) (f : Finish) (u : Stream) → IsGroupText comma group (stream lines) all f u → IsText comma group lines all f u
 text_of comma group lines _ _ _ (text.group_text {t} {u} {all} {f} name same is gap blank h) =
-    let start = headed group true (stream lines) (Some 38 ∷ (characters name ++ t)) (characters name ++ t) lines gap refl refl in
+    let start = headed group true (stream lines) (Some 38 ∷ (characters name ++ t)) 38 (characters name ++ t) lines gap refl refl refl refl in
     let behind = behind_of name start.rest start.others t start.is in
     record {
       more = behind.more;
@@ -784,3 +810,50 @@ one_meaning comma group lines all all' f f' u u' h h' =
       sym (it.means.finishes Fine) ∙ ap finish_of tokens ∙ it'.means.finishes Fine,
       ap (λ (g : Group). g.left) groups,
     )
+
+-- another text in the place of the heading
+blank_or_end : (cs : List ℕ) (others : List (List ℕ)) → BeginsBlank (stream (drop (position_or_len is_blank cs) cs ∷ others))
+blank_or_end [] others = tt
+blank_or_end (c ∷ cs) others = go (is_blank c) refl (blank_or_end cs others) where
+  n : ℕ
+  n = prefix_len (λ x. not (is_blank x)) cs
+
+  go : (b : Bool) → is_blank c ≡ b → BeginsBlank (stream (drop (prefix_len (λ x. not (is_blank x)) cs) cs ∷ others)) → BeginsBlank (stream (drop (cond (not b) (1 + prefix_len (λ x. not (is_blank x)) cs) 0) (c ∷ cs) ∷ others))
+  go true e h = blank_or c e
+  go false e h = subst (λ k. BeginsBlank (stream (drop k (c ∷ cs) ∷ others))) (sym (one_more (prefix_len (λ x. not (is_blank x)) cs))) h
+
+no_name : (group : List ℕ) (c : ℕ) (rest : List ℕ) (others : List (List ℕ)) (s : Stream) → s ≡ stream (rest ∷ others) → IsOtherText group c s → behind_name group (c ∷ rest) ≡ None
+no_name group c rest others s is h = go (eqb c 38) (same_name (take n rest) group) refl refl where
+  n : ℕ
+  n = position_or_len is_blank rest
+
+  whole : s ≡ characters (take (position_or_len is_blank rest) rest) ++ stream (drop (position_or_len is_blank rest) rest ∷ others)
+  whole =
+      let k = position_or_len is_blank rest in
+      is ∙ ap (λ (x : List ℕ). characters x ++ (None ∷ stream others)) (sym (take-append-drop k rest)) ∙ characters_append (take k rest) (drop k rest) (None ∷ stream others)
+
+  ampersand : (c : ℕ) → eqb c 38 ≡ true → c ≡ 38
+  ampersand c e = grind (arith, nat_tests)
+
+  go : (a b : Bool) → eqb c 38 ≡ a → same_name (take (position_or_len is_blank rest) rest) group ≡ b → cond (a && b) (Some (drop (position_or_len is_blank rest) rest)) None ≡ None
+  go true true e e' = absurd (h.other (ampersand c e) (take (position_or_len is_blank rest) rest) (stream (drop (position_or_len is_blank rest) rest ∷ others)) whole e' (blank_or_end rest others))
+  go true false e e' = refl
+  go false b e e' = refl
+
+no_blank_first : (c : ℕ) → (IsBlank (Some c) → ⊥) → is_blank c ≡ false
+no_blank_first c h = elim (cases_Bool (is_blank c)) [
+  | inl e ↦ absurd (h (blank_or c e))
+  | inr e ↦ e
+]
+
+no_comment_first : (c : ℕ) → c ≢ 33 → eqb c 33 ≡ false
+no_comment_first c h = grind (arith, nat_tests)
+
+pub need_headings : GroupsNeedHeadings
+need_headings comma group lines members cells ending = record {
+  no_text = λ gap. ap (group_read comma ending members cells) (unheaded group true (stream lines) [] lines gap refl refl);
+  other_text = λ c s gap h.
+      let it = headed group true (stream lines) (Some c ∷ s) c s lines gap refl (no_blank_first c h.blank) (no_comment_first c h.comment) refl in
+      ap (group_read comma ending members cells) (it.heads ∙ ap (heading_in it.others) (no_name group c it.rest it.others s it.is h))
+      ∙ ap (λ (ls : List (List ℕ)). record { cells = cells; condition = Error 22; left = ls }) (sym (ap records_behind it.is ∙ records_behind-stream it.rest it.others));
+}

@@ -1,18 +1,19 @@
 -- What the assignments of a group do to its members.
-use Rattle.std.specs.Prelude.{◌≡◌, ℕ, ◌+◌, ◌^◌, ◌<◌, Bool, nat_lt, if◌then◌else◌, List, [], ◌∷◌, Option, Some, None}
+use Rattle.std.specs.Prelude.{◌≡◌, ◌≢◌, ℕ, ◌+◌, ◌^◌, ◌<◌, Bool, true, nat_lt, if◌then◌else◌, List, [], ◌∷◌, ◌++◌, Option, Some, None}
 use Rattle.fj_value.specs.declared.value.Cell.{Cell}
 use Rattle.fj_value.specs.declared.condition.Condition.{Condition}
 use Rattle.fj_value.specs.declared.condition.Condition.TheVariants.{Error}
 use Rattle.fj_list.specs.declared.moved.GroupMember.{GroupMember}
 use Rattle.fj_list.specs.Stream.{Stream, stream, records_behind}
-use Rattle.fj_list.specs.Grammar.{Finish}
+use Rattle.fj_list.specs.Cuts.{characters}
+use Rattle.fj_list.specs.Grammar.{IsBlank, Finish}
 use Rattle.fj_list.specs.Understood.{Constant, constants, end_of}
 use Rattle.fj_namelist.specs.declared.place.Elements.{Elements}
 use Rattle.fj_namelist.specs.declared.place.Place.{Place}
 use Rattle.fj_namelist.specs.declared.place.Place.TheVariants as place
-use Rattle.fj_namelist.specs.Names.{member_of}
+use Rattle.fj_namelist.specs.Names.{same_name, member_of}
 use Rattle.fj_namelist.specs.GroupInput.{Result, ended, constant_read, given_to, place_of, group_input}
-use Rattle.fj_namelist.specs.Grammar.{Assignment, IsGroupText}
+use Rattle.fj_namelist.specs.Grammar.{Gap, BeginsBlank, Assignment, IsGroupText}
 
 -- Elements get constants one after another, from one on; a null value leaves its element. The condition of a constant that
 -- is not of the member's kind ends it, and so does 23 where there is no element.
@@ -43,6 +44,21 @@ GroupTextIsRead = (comma : Bool) (group : List ℕ) (lines : List (List ℕ)) (a
     → (members : List GroupMember) (cells : List Cell) (ending : Condition) → AreCounted members
     → let wanted = all_assigned members (end_of finish ending) all cells in
     group_input comma lines ending group members cells ≡ record { cells = wanted.cells; condition = wanted.condition; left = records_behind rest }
+
+-- a text that is neither blank nor a comment, nor an ampersand and the group's name with a blank or the record's end behind
+pub record IsOtherText (group : List ℕ) (c : ℕ) (s : Stream) : Type 0 where
+  pub blank : IsBlank (Some c) → ⊥
+  pub comment : c ≢ 33
+  pub other : c ≡ 38 → (name : List ℕ) (t : Stream) → s ≡ characters name ++ t → same_name name group ≡ true → BeginsBlank t → ⊥
+
+-- Where blanks and comments alone are there the statement meets the end of the records, and where the first text is another
+-- one its condition is 22. The values stay as they were.
+pub record NeedsHeading (comma : Bool) (group : List ℕ) (lines : List (List ℕ)) (members : List GroupMember) (cells : List Cell) (ending : Condition) : Type 0 where
+  pub no_text : Gap true (stream lines) [] → group_input comma lines ending group members cells ≡ record { cells = cells; condition = ending; left = [] }
+  pub other_text : (c : ℕ) (s : Stream) → Gap true (stream lines) (Some c ∷ s) → IsOtherText group c s → group_input comma lines ending group members cells ≡ record { cells = cells; condition = Error 22; left = records_behind s }
+
+abbrev pub GroupsNeedHeadings : Type 0
+GroupsNeedHeadings = (comma : Bool) (group : List ℕ) (lines : List (List ℕ)) (members : List GroupMember) (cells : List Cell) (ending : Condition) → NeedsHeading comma group lines members cells ending
 
 -- By the grammar records have the assignments of one text at most, end in one way, and leave the same records.
 abbrev pub GroupTextHasOneMeaning : Type 0

@@ -1,7 +1,7 @@
 // Laws of namelist text.
 ghost use Rattle.fj_namelist.specs.Breaks.{MembersBreakWhereFull};
 ghost use Rattle.fj_namelist.specs.GroupReadAgain.{GroupsAreReadAgain};
-ghost use Rattle.fj_namelist.specs.Understood.{GroupTextHasOneMeaning, GroupTextIsRead};
+ghost use Rattle.fj_namelist.specs.Understood.{GroupTextHasOneMeaning, GroupTextIsRead, GroupsNeedHeadings};
 
 /// What is written of a group under DELIM='APOSTROPHE' or 'QUOTE' is read under the same modes as the values that were
 /// written.
@@ -24,4 +24,10 @@ pub fn group_text_is_read()
 /// By the grammar records have the assignments of one text at most, and end in one way.
 pub fn group_text_has_one_meaning()
     ensures { GroupTextHasOneMeaning }
+{}
+
+/// The first text behind blank records and comments is the group's heading, else the condition is 22; where there is no
+/// text the statement meets the end of the records.
+pub fn groups_need_headings()
+    ensures { GroupsNeedHeadings }
 {}
