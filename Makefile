@@ -33,4 +33,5 @@ checks: build
 	checks/memory
 	checks/formats
 	checks/reads
+	checks/groups
 	checks/decks

@@ -1,3 +1,4 @@
 pub mod Blanks
 pub mod Numbers
 pub mod ComingBack
+pub mod Shown

@@ -16,3 +16,4 @@ pub mod Meaning
 pub mod Constants
 mod ListLaws
 pub mod ItemLemmas
+pub mod Cutting

@@ -14,3 +14,4 @@ pub mod LookedAt
 pub mod Grammar
 pub mod Understood
 pub mod ConstantLaws
+pub mod Cuts

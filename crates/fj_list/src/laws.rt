@@ -1,6 +1,7 @@
 // Laws of list-directed text.
 ghost use Rattle.fj_list.specs.Breaks.{RecordsBreakWhereFull, RecordsAreUnique};
 ghost use Rattle.fj_list.specs.ConstantLaws.{IntegersAreRead, ConstantsAreOfKind, CellsKeepKinds};
+ghost use Rattle.fj_list.specs.Cuts.{ConstantsMayBeCut};
 ghost use Rattle.fj_list.specs.Listing.{RecordsAreListed};
 ghost use Rattle.fj_list.specs.LookedAt.{RecordsAreLookedAtAsNeeded};
 ghost use Rattle.fj_list.specs.ReadAgain.{ValuesAreReadAgain};
@@ -63,4 +64,9 @@ pub fn constants_are_of_kind()
 /// Cells that have values of their kinds have such values behind a READ.
 pub fn cells_keep_kinds()
     ensures { CellsKeepKinds }
+{}
+
+/// A delimited constant may be cut over records anywhere but inside a doubled mark.
+pub fn constants_may_be_cut()
+    ensures { ConstantsMayBeCut }
 {}

@@ -1,6 +1,5 @@
 -- What is written of a group is read again.
-use Rattle.std.proofs.Common.{◌≡◌, ℕ, zero, suc, ◌+◌, ◌-◌, ◌<◌, ◌≤◌, ◌⊎◌, Bool, true, false, ◌&&◌, not, cond, eqb, ltb, List, [], ◌∷◌, ◌++◌, length, map, take, drop, Option, Some, None, slice_get, sym, ap, subst, ◌∙◌, refl, inl, inr, arith, append_assoc, append-nil, length-take}
-use Rattle.std.proofs.lemmas.Bool.Decides.{nat_tests}
+use Rattle.std.proofs.Common.{◌≡◌, ℕ, suc, ◌+◌, ◌<◌, ◌≤◌, Bool, true, false, ◌&&◌, not, cond, eqb, ltb, List, [], ◌∷◌, ◌++◌, length, take, drop, Option, Some, None, slice_get, sym, ap, ◌∙◌, refl, inl, inr, arith, append_assoc, append-nil, length-take}
 use Rattle.std.specs.Prelude.{ℤ, unsigned_abs, ◌^◌, is_some, ◌||◌}
 use Rattle.std.specs.Char.{to_ascii_uppercase, to_ascii_lowercase}
 use Rattle.std.specs.Str.{str_to_ascii_uppercase, str_to_ascii_lowercase, bytes_eq}
@@ -15,7 +14,7 @@ use Rattle.fj_value.specs.declared.value.Value.{Value}
 use Rattle.fj_value.specs.declared.value.Value.TheVariants as v
 use Rattle.fj_value.specs.declared.condition.Condition.{Condition}
 use Rattle.fj_value.specs.declared.condition.Condition.TheVariants.{Fine}
-use Rattle.fj_list.specs.ListText.{mark_of, doubled, characters_shown, integer_shown, shown}
+use Rattle.fj_list.specs.ListText.{mark_of, characters_shown, integer_shown, shown}
 use Rattle.std.specs.List.{find, position_or_len, prefix_len}
 use Rattle.std.proofs.lemmas.List.{take_all, drop_all, length-map}
 use Rattle.std.proofs.lemmas.Str.Ascii.{lowercase-uppercase}
@@ -29,19 +28,18 @@ use Rattle.fj_list.proofs.Plain.{magnitude, integer_plain, integer_again, assign
 use Rattle.fj_namelist.specs.declared.place.Elements.{Elements}
 use Rattle.fj_namelist.specs.declared.place.Place.{Place}
 use Rattle.fj_namelist.specs.declared.place.Place.TheVariants as place
-use Rattle.fj_namelist.specs.GroupInput.{Result, ended, elements, constant_read, given_to, filled, word_given, value_taken, taken, Name, name_of, name_at, begun_at, begun, place_of, either_taken, tokens_taken, group_read, group_input}
+use Rattle.fj_namelist.specs.GroupInput.{Result, ended, elements, constant_read, given_to, filled, word_given, value_taken, taken, Name, name_of, name_at, begun_at, begun, place_of, either_taken, tokens_taken, group_read}
 use Rattle.fj_namelist.specs.Heading.{Heading, heading, heading_in, named}
 use Rattle.fj_namelist.proofs.Filling.{fill_on}
 use Rattle.fj_namelist.specs.declared.token.Token.{Token}
 use Rattle.fj_namelist.specs.declared.token.Token.TheVariants as token
-use Rattle.fj_namelist.specs.declared.token.State.{State}
-use Rattle.fj_namelist.specs.declared.token.State.TheVariants.{Between, InWord, Inside, Behind, Done}
+use Rattle.fj_namelist.specs.declared.token.State.TheVariants.{Between, InWord, Behind}
 use Rattle.fj_namelist.specs.Tokens.{Lexed, lexed, stepped, at_record_end, with_tokens, line_lexed, Group, lines_lexed, more_lexed, behind_line, is_done, marked}
 use Rattle.fj_list.specs.declared.moved.GroupMember.{GroupMember}
 use Rattle.fj_list.specs.ListInput.{is_separator, is_mark, with_value, Outcome}
 use Rattle.fj_namelist.specs.Names.{Designator, designator, subscript_in, with_subscript, member_of, same_name, repeat_in, behind_star}
 use Rattle.fj_namelist.specs.GroupText.{parting, continued, name_shown, member_written, members_written, values_of}
-use Rattle.fj_namelist.specs.GroupReadAgain.{IsName, AreOfKind, IsWritten, AreWritten, IsAmong, ShareCells, with_values_from, with_members, GroupsAreReadAgain}
+use Rattle.fj_namelist.specs.GroupReadAgain.{IsName, AreOfKind, AreWritten, IsAmong, ShareCells, with_values_from, with_members, GroupsAreReadAgain}
 use Rattle.fj_namelist.proofs.Words.{Runs, runs_none, runs_cons, runs_append, runs_whole, AllIn, whole_word, integer_is_in, letter_is_in, mark_number, IsMarked, is_marked, whole_constant, token_of, state_of, word_designates, name_in, no_subscript, no_repeat, same_mark, one_more}
 
 -- a value's characters

@@ -1,12 +1,9 @@
 -- Tokens that are added one after another.
-use Rattle.std.proofs.Common.{◌≡◌, ℕ, ◌+◌, ◌<◌, Bool, true, false, cond, eqb, List, [], ◌∷◌, ◌++◌, length, get_or, drop, Result, Ok, Err, sym, ap, ◌∙◌, refl, append_assoc, append-nil}
+use Rattle.std.proofs.Common.{◌≡◌, ℕ, ◌+◌, ◌<◌, Bool, List, [], ◌++◌, length, get_or, drop, Result, Ok, Err, sym, ap, ◌∙◌, append_assoc}
 use Rattle.std.specs.Prelude.{IfOk}
-use Rattle.fj_list.specs.ListInput.{is_separator}
 use Rattle.fj_namelist.specs.declared.token.Token.{Token}
-use Rattle.fj_namelist.specs.declared.token.Token.TheVariants as token
 use Rattle.fj_namelist.specs.declared.token.State.{State}
-use Rattle.fj_namelist.specs.declared.token.State.TheVariants.{Between, Done}
-use Rattle.fj_namelist.specs.Tokens.{Lexed, lexed, Adds, at_record_end, stepped, with_tokens, line_lexed}
+use Rattle.fj_namelist.specs.Tokens.{Lexed, Adds, at_record_end, stepped, with_tokens, line_lexed}
 use Rattle.std.proofs.lemmas.List.{drop_more}
 
 -- a character of a record, and then the others

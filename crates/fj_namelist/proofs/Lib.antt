@@ -6,3 +6,8 @@ pub mod Continued
 pub mod Words
 pub mod Again
 pub mod GroupCases
+pub mod BreakLaws
+pub mod Ahead
+pub mod Pieces
+pub mod Parts
+pub mod Meaning

@@ -1,10 +1,10 @@
 -- Records of a group, read one after another.
-use Rattle.std.proofs.Common.{◌≡◌, ℕ, Bool, true, false, List, [], ◌∷◌, ◌++◌, sym, ap, ◌∙◌, refl, append_assoc, append-nil}
+use Rattle.std.proofs.Common.{◌≡◌, ℕ, Bool, true, false, List, [], ◌∷◌, ◌++◌, sym, ap, ◌∙◌, append_assoc, append-nil}
 use Rattle.fj_value.specs.declared.condition.Condition.{Condition}
 use Rattle.fj_namelist.specs.declared.token.Token.{Token}
 use Rattle.fj_namelist.specs.declared.token.State.{State}
 use Rattle.fj_namelist.specs.declared.token.State.TheVariants.{Between}
-use Rattle.fj_namelist.specs.Tokens.{Lexed, Adds, Group, line_lexed, lines_lexed, more_lexed, behind_line, is_done, at_records_end}
+use Rattle.fj_namelist.specs.Tokens.{Adds, Group, line_lexed, lines_lexed, more_lexed, is_done, at_records_end}
 
 -- what is left of the group behind a record, in a state
 abbrev pub left_of : Bool → Condition → State → List (List ℕ) → Group

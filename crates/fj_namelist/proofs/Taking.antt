@@ -1,7 +1,6 @@
 -- Tokens taken one after another.
-use Rattle.std.proofs.Common.{◌≡◌, ℕ, zero, suc, ◌+◌, ◌-◌, ◌<◌, ◌≤◌, Bool, true, false, ◌||◌, cond, eqb, ltb, List, [], ◌∷◌, length, drop, get_or, Option, Some, None, slice_get, sym, ap, ◌∙◌, refl, arith}
+use Rattle.std.proofs.Common.{◌≡◌, ℕ, zero, suc, ◌+◌, ◌-◌, ◌<◌, Bool, true, false, ◌||◌, cond, eqb, ltb, List, [], ◌∷◌, length, drop, get_or, Option, Some, None, slice_get, sym, ap, ◌∙◌, arith}
 use Rattle.std.specs.Prelude.{All}
-use Rattle.std.specs.List.{find}
 use Rattle.std.proofs.lemmas.List.{drop_more}
 use Rattle.fj_value.specs.declared.value.Cell.{Cell}
 use Rattle.fj_list.specs.declared.moved.GroupMember.{GroupMember}
@@ -11,8 +10,8 @@ use Rattle.fj_namelist.specs.declared.place.Place.{Place}
 use Rattle.fj_namelist.specs.declared.place.Place.TheVariants as place
 use Rattle.fj_namelist.specs.Names.{same_name, member_of}
 use Rattle.fj_namelist.specs.GroupText.{IsWithin}
-use Rattle.fj_namelist.specs.GroupInput.{Result, Name, element_of, place_of, name_at, begun_at, either_taken, tokens_taken}
-use Rattle.fj_namelist.specs.Walker.{IsPlace, MayPlace, MayBegin}
+use Rattle.fj_namelist.specs.GroupInput.{Name, element_of, place_of, name_at, begun_at, either_taken, tokens_taken}
+use Rattle.fj_namelist.specs.Walker.{MayPlace, MayBegin}
 
 -- a member that is found is one of them
 abbrev MayBeWithin : ℕ → Option GroupMember → Type 0

@@ -1,6 +1,6 @@
 -- Words, constants and marks as they are written, taken apart.
 use Rattle.std.proofs.Common.{◌≡◌, ℕ, zero, suc, ℤ, pos, negsuc, ◌+◌, ◌-◌, ◌^◌, ◌%◌, ◌<◌, ◌≤◌, Bool, true, false, ◌||◌, ◌&&◌, not, cond, eqb, ltb, List, [], ◌∷◌, ◌++◌, length, map, take, drop, Option, Some, None, is_some, sym, ap, subst, ◌∙◌, refl, inl, inr, arith, append_assoc, append-nil}
-use Rattle.std.proofs.lemmas.Bool.{cases_Bool, false≢true}
+use Rattle.std.proofs.lemmas.Bool.{false≢true}
 use Rattle.std.proofs.lemmas.Bool.Decides.{nat_tests}
 use Rattle.std.proofs.lemmas.List.{take_all, drop_all}
 use Rattle.std.proofs.lemmas.Fmt.{decimal_by_steps}
@@ -14,17 +14,15 @@ use Rattle.fj_value.specs.declared.edit.Delim.TheVariants.{Plain, Apostrophe, Qu
 use Rattle.fj_value.specs.declared.edit.EditModes.{EditModes}
 use Rattle.fj_value.specs.declared.value.Value.{Value}
 use Rattle.fj_value.specs.declared.value.Value.TheVariants as v
-use Rattle.fj_list.specs.ListText.{mark_of, doubled, characters_shown, integer_shown, shown}
-use Rattle.fj_list.specs.ListInput.{is_separator, ends_constant, is_mark, is_no_digit}
-use Rattle.fj_list.proofs.Plain.{AllPlain, integer_plain, letter_plain}
+use Rattle.fj_list.specs.ListText.{mark_of, doubled, integer_shown}
+use Rattle.fj_list.specs.ListInput.{ends_constant, is_mark, is_no_digit}
 use Rattle.fj_namelist.specs.declared.token.Token.{Token}
 use Rattle.fj_namelist.specs.declared.token.Token.TheVariants as token
 use Rattle.fj_namelist.specs.declared.token.Delimited.{Delimited}
 use Rattle.fj_namelist.specs.declared.token.State.{State}
 use Rattle.fj_namelist.specs.declared.token.State.TheVariants.{Between, InWord, Inside, Behind, Done}
 use Rattle.fj_namelist.specs.Names.{is_opening, designated, designator, subscript_in, starred, repeat_in}
-use Rattle.fj_namelist.specs.Tokens.{Lexed, lexed, at_end, begun, continued, marked, with_character, stepped, at_record_end, with_tokens, line_lexed}
-use Rattle.fj_namelist.specs.GroupText.{parting}
+use Rattle.fj_namelist.specs.Tokens.{Lexed, lexed, at_end, marked, stepped, at_record_end, with_tokens, line_lexed}
 use Rattle.fj_namelist.specs.GroupReadAgain.{in_name}
 
 -- characters lead from a state to another one, with these tokens

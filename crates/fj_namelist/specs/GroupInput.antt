@@ -20,7 +20,7 @@ use Rattle.fj_namelist.specs.declared.place.Begun.{Begun}
 use Rattle.fj_namelist.specs.declared.place.Place.{Place}
 use Rattle.fj_namelist.specs.declared.place.Place.TheVariants as place
 use Rattle.fj_namelist.specs.Names.{Designator, member_of, designator, subscript_in, with_subscript, repeat_in, behind_star}
-use Rattle.fj_namelist.specs.Tokens.{Group, lines_lexed}
+use Rattle.fj_namelist.specs.Tokens.{lines_lexed}
 use Rattle.fj_namelist.specs.Heading.{Heading, named, misnamed, missing, heading}
 
 -- the cells, and the condition

@@ -1,25 +1,25 @@
 -- Namelist output (ISO/IEC 1539-1:2004, 10.10.2): the records of a group.
-use Rattle.std.specs.Prelude.{◌≡◌, ℕ, ◌+◌, ◌≤◌, Bool, true, false, nat_lt, if◌then◌else◌, List, [], ◌∷◌, ◌++◌, length, map, take, drop}
+use Rattle.std.specs.Prelude.{ℕ, ◌+◌, ◌≤◌, Bool, true, false, if◌then◌else◌, List, [], ◌∷◌, ◌++◌, length, map, take, drop}
 use Rattle.std.specs.List.{flat_map}
 use Rattle.std.specs.Str.{str_to_ascii_uppercase}
 use Rattle.fj_value.specs.declared.edit.EditModes.{EditModes}
 use Rattle.fj_value.specs.declared.value.Cell.{Cell}
 use Rattle.fj_value.specs.declared.value.Value.{Value}
 use Rattle.fj_list.specs.declared.moved.GroupMember.{GroupMember}
-use Rattle.fj_list.specs.ListText.{shown}
+use Rattle.fj_list.specs.ListText.{shown, passes_columns}
 
 -- what parts the values of a member
 abbrev pub parting : Bool → ℕ
 parting true = 59
 parting false = 44
 
--- The records of a record so far and of more values. Where a value would pass column 80 the separator stays, and a new
+-- The records of a record so far and of more values. Where a value would pass the last column the separator stays, and a new
 -- record of one blank goes on with the value (own).
 abbrev pub continued : EditModes → List ℕ → List Value → List (List ℕ)
 continued modes line [] = line ∷ []
 continued modes line (v ∷ vs) =
     let longer = line ++ (parting modes.comma ∷ shown modes v) in
-    if nat_lt 80 (length longer) then (line ++ parting modes.comma ∷ []) ∷ continued modes (32 ∷ shown modes v) vs else continued modes longer vs
+    if passes_columns (length longer) then (line ++ parting modes.comma ∷ []) ∷ continued modes (32 ∷ shown modes v) vs else continued modes longer vs
 
 -- a blank, a name in upper case and `=`
 abbrev pub name_shown : List ℕ → List ℕ
@@ -52,5 +52,5 @@ IsWithin cells m = m.first + m.count ≤ cells
 abbrev pub text_behind : EditModes → ℕ → List Value → List ℕ
 text_behind modes column [] = 10 ∷ []
 text_behind modes column (v ∷ vs) =
-    if nat_lt 80 (column + length (parting modes.comma ∷ shown modes v)) then (parting modes.comma ∷ 10 ∷ 32 ∷ shown modes v) ++ text_behind modes (length (32 ∷ shown modes v)) vs
+    if passes_columns (column + length (parting modes.comma ∷ shown modes v)) then (parting modes.comma ∷ 10 ∷ 32 ∷ shown modes v) ++ text_behind modes (length (32 ∷ shown modes v)) vs
     else (parting modes.comma ∷ shown modes v) ++ text_behind modes (column + length (parting modes.comma ∷ shown modes v)) vs

@@ -1,5 +1,5 @@
 -- The group's name in namelist input (ISO/IEC 1539-1:2004, 10.10.1).
-use Rattle.std.specs.Prelude.{◌≡◌, ◌≤◌, ℕ, Bool, true, false, ◌&&◌, ◌==◌, if◌then◌else◌, List, [], ◌∷◌, length, take, drop, Option, Some, None}
+use Rattle.std.specs.Prelude.{◌≡◌, ◌≤◌, ℕ, Bool, true, ◌&&◌, ◌==◌, if◌then◌else◌, List, [], ◌∷◌, length, take, drop, Option, Some, None}
 use Rattle.std.specs.List.{position_or_len}
 use Rattle.fj_list.specs.Stream.{is_blank, is_no_blank}
 use Rattle.fj_value.specs.declared.condition.Condition.{Condition}

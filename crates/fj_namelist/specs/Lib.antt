@@ -5,3 +5,6 @@ pub mod GroupInput
 pub mod GroupText
 pub mod Walker
 pub mod GroupReadAgain
+pub mod Breaks
+pub mod Grammar
+pub mod Understood

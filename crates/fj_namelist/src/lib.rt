@@ -12,7 +12,10 @@ mod token;
 mod write;
 
 pub use fj_list::GroupMember;
-pub use laws::groups_are_read_again;
+pub use laws::{
+    group_text_has_one_meaning, group_text_is_read, groups_are_read_again, groups_need_headings,
+    members_break_where_full,
+};
 pub use read::read_group;
 pub use write::write_group;
 

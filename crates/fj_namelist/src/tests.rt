@@ -22,7 +22,7 @@ static MEMBERS: [(&str, u8, u32, u32, bool); 5] = [
 ];
 
 /// Before, integers have 1, truth values F and characters `#`.
-static INPUTS: [Input; 74] = [
+static INPUTS: [Input; 87] = [
     ("&G A=5 /", false, "5|1|1|1|F|####|##|##", 0, 1),
     ("&g a=5, b=2*7 /", false, "5|7|7|1|F|####|##|##", 0, 1),
     (
@@ -121,6 +121,25 @@ static INPUTS: [Input; 74] = [
     ("&G B=1;,2 /", true, "", 13, 1),
     ("&G B=1;;2 /", true, "1|1|1|2|F|####|##|##", 0, 1),
     ("&G B=1,\n,\n2 /", false, "1|1|1|2|F|####|##|##", 0, 3),
+    ("&G A=5 B(2)=7 /", false, "5|1|7|1|F|####|##|##", 0, 1),
+    ("&G A=5 B (2) = 7 /", false, "5|1|7|1|F|####|##|##", 0, 1),
+    (
+        "&G A=5,!x\n!y\n B=1,!z\n2 /",
+        false,
+        "5|1|2|1|F|####|##|##",
+        0,
+        4,
+    ),
+    ("&G C='a!b' /", false, "1|1|1|1|F|a!b |##|##", 0, 1),
+    ("&G C='a'\nL=T /", false, "1|1|1|1|T|a   |##|##", 0, 2),
+    ("&G C='ab'\n'cd' /", false, "", 23, 2),
+    ("&G C='a''\n''b' /", false, "1|1|1|1|F|a''b|##|##", 0, 2),
+    ("&G L=.false./", false, "1|1|1|1|F|####|##|##", 0, 1),
+    ("&G A=4294967296*5 /", false, "", 13, 1),
+    ("&G B(2)=2*9 /", false, "1|1|9|9|F|####|##|##", 0, 1),
+    ("&G D(2)='zz' /", false, "1|1|1|1|F|####|##|zz", 0, 1),
+    ("&G C='abcdef' /", false, "1|1|1|1|F|abcd|##|##", 0, 1),
+    ("&G B=1 2", false, "", -1, 1),
 ];
 
 fn modes(comma: bool, delim: Delim) -> EditModes {
@@ -277,5 +296,40 @@ fn outputs(rt: HostRuntime) -> Result<(), Fail> {
         marked.bytes(),
         b" &G\n A=1\n B=1;1;1\n L=F\n C=\"####\"\n D=\"##\";\"##\"\n /\n".as_slice()
     );
+    Ok(())
+}
+
+/// One member of characters without delimiters: their length, how many there are, and the records. With the second value
+/// the record has 80 characters, and its separator stands in column 81; a value that is longer has a record of its own.
+static WIDE: [(u32, u32, &str); 3] = [
+    (38, 3, " &G\n V=######################################,######################################,\n ######################################\n /\n"),
+    (39, 2, " &G\n V=#######################################,\n #######################################\n /\n"),
+    (79, 2, " &G\n V=###############################################################################,\n ###############################################################################\n /\n"),
+];
+
+#[test]
+fn wide_outputs(rt: HostRuntime) -> Result<(), Fail> {
+    let alloc = rt.alloc();
+    for (length, count, expected) in WIDE.iter() {
+        let kind = Kind::Chars(*length);
+        let mut cells = Items::new(alloc);
+        for i in 0..*count {
+            let place = Place { var: i, index: 1 };
+            let value = initial(alloc, kind)?;
+            cells.push(Cell { place, kind, value })?;
+        }
+        let mut members = Items::new(alloc);
+        members.push(GroupMember {
+            name: Text::from_bytes(alloc, b"v")?,
+            kind,
+            first: 0,
+            count: *count,
+            scalar: false,
+        })?;
+        assert!(rt; are_within(members.as_slice(), cells.len()));
+        let modes = modes(false, Delim::Plain);
+        let text = write_group(alloc, b"g", members.as_slice(), cells.as_slice(), modes)?;
+        assert_eq!(rt; text.bytes(), expected.as_bytes());
+    }
     Ok(())
 }

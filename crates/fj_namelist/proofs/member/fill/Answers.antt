@@ -1,10 +1,9 @@
-use Rattle.std.proofs.Common.{◌≡◌, ◌<◌, ℕ, suc, ◌-◌, ◌+◌, Option, None, Some, List, sym, ap, subst, ◌∙◌, refl, arith}
+use Rattle.std.proofs.Common.{◌≡◌, ◌<◌, suc, ◌-◌, ◌+◌, Option, List, sym, ap, ◌∙◌, arith}
 use Rattle.fj_value.specs.declared.value.Cell.{Cell}
 use Rattle.fj_value.specs.declared.condition.Condition.{Condition}
-use Rattle.fj_list.specs.declared.constant.Read.{Read}
-use Rattle.fj_namelist.specs.GroupInput.{Result, filled, given_to, constant_read}
+use Rattle.fj_namelist.specs.GroupInput.{Result, filled}
 use Rattle.fj_namelist.specs.Walker.{goes}
-use Rattle.fj_namelist.proofs.Filling.{fill_none, fill_on, fill_all}
+use Rattle.fj_namelist.proofs.Filling.{fill_none, fill_on}
 use Rattle.fj_namelist.proofs.member.fill.Goals as goal
 
 pub returns-then-at-e-clause-filled : goal.returns-then-at-e-clause-filled

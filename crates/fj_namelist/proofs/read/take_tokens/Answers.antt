@@ -1,4 +1,4 @@
-use Rattle.std.proofs.Common.{◌<◌, sym, ◌∙◌, arith}
+use Rattle.std.proofs.Common.{sym, ◌∙◌, arith}
 use Rattle.fj_namelist.proofs.Taking.{take_skipped}
 use Rattle.fj_namelist.proofs.read.take_tokens.Goals as goal
 
