@@ -1,11 +1,13 @@
 -- Taking places out moves each of them once, in the order of the items.
-use Rattle.std.proofs.Common.{◌≡◌, ◌⊎◌, ℕ, zero, suc, ◌+◌, ◌-◌, ◌<◌, ◌≤◌, eqb, cond, Bool, true, false, not, List, [], ◌∷◌, ◌++◌, length, map, Option, Some, None, IsSome, All, unwrap_or, refl, sym, ap, subst, ◌∙◌, inl, inr, arith}
+use Rattle.std.proofs.Common.{◌≡◌, ◌⊎◌, ℕ, zero, suc, ◌+◌, ◌-◌, ◌<◌, ◌≤◌, eqb, cond, Bool, true, false, not, List, [], ◌∷◌, ◌++◌, length, map, drop, get_or, Option, Some, None, IsSome, All, unwrap_or, refl, sym, ap, subst, ◌∙◌, inl, inr, arith}
 use Rattle.std.proofs.lemmas.Bool.{false≢true}
 use Rattle.std.proofs.lemmas.Bool.Decides.{eqb_tells, nat_tests}
 use Rattle.std.proofs.lemmas.List.Folds.{position_or_len_push}
 use Rattle.std.proofs.lemmas.List.Sums.{prefix_len-le-length}
 use Rattle.std.proofs.lemmas.List.Elements.{All-head, All-tail, All-append}
-use Rattle.std.proofs.Common.{length-append}
+use Rattle.std.proofs.Common.{length-append, add-one}
+use Rattle.std.proofs.Math.Seq.{drop-cons}
+use Rattle.fj_store.proofs.PlaceLemmas.{length-counted_from}
 use Rattle.std.specs.List.{position_or_len, flat_map}
 use Rattle.std.specs.Option.{option_map, option_flatten}
 use Rattle.fj_value.specs.declared.kind.Kind.{Kind}
@@ -22,8 +24,9 @@ use Rattle.fj_store.specs.Places.{same_place, counted_from, places_of, places_in
 use Rattle.fj_store.specs.Tables.{element_at, with_element}
 use Rattle.fj_store.specs.Variables.{is_at, with_item, moved_from, moved_of}
 use Rattle.fj_store.specs.Storage.{Storage, storage, value_in, value_at, cell_at, emptied, without}
-use Rattle.fj_store.specs.Taking.{Taking, taken_by, take_one, take_all, take_runs}
-use Rattle.fj_store.proofs.TableLemmas.{at_same, at_other, places_tell, with_itself, mapped_at, mapped_with}
+use Rattle.fj_store.specs.declared.taken.Taken.{Taken}
+use Rattle.fj_store.specs.Taking.{Taking, HasRoom, taken_by, take_one, take_all, take_runs}
+use Rattle.fj_store.proofs.TableLemmas.{same_fields, at_same, at_other, places_tell, with_itself, mapped_at, mapped_with}
 
 -- ---- one list of places in place of runs
 
@@ -158,9 +161,9 @@ takes_one start t cell m home =
 -- ---- all of them
 
 home_value : (o : Option Slot) → IsSome (option_flatten (option_map value_in o)) → (v : Value) × (o ≡ Some (Home v))
-home_value None h = absurd h
+home_value None h = cc
 home_value (Some (Home v)) h = (v, refl)
-home_value (Some (Out n)) h = absurd h
+home_value (Some (Out n)) h = cc
 
 abbrev IsHome : List Kind → List (List Slot) → Place → Type 0
 IsHome kinds start p = IsSome (value_at (storage kinds start) p)
@@ -200,3 +203,39 @@ taken_out kinds start runs cells order t none empty homes is =
         ∙ ap (λ o. let s : Taking = record { slots = start; cells = []; order = o } in take_each kinds s (places_in runs)) empty in
     let all = takes_all kinds start (places_in runs) begun (no_marks start) homes in
     (ap moved_in same ∙ all.0, ap (λ values. let s : Storage = record { kinds = kinds; values = values } in s) (ap (λ s. values_in s.slots) same ∙ all.1))
+
+-- ---- the steps of the loops
+
+pub room_less : (t : Taken) (n m : ℕ) → n ≤ m → HasRoom t m → HasRoom t n
+room_less t n m low h = record {
+  cells = omega (arith, h.cells);
+  order = omega (arith, h.order);
+  few = omega (arith, h.few);
+}
+
+pub run_step : (kind : Kind) (t t' want : Taking) (var first count at : ℕ) (p : Place) → at < count → p.var ≡ var → p.index ≡ first + at → t' ≡ take_one kind t p
+    → take_all kind t (counted_from var (first + at) (count - at)) ≡ want → take_all kind t' (counted_from var (first + (at + 1)) (count - (at + 1))) ≡ want
+run_step kind t t' want var first count at p low var_is index_is step so_far =
+    let here : Place = record { var = var; index = first + at } in
+    let left : count - at ≡ suc (count - (at + 1)) = omega arith in
+    let next : first + (at + 1) ≡ (first + at) + 1 = omega arith in
+    ap (λ n. take_all kind t' (counted_from var n (count - (at + 1)))) next
+    ∙ ap (λ s. take_all kind s (counted_from var ((first + at) + 1) (count - (at + 1)))) (step ∙ ap (take_one kind t) (same_fields p here var_is index_is))
+    ∙ sym (ap (λ n. take_all kind t (counted_from var (first + at) n)) left)
+    ∙ so_far
+
+pub run_at : (runs : List Run) (i : ℕ) (run : Run) → i < length runs → run ≡ get_or runs i run → drop i runs ≡ run ∷ drop (i + 1) runs
+run_at runs i run low is = drop-cons runs i run low ∙ ap (λ r. r ∷ drop (suc i) runs) (sym is) ∙ ap (λ n. run ∷ drop n runs) (let e : suc i ≡ i + 1 = omega arith in e)
+
+pub places_left : (runs : List Run) (i : ℕ) (run : Run) → i < length runs → run ≡ get_or runs i run → length (places_in (drop i runs)) ≡ run.count + length (places_in (drop (i + 1) runs))
+places_left runs i run low is =
+    ap (λ rs. length (places_in rs)) (run_at runs i run low is)
+    ∙ length-append (places_of run) (places_in (drop (i + 1) runs))
+    ∙ ap (λ n. n + length (places_in (drop (i + 1) runs))) (length-counted_from run.var run.first run.count)
+
+pub runs_step : (kinds : List Kind) (t t' want : Taking) (runs : List Run) (i : ℕ) (run : Run) (kind : Kind) → i < length runs → run ≡ get_or runs i run → kind ≡ kind_at kinds run.var → t' ≡ take_all kind t (places_of run)
+    → take_runs kinds t (drop i runs) ≡ want → take_runs kinds t' (drop (i + 1) runs) ≡ want
+runs_step kinds t t' want runs i run kind low is kind_is step so_far =
+    ap (λ s. take_runs kinds s (drop (i + 1) runs)) (step ∙ ap (λ k. take_all k t (places_of run)) kind_is)
+    ∙ sym (ap (take_runs kinds t) (run_at runs i run low is))
+    ∙ so_far

@@ -41,7 +41,8 @@ fn undefined_row(alloc: Global, count: u32) -> Result<Items<Slot>, AllocError>
 {
     let mut row = Items::new(alloc);
     row.reserve(count as usize)?;
-    for _at in 0..count {
+    for at in 0..count {
+        let _ = at;
         row.push(Slot::Home(Value::Undefined))?;
     }
     Ok(row)
@@ -54,7 +55,7 @@ fn put_back(slots: &mut Table<Slot>, kinds: &[Kind], cells: Vec<Cell>)
     for cell in cells {
         let Cell { place, kind: _, value } = cell;
         let value = of_kind(kind_in(kinds, place.var), value);
-        let _ = slots.replace(place, Slot::Home(value));
+        slots.put(place, Slot::Home(value));
     }
 }
 
@@ -87,7 +88,7 @@ impl Store {
         ensures { self.new ≡ with_value self.old place value }
     {
         let value = of_kind(kind_in(&self.kinds, place.var), value);
-        let _ = self.slots.replace(place, Slot::Home(value));
+        self.slots.put(place, Slot::Home(value));
     }
 
     /// Moves the values of these places out, each place once, in the order of the items. Want of memory changes nothing.

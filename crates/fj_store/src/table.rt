@@ -72,4 +72,10 @@ impl<T: Drop> Table<T> {
         }
         Some(self.rows[var].replace(at, element))
     }
+    /// Puts an element at a place, and drops the one that stood there. Where there is no such place nothing changes.
+    pub fn put(&mut self, place: Place, element: T)
+        ensures { self.new ≡ with_element self.old place element }
+    {
+        let _ = self.replace(place, element);
+    }
 }

@@ -3,5 +3,5 @@ use Rattle.fj_value.specs.declared.value.Value.TheVariants.{Undefined}
 use Rattle.fj_store.specs.declared.slot.Slot.TheVariants.{Home}
 use Rattle.fj_store.proofs.store.undefined_row.Given as goal
 
-abbrev pub invariant-loop-_at : goal.invariant-loop-_at
-invariant-loop-_at l = l.row ≡ replicate l._at (Home Undefined)
+abbrev pub invariant-loop-at : goal.invariant-loop-at
+invariant-loop-at l = l.row ≡ replicate l.at (Home Undefined)
