@@ -239,3 +239,13 @@ runs_step kinds t t' want runs i run kind low is kind_is step so_far =
     ap (λ s. take_runs kinds s (drop (i + 1) runs)) (step ∙ ap (λ k. take_all k t (places_of run)) kind_is)
     ∙ sym (ap (take_runs kinds t) (run_at runs i run low is))
     ∙ so_far
+
+-- the same, of a store
+pub out_is : (kinds ks : List Kind) (start : List (List Slot)) (runs : List Run) (s : Storage) (cells : List Cell) (order : List ℕ) (t : Taking) → storage kinds start ≡ s → ks ≡ kinds → cells ≡ [] → order ≡ []
+    → All (λ place. IsSome (value_at s place)) (places_in runs) → t ≡ take_runs ks (record { slots = start; cells = cells; order = order }) runs
+    → (record { cells = t.cells; order = t.order } ≡ moved_of (map (cell_at s) (places_in runs))) × (storage kinds t.slots ≡ without (places_in runs) s)
+out_is kinds ks start runs s cells order t view same none empty homes is =
+    let P : Storage → Type 0 = λ z. All (λ place. IsSome (value_at z place)) (places_in runs) in
+    let begun : Taking = record { slots = start; cells = cells; order = order } in
+    let done = taken_out kinds start runs cells order t none empty (subst P (sym view) homes) (is ∙ ap (λ k. take_runs k begun runs) same) in
+    (done.0 ∙ ap (λ z. moved_of (map (cell_at z) (places_in runs))) view, done.1 ∙ ap (without (places_in runs)) view)
