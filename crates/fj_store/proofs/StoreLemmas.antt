@@ -1,0 +1,78 @@
+-- The store's slots, seen as values.
+use Rattle.std.proofs.Common.{◌≡◌, ℕ, zero, suc, ◌+◌, ◌≤◌, List, [], ◌∷◌, ◌++◌, length, map, take, replicate, Option, Some, None, refl, sym, ap, ◌∙◌, arith}
+use Rattle.fj_value.specs.declared.kind.Kind.{Kind}
+use Rattle.fj_value.specs.declared.place.Place.{Place}
+use Rattle.fj_value.specs.declared.value.Cell.{Cell}
+use Rattle.fj_value.specs.declared.value.Value.{Value}
+use Rattle.fj_value.specs.declared.value.Value.TheVariants.{Undefined}
+use Rattle.fj_store.specs.declared.slot.Slot.{Slot}
+use Rattle.fj_store.specs.declared.slot.Slot.TheVariants.{Home}
+use Rattle.fj_store.specs.Kinds.{kind_at, of_kind}
+use Rattle.fj_store.specs.Tables.{with_element, with_cells}
+use Rattle.fj_store.specs.Storage.{Storage, storage, value_in, all_undefined, with_value, returned, given_back}
+use Rattle.fj_store.specs.Taking.{home}
+use Rattle.fj_store.proofs.TableLemmas.{mapped_with}
+
+abbrev with_values : List Kind → List (List (Option Value)) → Storage
+with_values kinds values = record { kinds = kinds; values = values }
+
+-- a place gets a value
+pub set_is : (kinds ks : List Kind) (slots new : List (List Slot)) (s : Storage) (p : Place) (v v' : Value) (k : Kind) → storage kinds slots ≡ s → ks ≡ kinds → k ≡ kind_at ks p.var → v' ≡ of_kind k v
+    → new ≡ with_element slots p (Home v') → storage kinds new ≡ with_value s p v
+set_is kinds ks slots new s p v v' k view same kind made put =
+    let value : v' ≡ of_kind (kind_at kinds p.var) v = made ∙ ap (λ x. of_kind x v) (kind ∙ ap (λ xs. kind_at xs p.var) same) in
+    ap (storage kinds) (put ∙ ap (λ x. with_element slots p (Home x)) value)
+    ∙ ap (with_values kinds) (mapped_with value_in slots p (Home (of_kind (kind_at kinds p.var) v)))
+    ∙ ap (λ z. with_value z p v) view
+
+-- ---- cells put back
+
+pub cells_more : {T : Type 0} → (made : Cell → T) (cells : List Cell) (cell : Cell) (rows : List (List T)) → with_cells made (cells ++ cell ∷ []) rows ≡ with_element (with_cells made cells rows) cell.place (made cell)
+cells_more made [] cell rows = refl
+cells_more made (c ∷ cells) cell rows = cells_more made cells cell (with_element rows c.place (made c))
+
+pub put_is : (kinds : List Kind) (start slots new : List (List Slot)) (cells : List Cell) (cell : Cell) (v' : Value) (k : Kind) → slots ≡ with_cells (home kinds) cells start → k ≡ kind_at kinds cell.place.var → v' ≡ of_kind k cell.value
+    → new ≡ with_element slots cell.place (Home v') → new ≡ with_cells (home kinds) (cells ++ cell ∷ []) start
+put_is kinds start slots new cells cell v' k so_far kind made put =
+    put ∙ ap (λ x. with_element slots cell.place (Home x)) (made ∙ ap (λ x. of_kind x cell.value) kind)
+    ∙ ap (λ rows. with_element rows cell.place (home kinds cell)) so_far
+    ∙ sym (cells_more (home kinds) cells cell start)
+
+mapped_cells : (kinds : List Kind) (cells : List Cell) (slots : List (List Slot)) → map (map value_in) (with_cells (home kinds) cells slots) ≡ with_cells (returned kinds) cells (map (map value_in) slots)
+mapped_cells kinds [] slots = refl
+mapped_cells kinds (cell ∷ cells) slots =
+    mapped_cells kinds cells (with_element slots cell.place (home kinds cell))
+    ∙ ap (with_cells (returned kinds) cells) (mapped_with value_in slots cell.place (home kinds cell))
+
+pub back_is : (kinds ks : List Kind) (slots new : List (List Slot)) (s : Storage) (cells cs : List Cell) → storage kinds slots ≡ s → ks ≡ kinds → cs ≡ cells → new ≡ with_cells (home ks) cs slots
+    → storage kinds new ≡ given_back cells s
+back_is kinds ks slots new s cells cs view same same_cells put =
+    ap (storage kinds) (put ∙ ap (λ x. with_cells (home x) cs slots) same ∙ ap (λ x. with_cells (home kinds) x slots) same_cells)
+    ∙ ap (with_values kinds) (mapped_cells kinds cells slots)
+    ∙ ap (given_back cells) view
+
+-- ---- a new store
+
+map_replicate : {A B : Type 0} → (f : A → B) (n : ℕ) (x : A) → map f (replicate n x) ≡ replicate n (f x)
+map_replicate f zero x = refl
+map_replicate f (suc n) x = ap (λ ys. f x ∷ ys) (map_replicate f n x)
+
+rows_undefined : (variables : List (Kind × ℕ)) → map (map value_in) (map (λ v. replicate v.1 (Home Undefined)) variables) ≡ map (λ v. replicate v.1 (Some Undefined)) variables
+rows_undefined [] = refl
+rows_undefined (v ∷ variables) =
+    ap (λ row. row ∷ map (map value_in) (map (λ v. replicate v.1 (Home Undefined)) variables)) (map_replicate value_in v.1 (Home Undefined))
+    ∙ ap (λ rows. replicate v.1 (Some Undefined) ∷ rows) (rows_undefined variables)
+
+whole : {A : Type 0} → (xs : List A) (n : ℕ) → length xs ≤ n → take n xs ≡ xs
+whole [] zero h = refl
+whole [] (suc n) h = refl
+whole (x ∷ xs) zero h = absurd (omega arith)
+whole (x ∷ xs) (suc n) h = ap (λ ys. x ∷ ys) (whole xs n (omega arith))
+
+pub new_is : (variables : List (Kind × ℕ)) (kinds : List Kind) (slots : List (List Slot)) (i : ℕ) → length variables ≤ i → kinds ≡ map (λ v. v.0) (take i variables) → slots ≡ map (λ v. replicate v.1 (Home Undefined)) (take i variables)
+    → storage kinds slots ≡ all_undefined variables
+new_is variables kinds slots i past kinds_are slots_are =
+    let all : take i variables ≡ variables = whole variables i past in
+    ap (λ ks. storage ks slots) (kinds_are ∙ ap (map (λ v. v.0)) all)
+    ∙ ap (storage (map (λ v. v.0) variables)) (slots_are ∙ ap (map (λ v. replicate v.1 (Home Undefined))) all)
+    ∙ ap (with_values (map (λ v. v.0) variables)) (rows_undefined variables)

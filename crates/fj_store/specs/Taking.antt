@@ -1,0 +1,50 @@
+-- What taking places out one behind the other comes to: a place that was taken has the number of its cell.
+use Rattle.std.specs.Prelude.{◌+◌, ◌≤◌, ℕ, List, [], ◌∷◌, ◌++◌, length, vec_capacity, fold, Option, Some, None}
+use Rattle.fj_value.specs.declared.kind.Kind.{Kind}
+use Rattle.fj_value.specs.declared.place.Place.{Place}
+use Rattle.fj_value.specs.declared.value.Cell.{Cell}
+use Rattle.fj_store.specs.declared.run.Run.{Run}
+use Rattle.fj_store.specs.declared.slot.Slot.{Slot}
+use Rattle.fj_store.specs.declared.slot.Slot.TheVariants.{Home, Out}
+use Rattle.fj_store.specs.declared.taken.Taken.{Taken}
+use Rattle.fj_store.specs.Kinds.{kind_at, of_kind}
+use Rattle.fj_store.specs.Places.{places_of}
+use Rattle.fj_store.specs.Tables.{element_at, with_element}
+
+pub record Taking : Type 0 where
+  pub slots : List (List Slot)
+  pub cells : List Cell
+  pub order : List ℕ
+
+abbrev pub taking : List (List Slot) → Taken → Taking
+taking slots taken = record { slots = slots; cells = taken.cells.items; order = taken.order.items }
+
+-- so many items more have room, and numbers for their cells
+pub record HasRoom (taken : Taken) (more : ℕ) : Type 0 where
+  pub cells : length taken.cells.items + more ≤ vec_capacity taken.cells
+  pub order : length taken.order.items + more ≤ vec_capacity taken.order
+  pub few : length taken.cells.items + more ≤ 4294967295
+
+abbrev pub taken_by : Option Slot → Kind → Taking → Place → Taking
+taken_by None kind t place = t
+taken_by (Some (Out n)) kind t place = record t { order = t.order ++ n ∷ [] }
+taken_by (Some (Home v)) kind t place = record {
+  slots = with_element t.slots place (Out (length t.cells));
+  cells = t.cells ++ record { place = place; kind = kind; value = v } ∷ [];
+  order = t.order ++ length t.cells ∷ [];
+}
+
+abbrev pub take_one : Kind → Taking → Place → Taking
+take_one kind t place = taken_by (element_at t.slots place) kind t place
+
+abbrev pub take_all : Kind → Taking → List Place → Taking
+take_all kind t [] = t
+take_all kind t (place ∷ places) = take_all kind (take_one kind t place) places
+
+abbrev pub take_runs : List Kind → Taking → List Run → Taking
+take_runs kinds t [] = t
+take_runs kinds t (run ∷ runs) = take_runs kinds (take_all (kind_at kinds run.var) t (places_of run)) runs
+
+-- the value of a cell, at home again
+abbrev pub home : List Kind → Cell → Slot
+home kinds cell = Home (of_kind (kind_at kinds cell.place.var) cell.value)

@@ -1,0 +1,54 @@
+// Runs of places: some elements of a variable, one behind the other.
+ghost use Rattle.std.specs.Prelude.{◌≡◌, ◌+◌, ◌<◌};
+
+use fj_value::Place;
+
+/// So many elements of a variable, from an index on. A scalar is the one element of index 1.
+#[derive(Clone, Copy, Debug)]
+pub struct Run {
+    pub var: u32,
+    pub first: u32,
+    pub count: u32,
+    ghost fits: { first + count < 4294967297 },
+}
+
+impl Run {
+    ghost use Rattle.std.specs.Prelude.{◌≡◌, ◌+◌, ◌<◌, ◌∷◌, []};
+    ghost use Rattle.fj_store.specs.Places.{places_of, is_among};
+
+    /// One place.
+    pub fn of_place(place: Place) -> Run
+        ensures { places_of result ≡ place ∷ [] }
+    {
+        Run {
+            var: place.var,
+            first: place.index,
+            count: 1,
+        }
+    }
+
+    /// Whether a place is one of its places.
+    pub fn holds(self, place: Place) -> bool
+        ensures { result ≡ is_among (places_of self) place }
+    {
+        if place.var != self.var {
+            return false;
+        }
+        if place.index < self.first {
+            return false;
+        }
+        place.index - self.first < self.count
+    }
+
+    /// The place behind so many others.
+    pub fn place_at(self, at: u32) -> Place
+        requires { at < self.count }
+        ensures var { result.var ≡ self.var }
+        ensures index { result.index ≡ self.first + at }
+    {
+        Place {
+            var: self.var,
+            index: self.first + at,
+        }
+    }
+}

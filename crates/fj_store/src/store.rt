@@ -1,0 +1,116 @@
+// The variables of a deck: what their places hold, and taking values out and giving them back.
+ghost use Rattle.std.specs.Prelude.{◌≡◌, ◌<◌, length, All, map, replicate, IsSome, IfOk, OnOk, OnErr};
+ghost use Rattle.std.specs.Option.{option_copied};
+ghost use Rattle.fj_store.specs.Places.{places_in};
+ghost use Rattle.fj_store.specs.Tables.{with_element, with_cells};
+ghost use Rattle.fj_store.specs.Kinds.{kind_at, of_kind};
+ghost use Rattle.fj_store.specs.Storage.{all_undefined, value_at, cell_at, with_value, without, given_back};
+ghost use Rattle.fj_store.specs.Variables.{moved_of};
+ghost use Rattle.fj_store.specs.Taking.{home};
+ghost use Rattle.fj_store.specs.declared.slot.Slot.TheVariants.{Home};
+ghost use Rattle.fj_value.specs.declared.value.Value.TheVariants.{Undefined};
+
+use crate::kinds::{kind_in, of_kind};
+use crate::run::Run;
+use crate::slot::Slot;
+use crate::table::Table;
+use crate::taken::{count_of, room_for, take_places};
+use fj_list::Moved;
+use fj_value::{Cell, Items, Kind, Place, Value};
+use std::alloc::{AllocError, Global};
+use std::marker::Model;
+
+/// By variable its kind, and at each of its places a value, or none where it is moved out.
+#[derive(Debug, Drop)]
+pub struct Store {
+    kinds: Vec<Kind>,
+    slots: Table<Slot>,
+}
+
+impl Model for Store {
+    ghost use Rattle.fj_store.specs.Storage.{Storage, storage};
+
+    ghost Value = { Storage };
+
+    ghost view = { λ store. storage store.kinds.items store.slots };
+}
+
+/// So many places that are undefined.
+fn undefined_row(alloc: Global, count: u32) -> Result<Items<Slot>, AllocError>
+    ensures { IfOk result (λ row. row ≡ replicate count (Home Undefined)) }
+{
+    let mut row = Items::new(alloc);
+    row.reserve(count as usize)?;
+    for at in 0..count {
+        let _ = at;
+        row.push(Slot::Home(Value::Undefined))?;
+    }
+    Ok(row)
+}
+
+/// Puts the values of cells back, each at its place.
+fn put_back(slots: &mut Table<Slot>, kinds: &[Kind], cells: Vec<Cell>)
+    ensures { slots.new ≡ with_cells (home kinds.now) cells.items slots.old }
+{
+    for cell in cells {
+        let Cell { place, kind: _, value } = cell;
+        let value = of_kind(kind_in(kinds, place.var), value);
+        slots.put(place, Slot::Home(value));
+    }
+}
+
+impl Store {
+    /// Variables of these kinds, each with so many elements (a scalar has one), all undefined.
+    pub fn new(alloc: Global, variables: &[(Kind, u32)]) -> Result<Store, AllocError>
+        ensures { IfOk result (λ store. store ≡ all_undefined variables.now) }
+    {
+        let mut kinds = Vec::new(alloc);
+        let mut slots = Table::new(alloc);
+        for (kind, count) in variables {
+            kinds.push(*kind)?;
+            slots.push(undefined_row(alloc, *count)?)?;
+        }
+        Ok(Store { kinds, slots })
+    }
+
+    /// The value at a place; none where it is moved out.
+    pub fn read(&self, place: Place) -> Option<&Value>
+        ensures { option_copied result ≡ value_at self.now place }
+    {
+        match self.slots.get(place) {
+            Some(Slot::Home(value)) => Some(value),
+            Some(Slot::Out(_)) | None => None,
+        }
+    }
+
+    /// Gives a place a value. One of another kind leaves it undefined.
+    pub fn set(&mut self, place: Place, value: Value)
+        ensures { self.new ≡ with_value self.old place value }
+    {
+        let value = of_kind(kind_in(&self.kinds, place.var), value);
+        self.slots.put(place, Slot::Home(value));
+    }
+
+    /// Moves the values of these places out, each place once, in the order of the items. Want of memory changes nothing.
+    pub fn take_out(&mut self, alloc: Global, runs: &[Run]) -> Result<Moved, AllocError>
+        requires home { All (λ place. IsSome (value_at self.old place)) (places_in runs.now) }
+        requires few { length (places_in runs.now) < 4294967296 }
+        ensures moved { IfOk result (λ moved. moved ≡ moved_of (map (cell_at self.old) (places_in runs.now))) }
+        ensures ok { OnOk result (self.new ≡ without (places_in runs.now) self.old) }
+        ensures err { OnErr result (self.new ≡ self.old) }
+    {
+        let mut taken = room_for(alloc, count_of(runs))?;
+        take_places(&mut self.slots, &self.kinds, runs, &mut taken);
+        Ok(Moved {
+            cells: Items::from_vec(taken.cells),
+            order: Items::from_vec(taken.order),
+        })
+    }
+
+    /// Puts the values of cells back to their places. One of another kind than its place leaves that undefined.
+    pub fn give_back(&mut self, moved: Moved)
+        ensures { self.new ≡ given_back moved.cells self.old }
+    {
+        put_back(&mut self.slots, &self.kinds, moved.cells.into_vec());
+    }
+}

@@ -1,0 +1,81 @@
+// Tables with an element at each place of each variable.
+ghost use Rattle.std.specs.Prelude.{◌≡◌, [], ◌∷◌, ◌++◌, OnOk, OnErr};
+ghost use Rattle.std.specs.Option.{option_copied};
+ghost use Rattle.fj_store.specs.Tables.{element_at, with_element};
+
+use fj_value::{Items, Place};
+use std::alloc::{AllocError, Global};
+use std::marker::Model;
+
+/// By variable, what stands at each of its places. Contracts see it as a list of lists.
+#[derive(Debug, Drop)]
+pub struct Table<T> {
+    rows: Vec<Items<T>>,
+}
+
+impl<T> Model for Table<T> {
+    ghost use Rattle.std.specs.Prelude.{List};
+    ghost use Rattle.std.specs.Coded.{coded_list};
+
+    ghost Value = { List (List T) };
+
+    ghost coded = { coded_list (coded_list T.code) };
+
+    ghost view = { λ table. table.rows.items };
+}
+
+impl<T> Table<T> {
+    /// A table of no variables.
+    pub fn new(alloc: Global) -> Table<T>
+        ensures { result ≡ [] }
+    {
+        Table {
+            rows: Vec::new(alloc),
+        }
+    }
+
+    /// What stands at a place, if it has such a place.
+    pub fn get(&self, place: Place) -> Option<&T>
+        ensures { option_copied result ≡ element_at self.now place }
+    {
+        let at = place.index.checked_sub(1)?;
+        let row = self.rows.get(place.var as usize)?;
+        row.get(at as usize)
+    }
+}
+
+impl<T: Drop> Table<T> {
+    /// Adds a variable, with what stands at its places. Want of memory changes nothing.
+    pub fn push(&mut self, row: Items<T>) -> Result<(), AllocError>
+        ensures ok { OnOk result (self.new ≡ self.old ++ row ∷ []) }
+        ensures err { OnErr result (self.new ≡ self.old) }
+    {
+        self.rows.push(row)?;
+        Ok(())
+    }
+
+    /// Puts an element at a place, and answers the one that stood there. Where there is no such place nothing changes.
+    pub fn replace(&mut self, place: Place, element: T) -> Option<T>
+        ensures old { result ≡ element_at self.old place }
+        ensures new { self.new ≡ with_element self.old place element }
+    {
+        if place.index == 0 {
+            return None;
+        }
+        let var = place.var as usize;
+        if var >= self.rows.len() {
+            return None;
+        }
+        let at = (place.index - 1) as usize;
+        if at >= self.rows[var].len() {
+            return None;
+        }
+        Some(self.rows[var].replace(at, element))
+    }
+    /// Puts an element at a place, and drops the one that stood there. Where there is no such place nothing changes.
+    pub fn put(&mut self, place: Place, element: T)
+        ensures { self.new ≡ with_element self.old place element }
+    {
+        let _ = self.replace(place, element);
+    }
+}
