@@ -30,7 +30,7 @@ pub ended_kept : (old c : Connection) (cells : List Cell) (text : List ℕ) (cou
     → KeepsUpToChange old.bytes (with_records c text).bytes new → KeepsUpToChange old.bytes (text_written old c ends cells text count).connection.bytes new
 ended_kept old c cells text count ends new e fits kept =
     let fine : text_written old c true cells text count ≡ told_with (with_records c text) cells Fine =
-        within old (with_records c text) cells 0 (omega (arith, length-append (take c.spot.at c.bytes) text, length-take c.spot.at c.bytes)) in
+    within old (with_records c text) cells 0 (omega (arith, length-append (take c.spot.at c.bytes) text, length-take c.spot.at c.bytes)) in
     kept_as old.bytes (with_records c text).bytes (text_written old c ends cells text count).connection.bytes new
     (ap (λ (d : Done). d.connection.bytes) (sym fine) ∙ ap (λ b. (text_written old c b cells text count).connection.bytes) (sym e)) kept
 
@@ -38,7 +38,7 @@ pub open_kept : (old c : Connection) (cells : List Cell) (text : List ℕ) (coun
     → KeepsUpToChange old.bytes (with_open_record c text count).bytes new → KeepsUpToChange old.bytes (text_written old c ends cells text count).connection.bytes new
 open_kept old c cells text count ends new e fits kept =
     let fine : text_written old c false cells text count ≡ told_with (with_open_record c text count) cells Fine =
-        within old (with_open_record c text count) cells 1 (omega (arith, length-append (take c.spot.at c.bytes) text, length-take c.spot.at c.bytes)) in
+    within old (with_open_record c text count) cells 1 (omega (arith, length-append (take c.spot.at c.bytes) text, length-take c.spot.at c.bytes)) in
     kept_as old.bytes (with_open_record c text count).bytes (text_written old c ends cells text count).connection.bytes new
     (ap (λ (d : Done). d.connection.bytes) (sym fine) ∙ ap (λ b. (text_written old c b cells text count).connection.bytes) (sym e)) kept
 

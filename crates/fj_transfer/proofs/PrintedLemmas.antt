@@ -107,5 +107,5 @@ prints_fine limit begun end count actions hand page page' old text is begin from
     subst P (sym whole) (
       counts ∙ counted p last.ended last.line.text begun (length text - end) ends.ended ends.line total,
       sym (take-append-drop page'.begin text) ∙ ap (λ l. l ++ drop page'.begin text) (front_is page page' old text begin kept)
-      ∙ ap (λ l. old ++ l) (sym all ∙ ap (λ l. l ++ last.line.text) ends.ended ∙ ap (λ l. text_of p.records ++ l) ends.line),
+          ∙ ap (λ l. old ++ l) (sym all ∙ ap (λ l. l ++ last.line.text) ends.ended ∙ ap (λ l. text_of p.records ++ l) ends.line),
     )

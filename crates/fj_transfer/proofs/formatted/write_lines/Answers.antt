@@ -27,11 +27,11 @@ returns-in-Ok-clause-written g c = λ t.
     let limit : c.modes.result.now.recl ≡ at.modes.recl = ap (λ (m : Modes). m.recl) (c.modes.ensures.value ∙ sym (placed_modes place old)) in
     let shown : c.bytes.result.now ≡ out = cc (c.bytes.ensures, c.out-2.view_is) in
     let is : text_written (connection_of bytes c.put_feed.new.connection) (at_place place (connection_of bytes c.put_feed.new.connection)) c.ends_record-ends.result cells c.bytes.result.now count
-        ≡ lines_written old at (feed_at place old) ends cells (printed_by at.modes.recl (begun at) actions) =
-        ap (λ (m : Connection). text_written m (at_place place m) c.ends_record-ends.result cells c.bytes.result.now count) same
-        ∙ ap (λ (b : Bool). text_written old at b cells c.bytes.result.now count) c.ends_record-ends.ensures
-        ∙ ap (λ (l : List ℕ). text_written old at ends cells l count) shown
-        ∙ lines_printed old at (feed_at place old) ends cells actions c.put_feed.new.out out count c.begun_at-begun.result c.modes.result.now.recl c.begun_at-begun.ensures.begun limit fed c.in-Ok.ensures in
+    ≡ lines_written old at (feed_at place old) ends cells (printed_by at.modes.recl (begun at) actions) =
+    ap (λ (m : Connection). text_written m (at_place place m) c.ends_record-ends.result cells c.bytes.result.now count) same
+    ∙ ap (λ (b : Bool). text_written old at b cells c.bytes.result.now count) c.ends_record-ends.ensures
+    ∙ ap (λ (l : List ℕ). text_written old at ends cells l count) shown
+    ∙ lines_printed old at (feed_at place old) ends cells actions c.put_feed.new.out out count c.begun_at-begun.result c.modes.result.now.recl c.begun_at-begun.ensures.begun limit fed c.in-Ok.ensures in
     let P : Done → Type 0 = λ d. IfOk c.put_text.result (λ condition. told_with (connection_of bytes c.put_text.new.connection) cells condition ≡ d) in
     subst P is (c.put_text.ensures.written (c.put_feed.ensures.telling.0 t) cells)
 
@@ -52,11 +52,11 @@ returns-in-Ok-clause-stopped g c = λ t.
     let limit : c.modes.result.now.recl ≡ at.modes.recl = ap (λ (m : Modes). m.recl) (c.modes.ensures.value ∙ sym (placed_modes place old)) in
     let shown : c.bytes.result.now ≡ out = cc (c.bytes.ensures, c.out-2.view_is) in
     let is : text_written (connection_of bytes c.put_feed.new.connection) (at_place place (connection_of bytes c.put_feed.new.connection)) c.ends_record-ends.result cells c.bytes.result.now count
-        ≡ lines_written old at (feed_at place old) ends cells (printed_by at.modes.recl (begun at) actions) =
-        ap (λ (m : Connection). text_written m (at_place place m) c.ends_record-ends.result cells c.bytes.result.now count) same
-        ∙ ap (λ (b : Bool). text_written old at b cells c.bytes.result.now count) c.ends_record-ends.ensures
-        ∙ ap (λ (l : List ℕ). text_written old at ends cells l count) shown
-        ∙ lines_printed old at (feed_at place old) ends cells actions c.put_feed.new.out out count c.begun_at-begun.result c.modes.result.now.recl c.begun_at-begun.ensures.begun limit fed c.in-Ok.ensures in
+    ≡ lines_written old at (feed_at place old) ends cells (printed_by at.modes.recl (begun at) actions) =
+    ap (λ (m : Connection). text_written m (at_place place m) c.ends_record-ends.result cells c.bytes.result.now count) same
+    ∙ ap (λ (b : Bool). text_written old at b cells c.bytes.result.now count) c.ends_record-ends.ensures
+    ∙ ap (λ (l : List ℕ). text_written old at ends cells l count) shown
+    ∙ lines_printed old at (feed_at place old) ends cells actions c.put_feed.new.out out count c.begun_at-begun.result c.modes.result.now.recl c.begun_at-begun.ensures.begun limit fed c.in-Ok.ensures in
     let P : Done → Type 0 = λ d. OnErr c.put_text.result (KeepsUpToChange (bytes c.put_feed.new.connection.file) d.connection.bytes (bytes c.put_text.new.connection.file)) in
     let Q : List ℕ → Type 0 = λ b. OnErr c.put_text.result (KeepsUpToChange b (lines_written old at (feed_at place old) ends cells (printed_by at.modes.recl (begun at) actions)).connection.bytes (bytes c.put_text.new.connection.file)) in
     subst Q (c.put_feed.ensures.same t) (subst P is (c.put_text.ensures.stopped (c.put_feed.ensures.telling.0 t) cells))
