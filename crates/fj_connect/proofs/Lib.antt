@@ -6,3 +6,4 @@ pub mod ErrorProofs
 pub mod RestProofs
 pub mod MotionProofs
 pub mod TransferProofs
+pub mod AheadProofs

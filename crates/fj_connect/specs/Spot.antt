@@ -44,6 +44,10 @@ spot_writing spot size count =
 abbrev pub spot_ended : Spot → Spot
 spot_ended spot = if is_writing spot.within then spot_between spot (spot.at + 1) else spot
 
+-- the length of a file of this size once its open record has its line feed
+abbrev pub size_ended : Spot → ℕ → ℕ
+size_ended spot size = if is_writing spot.within then size + 1 else size
+
 -- at the end of the file; in sequential access behind the endfile record
 abbrev pub spot_past_end : Modes → Spot → ℕ → Spot
 spot_past_end modes spot size = record (spot_between spot size) { after_end = is_sequential modes }

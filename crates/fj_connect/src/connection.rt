@@ -2,6 +2,7 @@
 ghost use Rattle.std.specs.Prelude.{◌≡◌, length};
 ghost use Rattle.fj_connect.specs.Spot.{IsPlaced};
 
+mod ahead;
 mod closing;
 mod direct;
 mod frames;
@@ -11,7 +12,7 @@ mod places;
 mod records;
 mod stream;
 
-use crate::spot::Spot;
+use crate::spot::{Look, Spot};
 use fj_modes::{FileName, Modes};
 use fj_outside::{Buffered, FileStore};
 use fj_value::{EditModes, Text};
@@ -79,6 +80,17 @@ impl<F: FileStore> Connection<F> {
         ensures placed { IsPlaced self.now.modes (F.size self.now.file) self.now.spot }
     {
         self.file.len()
+    }
+
+    /// Where it stands, and the file's length.
+    pub fn look(&self) -> Look
+        ensures value { result ≡ record { spot = self.now.spot; size = F.size self.now.file } }
+        ensures bytes { F.tells self.now.file → result.size ≡ length (F.bytes self.now.file) }
+    {
+        Look {
+            spot: self.spot,
+            size: self.file.len(),
+        }
     }
 
     /// How many faults the file had since it came out of the disk.

@@ -11,4 +11,4 @@ pub use laws::{
     motions_stay_in_the_file, opens_by_status, output_is_put_at_the_position, records_are_fed_once,
     records_are_read_on, records_have_rests, status_decides,
 };
-pub use spot::{Positioning, Spot, Within};
+pub use spot::{Look, Positioning, Spot, Within};

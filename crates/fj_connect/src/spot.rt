@@ -34,6 +34,13 @@ pub struct Spot {
     pub next_number: u64,
 }
 
+/// A look at a connection: where it stands, and the length of its file.
+#[derive(Clone, Copy, Debug, PartialEq, Eq)]
+pub struct Look {
+    pub spot: Spot,
+    pub size: u64,
+}
+
 impl Spot {
     /// Between records, at another place.
     pub fn between(self, place: u64) -> Spot

@@ -1,2 +1,6 @@
 pub mod WriterLemmas
+pub mod StoredLemmas
+pub mod UnformattedLemmas
+pub mod PrintedLemmas
+pub mod FormattedLemmas
 pub mod Cases

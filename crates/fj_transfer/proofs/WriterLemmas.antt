@@ -44,7 +44,7 @@ whole_ends old mid new xs xs' last last' r e e' done h =
 -- ---- the whole statement
 
 -- what stood before the statement
-front_is : (page page' : Page) (old text : List ℕ) → page.begin ≡ length old → Keeps page old page' text → take page'.begin text ≡ old
+pub front_is : (page page' : Page) (old text : List ℕ) → page.begin ≡ length old → Keeps page old page' text → take page'.begin text ≡ old
 front_is page page' old text begin kept = ap (λ n. take n text) kept.begin ∙ kept.front ∙ ap (λ n. take n old) begin ∙ take-length old
 
 -- what is told of an output, and what the text is then

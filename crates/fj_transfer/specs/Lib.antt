@@ -1,9 +1,9 @@
 pub mod Change
 pub mod Moving
 pub mod Explicit
-pub mod Output
 pub mod Writing
 pub mod AtHand
 pub mod Input
 pub mod Printing
+pub mod Places
 pub mod Transfer

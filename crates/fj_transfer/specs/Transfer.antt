@@ -1,5 +1,5 @@
 -- A READ or WRITE on a connection, whole (ISO/IEC 1539-1:2004, 9.5).
-use Rattle.std.specs.Prelude.{ℕ, ℤ, pos, negsuc, ◌+◌, ◌-◌, ◌==◌, ◌&&◌, ◌||◌, not, nat_lt, Bool, true, false, List, [], ◌∷◌, ◌++◌, length, take, drop, map, sum, Option, Some, None, is_some, if◌then◌else◌, Result, Ok, Err}
+use Rattle.std.specs.Prelude.{ℕ, ℤ, pos, negsuc, ◌+◌, ◌-◌, ◌==◌, ◌&&◌, ◌||◌, not, nat_lt, Bool, true, false, List, [], ◌∷◌, ◌++◌, length, take, drop, map, sum_by, Option, Some, None, is_some, if◌then◌else◌, Result, Ok, Err}
 use Rattle.std.specs.List.{flat_map}
 use Rattle.fj_value.specs.declared.edit.EditModes.{EditModes}
 use Rattle.fj_value.specs.declared.value.Cell.{Cell}
@@ -19,7 +19,7 @@ use Rattle.fj_list.specs.declared.moved.Moved.{Moved}
 use Rattle.fj_list.specs.ListInput.{Outcome, list_input, with_value, kind_at}
 use Rattle.fj_list.specs.ListText.{text_of}
 use Rattle.fj_list.specs.Moved.{value_at}
-use Rattle.fj_control.specs.Steps.{Given, steps}
+use Rattle.fj_control.specs.Steps.{Given}
 use Rattle.fj_transfer.specs.Change.{changed}
 use Rattle.fj_transfer.specs.declared.transfer.TransferSpec.{TransferSpec}
 use Rattle.fj_transfer.specs.declared.transfer.Layout.{Layout}
@@ -31,7 +31,7 @@ use Rattle.fj_modes.specs.Limits.{longest_file}
 use Rattle.fj_connect.specs.Positions.{ended}
 use Rattle.fj_transfer.specs.AtHand.{AtHand, behind, first_record}
 use Rattle.fj_transfer.specs.Input.{Ended, explicit_input, left_at}
-use Rattle.fj_transfer.specs.Printing.{Printed, printed}
+use Rattle.fj_transfer.specs.Printing.{Printed, printed, open_count, control_of}
 use Rattle.fj_namelist.specs.GroupInput.{group_input}
 
 -- What a transfer comes to: the connection then, the cells, how many characters data edit descriptors took (SIZE=), and the
@@ -110,9 +110,13 @@ begins_at spec c = if c.spot.after_end then Err (Error 20) else placed c spec.re
 abbrev pub with_undefined : List Cell → List Cell
 with_undefined cells = map (λ (cell : Cell). record cell { value = Undefined }) cells
 
+-- without a count for SIZE=
+abbrev pub told_with : Connection → List Cell → Condition → Done
+told_with c cells condition = record { connection = c; cells = cells; count = None; condition = condition }
+
 -- an error leaves the connection as it was before the statement, and what was to be read is undefined
 abbrev pub in_error : Connection → Bool → List Cell → Condition → Done
-in_error old input cells condition = record { connection = old; cells = if input then with_undefined cells else cells; count = None; condition = condition }
+in_error old input cells condition = told_with old (if input then with_undefined cells else cells) condition
 
 -- what an input leaves, by its condition: the connection as it was, where the end of the file leaves it, where end-of-record
 -- leaves it, and where it ends else
@@ -125,13 +129,13 @@ pub record Ways : Type 0 where
 abbrev pub input_done : Ways → List Cell → Option ℕ → Condition → Done
 input_done ways cells count Fine = record { connection = ways.fine; cells = cells; count = count; condition = Fine }
 input_done ways cells count EndOfRecord = record { connection = ways.end_of_record; cells = cells; count = count; condition = EndOfRecord }
-input_done ways cells count EndOfFile = record { connection = ways.end_of_file; cells = with_undefined cells; count = None; condition = EndOfFile }
+input_done ways cells count EndOfFile = told_with ways.end_of_file (with_undefined cells) EndOfFile
 input_done ways cells count (Error n) = in_error ways.old true cells (Error n)
 
 -- an output leaves a file within its limit, in which a record that stays open has room for its line feed (25)
 abbrev pub output_done : Connection → List Cell → Connection → ℕ → Done
 output_done old cells new feed = if nat_lt longest_file (length new.bytes + feed) then in_error old false cells (Error 25)
-    else record { connection = new; cells = cells; count = None; condition = Fine }
+    else told_with new cells Fine
 
 -- ---- formatted input
 
@@ -182,13 +186,17 @@ values_from cells (at ∷ order) bytes =
     let width = stored_width (kind_at cells at) in
     values_from (with_value cells at (value_of (kind_at cells at) (take width bytes))) order (drop width bytes)
 
+-- how many bytes the values of items take
+abbrev pub widths : List Cell → List ℕ → ℕ
+widths cells order = sum_by (λ at. stored_width (kind_at cells at)) order
+
 abbrev pub bytes_needed : Moved → ℕ
-bytes_needed moved = sum (map (λ at. stored_width (kind_at moved.cells at)) moved.order)
+bytes_needed moved = widths moved.cells moved.order
 
 -- a record has as many bytes as the items need, or more (19)
 abbrev pub body_read : Connection → Moved → List ℕ → Connection → Done
 body_read old moved body new = if nat_lt (length body) (bytes_needed moved) then in_error old true moved.cells (Error 19)
-    else record { connection = new; cells = values_from moved.cells moved.order body; count = None; condition = Fine }
+    else told_with new (values_from moved.cells moved.order body) Fine
 
 -- sequential: the record's frame has to be whole (18), and its body within the limit (15)
 abbrev pub frame_read : Connection → Connection → Moved → Option (List ℕ × List ℕ) → Done
@@ -198,23 +206,29 @@ frame_read old c moved (Some (body, behind_it)) = if nat_lt c.modes.recl (length
 
 abbrev pub sequential_read : Connection → Connection → Moved → Done
 sequential_read old c moved = if length (bytes_behind c) == 0
-    then record { connection = past_end c; cells = with_undefined moved.cells; count = None; condition = EndOfFile }
+    then told_with (past_end c) (with_undefined moved.cells) EndOfFile
     else frame_read old c moved (frame (bytes_behind c))
 
 -- direct: the record has to be there (17)
-abbrev pub piece_read : Connection → Connection → Moved → Option (List ℕ) → Done
-piece_read old c moved None = in_error old true moved.cells (Error 17)
-piece_read old c moved (Some body) = body_read old moved body (at_number c c.spot.next_number)
+abbrev pub piece_read : Connection → Connection → ℕ → Moved → Option (List ℕ) → Done
+piece_read old c number moved None = in_error old true moved.cells (Error 17)
+piece_read old c number moved (Some body) = body_read old moved body (at_number c number)
+
+abbrev pub direct_read : Connection → Connection → ℕ → Moved → Done
+direct_read old c number moved = piece_read old c number moved (piece c.bytes c.modes.recl number)
 
 -- stream: fewer bytes than the items need are the end of the file, with the position as before the statement
-abbrev pub bytes_read : Connection → Connection → Moved → Option (List ℕ) → Done
-bytes_read old c moved None = record { connection = old; cells = with_undefined moved.cells; count = None; condition = EndOfFile }
-bytes_read old c moved (Some bytes) = record { connection = between c (c.spot.at + length bytes); cells = values_from moved.cells moved.order bytes; count = None; condition = Fine }
+abbrev pub bytes_read : Connection → Connection → ℕ → Moved → Option (List ℕ) → Done
+bytes_read old c place moved None = told_with old (with_undefined moved.cells) EndOfFile
+bytes_read old c place moved (Some bytes) = told_with (between c (place + length bytes)) (values_from moved.cells moved.order bytes) Fine
+
+abbrev pub stream_read : Connection → Connection → ℕ → Moved → Done
+stream_read old c place moved = bytes_read old c place moved (bytes_from c.bytes place (bytes_needed moved))
 
 abbrev pub unformatted_read : Access → Connection → Connection → Moved → Done
 unformatted_read Sequential old c moved = sequential_read old c moved
-unformatted_read Direct old c moved = piece_read old c moved (piece c.bytes c.modes.recl c.spot.next_number)
-unformatted_read Stream old c moved = bytes_read old c moved (bytes_from c.bytes c.spot.at (bytes_needed moved))
+unformatted_read Direct old c moved = direct_read old c c.spot.next_number moved
+unformatted_read Stream old c moved = stream_read old c c.spot.at moved
 
 -- input from the place where it begins
 abbrev pub read_by : Layout → (ℕ → List Given) → Connection → Connection → TransferSpec → EditModes → Moved → Done
@@ -226,34 +240,61 @@ read_by (Group name members) control old c spec modes moved = records_read old c
 -- ---- output
 
 -- the bytes of the values, in their order
+abbrev pub bytes_of : List Cell → List ℕ → List ℕ
+bytes_of cells order = flat_map (λ at. stored (kind_at cells at) (value_at cells at)) order
+
 abbrev pub body_of : Moved → List ℕ
-body_of moved = flat_map (λ at. stored (kind_at moved.cells at) (value_at moved.cells at)) moved.order
+body_of moved = bytes_of moved.cells moved.order
+
+-- sequential: one record, the last of the file
+abbrev pub sequential_written : Connection → Connection → List Cell → List ℕ → Done
+sequential_written old c cells body = if nat_lt c.modes.recl (length body) then in_error old false cells (Error 15)
+    else output_done old cells (with_frame c body) 0
+
+-- direct: the record of a number
+abbrev pub direct_written : Connection → Connection → ℕ → List Cell → List ℕ → Done
+direct_written old c number cells body = if nat_lt c.modes.recl (length body) then in_error old false cells (Error 15)
+    else output_done old cells (with_direct c number body 0) 0
+
+-- stream: bytes over those at the position
+abbrev pub stream_written : Connection → Connection → List Cell → List ℕ → Done
+stream_written old c cells body = output_done old cells (with_bytes c body) 0
 
 abbrev pub unformatted_written : Access → Connection → Connection → Moved → Done
-unformatted_written Sequential old c moved = if nat_lt c.modes.recl (length (body_of moved)) then in_error old false moved.cells (Error 15)
-    else output_done old moved.cells (with_frame c (body_of moved)) 0
-unformatted_written Direct old c moved = if nat_lt c.modes.recl (length (body_of moved)) then in_error old false moved.cells (Error 15)
-    else output_done old moved.cells (with_direct c c.spot.next_number (body_of moved) 0) 0
-unformatted_written Stream old c moved = output_done old moved.cells (with_bytes c (body_of moved)) 0
+unformatted_written Sequential old c moved = sequential_written old c moved.cells (body_of moved)
+unformatted_written Direct old c moved = direct_written old c c.spot.next_number moved.cells (body_of moved)
+unformatted_written Stream old c moved = stream_written old c moved.cells (body_of moved)
 
 -- records of direct access one after another, filled up with blanks
 abbrev pub with_pieces : List (List ℕ) → Connection → Connection
 with_pieces [] c = c
 with_pieces (text ∷ more) c = with_pieces more (with_direct c c.spot.next_number text 32)
 
--- records as the last of the file, behind the line feed that they may need; the last of them may stay open
-abbrev pub with_text : Connection → Bool → List ℕ → Printed → Connection
-with_text c true feed p = with_records c (feed ++ text_of p.records)
-with_text c false feed p =
-    let before = if length p.records == 0 then begun c else 0 in
-    with_open_record c (feed ++ text_of p.records ++ p.«open») (before + length p.«open»)
+abbrev pub pieces_written : Connection → Connection → List Cell → Result Printed Condition → Done
+pieces_written old c cells (Err condition) = in_error old false cells condition
+pieces_written old c cells (Ok p) = output_done old cells (with_pieces p.records c) 0
+
+-- a text as the last of the file, of which the last record may stay open
+abbrev pub with_text : Connection → Bool → List ℕ → ℕ → Connection
+with_text c true text count = with_records c text
+with_text c false text count = with_open_record c text count
+
+abbrev pub text_written : Connection → Connection → Bool → List Cell → List ℕ → ℕ → Done
+text_written old c ends cells text count = output_done old cells (with_text c ends text count) (if ends then 0 else 1)
+
+-- records as the last of the file, behind the line feed that they may need
+abbrev pub lines_written : Connection → Connection → List ℕ → Bool → List Cell → Result Printed Condition → Done
+lines_written old c feed ends cells (Err condition) = in_error old false cells condition
+lines_written old c feed ends cells (Ok p) = text_written old c ends cells (feed ++ (text_of p.records ++ p.«open»)) (open_count (begun c) p)
+
+-- the last record ends, unless ADVANCE='NO' leaves it open
+abbrev pub ends_record : TransferSpec → Bool
+ends_record spec = spec.advance || not (is_explicit spec.layout)
 
 abbrev pub records_written : Connection → Connection → TransferSpec → List Cell → Result Printed Condition → Done
-records_written old c spec cells (Err condition) = in_error old false cells condition
-records_written old c spec cells (Ok p) =
-    let advance = spec.advance || not (is_explicit spec.layout) in
-    if same_access c.modes.access Direct then output_done old cells (with_pieces p.records c) 0
-    else output_done old cells (with_text c advance (if is_some spec.pos then [] else missing_feed c) p) (if advance then 0 else 1)
+records_written old c spec cells printed =
+    if same_access c.modes.access Direct then pieces_written old c cells printed
+    else lines_written old c (if is_some spec.pos then [] else missing_feed c) (ends_record spec) cells printed
 
 -- output at the place where it begins
 abbrev pub written_by : Layout → (ℕ → List Given) → Connection → Connection → TransferSpec → EditModes → Moved → Done
@@ -276,10 +317,6 @@ if_fit control c spec moved condition = in_error c spec.input moved.cells condit
 -- the same by what format control gives for so many items
 unfoldable pub transfer_by : (ℕ → List Given) → Connection → TransferSpec → Moved → Done
 transfer_by control c spec moved = if_fit control c spec moved (unfit c.modes spec)
-
-abbrev pub control_of : Layout → ℕ → List Given
-control_of (Explicit f) n = steps f n
-control_of _ n = []
 
 abbrev pub transfer : Connection → TransferSpec → Moved → Done
 transfer c spec moved = transfer_by (control_of spec.layout) c spec moved

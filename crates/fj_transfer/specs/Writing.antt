@@ -1,13 +1,16 @@
 -- What a writer has still to do.
-use Rattle.std.specs.Prelude.{ℕ, ◌≡◌, List, [], ◌∷◌, map, length, Result, Ok, Err, IfNone}
+use Rattle.std.specs.Prelude.{ℕ, ◌≡◌, List, [], ◌∷◌, ◌++◌, map, length, Result, Ok, Err, IfNone}
+use Rattle.fj_value.specs.declared.condition.Condition.{Condition}
 use Rattle.fj_control.specs.Steps.{Given}
 use Rattle.fj_control.specs.Paired.{paired}
 use Rattle.fj_line.specs.declared.unwritten.Unwritten.{Unwritten}
 use Rattle.fj_line.specs.declared.unwritten.Unwritten.TheVariants.{Met, Memory}
 use Rattle.fj_line.specs.Actions.{Action, AtHand, carried_out}
 use Rattle.fj_list.specs.Items.{Output, items_left, with_next}
+use Rattle.fj_list.specs.ListText.{text_of}
 use Rattle.fj_transfer.specs.declared.writer.Writer.{Writer}
 use Rattle.fj_transfer.specs.Explicit.{action_of}
+use Rattle.fj_transfer.specs.Printing.{Printed, open_count}
 
 -- the items that it has still to write; there is none where there is no next one
 abbrev pub items_of_writer : Writer → List Output
@@ -25,3 +28,13 @@ abbrev pub CarriesFirst : AtHand → List Action → Result (Unit {0}) Unwritten
 CarriesFirst old all (Ok u) new rest = carried_out old all ≡ carried_out new rest
 CarriesFirst old all (Err (Met condition)) new rest = carried_out old all ≡ Err condition
 CarriesFirst old all (Err (Memory error)) new rest = Unit {0}
+
+-- A call appends what is printed and answers how many characters the record has that stays open, or it meets the condition; a
+-- condition and want of memory leave the text.
+abbrev pub Prints : ℕ → Result Printed Condition → List ℕ → Result ℕ Unwritten → List ℕ → Type 0
+Prints begun (Ok p) old (Ok count) new = (count ≡ open_count begun p) × (new ≡ old ++ (text_of p.records ++ p.«open»))
+Prints begun (Ok p) old (Err (Met met)) new = ⊥
+Prints begun (Ok p) old (Err (Memory error)) new = new ≡ old
+Prints begun (Err condition) old (Ok count) new = ⊥
+Prints begun (Err condition) old (Err (Met met)) new = (met ≡ condition) × (new ≡ old)
+Prints begun (Err condition) old (Err (Memory error)) new = new ≡ old

@@ -2,14 +2,21 @@
 #![tactic(auto)]
 
 mod change;
+mod formatted;
 mod laws;
 mod print;
+mod stored;
 #[cfg(test)]
 mod tests;
 mod transfer;
+mod unformatted;
 mod writer;
 
 pub use change::EditChange;
+pub use formatted::write_lines;
 pub use laws::items_are_in_order;
 pub use print::{print_explicit, print_records};
 pub use transfer::{Layout, Members, Transfer, TransferSpec};
+pub use unformatted::{
+    read_direct, read_sequential, read_stream, write_direct, write_sequential, write_stream,
+};

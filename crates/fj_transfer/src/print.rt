@@ -1,19 +1,20 @@
 // The records of a formatted output.
-ghost use Rattle.std.specs.Prelude.{◌≡◌, take, IfOk, IfErr, IfSome, OnOk, OnErr, Ok};
+ghost use Rattle.std.specs.Prelude.{◌≡◌, ◌+◌, ◌-◌, ◌==◌, ◌≤◌, length, take, if◌then◌else◌, IfOk, IfErr, OnOk, OnErr, Ok};
 ghost use Rattle.fj_value.specs.declared.condition.Condition.TheVariants.{Fine};
 ghost use Rattle.fj_line.specs.Actions.{Appends, first_record, output};
-ghost use Rattle.fj_line.specs.Page.{at_hand, IsIn, Keeps, Carries, told_by};
+ghost use Rattle.fj_line.specs.Page.{at_hand, IsIn, IsAtEnd, Keeps, Carries, told_by};
 ghost use Rattle.fj_list.specs.Items.{items_of, items_left, values_in};
 ghost use Rattle.fj_list.specs.Listing.{list_actions};
 ghost use Rattle.fj_transfer.specs.Change.{changed};
 ghost use Rattle.fj_transfer.specs.Explicit.{explicit_actions};
-ghost use Rattle.fj_transfer.specs.Output.{IsRecords, actions_of};
+ghost use Rattle.fj_transfer.specs.Printing.{IsRecords, actions_by, control_of, printed_by};
+ghost use Rattle.fj_transfer.specs.Writing.{Prints};
 
 use crate::transfer::{Layout, Transfer};
 use crate::writer::Writer;
 use fj_format::Format;
 use fj_line::{Page, Unwritten};
-use fj_list::{OutputItems, put_list};
+use fj_list::{Moved, OutputItems, put_list};
 use fj_value::{Condition, EditModes, Text};
 use std::alloc::{AllocError, Global};
 
@@ -117,9 +118,9 @@ pub fn print_records(
     out: &mut Text,
 ) -> Result<Condition, AllocError>
     requires { IsRecords job.now.spec.layout }
-    ensures records { IfOk result (λ condition. IfSome
-        (actions_of (changed job.now.spec.edit modes) job.now.spec.advance job.now.spec.layout (items_of job.now.moved))
-        (λ actions. Appends (output (first_record recl begun) actions) out.old condition out.new)) }
+    ensures records { IfOk result (λ condition. Appends (output (first_record recl begun)
+        (actions_by job.now.spec.layout (control_of job.now.spec.layout) (changed job.now.spec.edit modes) job.now.spec.advance job.now.moved))
+        out.old condition out.new) }
     ensures err { OnErr result (out.new ≡ out.old) }
 {
     let modes = job.spec.edit.change(modes);
@@ -130,5 +131,71 @@ pub fn print_records(
         }
         Layout::Listed => print_listed(modes, items, recl, begun, out),
         Layout::Unformatted | Layout::Group(..) => unreachable!(),
+    }
+}
+
+/// Writes an output by its layout on a record that begins.
+fn write_layout(
+    page: &mut Page,
+    text: &mut Text,
+    modes: EditModes,
+    layout: &Layout,
+    advance: bool,
+    moved: &Moved,
+) -> Result<(), Unwritten>
+    requires records { IsRecords layout.now }
+    requires within { IsIn page.old text.old }
+    requires end { IsAtEnd page.old text.old }
+    requires at { page.old.at ≡ 0 }
+    ensures done { Carries (at_hand page.old text.old) (actions_by layout.now (control_of layout.now) modes advance moved.now) result (at_hand page.new text.new) }
+    ensures within { OnOk result (IsIn page.new text.new) }
+    ensures kept { Keeps page.old text.old page.new text.new }
+{
+    let items = OutputItems::of_cells(moved.cells.as_slice(), moved.order.as_slice());
+    match layout {
+        Layout::Explicit(format) => write_explicit(page, text, modes, format, advance, items),
+        Layout::Listed => put_list(page, text, modes, items),
+        Layout::Unformatted | Layout::Group(..) => unreachable!(),
+    }
+}
+
+/// How many characters the record at hand has, with so many that stood in the first one before.
+fn count_at(page: &Page, text: &Text, end: usize, begun: u32) -> u64
+    requires line { page.now.line ≤ length text.now }
+    requires end { end ≤ page.now.line }
+    ensures { result ≡ (if (length text.now - end) == length (at_hand page.now text.now).line.text then begun else 0)
+        + length (at_hand page.now text.now).line.text }
+{
+    let width = page.width(text);
+    let before = if text.bytes().len() - end == width {
+        begun
+    } else {
+        0
+    };
+    u64::from(before) + width as u64
+}
+
+/// The output by a layout behind so many characters of an open record, as `print_records` writes it. Answers how many
+/// characters the record has that stays open, those before the statement among them.
+pub fn print_onto(
+    layout: &Layout,
+    advance: bool,
+    modes: EditModes,
+    moved: &Moved,
+    recl: u32,
+    begun: u32,
+    out: &mut Text,
+) -> Result<u64, Unwritten>
+    requires { IsRecords layout.now }
+    ensures { Prints begun (printed_by recl begun (actions_by layout.now (control_of layout.now) modes advance moved.now)) out.old result out.new }
+{
+    let end = out.len();
+    let mut page = Page::new(out, recl, begun);
+    match write_layout(&mut page, out, modes, layout, advance, moved) {
+        Ok(()) => Ok(count_at(&page, out, end, begun)),
+        Err(unwritten) => {
+            out.truncate(end);
+            Err(unwritten)
+        }
     }
 }

@@ -3,7 +3,7 @@ ghost use Rattle.std.specs.Prelude.{◌<◌, ◌^◌, length, IfOk};
 ghost use Rattle.fj_value.specs.Kind.{IsOfKind};
 ghost use Rattle.fj_list.specs.Moved.{IsOrdered};
 ghost use Rattle.fj_transfer.specs.Moving.{HasValues};
-ghost use Rattle.fj_transfer.specs.Output.{IsRecords};
+ghost use Rattle.fj_transfer.specs.Printing.{IsRecords};
 
 use crate::{EditChange, Layout, Transfer, TransferSpec, print_explicit, print_records};
 use fj_format::parse;

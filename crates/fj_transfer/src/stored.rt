@@ -1,0 +1,113 @@
+// The values of items as the bytes of unformatted records (ISO/IEC 1539-1:2004, 9.5.4.4.1).
+ghost use Rattle.std.specs.Prelude.{◌≡◌, ◌<◌, ◌≤◌, ◌++◌, [], ◌∷◌, length, take, nat_le, if◌then◌else◌, Some, None, OnOk, IfOk, All};
+ghost use Rattle.fj_value.specs.Kind.{IsOfKind};
+ghost use Rattle.fj_value.specs.declared.value.Cell.{Cell};
+ghost use Rattle.fj_unfrec.specs.Stored.{stored_width, value_of};
+ghost use Rattle.fj_list.specs.ListInput.{kind_at, places_of, with_value};
+ghost use Rattle.fj_transfer.specs.Transfer.{widths, bytes_of, values_from, with_undefined};
+
+use fj_list::{Cells, define};
+use fj_unfrec::{get_value, put_value};
+use fj_value::{Cell, Kind, Text, Value};
+use std::alloc::{AllocError, Global};
+
+/// How many bytes a value of a kind takes.
+fn stored_width(kind: Kind) -> u32
+    ensures { result ≡ stored_width kind }
+{
+    match kind {
+        Kind::Int4 | Kind::Logical => 4,
+        Kind::Int8 => 8,
+        Kind::Chars(length) => length,
+    }
+}
+
+fn kind_at(cells: &[Cell], at: u32) -> Kind
+    requires { at < length cells.now }
+    ensures { result ≡ kind_at cells.now at }
+{
+    cells[at as usize].kind
+}
+
+/// How many bytes the items take, where they are at most so many.
+pub fn needed(cells: &[Cell], order: &[u32], most: u64) -> Option<u64>
+    requires { All (λ at. at < length cells.now) order.now }
+    ensures { result ≡ (if nat_le (widths cells.now order.now) most then Some (widths cells.now order.now) else None) }
+{
+    let mut left = most;
+    for at in order {
+        let width = u64::from(stored_width(kind_at(cells, *at)));
+        if width > left {
+            return None;
+        }
+        left -= width;
+    }
+    Some(most - left)
+}
+
+/// Adds the bytes of a cell's value.
+fn put_item(cells: &[Cell], at: u32, out: &mut Text) -> Result<(), AllocError>
+    requires there { at < length cells.now }
+    requires defined { All (λ (cell : Cell). IsOfKind cell.kind cell.value) cells.now }
+    ensures { OnOk result (out.new ≡ out.old ++ bytes_of cells.now (at ∷ [])) }
+{
+    put_value(&cells[at as usize], out)
+}
+
+/// Adds the bytes of the items' values, in their order.
+pub fn put_items(cells: &[Cell], order: &[u32], out: &mut Text) -> Result<(), AllocError>
+    requires ordered { All (λ at. at < length cells.now) order.now }
+    requires defined { All (λ (cell : Cell). IsOfKind cell.kind cell.value) cells.now }
+    ensures { OnOk result (out.new ≡ out.old ++ bytes_of cells.now order.now) }
+{
+    for at in order {
+        put_item(cells, *at, out)?;
+    }
+    Ok(())
+}
+
+/// Gives a cell its value out of the front of some bytes, and answers how many it takes.
+fn get_item(alloc: Global, cells: &mut Cells, at: u32, bytes: &[u8]) -> Result<usize, AllocError>
+    requires there { at < length cells.old }
+    requires enough { stored_width (kind_at cells.old at) ≤ length bytes.now }
+    ensures value { IfOk result (λ width. (width ≡ stored_width (kind_at cells.old at))
+        × (cells.new ≡ with_value cells.old at (value_of (kind_at cells.old at) (take width bytes.now)))) }
+    ensures places { places_of cells.new ≡ places_of cells.old }
+    ensures count { length cells.new ≡ length cells.old }
+{
+    let kind = kind_at(cells.as_slice(), at);
+    let width = stored_width(kind) as usize;
+    let mut value = Value::Undefined;
+    get_value(alloc, kind, &bytes[..width], &mut value)?;
+    define(cells, at as usize, value);
+    Ok(width)
+}
+
+/// Gives the items their values out of bytes, one after another.
+pub fn get_items(
+    alloc: Global,
+    cells: &mut Cells,
+    order: &[u32],
+    bytes: &[u8],
+) -> Result<(), AllocError>
+    requires ordered { All (λ at. at < length cells.old) order.now }
+    requires enough { widths cells.old order.now ≤ length bytes.now }
+    ensures values { OnOk result (cells.new ≡ values_from cells.old order.now bytes.now) }
+    ensures places { places_of cells.new ≡ places_of cells.old }
+{
+    let mut from = 0;
+    for at in order {
+        from += get_item(alloc, cells, *at, &bytes[from..])?;
+    }
+    Ok(())
+}
+
+/// Makes all values undefined.
+pub fn undefine(cells: &mut Cells)
+    ensures values { cells.new ≡ with_undefined cells.old }
+    ensures places { places_of cells.new ≡ places_of cells.old }
+{
+    for at in 0..cells.len() {
+        define(cells, at, Value::Undefined);
+    }
+}
