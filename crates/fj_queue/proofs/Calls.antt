@@ -9,7 +9,7 @@ use Rattle.fj_slot.specs.Serving.{Meaning}
 use Rattle.fj_slot.specs.Ledger.{Ledger}
 use Rattle.fj_queue.specs.Cell.{out_of, stops_of, submitted, told, progress, stop_code, code_of}
 use Rattle.fj_slot.specs.Ledger.{IsSized}
-use Rattle.fj_queue.specs.Cell.{IsFor, IsDueAt, IsNext}
+use Rattle.fj_queue.specs.Cell.{IsFor, IsDueAt, IsDueFor, IsNext}
 use Rattle.fj_slot.specs.Causes.{HasCause}
 use Rattle.fj_slot.specs.declared.stop.Halt.{Halt}
 use Rattle.fj_slot.specs.Ledger.{with_job, with_out, with_answer, with_halt, with_tell, can_begin, can_tell}
@@ -28,7 +28,7 @@ use Rattle.fj_queue.proofs.Moves.{puts_cell}
 use Rattle.fj_queue.proofs.Counts.{code_some, stops_one}
 use Rattle.fj_queue.specs.Tokens.{Begins, IsLast}
 use Rattle.fj_queue.specs.Answers.{NothingToBegin, IsStop, KnowsStop, Settles}
-use Rattle.fj_queue.specs.Inside.{TellsOne, IsInside, IsDueFor, Began, IsRunning, entered, left, running, ending}
+use Rattle.fj_queue.specs.Inside.{TellsOne, IsInside, Began, IsRunning, entered, left, running, ending}
 
 module _ {E J A T : Type 0} where
   pub at_view : (x y : Mine E J A T) → x ≡ y → x.0 ≡ y.0
@@ -256,7 +256,7 @@ or_right true b e = refl
 or_right false b e = e
 
 pub due_moves : {E J A S T R : Type 0} (mean : Meaning E J A S T R) (q q' : Option (Agenda E T)) (k k' : ℕ) (e : E) (j : J) → q' ≡ q → k' ≡ k → IsDueFor mean q k e j → IsDueFor mean q' k' e j
-due_moves {E} {J} {A} {S} {T} {R} mean q q' k k' e j same at d p s is st = subst (λ n. IsDueAt mean p s n e j) (sym at) (d p s (sym same ∙ is) st)
+due_moves {E} {J} {A} {S} {T} {R} mean q q' k k' e j same at d p is = let it = d p (sym same ∙ is) in (it.0, λ s js named st. subst (λ n. IsDueAt mean s js n e j) (sym at) (it.1 s js named st))
 
 pub left_then : {E J A T : Type 0} (x y : Mine E J A T) (v : View E T) (cs : List (ℕ × Option (Ledger E J A))) → x ≡ (v, cs) → y ≡ (left x.0, []) → y.0 ≡ left v
 left_then {E} {J} {A} {T} x y v cs e f = at_view y (left x.0, []) f ∙ (λ i. let m : Mine E J A T = e i in left m.0)
@@ -306,7 +306,7 @@ module _ {E J A S T R : Type 0} (mean : Meaning E J A S T R) where
   -- what settle answers
   pub settled : (v w : View E T) (m : Mine E J A T) (c : Ledger E J A) (it : Told E J A S T R) → IsInside mean m c → m.0 ≡ v → told c ≡ v.heard → TellsOutcome mean c it → KnowsStop mean v w it → Settles mean v w it
   settled v w m c it i is heard tells stop = record {
-    outcome = λ p s at st. subst (λ k. IsOutcome mean s p.jobs k it) heard (told_is mean m.0.plan c it i.sound tells p s (ap (λ (z : View E T). z.plan) is ∙ at) st);
+    outcome = λ p s js at named st. subst (λ k. IsOutcome mean s js k it) heard (told_is mean m.0.plan c it i.sound tells p s js (ap (λ (z : View E T). z.plan) is ∙ at) named st);
     stop = stop;
   }
 
@@ -318,8 +318,8 @@ module _ {E J A S T R : Type 0} (mean : Meaning E J A S T R) where
     place = omega (arith, t.0, heard, place);
     exact = λ a. let le = exact a (code_some u) in omega arith;
     rose = t.2;
-    since = λ p s at st. since_is mean m.0.plan c (record { stop = u; before = before; after = after }) i.sound t.1 p s at st;
-    behind = λ lt p s at st. behind_is mean m.0.plan c m.0.heard j i.sound (subst (λ k. slice_get c.jobs k ≡ Some j) heard (t.3 (omega (arith, heard, place)))) p s at st;
+    since = λ p at. since_is mean m.0.plan c (record { stop = u; before = before; after = after }) i.sound t.1 p at;
+    behind = λ lt p s js at named st. behind_is mean m.0.plan c m.0.heard j i.sound (subst (λ k. slice_get c.jobs k ≡ Some j) heard (t.3 (omega (arith, heard, place)))) p s js at named st;
   }
 
 -- the seat after an answer was told
@@ -340,7 +340,7 @@ inside_is mean v m c is sized sound = subst (λ z. IsInside mean z c) (sym is) r
 -- the view before may be another that agrees
 pub settles_too : {E J A S T R : Type 0} (mean : Meaning E J A S T R) (v v' w : View E T) (it : Told E J A S T R) → v'.plan ≡ v.plan → v'.heard ≡ v.heard → v'.stopped ≡ v.stopped → v'.stopped_at ≡ v.stopped_at → v'.answered ≡ v.answered → Settles mean v w it → Settles mean v' w it
 settles_too {E} {J} {A} {S} {T} {R} mean v v' w it plan heard stopped stopped_at answered s = record {
-  outcome = λ p x at st. subst (λ k. IsOutcome mean x p.jobs k it) (sym heard) (s.outcome p x (sym plan ∙ at) st);
+  outcome = λ p x js at named st. subst (λ k. IsOutcome mean x js k it) (sym heard) (s.outcome p x js (sym plan ∙ at) named st);
   stop = knows it s.stop;
 }
   where
@@ -351,8 +351,8 @@ settles_too {E} {J} {A} {S} {T} {R} mean v v' w it plan heard stopped stopped_at
       place = subst (λ n. w.stopped_at ≤ n) (sym heard) k.place;
       exact = λ a. subst (λ n. n ≤ w.stopped_at) (sym heard) (k.exact (sym answered ∙ a));
       rose = k.rose;
-      since = λ p x at st. k.since p x (sym plan ∙ at) st;
-      behind = λ lt p x at st. subst (λ n. (t : T) × (slice_get p.jobs n ≡ Some t) × (mean.task job ≡ Some t)) (sym heard) (k.behind (subst (λ n. w.stopped_at < n) heard lt) p x (sym plan ∙ at) st);
+      since = λ p at. k.since p (sym plan ∙ at);
+      behind = λ lt p x js at named st. subst (λ n. (t : T) × (slice_get js n ≡ Some t) × (mean.task job ≡ Some t)) (sym heard) (k.behind (subst (λ n. w.stopped_at < n) heard lt) p x js (sym plan ∙ at) named st);
     }
 
 pub or_left : (a b : Bool) → a ≡ true → a || b ≡ true

@@ -1,5 +1,5 @@
 -- What a settle answers, and what a hand knows that found nothing to begin.
-use Rattle.std.specs.Prelude.{◌≡◌, ◌≢◌, ◌⊎◌, ◌+◌, ◌*◌, ◌≤◌, ◌<◌, ℕ, true, Some, slice_get}
+use Rattle.std.specs.Prelude.{◌≡◌, ◌≢◌, ◌⊎◌, ◌+◌, ◌*◌, ◌≤◌, ◌<◌, ℕ, true, List, Some, slice_get}
 use Rattle.fj_outside.specs.declared.errors.Stop.{Stop}
 use Rattle.fj_outside.specs.declared.errors.Stop.TheVariants.{Failed}
 use Rattle.fj_outside.specs.Faults.{Rose}
@@ -24,9 +24,9 @@ module _ {E J A S T R : Type 0} (mean : Meaning E J A S T R) where
     pub exact : v.answered ≡ true → v.heard ≤ w.stopped_at
     pub rose : stop ≡ Failed → Rose before after
     -- the first count is at least the starting engine's
-    pub since : (p : Agenda E T) (s : S) → v.plan ≡ Some p → mean.state p.start ≡ Some s → mean.faults p.start ≤ before
+    pub since : (p : Agenda E T) → v.plan ≡ Some p → mean.faults p.start ≤ before
     -- a job behind the stop comes back as the plan has it
-    pub behind : w.stopped_at < v.heard → (p : Agenda E T) (s : S) → v.plan ≡ Some p → mean.state p.start ≡ Some s → (t : T) × (slice_get p.jobs v.heard ≡ Some t) × (mean.task job ≡ Some t)
+    pub behind : w.stopped_at < v.heard → (p : Agenda E T) (s : S) (ts : List T) → v.plan ≡ Some p → p.jobs ≡ Some ts → mean.state p.start ≡ Some s → (t : T) × (slice_get ts v.heard ≡ Some t) × (mean.task job ≡ Some t)
 
   -- what the submitter then knows of a stop
   abbrev pub KnowsStop : View E T → View E T → Told E J A S T R → Type 0
@@ -35,5 +35,5 @@ module _ {E J A S T R : Type 0} (mean : Meaning E J A S T R) where
 
   -- what a settle answers: what becomes of the plan's first job that was not told
   pub record Settles (v w : View E T) (it : Told E J A S T R) : Type 0 where
-    pub outcome : (p : Agenda E T) (s : S) → v.plan ≡ Some p → mean.state p.start ≡ Some s → IsOutcome mean s p.jobs v.heard it
+    pub outcome : (p : Agenda E T) (s : S) (ts : List T) → v.plan ≡ Some p → p.jobs ≡ Some ts → mean.state p.start ≡ Some s → IsOutcome mean s ts v.heard it
     pub stop : KnowsStop v w it

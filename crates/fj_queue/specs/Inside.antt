@@ -1,11 +1,10 @@
 -- How a seat stands while it has the cell.
 use Rattle.std.specs.Prelude.{◌≡◌, ◌+◌, ◌*◌, ℕ, true, false, [], ◌∷◌, Option, Some, None}
-use Rattle.fj_queue.specs.declared.view.Agenda.{Agenda}
 use Rattle.fj_slot.specs.Serving.{Meaning}
 use Rattle.fj_slot.specs.Ledger.{Ledger}
 use Rattle.fj_queue.specs.Cell.{progress, submitted, told}
 use Rattle.fj_slot.specs.Ledger.{IsSized}
-use Rattle.fj_queue.specs.Cell.{IsFor, IsDueAt, stop_code}
+use Rattle.fj_queue.specs.Cell.{IsFor, stop_code}
 use Rattle.fj_slot.specs.declared.told.Told.{Told}
 use Rattle.fj_queue.specs.declared.view.View.{View}
 use Rattle.fj_queue.specs.Rule.{is_live}
@@ -61,10 +60,6 @@ module _ {E J A S T R : Type 0} (mean : Meaning E J A S T R) where
     pub going : c.halt ≡ None
     pub sized : IsSized c
     pub sound : IsFor mean m.0.plan c
-
-  -- where a plan was named, its job k is performed with this engine
-  abbrev pub IsDueFor : Option (Agenda E T) → ℕ → E → J → Type 0
-  IsDueFor q k e j = (p : Agenda E T) (s : S) → q ≡ Some p → mean.state p.start ≡ Some s → IsDueAt mean p s k e j
 
 -- the view of a seat that runs the job k, and after it
 abbrev pub running : {E T : Type 0} → View E T → ℕ → View E T

@@ -2,8 +2,8 @@
 ghost use Rattle.std.specs.Prelude.{◌≡◌, ◌+◌, ◌≤◌, ◌<◌, true, false, [], Some, None, Err};
 ghost use Rattle.fj_slot.specs.Causes.{HasCause};
 ghost use Rattle.fj_slot.specs.Ledger.{with_answer, with_halt};
-ghost use Rattle.fj_queue.specs.Cell.{IsFor, told, code_of};
-ghost use Rattle.fj_queue.specs.Inside.{IsInside, IsDueFor, IsSame, IsRunning, Began, running, ending, left};
+ghost use Rattle.fj_queue.specs.Cell.{IsFor, IsDueFor, told, code_of};
+ghost use Rattle.fj_queue.specs.Inside.{IsInside, IsSame, IsRunning, Began, running, ending, left};
 ghost use Rattle.fj_queue.specs.Answers.{NothingToBegin};
 ghost use Rattle.fj_queue.specs.Knows.{learned, Serves};
 

@@ -2,10 +2,10 @@
 use crate::named::Named;
 use std::collections::LinkedList;
 
-/// A plan: the engine that the slot starts with, and all its jobs as plain data. Contracts alone see it.
+/// A plan: the engine that the slot starts with, and all its jobs as plain data where they are known. Contracts alone see it.
 pub struct Agenda<E, T> {
     pub start: E,
-    pub jobs: LinkedList<T>,
+    pub jobs: Option<LinkedList<T>>,
 }
 
 /// What a seat at the table knows. No value of it is made.
