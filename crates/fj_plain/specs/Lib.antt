@@ -10,6 +10,7 @@ pub mod Inquiring
 pub mod Statement
 pub mod Reaching
 pub mod PendingLaws
+pub mod TellingLaws
 pub mod HaltLaws
 pub mod UnitLaws
 pub mod CutLaws

@@ -9,6 +9,7 @@ mod file_cases;
 mod halt_laws;
 mod pending_laws;
 mod statement_cases;
+mod telling_laws;
 mod transfer_cases;
 mod unit_laws;
 
@@ -25,7 +26,9 @@ pub use file_cases::{
     frame_is_broken, frame_is_written_and_read, inquiry_is_behind, pending_by_identifier,
     record_is_short,
 };
-pub use halt_laws::{halts_are_caused, halts_begin_and_end, skipped_tell_the_cause};
+pub use halt_laws::{
+    halts_are_caused, halts_begin_and_end, skipped_changes_no_file, skipped_tell_the_cause,
+};
 pub use pending_laws::{
     identifiers_rise, nothing_is_told, pending_turns, places_are_apart, prohibited_does_nothing,
 };
@@ -34,6 +37,7 @@ pub use statement_cases::{
     scratch_file_is_gone, scratch_file_is_gone_at_a_stop, size_is_undefined, tells_come_first,
     tests_are_in_order,
 };
+pub use telling_laws::gravest_is_told;
 pub use transfer_cases::{
     blanks_are_read, closed_file_is_there, descriptor_is_wanting, end_alone_ends,
     fields_are_written, format_is_used_again, group_is_another, group_is_read_and_written,
