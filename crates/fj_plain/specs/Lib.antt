@@ -19,3 +19,4 @@ pub mod Cases
 pub mod TransferCases
 pub mod FileCases
 pub mod StatementCases
+pub mod WaitCases

@@ -12,6 +12,7 @@ mod statement_cases;
 mod telling_laws;
 mod transfer_cases;
 mod unit_laws;
+mod wait_cases;
 
 pub use cases::{
     direct_gap_is_filled, end_of_file_is_told, end_of_record_is_counted, file_of_another_unit,
@@ -48,4 +49,8 @@ pub use transfer_cases::{
 pub use unit_laws::{
     assignment_changes_variables, closing_leaves_each, files_are_apart, later_is_as_at_once,
     pending_are_connected, telling_changes_no_file, units_ascend,
+};
+pub use wait_cases::{
+    closes_all_the_same, end_tells_and_stops, end_tells_in_order, first_file_is_closed,
+    lowest_rule_stops, pending_is_undefined, size_is_held, statements_wait,
 };
