@@ -10,7 +10,8 @@ use Rattle.std.proofs.lemmas.List.Quantifiers.{all_pairs_push}
 use Rattle.fj_value.specs.declared.condition.Condition.{Condition}
 use Rattle.fj_value.specs.declared.value.Cell.{Cell}
 use Rattle.fj_connect.specs.Connection.{Connection}
-use Rattle.fj_transfer.specs.Transfer.{Done}
+use Rattle.fj_value.specs.declared.value.Value.TheVariants.{Undefined}
+use Rattle.fj_transfer.specs.Transfer.{Done, with_undefined}
 use Rattle.fj_statement.specs.declared.deck.Variable.{Variable}
 use Rattle.fj_statement.specs.declared.statement.Transfer.{Transfer}
 use Rattle.fj_statement.specs.declared.statement.Statement.TheVariants as statement
@@ -23,7 +24,7 @@ use Rattle.fj_plain.specs.Connecting.{most_units}
 use Rattle.fj_plain.specs.State.{State, Files, Unit, Entry, found, with_unit, inserted, without_file, disconnected, all_closed, start, halts}
 use Rattle.fj_plain.specs.Reaching.{cause_of}
 use Rattle.fj_plain.specs.PendingLaws.{AreApart}
-use Rattle.fj_plain.specs.HaltLaws.{IsSkipped}
+use Rattle.fj_plain.specs.HaltLaws.{Skips, IsSkipped}
 use Rattle.fj_plain.specs.UnitLaws.{Ascends, OneUnit, Away, is_connected}
 use Rattle.fj_plain.proofs.Lists.{pairs_none, pairs_map, all_both, any_map, no_longer}
 use Rattle.fj_plain.proofs.Tells.{rising, Whole, left_over, no_cause, cause_told, cause_last, same_cause}
@@ -182,6 +183,22 @@ skipped_has : (o : Option Condition) (cause : Condition) (c : Connection) (input
 skipped_has None cause c input cells done e = cc
 skipped_has (Some x) cause c input cells done e = cc
 
+-- the cells of an entry
+abbrev kept : Transfer → Done → List Cell
+kept t done = if t.input then done.cells else []
+
+skipped_values : (t : Transfer) (o : Option Condition) (cause : Condition) (c : Connection) (cells : List Cell) (done : Done) → o ≡ Some cause → All (λ (cell : Cell). cell.value ≡ Undefined) (kept t (unless_halted o c t.input cells done))
+skipped_values t None cause c cells done e = cc
+skipped_values t (Some x) cause c cells done e = by t.input
+  where
+    by : (b : Bool) → All (λ (cell : Cell). cell.value ≡ Undefined) (if b then (if b then with_undefined cells else cells) else [])
+    by true = All-map (λ (cell : Cell). cell.value ≡ Undefined) (λ (cell : Cell). record cell { value = Undefined }) cells (λ k d within. refl)
+    by false = All-nil (λ (cell : Cell). cell.value ≡ Undefined)
+
+skipped_count : (o : Option Condition) (cause : Condition) (c : Connection) (input : Bool) (cells : List Cell) (done : Done) → o ≡ Some cause → (unless_halted o c input cells done).count ≡ None
+skipped_count None cause c input cells done e = cc
+skipped_count (Some x) cause c input cells done e = refl
+
 skipped_is : (o : Option Condition) (c : Connection) (input : Bool) (cells : List Cell) (done : Done) → done.connection.name ≡ c.name → (unless_halted o c input cells done).connection.name ≡ c.name
 skipped_is None c input cells done e = e
 skipped_is (Some x) c input cells done e = refl
@@ -192,7 +209,8 @@ sound_begun variables s t n u done at name allowed h = record {
   rise = all_pairs_push rising s.book e h.rise h.below;
   below = All-push (λ (x : Entry). x.id < s.next + 1) s.book e (All-weaker (λ (x : Entry). x.id < s.next) (λ (x : Entry). x.id < s.next + 1) (λ x lt. omega (arith, lt)) s.book h.below) (omega arith);
   apart = all_pairs_push AreApart s.book e h.apart (new_is_apart variables s t allowed e refl refl);
-  skip = all_pairs_push IsSkipped s.book e h.skip (λ k d within same halting. skipped_has u.halt (get_or s.book k d).condition u.connection t.input (moved_by variables s t).cells done (here ∙ same_cause u.number s.book h.skip k d within same halting));
+  skip = all_pairs_push IsSkipped s.book e h.skip (λ k d within same halting.
+      skips (get_or s.book k d) (here ∙ same_cause u.number s.book h.skip k d within same halting));
   join = All-push (joined (with_unit new s.units)) s.book e (All-weaker (joined s.units) (joined (with_unit new s.units)) (λ x k. replaced_connected s.units new x.unit ∙ k) s.book h.join)
       (replaced_connected s.units new u.number ∙ ap (is_connected s.units) (found_is s.units n u at) ∙ found_connected s.units n u at);
   halts = All-map (caused (s.book ++ e ∷ [])) (λ (x : Unit). if x.number == u.number then new else x) s.units
@@ -217,6 +235,13 @@ sound_begun variables s t n u done at name allowed h = record {
 
     here : caused s.book u
     here = found_all (caused s.book) s.units n u h.halts at
+
+    skips : (a : Entry) → u.halt ≡ Some a.condition → Skips a e
+    skips a k = record {
+      condition = skipped_has u.halt a.condition u.connection t.input (moved_by variables s t).cells done k;
+      values = skipped_values t u.halt a.condition u.connection (moved_by variables s t).cells done k;
+      count = skipped_count u.halt a.condition u.connection t.input (moved_by variables s t).cells done k;
+    }
 
     behind : (o : Option Condition) (c : Condition) → (elim o as (λ _. Option Condition) [ Some x ↦ Some x | None ↦ if (u.number == u.number) && halts c then Some c else None ]) ≡ halt_behind o c
     behind (Some x) c = refl

@@ -240,7 +240,7 @@ same_cause n (x ∷ xs) h = by (same_cause n xs (pairs_tail IsSkipped x xs h)) (
     goal b a = a.unit ≡ n → halts a.condition ≡ true → (if b then Some x.condition else cause_of xs n) ≡ Some a.condition
 
     behind : x.unit ≡ n → halts x.condition ≡ true → (a : Entry) → IsSkipped x a → goal true a
-    behind e g a s i j = ap (λ (c : Condition). Some c) (sym (s (e ∙ sym i) g))
+    behind e g a s i j = ap (λ (c : Condition). Some c) (sym (s (e ∙ sym i) g).condition)
 
     by : All (λ (a : Entry). a.unit ≡ n → halts a.condition ≡ true → cause_of xs n ≡ Some a.condition) xs → (b c : Bool) → (x.unit == n) ≡ b → halts x.condition ≡ c → All (λ (a : Entry). a.unit ≡ n → halts a.condition ≡ true → (if b && c then Some x.condition else cause_of xs n) ≡ Some a.condition) (x ∷ xs)
     by rest true true e g = All-cons (λ a. a.unit ≡ n → halts a.condition ≡ true → Some x.condition ≡ Some a.condition) x xs (λ i j. refl)

@@ -13,7 +13,7 @@ use Rattle.std.proofs.lemmas.Map.Views.{any-filter_same}
 use Rattle.fj_connect.specs.Connection.{Connection}
 use Rattle.fj_connect.specs.Positions.{ended}
 use Rattle.fj_plain.specs.Connecting.{most_units}
-use Rattle.fj_plain.specs.UnitLaws.{Ascends, OneUnit, is_connected}
+use Rattle.fj_plain.specs.UnitLaws.{Ascends, OneUnit, is_connected, joined}
 use Rattle.fj_plain.specs.State.{Files, Unit, found, with_unit, inserted, without_unit, without_file, left}
 use Rattle.fj_plain.proofs.Lists.{no, pairs_head, pairs_tail, pairs_append, pairs_map, pairs_weaker, all_both, any_map, any_same, no_longer_both}
 use Rattle.fj_plain.proofs.Walk.{Missing, found_is, not_true}
@@ -64,7 +64,7 @@ pub length_map : {X Y : Type 0} (f : X → Y) (xs : List X) → length (map f xs
 length_map f [] = refl
 length_map f (x ∷ xs) = ap (λ k. suc k) (length_map f xs)
 
-abbrev swap : Unit → Unit → Unit
+abbrev pub swap : Unit → Unit → Unit
 swap new x = if x.number == new.number then new else x
 
 pub swap_number : (new x : Unit) → (swap new x).number ≡ x.number
@@ -81,6 +81,18 @@ module _ (us : List Unit) (n : ℕ) (u new : Unit) (ascends : Ascends us) (at : 
       by x true e f =
           let here : x.number ≡ n = eqb-true x.number new.number e ∙ number ∙ found_is us n u at in
           name ∙ ap (λ (v : Unit). v.connection.name) (sym (f (eq-eqb x.number n here)))
+      by x false e f = refl
+
+  pub swap_joined : new.connection ≡ u.connection → All (λ (x : Unit). joined (swap new x) ≡ joined x) us
+  swap_joined same = All-weaker (λ (x : Unit). (x.number == n) ≡ true → x ≡ u) (λ (x : Unit). joined (swap new x) ≡ joined x) (λ x f. by x (x.number == new.number) refl f) us (only_found us n u ascends at)
+    where
+      pair : joined new ≡ joined u
+      pair = ap (λ k. joined (record new { number = k })) number ∙ ap (λ c. joined (record u { connection = c })) same
+
+      by : (x : Unit) (b : Bool) → (x.number == new.number) ≡ b → ((x.number == n) ≡ true → x ≡ u) → joined (if b then new else x) ≡ joined x
+      by x true e f =
+          let here : x.number ≡ n = eqb-true x.number new.number e ∙ number ∙ found_is us n u at in
+          pair ∙ ap joined (sym (f (eq-eqb x.number n here)))
       by x false e f = refl
 
   pub replaced_ascend : Ascends (with_unit new us)

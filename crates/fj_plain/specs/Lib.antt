@@ -10,6 +10,7 @@ pub mod Inquiring
 pub mod Statement
 pub mod Reaching
 pub mod PendingLaws
+pub mod TellingLaws
 pub mod HaltLaws
 pub mod UnitLaws
 pub mod CutLaws
@@ -18,3 +19,4 @@ pub mod Cases
 pub mod TransferCases
 pub mod FileCases
 pub mod StatementCases
+pub mod WaitCases

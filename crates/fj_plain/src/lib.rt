@@ -9,8 +9,10 @@ mod file_cases;
 mod halt_laws;
 mod pending_laws;
 mod statement_cases;
+mod telling_laws;
 mod transfer_cases;
 mod unit_laws;
+mod wait_cases;
 
 pub use cases::{
     direct_gap_is_filled, end_of_file_is_told, end_of_record_is_counted, file_of_another_unit,
@@ -25,7 +27,9 @@ pub use file_cases::{
     frame_is_broken, frame_is_written_and_read, inquiry_is_behind, pending_by_identifier,
     record_is_short,
 };
-pub use halt_laws::{halts_are_caused, halts_begin_and_end, skipped_tell_the_cause};
+pub use halt_laws::{
+    halts_are_caused, halts_begin_and_end, skipped_changes_no_file, skipped_tell_the_cause,
+};
 pub use pending_laws::{
     identifiers_rise, nothing_is_told, pending_turns, places_are_apart, prohibited_does_nothing,
 };
@@ -34,6 +38,7 @@ pub use statement_cases::{
     scratch_file_is_gone, scratch_file_is_gone_at_a_stop, size_is_undefined, tells_come_first,
     tests_are_in_order,
 };
+pub use telling_laws::gravest_is_told;
 pub use transfer_cases::{
     blanks_are_read, closed_file_is_there, descriptor_is_wanting, end_alone_ends,
     fields_are_written, format_is_used_again, group_is_another, group_is_read_and_written,
@@ -44,4 +49,8 @@ pub use transfer_cases::{
 pub use unit_laws::{
     assignment_changes_variables, closing_leaves_each, files_are_apart, later_is_as_at_once,
     pending_are_connected, telling_changes_no_file, units_ascend,
+};
+pub use wait_cases::{
+    closes_all_the_same, end_tells_and_stops, end_tells_in_order, first_file_is_closed,
+    lowest_rule_stops, pending_is_undefined, size_is_held, statements_wait,
 };

@@ -1,0 +1,67 @@
+-- Worked cases: what waits, what is prohibited, and what is left of a statement that is not carried out.
+use Rattle.std.specs.Prelude.{◌≡◌, ℕ, pos, negsuc, true, false, List, [], ◌∷◌, Some, None, codes}
+use Rattle.fj_value.specs.declared.value.Value.TheVariants.{Undefined}
+use Rattle.fj_value.specs.declared.condition.Rule.TheVariants.{P1, P2, P3}
+use Rattle.fj_list.specs.ListText.{text_of}
+use Rattle.fj_modes.specs.declared.specifiers.FileStatus.TheVariants.{Old, Scratch}
+use Rattle.fj_modes.specs.declared.unit.Motion.TheVariants.{Backspace, Rewind, Endfile, Flush}
+use Rattle.fj_modes.specs.declared.unit.UnitRef.TheVariants as unit
+use Rattle.fj_statement.specs.declared.statement.Statement.TheVariants as statement
+use Rattle.fj_statement.specs.declared.statement.Control.TheVariants.{Listed}
+use Rattle.fj_plain.specs.Statement.{execution, ended, error_stop, prohibition}
+use Rattle.fj_plain.specs.Cases.{Comes, int, told}
+use Rattle.fj_plain.specs.StatementCases.{at_end, in_part}
+use Rattle.fj_plain.specs.DeckWords.{Written, integers, at, var, whole, two_lines, no_files, file, lines_from, opening, replacing, replacing_later, old_later, plain_open, «end», motion, assign, transfer, i_transfer, now, later, by_i, bare, read_later}
+
+abbrev pub written_later : ℕ → ℕ → Written
+written_later number n = by_i 1 (later (i_transfer false number 1 (whole (pos n))))
+
+-- OPEN of the same file, FLUSH, a synchronous WRITE, ENDFILE, BACKSPACE, REWIND and END each tell what is pending on the unit
+abbrev pub StatementsWait : Type 0
+StatementsWait = let result = execution [] (lines_from 1 (opening 10 (replacing_later (codes "W")) None
+    ∷ written_later 10 1 ∷ opening 10 (record plain_open { blank_zero = Some true }) None ∷ written_later 10 2 ∷ motion Flush 10
+    ∷ written_later 10 3 ∷ by_i 1 (now (i_transfer false 10 1 (whole (pos 4)))) ∷ written_later 10 5 ∷ motion Endfile 10 ∷ motion Rewind 10
+    ∷ written_later 10 6 ∷ motion Backspace 10 ∷ written_later 10 7 ∷ motion Rewind 10 ∷ written_later 10 8 ∷ «end» ∷ [])) no_files in
+    Comes result ended [] × (result.tells ≡ told 3 1 ∷ told 5 2 ∷ told 7 3 ∷ told 9 4 ∷ told 12 5 ∷ told 14 6 ∷ told 16 7 ∷ []) × (result.files (codes "W") ≡ Some (text_of (codes "8" ∷ [])))
+
+-- END tells by identifiers, and not one unit after another
+abbrev pub EndTellsInOrder : Type 0
+EndTellsInOrder = let result = execution [] (lines_from 1 (opening 10 (replacing_later (codes "A")) None ∷ opening 11 (replacing_later (codes "B")) None
+    ∷ written_later 11 1 ∷ written_later 10 2 ∷ written_later 11 3 ∷ «end» ∷ [])) no_files in
+    Comes result ended [] × (result.tells ≡ record (told 6 1) { unit = 11 } ∷ told 6 2 ∷ record (told 6 3) { unit = 11 } ∷ [])
+
+-- IOSTAT= of a pending READ gets 0 at once; what END then tells ends the deck in error, at the line of END
+abbrev pub EndTellsAndStops : Type 0
+EndTellsAndStops = let result = execution (integers 2) (lines_from 2 (opening 10 (old_later (codes "E")) None
+    ∷ by_i 1 (later (record (i_transfer true 10 1 (var 0)) { iostat = Some (at 1) })) ∷ «end» ∷ [])) (file (codes "E") []) in
+    Comes result (error_stop 4 (negsuc 0)) (Undefined ∷ int (pos 0) ∷ []) × (result.tells ≡ at_end 4 1 ∷ [])
+
+-- CLOSE closes where it tells the end of the file, also a scratch file that it was to keep
+abbrev pub ClosesAllTheSame : Type 0
+ClosesAllTheSame = let result = execution (integers 3) (lines_from 2 (opening 10 (record plain_open { status = Some Scratch; asynchronous = Some true }) None ∷ read_later 10 1 0
+    ∷ bare (statement.CloseUnit (unit.Number 10) (Some true) (Some (at 1))) ∷ bare (now (record (transfer true 10 Listed (var 0 ∷ [])) { iostat = Some (at 2) })) ∷ «end» ∷ [])) no_files in
+    Comes result ended (Undefined ∷ int (negsuc 0) ∷ int (pos 1) ∷ []) × (result.files (codes "SCRATCH.10") ≡ None)
+
+-- a pending READ leaves its item undefined until it is told
+abbrev pub PendingIsUndefined : Type 0
+PendingIsUndefined = Comes (execution (integers 2) (lines_from 2 (assign 0 (whole (pos 7)) ∷ opening 10 (old_later (codes "R")) None ∷ read_later 10 1 0 ∷ assign 1 (var 0) ∷ «end» ∷ [])) two_lines)
+    (prohibition 5 P1) (Undefined ∷ Undefined ∷ [])
+
+-- and holds the place of SIZE=, which is undefined too
+abbrev pub SizeIsHeld : Type 0
+SizeIsHeld = Comes (execution (integers 2) (lines_from 2 (assign 1 (whole (pos 7)) ∷ opening 10 (old_later (codes "R")) None
+    ∷ by_i 1 (later (record (in_part (i_transfer true 10 1 (var 0))) { size = Some (at 1) })) ∷ assign 1 (whole (pos 8)) ∷ «end» ∷ [])) two_lines)
+    (prohibition 5 P2) (Undefined ∷ Undefined ∷ [])
+
+-- the lowest rule that is broken: a pending place before an undefined one, and that before a place that is defined twice
+abbrev pub LowestRuleStops : Type 0
+LowestRuleStops = Comes (execution (integers 2) (lines_from 2 (assign 0 (whole (pos 3)) ∷ opening 10 (replacing_later (codes "W")) None ∷ by_i 1 (later (i_transfer false 10 1 (var 0))) ∷ assign 0 (var 1) ∷ «end» ∷ [])) no_files)
+    (prohibition 5 P2) (int (pos 3) ∷ Undefined ∷ [])
+    × Comes (execution (integers 1) (lines_from 2 (opening 10 (replacing (codes "W")) None ∷ by_i 1 (now (record (i_transfer false 10 1 (var 0)) { iostat = Some (at 0) })) ∷ «end» ∷ [])) no_files)
+    (prohibition 3 P3) (Undefined ∷ [])
+
+-- OPEN of another file, which is not there, has closed the first one
+abbrev pub FirstFileIsClosed : Type 0
+FirstFileIsClosed = let result = execution (integers 2) (lines_from 2 (opening 10 (replacing (codes "X")) None ∷ by_i 1 (now (i_transfer false 10 1 (whole (pos 5))))
+    ∷ opening 10 (record plain_open { file = Some (codes "Y"); status = Some Old }) (Some (at 0)) ∷ by_i 1 (now (record (i_transfer false 10 1 (whole (pos 6))) { iostat = Some (at 1) })) ∷ «end» ∷ [])) no_files in
+    Comes result ended (int (pos 5) ∷ int (pos 1) ∷ []) × (result.files (codes "X") ≡ Some (text_of (codes "5" ∷ []))) × (result.files (codes "Y") ≡ None)

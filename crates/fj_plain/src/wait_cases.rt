@@ -1,0 +1,42 @@
+// Worked cases of what waits, what is prohibited, and what is left of a statement that is not carried out.
+ghost use Rattle.fj_plain.specs.WaitCases.{StatementsWait, EndTellsInOrder, EndTellsAndStops, ClosesAllTheSame, PendingIsUndefined, SizeIsHeld, LowestRuleStops, FirstFileIsClosed};
+
+/// OPEN, FLUSH, WRITE, ENDFILE, BACKSPACE, REWIND and END tell what is pending on the unit.
+pub fn statements_wait()
+    ensures { StatementsWait }
+{}
+
+/// END tells by identifiers, and not one unit after another.
+pub fn end_tells_in_order()
+    ensures { EndTellsInOrder }
+{}
+
+/// What END tells ends the deck in error.
+pub fn end_tells_and_stops()
+    ensures { EndTellsAndStops }
+{}
+
+/// CLOSE closes where it tells the end of the file.
+pub fn closes_all_the_same()
+    ensures { ClosesAllTheSame }
+{}
+
+/// A pending READ leaves its item undefined until it is told.
+pub fn pending_is_undefined()
+    ensures { PendingIsUndefined }
+{}
+
+/// A pending READ holds the place of SIZE=.
+pub fn size_is_held()
+    ensures { SizeIsHeld }
+{}
+
+/// The lowest rule that is broken stops the deck.
+pub fn lowest_rule_stops()
+    ensures { LowestRuleStops }
+{}
+
+/// OPEN of another file closes the first one, also where it is refused then.
+pub fn first_file_is_closed()
+    ensures { FirstFileIsClosed }
+{}
