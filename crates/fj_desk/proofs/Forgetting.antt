@@ -52,6 +52,23 @@ module _ (Sound : State → Type 0) (caused : (s : State) → Sound s → Each (
       by (Some x) None e u f = cc
       by (Some x) (Some y) e u f = record { ending = e; same = u.same }
 
+  -- what is reached, too where a statement ended the deck
+  pub reached_tied : (variables : List Variable) (sts : List Stated) (p : Desked) (s : State) → Tied p s → Sound s → Tied (over_desks variables sts p).desked (executed variables sts s).state × Sound (executed variables sts s).state
+  reached_tied variables [] p s t h = (t, h)
+  reached_tied variables (st ∷ more) p s t h =
+      let done = step_tied variables st p s t (caused s h) in
+      let sound = kept variables st s h in
+      by (desk_step variables st p).1 (step variables st s).1 done.0 done.1 sound (reached_tied variables more (desk_step variables st p).0 (step variables st s).0 done.1 sound)
+    where
+      by : (a b : Option Ending) → a ≡ b → Tied (desk_step variables st p).0 (step variables st s).0 → Sound (step variables st s).0
+          → Tied (over_desks variables more (desk_step variables st p).0).desked (executed variables more (step variables st s).0).state × Sound (executed variables more (step variables st s).0).state
+          → (let x : DesksRan = elim a as (λ _. DesksRan) [ None ↦ over_desks variables more (desk_step variables st p).0 | Some e ↦ record { desked = (desk_step variables st p).0; ending = Some e } ] in
+          let y : Ran = elim b as (λ _. Ran) [ None ↦ executed variables more (step variables st s).0 | Some e ↦ record { state = (step variables st s).0; ending = Some e } ] in Tied x.desked y.state × Sound y.state)
+      by None None e u v f = f
+      by None (Some x) e u v f = cc
+      by (Some x) None e u v f = cc
+      by (Some x) (Some y) e u v f = (u, v)
+
   pub slots_forgotten : (variables : List Variable) (sts : List Stated) (files : Files) → Sound (start variables files) → Forgets (over_desks variables sts (fresh variables files)) (executed variables sts (start variables files))
   slots_forgotten variables sts files h = deck_forgets variables sts (fresh variables files) (start variables files) (start_tied variables files) h
 

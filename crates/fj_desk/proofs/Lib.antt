@@ -10,4 +10,6 @@ pub mod Closing
 pub mod Opening
 pub mod Steps
 pub mod Forgetting
+pub mod Given
+pub mod Logged
 pub mod SoundStates

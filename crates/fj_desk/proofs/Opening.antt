@@ -39,7 +39,7 @@ pub record FreeSlot (us : List Connected) (from n slot : ℕ) : Type 0 where
   pub inside : slot < from + n
   pub differs : Differs (λ (u : Connected). u.slot) slot us
 
-free_found : (us : List Connected) (from n slot : ℕ) → free_from us from n ≡ Some slot → FreeSlot us from n slot
+pub free_found : (us : List Connected) (from n slot : ℕ) → free_from us from n ≡ Some slot → FreeSlot us from n slot
 free_found us from zero slot e = cc
 free_found us from (suc n) slot e =
     elim (cases_Bool (list_any (λ (u : Connected). u.slot == from) us)) [
@@ -86,7 +86,7 @@ both_length desks (u ∷ us) [] b = absurd b
 both_length desks (u ∷ us) (v ∷ vs) b = ap suc (both_length desks us vs b.1)
 
 -- with a free slot there are fewer than 16 units, and else no fewer
-fewer : (p : Desked) (s : State) (slot : ℕ) → Tied p s → FreeSlot p.core.units 0 most_slots slot → nat_lt (length s.units) most_units ≡ true
+pub fewer : (p : Desked) (s : State) (slot : ℕ) → Tied p s → FreeSlot p.core.units 0 most_slots slot → nat_lt (length s.units) most_units ≡ true
 fewer p s slot t f =
     let slots : List ℕ = slot ∷ map (λ (u : Connected). u.slot) p.core.units in
     let most : length slots ≤ 16 = no_longer 16 slots
@@ -97,7 +97,7 @@ fewer p s slot t f =
     lt_is : (a b : ℕ) → a < b → nat_lt a b ≡ true
     lt_is a b h = elim (cases_Bool (nat_lt a b)) [ inl e ↦ e | inr e ↦ absurd (omega (arith, h, ltb-false a b e)) ]
 
-no_fewer : (p : Desked) (s : State) → Tied p s → free_from p.core.units 0 most_slots ≡ None → nat_lt (length s.units) most_units ≡ false
+pub no_fewer : (p : Desked) (s : State) → Tied p s → free_from p.core.units 0 most_slots ≡ None → nat_lt (length s.units) most_units ≡ false
 no_fewer p s t e =
     let least = no_shorter (λ (u : Connected). u.slot) 16 p.core.units (λ k l. none_free p.core.units 0 16 e k (omega (arith)) (omega (arith, l))) in
     elim (cases_Bool (nat_lt (length s.units) 16)) [
@@ -229,7 +229,7 @@ connects_tied p s number spec modes t new_us new_vs = by (free_from p.core.units
 
 -- ---- OPEN
 
-gone_differs : {X : Type 0} → (number : X → ℕ) (n : ℕ) (xs : List X) → Differs number n (filter (λ x. not (number x == n)) xs)
+pub gone_differs : {X : Type 0} → (number : X → ℕ) (n : ℕ) (xs : List X) → Differs number n (filter (λ x. not (number x == n)) xs)
 gone_differs number n [] = tt
 gone_differs number n (x ∷ xs) =
     elim (eqb_tells (number x) n) [

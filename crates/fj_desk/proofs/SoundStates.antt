@@ -14,9 +14,12 @@ use Rattle.fj_plain.proofs.Sound.{Sound, sound_start}
 use Rattle.fj_plain.proofs.Reached.{sound_step}
 use Rattle.fj_desk.specs.Desking.{over_desks, fresh}
 use Rattle.fj_desk.specs.Forgetting as law
+use Rattle.fj_desk.specs.Giving.{JobsAreGiven}
 use Rattle.fj_desk.proofs.Apart.{Each}
 use Rattle.fj_desk.proofs.Steps.{Caused}
 use Rattle.fj_desk.proofs.Forgetting as forgetting
+use Rattle.fj_desk.proofs.Forgetting.{start_tied}
+use Rattle.fj_desk.proofs.Logged.{step_given}
 use Rattle.fj_plain.specs.Statement.{executed}
 
 cause_tells : (book : List Entry) (number : ℕ) (cause : Condition) → cause_of book number ≡ Some cause → tells_cause book number ≡ true
@@ -50,3 +53,8 @@ slots_forgotten variables sts files = forgetting.slots_forgotten Sound sound_cau
 pub results_agree : law.ResultsAgree
 results_agree variables statements files =
     forgetting.results_same (over_desks variables (stated statements) (fresh variables files)) (executed variables (stated statements) (start variables files)) (slots_forgotten variables (stated statements) files)
+
+pub jobs_are_given : JobsAreGiven
+jobs_are_given variables sts st files =
+    let reached = forgetting.reached_tied Sound sound_caused sound_step variables sts (fresh variables files) (start variables files) (start_tied variables files) (sound_start variables files) in
+    step_given variables st (over_desks variables sts (fresh variables files)).desked (executed variables sts (start variables files)).state reached.0 (sound_caused (executed variables sts (start variables files)).state reached.1)

@@ -199,7 +199,7 @@ need_same variables vars desks us vs (statement.Inquire about asked id iostat) b
 need_same variables vars desks us vs (statement.Transfer t) b = refl
 need_same variables vars desks us vs statement.End b = refl
 
-prohibited_same : (variables : List Variable) (p : Desked) (s : State) (st : Statement) → Tied p s
+pub prohibited_same : (variables : List Variable) (p : Desked) (s : State) (st : Statement) → Tied p s
     → prohibited p.core.vars (pending_holders p.core.book) (need_by variables p.core.vars (unit_named p.core.units) st) ≡ prohibited s.vars (holders s.book) (need variables s st)
 prohibited_same variables p s st t =
     ap (λ v. prohibited v (pending_holders p.core.book) (need_by variables v (unit_named p.core.units) st)) t.same.vars
