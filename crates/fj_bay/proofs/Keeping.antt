@@ -35,8 +35,8 @@ use Rattle.fj_transfer.specs.declared.transfer.Layout.TheVariants.{Unformatted, 
 use Rattle.fj_transfer.specs.AtHand.{AtHand, behind, line_at, numbered, next_record, first_record}
 use Rattle.fj_transfer.specs.Change.{changed}
 use Rattle.fj_transfer.specs.Input.{Progress, Ended, width_for, characters_for, without_padding, stopped, with_field, field_read, with_record, carried_out, left_at, explicit_input}
-use Rattle.fj_transfer.specs.Printing.{Printed, printed}
-use Rattle.fj_transfer.specs.Transfer.{Done, Ways, in_error, input_done, output_done, explicit_read, explicit_ended, past_records, records_read, records_to_come, condition_to_come, frame_read, body_read, bytes_needed, values_from, body_of, piece_read, bytes_read, unformatted_read, unformatted_written, with_pieces, with_text, records_written, read_by, written_by, from_place, begins_at, placed, at_byte, at_record, if_fit, unfit, transfer_by, is_explicit, with_undefined}
+use Rattle.fj_transfer.specs.Printing.{Printed, printed, open_count}
+use Rattle.fj_transfer.specs.Transfer.{Done, Ways, in_error, input_done, output_done, explicit_read, explicit_ended, past_records, records_read, records_to_come, condition_to_come, frame_read, body_read, bytes_needed, values_from, body_of, piece_read, bytes_read, unformatted_read, unformatted_written, with_pieces, pieces_written, with_text, lines_written, ends_record, records_written, read_by, written_by, from_place, begins_at, placed, at_byte, at_record, if_fit, unfit, transfer_by, is_explicit, with_undefined}
 
 pub record Kept (old new : Connection) : Type 0 where
   pub named : new.name ≡ old.name
@@ -194,12 +194,12 @@ unformatted_kept Sequential old c moved k = by (length (bytes_behind c) == 0)
     by false = frame_kept old c moved (frame (bytes_behind c)) k
 unformatted_kept Direct old c moved k = by (piece c.bytes c.modes.recl c.spot.next_number)
   where
-    by : (o : Option (List ℕ)) → KeptBy old (piece_read old c moved o)
+    by : (o : Option (List ℕ)) → KeptBy old (piece_read old c c.spot.next_number moved o)
     by None = kept_same old
     by (Some body) = body_kept old moved body (at_number c c.spot.next_number) (record { named = k.named; modes = k.modes })
 unformatted_kept Stream old c moved k = by (bytes_from c.bytes c.spot.at (bytes_needed moved))
   where
-    by : (o : Option (List ℕ)) → KeptBy old (bytes_read old c moved o)
+    by : (o : Option (List ℕ)) → KeptBy old (bytes_read old c c.spot.at moved o)
     by None = kept_same old
     by (Some bytes) = record { named = k.named; modes = k.modes }
 
@@ -220,23 +220,33 @@ pieces_kept : (old : Connection) (texts : List (List ℕ)) (c : Connection) → 
 pieces_kept old [] c k = k
 pieces_kept old (text ∷ more) c k = pieces_kept old more (with_direct c c.spot.next_number text 32) (record { named = k.named; modes = k.modes })
 
-text_kept : (old c : Connection) (advance : Bool) (feed : List ℕ) (p : Printed) → Kept old c → Kept old (with_text c advance feed p)
-text_kept old c true feed p k = record { named = k.named; modes = k.modes }
-text_kept old c false feed p k = record { named = k.named; modes = k.modes }
+text_kept : (old c : Connection) (ends : Bool) (text : List ℕ) (count : ℕ) → Kept old c → Kept old (with_text c ends text count)
+text_kept old c true text count k = record { named = k.named; modes = k.modes }
+text_kept old c false text count k = record { named = k.named; modes = k.modes }
+
+lines_kept : (old c : Connection) (feed : List ℕ) (ends : Bool) (cells : List Cell) (r : Result Printed Condition) → Kept old c → KeptBy old (lines_written old c feed ends cells r)
+lines_kept old c feed ends cells (Err condition) k = kept_same old
+lines_kept old c feed ends cells (Ok p) k = output_kept old cells (with_text c ends text count) (if ends then 0 else 1) (text_kept old c ends text count k)
+  where
+    text : List ℕ
+    text = feed ++ (text_of p.records ++ p.«open»)
+
+    count : ℕ
+    count = open_count (begun c) p
+
+all_pieces_kept : (old c : Connection) (cells : List Cell) (r : Result Printed Condition) → Kept old c → KeptBy old (pieces_written old c cells r)
+all_pieces_kept old c cells (Err condition) k = kept_same old
+all_pieces_kept old c cells (Ok p) k = output_kept old cells (with_pieces p.records c) 0 (pieces_kept old p.records c k)
 
 written_kept : (old c : Connection) (spec : TransferSpec) (cells : List Cell) (r : Result Printed Condition) → Kept old c → KeptBy old (records_written old c spec cells r)
-written_kept old c spec cells (Err condition) k = kept_same old
-written_kept old c spec cells (Ok p) k = by (same_access c.modes.access Direct)
+written_kept old c spec cells r k = by (same_access c.modes.access Direct)
   where
-    advance : Bool
-    advance = spec.advance || not (is_explicit spec.layout)
-
     feed : List ℕ
     feed = if is_some spec.pos then [] else missing_feed c
 
-    by : (b : Bool) → KeptBy old (if b then output_done old cells (with_pieces p.records c) 0 else output_done old cells (with_text c advance feed p) (if advance then 0 else 1))
-    by true = output_kept old cells (with_pieces p.records c) 0 (pieces_kept old p.records c k)
-    by false = output_kept old cells (with_text c advance feed p) (if advance then 0 else 1) (text_kept old c advance feed p k)
+    by : (b : Bool) → KeptBy old (if b then pieces_written old c cells r else lines_written old c feed (ends_record spec) cells r)
+    by true = all_pieces_kept old c cells r k
+    by false = lines_kept old c feed (ends_record spec) cells r k
 
 bytes_kept : (access : Access) (old c : Connection) (moved : Moved) → Kept old c → KeptBy old (unformatted_written access old c moved)
 bytes_kept Sequential old c moved k = by (nat_lt c.modes.recl (length (body_of moved)))
