@@ -37,7 +37,7 @@ module _ (control : ℕ → List Given) (variables : List Variable) (s : State) 
       same = ap (λ o. (unless_halted o u.connection t.input (moved_by variables s t).cells done).connection) halt
 
   fitting_same : (condition : Condition) → connections (unless_refused control variables s t (moved_by variables s t) u condition).0 ≡ connections s
-  fitting_same Fine = subst (λ b. connections (if b then made_pending variables s t (moved_by variables s t) u done else carried_out variables s t u done).0 ≡ connections s) (sym later) (pending_same done)
+  fitting_same Fine = subst (λ b. connections (if b then made_pending variables s t (moved_by variables s t) u done else carried_out variables s t (moved_by variables s t) u done).0 ≡ connections s) (sym later) (pending_same done)
     where
       done : Done
       done = transfer_by control u.connection (spec_of variables s t (moved_by variables s t).cells) (moved_by variables s t)
