@@ -63,7 +63,8 @@ rows_undefined (v ∷ variables) =
     ap (λ row. row ∷ map (map value_in) (map (λ v. replicate v.1 (Home Undefined)) variables)) (map_replicate value_in v.1 (Home Undefined))
     ∙ ap (λ rows. replicate v.1 (Some Undefined) ∷ rows) (rows_undefined variables)
 
-whole : {A : Type 0} → (xs : List A) (n : ℕ) → length xs ≤ n → take n xs ≡ xs
+-- a list taken as far as it goes
+pub whole : {A : Type 0} → (xs : List A) (n : ℕ) → length xs ≤ n → take n xs ≡ xs
 whole [] zero h = refl
 whole [] (suc n) h = refl
 whole (x ∷ xs) zero h = absurd (omega arith)

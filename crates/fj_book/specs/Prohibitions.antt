@@ -1,21 +1,23 @@
 -- What a program may not do beside pending transfers (ISO/IEC 1539-1:2004, 9.5.1.4, 9.6, clause 16): the lowest rule that a
 -- statement breaks.
-use Rattle.std.specs.Prelude.{ℕ, ℤ, pos, ◌==◌, ◌&&◌, ◌||◌, not, Bool, true, false, List, [], ◌∷◌, Option, Some, None, if◌then◌else◌}
+use Rattle.std.specs.Prelude.{ℕ, ℤ, pos, ◌==◌, ◌&&◌, ◌||◌, not, Bool, true, false, List, Option, Some, None, if◌then◌else◌}
 use Rattle.std.specs.List.{list_any}
 use Rattle.std.specs.Ordering.{int_eq}
 use Rattle.fj_value.specs.declared.place.Place.{Place}
 use Rattle.fj_value.specs.declared.condition.Rule.{Rule}
 use Rattle.fj_value.specs.declared.condition.Rule.TheVariants.{P1, P2, P3, P4, P5}
-use Rattle.fj_plain.specs.Variables.{Variables, value_at, same_place, is_undefined}
+use Rattle.fj_store.specs.Places.{is_among, has_twice}
+use Rattle.fj_store.specs.Variables.{Variables, value_at, is_undefined}
 
 -- what a statement needs: its unit, the places that it references and defines, those that its specifiers define, its items or its
--- group, and the identifier that it names
+-- group, the elements of its internal file, and the identifier that it names
 pub record Need : Type 0 where
   pub unit : Option ℕ
   pub references : List Place
   pub defines : List Place
   pub specifiers : List Place
   pub items : List Place
+  pub internal : List Place
   pub id : Option ℤ
 
 -- a pending transfer as prohibitions see it
@@ -24,9 +26,6 @@ pub record Holder : Type 0 where
   pub unit : ℕ
   pub input : Bool
   pub places : List Place
-
-abbrev pub is_among : List Place → Place → Bool
-is_among places place = list_any (same_place place) places
 
 -- a place of a pending input
 abbrev pub is_read : List Holder → Place → Bool
@@ -45,14 +44,11 @@ abbrev pub names_pending : List Holder → Option ℕ → Option ℤ → Bool
 names_pending book unit None = true
 names_pending book unit (Some id) = list_any (has_id unit id) book
 
--- a place stands twice
-abbrev pub has_twice : List Place → Bool
-has_twice [] = false
-has_twice (place ∷ places) = is_among places place || has_twice places
-
--- a place that a specifier defines is defined by another one, or is an item
+-- a place that a specifier defines is defined by another one, or is an item or an element of the internal file; or an item is such
+-- an element
 abbrev pub defines_twice : Need → Bool
-defines_twice n = has_twice n.specifiers || list_any (is_among n.items) n.specifiers
+defines_twice n =
+    has_twice n.specifiers || (list_any (is_among n.items) n.specifiers || (list_any (is_among n.internal) n.specifiers || list_any (is_among n.internal) n.items))
 
 abbrev pub prohibited : Variables → List Holder → Need → Option Rule
 prohibited vars book n =

@@ -1,0 +1,62 @@
+-- Loops that look for an element.
+use Rattle.std.proofs.Common.{◌≡◌, ℕ, zero, suc, ◌+◌, ◌-◌, ◌<◌, ◌≤◌, ◌&&◌, ◌||◌, cond, not, Bool, true, false, List, [], ◌∷◌, ◌++◌, length, length-drop, drop, take, get_or, map, Option, Some, None, refl, sym, ap, ◌∙◌, arith}
+use Rattle.std.proofs.Math.Seq.{drop-cons}
+use Rattle.std.proofs.lemmas.List.Folds.{list_any-append}
+use Rattle.std.specs.List.{list_any, find}
+use Rattle.fj_value.specs.declared.place.Place.{Place}
+use Rattle.fj_store.specs.declared.run.Run.{Run}
+use Rattle.fj_store.specs.Places.{same_place, is_among, has_twice, counted_from, places_of, places_in}
+use Rattle.fj_store.proofs.TableLemmas.{same_fields}
+use Rattle.fj_store.proofs.TakingLemmas.{run_at}
+use Rattle.fj_store.proofs.StoreLemmas.{whole}
+
+pub item_at : {X : Type 0} → (xs : List X) (i : ℕ) (x : X) → i < length xs → x ≡ get_or xs i x → drop i xs ≡ x ∷ drop (i + 1) xs
+item_at xs i x low is = drop-cons xs i x low ∙ ap (λ y. y ∷ drop (suc i) xs) (sym is) ∙ ap (λ n. x ∷ drop n xs) (let e : suc i ≡ i + 1 = omega arith in e)
+
+pub none_left : {X : Type 0} → (xs : List X) (n : ℕ) → length xs ≤ n → drop n xs ≡ []
+none_left [] zero h = refl
+none_left [] (suc n) h = refl
+none_left (x ∷ xs) zero h = absurd (omega arith)
+none_left (x ∷ xs) (suc n) h = none_left xs n (omega arith)
+
+pub any_step : {X : Type 0} → (f : X → Bool) (xs : List X) (i : ℕ) (x : X) (b : Bool) → i < length xs → x ≡ get_or xs i x → b ≡ f x → list_any f (drop i xs) ≡ (b || list_any f (drop (i + 1) xs))
+any_step f xs i x b low is made = ap (list_any f) (item_at xs i x low is) ∙ ap (λ c. c || list_any f (drop (i + 1) xs)) (sym made)
+
+pub run_step : (f : Place → Bool) (var first count at : ℕ) (p : Place) (b : Bool) → at < count → p.var ≡ var → p.index ≡ first + at → b ≡ f p
+    → list_any f (counted_from var (first + at) (count - at)) ≡ (b || list_any f (counted_from var (first + (at + 1)) (count - (at + 1))))
+run_step f var first count at p b low var_is index_is made =
+    let here : Place = record { var = var; index = first + at } in
+    let left : count - at ≡ suc (count - (at + 1)) = omega arith in
+    let next : (first + at) + 1 ≡ first + (at + 1) = omega arith in
+    ap (λ n. list_any f (counted_from var (first + at) n)) left
+    ∙ ap (λ n. f here || list_any f (counted_from var n (count - (at + 1)))) next
+    ∙ ap (λ c. c || list_any f (counted_from var (first + (at + 1)) (count - (at + 1)))) (sym (made ∙ ap f (same_fields p here var_is index_is)))
+
+pub runs_step : (f : Place → Bool) (runs : List Run) (i : ℕ) (run : Run) (b : Bool) → i < length runs → run ≡ get_or runs i run → b ≡ list_any f (places_of run)
+    → list_any f (places_in (drop i runs)) ≡ (b || list_any f (places_in (drop (i + 1) runs)))
+runs_step f runs i run b low is made =
+    ap (λ rs. list_any f (places_in rs)) (run_at runs i run low is)
+    ∙ list_any-append f (places_of run) (places_in (drop (i + 1) runs))
+    ∙ ap (λ c. c || list_any f (places_in (drop (i + 1) runs))) (sym made)
+
+pub find_step : {X : Type 0} → (f : X → Bool) (xs : List X) (i : ℕ) (x : X) → i < length xs → x ≡ get_or xs i x → find f (drop i xs) ≡ cond (f x) (Some x) (find f (drop (i + 1) xs))
+find_step f xs i x low is = ap (find f) (item_at xs i x low is)
+
+pub twice_step : (xs : List Place) (i : ℕ) (x : Place) (b : Bool) → i < length xs → x ≡ get_or xs i x → b ≡ is_among (drop (i + 1) xs) x → has_twice (drop i xs) ≡ (b || has_twice (drop (i + 1) xs))
+twice_step xs i x b low is made = ap has_twice (item_at xs i x low is) ∙ ap (λ c. c || has_twice (drop (i + 1) xs)) (sym made)
+
+-- what a step says where its test is true, and where it is false
+pub is_found : (all rest whole b : Bool) → all ≡ (b || rest) → all ≡ whole → b ≡ true → true ≡ whole
+is_found all rest whole b step so_far found = sym (sym so_far ∙ step ∙ ap (λ c. c || rest) found)
+
+pub goes_on : (all rest whole b : Bool) → all ≡ (b || rest) → all ≡ whole → b ≡ false → rest ≡ whole
+goes_on all rest whole b step so_far missed = sym (step ∙ ap (λ c. c || rest) missed) ∙ so_far
+
+-- an element read with any default
+pub same_item : {X : Type 0} → (xs : List X) (i : ℕ) (d : X) → i < length xs → get_or xs i d ≡ get_or xs i (get_or xs i d)
+same_item [] i d low = absurd (omega arith)
+same_item (x ∷ xs) zero d low = refl
+same_item (x ∷ xs) (suc i) d low = same_item xs i d (omega arith)
+
+pub rest_whole : {X : Type 0} → (xs : List X) (n : ℕ) → take (length xs - n) (drop n xs) ≡ drop n xs
+rest_whole xs n = whole (drop n xs) (length xs - n) (omega (arith, length-drop n xs))

@@ -1,0 +1,36 @@
+use Rattle.std.proofs.Common.{◌≡◌, ℕ, Some, not, get_or, filter, sym, ap, subst, ◌∙◌}
+use Rattle.std.specs.List.{remove, find}
+use Rattle.fj_book.specs.declared.pending.Pending.{Pending}
+use Rattle.fj_book.specs.Entries.{has_tag, tag_of}
+use Rattle.fj_book.proofs.BookLemmas.{find_absent, filter_absent, find_at, filter_at, same_read}
+use Rattle.fj_book.proofs.CountLemmas.{kept_as}
+use Rattle.fj_book.proofs.book.Book.tell.Goals as goal
+
+pub returns-in_err-at-clause-told : goal.returns-in_err-at-clause-told
+returns-in_err-at-clause-told c =
+    c.from_residual.ensures
+    ∙ sym (ap (find (has_tag c.args.tag.0)) (sym c.self.view_is) ∙ ap (λ t. find (has_tag t) c.self.inside.entries.items) (sym c.from.ensures) ∙ find_absent c.from.result c.self.inside.entries.items c.in_err-at.ensures.none)
+
+pub returns-in_err-at-clause-left : goal.returns-in_err-at-clause-left
+returns-in_err-at-clause-left c =
+    sym (ap (filter (λ e. not (has_tag c.args.tag.0 e))) (sym c.self.view_is) ∙ ap (λ t. filter (λ e. not (has_tag t e)) c.self.inside.entries.items) (sym c.from.ensures)
+    ∙ filter_absent c.from.result c.self.inside.entries.items c.in_err-at.ensures.none ∙ c.self.view_is)
+
+pub invariant_of-self-2 : goal.invariant_of-self-2
+invariant_of-self-2 c =
+    kept_as c.self.inside.entries.items c.remove.new.self.items c.in_ok-at.at c.in_ok-pending.pending c.count_out.new.inputs c.count_out.new.outputs c.in_ok-pending.ensures.items
+      (c.count_out.ensures c.self.inside.entries.items c.in_ok-at.at c.in_ok-at.ensures.some.0
+        (λ d. same_read c.self.inside.entries.items c.in_ok-at.at d c.in_ok-pending.pending c.in_ok-at.ensures.some.0 ∙ sym c.in_ok-pending.ensures.value) c.self.invariant)
+
+pub returns-clause-told : goal.returns-clause-told
+returns-clause-told c =
+    let tag : tag_of c.in_ok-pending.pending ≡ c.args.tag.0 = ap tag_of c.in_ok-pending.ensures.value ∙ c.in_ok-at.ensures.some.1 c.in_ok-pending.pending ∙ c.from.ensures in
+    sym (ap (find (has_tag c.args.tag.0)) (sym c.self.view_is) ∙ ap (λ t. find (has_tag t) c.self.inside.entries.items) (sym tag)
+    ∙ find_at c.self.inside.entries.items c.in_ok-at.at c.in_ok-pending.pending c.self.invariant.ascending c.in_ok-at.ensures.some.0 (sym c.in_ok-pending.ensures.value))
+
+pub returns-clause-left : goal.returns-clause-left
+returns-clause-left c =
+    let tag : tag_of c.in_ok-pending.pending ≡ c.args.tag.0 = ap tag_of c.in_ok-pending.ensures.value ∙ c.in_ok-at.ensures.some.1 c.in_ok-pending.pending ∙ c.from.ensures in
+    c.in_ok-pending.ensures.items
+    ∙ sym (ap (filter (λ e. not (has_tag c.args.tag.0 e))) (sym c.self.view_is) ∙ ap (λ t. filter (λ e. not (has_tag t e)) c.self.inside.entries.items) (sym tag)
+    ∙ filter_at c.self.inside.entries.items c.in_ok-at.at c.in_ok-pending.pending c.self.invariant.ascending c.in_ok-at.ensures.some.0 (sym c.in_ok-pending.ensures.value))

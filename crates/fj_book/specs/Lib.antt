@@ -1,0 +1,5 @@
+pub mod Cells
+pub mod Counting
+pub mod Entries
+pub mod Needs
+pub mod Prohibitions

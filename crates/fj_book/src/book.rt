@@ -1,0 +1,274 @@
+// The book: the pending transfers in ascending order of their identifiers.
+ghost use Rattle.std.specs.Prelude.{◌≡◌, ◌<◌, ◌≢◌, not, List, [], ◌∷◌, ◌++◌, ℕ, length, filter, find, map, replicate, remove, All, HoldsAt, pos, ◌<ℤ◌, MatchOption, IfOk, IfSome, IfNone, OnOk, OnErr};
+ghost use Rattle.std.specs.Option.{option_map};
+ghost use Rattle.fj_store.specs.Storage.{values_of};
+ghost use Rattle.fj_store.specs.Variables.{value_at, is_undefined};
+ghost use Rattle.fj_book.specs.declared.pending.Pending.{Pending};
+ghost use Rattle.fj_book.specs.Counting.{IsKept};
+ghost use Rattle.fj_book.specs.Entries.{holders, has_tag, is_of_unit, tag_of, IsAscending};
+ghost use Rattle.fj_book.specs.Needs.{need_of};
+ghost use Rattle.fj_book.specs.Prohibitions.{prohibited, is_read, is_held, names_pending};
+
+use crate::counts::{is_held, lower, raise};
+use crate::need::Need;
+use crate::pending::Pending;
+use crate::place_test::{PlaceTest, any_in_runs};
+use fj_store::{Store, Table};
+use fj_value::{Items, Kind, Place, Rule, Tag, Value};
+use std::alloc::{AllocError, Global};
+use std::collections::VecDeque;
+use std::marker::Model;
+
+/// The pending transfers, seen as their list.
+#[derive(Debug, Drop)]
+pub struct Book {
+    entries: VecDeque<Pending>,
+    inputs: Table<u64>,
+    outputs: Table<u64>,
+}
+
+impl Model for Book {
+    ghost use Rattle.std.specs.Prelude.{List};
+    ghost use Rattle.fj_book.specs.declared.pending.Pending.{Pending};
+    ghost use Rattle.fj_book.specs.Counting.{IsKept};
+
+    ghost Value = { List Pending };
+
+    ghost view = { λ book. book.entries.items };
+
+    ghost invariant = { λ book. IsKept book.entries.items book.inputs book.outputs };
+}
+
+/// So many places that nothing holds.
+fn zeros(alloc: Global, count: u32) -> Result<Items<u64>, AllocError>
+    ensures { IfOk result (λ row. row ≡ replicate count 0) }
+{
+    Ok(Items::from_vec(vec![in alloc; 0; count as usize]?))
+}
+
+/// A table for variables with so many elements, where nothing is held.
+fn no_holders(alloc: Global, variables: &[(Kind, u32)]) -> Result<Table<u64>, AllocError>
+    ensures { IfOk result (λ table. table ≡ map (λ v. replicate v.1 0) variables.now) }
+{
+    let mut table = Table::new(alloc);
+    for (_, count) in variables {
+        table.push(zeros(alloc, *count)?)?;
+    }
+    Ok(table)
+}
+
+/// The value of ID= as a number, where it is not below 0.
+fn number_of(id: i64) -> Option<u64>
+    ensures { MatchOption result (id <ℤ pos 0) (λ n. id ≡ pos n) }
+{
+    if id < 0 {
+        return None;
+    }
+    Some(id.unsigned_abs())
+}
+
+/// Where the transfer of an identifier stands.
+fn place_of(entries: &VecDeque<Pending>, id: u64) -> Option<usize>
+    requires { IsAscending entries.now.items }
+    ensures some { IfSome result (λ at. (at < length entries.now.items) × HoldsAt (λ e. tag_of e ≡ id) entries.now.items at) }
+    ensures none { IfNone result (All (λ e. tag_of e ≢ id) entries.now.items) }
+{
+    let at = entries.partition_point(|entry| (entry.tag.0 as u64) < id);
+    if at >= entries.len() {
+        return None;
+    }
+    if u64::from(entries[at].tag.0) != id {
+        return None;
+    }
+    Some(at)
+}
+
+/// Counts a transfer more.
+fn count_in(entries: &VecDeque<Pending>, inputs: &mut Table<u64>, outputs: &mut Table<u64>, pending: &Pending)
+    requires { IsKept entries.now.items inputs.old outputs.old }
+    ensures { IsAscending (entries.now.items ++ pending.now ∷ []) → IsKept (entries.now.items ++ pending.now ∷ []) inputs.new outputs.new }
+{
+    if pending.input {
+        raise(inputs, pending.places.as_slice());
+    } else {
+        raise(outputs, pending.places.as_slice());
+    }
+}
+
+/// Counts a transfer no more.
+fn count_out(inputs: &mut Table<u64>, outputs: &mut Table<u64>, pending: &Pending)
+    ensures { (entries : List Pending) (at : ℕ) → at < length entries → HoldsAt (λ e. e ≡ pending.now) entries at → IsKept entries inputs.old outputs.old → IsKept (remove entries at) inputs.new outputs.new }
+{
+    if pending.input {
+        lower(inputs, pending.places.as_slice());
+    } else {
+        lower(outputs, pending.places.as_slice());
+    }
+}
+
+/// The first transfer of a unit.
+fn first_in(entries: &VecDeque<Pending>, unit: u32) -> Option<Tag>
+    ensures { result ≡ option_map (λ e. e.tag) (find (is_of_unit unit) entries.now.items) }
+{
+    for at in 0..entries.len() {
+        let entry = &entries[at];
+        if entry.unit == unit {
+            return Some(entry.tag);
+        }
+    }
+    None
+}
+
+impl Book {
+    /// No transfer, for variables of these kinds with so many elements.
+    pub fn new(alloc: Global, variables: &[(Kind, u32)]) -> Result<Book, AllocError>
+        ensures { IfOk result (λ book. book ≡ []) }
+    {
+        let inputs = no_holders(alloc, variables)?;
+        let outputs = no_holders(alloc, variables)?;
+        Ok(Book {
+            entries: VecDeque::new(alloc),
+            inputs,
+            outputs,
+        })
+    }
+
+    /// All transfers, in ascending order of their identifiers.
+    pub fn entries(&self) -> &VecDeque<Pending>
+        ensures entries { result.now.items ≡ self.now }
+        ensures ascending { IsAscending self.now }
+    {
+        let _ = &self.inputs;
+        &self.entries
+    }
+
+    /// The least identifier of the transfers of a unit.
+    pub fn first_of(&self, unit: u32) -> Option<Tag>
+        ensures { result ≡ option_map (λ e. e.tag) (find (is_of_unit unit) self.now) }
+    {
+        first_in(&self.entries, unit)
+    }
+
+    /// A place of a pending input.
+    fn reads(&self, place: Place) -> bool
+        ensures { result ≡ is_read (holders self.now) place }
+    {
+        is_held(&self.inputs, &self.entries, true, place)
+    }
+
+    /// A place of a pending transfer.
+    fn holds(&self, place: Place) -> bool
+        ensures { result ≡ is_held (holders self.now) place }
+    {
+        is_held(&self.inputs, &self.entries, true, place) || is_held(&self.outputs, &self.entries, false, place)
+    }
+
+    /// Whether ID= names a transfer that is pending on the unit.
+    fn names_pending(&self, unit: Option<u32>, id: Option<i64>) -> bool
+        ensures { result ≡ names_pending (holders self.now) unit id }
+    {
+        let Some(id) = id else {
+            return true;
+        };
+        let Some(unit) = unit else {
+            return false;
+        };
+        let Some(number) = number_of(id) else {
+            return false;
+        };
+        let Some(at) = place_of(&self.entries, number) else {
+            return false;
+        };
+        self.entries[at].unit == unit
+    }
+
+    /// The lowest rule that a statement breaks. It takes no memory.
+    pub fn check(&self, store: &Store, need: &Need<'_>) -> Option<Rule>
+        ensures { result ≡ prohibited (values_of store.now) (holders self.now) (need_of need.now) }
+    {
+        if any_in_runs(need.references, &Reads { book: self }) {
+            return Some(Rule::P1);
+        }
+        if any_in_runs(need.defines, &Holds { book: self }) {
+            return Some(Rule::P2);
+        }
+        if any_in_runs(need.references, &IsUndefined { store }) {
+            return Some(Rule::P3);
+        }
+        if !self.names_pending(need.unit, need.id) {
+            return Some(Rule::P4);
+        }
+        if need.defines_twice() {
+            return Some(Rule::P5);
+        }
+        None
+    }
+
+    /// Enters a transfer with a greater identifier than all others have. Want of memory changes nothing.
+    pub fn enter(&mut self, pending: Pending) -> Result<(), AllocError>
+        requires { All (λ e. tag_of e < tag_of pending) self.old }
+        ensures ok { OnOk result (self.new ≡ self.old ++ pending ∷ []) }
+        ensures err { OnErr result (self.new ≡ self.old) }
+    {
+        self.entries.reserve(1)?;
+        count_in(&self.entries, &mut self.inputs, &mut self.outputs, &pending);
+        self.entries.push_back_reserved(pending);
+        Ok(())
+    }
+
+    /// Takes the transfer of an identifier off; none where no such transfer is pending. It takes no memory.
+    pub fn tell(&mut self, tag: Tag) -> Option<Pending>
+        ensures told { result ≡ find (has_tag tag.0) self.old }
+        ensures left { self.new ≡ filter (λ e. not (has_tag tag.0 e)) self.old }
+    {
+        let at = place_of(&self.entries, u64::from(tag.0))?;
+        let pending = self.entries.remove(at)?;
+        count_out(&mut self.inputs, &mut self.outputs, &pending);
+        Some(pending)
+    }
+}
+
+/// Is it a place of a pending input?
+#[derive(Clone, Copy)]
+struct Reads<'a> {
+    book: &'a Book,
+}
+
+impl<'a> PlaceTest for Reads<'a> {
+    ghost passes = { λ reads place. is_read (holders reads.book.now) place };
+
+    fn test(&self, place: Place) -> bool {
+        self.book.reads(place)
+    }
+}
+
+/// Is it a place of a pending transfer?
+#[derive(Clone, Copy)]
+struct Holds<'a> {
+    book: &'a Book,
+}
+
+impl<'a> PlaceTest for Holds<'a> {
+    ghost passes = { λ holds place. is_held (holders holds.book.now) place };
+
+    fn test(&self, place: Place) -> bool {
+        self.book.holds(place)
+    }
+}
+
+/// Is it undefined?
+#[derive(Clone, Copy)]
+struct IsUndefined<'a> {
+    store: &'a Store,
+}
+
+impl<'a> PlaceTest for IsUndefined<'a> {
+    ghost passes = { λ test place. is_undefined (value_at (values_of test.store.now) place) };
+
+    fn test(&self, place: Place) -> bool {
+        match self.store.read(place) {
+            None | Some(Value::Undefined) => true,
+            Some(_) => false,
+        }
+    }
+}

@@ -1,0 +1,51 @@
+// What a statement references, defines and names.
+ghost use Rattle.std.specs.Prelude.{◌≡◌};
+ghost use Rattle.fj_store.specs.Places.{has_twice};
+ghost use Rattle.fj_book.specs.Prohibitions.{defines_twice};
+ghost use Rattle.fj_book.specs.Needs.{need_of};
+
+use crate::pending::stands_among;
+use crate::place_test::{Among, any_in_runs, any_of};
+use fj_store::Run;
+use fj_value::Place;
+
+/// The unit of a statement, the places that it references and defines, those that its specifiers define, its items or its
+/// group, the elements of its internal file, and the value of ID= in WAIT and INQUIRE.
+#[derive(Clone, Copy)]
+pub struct Need<'a> {
+    pub unit: Option<u32>,
+    pub references: &'a [Run],
+    pub defines: &'a [Run],
+    pub specifiers: &'a [Place],
+    pub items: &'a [Run],
+    pub internal: &'a [Run],
+    pub id: Option<i64>,
+}
+
+/// Whether a place stands twice.
+fn has_twice(places: &[Place]) -> bool
+    ensures { result ≡ has_twice places.now }
+{
+    for at in 0..places.len() {
+        if stands_among(&places[at + 1..], places[at]) {
+            return true;
+        }
+    }
+    false
+}
+
+impl<'a> Need<'a> {
+    /// Whether a place that a specifier defines is defined or transferred by another part too.
+    pub(crate) fn defines_twice(&self) -> bool
+        ensures { result ≡ defines_twice (need_of self.now) }
+    {
+        let items = Among { runs: self.items };
+        let internal = Among {
+            runs: self.internal,
+        };
+        has_twice(self.specifiers)
+            || any_of(self.specifiers, &items)
+            || any_of(self.specifiers, &internal)
+            || any_in_runs(self.items, &internal)
+    }
+}
