@@ -1,5 +1,5 @@
 -- Values are shown as output fields are.
-use Rattle.std.proofs.Common.{◌≡◌, ℕ, zero, suc, ◌-◌, ◌^◌, ◌<◌, ◌≤◌, Bool, true, false, cond, eqb, List, [], ◌∷◌, ◌++◌, length, Option, Some, None, ℤ, pos, negsuc, sym, ap, subst, ◌∙◌, refl, arith, length-append}
+use Rattle.std.proofs.Common.{◌≡◌, ℕ, zero, suc, ◌-◌, ◌^◌, ◌<◌, Bool, true, false, cond, eqb, List, [], ◌∷◌, ◌++◌, length, Some, None, ℤ, pos, negsuc, sym, ap, ◌∙◌, refl, arith, length-append}
 use Rattle.std.proofs.lemmas.Bool.Decides.{nat_tests}
 use Rattle.std.specs.Prelude.{unsigned_abs, replicate}
 use Rattle.std.specs.Fmt.{decimal}
@@ -8,13 +8,12 @@ use Rattle.fj_value.specs.Digits.{numeral}
 use Rattle.fj_value.specs.DigitLaws.{numeral-decimal}
 use Rattle.fj_value.specs.Kind.{IsOfKind}
 use Rattle.fj_value.specs.declared.kind.Kind.{Kind}
-use Rattle.fj_value.specs.declared.kind.Kind.TheVariants.{Int4, Int8, Logical, Chars}
+use Rattle.fj_value.specs.declared.kind.Kind.TheVariants.{Int4, Int8}
 use Rattle.fj_value.specs.declared.edit.Delim.{Delim}
-use Rattle.fj_value.specs.declared.edit.Delim.TheVariants.{Plain}
 use Rattle.fj_value.specs.declared.edit.EditModes.{EditModes}
 use Rattle.fj_value.specs.declared.edit.Edit.TheVariants as edit
 use Rattle.fj_value.specs.declared.value.Value.TheVariants as value
-use Rattle.fj_edit_out.specs.OutputField.{zero_filled, sign, with_sign, adjusted, integer_field, output_field}
+use Rattle.fj_edit_out.specs.OutputField.{zero_filled, with_sign, adjusted, integer_field, output_field}
 use Rattle.fj_list.specs.ListText.{mark_of, characters_shown, integer_shown, shown}
 use Rattle.fj_list.proofs.Plain.{magnitude}
 use Rattle.fj_edit_laws.specs.Shown.{ValuesAreShownAsFields}

@@ -15,7 +15,7 @@ use Rattle.fj_value.specs.declared.value.Value.TheVariants as value
 use Rattle.fj_value.specs.declared.condition.Condition.TheVariants.{Error}
 use Rattle.fj_list.specs.declared.constant.Read.{Read}
 use Rattle.fj_list.specs.declared.constant.Read.TheVariants as read
-use Rattle.fj_value.specs.Reading.{with_sign, in_range}
+use Rattle.fj_value.specs.Reading.{with_sign}
 use Rattle.fj_list.specs.Constant.{signed_number, integer_read}
 use Rattle.fj_list.specs.Scanned.{Scanned}
 

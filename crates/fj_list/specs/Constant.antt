@@ -1,5 +1,5 @@
 -- The value of a constant in list-directed input (ISO/IEC 1539-1:2004, 10.9.1), by the kind of the item.
-use Rattle.std.specs.Prelude.{ℕ, ◌-◌, Bool, true, false, ◌||◌, ◌==◌, if◌then◌else◌, List, [], ◌∷◌, ◌++◌, length, take, replicate, Option, Some, None, ℤ, pos, neg_ℤ}
+use Rattle.std.specs.Prelude.{ℕ, Bool, true, false, ◌==◌, if◌then◌else◌, List, [], ◌∷◌, Option, Some, None, ℤ}
 use Rattle.std.specs.Option.{option_map}
 use Rattle.fj_value.specs.Digits.{number_in}
 use Rattle.fj_value.specs.Kind.{fits_bits}

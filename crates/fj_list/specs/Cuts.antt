@@ -1,5 +1,5 @@
 -- Delimited constants over several records (ISO/IEC 1539-1:2004, 10.9.1).
-use Rattle.std.specs.Prelude.{◌≡◌, ℕ, List, [], ◌∷◌, ◌++◌, map, Option, Some, None}
+use Rattle.std.specs.Prelude.{ℕ, List, [], ◌∷◌, ◌++◌, map, Some, None}
 use Rattle.std.specs.List.{flat_map}
 use Rattle.fj_list.specs.ListText.{doubled}
 use Rattle.fj_list.specs.Stream.{Stream}

@@ -16,9 +16,10 @@ mod write;
 pub use constant::{Form, Read, number, read_as};
 pub use items::{Item, OutputItems, Run, Values};
 pub use laws::{
-    cells_keep_kinds, constants_are_of_kind, constants_may_be_cut, integers_are_read, records_are_listed,
-    records_are_looked_at_as_needed, records_are_unique, records_break_where_full,
-    text_has_a_meaning, text_has_one_meaning, text_is_read_as_its_values, values_are_read_again,
+    cells_keep_kinds, constants_are_of_kind, constants_may_be_cut, integers_are_read,
+    records_are_listed, records_are_looked_at_as_needed, records_are_unique,
+    records_break_where_full, text_has_a_meaning, text_has_one_meaning, text_is_read_as_its_values,
+    values_are_read_again,
 };
 pub use memory_records::MemoryRecords;
 pub use moved::{Cells, GroupMember, Moved, Order};

@@ -32,10 +32,10 @@ use Rattle.fj_namelist.specs.declared.place.Elements.{Elements}
 use Rattle.fj_namelist.specs.declared.place.Place.{Place}
 use Rattle.fj_namelist.specs.declared.place.Place.TheVariants as place
 use Rattle.fj_namelist.specs.Names.{Designator, designated, designator, subscripted, with_subscript, subscript_in, closed_number, member_of, same_name, is_opening, ends_at_equals}
-use Rattle.fj_namelist.specs.Tokens.{Lexed, lexed, stepped, Group, lines_lexed}
+use Rattle.fj_namelist.specs.Tokens.{Lexed, lexed, stepped, Group}
 use Rattle.fj_namelist.specs.GroupInput.{Result, ended, elements, element_of, place_of, constant_read, given_to, filled, Name, name_of, name_at, is_equals, begun_at, begun, either_taken, tokens_taken, group_read}
 use Rattle.fj_namelist.specs.GroupReadAgain.{in_name, IsName}
-use Rattle.fj_namelist.specs.Heading.{heading, heading_in, text_in, is_passed, behind_name, named, missing, misnamed}
+use Rattle.fj_namelist.specs.Heading.{heading, heading_in, text_in, is_passed, behind_name, named, missing}
 use Rattle.fj_namelist.specs.Grammar as text
 use Rattle.fj_list.specs.Cuts.{characters}
 use Rattle.fj_namelist.specs.Grammar.{Gap, Named, Values, Assignment, Assignments, BeginsBlank, IsGroupText}

@@ -1,4 +1,4 @@
-use Rattle.std.proofs.Common.{ℕ, length, refl, sym, subst, ◌≤◌, ◌≡◌}
+use Rattle.std.proofs.Common.{ℕ, length, refl, sym, subst, ◌≤◌}
 use Rattle.fj_list.specs.Stream.{is_no_blank}
 use Rattle.fj_list.proofs.Widths.{width_found, width-le}
 use Rattle.fj_list.proofs.scan.blanks_width.Goals as goal

@@ -1,4 +1,4 @@
-use Rattle.std.proofs.Common.{ℕ, eqb, length, refl, ap, sym, subst, ◌≤◌, ◌≡◌}
+use Rattle.std.proofs.Common.{ℕ, eqb, length, refl, sym, subst, ◌≤◌}
 use Rattle.fj_list.proofs.Widths.{width_found, width-le}
 use Rattle.fj_list.proofs.scan.width_before.Goals as goal
 

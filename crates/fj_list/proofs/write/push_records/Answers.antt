@@ -1,4 +1,4 @@
-use Rattle.std.proofs.Common.{ap, ◌∙◌, length, List, ℕ}
+use Rattle.std.proofs.Common.{ap, ◌∙◌, length, List}
 use Rattle.fj_value.specs.declared.value.Cell.{Cell}
 use Rattle.fj_line.specs.Page.{at_hand}
 use Rattle.fj_list.specs.Items.{Output, in_cells, items_left, values_in}
