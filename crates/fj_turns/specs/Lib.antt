@@ -2,3 +2,4 @@ pub mod Run
 pub mod Turns
 pub mod Serving
 pub mod Inside
+pub mod Cases
