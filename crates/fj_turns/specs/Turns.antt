@@ -85,8 +85,11 @@ turn_act st (gives slot job core next) r = submits slot job (Acting (next (get_o
 turn_act st (awaits slot job core next) r = submits slot job (Awaiting slot (get_or r.sent slot 0) next) (with_core core r)
 
 -- those told are pending no more
+abbrev pub with_tells : Stated → List Entry → Run → Run
+with_tells st told r = record r { core = told_core r.variables st.0.line told r.core; book = filter (λ (h : Held). not (tells_id told h.pending.id)) r.book }
+
 abbrev pub turn_tell : Stated → List Entry → Run → Turn
-turn_tell st told r = turn_act st (doing_told r.variables st told r.core) (record r { book = filter (λ (h : Held). not (tells_id told h.pending.id)) r.book })
+turn_tell st told r = turn_act st (doing_told r.variables st told r.core) (with_tells st told r)
 
 abbrev pub wait_by : Stated → List Entry → Option ℕ → Run → Turn
 wait_by st waited None r = turn_tell st waited r
@@ -100,7 +103,7 @@ abbrev pub turn_wait : Stated → Run → Turn
 turn_wait st r = wait_by st (waited_now st r) (unsettled (waited_now st r) r.book) r
 
 abbrev pub start_by : Stated → Option Rule → Run → Turn
-start_by st (Some rule) r = Stops (record r { ending = Some (prohibition st.0.line rule) })
+start_by st (Some rule) r = finish_by (Some (prohibition st.0.line rule)) r
 start_by st None r = turn_wait st r
 
 abbrev pub rule_of : List Variable → Stated → Core → Option Rule
