@@ -5,3 +5,4 @@ pub mod Tying
 pub mod Waits
 pub mod EachKind
 pub mod Reaching
+pub mod Acted
