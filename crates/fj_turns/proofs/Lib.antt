@@ -6,3 +6,5 @@ pub mod Waits
 pub mod EachKind
 pub mod Reaching
 pub mod Acted
+pub mod Statements
+pub mod Decks
