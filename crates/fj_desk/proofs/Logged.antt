@@ -32,7 +32,8 @@ use Rattle.fj_desk.proofs.Seen.{Seen, named_same}
 use Rattle.fj_desk.proofs.Tied.{Tied, Free}
 use Rattle.fj_desk.proofs.Resuming.{tells_tied}
 use Rattle.fj_desk.proofs.Steps.{Caused, Freed, freed, prohibited_same}
-use Rattle.fj_desk.proofs.Given.{Gives, transfer_given, closes_given, closes_anyway_given, ends_given, moves_given, inquires_given, opens_given, units_found}
+use Rattle.fj_desk.proofs.Given.{Gives, transfer_given, closes_given, closes_anyway_given, ends_given, moves_given, inquires_given, units_found}
+use Rattle.fj_desk.proofs.GivenByOpen.{opens_given}
 
 -- ---- the desks then
 

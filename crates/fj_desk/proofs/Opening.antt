@@ -31,7 +31,7 @@ use Rattle.fj_desk.proofs.Carrying.{Later, Serves, serves_at}
 use Rattle.fj_desk.proofs.Seen.{Seen, At, at_unit, not_at_unit, both_other, taken_same}
 use Rattle.fj_desk.proofs.Tied.{Idle, Tied, ActTied, Free, entries_later, placed_later}
 use Rattle.fj_desk.proofs.Closing.{both_filter, detaches_tied, halt_none, keeps_same}
-use Rattle.fj_desk.proofs.Positioning.{changes_tied}
+use Rattle.fj_desk.proofs.Changing.{changes_tied}
 
 -- ---- free slots
 

@@ -147,6 +147,20 @@ both_at desks behind (x ∷ us) (v ∷ vs) number u g h b slots numbers e o f gs
     numbers_too desks (y ∷ ys) [] n b d = absurd b
     numbers_too desks (y ∷ ys) (w ∷ ws) n b d = ((λ q. d.0 (sym b.0.number ∙ q)), numbers_too desks ys ws n b.1 d.1)
 
+-- ---- numbers
+
+pub numbers_apart : (desks : List Desk) (us : List Connected) (vs : List plain.Unit) → Seen desks us vs → Apart (λ (v : plain.Unit). v.number) vs → Apart (λ (x : Connected). x.number) us
+numbers_apart desks [] [] b h = tt
+numbers_apart desks [] (v ∷ vs) b h = absurd b
+numbers_apart desks (x ∷ us) [] b h = absurd b
+numbers_apart desks (x ∷ us) (v ∷ vs) b h = (differ us vs b.1 h.0, numbers_apart desks us vs b.1 h.1)
+  where
+    differ : (us : List Connected) (vs : List plain.Unit) → Seen desks us vs → Differs (λ (w : plain.Unit). w.number) v.number vs → Differs (λ (y : Connected). y.number) x.number us
+    differ [] [] c d = tt
+    differ [] (w ∷ ws) c d = absurd c
+    differ (y ∷ ys) [] c d = absurd c
+    differ (y ∷ ys) (w ∷ ws) c d = ((λ q. d.0 (sym c.0.number ∙ q ∙ b.0.number)), differ ys ws c.1 d.1)
+
 -- ---- names
 
 pub named_same : (desks : List Desk) (us : List Connected) (vs : List plain.Unit) (name : List ℕ) → Seen desks us vs → unit_named us name ≡ unit_of_file vs name

@@ -1,5 +1,4 @@
 pub mod Lists
-pub mod Names
 pub mod Tells
 pub mod Walk
 pub mod Places

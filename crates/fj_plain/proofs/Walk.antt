@@ -38,7 +38,7 @@ use Rattle.fj_plain.specs.Connecting.{file_due, keeps_file, with_modes, is_taken
 use Rattle.fj_plain.specs.State.{State, Unit, Output, found, with_unit, inserted, without_unit, without_file, disconnected, keeps, all_closed}
 use Rattle.fj_plain.specs.Statement.{own, instead, acts}
 use Rattle.fj_plain.proofs.Lists.{none_passes, all_both}
-use Rattle.fj_plain.proofs.Names.{moved_is, transfer_is}
+use Rattle.fj_bay.proofs.Keeping.{moved_kept, transfer_kept}
 use Rattle.fj_plain.proofs.Tells.{emptied}
 
 -- no unit has this number, and none this file
@@ -176,7 +176,7 @@ module _ (control : ℕ → List Given) (variables : List Variable) (what : Stat
   anyway_walk n keep (Some u) k e = w.leaves n u (keeps u && unwrap_or keep true) e k
 
   move_walk : (n : ℕ) (u : Unit) (how : Positioning) → found s.units n ≡ Some u → P (with_move s u (moved u.connection how)).0
-  move_walk n u how k = w.moves s.vars n u (moved u.connection how).0 k (moved_is u.connection how)
+  move_walk n u how k = w.moves s.vars n u (moved u.connection how).0 k (moved_kept u.connection how).named
 
   moves_walk : (n : ℕ) (how : Motion) (old : Option Unit) → found s.units n ≡ old → P (moves s how old).0
   moves_walk n how None k = w.same
@@ -197,7 +197,7 @@ module _ (control : ℕ → List Given) (variables : List Variable) (what : Stat
       done = transfer_by control u.connection (spec_of variables s t (moved_by variables s t).cells) (moved_by variables s t)
 
       name : done.connection.name ≡ u.connection.name
-      name = transfer_is control u.connection (spec_of variables s t (moved_by variables s t).cells) (moved_by variables s t)
+      name = (transfer_kept control u.connection (spec_of variables s t (moved_by variables s t).cells) (moved_by variables s t)).named
 
       by : (b : Bool) → is_asynchronous t ≡ b → P (if b then made_pending variables s t (moved_by variables s t) u done else carried_out variables s t (moved_by variables s t) u done).0
       by true e = w.pends t n u done is e k name
