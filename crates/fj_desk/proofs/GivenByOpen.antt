@@ -1,54 +1,35 @@
 -- The jobs that OPEN gives.
-use Rattle.std.proofs.Common.{◌≡◌, ◌⊎◌, ℕ, ℤ, ◌+◌, ◌<◌, Bool, true, false, not, List, [], ◌∷◌, ◌++◌, map, length, Option, Some, None, slice_get, refl, sym, ap, ◌∙◌, subst, inl, inr, Result, Ok, Err, ◌&&◌, ◌||◌}
-use Rattle.std.specs.Prelude.{◌==◌, if◌then◌else◌, filter, nat_lt, unwrap_or}
-use Rattle.std.specs.List.{list_any}
+use Rattle.std.proofs.Common.{◌≡◌, ℕ, Bool, true, false, List, [], ◌∷◌, ◌++◌, Option, Some, None, refl, sym, ap, ◌∙◌, subst, Result, Ok, Err}
+use Rattle.std.specs.Prelude.{if◌then◌else◌, filter, nat_lt}
 use Rattle.std.proofs.lemmas.Bool.{eq-eqb, ne_eqb}
 use Rattle.fj_value.specs.declared.condition.Condition.{Condition}
-use Rattle.fj_value.specs.declared.condition.Condition.TheVariants.{Fine, EndOfFile, EndOfRecord, Error}
+use Rattle.fj_value.specs.declared.condition.Condition.TheVariants.{Fine, Error}
 use Rattle.fj_modes.specs.Modes.{settled}
 use Rattle.fj_modes.specs.Modes as mode
 use Rattle.fj_modes.specs.declared.modes.Modes.{Modes}
 use Rattle.fj_modes.specs.declared.specifiers.OpenSpec.{OpenSpec}
-use Rattle.fj_modes.specs.declared.asked.Wanted.{Wanted}
-use Rattle.fj_modes.specs.declared.unit.Motion.{Motion}
-use Rattle.fj_modes.specs.declared.unit.Motion.TheVariants as motion
-use Rattle.fj_modes.specs.declared.unit.UnitRef.{UnitRef}
-use Rattle.fj_modes.specs.declared.unit.UnitRef.TheVariants as unit
-use Rattle.fj_list.specs.declared.moved.Moved.{Moved}
-use Rattle.fj_control.specs.Steps.{Given}
 use Rattle.fj_connect.specs.Connection.{Connection}
 use Rattle.fj_connect.specs.Opening.{opened_file}
 use Rattle.fj_connect.specs.Positions.{ended}
-use Rattle.fj_transfer.specs.Transfer.{Done, transfer_by}
-use Rattle.fj_bay.specs.Bay.{Bay}
-use Rattle.fj_bay.specs.Halt.{halts}
-use Rattle.fj_bay.specs.Jobs.{Moving, Job, attach, detach, move, go, change, flush, look, resume, Answer, done}
-use Rattle.fj_bay.specs.Serving.{serve, with_done}
-use Rattle.fj_statement.specs.declared.deck.Variable.{Variable}
-use Rattle.fj_statement.specs.declared.statement.Transfer.{Transfer}
-use Rattle.fj_plain.specs.Variables.{Variables}
-use Rattle.fj_plain.specs.Needs.{number_of}
+use Rattle.fj_bay.specs.Jobs.{detach, done}
+use Rattle.fj_bay.specs.Serving.{serve}
 use Rattle.fj_plain.specs.State.{State, found, without_unit}
 use Rattle.fj_plain.specs.State as plain
-use Rattle.fj_plain.specs.Telling.{is_asynchronous}
-use Rattle.fj_plain.specs.Transfers.{moved_by, moved_in, spec_in, spec_of, layout_of, refusal, with_cells, without_values}
 use Rattle.fj_plain.specs.Connecting as plainly
 use Rattle.fj_plain.specs.Connecting.{file_due, keeps_name}
-use Rattle.fj_plain.specs.Statement as meant
-use Rattle.fj_desk.specs.Core.{Core, Connected, connected_at, inserted, without_connected}
-use Rattle.fj_desk.specs.Desks.{Desk, Outcome, carry, outcome, condition_in, look_in, most_slots}
-use Rattle.fj_desk.specs.Doing.{Doing, Desked, acted, given, finishes, gives, awaits}
+use Rattle.fj_desk.specs.Core.{Connected, connected_at, without_connected}
+use Rattle.fj_desk.specs.Desks.{Desk, Outcome, carry, outcome, most_slots}
+use Rattle.fj_desk.specs.Doing.{Doing, Desked, acted, given, finishes}
 use Rattle.fj_desk.specs.Acting as desk
 use Rattle.fj_desk.specs.Acting.{moving_of, finishes_behind, transfer_at, keeps, disconnected, detaches, closes, closes_anyway, all_closed, free_from, attaches, connects, connects_at, opens_with, opens, changes, moves, job_of, inquires, unit_at}
 use Rattle.fj_desk.specs.Both.{Both}
-use Rattle.fj_desk.specs.Forgetting.{bay_at}
-use Rattle.fj_desk.specs.Giving.{Jobs, resume_behind, moving_in, transfer_jobs, unless_refused, fitting_jobs, out, close_jobs, brought, connect_jobs, opening_jobs, mode_jobs, open_jobs, motion_jobs, look_jobs, all_out, IsAt, IsGiven}
-use Rattle.fj_desk.proofs.Apart.{Each, Apart, Differs}
+use Rattle.fj_desk.specs.Giving.{Jobs, brought, connect_jobs, opening_jobs, mode_jobs, open_jobs, IsGiven}
+use Rattle.fj_desk.proofs.Apart.{Differs}
 use Rattle.fj_desk.proofs.Carrying.{serves_at}
-use Rattle.fj_desk.proofs.Seen.{Seen, At, at_unit, not_at_unit, taken_same, numbers_apart}
-use Rattle.fj_desk.proofs.Tied.{Tied, Free, each_found}
+use Rattle.fj_desk.proofs.Seen.{At, at_unit, not_at_unit, taken_same}
+use Rattle.fj_desk.proofs.Tied.{Tied, Free}
 use Rattle.fj_desk.proofs.Closing.{out_tied, halt_none, keeps_same}
-use Rattle.fj_desk.proofs.Opening.{FreeSlot, free_found, fewer, no_fewer, gone_differs}
+use Rattle.fj_desk.proofs.Opening.{free_found, fewer, no_fewer, gone_differs}
 use Rattle.fj_desk.proofs.Given.{Gives, here}
 
 found_inserted : (new : Connected) (us rest : List Connected) → Differs (λ (u : Connected). u.number) new.number us → connected_at (filter (λ (u : Connected). nat_lt u.number new.number) us ++ new ∷ rest) new.number ≡ Some new

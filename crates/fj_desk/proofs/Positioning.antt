@@ -1,15 +1,10 @@
 -- The motions and INQUIRE over desks.
-use Rattle.std.proofs.Common.{◌≡◌, ◌⊎◌, ℕ, ℤ, Bool, true, false, not, List, [], ◌∷◌, map, Option, Some, None, slice_get, refl, sym, ap, ◌∙◌, subst, inl, inr, Result, Ok, Err, ◌||◌}
-use Rattle.std.specs.Prelude.{◌==◌, if◌then◌else◌}
+use Rattle.std.proofs.Common.{◌≡◌, ℕ, ℤ, Bool, true, false, List, [], ◌∷◌, Option, Some, None, refl, sym, ap, ◌∙◌, subst, ◌||◌}
+use Rattle.std.specs.Prelude.{if◌then◌else◌}
 use Rattle.std.specs.List.{list_any}
-use Rattle.std.proofs.lemmas.Bool.{eq-eqb, ne_eqb}
-use Rattle.std.proofs.lemmas.Bool.Decides.{eqb_tells}
-use Rattle.fj_value.specs.declared.condition.Condition.{Condition}
 use Rattle.fj_value.specs.declared.condition.Condition.TheVariants.{Fine, Error}
 use Rattle.fj_value.specs.declared.value.Cell.{Cell}
-use Rattle.fj_modes.specs.Modes as mode
 use Rattle.fj_modes.specs.declared.modes.Modes.{Modes}
-use Rattle.fj_modes.specs.declared.specifiers.OpenSpec.{OpenSpec}
 use Rattle.fj_modes.specs.declared.asked.Question.{Question}
 use Rattle.fj_modes.specs.declared.asked.Question.TheVariants as question
 use Rattle.fj_modes.specs.declared.asked.Wanted.{Wanted}
@@ -17,32 +12,27 @@ use Rattle.fj_modes.specs.declared.asked.Subject.{Subject}
 use Rattle.fj_modes.specs.declared.asked.Subject.TheVariants as subject
 use Rattle.fj_modes.specs.declared.unit.Motion.{Motion}
 use Rattle.fj_modes.specs.declared.unit.Motion.TheVariants as motion
-use Rattle.fj_connect.specs.Connection.{Connection, with_edit}
 use Rattle.fj_connect.specs.Positions as position
 use Rattle.fj_connect.specs.declared.spot.Positioning.{Positioning}
 use Rattle.fj_connect.specs.declared.spot.Positioning.TheVariants as positioning
 use Rattle.fj_statement.specs.declared.statement.Operand.{Operand}
-use Rattle.fj_bay.specs.Bay.{Bay}
-use Rattle.fj_bay.specs.Jobs.{Looked, looked_at, Job, go, change, flush, look}
+use Rattle.fj_bay.specs.Jobs.{Looked, looked_at, go, flush, look}
 use Rattle.fj_bay.specs.Serving.{serve}
-use Rattle.fj_bay.proofs.Keeping.{Kept, moved_kept}
-use Rattle.fj_plain.specs.Variables.{Variables, given_back}
+use Rattle.fj_bay.proofs.Keeping.{moved_kept}
+use Rattle.fj_plain.specs.Variables.{given_back}
 use Rattle.fj_plain.specs.Needs.{number_given, unit_about, unit_of_file, holders}
 use Rattle.fj_plain.specs.State.{State, found, with_unit}
-use Rattle.fj_plain.specs.State as plain
 use Rattle.fj_plain.specs.Connecting as plainly
-use Rattle.fj_plain.specs.Inquiring.{About, Answer, answer_to, connected_answer, value_for, inquired}
+use Rattle.fj_plain.specs.Inquiring.{answer_to, value_for, inquired}
 use Rattle.fj_plain.specs.Statement as meant
 use Rattle.fj_plain.specs.Statement.{has_pending, about_other, about_connected, file_asked}
-use Rattle.fj_desk.specs.Core.{Core, Connected, connected_at, with_connected, pending_holders, unit_named}
-use Rattle.fj_desk.specs.Desks.{Desk, Outcome, carry, outcome, look_in, condition_in, log_length}
-use Rattle.fj_desk.specs.Doing.{Doing, Desked, acted, finishes, gives, awaits}
-use Rattle.fj_desk.specs.Acting.{moves, job_of, changes, asks_connection, answers, about_unit, inquires, unit_at}
-use Rattle.fj_desk.specs.Forgetting.{IsSeen, Same, bay_at}
-use Rattle.fj_desk.proofs.Apart.{Each, Apart, Differs, apart_map, map_same}
-use Rattle.fj_desk.proofs.Carrying.{Later, Reaches, Serves, serves_at}
-use Rattle.fj_desk.proofs.Seen.{Seen, At, at_unit, not_at_unit, both_at, slot_differs, named_same}
-use Rattle.fj_desk.proofs.Tied.{Idle, Tied, ActTied, bay_of, unit_moves, unit_stays, with_vars, holders_same, entries_later, placed_later, idle_else, replaced_numbers}
+use Rattle.fj_desk.specs.Core.{Connected, connected_at, pending_holders, unit_named}
+use Rattle.fj_desk.specs.Desks.{carry, look_in, condition_in}
+use Rattle.fj_desk.specs.Doing.{Desked, acted, finishes, awaits}
+use Rattle.fj_desk.specs.Acting.{moves, job_of, asks_connection, answers, about_unit, inquires, unit_at}
+use Rattle.fj_desk.proofs.Carrying.{Serves, serves_at}
+use Rattle.fj_desk.proofs.Seen.{At, at_unit, not_at_unit, named_same}
+use Rattle.fj_desk.proofs.Tied.{Tied, ActTied, bay_of, unit_moves, unit_stays, with_vars, holders_same}
 
 -- ---- motions
 
