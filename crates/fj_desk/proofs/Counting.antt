@@ -1,5 +1,5 @@
 -- How many elements a list has whose numbers differ, or cover a range.
-use Rattle.std.proofs.Common.{◌≡◌, ◌⊎◌, ℕ, zero, suc, ◌+◌, ◌<◌, ◌≤◌, Bool, true, false, not, List, [], ◌∷◌, length, refl, sym, ap, ◌∙◌, subst, inl, inr, ◌||◌, arith}
+use Rattle.std.proofs.Common.{◌≡◌, ℕ, zero, suc, ◌+◌, ◌<◌, ◌≤◌, Bool, true, false, not, List, [], ◌∷◌, length, refl, sym, ap, ◌∙◌, subst, inl, inr, ◌||◌, arith}
 use Rattle.std.specs.Prelude.{◌==◌, if◌then◌else◌, filter}
 use Rattle.std.specs.List.{list_any}
 use Rattle.std.proofs.lemmas.Bool.{ne_eqb}
@@ -80,4 +80,3 @@ no_shorter f (suc n) xs h =
     let one = shorter f n xs (h n (omega (arith))) in
     let rest = no_shorter f n (filter (λ x. not (f x == n)) xs) (λ k l. still_any f n k xs (λ e. absurd (omega (arith, l, e))) (h k (omega (arith, l)))) in
     omega (arith, one, rest)
-

@@ -5,3 +5,5 @@ pub mod Acting
 pub mod Desking
 pub mod Both
 pub mod Forgetting
+pub mod Giving
+pub mod Cases

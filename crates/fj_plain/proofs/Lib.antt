@@ -1,0 +1,12 @@
+pub mod Lists
+pub mod Tells
+pub mod Walk
+pub mod Places
+pub mod Units
+pub mod Sound
+pub mod Reached
+pub mod Turning
+pub mod Halting
+pub mod Cutting
+pub mod Closing
+pub mod AtOnce

@@ -69,7 +69,7 @@ EndOfRecordIsCounted = Comes (execution c5 (lines_from 3 (opening 10 (old_later 
     ∷ by_a (Some 5) (later (record (a_transfer true 10 (Some 5) (var 0)) { advance = Some false; size = Some (at 1) })) ∷ wait None (Some (at 2)) ∷ «end» ∷ [])) (file (codes "T") (codes "abc" ++ 10 ∷ [])))
     ended (Chars (codes "abc  ") ∷ int (pos 3) ∷ int (negsuc 1) ∷ [])
 
--- wAIT with an identifier of no pending transfer is prohibited; without one it does nothing
+-- WAIT with an identifier of no pending transfer is prohibited; without one it does nothing
 abbrev pub IdentifierIsNotPending : Type 0
 IdentifierIsNotPending = (execution [] (lines_from 1 (wait None None ∷ wait (Some (pos 1)) None ∷ «end» ∷ [])) no_files).ending ≡ Some (prohibition 2 P4)
 
@@ -102,11 +102,11 @@ StreamKeepsWhatIsBehind = let result = execution (scalar (kind.Chars 2) ∷ scal
     ∷ bare (now (record (transfer true 10 Unformatted (var 0 ∷ [])) { pos = Some (whole (pos 6)); iostat = Some (at 1) })) ∷ «end» ∷ [])) no_files in
     Comes result ended (Undefined ∷ int (negsuc 0) ∷ []) × (result.files (codes "S") ≡ Some (codes "abXYef"))
 
--- oPEN of an old file that is not there is condition 5
+-- OPEN of an old file that is not there is condition 5
 abbrev pub OldFileIsMissing : Type 0
 OldFileIsMissing = Comes (execution (integers 1) (lines_from 2 (opening 10 (record plain_open { file = Some (codes "E"); status = Some Old }) (Some (at 0)) ∷ «end» ∷ [])) no_files) ended (int (pos 5) ∷ [])
 
--- oPEN of a file that another unit has is condition 7
+-- OPEN of a file that another unit has is condition 7
 abbrev pub FileOfAnotherUnit : Type 0
 FileOfAnotherUnit = (execution [] (lines_from 1 (opening 10 (replacing (codes "K")) None ∷ opening 11 (record plain_open { file = Some (codes "K") }) None ∷ «end» ∷ [])) no_files).ending ≡ Some (error_stop 2 (pos 7))
 
@@ -116,7 +116,7 @@ OnlyEditModesChange = Comes (execution (integers 1) (lines_from 2 (opening 10 (r
     ∷ opening 10 (record plain_open { file = Some (codes "X"); status = Some Old; blank_zero = Some true }) None
     ∷ opening 10 (record plain_open { file = Some (codes "X"); status = Some Old; action = Some action.Read }) (Some (at 0)) ∷ «end» ∷ [])) no_files) ended (int (pos 8) ∷ [])
 
--- cLOSE that keeps a scratch file is condition 4
+-- CLOSE that keeps a scratch file is condition 4
 abbrev pub ScratchIsNotKept : Type 0
 ScratchIsNotKept = let result = execution [] (lines_from 1 (opening 10 (record plain_open { status = Some Scratch }) None ∷ close 10 (Some true) ∷ «end» ∷ [])) no_files in
     result.ending ≡ Some (error_stop 2 (pos 4))
@@ -128,6 +128,6 @@ WriteGoesOnInTheRecord = let result = execution (scalar (kind.Chars 2) ∷ []) (
     (file (codes "V") (codes "abcd" ++ 10 ∷ 120 ∷ 10 ∷ [])) in
     Comes result ended (Chars (codes "ab") ∷ []) × (result.files (codes "V") ≡ Some (codes "abZ" ++ 10 ∷ []))
 
--- cLOSE ends a record that nonadvancing output left open
+-- CLOSE ends a record that nonadvancing output left open
 abbrev pub OpenRecordIsEnded : Type 0
 OpenRecordIsEnded = (execution [] (lines_from 1 (opening 10 (replacing (codes "V")) None ∷ by_a None (now (record (a_transfer false 10 None (text (codes "ab"))) { advance = Some false })) ∷ close 10 None ∷ «end» ∷ [])) no_files).files (codes "V") ≡ Some (codes "ab" ++ 10 ∷ [])

@@ -8,5 +8,13 @@ pub mod Transfers
 pub mod Connecting
 pub mod Inquiring
 pub mod Statement
+pub mod Reaching
+pub mod PendingLaws
+pub mod HaltLaws
+pub mod UnitLaws
+pub mod CutLaws
 pub mod DeckWords
 pub mod Cases
+pub mod TransferCases
+pub mod FileCases
+pub mod StatementCases
