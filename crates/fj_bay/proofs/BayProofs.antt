@@ -1,24 +1,22 @@
 -- The laws of bays.
-use Rattle.std.proofs.Common.{◌≡◌, ◌≢◌, ◌↔◌, ℕ, zero, suc, ◌==◌, Bool, true, false, List, [], ◌∷◌, ◌++◌, map, length, take, Option, Some, None, refl, sym, ap, ◌∙◌, subst, if◌then◌else◌, arith}
+use Rattle.std.proofs.Common.{◌≡◌, ◌≢◌, ℕ, suc, List, [], ◌∷◌, ◌++◌, map, length, take, Option, Some, None, refl, sym, ap, ◌∙◌, subst, if◌then◌else◌, arith}
 use Rattle.std.specs.Prelude.{option_map}
 use Rattle.std.proofs.lemmas.Bool.{eq-eqb}
 use Rattle.std.proofs.lemmas.List.{take_all}
 use Rattle.fj_value.specs.declared.condition.Condition.{Condition}
 use Rattle.fj_value.specs.declared.condition.Condition.TheVariants.{Fine, EndOfFile, EndOfRecord, Error}
-use Rattle.fj_value.specs.declared.edit.EditModes.{EditModes}
-use Rattle.fj_connect.specs.Connection.{Connection, with_records, bytes_before}
-use Rattle.fj_connect.specs.PositionLaws.{Stands}
+use Rattle.fj_connect.specs.Connection.{Connection, with_records}
 use Rattle.fj_connect.specs.Positions.{ended, moved}
 use Rattle.fj_connect.specs.Spot.{is_writing}
 use Rattle.fj_value.specs.declared.value.Cell.{Cell}
 use Rattle.fj_value.specs.declared.value.Value.TheVariants.{Undefined}
 use Rattle.fj_connect.specs.declared.spot.Within.{Within}
 use Rattle.fj_connect.specs.declared.spot.Within.TheVariants.{Outside, Reading, Writing}
-use Rattle.fj_transfer.specs.Transfer.{Done, transfer_by}
+use Rattle.fj_transfer.specs.Transfer.{transfer_by}
 use Rattle.fj_bay.specs.Bay.{Bay}
-use Rattle.fj_bay.specs.Halt.{halts, halt_behind, unless_halted}
-use Rattle.fj_bay.specs.Jobs.{Moving, Job, attach, detach, move, go, change, flush, look, resume, Answer, done, skipped}
-use Rattle.fj_bay.specs.Serving.{serve, answered, attached, detached, moved_in, moved_so, gone, changed, looked, answer_in}
+use Rattle.fj_bay.specs.Halt.{halt_behind, unless_halted}
+use Rattle.fj_bay.specs.Jobs.{Moving, Job, attach, detach, move, go, change, flush, look, resume, done, skipped}
+use Rattle.fj_bay.specs.Serving.{serve, answered, attached, detached, moved_in, moved_so, gone, changed, looked}
 use Rattle.fj_bay.specs.Spoilt.{first_difference, first_change, bytes_left, MayStop}
 use Rattle.fj_bay.specs.BayLaws.{IsHalting, end_of_file, error, MeetsCondition, HaltsByTransfers, HaltsUntilResumed, SkipsInHalts, TransfersElse, LeavesBytes, MovesOn, DetachesEnded, IsEmptyOrTakes, StopsWhereBytesChange, KeepsConnection, KeepsItsConnection}
 use Rattle.fj_bay.proofs.Keeping.{Kept, kept_same, ended_kept, moved_kept, transfer_kept}

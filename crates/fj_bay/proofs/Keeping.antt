@@ -36,7 +36,7 @@ use Rattle.fj_transfer.specs.AtHand.{AtHand, behind, line_at, numbered, next_rec
 use Rattle.fj_transfer.specs.Change.{changed}
 use Rattle.fj_transfer.specs.Input.{Progress, Ended, width_for, characters_for, without_padding, stopped, with_field, field_read, with_record, carried_out, left_at, explicit_input}
 use Rattle.fj_transfer.specs.Printing.{Printed, printed, open_count}
-use Rattle.fj_transfer.specs.Transfer.{Done, Ways, in_error, input_done, output_done, explicit_read, explicit_ended, past_records, records_read, records_to_come, condition_to_come, frame_read, body_read, bytes_needed, values_from, body_of, piece_read, bytes_read, unformatted_read, unformatted_written, with_pieces, pieces_written, with_text, lines_written, ends_record, records_written, read_by, written_by, from_place, begins_at, placed, at_byte, at_record, if_fit, unfit, transfer_by, is_explicit, with_undefined}
+use Rattle.fj_transfer.specs.Transfer.{Done, Ways, in_error, input_done, output_done, explicit_read, past_records, records_read, records_to_come, condition_to_come, frame_read, body_read, bytes_needed, values_from, body_of, piece_read, bytes_read, unformatted_read, unformatted_written, with_pieces, pieces_written, with_text, lines_written, ends_record, records_written, read_by, written_by, from_place, begins_at, placed, if_fit, unfit, transfer_by, is_explicit, with_undefined}
 
 pub record Kept (old new : Connection) : Type 0 where
   pub named : new.name ≡ old.name

@@ -1,5 +1,5 @@
 -- What holds of every bay and every job, in the words of connections and halts.
-use Rattle.std.specs.Prelude.{◌≡◌, ◌≢◌, ◌↔◌, ℕ, true, false, List, [], ◌∷◌, ◌++◌, Option, Some, None, map, if◌then◌else◌}
+use Rattle.std.specs.Prelude.{◌≡◌, ◌≢◌, ◌↔◌, ℕ, [], ◌∷◌, ◌++◌, Option, Some, None, if◌then◌else◌}
 use Rattle.fj_value.specs.declared.condition.Condition.{Condition}
 use Rattle.fj_value.specs.declared.condition.Condition.TheVariants.{Fine, EndOfFile, Error}
 use Rattle.fj_value.specs.declared.edit.EditModes.{EditModes}
@@ -10,7 +10,7 @@ use Rattle.fj_connect.specs.declared.spot.Positioning.{Positioning}
 use Rattle.fj_connect.specs.declared.spot.Within.TheVariants.{Writing}
 use Rattle.fj_transfer.specs.Transfer.{with_undefined, transfer_by}
 use Rattle.fj_bay.specs.Bay.{Bay}
-use Rattle.fj_bay.specs.Jobs.{Moving, Looked, looked_at, Job, attach, detach, move, go, change, flush, look, resume, Answer, done, skipped}
+use Rattle.fj_bay.specs.Jobs.{Moving, Looked, looked_at, Job, attach, detach, move, go, change, flush, look, resume, done, skipped}
 use Rattle.fj_bay.specs.Serving.{serve, answered, with_done}
 use Rattle.fj_bay.specs.Spoilt.{first_change, MayStop}
 

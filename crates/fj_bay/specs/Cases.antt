@@ -17,15 +17,14 @@ use Rattle.fj_format.specs.Unfolding as step
 use Rattle.fj_control.specs.Steps.{gives}
 use Rattle.fj_control.specs.Steps as control
 use Rattle.fj_connect.specs.Connection.{Connection}
-use Rattle.fj_connect.specs.declared.spot.Positioning.TheVariants.{Backspace, Rewind, Endfile}
-use Rattle.fj_connect.specs.declared.spot.Spot.{Spot}
+use Rattle.fj_connect.specs.declared.spot.Positioning.TheVariants.{Rewind, Endfile}
 use Rattle.fj_connect.specs.declared.spot.Within.{Within}
 use Rattle.fj_connect.specs.declared.spot.Within.TheVariants.{Outside, Writing}
 use Rattle.fj_transfer.specs.declared.transfer.Layout.TheVariants.{Explicit}
 use Rattle.fj_bay.specs.Bay.{Bay}
 use Rattle.fj_bay.specs.Jobs.{Moving, Job, attach, detach, move, go, change, flush, look, resume, Answer, done, skipped}
 use Rattle.fj_bay.specs.Serving.{serve}
-use Rattle.fj_bay.specs.Spoilt.{first_change, bytes_left}
+use Rattle.fj_bay.specs.Spoilt.{first_change}
 
 -- ---- connections and transfers
 

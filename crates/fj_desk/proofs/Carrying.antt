@@ -1,12 +1,12 @@
 -- A job that is carried out at a slot.
-use Rattle.std.proofs.Common.{◌≡◌, ◌⊎◌, ℕ, zero, suc, ◌+◌, ◌<◌, ◌≤◌, List, [], ◌∷◌, ◌++◌, length, Option, Some, None, slice_get, set, refl, sym, ap, ◌∙◌, subst, inl, inr, arith}
+use Rattle.std.proofs.Common.{◌≡◌, ℕ, zero, suc, ◌+◌, ◌<◌, List, [], ◌∷◌, ◌++◌, length, Option, Some, None, slice_get, set, refl, sym, ap, ◌∙◌, subst, inl, inr, arith}
 use Rattle.std.proofs.lemmas.List.{length-append}
 use Rattle.std.proofs.lemmas.Bool.Decides.{eqb_tells}
 use Rattle.fj_bay.specs.Bay.{Bay}
-use Rattle.fj_bay.specs.Jobs.{Job, Answer}
+use Rattle.fj_bay.specs.Jobs.{Job}
 use Rattle.fj_bay.specs.Serving.{serve}
 use Rattle.fj_desk.specs.Core.{Pending}
-use Rattle.fj_desk.specs.Desks.{Desk, Outcome, outcome_on, carried, carry_at, carry, outcome_at, outcome, log_at, log_length}
+use Rattle.fj_desk.specs.Desks.{Desk, outcome_on, carried, carry_at, carry, outcome_at, outcome, log_at, log_length}
 use Rattle.fj_desk.specs.Forgetting.{bay_at}
 use Rattle.fj_desk.proofs.Apart.{Each}
 

@@ -1,30 +1,28 @@
 -- CLOSE and END over desks.
-use Rattle.std.proofs.Common.{◌≡◌, ◌⊎◌, ℕ, ◌<◌, Bool, true, false, not, List, [], ◌∷◌, map, Option, Some, None, slice_get, refl, sym, ap, ◌∙◌, subst, inl, inr}
+use Rattle.std.proofs.Common.{◌≡◌, ℕ, Bool, true, false, not, List, [], ◌∷◌, Option, Some, None, slice_get, refl, sym, ap, ◌∙◌, subst, inl, inr}
 use Rattle.std.specs.Prelude.{◌==◌, ◌&&◌, if◌then◌else◌, filter, unwrap_or}
-use Rattle.std.proofs.lemmas.Bool.{eq-eqb, ne_eqb, eqb-true}
+use Rattle.std.proofs.lemmas.Bool.{eq-eqb, ne_eqb}
 use Rattle.std.proofs.lemmas.Bool.Decides.{eqb_tells}
 use Rattle.fj_value.specs.declared.condition.Condition.{Condition}
 use Rattle.fj_value.specs.declared.condition.Condition.TheVariants.{Fine, Error}
 use Rattle.fj_modes.specs.declared.modes.Modes.{Modes}
 use Rattle.fj_connect.specs.Connection.{Connection}
 use Rattle.fj_connect.specs.Positions.{ended}
-use Rattle.fj_bay.specs.Bay.{Bay}
-use Rattle.fj_bay.specs.Jobs.{Job, detach, done}
+use Rattle.fj_bay.specs.Jobs.{detach, done}
 use Rattle.fj_bay.specs.Serving.{serve}
-use Rattle.fj_bay.proofs.Keeping.{Kept, ended_kept}
 use Rattle.fj_plain.specs.State.{State, Files, found, with_file, without_file, without_unit}
 use Rattle.fj_plain.specs.State as plain
 use Rattle.fj_plain.specs.Connecting as plainly
 use Rattle.fj_plain.specs.Statement as meant
-use Rattle.fj_desk.specs.Core.{Core, Pending, Connected, connected_at, without_connected}
-use Rattle.fj_desk.specs.Desks.{Desk, Outcome, carry, outcome}
-use Rattle.fj_desk.specs.Doing.{Doing, Desked, acted, finishes, gives, awaits}
+use Rattle.fj_desk.specs.Core.{Core, Connected, connected_at, without_connected}
+use Rattle.fj_desk.specs.Desks.{Desk, carry}
+use Rattle.fj_desk.specs.Doing.{Doing, Desked, acted, finishes}
 use Rattle.fj_desk.specs.Acting.{keeps, left, disconnected, detaches, closes, closes_anyway, all_closed, unit_at}
-use Rattle.fj_desk.specs.Forgetting.{IsSeen, Same, bay_at}
+use Rattle.fj_desk.specs.Forgetting.{bay_at}
 use Rattle.fj_desk.proofs.Apart.{Each, Apart, Differs, each_filter, apart_filter}
-use Rattle.fj_desk.proofs.Carrying.{Later, Reaches, Serves, serves_at}
+use Rattle.fj_desk.proofs.Carrying.{Serves, serves_at}
 use Rattle.fj_desk.proofs.Seen.{Seen, At, at_unit, not_at_unit, both_other, slot_differs}
-use Rattle.fj_desk.proofs.Tied.{Idle, Tied, ActTied, Free, bay_of, entries_later, placed_later, each_found}
+use Rattle.fj_desk.proofs.Tied.{Tied, ActTied, Free, bay_of, entries_later, placed_later, each_found}
 
 -- ---- lists
 

@@ -1,18 +1,15 @@
 -- Whole decks over desks, and their results.
-use Rattle.std.proofs.Common.{◌≡◌, ℕ, zero, suc, ◌<◌, Bool, List, [], ◌∷◌, replicate, Option, Some, None, slice_get, refl, sym, ap, ◌∙◌, subst, arith}
-use Rattle.fj_connect.specs.Connection.{Connection}
+use Rattle.std.proofs.Common.{◌≡◌, ℕ, zero, suc, ◌<◌, List, [], ◌∷◌, replicate, Option, Some, None, slice_get, refl, ap, ◌∙◌, arith}
 use Rattle.fj_bay.specs.Bay.{Bay}
 use Rattle.fj_statement.specs.declared.deck.Variable.{Variable}
-use Rattle.fj_statement.specs.declared.deck.Lined.{Lined}
 use Rattle.fj_plain.specs.State.{State, Files, start, files_closed}
 use Rattle.fj_plain.specs.State as plain
-use Rattle.fj_plain.specs.Statement as meant
-use Rattle.fj_plain.specs.Statement.{Stated, stated, Ending, Ran, executed, step, Result, result_of, execution}
+use Rattle.fj_plain.specs.Statement.{Stated, Ending, Ran, executed, step, result_of}
 use Rattle.fj_desk.specs.Core.{Connected}
-use Rattle.fj_desk.specs.Desks.{Desk, fresh_desks, most_slots}
+use Rattle.fj_desk.specs.Desks.{Desk}
 use Rattle.fj_desk.specs.Doing.{Desked}
-use Rattle.fj_desk.specs.Desking.{DesksRan, over_desks, desk_step, fresh, connection_at, left_by, all_left, desk_result, desk_execution}
-use Rattle.fj_desk.specs.Forgetting.{IsSeen, Same, Forgets, bay_at}
+use Rattle.fj_desk.specs.Desking.{DesksRan, over_desks, desk_step, fresh, connection_at, left_by, all_left, desk_result}
+use Rattle.fj_desk.specs.Forgetting.{Forgets, bay_at}
 use Rattle.fj_desk.proofs.Apart.{Each}
 use Rattle.fj_desk.proofs.Seen.{Seen}
 use Rattle.fj_desk.proofs.Tied.{Tied}

@@ -6,10 +6,12 @@ pub mod Tied
 pub mod Resuming
 pub mod Transferring
 pub mod Positioning
+pub mod Changing
 pub mod Closing
 pub mod Opening
 pub mod Steps
 pub mod Forgetting
 pub mod Given
+pub mod GivenByOpen
 pub mod Logged
 pub mod SoundStates

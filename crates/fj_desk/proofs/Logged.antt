@@ -1,7 +1,6 @@
 -- The jobs that a statement gives are all that the logs get.
-use Rattle.std.proofs.Common.{◌≡◌, ◌⊎◌, ℕ, Bool, true, false, not, List, [], ◌∷◌, ◌++◌, map, Option, Some, None, slice_get, refl, sym, ap, ◌∙◌, subst, inl, inr, ◌&&◌}
-use Rattle.std.specs.Prelude.{◌==◌, if◌then◌else◌}
-use Rattle.std.specs.List.{flat_map}
+use Rattle.std.proofs.Common.{◌≡◌, ℕ, Bool, true, false, List, [], ◌∷◌, ◌++◌, Option, Some, None, slice_get, refl, sym, ap, ◌∙◌, subst}
+use Rattle.std.specs.Prelude.{if◌then◌else◌}
 use Rattle.fj_value.specs.declared.condition.Condition.{Condition}
 use Rattle.fj_value.specs.declared.condition.Condition.TheVariants.{Fine, EndOfFile, EndOfRecord, Error}
 use Rattle.fj_value.specs.declared.condition.Rule.{Rule}
@@ -14,25 +13,26 @@ use Rattle.fj_statement.specs.declared.deck.Variable.{Variable}
 use Rattle.fj_statement.specs.declared.statement.Statement.{Statement}
 use Rattle.fj_statement.specs.declared.statement.Statement.TheVariants as statement
 use Rattle.fj_plain.specs.Prohibitions.{prohibited}
-use Rattle.fj_plain.specs.Needs.{need, number_of, number_given, holders, unit_about, unit_asked, unit_of_file}
+use Rattle.fj_plain.specs.Needs.{need, number_of, number_given, holders, unit_about, unit_asked}
 use Rattle.fj_plain.specs.State.{State, Entry, Files, found, start}
 use Rattle.fj_plain.specs.State as plain
 use Rattle.fj_plain.specs.Telling.{waited, waited_in, condition_of, tells_cause, after_tells}
 use Rattle.fj_plain.specs.Statement as meant
 use Rattle.fj_plain.specs.Statement.{Stated, Ending, executed, file_asked}
-use Rattle.fj_desk.specs.Core.{Core, Connected, connected_at, unit_named, pending_holders}
+use Rattle.fj_desk.specs.Core.{Connected, connected_at, unit_named}
 use Rattle.fj_desk.specs.Desks.{Desk, carry, outcome, resumed, log_length}
 use Rattle.fj_desk.specs.Doing.{Doing, Desked, acted, given, finishes, gives, awaits}
 use Rattle.fj_desk.specs.Acting.{own, instead, doing, if_numbered, opens, inquires, unit_at}
 use Rattle.fj_desk.specs.Both.{Both}
-use Rattle.fj_desk.specs.Desking.{entries, told_core, acts, completed, goes_on, desk_step, over_desks, fresh}
-use Rattle.fj_desk.specs.Giving.{Jobs, numbered_jobs, open_jobs, look_jobs, own_jobs, closing_jobs, jobs_behind, resume_one, resumes, unless_prohibited, jobs, IsGiven, carry_all, GivesJobs}
+use Rattle.fj_desk.specs.Desking.{entries, told_core, acts, completed, goes_on, desk_step}
+use Rattle.fj_desk.specs.Giving.{numbered_jobs, open_jobs, look_jobs, own_jobs, closing_jobs, jobs_behind, resume_one, resumes, unless_prohibited, jobs, IsGiven, carry_all, GivesJobs}
 use Rattle.fj_desk.proofs.Apart.{Each}
 use Rattle.fj_desk.proofs.Seen.{Seen, named_same}
 use Rattle.fj_desk.proofs.Tied.{Tied, Free}
 use Rattle.fj_desk.proofs.Resuming.{tells_tied}
 use Rattle.fj_desk.proofs.Steps.{Caused, Freed, freed, prohibited_same}
-use Rattle.fj_desk.proofs.Given.{Gives, transfer_given, closes_given, closes_anyway_given, ends_given, moves_given, inquires_given, opens_given, units_found}
+use Rattle.fj_desk.proofs.Given.{Gives, transfer_given, closes_given, closes_anyway_given, ends_given, moves_given, inquires_given, units_found}
+use Rattle.fj_desk.proofs.GivenByOpen.{opens_given}
 
 -- ---- the desks then
 

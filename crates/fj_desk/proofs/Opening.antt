@@ -1,6 +1,6 @@
 -- OPEN over desks.
-use Rattle.std.proofs.Common.{◌≡◌, ◌⊎◌, ℕ, zero, suc, ◌+◌, ◌<◌, ◌≤◌, Bool, true, false, not, List, [], ◌∷◌, ◌++◌, map, length, Option, Some, None, slice_get, refl, sym, ap, ◌∙◌, subst, inl, inr, Result, Ok, Err, ◌&&◌, arith}
-use Rattle.std.specs.Prelude.{◌==◌, if◌then◌else◌, filter, nat_lt, unwrap_or}
+use Rattle.std.proofs.Common.{◌≡◌, ℕ, zero, suc, ◌+◌, ◌<◌, ◌≤◌, Bool, true, false, not, List, [], ◌∷◌, ◌++◌, map, length, Option, Some, None, slice_get, refl, sym, ap, ◌∙◌, subst, inl, inr, Result, Ok, Err, arith}
+use Rattle.std.specs.Prelude.{◌==◌, if◌then◌else◌, filter, nat_lt}
 use Rattle.std.specs.List.{list_any}
 use Rattle.std.proofs.lemmas.Bool.{cases_Bool, ltb-true, ltb-false}
 use Rattle.std.proofs.lemmas.Bool.Decides.{eqb_tells}
@@ -22,16 +22,16 @@ use Rattle.fj_plain.specs.Connecting as plainly
 use Rattle.fj_plain.specs.Connecting.{file_due, keeps_name, most_units}
 use Rattle.fj_desk.specs.Core.{Core, Connected, connected_at, inserted, without_connected}
 use Rattle.fj_desk.specs.Desks.{Desk, carry, condition_in, most_slots}
-use Rattle.fj_desk.specs.Doing.{Doing, Desked, acted, finishes, gives, awaits}
-use Rattle.fj_desk.specs.Acting.{keeps, free_from, is_taken, attaches, connects_at, connects, closes_first, opens_with, opens, changes, detaches}
-use Rattle.fj_desk.specs.Forgetting.{IsSeen, Same, bay_at}
+use Rattle.fj_desk.specs.Doing.{Doing, Desked, acted, finishes}
+use Rattle.fj_desk.specs.Acting.{keeps, free_from, is_taken, attaches, connects_at, connects, opens_with, opens, changes, detaches}
+use Rattle.fj_desk.specs.Forgetting.{bay_at}
 use Rattle.fj_desk.proofs.Apart.{Each, Apart, Differs, differs_any, apart_split, apart_map, each_map, filter_each}
 use Rattle.fj_desk.proofs.Counting.{no_longer, no_shorter}
-use Rattle.fj_desk.proofs.Carrying.{Later, Serves, serves_at}
+use Rattle.fj_desk.proofs.Carrying.{Serves, serves_at}
 use Rattle.fj_desk.proofs.Seen.{Seen, At, at_unit, not_at_unit, both_other, taken_same}
-use Rattle.fj_desk.proofs.Tied.{Idle, Tied, ActTied, Free, entries_later, placed_later}
+use Rattle.fj_desk.proofs.Tied.{Tied, ActTied, Free, entries_later, placed_later}
 use Rattle.fj_desk.proofs.Closing.{both_filter, detaches_tied, halt_none, keeps_same}
-use Rattle.fj_desk.proofs.Positioning.{changes_tied}
+use Rattle.fj_desk.proofs.Changing.{changes_tied}
 
 -- ---- free slots
 

@@ -1,23 +1,21 @@
 -- The tells of a statement, and the halts that they end.
-use Rattle.std.proofs.Common.{◌≡◌, ◌⊎◌, ℕ, ◌<◌, Bool, true, false, not, List, [], ◌∷◌, ◌++◌, map, Option, Some, None, slice_get, refl, sym, ap, ◌∙◌, subst, inl, inr, ◌&&◌, ◌||◌}
-use Rattle.std.specs.Prelude.{◌==◌, if◌then◌else◌, filter}
-use Rattle.std.proofs.lemmas.Bool.{eqb-true}
-use Rattle.fj_value.specs.declared.condition.Condition.{Condition}
+use Rattle.std.proofs.Common.{◌≡◌, ℕ, ◌<◌, Bool, true, false, not, List, [], ◌∷◌, ◌++◌, map, Option, Some, None, slice_get, refl, sym, ap, ◌∙◌, subst}
+use Rattle.std.specs.Prelude.{if◌then◌else◌, filter}
 use Rattle.fj_bay.specs.Jobs.{resume}
 use Rattle.fj_bay.specs.Serving.{serve}
 use Rattle.fj_statement.specs.declared.deck.Variable.{Variable}
 use Rattle.fj_plain.specs.State.{State, Entry}
 use Rattle.fj_plain.specs.State as plain
 use Rattle.fj_plain.specs.Telling.{tells_cause, tells_id, tell_of, with_inputs, after_tells}
-use Rattle.fj_desk.specs.Core.{Core, Pending, Connected}
+use Rattle.fj_desk.specs.Core.{Pending, Connected}
 use Rattle.fj_desk.specs.Desks.{Desk, Outcome, carry, resumed, entry_of, entry_with, log_at, log_length}
 use Rattle.fj_desk.specs.Doing.{Desked}
-use Rattle.fj_desk.specs.Desking.{entries, told_core}
-use Rattle.fj_desk.specs.Forgetting.{IsSeen, Same, bay_at}
-use Rattle.fj_desk.proofs.Apart.{Each, Apart, Differs, apart_map, each_filter, filter_map}
+use Rattle.fj_desk.specs.Desking.{told_core}
+use Rattle.fj_desk.specs.Forgetting.{IsSeen, bay_at}
+use Rattle.fj_desk.proofs.Apart.{Apart, Differs, apart_map, each_filter}
 use Rattle.fj_desk.proofs.Carrying.{Later, later_same, later_then, carry_other, carry_later, serves_at, Placed}
 use Rattle.fj_desk.proofs.Seen.{Seen, both_other}
-use Rattle.fj_desk.proofs.Tied.{Idle, Tied, entries_later, placed_later, bay_of}
+use Rattle.fj_desk.proofs.Tied.{Tied, entries_later, placed_later, bay_of}
 
 -- the unit once such conditions were told
 abbrev pub without_halt : List Entry → plain.Unit → plain.Unit

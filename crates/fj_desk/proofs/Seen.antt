@@ -1,11 +1,10 @@
 -- Units with their slots, and connected units.
-use Rattle.std.proofs.Common.{◌≡◌, ◌⊎◌, ℕ, Bool, true, false, not, List, [], ◌∷◌, ◌++◌, map, Option, Some, None, slice_get, refl, sym, ap, ◌∙◌, subst, inl, inr, ◌||◌}
-use Rattle.std.specs.Prelude.{◌==◌, ◌&&◌, if◌then◌else◌, filter, MatchOption}
+use Rattle.std.proofs.Common.{◌≡◌, ℕ, not, List, [], ◌∷◌, map, Some, None, slice_get, refl, sym, ap, ◌∙◌, subst, inl, inr, ◌||◌}
+use Rattle.std.specs.Prelude.{◌==◌, ◌&&◌, if◌then◌else◌}
 use Rattle.std.specs.List.{list_any}
 use Rattle.std.specs.Str.{bytes_eq}
 use Rattle.std.proofs.lemmas.Bool.{eq-eqb, ne_eqb}
 use Rattle.std.proofs.lemmas.Bool.Decides.{eqb_tells}
-use Rattle.fj_bay.specs.Bay.{Bay}
 use Rattle.fj_plain.specs.State as plain
 use Rattle.fj_plain.specs.State.{found}
 use Rattle.fj_plain.specs.Needs.{unit_of_file}
@@ -146,6 +145,20 @@ both_at desks behind (x ∷ us) (v ∷ vs) number u g h b slots numbers e o f gs
     numbers_too desks [] (w ∷ ws) n b d = absurd b
     numbers_too desks (y ∷ ys) [] n b d = absurd b
     numbers_too desks (y ∷ ys) (w ∷ ws) n b d = ((λ q. d.0 (sym b.0.number ∙ q)), numbers_too desks ys ws n b.1 d.1)
+
+-- ---- numbers
+
+pub numbers_apart : (desks : List Desk) (us : List Connected) (vs : List plain.Unit) → Seen desks us vs → Apart (λ (v : plain.Unit). v.number) vs → Apart (λ (x : Connected). x.number) us
+numbers_apart desks [] [] b h = tt
+numbers_apart desks [] (v ∷ vs) b h = absurd b
+numbers_apart desks (x ∷ us) [] b h = absurd b
+numbers_apart desks (x ∷ us) (v ∷ vs) b h = (differ us vs b.1 h.0, numbers_apart desks us vs b.1 h.1)
+  where
+    differ : (us : List Connected) (vs : List plain.Unit) → Seen desks us vs → Differs (λ (w : plain.Unit). w.number) v.number vs → Differs (λ (y : Connected). y.number) x.number us
+    differ [] [] c d = tt
+    differ [] (w ∷ ws) c d = absurd c
+    differ (y ∷ ys) [] c d = absurd c
+    differ (y ∷ ys) (w ∷ ws) c d = ((λ q. d.0 (sym c.0.number ∙ q ∙ b.0.number)), differ ys ws c.1 d.1)
 
 -- ---- names
 

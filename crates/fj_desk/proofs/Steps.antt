@@ -1,22 +1,17 @@
 -- Each statement over desks is what it means.
-use Rattle.std.proofs.Common.{◌≡◌, ◌⊎◌, ℕ, zero, suc, ◌+◌, ◌<◌, Bool, true, false, not, List, [], ◌∷◌, ◌++◌, map, length, replicate, Option, Some, None, slice_get, refl, sym, ap, ◌∙◌, subst, inl, inr, ◌&&◌, ◌||◌, arith}
+use Rattle.std.proofs.Common.{◌≡◌, ◌⊎◌, ℕ, Bool, true, false, List, [], ◌∷◌, map, Option, Some, None, refl, sym, ap, ◌∙◌, subst, inl, inr, ◌&&◌, ◌||◌}
 use Rattle.std.specs.Prelude.{◌==◌, if◌then◌else◌, filter}
-use Rattle.std.specs.List.{list_any}
-use Rattle.std.proofs.lemmas.Bool.{eqb-true}
 use Rattle.fj_value.specs.Condition.{code_of}
 use Rattle.fj_value.specs.declared.condition.Condition.{Condition}
 use Rattle.fj_value.specs.declared.condition.Condition.TheVariants.{Fine, EndOfFile, EndOfRecord, Error}
 use Rattle.fj_value.specs.declared.condition.Rule.{Rule}
 use Rattle.fj_modes.specs.declared.asked.Subject.{Subject}
 use Rattle.fj_modes.specs.declared.asked.Subject.TheVariants as subject
-use Rattle.fj_modes.specs.declared.unit.UnitRef.{UnitRef}
-use Rattle.fj_modes.specs.declared.unit.UnitRef.TheVariants as unit
 use Rattle.fj_control.specs.Steps.{Given}
 use Rattle.fj_bay.specs.Halt.{halts}
 use Rattle.fj_statement.specs.declared.deck.Variable.{Variable}
 use Rattle.fj_statement.specs.declared.statement.Statement.{Statement}
 use Rattle.fj_statement.specs.declared.statement.Statement.TheVariants as statement
-use Rattle.fj_statement.specs.declared.statement.Transfer.{Transfer}
 use Rattle.fj_plain.specs.Variables.{Variables}
 use Rattle.fj_plain.specs.Items.{operand_places, value_of}
 use Rattle.fj_plain.specs.Prohibitions.{prohibited}
@@ -29,12 +24,11 @@ use Rattle.fj_modes.specs.declared.specifiers.OpenSpec.{OpenSpec}
 use Rattle.fj_plain.specs.Transfers.{with_number}
 use Rattle.fj_plain.specs.Statement as meant
 use Rattle.fj_plain.specs.Statement.{Stated, Ending, assigned, iostat_of, ends, step}
-use Rattle.fj_desk.specs.Core.{Core, Connected, connected_at, unit_named, pending_holders}
+use Rattle.fj_desk.specs.Core.{Connected, connected_at, unit_named, pending_holders}
 use Rattle.fj_desk.specs.Desks.{Desk, resumed}
-use Rattle.fj_desk.specs.Doing.{Doing, Desked, acted}
+use Rattle.fj_desk.specs.Doing.{Desked, acted}
 use Rattle.fj_desk.specs.Acting.{own, instead, doing, if_numbered, opens}
 use Rattle.fj_desk.specs.Desking.{entries, told_core, acts, completed, goes_on, desk_step}
-use Rattle.fj_desk.specs.Forgetting.{IsSeen, Same}
 use Rattle.fj_desk.proofs.Apart.{Each, each_map, each_imp}
 use Rattle.fj_desk.proofs.Seen.{Seen, named_same}
 use Rattle.fj_desk.proofs.Tied.{Tied, ActTied, Free, with_vars, holders_same}

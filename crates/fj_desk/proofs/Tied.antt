@@ -1,6 +1,6 @@
 -- What ties the execution over desks to what a deck means.
-use Rattle.std.proofs.Common.{◌≡◌, ◌⊎◌, ℕ, ◌+◌, ◌<◌, Bool, true, false, not, List, [], ◌∷◌, ◌++◌, map, length, Option, Some, None, slice_get, refl, sym, ap, ◌∙◌, subst, inl, inr}
-use Rattle.std.specs.Prelude.{◌==◌, if◌then◌else◌, filter}
+use Rattle.std.proofs.Common.{◌≡◌, ℕ, ◌<◌, List, [], ◌∷◌, map, length, Option, Some, None, slice_get, refl, sym, ap, ◌∙◌, subst, inl, inr}
+use Rattle.std.specs.Prelude.{◌==◌, if◌then◌else◌}
 use Rattle.std.proofs.lemmas.Bool.{eq-eqb, ne_eqb}
 use Rattle.std.proofs.lemmas.Bool.Decides.{eqb_tells}
 use Rattle.fj_value.specs.declared.condition.Condition.{Condition}
@@ -11,10 +11,9 @@ use Rattle.fj_plain.specs.Prohibitions.{Holder}
 use Rattle.fj_plain.specs.Needs.{holders}
 use Rattle.fj_plain.specs.State.{State, Entry, with_unit, Output}
 use Rattle.fj_plain.specs.State as plain
-use Rattle.fj_desk.specs.Core.{Core, Pending, Connected, connected_at, pending_holders}
+use Rattle.fj_desk.specs.Core.{Pending, Connected, connected_at, pending_holders}
 use Rattle.fj_desk.specs.Desks.{Desk, Outcome, entry_with, entry_of, log_at, log_length, most_slots}
-use Rattle.fj_desk.specs.Doing.{Doing, Desked, acted}
-use Rattle.fj_desk.specs.Desking.{entries}
+use Rattle.fj_desk.specs.Doing.{Desked}
 use Rattle.fj_desk.specs.Forgetting.{IsSeen, Same, bay_at}
 use Rattle.fj_desk.proofs.Apart.{Each, Apart, Differs, each_imp, map_same}
 use Rattle.fj_desk.proofs.Carrying.{Later, Reaches, Placed}

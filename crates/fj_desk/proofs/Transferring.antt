@@ -1,6 +1,6 @@
 -- READ and WRITE over desks.
-use Rattle.std.proofs.Common.{◌≡◌, ◌⊎◌, ℕ, ◌+◌, ◌<◌, Bool, true, false, not, List, [], ◌∷◌, ◌++◌, map, length, Option, Some, None, slice_get, refl, sym, ap, ◌∙◌, subst, inl, inr}
-use Rattle.std.specs.Prelude.{◌==◌, if◌then◌else◌, filter, pos}
+use Rattle.std.proofs.Common.{◌≡◌, ℕ, ◌+◌, ◌<◌, Bool, true, false, List, [], ◌∷◌, ◌++◌, Option, Some, None, slice_get, refl, sym, ap, ◌∙◌, subst}
+use Rattle.std.specs.Prelude.{if◌then◌else◌, pos}
 use Rattle.std.proofs.lemmas.List.{map-append}
 use Rattle.fj_value.specs.declared.condition.Condition.{Condition}
 use Rattle.fj_value.specs.declared.condition.Condition.TheVariants.{Fine, EndOfFile, EndOfRecord, Error}
@@ -10,8 +10,8 @@ use Rattle.fj_connect.specs.Connection.{Connection}
 use Rattle.fj_transfer.specs.Transfer.{Done, transfer_by}
 use Rattle.fj_bay.specs.Bay.{Bay}
 use Rattle.fj_bay.specs.Halt.{halts, halt_behind, unless_halted}
-use Rattle.fj_bay.specs.Jobs.{Moving, Job, move, resume, Answer}
-use Rattle.fj_bay.specs.Serving.{serve, moved_so, answer_in, with_done}
+use Rattle.fj_bay.specs.Jobs.{Moving, move, resume}
+use Rattle.fj_bay.specs.Serving.{serve, answer_in, with_done}
 use Rattle.fj_bay.proofs.Keeping.{Kept, kept_same, transfer_kept}
 use Rattle.fj_statement.specs.declared.deck.Variable.{Variable}
 use Rattle.fj_statement.specs.declared.statement.Transfer.{Transfer}
@@ -24,12 +24,12 @@ use Rattle.fj_plain.specs.Telling.{is_asynchronous}
 use Rattle.fj_plain.specs.Transfers as plainly
 use Rattle.fj_plain.specs.Transfers.{moved_in, spec_in, layout_of, refusal, without_values, with_cells, with_number, held_places, star_printed}
 use Rattle.fj_desk.specs.Core.{Core, Pending, Connected, connected_at}
-use Rattle.fj_desk.specs.Desks.{Desk, Outcome, outcome_on, carry, outcome, entry_with, entry_of, log_at, log_length, cells_in, count_in, condition_in}
-use Rattle.fj_desk.specs.Doing.{Doing, Desked, acted, finishes, gives, awaits}
-use Rattle.fj_desk.specs.Acting.{moving_of, pending_of, with_items_out, with_pending, finishes_behind, carried_out, transferred, refused, unless_refused, on_unit, on_star, transfer_at}
-use Rattle.fj_desk.specs.Forgetting.{IsSeen, Same, bay_at}
-use Rattle.fj_desk.proofs.Apart.{Each, each_append}
-use Rattle.fj_desk.proofs.Carrying.{Later, Reaches, reaches_then, Serves, serves_at, Placed}
+use Rattle.fj_desk.specs.Desks.{Desk, carry, outcome, entry_with, entry_of, log_length}
+use Rattle.fj_desk.specs.Doing.{Desked, acted, finishes, gives, awaits}
+use Rattle.fj_desk.specs.Acting.{moving_of, pending_of, with_items_out, with_pending, carried_out, refused, unless_refused, on_unit, on_star, transfer_at}
+use Rattle.fj_desk.specs.Forgetting.{bay_at}
+use Rattle.fj_desk.proofs.Apart.{each_append}
+use Rattle.fj_desk.proofs.Carrying.{Reaches, reaches_then, Serves, serves_at}
 use Rattle.fj_desk.proofs.Seen.{At, at_unit, not_at_unit}
 use Rattle.fj_desk.proofs.Tied.{Tied, ActTied, Free, bay_of, unit_moves, with_vars, with_output, each_found}
 

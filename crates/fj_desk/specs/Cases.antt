@@ -1,7 +1,7 @@
 -- Worked cases: decks over desks, with the answers of the jobs that each slot was given.
-use Rattle.std.specs.Prelude.{◌≡◌, ℕ, pos, negsuc, true, false, List, [], ◌∷◌, ◌++◌, map, codes, Option, Some, None, slice_get}
+use Rattle.std.specs.Prelude.{◌≡◌, ℕ, pos, negsuc, true, false, List, [], ◌∷◌, map, codes, Option, Some, None, slice_get}
 use Rattle.fj_value.specs.declared.value.Value.TheVariants.{Int, Undefined}
-use Rattle.fj_value.specs.declared.condition.Condition.TheVariants.{Fine, EndOfFile, Error}
+use Rattle.fj_value.specs.declared.condition.Condition.TheVariants.{Fine, EndOfFile}
 use Rattle.fj_modes.specs.declared.unit.Motion.TheVariants.{Rewind}
 use Rattle.fj_modes.specs.declared.asked.Question.TheVariants.{Size, Opened}
 use Rattle.fj_modes.specs.declared.asked.Subject.TheVariants as subject
@@ -14,7 +14,7 @@ use Rattle.fj_bay.specs.Jobs.{Answer, done, skipped}
 use Rattle.fj_plain.specs.State.{Files}
 use Rattle.fj_plain.specs.Statement.{Stated, ended, error_stop}
 use Rattle.fj_plain.specs.Cases.{Comes}
-use Rattle.fj_plain.specs.DeckWords.{integers, at, var, whole, two_lines, no_files, r, lines_from, opening, replacing, replacing_later, old_later, plain_open, wait, «end», motion, assign, close, transfer, i_transfer, now, later, by_i, bare, three_reads_told, four_reads}
+use Rattle.fj_plain.specs.DeckWords.{integers, at, var, whole, two_lines, no_files, lines_from, opening, replacing, replacing_later, plain_open, wait, «end», motion, assign, close, transfer, i_transfer, now, later, by_i, bare, three_reads_told, four_reads}
 use Rattle.fj_desk.specs.Desks.{Desk}
 use Rattle.fj_desk.specs.Desking.{DesksRan, over_desks, fresh, desk_result}
 

@@ -1,5 +1,5 @@
 -- The execution of a deck over desks: the statements one after another, each by jobs at slots.
-use Rattle.std.specs.Prelude.{ℕ, ◌++◌, not, Bool, List, [], ◌∷◌, map, filter, Option, Some, None, slice_get}
+use Rattle.std.specs.Prelude.{ℕ, ◌++◌, not, List, [], ◌∷◌, map, filter, Option, Some, None, slice_get}
 use Rattle.fj_value.specs.Condition.{code_of}
 use Rattle.fj_value.specs.declared.condition.Condition.{Condition}
 use Rattle.fj_value.specs.declared.condition.Rule.{Rule}

@@ -1,8 +1,7 @@
 -- Which jobs a statement gives to which units, in the words of what it means.
-use Rattle.std.specs.Prelude.{◌≡◌, ℕ, ◌==◌, ◌&&◌, ◌++◌, not, nat_lt, unwrap_or, length, Bool, true, false, List, [], ◌∷◌, map, Option, Some, None, if◌then◌else◌, Result, Ok, Err}
+use Rattle.std.specs.Prelude.{◌≡◌, ℕ, ◌&&◌, ◌++◌, nat_lt, unwrap_or, length, Bool, false, List, [], ◌∷◌, map, Option, Some, None, if◌then◌else◌, Result, Ok, Err}
 use Rattle.std.specs.List.{list_any, flat_map}
 use Rattle.fj_value.specs.declared.condition.Condition.{Condition}
-use Rattle.fj_value.specs.declared.condition.Condition.TheVariants.{Fine, Error}
 use Rattle.fj_value.specs.declared.condition.Rule.{Rule}
 use Rattle.fj_modes.specs.Modes.{settled}
 use Rattle.fj_modes.specs.Modes as mode
@@ -10,13 +9,12 @@ use Rattle.fj_modes.specs.declared.modes.Modes.{Modes}
 use Rattle.fj_modes.specs.declared.specifiers.OpenSpec.{OpenSpec}
 use Rattle.fj_modes.specs.declared.asked.Wanted.{Wanted}
 use Rattle.fj_modes.specs.declared.unit.Motion.{Motion}
-use Rattle.fj_list.specs.declared.moved.Moved.{Moved}
 use Rattle.fj_control.specs.Steps.{Given}
 use Rattle.fj_connect.specs.Connection.{Connection}
 use Rattle.fj_connect.specs.Opening.{opened_file}
 use Rattle.fj_transfer.specs.Transfer.{transfer_by}
 use Rattle.fj_bay.specs.Halt.{halts}
-use Rattle.fj_bay.specs.Jobs.{Job, attach, detach, move, go, change, flush, look, resume}
+use Rattle.fj_bay.specs.Jobs.{Job, attach, detach, move, change, look, resume}
 use Rattle.fj_statement.specs.declared.deck.Variable.{Variable}
 use Rattle.fj_statement.specs.declared.statement.Statement.{Statement}
 use Rattle.fj_statement.specs.declared.statement.Statement.TheVariants as statement
@@ -27,7 +25,7 @@ use Rattle.fj_plain.specs.State.{State, Files, Unit, Entry, found, is_fine, star
 use Rattle.fj_plain.specs.Telling.{waited, condition_of, tells_cause, after_tells, is_asynchronous}
 use Rattle.fj_plain.specs.Transfers.{moved_by, spec_of, layout_of, refusal}
 use Rattle.fj_plain.specs.Connecting.{file_due, keeps_file, is_taken, most_units, without_old}
-use Rattle.fj_plain.specs.Statement.{Stated, Ending, executed, unit_at}
+use Rattle.fj_plain.specs.Statement.{Stated, executed, unit_at}
 use Rattle.fj_desk.specs.Core.{Connected, connected_at}
 use Rattle.fj_desk.specs.Desks.{Desk, carry}
 use Rattle.fj_desk.specs.Acting.{moving_of, job_of, asks_connection}

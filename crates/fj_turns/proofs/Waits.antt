@@ -1,0 +1,164 @@
+-- The transfers that a statement waits for: once all that are known to be waited for were told, they are those that it tells.
+use Rattle.std.proofs.Common.{◌≡◌, ◌⊎◌, ℕ, ℤ, zero, suc, ◌+◌, ◌<◌, ◌≤◌, Bool, true, false, not, List, [], ◌∷◌, ◌++◌, map, length, Option, Some, None, is_none, slice_get, get_or, refl, sym, ap, ◌∙◌, subst, inl, inr, ◌&&◌, ◌||◌, arith}
+use Rattle.std.specs.Prelude.{pos, nat_lt, if◌then◌else◌, filter, ◌==◌}
+use Rattle.std.specs.List.{list_any}
+use Rattle.std.specs.Ordering.{int_eq}
+use Rattle.std.proofs.lemmas.Bool.{cases_Bool, eq-eqb}
+use Rattle.fj_statement.specs.declared.statement.Statement.{Statement}
+use Rattle.fj_statement.specs.declared.statement.Statement.TheVariants as statement
+use Rattle.fj_plain.specs.Variables.{Variables}
+use Rattle.fj_plain.specs.Needs.{number_of, number_given}
+use Rattle.fj_plain.specs.State.{Entry, halts}
+use Rattle.fj_plain.specs.Telling.{of_unit, of_id, condition_of, waited_by, waited_in, is_asynchronous, tells_id}
+use Rattle.fj_desk.specs.Core.{Pending}
+use Rattle.fj_desk.specs.Desks.{Outcome, entry_with}
+use Rattle.fj_desk.proofs.Apart.{Each, each_imp, each_both}
+use Rattle.fj_turns.specs.Run.{Held, known}
+use Rattle.fj_turns.specs.Turns.{unsettled}
+
+-- ---- lists of entries
+
+pub filter_filter : {X : Type 0} → (p q : X → Bool) (xs : List X) → filter q (filter p xs) ≡ filter (λ x. p x && q x) xs
+filter_filter p q [] = refl
+filter_filter p q (x ∷ xs) = by (p x) (filter_filter p q xs)
+  where
+    by : (b : Bool) → filter q (filter p xs) ≡ filter (λ y. p y && q y) xs → filter q (if b then x ∷ filter p xs else filter p xs) ≡ (if b && q x then x ∷ filter (λ y. p y && q y) xs else filter (λ y. p y && q y) xs)
+    by true e = ap (λ l. if q x then x ∷ l else l) e
+    by false e = e
+
+-- each that is chosen is among the chosen ones
+pub chosen_tells : (f : Held → Entry) (q : Entry → Bool) (hs : List Held) → ((h : Held) → (f h).id ≡ h.pending.id)
+    → Each (λ (h : Held). q (f h) ≡ true → tells_id (filter q (map f hs)) h.pending.id ≡ true) hs
+chosen_tells f q [] ids = tt
+chosen_tells f q (x ∷ hs) ids =
+    (here (q (f x)), each_imp (λ h. q (f h) ≡ true → tells_id (filter q (map f hs)) h.pending.id ≡ true) (λ h. q (f h) ≡ true → tells_id (filter q (map f (x ∷ hs))) h.pending.id ≡ true) hs
+    (λ h k e. further (q (f x)) h.pending.id (k e)) (chosen_tells f q hs ids))
+  where
+    here : (b : Bool) → b ≡ true → tells_id (if b then f x ∷ filter q (map f hs) else filter q (map f hs)) x.pending.id ≡ true
+    here true e = ap (λ b. b || tells_id (filter q (map f hs)) x.pending.id) (eq-eqb (f x).id x.pending.id (ids x))
+    here false e = cc
+
+    also : (a b : Bool) → b ≡ true → (a || b) ≡ true
+    also true b e = refl
+    also false b e = e
+
+    further : (b : Bool) (id : ℕ) → tells_id (filter q (map f hs)) id ≡ true → tells_id (if b then f x ∷ filter q (map f hs) else filter q (map f hs)) id ≡ true
+    further true id e = also ((f x).id == id) (tells_id (filter q (map f hs)) id) e
+    further false id e = e
+
+-- two lists of entries have the same chosen ones, where those are the same
+pub chosen_same : (f g : Held → Entry) (q : Entry → Bool) (hs : List Held) → ((h : Held) → q (f h) ≡ q (g h)) → Each (λ (h : Held). q (f h) ≡ true → f h ≡ g h) hs → filter q (map f hs) ≡ filter q (map g hs)
+chosen_same f g q [] like same = refl
+chosen_same f g q (x ∷ hs) like same =
+    by (q (f x)) refl (chosen_same f g q hs like same.1)
+    ∙ ap (λ b. if b then g x ∷ filter q (map g hs) else filter q (map g hs)) (like x)
+  where
+    by : (b : Bool) → q (f x) ≡ b → filter q (map f hs) ≡ filter q (map g hs) → (if q (f x) then f x ∷ filter q (map f hs) else filter q (map f hs)) ≡ (if q (f x) then g x ∷ filter q (map g hs) else filter q (map g hs))
+    by true e r = ap (λ b. if b then f x ∷ filter q (map f hs) else filter q (map f hs)) e ∙ ap (λ y. y ∷ filter q (map f hs)) (same.0 e) ∙ ap (λ l. g x ∷ l) r ∙ sym (ap (λ b. if b then g x ∷ filter q (map g hs) else filter q (map g hs)) e)
+    by false e r = ap (λ b. if b then f x ∷ filter q (map f hs) else filter q (map f hs)) e ∙ r ∙ sym (ap (λ b. if b then g x ∷ filter q (map g hs) else filter q (map g hs)) e)
+
+-- ---- those that are waited for, with what is known and with what became of them
+
+-- each that is among these has become what is known of it
+abbrev pub AreKnown : (Held → Entry) → List Entry → List Held → Type 0
+AreKnown g es hs = Each (λ (h : Held). tells_id es h.pending.id ≡ true → known h ≡ g h) hs
+
+pub known_id : (h : Held) → (known h).id ≡ h.pending.id
+known_id h = by h.answer
+  where
+    by : (o : Option Outcome) → (entry_with h.pending o).id ≡ h.pending.id
+    by None = refl
+    by (Some o) = refl
+
+known_unit : (h : Held) → (known h).unit ≡ h.pending.unit
+known_unit h = by h.answer
+  where
+    by : (o : Option Outcome) → (entry_with h.pending o).unit ≡ h.pending.unit
+    by None = refl
+    by (Some o) = refl
+
+module _ (g : Held → Entry) (ids : (h : Held) → (g h).id ≡ h.pending.id) (units : (h : Held) → (g h).unit ≡ h.pending.unit) (hs : List Held) where
+  like : (q : ℕ → ℕ → Bool) (h : Held) → q (known h).unit (known h).id ≡ q (g h).unit (g h).id
+  like q h = ap (λ u. q u (known h).id) (known_unit h ∙ sym (units h)) ∙ ap (λ n. q (g h).unit n) (known_id h ∙ sym (ids h))
+
+  -- chosen by unit and identifier
+  chosen : (q : ℕ → ℕ → Bool) → AreKnown g (filter (λ (e : Entry). q e.unit e.id) (map known hs)) hs → filter (λ (e : Entry). q e.unit e.id) (map known hs) ≡ filter (λ (e : Entry). q e.unit e.id) (map g hs)
+  chosen q same =
+      let es : List Entry = filter (λ (e : Entry). q e.unit e.id) (map known hs) in
+      chosen_same known g (λ e. q e.unit e.id) hs (like q)
+      (each_both (λ h. tells_id es h.pending.id ≡ true → known h ≡ g h) (λ h. q (known h).unit (known h).id ≡ true → tells_id es h.pending.id ≡ true) (λ h. q (known h).unit (known h).id ≡ true → known h ≡ g h) hs
+      (λ h a b e. a (b e)) same (chosen_tells known (λ e. q e.unit e.id) hs known_id))
+
+  of_unit_same : (number : Option ℕ) → AreKnown g (of_unit (map known hs) number) hs → of_unit (map known hs) number ≡ of_unit (map g hs) number
+  of_unit_same None same = refl
+  of_unit_same (Some n) same = chosen (λ u id. u == n) same
+
+  of_id_same : (number : Option ℕ) (id : ℤ) → AreKnown g (of_id (map known hs) number id) hs → of_id (map known hs) number id ≡ of_id (map g hs) number id
+  of_id_same None id same = refl
+  of_id_same (Some n) id same =
+      let two = λ (xs : List Entry). filter_filter (λ (e : Entry). e.unit == n) (λ (e : Entry). int_eq (pos e.id) id) xs in
+      two (map known hs) ∙ chosen (λ u k. (u == n) && int_eq (pos k) id) (subst (λ es. AreKnown g es hs) (two (map known hs)) same) ∙ sym (two (map g hs))
+
+  waited_by_same : (number : Option ℕ) (id : Option ℤ) → AreKnown g (waited_by (map known hs) number id) hs → waited_by (map known hs) number id ≡ waited_by (map g hs) number id
+  waited_by_same number None same = of_unit_same number same
+  waited_by_same number (Some id) same = by (halts (condition_of (of_id (map known hs) number id))) refl
+    where
+      by : (b : Bool) → halts (condition_of (of_id (map known hs) number id)) ≡ b → waited_by (map known hs) number (Some id) ≡ waited_by (map g hs) number (Some id)
+      by true e =
+          let wide = ap (λ b. if b then of_unit (map known hs) number else of_id (map known hs) number id) e in
+          let unit = of_unit_same number (subst (λ es. AreKnown g es hs) wide same) in
+          let one : of_id (map known hs) number id ≡ of_id (map g hs) number id = ap (filter (λ (x : Entry). int_eq (pos x.id) id)) unit in
+          wide ∙ unit ∙ sym (ap (λ b. if b then of_unit (map g hs) number else of_id (map g hs) number id) (sym (ap (λ es. halts (condition_of es)) one) ∙ e))
+      by false e =
+          let narrow = ap (λ b. if b then of_unit (map known hs) number else of_id (map known hs) number id) e in
+          let one = of_id_same number id (subst (λ es. AreKnown g es hs) narrow same) in
+          narrow ∙ one ∙ sym (ap (λ b. if b then of_unit (map g hs) number else of_id (map g hs) number id) (sym (ap (λ es. halts (condition_of es)) one) ∙ e))
+
+  all_same : AreKnown g (map known hs) hs → map known hs ≡ map g hs
+  all_same same = sym (everything (map known hs)) ∙ chosen (λ u id. true) (subst (λ es. AreKnown g es hs) (sym (everything (map known hs))) same) ∙ everything (map g hs)
+    where
+      everything : (es : List Entry) → filter (λ (e : Entry). true) es ≡ es
+      everything [] = refl
+      everything (e ∷ es) = ap (λ l. e ∷ l) (everything es)
+
+  -- for each kind of statement
+  pub waited_same : (vars : Variables) (st : Statement) → AreKnown g (waited_in (map known hs) vars st) hs → waited_in (map known hs) vars st ≡ waited_in (map g hs) vars st
+  waited_same vars (statement.Assign to from) same = refl
+  waited_same vars (statement.OpenUnit u spec iostat) same = of_unit_same (number_of u) same
+  waited_same vars (statement.CloseUnit u keep iostat) same = of_unit_same (number_of u) same
+  waited_same vars (statement.WaitFor u id iostat) same = waited_by_same (number_of u) (number_given vars id) same
+  waited_same vars (statement.Move how u iostat) same = of_unit_same (number_of u) same
+  waited_same vars (statement.Inquire about asked id iostat) same = refl
+  waited_same vars (statement.Transfer t) same = by (is_asynchronous t) refl
+    where
+      by : (b : Bool) → is_asynchronous t ≡ b → (if is_asynchronous t then [] else of_unit (map known hs) (number_of t.unit)) ≡ (if is_asynchronous t then [] else of_unit (map g hs) (number_of t.unit))
+      by true e = ap (λ b. if b then [] else of_unit (map known hs) (number_of t.unit)) e ∙ sym (ap (λ b. if b then [] else of_unit (map g hs) (number_of t.unit)) e)
+      by false e =
+          let narrow = ap (λ b. if b then [] else of_unit (map known hs) (number_of t.unit)) e in
+          narrow ∙ of_unit_same (number_of t.unit) (subst (λ es. AreKnown g es hs) narrow same) ∙ sym (ap (λ b. if b then [] else of_unit (map g hs) (number_of t.unit)) e)
+  waited_same vars statement.End same = all_same same
+
+-- where no job is left to be told, each is known
+pub none_unsettled : (es : List Entry) (hs : List Held) → unsettled es hs ≡ None → Each (λ (h : Held). tells_id es h.pending.id ≡ true → is_none h.answer ≡ false) hs
+none_unsettled es [] e = tt
+none_unsettled es (h ∷ hs) e = by (tells_id es h.pending.id) (is_none h.answer) (λ z. none_unsettled es hs z) e
+  where
+    by : (a b : Bool) → (unsettled es hs ≡ None → Each (λ (h : Held). tells_id es h.pending.id ≡ true → is_none h.answer ≡ false) hs) → (if a && b then Some h.pending.slot else unsettled es hs) ≡ None
+        → (a ≡ true → b ≡ false) × Each (λ (h : Held). tells_id es h.pending.id ≡ true → is_none h.answer ≡ false) hs
+    by true true f e = cc
+    by true false f e = ((λ _. refl), f e)
+    by false b f e = ((λ x. cc), f e)
+
+-- one whose job is not told
+abbrev pub IsUnsettled : (Held → Type 0) → List Entry → ℕ → Held → Type 0
+IsUnsettled P es slot h = P h × (h.answer ≡ None) × (h.pending.slot ≡ slot) × (tells_id es h.pending.id ≡ true)
+
+pub unsettled_found : (P : Held → Type 0) (es : List Entry) (hs : List Held) (slot : ℕ) → Each P hs → unsettled es hs ≡ Some slot → (h : Held) × IsUnsettled P es slot h
+unsettled_found P es [] slot k e = cc
+unsettled_found P es (h ∷ hs) slot k e = by (tells_id es h.pending.id) (h.answer) refl refl (λ z. unsettled_found P es hs slot k.1 z) e
+  where
+    by : (a : Bool) (o : Option Outcome) → tells_id es h.pending.id ≡ a → h.answer ≡ o → (unsettled es hs ≡ Some slot → (h : Held) × IsUnsettled P es slot h)
+        → (if a && is_none o then Some h.pending.slot else unsettled es hs) ≡ Some slot → (h : Held) × IsUnsettled P es slot h
+    by true None a o f e = (h, (k.0, o, cc, a))
+    by true (Some x) a o f e = f e
+    by false o a x f e = f e

@@ -1,0 +1,75 @@
+-- The runner served alone: where in a statement it stands, and what it comes to.
+use Rattle.std.specs.Prelude.{◌≡◌, ◌⊎◌, ℕ, zero, suc, List, [], ◌∷◌, Option, Some, None}
+use Rattle.fj_statement.specs.declared.deck.Variable.{Variable}
+use Rattle.fj_slot.specs.Serving.{Meaning}
+use Rattle.fj_world.specs.declared.ask.Ask.TheVariants.{Submit, Settle, Finished}
+use Rattle.fj_world.specs.Conduct.{Conduct}
+use Rattle.fj_world.specs.Plain.{Plain, PlainSlot, next, after}
+use Rattle.fj_bay.specs.Bay.{Bay}
+use Rattle.fj_bay.specs.Jobs.{Job, Answer}
+use Rattle.fj_plain.specs.Statement.{Stated}
+use Rattle.fj_desk.specs.Core.{Core}
+use Rattle.fj_desk.specs.Desks.{Desk, Outcome, carry}
+use Rattle.fj_desk.specs.Doing.{Doing, finishes, gives, awaits, Desked}
+use Rattle.fj_turns.specs.Run.{Run}
+use Rattle.fj_turns.specs.Turns.{unsettled, waited_now, rule_of}
+use Rattle.fj_turns.specs.Serving.{Shows, run_conduct, desks_of}
+use Rattle.fj_turns.specs.Inside.{does, walked, cut_desks}
+
+-- ---- served alone, one state becomes another, and each on the way has a property
+
+-- so many states of a script served alone, from this one on, have the property
+abbrev pub Along : {S G J A P T R : Type 0} → (m : Meaning G J A P T R) (c : Conduct S T R) → (Plain P c → Type 0) → ℕ → Plain P c → Type 0
+Along m c Q zero x = Unit {0}
+Along m c Q (suc n) x = Q x × Along m c Q n (next m c x)
+
+abbrev pub Reaches : {S G J A P T R : Type 0} → (m : Meaning G J A P T R) (c : Conduct S T R) → (Plain P c → Type 0) → Plain P c → Plain P c → Type 0
+Reaches m c Q x y = (n : ℕ) × (after m c n x ≡ y) × Along m c Q n x
+
+-- ---- inside a statement
+
+-- this is what is done next: a job given to that slot, the core being this
+abbrev pub GivesNext : Doing → ℕ → Job → Core → Type 0
+GivesNext (finishes core condition) at task now = ⊥
+GivesNext (gives slot job core next) at task now = (slot ≡ at) × (job ≡ task) × (core ≡ now)
+GivesNext (awaits slot job core next) at task now = (slot ≡ at) × (job ≡ task) × (core ≡ now)
+
+module _ {E J A S : Type 0} (m : Meaning E J A Bay Job Answer) (s : Shows S) where
+  -- nothing of it is done: it waits for a job of that slot, where a transfer that it tells has one that is not told
+  pub record Waits (statement : Stated) (before : Desked) (x : Plain Bay (run_conduct s)) : Type 0 where
+    pub slot : ℕ
+    pub hand : x.hand ≡ Settle slot
+    pub core : x.script.core ≡ before.core
+    pub desks : desks_of m x.slots ≡ before.desks
+    pub unsettled : unsettled (waited_now statement x.script) x.script.book ≡ Some slot
+
+  -- its transfers are told and it gave so many jobs, that end halts or are its own: it gives the next one
+  pub record GivesJob (variables : List Variable) (statement : Stated) (before : Desked) (x : Plain Bay (run_conduct s)) : Type 0 where
+    pub jobs : ℕ
+    pub slot : ℕ
+    pub job : Job
+    pub hand : x.hand ≡ Submit slot job
+    pub desks : desks_of m x.slots ≡ (walked jobs before.desks (does variables statement before)).0
+    pub gives : GivesNext (walked jobs before.desks (does variables statement before)).1 slot job x.script.core
+
+  -- it gave its own job behind so many others, and waits for it
+  pub record AwaitsJob (variables : List Variable) (statement : Stated) (before : Desked) (x : Plain Bay (run_conduct s)) : Type 0 where
+    pub jobs : ℕ
+    pub slot : ℕ
+    pub job : Job
+    pub onward : Outcome → Doing
+    pub hand : x.hand ≡ Settle slot
+    pub awaited : (walked jobs before.desks (does variables statement before)).1 ≡ awaits slot job x.script.core onward
+    pub desks : desks_of m x.slots ≡ carry (walked jobs before.desks (does variables statement before)).0 slot job
+
+  abbrev pub IsInside : List Variable → Stated → Desked → Plain Bay (run_conduct s) → Type 0
+  IsInside variables statement before x = Waits statement before x ⊎ (GivesJob variables statement before x ⊎ AwaitsJob variables statement before x)
+
+  -- it stands inside a statement of the deck that is not prohibited
+  pub record StandsIn (variables : List Variable) (deck : List Stated) (first : Desked) (x : Plain Bay (run_conduct s)) : Type 0 where
+    pub index : ℕ
+    pub statement : Stated
+    pub before : Desked
+    pub reached : cut_desks variables index deck first ≡ Some (statement, before)
+    pub allowed : rule_of variables statement before.core ≡ None
+    pub inside : IsInside variables statement before x
