@@ -18,7 +18,7 @@ use Rattle.fj_bay.specs.Jobs.{Moving, detach, move, look, resume, done}
 use Rattle.fj_bay.specs.Serving.{serve, with_done}
 use Rattle.fj_statement.specs.declared.deck.Variable.{Variable}
 use Rattle.fj_statement.specs.declared.statement.Transfer.{Transfer}
-use Rattle.fj_plain.specs.Variables.{Variables}
+use Rattle.fj_store.specs.Variables.{Variables}
 use Rattle.fj_plain.specs.Needs.{number_of}
 use Rattle.fj_plain.specs.State.{State, found, without_unit}
 use Rattle.fj_plain.specs.State as plain

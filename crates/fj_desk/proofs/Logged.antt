@@ -12,7 +12,7 @@ use Rattle.fj_bay.specs.Jobs.{Job, resume}
 use Rattle.fj_statement.specs.declared.deck.Variable.{Variable}
 use Rattle.fj_statement.specs.declared.statement.Statement.{Statement}
 use Rattle.fj_statement.specs.declared.statement.Statement.TheVariants as statement
-use Rattle.fj_plain.specs.Prohibitions.{prohibited}
+use Rattle.fj_book.specs.Prohibitions.{prohibited}
 use Rattle.fj_plain.specs.Needs.{need, number_of, number_given, holders, unit_about, unit_asked}
 use Rattle.fj_plain.specs.State.{State, Entry, Files, found, start}
 use Rattle.fj_plain.specs.State as plain

@@ -19,7 +19,7 @@ use Rattle.fj_statement.specs.declared.statement.Operand.{Operand}
 use Rattle.fj_bay.specs.Jobs.{Looked, looked_at, go, flush, look}
 use Rattle.fj_bay.specs.Serving.{serve}
 use Rattle.fj_bay.proofs.Keeping.{moved_kept}
-use Rattle.fj_plain.specs.Variables.{given_back}
+use Rattle.fj_store.specs.Variables.{given_back}
 use Rattle.fj_plain.specs.Needs.{number_given, unit_about, unit_of_file, holders}
 use Rattle.fj_plain.specs.State.{State, found, with_unit}
 use Rattle.fj_plain.specs.Connecting as plainly

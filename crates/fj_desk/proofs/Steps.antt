@@ -12,9 +12,9 @@ use Rattle.fj_bay.specs.Halt.{halts}
 use Rattle.fj_statement.specs.declared.deck.Variable.{Variable}
 use Rattle.fj_statement.specs.declared.statement.Statement.{Statement}
 use Rattle.fj_statement.specs.declared.statement.Statement.TheVariants as statement
-use Rattle.fj_plain.specs.Variables.{Variables}
+use Rattle.fj_store.specs.Variables.{Variables}
 use Rattle.fj_plain.specs.Items.{operand_places, value_of}
-use Rattle.fj_plain.specs.Prohibitions.{prohibited}
+use Rattle.fj_book.specs.Prohibitions.{prohibited}
 use Rattle.fj_plain.specs.Needs.{need, need_by, inquiry_need, number_of, unit_about, unit_of_file, holders}
 use Rattle.fj_plain.specs.State.{State, Entry, found}
 use Rattle.fj_plain.specs.State as plain

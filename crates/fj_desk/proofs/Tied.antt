@@ -6,8 +6,8 @@ use Rattle.std.proofs.lemmas.Bool.Decides.{eqb_tells}
 use Rattle.fj_value.specs.declared.condition.Condition.{Condition}
 use Rattle.fj_connect.specs.Connection.{Connection}
 use Rattle.fj_bay.specs.Bay.{Bay}
-use Rattle.fj_plain.specs.Variables.{Variables}
-use Rattle.fj_plain.specs.Prohibitions.{Holder}
+use Rattle.fj_store.specs.Variables.{Variables}
+use Rattle.fj_book.specs.Prohibitions.{Holder}
 use Rattle.fj_plain.specs.Needs.{holders}
 use Rattle.fj_plain.specs.State.{State, Entry, with_unit, Output}
 use Rattle.fj_plain.specs.State as plain

@@ -17,7 +17,7 @@ use Rattle.fj_statement.specs.declared.deck.Variable.{Variable}
 use Rattle.fj_statement.specs.declared.statement.Transfer.{Transfer}
 use Rattle.fj_modes.specs.declared.unit.UnitRef.{UnitRef}
 use Rattle.fj_modes.specs.declared.unit.UnitRef.TheVariants as unit
-use Rattle.fj_plain.specs.Variables.{Variables}
+use Rattle.fj_store.specs.Variables.{Variables}
 use Rattle.fj_plain.specs.State.{State, Entry, found, with_unit}
 use Rattle.fj_plain.specs.State as plain
 use Rattle.fj_plain.specs.Telling.{is_asynchronous}

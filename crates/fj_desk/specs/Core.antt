@@ -3,8 +3,8 @@ use Rattle.std.specs.Prelude.{ℕ, ◌==◌, not, nat_lt, Bool, List, [], ◌∷
 use Rattle.std.specs.Str.{bytes_eq}
 use Rattle.fj_value.specs.declared.place.Place.{Place}
 use Rattle.fj_modes.specs.declared.modes.Modes.{Modes}
-use Rattle.fj_plain.specs.Variables.{Variables}
-use Rattle.fj_plain.specs.Prohibitions.{Holder}
+use Rattle.fj_store.specs.Variables.{Variables}
+use Rattle.fj_book.specs.Prohibitions.{Holder}
 use Rattle.fj_plain.specs.State.{Files, Output, Tell}
 
 -- A pending transfer: what became of it stands in the log of its slot, under the number of its job.

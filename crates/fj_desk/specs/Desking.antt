@@ -8,7 +8,7 @@ use Rattle.fj_connect.specs.Connection.{Connection}
 use Rattle.fj_statement.specs.declared.deck.Variable.{Variable}
 use Rattle.fj_statement.specs.declared.deck.Lined.{Lined}
 use Rattle.fj_statement.specs.declared.statement.Statement.{Statement}
-use Rattle.fj_plain.specs.Prohibitions.{prohibited}
+use Rattle.fj_book.specs.Prohibitions.{prohibited}
 use Rattle.fj_plain.specs.Needs.{need_by}
 use Rattle.fj_plain.specs.State.{State, Files, Entry, start}
 use Rattle.fj_plain.specs.State as plain

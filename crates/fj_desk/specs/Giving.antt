@@ -19,7 +19,7 @@ use Rattle.fj_statement.specs.declared.deck.Variable.{Variable}
 use Rattle.fj_statement.specs.declared.statement.Statement.{Statement}
 use Rattle.fj_statement.specs.declared.statement.Statement.TheVariants as statement
 use Rattle.fj_statement.specs.declared.statement.Transfer.{Transfer}
-use Rattle.fj_plain.specs.Prohibitions.{prohibited}
+use Rattle.fj_book.specs.Prohibitions.{prohibited}
 use Rattle.fj_plain.specs.Needs.{number_of, need, holders, unit_asked}
 use Rattle.fj_plain.specs.State.{State, Files, Unit, Entry, found, is_fine, start}
 use Rattle.fj_plain.specs.Telling.{waited, condition_of, tells_cause, after_tells, is_asynchronous}

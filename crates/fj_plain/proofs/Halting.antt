@@ -6,7 +6,7 @@ use Rattle.std.proofs.lemmas.Bool.{eqb-true}
 use Rattle.fj_value.specs.declared.condition.Condition.{Condition}
 use Rattle.fj_value.specs.declared.condition.Rule.{Rule}
 use Rattle.fj_statement.specs.declared.deck.Variable.{Variable}
-use Rattle.fj_plain.specs.Prohibitions.{prohibited}
+use Rattle.fj_book.specs.Prohibitions.{prohibited}
 use Rattle.fj_plain.specs.Needs.{need, holders}
 use Rattle.fj_plain.specs.Telling.{waited}
 use Rattle.fj_plain.specs.State.{State, Unit, Entry, found, halts}

@@ -11,8 +11,9 @@ use Rattle.fj_value.specs.declared.condition.Rule.TheVariants.{P1, P2}
 use Rattle.fj_statement.specs.declared.deck.Variable.{Variable}
 use Rattle.fj_statement.specs.declared.statement.Transfer.{Transfer}
 use Rattle.fj_statement.specs.declared.statement.Statement.TheVariants as statement
-use Rattle.fj_plain.specs.Variables.{same_place}
-use Rattle.fj_plain.specs.Prohibitions.{Holder, is_among, is_read, is_held, prohibited}
+use Rattle.fj_store.specs.Places.{same_place}
+use Rattle.fj_book.specs.Prohibitions.{Holder, is_read, is_held, prohibited}
+use Rattle.fj_store.specs.Places.{is_among}
 use Rattle.fj_plain.specs.Needs.{need, holders, transfer_places, given_places, if_given}
 use Rattle.fj_plain.specs.State.{State, Entry}
 use Rattle.fj_plain.specs.PendingLaws.{AreApart}

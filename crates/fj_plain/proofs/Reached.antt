@@ -7,7 +7,7 @@ use Rattle.fj_statement.specs.declared.deck.Variable.{Variable}
 use Rattle.fj_statement.specs.declared.statement.Transfer.{Transfer}
 use Rattle.fj_statement.specs.declared.statement.Statement.{Statement}
 use Rattle.fj_statement.specs.declared.statement.Statement.TheVariants as statement
-use Rattle.fj_plain.specs.Prohibitions.{prohibited}
+use Rattle.fj_book.specs.Prohibitions.{prohibited}
 use Rattle.fj_plain.specs.Needs.{need, holders, number_of}
 use Rattle.fj_plain.specs.Telling.{waited, condition_of, is_asynchronous, is_told, of_unit, after_tells}
 use Rattle.fj_plain.specs.State.{State, Files, start}

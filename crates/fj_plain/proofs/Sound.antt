@@ -15,8 +15,8 @@ use Rattle.fj_transfer.specs.Transfer.{Done, with_undefined}
 use Rattle.fj_statement.specs.declared.deck.Variable.{Variable}
 use Rattle.fj_statement.specs.declared.statement.Transfer.{Transfer}
 use Rattle.fj_statement.specs.declared.statement.Statement.TheVariants as statement
-use Rattle.fj_plain.specs.Variables.{Variables}
-use Rattle.fj_plain.specs.Prohibitions.{prohibited}
+use Rattle.fj_store.specs.Variables.{Variables}
+use Rattle.fj_book.specs.Prohibitions.{prohibited}
 use Rattle.fj_plain.specs.Needs.{need, holders}
 use Rattle.fj_plain.specs.Telling.{is_told, ends_halt, after_tells}
 use Rattle.fj_plain.specs.Transfers.{moved_by, made_pending, unless_halted, halt_behind, entry_of}

@@ -19,7 +19,7 @@ use Rattle.fj_statement.specs.declared.deck.Lined.{Lined}
 use Rattle.fj_statement.specs.declared.statement.Transfer.{Transfer}
 use Rattle.fj_statement.specs.declared.statement.Statement.{Statement}
 use Rattle.fj_statement.specs.declared.statement.Statement.TheVariants as statement
-use Rattle.fj_plain.specs.Prohibitions.{prohibited}
+use Rattle.fj_book.specs.Prohibitions.{prohibited}
 use Rattle.fj_plain.specs.Needs.{need, holders, number_of}
 use Rattle.fj_plain.specs.Telling.{waited, condition_of, is_asynchronous, tell_of}
 use Rattle.fj_plain.specs.Transfers.{moved_by, spec_of, layout_of, refusal, entry_of, unless_halted, carried_out, made_pending, unless_refused, on_unit, star_limit, printed_to, transfer_at}

@@ -31,7 +31,7 @@ use Rattle.fj_statement.specs.declared.deck.Variable.{Variable}
 use Rattle.fj_statement.specs.declared.statement.Transfer.{Transfer}
 use Rattle.fj_statement.specs.declared.statement.Statement.{Statement}
 use Rattle.fj_statement.specs.declared.statement.Statement.TheVariants as statement
-use Rattle.fj_plain.specs.Variables.{Variables}
+use Rattle.fj_store.specs.Variables.{Variables}
 use Rattle.fj_plain.specs.Telling.{is_asynchronous}
 use Rattle.fj_plain.specs.Transfers.{moved_by, spec_of, layout_of, refusal, refused, with_values, carried_out, made_pending, transferred, unless_refused, on_unit, star_limit, printed_to, on_star, transfer_at, transfers_nothing}
 use Rattle.fj_plain.specs.Connecting.{file_due, keeps_file, with_modes, is_taken, most_units, with_opened, connects, without_old, opens_with, opens, closes, closes_anyway, with_move, moves}

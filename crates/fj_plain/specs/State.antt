@@ -10,7 +10,7 @@ use Rattle.fj_connect.specs.Connection.{Connection}
 use Rattle.fj_connect.specs.Positions.{ended}
 use Rattle.std.specs.Str.{bytes_eq}
 pub use Rattle.fj_bay.specs.Halt.{halts}
-use Rattle.fj_plain.specs.Variables.{Variables}
+use Rattle.fj_store.specs.Variables.{Variables}
 
 -- ---- files
 

@@ -4,7 +4,7 @@ use Rattle.fj_control.specs.Steps.{Given}
 use Rattle.fj_statement.specs.declared.deck.Variable.{Variable}
 use Rattle.fj_statement.specs.declared.statement.Operand.{Operand}
 use Rattle.fj_statement.specs.declared.statement.Statement.TheVariants as statement
-use Rattle.fj_plain.specs.Prohibitions.{prohibited}
+use Rattle.fj_book.specs.Prohibitions.{prohibited}
 use Rattle.fj_plain.specs.Needs.{need, holders}
 use Rattle.fj_plain.specs.State.{State}
 use Rattle.fj_plain.specs.Statement.{step, goes_on}
