@@ -12,7 +12,11 @@ use Rattle.fj_seqrec.proofs.ReadLaws.{first_line_ended, first_line_last, strippe
 use Rattle.fj_seqrec.proofs.LineLemmas.{fed_first, fed_behind}
 use Rattle.fj_connect.specs.Connection.{Connection}
 use Rattle.fj_connect.specs.Positions.{ended}
-use Rattle.fj_connect.specs.declared.spot.Within.TheVariants.{Writing}
+use Rattle.fj_connect.specs.Spot.{size_ended}
+use Rattle.fj_connect.specs.PositionLaws.{Stands}
+use Rattle.fj_connect.specs.EndingLaws.{EndedSizes}
+use Rattle.fj_connect.specs.declared.spot.Within.{Within}
+use Rattle.fj_connect.specs.declared.spot.Within.TheVariants.{Outside, Reading, Writing}
 
 -- the bytes once the open record at their end has its line feed
 pub ended_bytes : (c : Connection) → c.spot.within ≡ Writing → c.spot.at ≡ length c.bytes → (ended c).bytes ≡ c.bytes ++ 10 ∷ []
@@ -176,3 +180,11 @@ pub fed_read : (bytes : List ℕ) (at limit : ℕ) (read : RecordRead) (held : L
 fed_read bytes at limit (Line next) held low other is holds = absurd (other next refl)
 fed_read bytes at limit End held low other is holds = absurd (omega (arith, end_was bytes at (limit + 1) is, low))
 fed_read bytes at limit TooLong held low other is holds = (fed_long bytes at limit low is, holds)
+
+ended_size : (c : Connection) (within : Within) → c.spot.within ≡ within → Stands c → length (ended c).bytes ≡ size_ended c.spot (length c.bytes)
+ended_size c Outside is stands = rw is refl
+ended_size c Reading is stands = rw is refl
+ended_size c Writing is stands = ap (λ s. length s) (ended_bytes c is (stands.record_open is).2) ∙ length-append c.bytes (10 ∷ []) ∙ rw is refl
+
+pub ended_sizes : EndedSizes
+ended_sizes c stands = ended_size c c.spot.within refl stands

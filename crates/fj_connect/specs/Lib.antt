@@ -6,4 +6,5 @@ pub mod OpeningLaws
 pub mod Faults
 pub mod Positions
 pub mod PositionLaws
+pub mod EndingLaws
 pub mod TransferLaws

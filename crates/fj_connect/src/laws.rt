@@ -1,6 +1,7 @@
 // What holds of all connections, each law the contract of a function with nothing to do.
 ghost use Rattle.fj_connect.specs.OpeningLaws.{OpensByStatus, StatusDecides};
 ghost use Rattle.fj_connect.specs.TransferLaws.{PutsAtThePosition, PutsFrames, FeedsOnce, ReadsRecordByRecord};
+ghost use Rattle.fj_connect.specs.EndingLaws.{EndedSizes};
 ghost use Rattle.fj_connect.specs.PositionLaws.{EndsOpenRecords, ErrsExactly, MovesByRecords, StandsAfterMotions, RestsOfRecords};
 
 /// OPEN connects as STATUS= and POSITION= say of the file that is there or not.
@@ -16,6 +17,11 @@ pub fn status_decides()
 /// An open record gets its line feed, and nothing else is ended.
 pub fn ends_open_records()
     ensures { EndsOpenRecords }
+{}
+
+/// How long a file is once its open record is ended.
+pub fn ended_files_have_their_length()
+    ensures { EndedSizes }
 {}
 
 /// The errors of motions, exactly.
