@@ -11,3 +11,4 @@ pub mod Ahead
 pub mod Pieces
 pub mod Parts
 pub mod Meaning
+pub mod Naming

@@ -8,3 +8,4 @@ pub mod GroupReadAgain
 pub mod Breaks
 pub mod Grammar
 pub mod Understood
+pub mod Naming

@@ -1,6 +1,7 @@
 // Laws of namelist text.
 ghost use Rattle.fj_namelist.specs.Breaks.{MembersBreakWhereFull};
 ghost use Rattle.fj_namelist.specs.GroupReadAgain.{GroupsAreReadAgain};
+ghost use Rattle.fj_namelist.specs.Naming.{ElementsAreNamed};
 ghost use Rattle.fj_namelist.specs.Understood.{GroupTextHasOneMeaning, GroupTextIsRead, GroupsNeedHeadings};
 
 /// What is written of a group under DELIM='APOSTROPHE' or 'QUOTE' is read under the same modes as the values that were
@@ -30,4 +31,9 @@ pub fn group_text_has_one_meaning()
 /// text the statement meets the end of the records.
 pub fn groups_need_headings()
     ensures { GroupsNeedHeadings }
+{}
+
+/// A name is that of a member but for case, and a subscript that of an element, counted from 1; a scalar has none.
+pub fn elements_are_named()
+    ensures { ElementsAreNamed }
 {}

@@ -13,8 +13,8 @@ mod write;
 
 pub use fj_list::GroupMember;
 pub use laws::{
-    group_text_has_one_meaning, group_text_is_read, groups_are_read_again, groups_need_headings,
-    members_break_where_full,
+    elements_are_named, group_text_has_one_meaning, group_text_is_read, groups_are_read_again,
+    groups_need_headings, members_break_where_full,
 };
 pub use read::read_group;
 pub use write::write_group;
