@@ -1,5 +1,5 @@
 -- The places and values that a statement names.
-use Rattle.std.specs.Prelude.{ℕ, ℤ, suc, zero, ◌+◌, List, [], ◌∷◌, ◌++◌, map, slice_get, Option, Some, None, if◌then◌else◌}
+use Rattle.std.specs.Prelude.{ℕ, ℤ, ◌+◌, List, [], ◌∷◌, ◌++◌, map, slice_get, Option, Some, None, if◌then◌else◌}
 use Rattle.std.specs.Option.{option_map_or}
 use Rattle.fj_value.specs.declared.kind.Kind.{Kind}
 use Rattle.fj_value.specs.declared.kind.Kind.TheVariants.{Int8, Logical}
@@ -12,17 +12,14 @@ use Rattle.fj_statement.specs.declared.deck.Variable.{Variable}
 use Rattle.fj_statement.specs.declared.statement.Operand.{Operand}
 use Rattle.fj_statement.specs.declared.statement.Operand.TheVariants as operand
 use Rattle.fj_plain.specs.State.{elements}
-use Rattle.fj_plain.specs.Variables.{Variables, value_at}
+use Rattle.fj_store.specs.Places.{counted_from}
+use Rattle.fj_store.specs.Variables.{Variables, value_at}
 
 -- the kind of a variable
 abbrev pub kind_of : List Variable → ℕ → Kind
 kind_of variables var = option_map_or (λ (v : Variable). v.kind) (slice_get variables var) Logical
 
 -- the places of a variable, in the order of its elements
-abbrev pub counted_from : ℕ → ℕ → ℕ → List Place
-counted_from var first zero = []
-counted_from var first (suc n) = record { var = var; index = first } ∷ counted_from var (first + 1) n
-
 abbrev pub places_of : List Variable → ℕ → List Place
 places_of variables var = counted_from var 1 (option_map_or elements (slice_get variables var) 0)
 

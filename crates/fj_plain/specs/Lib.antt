@@ -1,7 +1,5 @@
-pub mod Variables
 pub mod State
 pub mod Items
-pub mod Prohibitions
 pub mod Needs
 pub mod Telling
 pub mod Transfers

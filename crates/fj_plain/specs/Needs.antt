@@ -16,7 +16,7 @@ use Rattle.fj_statement.specs.declared.statement.Transfer.{Transfer}
 use Rattle.fj_statement.specs.declared.statement.Statement.{Statement}
 use Rattle.fj_statement.specs.declared.statement.Statement.TheVariants as statement
 use Rattle.fj_plain.specs.Items.{operand_places, places_of, value_of, integer_of}
-use Rattle.fj_plain.specs.Prohibitions.{Need, Holder}
+use Rattle.fj_book.specs.Prohibitions.{Need, Holder}
 use Rattle.fj_plain.specs.State.{State, Unit, Entry}
 
 -- the number of a unit; `*` has none
@@ -47,7 +47,7 @@ abbrev pub transfer_places : List Variable → Transfer → List Place
 transfer_places variables t = flat_map (operand_places variables) t.items ++ group_places variables t.control
 
 abbrev pub no_need : Need
-no_need = record { unit = None; references = []; defines = []; specifiers = []; items = []; id = None }
+no_need = record { unit = None; references = []; defines = []; specifiers = []; items = []; internal = []; id = None }
 
 -- of specifiers that define places
 abbrev pub need_of : List Place → Need
@@ -65,6 +65,7 @@ transfer_need variables t =
       defines = specifiers ++ (if t.input then places else []);
       specifiers = specifiers;
       items = places;
+      internal = [];
       id = None;
     }
 

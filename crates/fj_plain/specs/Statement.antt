@@ -21,9 +21,9 @@ use Rattle.fj_statement.specs.declared.statement.Control.TheVariants as control
 use Rattle.fj_control.specs.Steps.{Given, steps}
 use Rattle.fj_statement.specs.declared.statement.Statement.{Statement}
 use Rattle.fj_statement.specs.declared.statement.Statement.TheVariants as statement
-use Rattle.fj_plain.specs.Variables.{Variables, with_value, given_back}
+use Rattle.fj_store.specs.Variables.{Variables, with_value, given_back}
 use Rattle.fj_plain.specs.Items.{kind_of, operand_places, value_of}
-use Rattle.fj_plain.specs.Prohibitions.{prohibited}
+use Rattle.fj_book.specs.Prohibitions.{prohibited}
 use Rattle.fj_plain.specs.Needs.{number_of, need, holders, given_number, unit_asked}
 use Rattle.fj_plain.specs.Telling.{waited, condition_of, after_tells, of_unit, of_id}
 use Rattle.fj_plain.specs.Transfers.{with_number, reads_or_writes, transfers_nothing}

@@ -11,7 +11,7 @@ use Rattle.fj_statement.specs.declared.deck.Variable.{Variable}
 use Rattle.fj_statement.specs.declared.statement.Transfer.{Transfer}
 use Rattle.fj_statement.specs.declared.statement.Statement.{Statement}
 use Rattle.fj_statement.specs.declared.statement.Statement.TheVariants as statement
-use Rattle.fj_plain.specs.Variables.{Variables, given_back, with_value}
+use Rattle.fj_store.specs.Variables.{Variables, given_back, with_value}
 use Rattle.fj_plain.specs.Items.{kind_of, number_for}
 use Rattle.fj_plain.specs.Needs.{number_of, given_number}
 use Rattle.fj_plain.specs.State.{State, Unit, Entry, Tell, halts}

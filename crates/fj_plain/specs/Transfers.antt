@@ -22,7 +22,7 @@ use Rattle.fj_modes.specs.declared.unit.UnitRef.{UnitRef}
 use Rattle.fj_modes.specs.declared.unit.UnitRef.TheVariants as unit
 use Rattle.fj_statement.specs.declared.statement.Transfer.{Transfer}
 use Rattle.fj_connect.specs.Connection.{Connection}
-use Rattle.fj_plain.specs.Variables.{Variables, with_value, given_back, undefined_at, moved_of, is_at}
+use Rattle.fj_store.specs.Variables.{Variables, with_value, given_back, undefined_at, moved_of, is_at}
 use Rattle.fj_plain.specs.Items.{kind_of, cell_at, cells_of, value_of, integer_of, number_for}
 use Rattle.fj_plain.specs.Needs.{transfer_places, group_places, if_given}
 use Rattle.fj_plain.specs.Telling.{is_asynchronous, with_size}
