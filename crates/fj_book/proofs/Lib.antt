@@ -1,3 +1,4 @@
 pub mod AnyLemmas
 pub mod BookLemmas
 pub mod CountLemmas
+pub mod LawLemmas

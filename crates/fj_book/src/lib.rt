@@ -4,10 +4,15 @@
 
 mod book;
 mod counts;
+mod laws;
 mod need;
 mod pending;
 mod place_test;
 
 pub use book::Book;
+pub use laws::{
+    decks_are_told, each_is_told, lowest_is_broken, lowest_is_told, parts_meet,
+    places_are_held_until_told,
+};
 pub use need::Need;
 pub use pending::{Pending, Places};

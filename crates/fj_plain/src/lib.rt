@@ -1,6 +1,6 @@
 //! What a deck means: executing its statements one after another, on variables, pending transfers, connected units, files and
 //! the output of unit `*` (ISO/IEC 1539-1:2004, clause 9). The definitions stand in specs/: `Statement` has one step and a whole
-//! deck; `Prohibitions`, `Telling`, `Transfers`, `Connecting` and `Inquiring` have its parts in the order in which a statement goes.
+//! deck; `Telling`, `Transfers`, `Connecting` and `Inquiring` have its parts in the order in which a statement goes.
 #![tactic(auto)]
 
 mod cases;
