@@ -52,5 +52,5 @@ pub use unit_laws::{
 };
 pub use wait_cases::{
     closes_all_the_same, end_tells_and_stops, end_tells_in_order, first_file_is_closed,
-    lowest_rule_stops, pending_is_undefined, size_is_held, statements_wait,
+    lowest_rule_stops, pending_is_undefined, seventeenth_unit, size_is_held, statements_wait,
 };

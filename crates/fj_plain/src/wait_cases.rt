@@ -1,5 +1,5 @@
 // Worked cases of what waits, what is prohibited, and what is left of a statement that is not carried out.
-ghost use Rattle.fj_plain.specs.WaitCases.{StatementsWait, EndTellsInOrder, EndTellsAndStops, ClosesAllTheSame, PendingIsUndefined, SizeIsHeld, LowestRuleStops, FirstFileIsClosed};
+ghost use Rattle.fj_plain.specs.WaitCases.{StatementsWait, EndTellsInOrder, EndTellsAndStops, ClosesAllTheSame, PendingIsUndefined, SizeIsHeld, LowestRuleStops, FirstFileIsClosed, SeventeenthUnit};
 
 /// OPEN, FLUSH, WRITE, ENDFILE, BACKSPACE, REWIND and END tell what is pending on the unit.
 pub fn statements_wait()
@@ -39,4 +39,9 @@ pub fn lowest_rule_stops()
 /// OPEN of another file closes the first one, also where it is refused then.
 pub fn first_file_is_closed()
     ensures { FirstFileIsClosed }
+{}
+
+/// Sixteen units are connected at the most; one that is closed makes room.
+pub fn seventeenth_unit()
+    ensures { SeventeenthUnit }
 {}
