@@ -1,5 +1,5 @@
 -- A transfer that becomes pending on a halted unit.
-use Rattle.std.proofs.Common.{◌≡◌, ℕ, Bool, true, false, List, [], ◌∷◌, map, Option, Some, None, refl, sym, ap, ◌∙◌, subst}
+use Rattle.std.proofs.Common.{◌≡◌, ℕ, true, List, [], ◌∷◌, map, Some, refl, sym, ap, ◌∙◌, subst}
 use Rattle.std.specs.Prelude.{if◌then◌else◌}
 use Rattle.std.specs.List.{All}
 use Rattle.std.proofs.lemmas.List.Elements.{All-head, All-tail}
@@ -14,7 +14,7 @@ use Rattle.fj_statement.specs.declared.statement.Transfer.{Transfer}
 use Rattle.fj_statement.specs.declared.statement.Statement.TheVariants as statement
 use Rattle.fj_plain.specs.Telling.{is_asynchronous}
 use Rattle.fj_plain.specs.Transfers.{moved_by, spec_of, layout_of, refusal, unless_halted, halt_behind, made_pending, carried_out, unless_refused, on_unit, transfer_at}
-use Rattle.fj_plain.specs.State.{State, Unit, found, with_unit}
+use Rattle.fj_plain.specs.State.{State, Unit, found}
 use Rattle.fj_plain.specs.Statement.{own}
 use Rattle.fj_plain.specs.UnitLaws.{Ascends, joined, connections}
 use Rattle.fj_plain.proofs.Units.{swap, swap_joined}

@@ -18,3 +18,4 @@ pub mod TransferCases
 pub mod FileCases
 pub mod StatementCases
 pub mod WaitCases
+pub mod InquiryCases

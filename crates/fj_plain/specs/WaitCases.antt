@@ -1,6 +1,8 @@
 -- Worked cases: what waits, what is prohibited, and what is left of a statement that is not carried out.
-use Rattle.std.specs.Prelude.{◌≡◌, ℕ, pos, negsuc, true, false, List, [], ◌∷◌, Some, None, codes}
-use Rattle.fj_value.specs.declared.value.Value.TheVariants.{Undefined}
+use Rattle.std.specs.Prelude.{◌≡◌, ℕ, pos, negsuc, true, false, [], ◌∷◌, Some, None, codes}
+use Rattle.fj_value.specs.declared.value.Value.TheVariants.{Undefined, Chars}
+use Rattle.fj_value.specs.declared.kind.Kind.TheVariants as kind
+use Rattle.fj_modes.specs.declared.specifiers.OpenSpec.{OpenSpec}
 use Rattle.fj_value.specs.declared.condition.Rule.TheVariants.{P1, P2, P3}
 use Rattle.fj_list.specs.ListText.{text_of}
 use Rattle.fj_modes.specs.declared.specifiers.FileStatus.TheVariants.{Old, Scratch}
@@ -11,7 +13,7 @@ use Rattle.fj_statement.specs.declared.statement.Control.TheVariants.{Listed}
 use Rattle.fj_plain.specs.Statement.{execution, ended, error_stop, prohibition}
 use Rattle.fj_plain.specs.Cases.{Comes, int, told}
 use Rattle.fj_plain.specs.StatementCases.{at_end, in_part}
-use Rattle.fj_plain.specs.DeckWords.{Written, integers, at, var, whole, two_lines, no_files, file, lines_from, opening, replacing, replacing_later, old_later, plain_open, «end», motion, assign, transfer, i_transfer, now, later, by_i, bare, read_later}
+use Rattle.fj_plain.specs.DeckWords.{Written, scalar, integers, at, var, whole, text, two_lines, no_files, file, lines_from, opening, replacing, replacing_later, old_later, plain_open, «end», motion, assign, close, transfer, i_transfer, now, later, by_i, bare, read_later}
 
 abbrev pub written_later : ℕ → ℕ → Written
 written_later number n = by_i 1 (later (i_transfer false number 1 (whole (pos n))))
@@ -65,3 +67,32 @@ abbrev pub FirstFileIsClosed : Type 0
 FirstFileIsClosed = let result = execution (integers 2) (lines_from 2 (opening 10 (replacing (codes "X")) None ∷ by_i 1 (now (i_transfer false 10 1 (whole (pos 5))))
     ∷ opening 10 (record plain_open { file = Some (codes "Y"); status = Some Old }) (Some (at 0)) ∷ by_i 1 (now (record (i_transfer false 10 1 (whole (pos 6))) { iostat = Some (at 1) })) ∷ «end» ∷ [])) no_files in
     Comes result ended (int (pos 5) ∷ int (pos 1) ∷ []) × (result.files (codes "X") ≡ Some (text_of (codes "5" ∷ []))) × (result.files (codes "Y") ≡ None)
+
+-- sixteen units are connected at the most; one that is closed makes room
+abbrev pub opens : ℕ → Written
+opens number = opening number (record plain_open { file = Some (number ∷ []) }) None
+
+abbrev pub SeventeenthUnit : Type 0
+SeventeenthUnit = let seventeenth = record plain_open { file = Some (codes "X") } in
+    Comes (execution (integers 2) (lines_from 2 (opens 1 ∷ opens 2 ∷ opens 3 ∷ opens 4 ∷ opens 5 ∷ opens 6 ∷ opens 7 ∷ opens 8 ∷ opens 9 ∷ opens 10 ∷ opens 11 ∷ opens 12 ∷ opens 13 ∷ opens 14 ∷ opens 15 ∷ opens 16
+    ∷ opening 17 seventeenth (Some (at 0)) ∷ close 8 None ∷ opening 17 seventeenth (Some (at 1)) ∷ «end» ∷ [])) no_files) ended (int (pos 9) ∷ int (pos 0) ∷ [])
+
+-- STATUS='DELETE' removes the file, also where the end of the file is told
+abbrev pub DeletedIsGone : Type 0
+DeletedIsGone = let result = execution (integers 2) (lines_from 2 (opening 10 (old_later (codes "E")) None ∷ opening 11 (replacing (codes "X")) None ∷ read_later 10 1 0
+    ∷ bare (statement.CloseUnit (unit.Number 10) (Some false) (Some (at 1))) ∷ close 11 (Some false) ∷ «end» ∷ [])) (file (codes "E") []) in
+    Comes result ended (Undefined ∷ int (negsuc 0) ∷ []) × (result.files (codes "E") ≡ None) × (result.files (codes "X") ≡ None)
+
+-- a further OPEN with STATUS='SCRATCH' makes a new file
+abbrev pub scratch : OpenSpec
+scratch = record plain_open { status = Some Scratch }
+
+abbrev pub ScratchIsMadeAnew : Type 0
+ScratchIsMadeAnew = Comes (execution (integers 3) (lines_from 2 (opening 10 scratch None ∷ by_i 1 (now (i_transfer false 10 1 (whole (pos 5)))) ∷ opening 10 scratch (Some (at 0))
+    ∷ by_i 1 (now (record (i_transfer true 10 1 (var 2)) { iostat = Some (at 1) })) ∷ «end» ∷ [])) no_files)
+    ended (int (pos 0) ∷ int (negsuc 0) ∷ Undefined ∷ [])
+
+-- characters that are assigned are cut, or filled up with blanks
+abbrev pub TextIsFitted : Type 0
+TextIsFitted = Comes (execution (scalar (kind.Chars 3) ∷ scalar (kind.Chars 3) ∷ []) (lines_from 3 (assign 0 (text (codes "abcde")) ∷ assign 1 (text (codes "a")) ∷ «end» ∷ [])) no_files)
+    ended (Chars (codes "abc") ∷ Chars (codes "a  ") ∷ [])

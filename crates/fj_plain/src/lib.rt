@@ -7,6 +7,7 @@ mod cases;
 mod cut_laws;
 mod file_cases;
 mod halt_laws;
+mod inquiry_cases;
 mod pending_laws;
 mod statement_cases;
 mod telling_laws;
@@ -30,6 +31,9 @@ pub use file_cases::{
 pub use halt_laws::{
     halts_are_caused, halts_begin_and_end, skipped_changes_no_file, skipped_tell_the_cause,
 };
+pub use inquiry_cases::{
+    direct_is_answered, file_is_answered, others_are_answered, stream_is_answered,
+};
 pub use pending_laws::{
     identifiers_rise, nothing_is_told, pending_turns, places_are_apart, prohibited_does_nothing,
 };
@@ -51,6 +55,7 @@ pub use unit_laws::{
     pending_are_connected, telling_changes_no_file, units_ascend,
 };
 pub use wait_cases::{
-    closes_all_the_same, end_tells_and_stops, end_tells_in_order, first_file_is_closed,
-    lowest_rule_stops, pending_is_undefined, size_is_held, statements_wait,
+    closes_all_the_same, deleted_is_gone, end_tells_and_stops, end_tells_in_order,
+    first_file_is_closed, lowest_rule_stops, pending_is_undefined, scratch_is_made_anew,
+    seventeenth_unit, size_is_held, statements_wait, text_is_fitted,
 };

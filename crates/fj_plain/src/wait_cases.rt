@@ -1,5 +1,5 @@
 // Worked cases of what waits, what is prohibited, and what is left of a statement that is not carried out.
-ghost use Rattle.fj_plain.specs.WaitCases.{StatementsWait, EndTellsInOrder, EndTellsAndStops, ClosesAllTheSame, PendingIsUndefined, SizeIsHeld, LowestRuleStops, FirstFileIsClosed};
+ghost use Rattle.fj_plain.specs.WaitCases.{StatementsWait, EndTellsInOrder, EndTellsAndStops, ClosesAllTheSame, PendingIsUndefined, SizeIsHeld, LowestRuleStops, FirstFileIsClosed, SeventeenthUnit, DeletedIsGone, ScratchIsMadeAnew, TextIsFitted};
 
 /// OPEN, FLUSH, WRITE, ENDFILE, BACKSPACE, REWIND and END tell what is pending on the unit.
 pub fn statements_wait()
@@ -39,4 +39,24 @@ pub fn lowest_rule_stops()
 /// OPEN of another file closes the first one, also where it is refused then.
 pub fn first_file_is_closed()
     ensures { FirstFileIsClosed }
+{}
+
+/// Sixteen units are connected at the most; one that is closed makes room.
+pub fn seventeenth_unit()
+    ensures { SeventeenthUnit }
+{}
+
+/// STATUS='DELETE' removes the file, also where the end of the file is told.
+pub fn deleted_is_gone()
+    ensures { DeletedIsGone }
+{}
+
+/// A further OPEN with STATUS='SCRATCH' makes a new file.
+pub fn scratch_is_made_anew()
+    ensures { ScratchIsMadeAnew }
+{}
+
+/// Characters that are assigned are cut, or filled up with blanks.
+pub fn text_is_fitted()
+    ensures { TextIsFitted }
 {}

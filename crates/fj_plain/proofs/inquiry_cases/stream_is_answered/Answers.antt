@@ -1,0 +1,11 @@
+use Rattle.std.proofs.Common.{refl}
+use Rattle.std.specs.Fmt.{digits}
+use Rattle.fj_plain.specs.Statement.{step}
+use Rattle.fj_transfer.specs.Transfer.{transfer_by}
+use Rattle.fj_edit_in.specs.InputField.{trimmed, blanks_read}
+use Rattle.fj_value.specs.Digits.{number_in, numeral}
+use Rattle.fj_plain.proofs.inquiry_cases.stream_is_answered.Goals as goal
+
+pub returns : goal.returns
+unfolding step transfer_by trimmed blanks_read number_in numeral digits
+returns c = (refl, refl)
