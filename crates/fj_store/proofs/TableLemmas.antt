@@ -15,10 +15,10 @@ use Rattle.fj_store.proofs.ListLemmas.{set_same, set_other, set_missing, set_its
 pub no_index : {T : Type 0} → (rows : List (List T)) (p : Place) (x : T) → p.index ≡ 0 → (element_at rows p ≡ None) × (with_element rows p x ≡ rows)
 no_index {T} rows p x zeroth =
     let go : (o : Option (List T)) → slice_get rows p.var ≡ o → (option_and_then (element_in p.index) o ≡ None) × (option_map_or (λ row. set rows p.var (row_with p.index x row)) o rows ≡ rows) =
-        λ o. elim o as (λ z. slice_get rows p.var ≡ z → (option_and_then (element_in p.index) z ≡ None) × (option_map_or (λ row. set rows p.var (row_with p.index x row)) z rows ≡ rows)) [
-          | None ↦ λ e. (refl, refl)
-          | Some row ↦ λ e. (rw zeroth refl, rw zeroth (set_itself rows p.var row e))
-        ] in
+    λ o. elim o as (λ z. slice_get rows p.var ≡ z → (option_and_then (element_in p.index) z ≡ None) × (option_map_or (λ row. set rows p.var (row_with p.index x row)) z rows ≡ rows)) [
+      | None ↦ λ e. (refl, refl)
+      | Some row ↦ λ e. (rw zeroth refl, rw zeroth (set_itself rows p.var row e))
+    ] in
     go (slice_get rows p.var) refl
 
 pub no_variable : {T : Type 0} → (rows : List (List T)) (p : Place) (x : T) → slice_get rows p.var ≡ None → (element_at rows p ≡ None) × (with_element rows p x ≡ rows)
@@ -71,12 +71,12 @@ row_mapped f (suc n) row x = map-set f row n x
 pub at_same : {T : Type 0} → (rows : List (List T)) (p : Place) (x y : T) → element_at rows p ≡ Some y → element_at (with_element rows p x) p ≡ Some x
 at_same {T} rows p x y =
     let go : (o : Option (List T)) → slice_get rows p.var ≡ o → option_and_then (element_in p.index) o ≡ Some y
-          → option_and_then (element_in p.index) (slice_get (option_map_or (λ row. set rows p.var (row_with p.index x row)) o rows) p.var) ≡ Some x =
-        λ o. elim o as (λ z. slice_get rows p.var ≡ z → option_and_then (element_in p.index) z ≡ Some y
-          → option_and_then (element_in p.index) (slice_get (option_map_or (λ row. set rows p.var (row_with p.index x row)) z rows) p.var) ≡ Some x) [
-          | None ↦ λ e h. cc
-          | Some row ↦ λ e h. rw (set_same rows p.var (row_with p.index x row) row e) (in_same p.index row x y h)
-        ] in
+    → option_and_then (element_in p.index) (slice_get (option_map_or (λ row. set rows p.var (row_with p.index x row)) o rows) p.var) ≡ Some x =
+    λ o. elim o as (λ z. slice_get rows p.var ≡ z → option_and_then (element_in p.index) z ≡ Some y
+    → option_and_then (element_in p.index) (slice_get (option_map_or (λ row. set rows p.var (row_with p.index x row)) z rows) p.var) ≡ Some x) [
+      | None ↦ λ e h. cc
+      | Some row ↦ λ e h. rw (set_same rows p.var (row_with p.index x row) row e) (in_same p.index row x y h)
+    ] in
     go (slice_get rows p.var) refl
 
 pub same_fields : (p q : Place) → p.var ≡ q.var → p.index ≡ q.index → p ≡ q
@@ -91,28 +91,28 @@ pub places_tell : (p q : Place) → ((same_place p q ≡ true) × (p ≡ q)) ⊎
 places_tell p q =
     elim (eqb_tells p.var q.var) [
       | inl var ↦ elim (eqb_tells p.index q.index) [
-          | inl index ↦ inl (rw (var.0, index.0) refl, same_fields p q var.1 index.1)
-          | inr index ↦ inr (rw (var.0, index.0) refl, inr (sym var.1, (λ e. index.1 (sym e))))
-        ]
+        | inl index ↦ inl (rw (var.0, index.0) refl, same_fields p q var.1 index.1)
+        | inr index ↦ inr (rw (var.0, index.0) refl, inr (sym var.1, (λ e. index.1 (sym e))))
+      ]
       | inr var ↦ inr (rw var.0 refl, inl (λ e. var.1 (sym e)))
     ]
 
 at_other_var : {T : Type 0} → (rows : List (List T)) (p q : Place) (x : T) → (q.var ≡ p.var → ⊥) → element_at (with_element rows p x) q ≡ element_at rows q
 at_other_var {T} rows p q x ne =
     let go : (o : Option (List T)) → option_and_then (element_in q.index) (slice_get (option_map_or (λ row. set rows p.var (row_with p.index x row)) o rows) q.var) ≡ element_at rows q =
-        λ o. elim o as (λ z. option_and_then (element_in q.index) (slice_get (option_map_or (λ row. set rows p.var (row_with p.index x row)) z rows) q.var) ≡ element_at rows q) [
-          | None ↦ refl
-          | Some row ↦ ap (option_and_then (element_in q.index)) (set_other rows p.var q.var (row_with p.index x row) ne)
-        ] in
+    λ o. elim o as (λ z. option_and_then (element_in q.index) (slice_get (option_map_or (λ row. set rows p.var (row_with p.index x row)) z rows) q.var) ≡ element_at rows q) [
+      | None ↦ refl
+      | Some row ↦ ap (option_and_then (element_in q.index)) (set_other rows p.var q.var (row_with p.index x row) ne)
+    ] in
     go (slice_get rows p.var)
 
 at_other_index : {T : Type 0} → (rows : List (List T)) (p q : Place) (x : T) → q.var ≡ p.var → (q.index ≡ p.index → ⊥) → element_at (with_element rows p x) q ≡ element_at rows q
 at_other_index {T} rows p q x same ne =
     let go : (o : Option (List T)) → slice_get rows p.var ≡ o → option_and_then (element_in q.index) (slice_get (option_map_or (λ row. set rows p.var (row_with p.index x row)) o rows) p.var) ≡ option_and_then (element_in q.index) (slice_get rows p.var) =
-        λ o. elim o as (λ z. slice_get rows p.var ≡ z → option_and_then (element_in q.index) (slice_get (option_map_or (λ row. set rows p.var (row_with p.index x row)) z rows) p.var) ≡ option_and_then (element_in q.index) (slice_get rows p.var)) [
-          | None ↦ λ e. refl
-          | Some row ↦ λ e. rw (set_same rows p.var (row_with p.index x row) row e, e) (in_other p.index q.index row x ne)
-        ] in
+    λ o. elim o as (λ z. slice_get rows p.var ≡ z → option_and_then (element_in q.index) (slice_get (option_map_or (λ row. set rows p.var (row_with p.index x row)) z rows) p.var) ≡ option_and_then (element_in q.index) (slice_get rows p.var)) [
+      | None ↦ λ e. refl
+      | Some row ↦ λ e. rw (set_same rows p.var (row_with p.index x row) row e, e) (in_other p.index q.index row x ne)
+    ] in
     let P : ℕ → Type 0 = λ v. option_and_then (element_in q.index) (slice_get (with_element rows p x) v) ≡ option_and_then (element_in q.index) (slice_get rows v) in
     subst P (sym same) (go (slice_get rows p.var) refl)
 
@@ -126,39 +126,39 @@ at_other rows p q x h =
 pub with_itself : {T : Type 0} → (rows : List (List T)) (p : Place) (x : T) → element_at rows p ≡ Some x → with_element rows p x ≡ rows
 with_itself {T} rows p x =
     let go : (o : Option (List T)) → slice_get rows p.var ≡ o → option_and_then (element_in p.index) o ≡ Some x → option_map_or (λ row. set rows p.var (row_with p.index x row)) o rows ≡ rows =
-        λ o. elim o as (λ z. slice_get rows p.var ≡ z → option_and_then (element_in p.index) z ≡ Some x → option_map_or (λ row. set rows p.var (row_with p.index x row)) z rows ≡ rows) [
-          | None ↦ λ e h. refl
-          | Some row ↦ λ e h. rw (row_itself p.index row x h) (set_itself rows p.var row e)
-        ] in
+    λ o. elim o as (λ z. slice_get rows p.var ≡ z → option_and_then (element_in p.index) z ≡ Some x → option_map_or (λ row. set rows p.var (row_with p.index x row)) z rows ≡ rows) [
+      | None ↦ λ e h. refl
+      | Some row ↦ λ e h. rw (row_itself p.index row x h) (set_itself rows p.var row e)
+    ] in
     go (slice_get rows p.var) refl
 
 pub with_missing : {T : Type 0} → (rows : List (List T)) (p : Place) (x : T) → element_at rows p ≡ None → with_element rows p x ≡ rows
 with_missing {T} rows p x =
     let go : (o : Option (List T)) → slice_get rows p.var ≡ o → option_and_then (element_in p.index) o ≡ None → option_map_or (λ row. set rows p.var (row_with p.index x row)) o rows ≡ rows =
-        λ o. elim o as (λ z. slice_get rows p.var ≡ z → option_and_then (element_in p.index) z ≡ None → option_map_or (λ row. set rows p.var (row_with p.index x row)) z rows ≡ rows) [
-          | None ↦ λ e h. refl
-          | Some row ↦ λ e h. rw (row_missing p.index row x h) (set_itself rows p.var row e)
-        ] in
+    λ o. elim o as (λ z. slice_get rows p.var ≡ z → option_and_then (element_in p.index) z ≡ None → option_map_or (λ row. set rows p.var (row_with p.index x row)) z rows ≡ rows) [
+      | None ↦ λ e h. refl
+      | Some row ↦ λ e h. rw (row_missing p.index row x h) (set_itself rows p.var row e)
+    ] in
     go (slice_get rows p.var) refl
 
 -- each element mapped
 pub mapped_at : {T U : Type 0} → (f : T → U) (rows : List (List T)) (p : Place) → element_at (map (map f) rows) p ≡ option_map f (element_at rows p)
 mapped_at {T} f rows p =
     let go : (o : Option (List T)) → option_and_then (element_in p.index) (option_map (map f) o) ≡ option_map f (option_and_then (element_in p.index) o) =
-        λ o. elim o as (λ z. option_and_then (element_in p.index) (option_map (map f) z) ≡ option_map f (option_and_then (element_in p.index) z)) [
-          | None ↦ refl
-          | Some row ↦ in_mapped f p.index row
-        ] in
+    λ o. elim o as (λ z. option_and_then (element_in p.index) (option_map (map f) z) ≡ option_map f (option_and_then (element_in p.index) z)) [
+      | None ↦ refl
+      | Some row ↦ in_mapped f p.index row
+    ] in
     ap (option_and_then (element_in p.index)) (slice_get-map (map f) rows p.var) ∙ go (slice_get rows p.var)
 
 pub mapped_with : {T U : Type 0} → (f : T → U) (rows : List (List T)) (p : Place) (x : T) → map (map f) (with_element rows p x) ≡ with_element (map (map f) rows) p (f x)
 mapped_with {T} {U} f rows p x =
     let whole : Option (List U) → List (List U) = λ o. option_map_or (λ row. set (map (map f) rows) p.var (row_with p.index (f x) row)) o (map (map f) rows) in
     let go : (o : Option (List T)) → map (map f) (option_map_or (λ row. set rows p.var (row_with p.index x row)) o rows) ≡ whole (option_map (map f) o) =
-        λ o. elim o as (λ z. map (map f) (option_map_or (λ row. set rows p.var (row_with p.index x row)) z rows) ≡ whole (option_map (map f) z)) [
-          | None ↦ refl
-          | Some row ↦ map-set (map f) rows p.var (row_with p.index x row) ∙ ap (λ ys. set (map (map f) rows) p.var ys) (row_mapped f p.index row x)
-        ] in
+    λ o. elim o as (λ z. map (map f) (option_map_or (λ row. set rows p.var (row_with p.index x row)) z rows) ≡ whole (option_map (map f) z)) [
+      | None ↦ refl
+      | Some row ↦ map-set (map f) rows p.var (row_with p.index x row) ∙ ap (λ ys. set (map (map f) rows) p.var ys) (row_mapped f p.index row x)
+    ] in
     go (slice_get rows p.var) ∙ sym (ap whole (slice_get-map (map f) rows p.var))
 
 -- ---- the same, of the rows that were read

@@ -228,7 +228,7 @@ module _ {E J A S : Type 0} (m : Meaning E J A Bay Job Answer) (s : Shows S) (P 
       let low : get_or r.told slot 0 ≤ number =
       omega (arith, told_found m limit r qs p slot q t at.1, sent_found m limit r qs p slot q t at.1, each_at (λ x. x.told ≤ length x.jobs) qs slot q t.within at.1) in
       let later = start_reaches (next number) from limit st rest r2 qs2 (record { core = core; desks = carry p.desks slot job }) slot number t2 keeps.0 same (omega (arith, t.tags.below 0 0)) low
-          (ap (tag_at (carry p.desks slot job) slot) logged ∙ tag_logged m limit r qs p slot q job t at.1 ∙ tag) (onward number) none is in
+      (ap (tag_at (carry p.desks slot job) slot) logged ∙ tag_logged m limit r qs p slot q job t at.1 ∙ tag) (onward number) none is in
       let x : Plain Bay c = turned rest (submits slot job stage r1) qs in
       let y : Plain Bay c = turned rest (turn st stage r2) qs2 in
       subst (λ n. ActedTo st rest r (acted (carry p.desks slot job) (next n)) x) logged
@@ -254,17 +254,17 @@ module _ {E J A S : Type 0} (m : Meaning E J A Bay Job Answer) (s : Shows S) (P 
       let walk2 : walked (suc k) before.desks (does variables st before) ≡ (carry p.desks slot job, next o) =
       walked_more k before.desks (does variables st before) ∙ ap (λ z. walked 1 z.0 z.1) walk in
       let own = own_out (number - q.told) limit st rest r2 qs2 p2 slot number (given q job) next o t2 none is
-          (λ r' qs' t'. ok (turned rest (settles slot (Awaiting slot number next) r') qs') (inr (inr (record {
-            jobs = k;
-            slot = slot;
-            job = job;
-            onward = next;
-            hand = refl;
-            awaited = ap (λ z. z.1) walk ∙ ap (λ now. awaits slot job now next) (sym t'.core);
-            desks = t'.desks ∙ ap (λ ds. carry ds slot job) (sym (ap (λ z. z.0) walk));
-          }))))
-          (set_found qs slot (given q job) q at.1) (omega (arith, low)) (longer q job (sent_found m limit r qs p slot q t at.1))
-          (ap (log_at (slice_get (carry p.desks slot job) slot)) logged ∙ logged_at m limit r qs p slot q job t at.1) in
+      (λ r' qs' t'. ok (turned rest (settles slot (Awaiting slot number next) r') qs') (inr (inr (record {
+        jobs = k;
+        slot = slot;
+        job = job;
+        onward = next;
+        hand = refl;
+        awaited = ap (λ z. z.1) walk ∙ ap (λ now. awaits slot job now next) (sym t'.core);
+        desks = t'.desks ∙ ap (λ ds. carry ds slot job) (sym (ap (λ z. z.0) walk));
+      }))))
+      (set_found qs slot (given q job) q at.1) (omega (arith, low)) (longer q job (sent_found m limit r qs p slot q t at.1))
+      (ap (log_at (slice_get (carry p.desks slot job) slot)) logged ∙ logged_at m limit r qs p slot q job t at.1) in
       let later = act_reaches (next o) from limit (suc k) variables st before rest own.run own.slots p2 own.ties (ap (λ z. z.book) own.ties.core ∙ keeps.0) same (onward o) walk2 ok own.ending own.rest_is in
       let x : Plain Bay c = turned rest (submits slot job stage r1) qs in
       let y : Plain Bay c = turned rest (turn st stage r2) qs2 in

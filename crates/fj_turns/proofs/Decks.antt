@@ -28,24 +28,24 @@ use Rattle.fj_turns.proofs.Statements.{turned, Stepped, step_reaches}
 goes_is_turn : (st : Stated) (rest : List Stated) (r : Run) → goes (st ∷ rest) r ≡ by_turn rest (turn_start st (record r { rest = st ∷ rest }))
 goes_is_turn st rest r = by (turn_start st (record r { rest = st ∷ rest }))
   where
-    by : (t : Turn) → (elim t as (λ _. Asked) [ | Pauses ask run ↦ record { ask = ask; run = run } | Passes run ↦ goes rest run | Stops run ↦ record { ask = Finished; run = run } ]) ≡ by_turn rest t
+    by : (t : Turn) → (elim t as (λ _. Asked) [ Pauses ask run ↦ record { ask = ask; run = run } | Passes run ↦ goes rest run | Stops run ↦ record { ask = Finished; run = run } ]) ≡ by_turn rest t
     by (Pauses ask run) = refl
     by (Passes run) = refl
     by (Stops run) = refl
 
 ran_on : (variables : List Variable) (st : Stated) (more : List Stated) (p : Desked) → (desk_step variables st p).1 ≡ None → over_desks variables (st ∷ more) p ≡ over_desks variables more (desk_step variables st p).0
 ran_on variables st more p e =
-    ap (λ o. elim o as (λ _. DesksRan) [ | None ↦ over_desks variables more (desk_step variables st p).0 | Some x ↦ record { desked = (desk_step variables st p).0; ending = Some x } ]) e
+    ap (λ o. elim o as (λ _. DesksRan) [ None ↦ over_desks variables more (desk_step variables st p).0 | Some x ↦ record { desked = (desk_step variables st p).0; ending = Some x } ]) e
 
 ran_out : (variables : List Variable) (st : Stated) (more : List Stated) (p : Desked) (ending : Ending) → (desk_step variables st p).1 ≡ Some ending
     → over_desks variables (st ∷ more) p ≡ record { desked = (desk_step variables st p).0; ending = Some ending }
 ran_out variables st more p ending e =
-    ap (λ o. elim o as (λ _. DesksRan) [ | None ↦ over_desks variables more (desk_step variables st p).0 | Some x ↦ record { desked = (desk_step variables st p).0; ending = Some x } ]) e
+    ap (λ o. elim o as (λ _. DesksRan) [ None ↦ over_desks variables more (desk_step variables st p).0 | Some x ↦ record { desked = (desk_step variables st p).0; ending = Some x } ]) e
 
 pub cut_on : (variables : List Variable) (index : ℕ) (st : Stated) (more : List Stated) (p : Desked) → (desk_step variables st p).1 ≡ None
     → cut_desks variables (suc index) (st ∷ more) p ≡ cut_desks variables index more (desk_step variables st p).0
 cut_on variables index st more p e =
-    ap (λ o. elim o as (λ _. Option (Stated × Desked)) [ | None ↦ cut_desks variables index more (desk_step variables st p).0 | Some x ↦ None ]) e
+    ap (λ o. elim o as (λ _. Option (Stated × Desked)) [ None ↦ cut_desks variables index more (desk_step variables st p).0 | Some x ↦ None ]) e
 
 -- ---- the start
 

@@ -93,8 +93,11 @@ tag_here desks slot job n d e false true f g =
 tag_here desks slot job n d e false false f g =
     let there : slice_get (carry desks slot job) slot ≡ Some (carried d job) = ap (λ o. slice_get (carry_at o desks slot job) slot) e ∙ set_found desks slot (carried d job) d e in
     let same : n ≡ length d.log = omega (arith, ltb-false n (length d.log) f, ltb-false (length d.log) n g) in
-    inl (refl, same ∙ sym (ap log_length e),
-    ap (λ o. tag_in (log_at o n)) there ∙ ap (λ k. tag_in (slice_get (d.log ++ outcome_on d.bay job ∷ []) k)) same ∙ ap tag_in (get_last d.log (outcome_on d.bay job)) ∙ serve_tag d.bay job)
+    inl (
+      refl,
+      same ∙ sym (ap log_length e),
+      ap (λ o. tag_in (log_at o n)) there ∙ ap (λ k. tag_in (slice_get (d.log ++ outcome_on d.bay job ∷ []) k)) same ∙ ap tag_in (get_last d.log (outcome_on d.bay job)) ∙ serve_tag d.bay job,
+    )
 
 pub carry_tag : (desks : List Desk) (slot : ℕ) (job : Job) (s n : ℕ) → IsCarriedTag desks slot job s n
 carry_tag desks slot job s n =

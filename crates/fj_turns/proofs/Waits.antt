@@ -30,9 +30,11 @@ filter_filter p q (x ∷ xs) = by (p x) (filter_filter p q xs)
 pub chosen_tells : (f : Held → Entry) (q : Entry → Bool) (hs : List Held) → ((h : Held) → (f h).id ≡ h.pending.id)
     → Each (λ (h : Held). q (f h) ≡ true → tells_id (filter q (map f hs)) h.pending.id ≡ true) hs
 chosen_tells f q [] ids = tt
-chosen_tells f q (x ∷ hs) ids =
-    (here (q (f x)), each_imp (λ h. q (f h) ≡ true → tells_id (filter q (map f hs)) h.pending.id ≡ true) (λ h. q (f h) ≡ true → tells_id (filter q (map f (x ∷ hs))) h.pending.id ≡ true) hs
-    (λ h k e. further (q (f x)) h.pending.id (k e)) (chosen_tells f q hs ids))
+chosen_tells f q (x ∷ hs) ids = (
+  here (q (f x)),
+  each_imp (λ h. q (f h) ≡ true → tells_id (filter q (map f hs)) h.pending.id ≡ true) (λ h. q (f h) ≡ true → tells_id (filter q (map f (x ∷ hs))) h.pending.id ≡ true) hs
+      (λ h k e. further (q (f x)) h.pending.id (k e)) (chosen_tells f q hs ids),
+)
   where
     here : (b : Bool) → b ≡ true → tells_id (if b then f x ∷ filter q (map f hs) else filter q (map f hs)) x.pending.id ≡ true
     here true e = ap (λ b. b || tells_id (filter q (map f hs)) x.pending.id) (eq-eqb (f x).id x.pending.id (ids x))
