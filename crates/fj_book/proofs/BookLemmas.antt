@@ -145,16 +145,16 @@ none_of es tag at up below from here k d within =
     λ same. elim (cases_lt k at) [
       | inl low ↦ absurd (omega (arith, below k d low))
       | inr high ↦ elim (eqb_tells k at) [
-          | inl this ↦ here d (omega arith) (ap (λ n. tag_of (get_or es n d)) (sym this.1) ∙ same)
-          | inr other ↦ absurd (omega (arith, up at k d (omega arith) within, from at d (omega arith) (omega arith)))
-        ]
+        | inl this ↦ here d (omega arith) (ap (λ n. tag_of (get_or es n d)) (sym this.1) ∙ same)
+        | inr other ↦ absurd (omega (arith, up at k d (omega arith) within, from at d (omega arith) (omega arith)))
+      ]
     ]
 
 pub is_parted : (es : List Pending) (tag : ℕ) → IsAscending es → IsPartitionedBy (λ (e : Pending). ltb (tag_of e) tag) es
 is_parted es tag up i j d low within below = elim (eqb_tells i j) [
-    | inl same ↦ ap (λ n. ltb (tag_of (get_or es n d)) tag) same.1 ∙ below
-    | inr other ↦ let under : tag_of (get_or es i d) < tag_of (get_or es j d) = up i j d (omega arith) within in grind (arith, nat_tests)
-  ]
+  | inl same ↦ ap (λ n. ltb (tag_of (get_or es n d)) tag) same.1 ∙ below
+  | inr other ↦ let under : tag_of (get_or es i d) < tag_of (get_or es j d) = up i j d (omega arith) within in grind (arith, nat_tests)
+]
 
 pub parted_below : (es : List Pending) (tag at : ℕ) → IsPartitionPoint (λ (e : Pending). ltb (tag_of e) tag ≡ true) (λ (e : Pending). ltb (tag_of e) tag ≡ false) es at → (k : ℕ) (d : Pending) → k < at → tag_of (get_or es k d) < tag
 parted_below es tag at parted k d low = let below : ltb (tag_of (get_or es k d)) tag ≡ true = parted.0 k d (omega arith) low in grind (arith, nat_tests)

@@ -42,12 +42,12 @@ change_step op start now places i q count new low is so_far here step p =
     elim (places_tell q p) [
       | inl same ↦
           let go : (o : Option ℕ) → option_map (λ n. op n (occurrences q (take i places))) o ≡ Some count → Some new ≡ option_map (λ n. op n (occurrences q (take (i + 1) places))) o =
-              λ o. elim o as (λ z. option_map (λ n. op n (occurrences q (take i places))) z ≡ Some count → Some new ≡ option_map (λ n. op n (occurrences q (take (i + 1) places))) z) [
-                | None ↦ λ e. cc
-                | Some m ↦ λ e.
-                    let was : op m (occurrences q (take i places)) ≡ count = cc in
-                    ap (λ n. Some n) (sym (ap (op m) (own_occurrences places i q low is) ∙ step m was))
-              ] in
+          λ o. elim o as (λ z. option_map (λ n. op n (occurrences q (take i places))) z ≡ Some count → Some new ≡ option_map (λ n. op n (occurrences q (take (i + 1) places))) z) [
+            | None ↦ λ e. cc
+            | Some m ↦ λ e.
+                let was : op m (occurrences q (take i places)) ≡ count = cc in
+                ap (λ n. Some n) (sym (ap (op m) (own_occurrences places i q low is) ∙ step m was))
+          ] in
           let P : Place → Type 0 = λ z. element_at (with_element now q new) z ≡ option_map (λ n. op n (occurrences z (take (i + 1) places))) (element_at start z) in
           subst P same.1 (at_same now q new count here ∙ go (element_at start q) (sym (so_far q) ∙ here))
       | inr other ↦ at_other now q p new other.0 ∙ so_far p ∙ ap (λ k. option_map (λ n. op n k) (element_at start p)) (sym (other_occurrences places i q p low is other.0))
@@ -59,10 +59,10 @@ skip_step op start now places i q low is so_far here p =
     elim (places_tell q p) [
       | inl same ↦
           let go : (o : Option ℕ) → option_map (λ n. op n (occurrences q (take i places))) o ≡ None → None ≡ option_map (λ n. op n (occurrences q (take (i + 1) places))) o =
-              λ o. elim o as (λ z. option_map (λ n. op n (occurrences q (take i places))) z ≡ None → None ≡ option_map (λ n. op n (occurrences q (take (i + 1) places))) z) [
-                | None ↦ λ e. refl
-                | Some m ↦ λ e. cc
-              ] in
+          λ o. elim o as (λ z. option_map (λ n. op n (occurrences q (take i places))) z ≡ None → None ≡ option_map (λ n. op n (occurrences q (take (i + 1) places))) z) [
+            | None ↦ λ e. refl
+            | Some m ↦ λ e. cc
+          ] in
           let P : Place → Type 0 = λ z. element_at now z ≡ option_map (λ n. op n (occurrences z (take (i + 1) places))) (element_at start z) in
           subst P same.1 (here ∙ go (element_at start q) (sym (so_far q) ∙ here))
       | inr other ↦ so_far p ∙ ap (λ k. option_map (λ n. op n k) (element_at start p)) (sym (other_occurrences places i q p low is other.0))
@@ -73,10 +73,10 @@ pub count_behind : (op : ℕ → ℕ → ℕ) (start now : List (List ℕ)) (pla
     → (n : ℕ) × ((element_at start p ≡ Some n) × (op n (occurrences p places) ≡ count))
 count_behind op start now places p count changed here =
     let go : (o : Option ℕ) → option_map (λ n. op n (occurrences p places)) o ≡ Some count → (n : ℕ) × ((o ≡ Some n) × (op n (occurrences p places) ≡ count)) =
-        λ o. elim o as (λ z. option_map (λ n. op n (occurrences p places)) z ≡ Some count → (n : ℕ) × ((z ≡ Some n) × (op n (occurrences p places) ≡ count))) [
-          | None ↦ λ e. cc
-          | Some m ↦ λ e. (m, (refl, cc))
-        ] in
+    λ o. elim o as (λ z. option_map (λ n. op n (occurrences p places)) z ≡ Some count → (n : ℕ) × ((z ≡ Some n) × (op n (occurrences p places) ≡ count))) [
+      | None ↦ λ e. cc
+      | Some m ↦ λ e. (m, (refl, cc))
+    ] in
     go (element_at start p) (sym (changed p) ∙ here)
 
 pub occurrences_low : (p : Place) (places : List Place) (i : ℕ) → i ≤ length places → occurrences p (take i places) ≤ i
@@ -124,10 +124,10 @@ pub any_counted : {X : Type 0} → (f : X → Bool) (xs : List X) → ltb 0 (cou
 any_counted f [] = refl
 any_counted {X} f (x ∷ xs) =
     let go : (b : Bool) → ltb 0 (cond b 1 0 + count_by f xs) ≡ (b || list_any f xs) =
-        λ b. elim b as (λ z. ltb 0 (cond z 1 0 + count_by f xs) ≡ (z || list_any f xs)) [
-          | true ↦ grind (arith, nat_tests)
-          | false ↦ (let e : 0 + count_by f xs ≡ count_by f xs = omega arith in ap (ltb 0) e) ∙ any_counted f xs
-        ] in
+    λ b. elim b as (λ z. ltb 0 (cond z 1 0 + count_by f xs) ≡ (z || list_any f xs)) [
+      | true ↦ grind (arith, nat_tests)
+      | false ↦ (let e : 0 + count_by f xs ≡ count_by f xs = omega arith in ap (ltb 0) e) ∙ any_counted f xs
+    ] in
     ap (ltb 0) (count_cons f x xs) ∙ go (f x)
 
 count_append : {X : Type 0} → (f : X → Bool) (xs : List X) (x : X) → count_by f (xs ++ x ∷ []) ≡ count_by f xs + cond (f x) 1 0

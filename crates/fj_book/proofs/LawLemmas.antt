@@ -82,10 +82,10 @@ pub held_told : (book : List Pending) (tag : ℕ) (place : Place) → is_held (h
 held_told [] tag place = refl
 held_told (x ∷ book) tag place =
     let go : (t : Bool) → is_held (holders (cond (not t) (x ∷ filter (λ e. not (has_tag tag e)) book) (filter (λ e. not (has_tag tag e)) book))) place ≡ ((not t && is_among x.places place) || list_any (λ (e : Pending). not (has_tag tag e) && is_among e.places place) book) =
-        λ t. elim t as (λ z. is_held (holders (cond (not z) (x ∷ filter (λ e. not (has_tag tag e)) book) (filter (λ e. not (has_tag tag e)) book))) place ≡ ((not z && is_among x.places place) || list_any (λ (e : Pending). not (has_tag tag e) && is_among e.places place) book)) [
-          | true ↦ held_told book tag place
-          | false ↦ ap (λ z. is_among x.places place || z) (held_told book tag place)
-        ] in
+    λ t. elim t as (λ z. is_held (holders (cond (not z) (x ∷ filter (λ e. not (has_tag tag e)) book) (filter (λ e. not (has_tag tag e)) book))) place ≡ ((not z && is_among x.places place) || list_any (λ (e : Pending). not (has_tag tag e) && is_among e.places place) book)) [
+      | true ↦ held_told book tag place
+      | false ↦ ap (λ z. is_among x.places place || z) (held_told book tag place)
+    ] in
     go (has_tag tag x)
 
 both_ways : (i h r s : Bool) → (r ≡ true → s ≡ true) → ((i && h) || r) ≡ true → (h || s) ≡ true

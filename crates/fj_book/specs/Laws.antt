@@ -29,7 +29,7 @@ LowestIsBroken = (vars : Variables) (book : List Holder) (n : Need)
 pub record HeldUntilTold : Type 0 where
   pub entered : (book : List Pending) (e : Pending) (place : Place) → is_held (holders (book ++ e ∷ [])) place ≡ (is_held (holders book) place || is_among e.places place)
   pub told : (book : List Pending) (tag : ℕ) (place : Place)
-    → is_held (holders (filter (λ e. not (has_tag tag e)) book)) place ≡ list_any (λ (e : Pending). not (has_tag tag e) && is_among e.places place) book
+      → is_held (holders (filter (λ e. not (has_tag tag e)) book)) place ≡ list_any (λ (e : Pending). not (has_tag tag e) && is_among e.places place) book
   pub read_when_entered : (book : List Pending) (e : Pending) (place : Place) → is_read (holders (book ++ e ∷ [])) place ≡ (is_read (holders book) place || (e.input && is_among e.places place))
   -- a place that is referenced by a pending transfer of either direction is held
   pub read_is_held : (book : List Pending) (place : Place) → is_read (holders book) place ≡ true → is_held (holders book) place ≡ true

@@ -84,7 +84,12 @@ fn place_of(entries: &VecDeque<Pending>, id: u64) -> Option<usize>
 }
 
 /// Counts a transfer more.
-fn count_in(entries: &VecDeque<Pending>, inputs: &mut Table<u64>, outputs: &mut Table<u64>, pending: &Pending)
+fn count_in(
+    entries: &VecDeque<Pending>,
+    inputs: &mut Table<u64>,
+    outputs: &mut Table<u64>,
+    pending: &Pending,
+)
     requires { IsKept entries.now.items inputs.old outputs.old }
     ensures { IsAscending (entries.now.items ++ pending.now ∷ []) → IsKept (entries.now.items ++ pending.now ∷ []) inputs.new outputs.new }
 {
@@ -160,7 +165,8 @@ impl Book {
     fn holds(&self, place: Place) -> bool
         ensures { result ≡ is_held (holders self.now) place }
     {
-        is_held(&self.inputs, &self.entries, true, place) || is_held(&self.outputs, &self.entries, false, place)
+        is_held(&self.inputs, &self.entries, true, place)
+            || is_held(&self.outputs, &self.entries, false, place)
     }
 
     /// Whether ID= names a transfer that is pending on the unit.

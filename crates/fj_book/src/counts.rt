@@ -51,7 +51,12 @@ fn some_holds(entries: &VecDeque<Pending>, input: bool, place: Place) -> bool
 }
 
 /// Whether a transfer of this direction holds a place. A place that the table does not have is looked for in the transfers.
-pub(crate) fn is_held(counts: &Table<u64>, entries: &VecDeque<Pending>, input: bool, place: Place) -> bool
+pub(crate) fn is_held(
+    counts: &Table<u64>,
+    entries: &VecDeque<Pending>,
+    input: bool,
+    place: Place,
+) -> bool
     requires { IsCounted input counts.now entries.now.items }
     ensures { result ≡ list_any (holds_in input place) entries.now.items }
 {

@@ -15,10 +15,10 @@ use Rattle.fj_store.proofs.ListLemmas.{set_same, set_other, set_missing, set_its
 pub no_index : {T : Type 0} → (rows : List (List T)) (p : Place) (x : T) → p.index ≡ 0 → (element_at rows p ≡ None) × (with_element rows p x ≡ rows)
 no_index {T} rows p x zeroth =
     let go : (o : Option (List T)) → slice_get rows p.var ≡ o → (option_and_then (element_in p.index) o ≡ None) × (option_map_or (λ row. set rows p.var (row_with p.index x row)) o rows ≡ rows) =
-        λ o. elim o as (λ z. slice_get rows p.var ≡ z → (option_and_then (element_in p.index) z ≡ None) × (option_map_or (λ row. set rows p.var (row_with p.index x row)) z rows ≡ rows)) [
-          | None ↦ λ e. (refl, refl)
-          | Some row ↦ λ e. (rw zeroth refl, rw zeroth (set_itself rows p.var row e))
-        ] in
+    λ o. elim o as (λ z. slice_get rows p.var ≡ z → (option_and_then (element_in p.index) z ≡ None) × (option_map_or (λ row. set rows p.var (row_with p.index x row)) z rows ≡ rows)) [
+      | None ↦ λ e. (refl, refl)
+      | Some row ↦ λ e. (rw zeroth refl, rw zeroth (set_itself rows p.var row e))
+    ] in
     go (slice_get rows p.var) refl
 
 pub no_variable : {T : Type 0} → (rows : List (List T)) (p : Place) (x : T) → slice_get rows p.var ≡ None → (element_at rows p ≡ None) × (with_element rows p x ≡ rows)
@@ -71,12 +71,12 @@ row_mapped f (suc n) row x = map-set f row n x
 pub at_same : {T : Type 0} → (rows : List (List T)) (p : Place) (x y : T) → element_at rows p ≡ Some y → element_at (with_element rows p x) p ≡ Some x
 at_same {T} rows p x y =
     let go : (o : Option (List T)) → slice_get rows p.var ≡ o → option_and_then (element_in p.index) o ≡ Some y
-          → option_and_then (element_in p.index) (slice_get (option_map_or (λ row. set rows p.var (row_with p.index x row)) o rows) p.var) ≡ Some x =
-        λ o. elim o as (λ z. slice_get rows p.var ≡ z → option_and_then (element_in p.index) z ≡ Some y
-          → option_and_then (element_in p.index) (slice_get (option_map_or (λ row. set rows p.var (row_with p.index x row)) z rows) p.var) ≡ Some x) [
-          | None ↦ λ e h. cc
-          | Some row ↦ λ e h. rw (set_same rows p.var (row_with p.index x row) row e) (in_same p.index row x y h)
-        ] in
+    → option_and_then (element_in p.index) (slice_get (option_map_or (λ row. set rows p.var (row_with p.index x row)) o rows) p.var) ≡ Some x =
+    λ o. elim o as (λ z. slice_get rows p.var ≡ z → option_and_then (element_in p.index) z ≡ Some y
+    → option_and_then (element_in p.index) (slice_get (option_map_or (λ row. set rows p.var (row_with p.index x row)) z rows) p.var) ≡ Some x) [
+      | None ↦ λ e h. cc
+      | Some row ↦ λ e h. rw (set_same rows p.var (row_with p.index x row) row e) (in_same p.index row x y h)
+    ] in
     go (slice_get rows p.var) refl
 
 pub same_fields : (p q : Place) → p.var ≡ q.var → p.index ≡ q.index → p ≡ q
@@ -91,28 +91,28 @@ pub places_tell : (p q : Place) → ((same_place p q ≡ true) × (p ≡ q)) ⊎
 places_tell p q =
     elim (eqb_tells p.var q.var) [
       | inl var ↦ elim (eqb_tells p.index q.index) [
-          | inl index ↦ inl (rw (var.0, index.0) refl, same_fields p q var.1 index.1)
-          | inr index ↦ inr (rw (var.0, index.0) refl, inr (sym var.1, (λ e. index.1 (sym e))))
-        ]
+        | inl index ↦ inl (rw (var.0, index.0) refl, same_fields p q var.1 index.1)
+        | inr index ↦ inr (rw (var.0, index.0) refl, inr (sym var.1, (λ e. index.1 (sym e))))
+      ]
       | inr var ↦ inr (rw var.0 refl, inl (λ e. var.1 (sym e)))
     ]
 
 at_other_var : {T : Type 0} → (rows : List (List T)) (p q : Place) (x : T) → (q.var ≡ p.var → ⊥) → element_at (with_element rows p x) q ≡ element_at rows q
 at_other_var {T} rows p q x ne =
     let go : (o : Option (List T)) → option_and_then (element_in q.index) (slice_get (option_map_or (λ row. set rows p.var (row_with p.index x row)) o rows) q.var) ≡ element_at rows q =
-        λ o. elim o as (λ z. option_and_then (element_in q.index) (slice_get (option_map_or (λ row. set rows p.var (row_with p.index x row)) z rows) q.var) ≡ element_at rows q) [
-          | None ↦ refl
-          | Some row ↦ ap (option_and_then (element_in q.index)) (set_other rows p.var q.var (row_with p.index x row) ne)
-        ] in
+    λ o. elim o as (λ z. option_and_then (element_in q.index) (slice_get (option_map_or (λ row. set rows p.var (row_with p.index x row)) z rows) q.var) ≡ element_at rows q) [
+      | None ↦ refl
+      | Some row ↦ ap (option_and_then (element_in q.index)) (set_other rows p.var q.var (row_with p.index x row) ne)
+    ] in
     go (slice_get rows p.var)
 
 at_other_index : {T : Type 0} → (rows : List (List T)) (p q : Place) (x : T) → q.var ≡ p.var → (q.index ≡ p.index → ⊥) → element_at (with_element rows p x) q ≡ element_at rows q
 at_other_index {T} rows p q x same ne =
     let go : (o : Option (List T)) → slice_get rows p.var ≡ o → option_and_then (element_in q.index) (slice_get (option_map_or (λ row. set rows p.var (row_with p.index x row)) o rows) p.var) ≡ option_and_then (element_in q.index) (slice_get rows p.var) =
-        λ o. elim o as (λ z. slice_get rows p.var ≡ z → option_and_then (element_in q.index) (slice_get (option_map_or (λ row. set rows p.var (row_with p.index x row)) z rows) p.var) ≡ option_and_then (element_in q.index) (slice_get rows p.var)) [
-          | None ↦ λ e. refl
-          | Some row ↦ λ e. rw (set_same rows p.var (row_with p.index x row) row e, e) (in_other p.index q.index row x ne)
-        ] in
+    λ o. elim o as (λ z. slice_get rows p.var ≡ z → option_and_then (element_in q.index) (slice_get (option_map_or (λ row. set rows p.var (row_with p.index x row)) z rows) p.var) ≡ option_and_then (element_in q.index) (slice_get rows p.var)) [
+      | None ↦ λ e. refl
+      | Some row ↦ λ e. rw (set_same rows p.var (row_with p.index x row) row e, e) (in_other p.index q.index row x ne)
+    ] in
     let P : ℕ → Type 0 = λ v. option_and_then (element_in q.index) (slice_get (with_element rows p x) v) ≡ option_and_then (element_in q.index) (slice_get rows v) in
     subst P (sym same) (go (slice_get rows p.var) refl)
 
@@ -126,39 +126,39 @@ at_other rows p q x h =
 pub with_itself : {T : Type 0} → (rows : List (List T)) (p : Place) (x : T) → element_at rows p ≡ Some x → with_element rows p x ≡ rows
 with_itself {T} rows p x =
     let go : (o : Option (List T)) → slice_get rows p.var ≡ o → option_and_then (element_in p.index) o ≡ Some x → option_map_or (λ row. set rows p.var (row_with p.index x row)) o rows ≡ rows =
-        λ o. elim o as (λ z. slice_get rows p.var ≡ z → option_and_then (element_in p.index) z ≡ Some x → option_map_or (λ row. set rows p.var (row_with p.index x row)) z rows ≡ rows) [
-          | None ↦ λ e h. refl
-          | Some row ↦ λ e h. rw (row_itself p.index row x h) (set_itself rows p.var row e)
-        ] in
+    λ o. elim o as (λ z. slice_get rows p.var ≡ z → option_and_then (element_in p.index) z ≡ Some x → option_map_or (λ row. set rows p.var (row_with p.index x row)) z rows ≡ rows) [
+      | None ↦ λ e h. refl
+      | Some row ↦ λ e h. rw (row_itself p.index row x h) (set_itself rows p.var row e)
+    ] in
     go (slice_get rows p.var) refl
 
 pub with_missing : {T : Type 0} → (rows : List (List T)) (p : Place) (x : T) → element_at rows p ≡ None → with_element rows p x ≡ rows
 with_missing {T} rows p x =
     let go : (o : Option (List T)) → slice_get rows p.var ≡ o → option_and_then (element_in p.index) o ≡ None → option_map_or (λ row. set rows p.var (row_with p.index x row)) o rows ≡ rows =
-        λ o. elim o as (λ z. slice_get rows p.var ≡ z → option_and_then (element_in p.index) z ≡ None → option_map_or (λ row. set rows p.var (row_with p.index x row)) z rows ≡ rows) [
-          | None ↦ λ e h. refl
-          | Some row ↦ λ e h. rw (row_missing p.index row x h) (set_itself rows p.var row e)
-        ] in
+    λ o. elim o as (λ z. slice_get rows p.var ≡ z → option_and_then (element_in p.index) z ≡ None → option_map_or (λ row. set rows p.var (row_with p.index x row)) z rows ≡ rows) [
+      | None ↦ λ e h. refl
+      | Some row ↦ λ e h. rw (row_missing p.index row x h) (set_itself rows p.var row e)
+    ] in
     go (slice_get rows p.var) refl
 
 -- each element mapped
 pub mapped_at : {T U : Type 0} → (f : T → U) (rows : List (List T)) (p : Place) → element_at (map (map f) rows) p ≡ option_map f (element_at rows p)
 mapped_at {T} f rows p =
     let go : (o : Option (List T)) → option_and_then (element_in p.index) (option_map (map f) o) ≡ option_map f (option_and_then (element_in p.index) o) =
-        λ o. elim o as (λ z. option_and_then (element_in p.index) (option_map (map f) z) ≡ option_map f (option_and_then (element_in p.index) z)) [
-          | None ↦ refl
-          | Some row ↦ in_mapped f p.index row
-        ] in
+    λ o. elim o as (λ z. option_and_then (element_in p.index) (option_map (map f) z) ≡ option_map f (option_and_then (element_in p.index) z)) [
+      | None ↦ refl
+      | Some row ↦ in_mapped f p.index row
+    ] in
     ap (option_and_then (element_in p.index)) (slice_get-map (map f) rows p.var) ∙ go (slice_get rows p.var)
 
 pub mapped_with : {T U : Type 0} → (f : T → U) (rows : List (List T)) (p : Place) (x : T) → map (map f) (with_element rows p x) ≡ with_element (map (map f) rows) p (f x)
 mapped_with {T} {U} f rows p x =
     let whole : Option (List U) → List (List U) = λ o. option_map_or (λ row. set (map (map f) rows) p.var (row_with p.index (f x) row)) o (map (map f) rows) in
     let go : (o : Option (List T)) → map (map f) (option_map_or (λ row. set rows p.var (row_with p.index x row)) o rows) ≡ whole (option_map (map f) o) =
-        λ o. elim o as (λ z. map (map f) (option_map_or (λ row. set rows p.var (row_with p.index x row)) z rows) ≡ whole (option_map (map f) z)) [
-          | None ↦ refl
-          | Some row ↦ map-set (map f) rows p.var (row_with p.index x row) ∙ ap (λ ys. set (map (map f) rows) p.var ys) (row_mapped f p.index row x)
-        ] in
+    λ o. elim o as (λ z. map (map f) (option_map_or (λ row. set rows p.var (row_with p.index x row)) z rows) ≡ whole (option_map (map f) z)) [
+      | None ↦ refl
+      | Some row ↦ map-set (map f) rows p.var (row_with p.index x row) ∙ ap (λ ys. set (map (map f) rows) p.var ys) (row_mapped f p.index row x)
+    ] in
     go (slice_get rows p.var) ∙ sym (ap whole (slice_get-map (map f) rows p.var))
 
 -- ---- the same, of the rows that were read
@@ -179,3 +179,72 @@ past_row rows row p x at e is past =
     let none : slice_get row at ≡ None = slice_get_past row at past in
     let missing : element_at rows p ≡ None = (found rows row p x at e is).0 ∙ none in
     (sym missing, sym (with_missing rows p x missing))
+
+-- ---- two writes
+
+with_found : {T : Type 0} → (rows : List (List T)) (p : Place) (x : T) (row : List T) → slice_get rows p.var ≡ Some row → with_element rows p x ≡ set rows p.var (row_with p.index x row)
+with_found rows p x row e = rw e refl
+
+with_lost : {T : Type 0} → (rows : List (List T)) (p : Place) (x : T) → slice_get rows p.var ≡ None → with_element rows p x ≡ rows
+with_lost rows p x e = rw e refl
+
+row_tells : {R : Type 0} → (o : Option R) → (o ≡ None) ⊎ ((r : R) × (o ≡ Some r))
+row_tells None = inl refl
+row_tells (Some r) = inr (r, refl)
+
+pub with_twice : {T : Type 0} → (rows : List (List T)) (p : Place) (x y : T) → with_element (with_element rows p x) p y ≡ with_element rows p y
+with_twice rows p x y = elim (row_tells (slice_get rows p.var)) [
+    | inl lost ↦ ap (λ r. with_element r p y) (with_lost rows p x lost)
+    | inr here ↦
+        ap (λ r. with_element r p y) (with_found rows p x here.0 here.1)
+        ∙ with_found (set rows p.var (row_with p.index x here.0)) p y (row_with p.index x here.0) (set_same rows p.var (row_with p.index x here.0) here.0 here.1)
+        ∙ set_twice rows p.var (row_with p.index x here.0) (row_with p.index y (row_with p.index x here.0))
+        ∙ ap (λ r. set rows p.var r) (row_twice p.index here.0 x y)
+        ∙ sym (with_found rows p y here.0 here.1)
+  ]
+
+other_row : {T : Type 0} → (rows : List (List T)) (p q : Place) (x : T) → (q.var ≡ p.var → ⊥) → slice_get (with_element rows p x) q.var ≡ slice_get rows q.var
+other_row rows p q x ne = elim (row_tells (slice_get rows p.var)) [
+    | inl lost ↦ ap (λ r. slice_get r q.var) (with_lost rows p x lost)
+    | inr here ↦ ap (λ r. slice_get r q.var) (with_found rows p x here.0 here.1) ∙ set_other rows p.var q.var (row_with p.index x here.0) ne
+  ]
+
+swap_vars : {T : Type 0} → (rows : List (List T)) (p q : Place) (x y : T) → (q.var ≡ p.var → ⊥) → with_element (with_element rows p x) q y ≡ with_element (with_element rows q y) p x
+swap_vars rows p q x y ne = elim (row_tells (slice_get rows p.var)) [
+    | inl lost ↦ ap (λ r. with_element r q y) (with_lost rows p x lost) ∙ sym (with_lost (with_element rows q y) p x (other_row rows q p y (λ e. ne (sym e)) ∙ lost))
+    | inr here ↦ elim (row_tells (slice_get rows q.var)) [
+        | inl lost ↦ with_lost (with_element rows p x) q y (other_row rows p q x ne ∙ lost) ∙ sym (ap (λ r. with_element r p x) (with_lost rows q y lost))
+        | inr there ↦
+            with_found (with_element rows p x) q y there.0 (other_row rows p q x ne ∙ there.1)
+            ∙ ap (λ r. set r q.var (row_with q.index y there.0)) (with_found rows p x here.0 here.1)
+            ∙ set_swap rows p.var q.var (row_with p.index x here.0) (row_with q.index y there.0) ne
+            ∙ sym (ap (λ r. set r p.var (row_with p.index x here.0)) (with_found rows q y there.0 there.1))
+            ∙ sym (with_found (with_element rows q y) p x here.0 (other_row rows q p y (λ e. ne (sym e)) ∙ here.1))
+      ]
+  ]
+
+-- in one row, with the variable as a number by itself
+swap_in_row : {T : Type 0} → (rows : List (List T)) (var i k : ℕ) (x y : T) → (k ≡ i → ⊥)
+    → with_element (with_element rows (record { var = var; index = i }) x) (record { var = var; index = k }) y ≡ with_element (with_element rows (record { var = var; index = k }) y) (record { var = var; index = i }) x
+swap_in_row rows var i k x y ne =
+    let p : Place = record { var = var; index = i } in
+    let q : Place = record { var = var; index = k } in
+    elim (row_tells (slice_get rows var)) [
+      | inl lost ↦ ap (λ r. with_element r q y) (with_lost rows p x lost) ∙ with_lost rows q y lost ∙ sym (ap (λ r. with_element r p x) (with_lost rows q y lost) ∙ with_lost rows p x lost)
+      | inr here ↦
+          ap (λ r. with_element r q y) (with_found rows p x here.0 here.1)
+          ∙ with_found (set rows var (row_with i x here.0)) q y (row_with i x here.0) (set_same rows var (row_with i x here.0) here.0 here.1)
+          ∙ set_twice rows var (row_with i x here.0) (row_with k y (row_with i x here.0))
+          ∙ ap (λ r. set rows var r) (row_swap i k here.0 x y ne)
+          ∙ sym (ap (λ r. with_element r p x) (with_found rows q y here.0 here.1)
+            ∙ with_found (set rows var (row_with k y here.0)) p x (row_with k y here.0) (set_same rows var (row_with k y here.0) here.0 here.1)
+            ∙ set_twice rows var (row_with k y here.0) (row_with i x (row_with k y here.0)))
+    ]
+
+pub with_swap : {T : Type 0} → (rows : List (List T)) (p q : Place) (x y : T) → ((q.var ≡ p.var → ⊥) ⊎ ((q.var ≡ p.var) × (q.index ≡ p.index → ⊥))) → with_element (with_element rows p x) q y ≡ with_element (with_element rows q y) p x
+with_swap rows p q x y (inl ne) = swap_vars rows p q x y ne
+with_swap rows p q x y (inr one) =
+    let here : Place = record { var = p.var; index = q.index } in
+    let same : here ≡ q = same_fields here q (sym one.0) refl in
+    let P : Place → Type 0 = λ z. with_element (with_element rows p x) z y ≡ with_element (with_element rows z y) p x in
+    subst P same (swap_in_row rows p.var p.index q.index x y one.1)

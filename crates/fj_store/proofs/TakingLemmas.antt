@@ -72,9 +72,9 @@ mark_own at n v e = rw e (grind (arith, nat_tests))
 
 mark_other : (at n : ℕ) (v : Value) → at ≤ n → slot_for (cond (eqb at n) (n + 1) at) (n + 1) v ≡ slot_for at n v
 mark_other at n v low = elim (eqb_tells at n) [
-    | inl same ↦ rw same.0 (grind (arith, nat_tests))
-    | inr other ↦ rw other.0 (let far : eqb at (n + 1) ≡ false = grind (arith, nat_tests) in rw far refl)
-  ]
+  | inl same ↦ rw same.0 (grind (arith, nat_tests))
+  | inr other ↦ rw other.0 (let far : eqb at (n + 1) ≡ false = grind (arith, nat_tests) in rw far refl)
+]
 
 -- ---- one step
 
@@ -99,10 +99,10 @@ own_mark : (slots : List (List Slot)) (cells : List Cell) (cell : Cell) (v w : V
 own_mark slots cells cell v w e new =
     at_same slots cell.place (Out (length cells)) (Home v) e
     ∙ ap (λ s. Some s) (sym (
-        ap (λ at. slot_for at (length (cells ++ cell ∷ [])) w) (position_or_len_push (is_at cell.place) cells cell)
-        ∙ ap (λ n. slot_for (cond (eqb (position_or_len (is_at cell.place) cells) (length cells)) (length cells + cond (same_place cell.place cell.place) 0 1) (position_or_len (is_at cell.place) cells)) n w) (length-append cells (cell ∷ []))
-        ∙ ap (λ b. slot_for (cond (eqb (position_or_len (is_at cell.place) cells) (length cells)) (length cells + cond b 0 1) (position_or_len (is_at cell.place) cells)) (length cells + 1) w) (same_self cell.place)
-        ∙ mark_own (position_or_len (is_at cell.place) cells) (length cells) w new))
+    ap (λ at. slot_for at (length (cells ++ cell ∷ [])) w) (position_or_len_push (is_at cell.place) cells cell)
+    ∙ ap (λ n. slot_for (cond (eqb (position_or_len (is_at cell.place) cells) (length cells)) (length cells + cond (same_place cell.place cell.place) 0 1) (position_or_len (is_at cell.place) cells)) n w) (length-append cells (cell ∷ []))
+    ∙ ap (λ b. slot_for (cond (eqb (position_or_len (is_at cell.place) cells) (length cells)) (length cells + cond b 0 1) (position_or_len (is_at cell.place) cells)) (length cells + 1) w) (same_self cell.place)
+    ∙ mark_own (position_or_len (is_at cell.place) cells) (length cells) w new))
 
 other_mark : (slots : List (List Slot)) (cells : List Cell) (cell : Cell) (x : Slot) (q : Place) (w : Value) → same_place cell.place q ≡ false → same_place q cell.place ≡ false
     → element_at slots q ≡ Some (slot_for (position_or_len (is_at q) cells) (length cells) w)
@@ -110,10 +110,10 @@ other_mark : (slots : List (List Slot)) (cells : List Cell) (cell : Cell) (x : S
 other_mark slots cells cell x q w other back e =
     at_other slots cell.place q x other ∙ e
     ∙ ap (λ s. Some s) (sym (
-        ap (λ at. slot_for at (length (cells ++ cell ∷ [])) w) (position_or_len_push (is_at q) cells cell)
-        ∙ ap (λ n. slot_for (cond (eqb (position_or_len (is_at q) cells) (length cells)) (length cells + cond (same_place q cell.place) 0 1) (position_or_len (is_at q) cells)) n w) (length-append cells (cell ∷ []))
-        ∙ ap (λ b. slot_for (cond (eqb (position_or_len (is_at q) cells) (length cells)) (length cells + cond b 0 1) (position_or_len (is_at q) cells)) (length cells + 1) w) back
-        ∙ mark_other (position_or_len (is_at q) cells) (length cells) w (position_low (is_at q) cells)))
+    ap (λ at. slot_for at (length (cells ++ cell ∷ [])) w) (position_or_len_push (is_at q) cells cell)
+    ∙ ap (λ n. slot_for (cond (eqb (position_or_len (is_at q) cells) (length cells)) (length cells + cond (same_place q cell.place) 0 1) (position_or_len (is_at q) cells)) n w) (length-append cells (cell ∷ []))
+    ∙ ap (λ b. slot_for (cond (eqb (position_or_len (is_at q) cells) (length cells)) (length cells + cond b 0 1) (position_or_len (is_at q) cells)) (length cells + 1) w) back
+    ∙ mark_other (position_or_len (is_at q) cells) (length cells) w (position_low (is_at q) cells)))
 
 same_back : (p q : Place) → same_place p q ≡ same_place q p
 same_back p q = grind (arith, nat_tests)
@@ -122,15 +122,17 @@ takes_new : (start : List (List Slot)) (t : Taking) (cell : Cell) → Marks star
     → eqb (position_or_len (is_at cell.place) t.cells) (length t.cells) ≡ true → position_or_len (is_at cell.place) t.cells ≡ length t.cells
     → Takes start t (taken_by (Some (Home cell.value)) cell.kind t cell.place) cell
 takes_new start t cell m e test new = record {
-  marks = record { marked = λ q w h. elim (places_tell cell.place q) [
-    | inl same ↦
-        let P : Place → Type 0 = λ z. element_at (with_element t.slots cell.place (Out (length t.cells))) z ≡ Some (slot_for (position_or_len (is_at z) (t.cells ++ cell ∷ [])) (length (t.cells ++ cell ∷ [])) w) in
-        subst P same.1 (own_mark t.slots t.cells cell cell.value w e new)
-    | inr other ↦ other_mark t.slots t.cells cell (Out (length t.cells)) q w other.0 (sym (same_back cell.place q) ∙ other.0) (m.marked q w h)
-  ] };
+  marks = record {
+    marked = λ q w h. elim (places_tell cell.place q) [
+      | inl same ↦
+          let P : Place → Type 0 = λ z. element_at (with_element t.slots cell.place (Out (length t.cells))) z ≡ Some (slot_for (position_or_len (is_at z) (t.cells ++ cell ∷ [])) (length (t.cells ++ cell ∷ [])) w) in
+          subst P same.1 (own_mark t.slots t.cells cell cell.value w e new)
+      | inr other ↦ other_mark t.slots t.cells cell (Out (length t.cells)) q w other.0 (sym (same_back cell.place q) ∙ other.0) (m.marked q w h)
+    ];
+  };
   item =
-    ap (λ n. let moved : Moved = record { cells = t.cells ++ cell ∷ []; order = t.order ++ n ∷ [] } in moved) (sym new)
-    ∙ ap (λ b. let moved : Moved = record { cells = cond b (t.cells ++ cell ∷ []) t.cells; order = t.order ++ position_or_len (is_at cell.place) t.cells ∷ [] } in moved) (sym test);
+      ap (λ n. let moved : Moved = record { cells = t.cells ++ cell ∷ []; order = t.order ++ n ∷ [] } in moved) (sym new)
+      ∙ ap (λ b. let moved : Moved = record { cells = cond b (t.cells ++ cell ∷ []) t.cells; order = t.order ++ position_or_len (is_at cell.place) t.cells ∷ [] } in moved) (sym test);
   empty = mapped_with value_in t.slots cell.place (Out (length t.cells));
 }
 
@@ -177,7 +179,7 @@ cell_is : (kinds : List Kind) (start : List (List Slot)) (p : Place) (v : Value)
     → cell_at (storage kinds start) p ≡ record { place = p; kind = kind_at kinds p.var; value = v }
 cell_is kinds start p v e =
     ap (λ (o : Option (Option Value)). let cell : Cell = record { place = p; kind = kind_at kinds p.var; value = unwrap_or (option_flatten o) Undefined } in cell)
-      (mapped_at value_in start p ∙ ap (option_map value_in) e)
+    (mapped_at value_in start p ∙ ap (option_map value_in) e)
 
 takes_all : (kinds : List Kind) (start : List (List Slot)) (ps : List Place) (t : Taking) → Marks start t.slots t.cells → All (IsHome kinds start) ps
     → (moved_in (take_each kinds t ps) ≡ moved_from (moved_in t) (map (cell_at (storage kinds start)) ps)) × (values_in (take_each kinds t ps).slots ≡ emptied ps (values_in t.slots))
@@ -187,9 +189,10 @@ takes_all kinds start (p ∷ ps) t m homes =
     let cell : Cell = record { place = p; kind = kind_at kinds p.var; value = found.0 } in
     let next : Taking = take_one (kind_at kinds p.var) t p in
     let one : Takes start t next cell = takes_one start t cell m found.1 in
-    let rest = takes_all kinds start ps next one.marks (All-tail (IsHome kinds start) p ps homes) in
-    (rest.0 ∙ ap (λ moved. moved_from moved (map (cell_at (storage kinds start)) ps)) (one.item ∙ ap (with_item (moved_in t)) (sym (cell_is kinds start p found.0 found.1))),
-     rest.1 ∙ ap (emptied ps) one.empty)
+    let rest = takes_all kinds start ps next one.marks (All-tail (IsHome kinds start) p ps homes) in (
+      rest.0 ∙ ap (λ moved. moved_from moved (map (cell_at (storage kinds start)) ps)) (one.item ∙ ap (with_item (moved_in t)) (sym (cell_is kinds start p found.0 found.1))),
+      rest.1 ∙ ap (emptied ps) one.empty,
+    )
 
 -- what taking the places of runs out from a table comes to
 pub taken_out : (kinds : List Kind) (start : List (List Slot)) (runs : List Run) (cells : List Cell) (order : List ℕ) (t : Taking) → cells ≡ [] → order ≡ [] → All (λ place. IsSome (value_at (storage kinds start) place)) (places_in runs)
@@ -198,9 +201,9 @@ pub taken_out : (kinds : List Kind) (start : List (List Slot)) (runs : List Run)
 taken_out kinds start runs cells order t none empty homes is =
     let begun : Taking = record { slots = start; cells = []; order = [] } in
     let same : t ≡ take_each kinds begun (places_in runs) =
-        is ∙ each_in_runs kinds (record { slots = start; cells = cells; order = order }) runs
-        ∙ ap (λ c. let s : Taking = record { slots = start; cells = c; order = order } in take_each kinds s (places_in runs)) none
-        ∙ ap (λ o. let s : Taking = record { slots = start; cells = []; order = o } in take_each kinds s (places_in runs)) empty in
+    is ∙ each_in_runs kinds (record { slots = start; cells = cells; order = order }) runs
+    ∙ ap (λ c. let s : Taking = record { slots = start; cells = c; order = order } in take_each kinds s (places_in runs)) none
+    ∙ ap (λ o. let s : Taking = record { slots = start; cells = []; order = o } in take_each kinds s (places_in runs)) empty in
     let all = takes_all kinds start (places_in runs) begun (no_marks start) homes in
     (ap moved_in same ∙ all.0, ap (λ values. let s : Storage = record { kinds = kinds; values = values } in s) (ap (λ s. values_in s.slots) same ∙ all.1))
 

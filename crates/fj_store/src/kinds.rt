@@ -31,5 +31,9 @@ fn is_of_kind(kind: Kind, value: &Value) -> bool
 pub(crate) fn of_kind(kind: Kind, value: Value) -> Value
     ensures { result ≡ of_kind kind value }
 {
-    if is_of_kind(kind, &value) { value } else { Value::Undefined }
+    if is_of_kind(kind, &value) {
+        value
+    } else {
+        Value::Undefined
+    }
 }

@@ -53,7 +53,11 @@ fn put_back(slots: &mut Table<Slot>, kinds: &[Kind], cells: Vec<Cell>)
     ensures { slots.new ≡ with_cells (home kinds.now) cells.items slots.old }
 {
     for cell in cells {
-        let Cell { place, kind: _, value } = cell;
+        let Cell {
+            place,
+            kind: _,
+            value,
+        } = cell;
         let value = of_kind(kind_in(kinds, place.var), value);
         slots.put(place, Slot::Home(value));
     }

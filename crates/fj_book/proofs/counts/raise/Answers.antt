@@ -26,8 +26,8 @@ loop-place-preserved c =
     elim c.match-get.branch [
       | in-Some w ↦
           subst P (sym (w.counts-is ∙ w.put.ensures)) (change_step (λ n k. n + k) c.args.counts.now c.loop-place.counts c.args.places.now c.loop-place.place-index q w.in-Some.count.now (w.in-Some.count.now + 1)
-            low (same_item c.args.places.now c.loop-place.place-index (record { var = 0; index = 0 }) low) c.loop-place.invariant (sym c.get.ensures ∙ ap option_copied w.in-Some.is) (λ n e. omega (arith, e)))
+          low (same_item c.args.places.now c.loop-place.place-index (record { var = 0; index = 0 }) low) c.loop-place.invariant (sym c.get.ensures ∙ ap option_copied w.in-Some.is) (λ n e. omega (arith, e)))
       | in_default w ↦
           subst P (sym w.counts-is) (skip_step (λ n k. n + k) c.args.counts.now c.loop-place.counts c.args.places.now c.loop-place.place-index q
-            low (same_item c.args.places.now c.loop-place.place-index (record { var = 0; index = 0 }) low) c.loop-place.invariant (sym c.get.ensures ∙ ap option_copied w.in_default.is))
+          low (same_item c.args.places.now c.loop-place.place-index (record { var = 0; index = 0 }) low) c.loop-place.invariant (sym c.get.ensures ∙ ap option_copied w.in_default.is))
     ]

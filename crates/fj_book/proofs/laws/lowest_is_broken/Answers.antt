@@ -17,8 +17,9 @@ tests vars book n P4 = refl
 tests vars book n P5 = refl
 
 pub returns : goal.returns
-returns c vars book n =
-    (λ told e.
+returns c vars book n = (
+  λ told e.
       let lowest = lowest_told (breaks vars book n P1) (breaks vars book n P2) (breaks vars book n P3) (breaks vars book n P4) (breaks vars book n P5) told e in
       (tests vars book n told ∙ lowest.0, λ r below. tests vars book n r ∙ lowest.1 r below),
-     λ e r. tests vars book n r ∙ none_told (breaks vars book n P1) (breaks vars book n P2) (breaks vars book n P3) (breaks vars book n P4) (breaks vars book n P5) e r)
+  λ e r. tests vars book n r ∙ none_told (breaks vars book n P1) (breaks vars book n P2) (breaks vars book n P3) (breaks vars book n P4) (breaks vars book n P5) e r,
+)

@@ -19,8 +19,8 @@ returns-in_err-at-clause-left c =
 pub invariant_of-self-2 : goal.invariant_of-self-2
 invariant_of-self-2 c =
     kept_as c.self.inside.entries.items c.remove.new.self.items c.in_ok-at.at c.in_ok-pending.pending c.count_out.new.inputs c.count_out.new.outputs c.in_ok-pending.ensures.items
-      (c.count_out.ensures c.self.inside.entries.items c.in_ok-at.at c.in_ok-at.ensures.some.0
-        (λ d. same_read c.self.inside.entries.items c.in_ok-at.at d c.in_ok-pending.pending c.in_ok-at.ensures.some.0 ∙ sym c.in_ok-pending.ensures.value) c.self.invariant)
+    (c.count_out.ensures c.self.inside.entries.items c.in_ok-at.at c.in_ok-at.ensures.some.0
+    (λ d. same_read c.self.inside.entries.items c.in_ok-at.at d c.in_ok-pending.pending c.in_ok-at.ensures.some.0 ∙ sym c.in_ok-pending.ensures.value) c.self.invariant)
 
 pub returns-clause-told : goal.returns-clause-told
 returns-clause-told c =
