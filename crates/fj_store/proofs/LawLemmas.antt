@@ -1,11 +1,10 @@
 -- Proofs of the laws of variables that are moved out and come back.
-use Rattle.std.proofs.Common.{◌≡◌, ◌⊎◌, ℕ, ◌+◌, ◌&&◌, ◌||◌, eqb, cond, not, Bool, true, false, List, [], ◌∷◌, ◌++◌, length, map, set, slice_get, Option, Some, None, IsSome, All, unwrap_or, refl, sym, ap, subst, ◌∙◌, inl, inr, arith}
+use Rattle.std.proofs.Common.{◌≡◌, ◌+◌, ◌||◌, eqb, cond, not, Bool, true, false, List, [], ◌∷◌, ◌++◌, length, map, Option, Some, None, IsSome, All, unwrap_or, refl, sym, ap, subst, ◌∙◌, inl, inr, arith}
 use Rattle.std.proofs.lemmas.Bool.{false≢true}
-use Rattle.std.proofs.lemmas.Bool.Decides.{eqb_tells, nat_tests}
+use Rattle.std.proofs.lemmas.Bool.Decides.{nat_tests}
 use Rattle.std.proofs.lemmas.List.Elements.{All-head, All-tail}
-use Rattle.std.specs.List.{list_any, position_or_len}
-use Rattle.std.specs.Option.{option_flatten, option_map_or}
-use Rattle.fj_value.specs.declared.kind.Kind.{Kind}
+use Rattle.std.specs.List.{position_or_len}
+use Rattle.std.specs.Option.{option_flatten}
 use Rattle.fj_value.specs.declared.place.Place.{Place}
 use Rattle.fj_value.specs.declared.value.Cell.{Cell}
 use Rattle.fj_value.specs.declared.value.Value.{Value}
@@ -14,10 +13,9 @@ use Rattle.fj_list.specs.declared.moved.Moved.{Moved}
 use Rattle.fj_store.specs.Kinds.{kind_at, of_kind}
 use Rattle.fj_store.specs.Laws.{AreOfKinds}
 use Rattle.fj_store.specs.Places.{same_place, is_among, has_twice}
-use Rattle.fj_store.specs.Tables.{element_at, row_with, with_element, with_cells}
-use Rattle.fj_store.specs.Variables.{is_at, with_item, moved_from, moved_of}
-use Rattle.fj_store.specs.Storage.{Storage, value_at, cell_at, emptied, without, returned, given_back}
-use Rattle.fj_store.proofs.ListLemmas.{set_same, set_other, set_twice, set_swap}
+use Rattle.fj_store.specs.Tables.{element_at, with_element, with_cells}
+use Rattle.fj_store.specs.Variables.{is_at, with_item, moved_from}
+use Rattle.fj_store.specs.Storage.{Storage, value_at, cell_at, emptied, returned}
 use Rattle.fj_store.proofs.TableLemmas.{places_tell, at_same, at_other, with_itself, with_missing, with_twice, with_swap}
 use Rattle.fj_store.proofs.StoreLemmas.{cells_more}
 
@@ -26,10 +24,10 @@ use Rattle.fj_store.proofs.StoreLemmas.{cells_more}
 gone : (rows : List (List (Option Value))) (p : Place) → option_flatten (element_at (with_element rows p None) p) ≡ None
 gone rows p =
     let go : (o : Option (Option Value)) → element_at rows p ≡ o → option_flatten (element_at (with_element rows p None) p) ≡ None =
-        λ o. elim o as (λ z. element_at rows p ≡ z → option_flatten (element_at (with_element rows p None) p) ≡ None) [
-          | None ↦ λ e. ap option_flatten (ap (λ r. element_at r p) (with_missing rows p None e) ∙ e)
-          | Some x ↦ λ e. ap option_flatten (at_same rows p None x e)
-        ] in
+    λ o. elim o as (λ z. element_at rows p ≡ z → option_flatten (element_at (with_element rows p None) p) ≡ None) [
+      | None ↦ λ e. ap option_flatten (ap (λ r. element_at r p) (with_missing rows p None e) ∙ e)
+      | Some x ↦ λ e. ap option_flatten (at_same rows p None x e)
+    ] in
     go (element_at rows p) refl
 
 no_choice : (b : Bool) → cond b None None ≡ (let none : Option Value = None in none)
@@ -60,10 +58,10 @@ position_found : (cells : List Cell) (p : Place) → eqb (position_or_len (is_at
 position_found [] p e = refl
 position_found (c ∷ cells) p e =
     let go : (b : Bool) → eqb (cond (not b) (1 + position_or_len (is_at p) cells) 0) (length (c ∷ cells)) ≡ true → (b || is_among (map (λ (x : Cell). x.place) cells) p) ≡ false =
-        λ b. elim b as (λ z. eqb (cond (not z) (1 + position_or_len (is_at p) cells) 0) (length (c ∷ cells)) ≡ true → (z || is_among (map (λ (x : Cell). x.place) cells) p) ≡ false) [
-          | true ↦ λ h. absurd (grind (arith, nat_tests))
-          | false ↦ λ h. let shorter : eqb (position_or_len (is_at p) cells) (length cells) ≡ true = grind (arith, nat_tests) in position_found cells p shorter
-        ] in
+    λ b. elim b as (λ z. eqb (cond (not z) (1 + position_or_len (is_at p) cells) 0) (length (c ∷ cells)) ≡ true → (z || is_among (map (λ (x : Cell). x.place) cells) p) ≡ false) [
+      | true ↦ λ h. absurd (grind (arith, nat_tests))
+      | false ↦ λ h. let shorter : eqb (position_or_len (is_at p) cells) (length cells) ≡ true = grind (arith, nat_tests) in position_found cells p shorter
+    ] in
     go (same_place p c.place) e
 
 or_false : (a b : Bool) → a ≡ false → b ≡ false → (a || b) ≡ false
@@ -93,10 +91,10 @@ places_more (c ∷ cells) cell = ap (λ ps. c.place ∷ ps) (places_more cells c
 item_distinct : (moved : Moved) (cell : Cell) → has_twice (map (λ (c : Cell). c.place) moved.cells) ≡ false → has_twice (map (λ (c : Cell). c.place) (with_item moved cell).cells) ≡ false
 item_distinct moved cell once =
     let go : (b : Bool) → eqb (position_or_len (is_at cell.place) moved.cells) (length moved.cells) ≡ b → has_twice (map (λ (c : Cell). c.place) (cond b (moved.cells ++ cell ∷ []) moved.cells)) ≡ false =
-        λ b. elim b as (λ z. eqb (position_or_len (is_at cell.place) moved.cells) (length moved.cells) ≡ z → has_twice (map (λ (c : Cell). c.place) (cond z (moved.cells ++ cell ∷ []) moved.cells)) ≡ false) [
-          | true ↦ λ e. ap has_twice (places_more moved.cells cell) ∙ twice_more (map (λ (c : Cell). c.place) moved.cells) cell.place once (position_found moved.cells cell.place e)
-          | false ↦ λ e. once
-        ] in
+    λ b. elim b as (λ z. eqb (position_or_len (is_at cell.place) moved.cells) (length moved.cells) ≡ z → has_twice (map (λ (c : Cell). c.place) (cond z (moved.cells ++ cell ∷ []) moved.cells)) ≡ false) [
+      | true ↦ λ e. ap has_twice (places_more moved.cells cell) ∙ twice_more (map (λ (c : Cell). c.place) moved.cells) cell.place once (position_found moved.cells cell.place e)
+      | false ↦ λ e. once
+    ] in
     go (eqb (position_or_len (is_at cell.place) moved.cells) (length moved.cells)) refl
 
 pub all_distinct : (items : List Cell) (moved : Moved) → has_twice (map (λ (c : Cell). c.place) moved.cells) ≡ false → has_twice (map (λ (c : Cell). c.place) (moved_from moved items).cells) ≡ false
@@ -134,10 +132,10 @@ position_missed : (cells : List Cell) (p : Place) → eqb (position_or_len (is_a
 position_missed [] p e = absurd (false≢true (sym e))
 position_missed (c ∷ cells) p e =
     let go : (b : Bool) → eqb (cond (not b) (1 + position_or_len (is_at p) cells) 0) (length (c ∷ cells)) ≡ false → (b || is_among (map (λ (x : Cell). x.place) cells) p) ≡ true =
-        λ b. elim b as (λ z. eqb (cond (not z) (1 + position_or_len (is_at p) cells) 0) (length (c ∷ cells)) ≡ false → (z || is_among (map (λ (x : Cell). x.place) cells) p) ≡ true) [
-          | true ↦ λ h. refl
-          | false ↦ λ h. let shorter : eqb (position_or_len (is_at p) cells) (length cells) ≡ false = grind (arith, nat_tests) in position_missed cells p shorter
-        ] in
+    λ b. elim b as (λ z. eqb (cond (not z) (1 + position_or_len (is_at p) cells) 0) (length (c ∷ cells)) ≡ false → (z || is_among (map (λ (x : Cell). x.place) cells) p) ≡ true) [
+      | true ↦ λ h. refl
+      | false ↦ λ h. let shorter : eqb (position_or_len (is_at p) cells) (length cells) ≡ false = grind (arith, nat_tests) in position_missed cells p shorter
+    ] in
     go (same_place p c.place) e
 
 -- ---- all comes back
@@ -147,14 +145,14 @@ item_back : (made : Cell → Option Value) (start rows : List (List (Option Valu
     → with_cells made (with_item moved cell).cells (with_element rows cell.place None) ≡ start
 item_back made start rows moved cell so_far was =
     let go : (b : Bool) → eqb (position_or_len (is_at cell.place) moved.cells) (length moved.cells) ≡ b → with_cells made (cond b (moved.cells ++ cell ∷ []) moved.cells) (with_element rows cell.place None) ≡ start =
-        λ b. elim b as (λ z. eqb (position_or_len (is_at cell.place) moved.cells) (length moved.cells) ≡ z → with_cells made (cond z (moved.cells ++ cell ∷ []) moved.cells) (with_element rows cell.place None) ≡ start) [
-          | true ↦ λ e.
-              cells_more made moved.cells cell (with_element rows cell.place None)
-              ∙ absorbed made moved.cells rows cell.place None (made cell)
-              ∙ ap (λ r. with_element r cell.place (made cell)) so_far
-              ∙ with_itself start cell.place (made cell) was
-          | false ↦ λ e. overwritten made moved.cells rows cell.place None (position_missed moved.cells cell.place e) ∙ so_far
-        ] in
+    λ b. elim b as (λ z. eqb (position_or_len (is_at cell.place) moved.cells) (length moved.cells) ≡ z → with_cells made (cond z (moved.cells ++ cell ∷ []) moved.cells) (with_element rows cell.place None) ≡ start) [
+      | true ↦ λ e.
+          cells_more made moved.cells cell (with_element rows cell.place None)
+          ∙ absorbed made moved.cells rows cell.place None (made cell)
+          ∙ ap (λ r. with_element r cell.place (made cell)) so_far
+          ∙ with_itself start cell.place (made cell) was
+      | false ↦ λ e. overwritten made moved.cells rows cell.place None (position_missed moved.cells cell.place e) ∙ so_far
+    ] in
     go (eqb (position_or_len (is_at cell.place) moved.cells) (length moved.cells)) refl
 
 some_value : (o : Option (Option Value)) → IsSome (option_flatten o) → (v : Value) × (o ≡ Some (Some v))
@@ -174,4 +172,4 @@ pub all_back : (s : Storage) (places : List Place) (rows : List (List (Option Va
 all_back s [] rows moved kinds homes so_far = so_far
 all_back s (p ∷ places) rows moved kinds homes so_far =
     all_back s places (with_element rows p None) (with_item moved (cell_at s p)) kinds (All-tail (λ q. IsSome (value_at s q)) p places homes)
-      (item_back (returned s.kinds) s.values rows moved (cell_at s p) so_far (cell_back s p kinds (All-head (λ q. IsSome (value_at s q)) p places homes)))
+    (item_back (returned s.kinds) s.values rows moved (cell_at s p) so_far (cell_back s p kinds (All-head (λ q. IsSome (value_at s q)) p places homes)))

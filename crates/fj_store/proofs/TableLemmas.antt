@@ -1,9 +1,9 @@
 -- Tables read at a place, after a write.
-use Rattle.std.proofs.Common.{◌≡◌, ◌⊎◌, ℕ, zero, suc, ◌+◌, ◌<◌, ◌≤◌, ◌&&◌, eqb, get_or, Bool, true, false, List, [], ◌∷◌, length, map, Option, Some, None, slice_get, set, refl, sym, ap, subst, ◌∙◌, inl, inr, arith}
+use Rattle.std.proofs.Common.{◌≡◌, ◌⊎◌, ℕ, zero, suc, ◌<◌, ◌≤◌, get_or, true, false, List, length, map, Option, Some, None, slice_get, set, refl, sym, ap, subst, ◌∙◌, inl, inr}
 use Rattle.std.proofs.lemmas.List.{map-set}
 use Rattle.std.proofs.lemmas.Option.{slice_get-map, slice_get_past, slice_get_read}
 use Rattle.std.proofs.lemmas.Bool.{false≢true}
-use Rattle.std.proofs.lemmas.Bool.Decides.{eqb_tells, nat_tests}
+use Rattle.std.proofs.lemmas.Bool.Decides.{eqb_tells}
 use Rattle.std.specs.Option.{option_map, option_map_or, option_and_then}
 use Rattle.fj_value.specs.declared.place.Place.{Place}
 use Rattle.fj_store.specs.Places.{same_place}
@@ -194,34 +194,34 @@ row_tells (Some r) = inr (r, refl)
 
 pub with_twice : {T : Type 0} → (rows : List (List T)) (p : Place) (x y : T) → with_element (with_element rows p x) p y ≡ with_element rows p y
 with_twice rows p x y = elim (row_tells (slice_get rows p.var)) [
-    | inl lost ↦ ap (λ r. with_element r p y) (with_lost rows p x lost)
-    | inr here ↦
-        ap (λ r. with_element r p y) (with_found rows p x here.0 here.1)
-        ∙ with_found (set rows p.var (row_with p.index x here.0)) p y (row_with p.index x here.0) (set_same rows p.var (row_with p.index x here.0) here.0 here.1)
-        ∙ set_twice rows p.var (row_with p.index x here.0) (row_with p.index y (row_with p.index x here.0))
-        ∙ ap (λ r. set rows p.var r) (row_twice p.index here.0 x y)
-        ∙ sym (with_found rows p y here.0 here.1)
-  ]
+  | inl lost ↦ ap (λ r. with_element r p y) (with_lost rows p x lost)
+  | inr here ↦
+      ap (λ r. with_element r p y) (with_found rows p x here.0 here.1)
+      ∙ with_found (set rows p.var (row_with p.index x here.0)) p y (row_with p.index x here.0) (set_same rows p.var (row_with p.index x here.0) here.0 here.1)
+      ∙ set_twice rows p.var (row_with p.index x here.0) (row_with p.index y (row_with p.index x here.0))
+      ∙ ap (λ r. set rows p.var r) (row_twice p.index here.0 x y)
+      ∙ sym (with_found rows p y here.0 here.1)
+]
 
 other_row : {T : Type 0} → (rows : List (List T)) (p q : Place) (x : T) → (q.var ≡ p.var → ⊥) → slice_get (with_element rows p x) q.var ≡ slice_get rows q.var
 other_row rows p q x ne = elim (row_tells (slice_get rows p.var)) [
-    | inl lost ↦ ap (λ r. slice_get r q.var) (with_lost rows p x lost)
-    | inr here ↦ ap (λ r. slice_get r q.var) (with_found rows p x here.0 here.1) ∙ set_other rows p.var q.var (row_with p.index x here.0) ne
-  ]
+  | inl lost ↦ ap (λ r. slice_get r q.var) (with_lost rows p x lost)
+  | inr here ↦ ap (λ r. slice_get r q.var) (with_found rows p x here.0 here.1) ∙ set_other rows p.var q.var (row_with p.index x here.0) ne
+]
 
 swap_vars : {T : Type 0} → (rows : List (List T)) (p q : Place) (x y : T) → (q.var ≡ p.var → ⊥) → with_element (with_element rows p x) q y ≡ with_element (with_element rows q y) p x
 swap_vars rows p q x y ne = elim (row_tells (slice_get rows p.var)) [
-    | inl lost ↦ ap (λ r. with_element r q y) (with_lost rows p x lost) ∙ sym (with_lost (with_element rows q y) p x (other_row rows q p y (λ e. ne (sym e)) ∙ lost))
-    | inr here ↦ elim (row_tells (slice_get rows q.var)) [
-        | inl lost ↦ with_lost (with_element rows p x) q y (other_row rows p q x ne ∙ lost) ∙ sym (ap (λ r. with_element r p x) (with_lost rows q y lost))
-        | inr there ↦
-            with_found (with_element rows p x) q y there.0 (other_row rows p q x ne ∙ there.1)
-            ∙ ap (λ r. set r q.var (row_with q.index y there.0)) (with_found rows p x here.0 here.1)
-            ∙ set_swap rows p.var q.var (row_with p.index x here.0) (row_with q.index y there.0) ne
-            ∙ sym (ap (λ r. set r p.var (row_with p.index x here.0)) (with_found rows q y there.0 there.1))
-            ∙ sym (with_found (with_element rows q y) p x here.0 (other_row rows q p y (λ e. ne (sym e)) ∙ here.1))
-      ]
+  | inl lost ↦ ap (λ r. with_element r q y) (with_lost rows p x lost) ∙ sym (with_lost (with_element rows q y) p x (other_row rows q p y (λ e. ne (sym e)) ∙ lost))
+  | inr here ↦ elim (row_tells (slice_get rows q.var)) [
+    | inl lost ↦ with_lost (with_element rows p x) q y (other_row rows p q x ne ∙ lost) ∙ sym (ap (λ r. with_element r p x) (with_lost rows q y lost))
+    | inr there ↦
+        with_found (with_element rows p x) q y there.0 (other_row rows p q x ne ∙ there.1)
+        ∙ ap (λ r. set r q.var (row_with q.index y there.0)) (with_found rows p x here.0 here.1)
+        ∙ set_swap rows p.var q.var (row_with p.index x here.0) (row_with q.index y there.0) ne
+        ∙ sym (ap (λ r. set r p.var (row_with p.index x here.0)) (with_found rows q y there.0 there.1))
+        ∙ sym (with_found (with_element rows q y) p x here.0 (other_row rows q p y (λ e. ne (sym e)) ∙ here.1))
   ]
+]
 
 -- in one row, with the variable as a number by itself
 swap_in_row : {T : Type 0} → (rows : List (List T)) (var i k : ℕ) (x y : T) → (k ≡ i → ⊥)
@@ -237,8 +237,8 @@ swap_in_row rows var i k x y ne =
           ∙ set_twice rows var (row_with i x here.0) (row_with k y (row_with i x here.0))
           ∙ ap (λ r. set rows var r) (row_swap i k here.0 x y ne)
           ∙ sym (ap (λ r. with_element r p x) (with_found rows q y here.0 here.1)
-            ∙ with_found (set rows var (row_with k y here.0)) p x (row_with k y here.0) (set_same rows var (row_with k y here.0) here.0 here.1)
-            ∙ set_twice rows var (row_with k y here.0) (row_with i x (row_with k y here.0)))
+          ∙ with_found (set rows var (row_with k y here.0)) p x (row_with k y here.0) (set_same rows var (row_with k y here.0) here.0 here.1)
+          ∙ set_twice rows var (row_with k y here.0) (row_with i x (row_with k y here.0)))
     ]
 
 pub with_swap : {T : Type 0} → (rows : List (List T)) (p q : Place) (x y : T) → ((q.var ≡ p.var → ⊥) ⊎ ((q.var ≡ p.var) × (q.index ≡ p.index → ⊥))) → with_element (with_element rows p x) q y ≡ with_element (with_element rows q y) p x

@@ -1,12 +1,11 @@
 -- Worked cases of variables that are read, moved out and given back.
-use Rattle.std.specs.Prelude.{◌≡◌, ℕ, pos, true, List, [], ◌∷◌, ◌++◌, map, Option, Some, None}
+use Rattle.std.specs.Prelude.{◌≡◌, ℕ, pos, true, List, [], ◌∷◌, ◌++◌, map, Some, None}
 use Rattle.fj_value.specs.declared.kind.Kind.{Kind}
 use Rattle.fj_value.specs.declared.kind.Kind.TheVariants.{Int4, Logical, Chars}
 use Rattle.fj_value.specs.declared.place.Place.{Place}
 use Rattle.fj_value.specs.declared.value.Cell.{Cell}
 use Rattle.fj_value.specs.declared.value.Value.{Value}
 use Rattle.fj_value.specs.declared.value.Value.TheVariants.{Undefined, Int, Log, Chars as Text}
-use Rattle.fj_list.specs.declared.moved.Moved.{Moved}
 use Rattle.fj_store.specs.Places.{counted_from}
 use Rattle.fj_store.specs.Variables.{moved_of}
 use Rattle.fj_store.specs.Storage.{Storage, all_undefined, value_at, cell_at, with_value, without, given_back}

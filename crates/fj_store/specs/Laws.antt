@@ -1,13 +1,12 @@
 -- What holds of variables that are moved out and come back, in words of their own.
-use Rattle.std.specs.Prelude.{◌≡◌, ℕ, false, List, map, All, Option, Some, None, IsSome, if◌then◌else◌}
-use Rattle.fj_value.specs.declared.kind.Kind.{Kind}
+use Rattle.std.specs.Prelude.{◌≡◌, false, List, map, All, Some, None, IsSome, if◌then◌else◌}
 use Rattle.fj_value.specs.declared.place.Place.{Place}
 use Rattle.fj_value.specs.declared.value.Cell.{Cell}
 use Rattle.fj_value.specs.declared.value.Value.{Value}
 use Rattle.fj_store.specs.Kinds.{kind_at, of_kind}
 use Rattle.fj_store.specs.Places.{is_among, has_twice}
 use Rattle.fj_store.specs.Variables.{moved_of}
-use Rattle.fj_store.specs.Storage.{Storage, all_undefined, value_at, cell_at, with_value, without, given_back}
+use Rattle.fj_store.specs.Storage.{Storage, value_at, cell_at, without, given_back}
 
 -- each value is of its variable's kind, or undefined
 abbrev pub AreOfKinds : Storage → Type 0
