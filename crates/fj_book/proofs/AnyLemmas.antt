@@ -1,11 +1,11 @@
 -- Loops that look for an element.
-use Rattle.std.proofs.Common.{◌≡◌, ℕ, zero, suc, ◌+◌, ◌-◌, ◌<◌, ◌≤◌, ◌&&◌, ◌||◌, cond, not, Bool, true, false, List, [], ◌∷◌, ◌++◌, length, length-drop, drop, take, get_or, map, Option, Some, None, refl, sym, ap, ◌∙◌, arith}
+use Rattle.std.proofs.Common.{◌≡◌, ℕ, zero, suc, ◌+◌, ◌-◌, ◌<◌, ◌≤◌, ◌||◌, cond, Bool, true, false, List, [], ◌∷◌, length, length-drop, drop, take, get_or, Some, refl, sym, ap, ◌∙◌, arith}
 use Rattle.std.proofs.Math.Seq.{drop-cons}
 use Rattle.std.proofs.lemmas.List.Folds.{list_any-append}
 use Rattle.std.specs.List.{list_any, find}
 use Rattle.fj_value.specs.declared.place.Place.{Place}
 use Rattle.fj_store.specs.declared.run.Run.{Run}
-use Rattle.fj_store.specs.Places.{same_place, is_among, has_twice, counted_from, places_of, places_in}
+use Rattle.fj_store.specs.Places.{is_among, has_twice, counted_from, places_of, places_in}
 use Rattle.fj_store.proofs.TableLemmas.{same_fields}
 use Rattle.fj_store.proofs.TakingLemmas.{run_at}
 use Rattle.fj_store.proofs.StoreLemmas.{whole}

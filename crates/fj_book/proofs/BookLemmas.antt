@@ -1,5 +1,5 @@
 -- The pending transfers by identifier, and as prohibitions see them.
-use Rattle.std.proofs.Common.{◌≡◌, ◌≢◌, ◌⊎◌, ℕ, zero, suc, ℤ, pos, negsuc, ◌<ℤ◌, ltb, ◌+◌, ◌<◌, ◌≤◌, ◌&&◌, ◌||◌, cond, not, eqb, Bool, true, false, List, [], ◌∷◌, ◌++◌, length, get_or, map, remove, Option, Some, None, All, AllPairs, refl, sym, ap, ◌∙◌, inl, inr, arith}
+use Rattle.std.proofs.Common.{◌≡◌, ◌≢◌, ℕ, zero, suc, ℤ, pos, negsuc, ◌<ℤ◌, ltb, ◌<◌, ◌≤◌, ◌&&◌, ◌||◌, cond, not, eqb, Bool, true, false, List, [], ◌∷◌, ◌++◌, length, get_or, remove, Option, Some, None, All, refl, sym, ap, ◌∙◌, inl, inr, arith}
 use Rattle.std.proofs.lemmas.Bool.{ne_eqb, eq-eqb, cases_lt}
 use Rattle.std.proofs.lemmas.Int.{ints}
 use Rattle.std.proofs.lemmas.List.Quantifiers.{all_pairs_push, all_pairs_remove}
@@ -11,7 +11,7 @@ use Rattle.std.specs.List.{list_any, find, filter}
 use Rattle.fj_value.specs.declared.place.Place.{Place}
 use Rattle.fj_store.specs.Places.{is_among}
 use Rattle.fj_book.specs.declared.pending.Pending.{Pending}
-use Rattle.fj_book.specs.Entries.{tag_of, has_tag, IsAscending, holder, holders}
+use Rattle.fj_book.specs.Entries.{tag_of, has_tag, IsAscending, holders}
 use Rattle.fj_book.specs.Counting.{holds_in}
 use Rattle.fj_book.specs.Prohibitions.{is_read, is_held, has_id}
 

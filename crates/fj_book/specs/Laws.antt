@@ -1,5 +1,5 @@
 -- What holds of prohibitions and of the book, in words of their own.
-use Rattle.std.specs.Prelude.{◌≡◌, ◌<◌, ℕ, ◌&&◌, ◌||◌, ◌++◌, not, Bool, true, false, List, [], ◌∷◌, filter, Option, Some, None}
+use Rattle.std.specs.Prelude.{◌≡◌, ◌<◌, ℕ, ◌&&◌, ◌||◌, ◌++◌, not, Bool, true, false, List, [], ◌∷◌, filter, Some, None}
 use Rattle.std.specs.List.{list_any}
 use Rattle.fj_value.specs.Order.{number_of}
 use Rattle.fj_value.specs.declared.place.Place.{Place}

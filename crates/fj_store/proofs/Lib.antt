@@ -1,3 +1,4 @@
+pub mod LawLemmas
 pub mod ListLemmas
 pub mod PlaceLemmas
 pub mod StoreLemmas

@@ -1,9 +1,9 @@
 -- Tables read at a place, after a write.
-use Rattle.std.proofs.Common.{◌≡◌, ◌⊎◌, ℕ, zero, suc, ◌+◌, ◌<◌, ◌≤◌, ◌&&◌, eqb, get_or, Bool, true, false, List, [], ◌∷◌, length, map, Option, Some, None, slice_get, set, refl, sym, ap, subst, ◌∙◌, inl, inr, arith}
+use Rattle.std.proofs.Common.{◌≡◌, ◌⊎◌, ℕ, zero, suc, ◌<◌, ◌≤◌, get_or, true, false, List, length, map, Option, Some, None, slice_get, set, refl, sym, ap, subst, ◌∙◌, inl, inr}
 use Rattle.std.proofs.lemmas.List.{map-set}
 use Rattle.std.proofs.lemmas.Option.{slice_get-map, slice_get_past, slice_get_read}
 use Rattle.std.proofs.lemmas.Bool.{false≢true}
-use Rattle.std.proofs.lemmas.Bool.Decides.{eqb_tells, nat_tests}
+use Rattle.std.proofs.lemmas.Bool.Decides.{eqb_tells}
 use Rattle.std.specs.Option.{option_map, option_map_or, option_and_then}
 use Rattle.fj_value.specs.declared.place.Place.{Place}
 use Rattle.fj_store.specs.Places.{same_place}
@@ -179,3 +179,72 @@ past_row rows row p x at e is past =
     let none : slice_get row at ≡ None = slice_get_past row at past in
     let missing : element_at rows p ≡ None = (found rows row p x at e is).0 ∙ none in
     (sym missing, sym (with_missing rows p x missing))
+
+-- ---- two writes
+
+with_found : {T : Type 0} → (rows : List (List T)) (p : Place) (x : T) (row : List T) → slice_get rows p.var ≡ Some row → with_element rows p x ≡ set rows p.var (row_with p.index x row)
+with_found rows p x row e = rw e refl
+
+with_lost : {T : Type 0} → (rows : List (List T)) (p : Place) (x : T) → slice_get rows p.var ≡ None → with_element rows p x ≡ rows
+with_lost rows p x e = rw e refl
+
+row_tells : {R : Type 0} → (o : Option R) → (o ≡ None) ⊎ ((r : R) × (o ≡ Some r))
+row_tells None = inl refl
+row_tells (Some r) = inr (r, refl)
+
+pub with_twice : {T : Type 0} → (rows : List (List T)) (p : Place) (x y : T) → with_element (with_element rows p x) p y ≡ with_element rows p y
+with_twice rows p x y = elim (row_tells (slice_get rows p.var)) [
+  | inl lost ↦ ap (λ r. with_element r p y) (with_lost rows p x lost)
+  | inr here ↦
+      ap (λ r. with_element r p y) (with_found rows p x here.0 here.1)
+      ∙ with_found (set rows p.var (row_with p.index x here.0)) p y (row_with p.index x here.0) (set_same rows p.var (row_with p.index x here.0) here.0 here.1)
+      ∙ set_twice rows p.var (row_with p.index x here.0) (row_with p.index y (row_with p.index x here.0))
+      ∙ ap (λ r. set rows p.var r) (row_twice p.index here.0 x y)
+      ∙ sym (with_found rows p y here.0 here.1)
+]
+
+other_row : {T : Type 0} → (rows : List (List T)) (p q : Place) (x : T) → (q.var ≡ p.var → ⊥) → slice_get (with_element rows p x) q.var ≡ slice_get rows q.var
+other_row rows p q x ne = elim (row_tells (slice_get rows p.var)) [
+  | inl lost ↦ ap (λ r. slice_get r q.var) (with_lost rows p x lost)
+  | inr here ↦ ap (λ r. slice_get r q.var) (with_found rows p x here.0 here.1) ∙ set_other rows p.var q.var (row_with p.index x here.0) ne
+]
+
+swap_vars : {T : Type 0} → (rows : List (List T)) (p q : Place) (x y : T) → (q.var ≡ p.var → ⊥) → with_element (with_element rows p x) q y ≡ with_element (with_element rows q y) p x
+swap_vars rows p q x y ne = elim (row_tells (slice_get rows p.var)) [
+  | inl lost ↦ ap (λ r. with_element r q y) (with_lost rows p x lost) ∙ sym (with_lost (with_element rows q y) p x (other_row rows q p y (λ e. ne (sym e)) ∙ lost))
+  | inr here ↦ elim (row_tells (slice_get rows q.var)) [
+    | inl lost ↦ with_lost (with_element rows p x) q y (other_row rows p q x ne ∙ lost) ∙ sym (ap (λ r. with_element r p x) (with_lost rows q y lost))
+    | inr there ↦
+        with_found (with_element rows p x) q y there.0 (other_row rows p q x ne ∙ there.1)
+        ∙ ap (λ r. set r q.var (row_with q.index y there.0)) (with_found rows p x here.0 here.1)
+        ∙ set_swap rows p.var q.var (row_with p.index x here.0) (row_with q.index y there.0) ne
+        ∙ sym (ap (λ r. set r p.var (row_with p.index x here.0)) (with_found rows q y there.0 there.1))
+        ∙ sym (with_found (with_element rows q y) p x here.0 (other_row rows q p y (λ e. ne (sym e)) ∙ here.1))
+  ]
+]
+
+-- in one row, with the variable as a number by itself
+swap_in_row : {T : Type 0} → (rows : List (List T)) (var i k : ℕ) (x y : T) → (k ≡ i → ⊥)
+    → with_element (with_element rows (record { var = var; index = i }) x) (record { var = var; index = k }) y ≡ with_element (with_element rows (record { var = var; index = k }) y) (record { var = var; index = i }) x
+swap_in_row rows var i k x y ne =
+    let p : Place = record { var = var; index = i } in
+    let q : Place = record { var = var; index = k } in
+    elim (row_tells (slice_get rows var)) [
+      | inl lost ↦ ap (λ r. with_element r q y) (with_lost rows p x lost) ∙ with_lost rows q y lost ∙ sym (ap (λ r. with_element r p x) (with_lost rows q y lost) ∙ with_lost rows p x lost)
+      | inr here ↦
+          ap (λ r. with_element r q y) (with_found rows p x here.0 here.1)
+          ∙ with_found (set rows var (row_with i x here.0)) q y (row_with i x here.0) (set_same rows var (row_with i x here.0) here.0 here.1)
+          ∙ set_twice rows var (row_with i x here.0) (row_with k y (row_with i x here.0))
+          ∙ ap (λ r. set rows var r) (row_swap i k here.0 x y ne)
+          ∙ sym (ap (λ r. with_element r p x) (with_found rows q y here.0 here.1)
+          ∙ with_found (set rows var (row_with k y here.0)) p x (row_with k y here.0) (set_same rows var (row_with k y here.0) here.0 here.1)
+          ∙ set_twice rows var (row_with k y here.0) (row_with i x (row_with k y here.0)))
+    ]
+
+pub with_swap : {T : Type 0} → (rows : List (List T)) (p q : Place) (x y : T) → ((q.var ≡ p.var → ⊥) ⊎ ((q.var ≡ p.var) × (q.index ≡ p.index → ⊥))) → with_element (with_element rows p x) q y ≡ with_element (with_element rows q y) p x
+with_swap rows p q x y (inl ne) = swap_vars rows p q x y ne
+with_swap rows p q x y (inr one) =
+    let here : Place = record { var = p.var; index = q.index } in
+    let same : here ≡ q = same_fields here q (sym one.0) refl in
+    let P : Place → Type 0 = λ z. with_element (with_element rows p x) z y ≡ with_element (with_element rows z y) p x in
+    subst P same (swap_in_row rows p.var p.index q.index x y one.1)

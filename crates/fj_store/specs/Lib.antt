@@ -1,4 +1,6 @@
+pub mod Cases
 pub mod Kinds
+pub mod Laws
 pub mod Places
 pub mod Storage
 pub mod Tables

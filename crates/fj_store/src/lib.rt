@@ -3,12 +3,16 @@
 #![tactic(auto)]
 
 mod kinds;
+mod laws;
 mod run;
 mod slot;
 mod store;
 mod table;
 mod taken;
 
+pub use laws::{
+    all_comes_back, cells_are_distinct, items_have_cells, just_these_are_out, places_come_back,
+};
 pub use run::Run;
 pub use store::Store;
 pub use table::Table;

@@ -1,4 +1,4 @@
-use Rattle.std.proofs.Common.{true, false, ap, ◌∙◌, sym}
+use Rattle.std.proofs.Common.{true, false}
 use Rattle.fj_book.proofs.CountLemmas.{counted_more, counted_still, in_same, in_other, is_raised}
 use Rattle.fj_book.proofs.book.count_in.Goals as goal
 

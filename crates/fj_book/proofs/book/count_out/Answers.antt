@@ -1,7 +1,4 @@
 use Rattle.std.proofs.Common.{true, false}
-use Rattle.std.proofs.lemmas.List.Quantifiers.{all_pairs_remove}
-use Rattle.fj_book.specs.declared.pending.Pending.{Pending}
-use Rattle.fj_book.specs.Entries.{tag_of}
 use Rattle.fj_book.proofs.CountLemmas.{counted_less, counted_left, in_same, in_other, is_lowered}
 use Rattle.fj_book.proofs.BookLemmas.{ascending_removed}
 use Rattle.fj_book.proofs.book.count_out.Goals as goal

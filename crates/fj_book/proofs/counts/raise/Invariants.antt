@@ -1,4 +1,4 @@
-use Rattle.std.proofs.Common.{◌≡◌, ℕ, ◌+◌, take}
+use Rattle.std.proofs.Common.{◌+◌, take}
 use Rattle.fj_book.proofs.CountLemmas.{IsChanged}
 use Rattle.fj_book.proofs.counts.raise.Given as goal
 

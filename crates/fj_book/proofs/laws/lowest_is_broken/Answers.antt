@@ -1,5 +1,4 @@
-use Rattle.std.proofs.Common.{◌≡◌, ◌<◌, Bool, true, false, List, Some, refl, sym, ap, ◌∙◌}
-use Rattle.fj_value.specs.Order.{number_of}
+use Rattle.std.proofs.Common.{◌≡◌, List, refl, ◌∙◌}
 use Rattle.fj_value.specs.declared.condition.Rule.{Rule}
 use Rattle.fj_value.specs.declared.condition.Rule.TheVariants.{P1, P2, P3, P4, P5}
 use Rattle.fj_store.specs.Variables.{Variables}

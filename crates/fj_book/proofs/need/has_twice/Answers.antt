@@ -1,4 +1,4 @@
-use Rattle.std.proofs.Common.{◌+◌, ◌-◌, drop, get_or, length, ap, ◌∙◌}
+use Rattle.std.proofs.Common.{◌+◌, drop, get_or, ap, ◌∙◌}
 use Rattle.fj_value.specs.declared.place.Place.{Place}
 use Rattle.fj_store.specs.Places.{has_twice, is_among}
 use Rattle.fj_book.proofs.AnyLemmas.{twice_step, goes_on, same_item, rest_whole}

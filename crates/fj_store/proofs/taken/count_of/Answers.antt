@@ -1,6 +1,6 @@
-use Rattle.std.proofs.Common.{◌≡◌, ◌+◌, ◌<◌, length, get_or, take, sym, ap, ◌∙◌, rules, arith}
+use Rattle.std.proofs.Common.{◌≡◌, ◌+◌, ◌<◌, length, get_or, ap, arith}
 use Rattle.std.proofs.lemmas.List.Folds.{length-flat_map-take}
-use Rattle.fj_store.specs.Places.{places_of, places_in}
+use Rattle.fj_store.specs.Places.{places_of}
 use Rattle.fj_store.proofs.PlaceLemmas.{places_more, length-counted_from}
 use Rattle.fj_store.proofs.taken.count_of.Goals as goal
 

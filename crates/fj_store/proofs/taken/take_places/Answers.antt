@@ -1,4 +1,4 @@
-use Rattle.std.proofs.Common.{◌≡◌, ℕ, ◌+◌, ◌≤◌, ◌<◌, length, drop, sym, subst, arith}
+use Rattle.std.proofs.Common.{ℕ, ◌+◌, ◌≤◌, ◌<◌, length, drop, subst, arith}
 use Rattle.fj_store.specs.Places.{places_in}
 use Rattle.fj_store.specs.Taking.{taking, HasRoom, take_runs}
 use Rattle.fj_store.proofs.TakingLemmas.{room_less, places_left, runs_step}

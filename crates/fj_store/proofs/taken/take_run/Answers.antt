@@ -1,7 +1,7 @@
-use Rattle.std.proofs.Common.{◌≡◌, ℕ, ◌+◌, ◌-◌, sym, subst, arith}
+use Rattle.std.proofs.Common.{◌≡◌, ℕ, ◌+◌, ◌-◌, subst, arith}
 use Rattle.fj_store.specs.Places.{places_of}
 use Rattle.fj_store.specs.Taking.{taking, HasRoom, take_all}
-use Rattle.fj_store.proofs.TakingLemmas.{room_less, run_step}
+use Rattle.fj_store.proofs.TakingLemmas.{run_step}
 use Rattle.fj_store.proofs.taken.take_run.Goals as goal
 
 pub loop-at-preserved : goal.loop-at-preserved

@@ -1,4 +1,4 @@
-use Rattle.std.proofs.Common.{◌||◌, Bool, true, false, sym, ap, ◌∙◌}
+use Rattle.std.proofs.Common.{◌||◌, false, sym, ap, ◌∙◌}
 use Rattle.std.specs.List.{list_any}
 use Rattle.fj_book.specs.Entries.{holders}
 use Rattle.fj_book.specs.Counting.{holds_in}

@@ -1,8 +1,7 @@
-use Rattle.std.proofs.Common.{◌≡◌, ℕ, ℤ, pos, ◌<ℤ◌, Option, Some, None, All, ◌≢◌, get_or, false, eqb, sym, ap, subst, ◌∙◌, rules, arith}
+use Rattle.std.proofs.Common.{◌≡◌, ℕ, ℤ, pos, ◌<ℤ◌, Option, Some, None, sym, ap, subst, ◌∙◌, rules}
 use Rattle.std.proofs.lemmas.Int.{to_z-of_z}
 use mir.Val.{to_z, of_z}
 use mir.Syntax.{w64}
-use Rattle.fj_book.specs.declared.pending.Pending.{Pending}
 use Rattle.fj_book.specs.Entries.{holders, tag_of}
 use Rattle.fj_book.specs.Prohibitions.{names_pending}
 use Rattle.fj_book.proofs.BookLemmas.{ids_unitless, ids_low, ids_absent, ids_at}

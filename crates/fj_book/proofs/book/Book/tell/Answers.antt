@@ -1,6 +1,5 @@
-use Rattle.std.proofs.Common.{◌≡◌, ℕ, Some, not, get_or, filter, sym, ap, subst, ◌∙◌}
-use Rattle.std.specs.List.{remove, find}
-use Rattle.fj_book.specs.declared.pending.Pending.{Pending}
+use Rattle.std.proofs.Common.{◌≡◌, not, filter, sym, ap, ◌∙◌}
+use Rattle.std.specs.List.{find}
 use Rattle.fj_book.specs.Entries.{has_tag, tag_of}
 use Rattle.fj_book.proofs.BookLemmas.{find_absent, filter_absent, find_at, filter_at, same_read}
 use Rattle.fj_book.proofs.CountLemmas.{kept_as}

@@ -1,4 +1,4 @@
-use Rattle.std.proofs.Common.{◌≡◌, ◌<◌, ◌≤◌, ◌-◌, suc, length, Some, slice_get, slice_set, sym, ap, ◌∙◌, arith}
+use Rattle.std.proofs.Common.{◌≡◌, ◌<◌, ◌≤◌, ◌-◌, suc, length, slice_set, sym, ap, ◌∙◌, arith}
 use Rattle.fj_store.proofs.TableLemmas.{no_index, found, past_rows, row_read, past_row}
 use Rattle.fj_store.proofs.table.Table.replace.Goals as goal
 

@@ -1,0 +1,56 @@
+-- Worked cases of variables that are read, moved out and given back.
+use Rattle.std.specs.Prelude.{◌≡◌, ℕ, pos, true, List, [], ◌∷◌, ◌++◌, map, Some, None}
+use Rattle.fj_value.specs.declared.kind.Kind.{Kind}
+use Rattle.fj_value.specs.declared.kind.Kind.TheVariants.{Int4, Logical, Chars}
+use Rattle.fj_value.specs.declared.place.Place.{Place}
+use Rattle.fj_value.specs.declared.value.Cell.{Cell}
+use Rattle.fj_value.specs.declared.value.Value.{Value}
+use Rattle.fj_value.specs.declared.value.Value.TheVariants.{Undefined, Int, Log, Chars as Text}
+use Rattle.fj_store.specs.Places.{counted_from}
+use Rattle.fj_store.specs.Variables.{moved_of}
+use Rattle.fj_store.specs.Storage.{Storage, all_undefined, value_at, cell_at, with_value, without, given_back}
+
+abbrev pub place : ℕ → ℕ → Place
+place var index = record { var = var; index = index }
+
+-- the integers A = 7 and B, an array C of three integers of which the second is 5, a truth value and three characters
+abbrev pub variables : Storage
+variables = record {
+  kinds = Int4 ∷ Int4 ∷ Int4 ∷ Logical ∷ Chars 3 ∷ [];
+  values = (Some (Int (pos 7)) ∷ []) ∷ (Some Undefined ∷ []) ∷ (Some Undefined ∷ Some (Int (pos 5)) ∷ Some Undefined ∷ []) ∷ (Some Undefined ∷ []) ∷ (Some Undefined ∷ []) ∷ [];
+}
+
+abbrev pub cells : List Place → List Cell
+cells places = map (cell_at variables) places
+
+abbrev pub cell : ℕ → ℕ → Kind → Value → Cell
+cell var index kind value = record { place = place var index; kind = kind; value = value }
+
+abbrev pub a : Cell
+a = cell 0 1 Int4 (Int (pos 7))
+
+abbrev pub c : ℕ → Value → Cell
+c index value = cell 2 index Int4 value
+
+-- what the cells of items are, and which cell each item has
+pub record ItemsHaveCells : Type 0 where
+  pub in_order : moved_of (cells (place 1 1 ∷ place 0 1 ∷ [])) ≡ record { cells = cell 1 1 Int4 Undefined ∷ a ∷ []; order = 0 ∷ 1 ∷ [] }
+  pub item_twice : moved_of (cells (place 0 1 ∷ place 1 1 ∷ place 0 1 ∷ [])) ≡ record { cells = a ∷ cell 1 1 Int4 Undefined ∷ []; order = 0 ∷ 1 ∷ 0 ∷ [] }
+  pub element_before_its_array : moved_of (cells (place 2 2 ∷ counted_from 2 1 3)) ≡ record { cells = c 2 (Int (pos 5)) ∷ c 1 Undefined ∷ c 3 Undefined ∷ []; order = 0 ∷ 1 ∷ 0 ∷ 2 ∷ [] }
+  pub element_behind_its_array : moved_of (cells (counted_from 2 1 3 ++ place 2 2 ∷ [])) ≡ record { cells = c 1 Undefined ∷ c 2 (Int (pos 5)) ∷ c 3 Undefined ∷ []; order = 0 ∷ 1 ∷ 2 ∷ 1 ∷ [] }
+  pub no_item : moved_of [] ≡ record { cells = []; order = [] }
+
+-- what is read, before, while and after places are out
+pub record PlacesComeBack : Type 0 where
+  pub begins_undefined : value_at (all_undefined ((Int4, 2) ∷ [])) (place 0 2) ≡ Some Undefined
+  pub home : value_at variables (place 0 1) ≡ Some (Int (pos 7))
+  pub out : value_at (without (place 0 1 ∷ []) variables) (place 0 1) ≡ None
+  pub neighbour : value_at (without (place 2 1 ∷ place 2 3 ∷ []) variables) (place 2 2) ≡ Some (Int (pos 5))
+  pub undefined_is_not_out : value_at variables (place 1 1) ≡ Some Undefined
+  pub comes_back_changed : value_at (given_back (cell 0 1 Int4 (Int (pos 8)) ∷ []) (without (place 0 1 ∷ []) variables)) (place 0 1) ≡ Some (Int (pos 8))
+  pub comes_back_undefined : value_at (given_back (cell 0 1 Int4 Undefined ∷ []) (without (place 0 1 ∷ []) variables)) (place 0 1) ≡ Some Undefined
+  pub another_kind : value_at (given_back (cell 0 1 Int4 (Log true) ∷ []) (without (place 0 1 ∷ []) variables)) (place 0 1) ≡ Some Undefined
+  pub too_large : value_at (with_value variables (place 1 1) (Int (pos 2147483648))) (place 1 1) ≡ Some Undefined
+  pub largest : value_at (with_value variables (place 1 1) (Int (pos 2147483647))) (place 1 1) ≡ Some (Int (pos 2147483647))
+  pub characters : value_at (with_value variables (place 4 1) (Text (65 ∷ 66 ∷ 67 ∷ []))) (place 4 1) ≡ Some (Text (65 ∷ 66 ∷ 67 ∷ []))
+  pub characters_of_another_length : value_at (with_value variables (place 4 1) (Text (65 ∷ []))) (place 4 1) ≡ Some Undefined

@@ -1,0 +1,26 @@
+-- What holds of variables that are moved out and come back, in words of their own.
+use Rattle.std.specs.Prelude.{◌≡◌, false, List, map, All, Some, None, IsSome, if◌then◌else◌}
+use Rattle.fj_value.specs.declared.place.Place.{Place}
+use Rattle.fj_value.specs.declared.value.Cell.{Cell}
+use Rattle.fj_value.specs.declared.value.Value.{Value}
+use Rattle.fj_store.specs.Kinds.{kind_at, of_kind}
+use Rattle.fj_store.specs.Places.{is_among, has_twice}
+use Rattle.fj_store.specs.Variables.{moved_of}
+use Rattle.fj_store.specs.Storage.{Storage, value_at, cell_at, without, given_back}
+
+-- each value is of its variable's kind, or undefined
+abbrev pub AreOfKinds : Storage → Type 0
+AreOfKinds s = (p : Place) (v : Value) → value_at s p ≡ Some v → of_kind (kind_at s.kinds p.var) v ≡ v
+
+-- the cells of a statement have distinct places, whatever its items are
+abbrev pub CellsAreDistinct : Type 0
+CellsAreDistinct = (items : List Cell) → has_twice (map (λ (cell : Cell). cell.place) (moved_of items).cells) ≡ false
+
+-- just the places that are taken out have no value, and all others keep theirs
+abbrev pub JustTheseAreOut : Type 0
+JustTheseAreOut = (s : Storage) (places : List Place) (p : Place) → value_at (without places s) p ≡ (if is_among places p then None else value_at s p)
+
+-- what is taken out and given back unchanged leaves the variables as they were
+abbrev pub AllComesBack : Type 0
+AllComesBack = (s : Storage) (places : List Place) → AreOfKinds s → All (λ p. IsSome (value_at s p)) places
+    → given_back (moved_of (map (cell_at s) places)).cells (without places s) ≡ s
