@@ -1,0 +1,15 @@
+//! A script served over queues, on which other threads work.
+#![tactic(auto)]
+
+mod crew;
+mod floor;
+mod queues;
+mod seats;
+mod serve;
+mod signals;
+mod workers;
+
+pub use crew::{CrewLost, run_crew};
+
+#[cfg(test)]
+mod tests;

@@ -1,0 +1,55 @@
+//! The queues of a script's slots, and their submitters.
+ghost use Rattle.std.specs.Prelude.{◌≡◌, ◌<◌, ◌≤◌, ◌^◌, length, IfOk, IfErr};
+ghost use Rattle.fj_queue.specs.Cell.{IsNext};
+ghost use Rattle.fj_crew.specs.Seats.{SeatAt, Paired, Submits, Settles};
+
+use crate::signals::Signals;
+use fj_queue::{Queue, Submitter};
+use fj_slot::{Engine, Refused, Told};
+use std::collections::VecDeque;
+use std::sync::Wait;
+
+/// Submits a job to the slot at that place, and rings.
+pub(crate) fn submit_at<E: Engine, R: Wait>(
+    rt: &R,
+    queues: &VecDeque<Queue<E>>,
+    seats: &mut VecDeque<Submitter<E>>,
+    signals: &Signals,
+    at: usize,
+    job: E::Job,
+) -> Result<u64, Refused<E::Job>>
+    requires within { at < length seats.old.items }
+    requires paired { Paired queues.now.items seats.old.items }
+    requires room { SeatAt seats.old.items at (λ v. v.sent < 2 ^ 62) }
+    requires next { SeatAt seats.old.items at (λ v. IsNext E.meaning v.plan v.sent job) }
+    ensures paired { Paired queues.now.items seats.new.items }
+    ensures submits { Submits seats.old.items at result seats.new.items }
+{
+    let queue = &queues[at];
+    let seat = &mut seats[at];
+    let number = queue.submit(rt, seat, job);
+    signals.ring();
+    number
+}
+
+/// Settles the next job of the slot at that place, and rings where more seem to be due there: it may have performed a job of which no worker knew.
+pub(crate) fn settle_at<E: Engine, R: Wait>(
+    rt: &R,
+    queues: &VecDeque<Queue<E>>,
+    seats: &mut VecDeque<Submitter<E>>,
+    signals: &Signals,
+    at: usize,
+) -> Told<E>
+    requires within { at < length seats.old.items }
+    requires paired { Paired queues.now.items seats.old.items }
+    requires waits { SeatAt seats.old.items at (λ v. v.heard < v.sent) }
+    requires room { SeatAt seats.old.items at (λ v. v.sent ≤ 2 ^ 62) }
+    ensures paired { Paired queues.now.items seats.new.items }
+    ensures settles { Settles E.meaning seats.old.items at result seats.new.items }
+{
+    let queue = &queues[at];
+    let seat = &mut seats[at];
+    let told = queue.settle(rt, seat);
+    signals.ring_if(queue.seems_due());
+    told
+}
