@@ -1,13 +1,13 @@
 -- The records of bytes behind which a line feed is put.
-use Rattle.std.proofs.Common.{◌≡◌, ◌≢◌, cond, leb, eqb, ◌∷◌, ◌+◌, ◌-◌, ◌<◌, ◌≤◌, ℕ, List, [], ◌++◌, length, take, drop, arith, refl, sym, ap, subst, ◌∙◌, inl, inr}
-use Rattle.std.proofs.lemmas.Bool.{cases_lt, cases_eq, eq-eqb, ne_eqb, le-leb, lt-leb}
-use Rattle.std.proofs.lemmas.List.{drop_all, drop_at, length-take, length-drop, length-append, drop-append-le, take-append-le, take_all}
+use Rattle.std.proofs.Common.{◌≡◌, ◌≢◌, cond, leb, ◌∷◌, ◌+◌, ◌-◌, ◌<◌, ◌≤◌, ℕ, List, [], ◌++◌, length, take, drop, arith, refl, sym, ap, ◌∙◌, inl, inr}
+use Rattle.std.proofs.lemmas.Bool.{cases_lt, cases_eq, ne_eqb, le-leb}
+use Rattle.std.proofs.lemmas.List.{drop_at, length-take, length-drop, length-append, drop-append-le, take-append-le, take_all}
 use Rattle.std.specs.Str.Lines.{strip_carriage_return}
 use Rattle.fj_seqrec.specs.declared.read.RecordRead.{RecordRead}
 use Rattle.fj_seqrec.specs.declared.read.RecordRead.TheVariants.{Line, End, TooLong}
 use Rattle.fj_seqrec.specs.Lines.{first_line, behind_line}
 use Rattle.fj_seqrec.specs.Reading.{record_at, HoldsRecord}
-use Rattle.fj_seqrec.proofs.Positions.{line_feed_place, place-le-length, place_behind, place_within}
+use Rattle.fj_seqrec.proofs.Positions.{line_feed_place, place-le-length, place_within}
 use Rattle.fj_seqrec.proofs.ReadLaws.{first_line_ended, first_line_last, stripped_length, IsRecord, at_line, at_long, at_end}
 use Rattle.fj_seqrec.proofs.LineLemmas.{fed_first, fed_behind}
 use Rattle.fj_connect.specs.Connection.{Connection}

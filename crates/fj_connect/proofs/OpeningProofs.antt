@@ -1,5 +1,5 @@
 -- OPEN of a file, by its specifiers.
-use Rattle.std.proofs.Common.{◌≡◌, ◌≢◌, ◌≤◌, ℕ, List, [], length, take, drop, arith, refl, sym, ap, subst, ◌∙◌, inl, inr, rules, Option, Some, None, Result, Ok, Err, unwrap_or, cond, true, false}
+use Rattle.std.proofs.Common.{◌≡◌, ◌≢◌, ℕ, List, [], length, take, drop, arith, refl, sym, ap, subst, ◌∙◌, inl, inr, rules, Option, Some, None, Result, Ok, Err, unwrap_or, cond, true, false}
 use Rattle.std.specs.Result.{result_unwrap_or}
 use Rattle.std.specs.Ordering.{nat_cmp, eq_by_cmp}
 use Rattle.std.specs.Cmp.Lexicographic.{slice_cmp, nat_list_cmp_total}

@@ -1,18 +1,17 @@
 -- Where transfers stand, and what they put.
-use Rattle.std.proofs.Common.{◌≡◌, ◌≢◌, ◌+◌, ◌-◌, ◌<◌, ◌≤◌, ◌==◌, ◌^◌, ℕ, List, [], ◌∷◌, ◌++◌, length, take, drop, get_or, arith, refl, sym, ap, subst, ◌∙◌, inl, inr, Bool, true, false, cond, ◌&&◌, not, if◌then◌else◌, ◌⊎◌, ◌↔◌, append_assoc}
+use Rattle.std.proofs.Common.{◌≡◌, ◌≢◌, ◌+◌, ◌-◌, ◌<◌, ◌≤◌, ◌==◌, ℕ, List, [], ◌∷◌, ◌++◌, length, take, drop, get_or, arith, refl, sym, ap, ◌∙◌, inl, inr, Bool, true, false, ◌&&◌, not, if◌then◌else◌, ◌⊎◌, ◌↔◌}
 use Rattle.std.proofs.lemmas.Bool.{cases_lt, cases_eq, eq-eqb, ne_eqb}
 use Rattle.std.proofs.lemmas.List.{take_all, drop_all, length-take, length-drop, length-append, take_at, drop_at, drop-drop, take_more, get_or_at, append-nil, get_or-take}
 use Rattle.fj_modes.specs.declared.specifiers.Access.{Access}
 use Rattle.fj_modes.specs.declared.specifiers.Access.TheVariants.{Sequential, Direct, Stream}
-use Rattle.fj_outside.specs.Bytes.{written}
-use Rattle.fj_seqrec.specs.Lines.{lines, first_line, behind_line}
+use Rattle.fj_seqrec.specs.Lines.{lines, behind_line}
 use Rattle.fj_seqrec.proofs.LineLemmas.{lines_first}
 use Rattle.fj_seqrec.proofs.Positions.{line_feed_place}
-use Rattle.fj_unfrec.specs.Frames.{EndsWithFrame, framed}
-use Rattle.fj_connect.specs.Connection.{Connection, bytes_before, bytes_behind, rest_of_record, record_end, missing_feed, begun, past_record, past_end, with_records, with_open_record, with_frame, with_bytes}
+use Rattle.fj_unfrec.specs.Frames.{framed}
+use Rattle.fj_connect.specs.Connection.{Connection, bytes_before, bytes_behind, rest_of_record, missing_feed, past_record, past_end, with_records, with_open_record, with_bytes}
 use Rattle.fj_connect.specs.PositionLaws.{Stands}
 use Rattle.fj_connect.specs.TransferLaws.{IsPut, PutsAtThePosition, PutsFrames, FeedsOnce, ReadsRecordByRecord}
-use Rattle.fj_connect.specs.declared.spot.Within.TheVariants.{Outside, Writing}
+use Rattle.fj_connect.specs.declared.spot.Within.TheVariants.{Outside}
 
 before_long : (c : Connection) → Stands c → length (bytes_before c) ≡ c.spot.at
 before_long c stands = omega (arith, length-take c.spot.at c.bytes, stands.in_file)

@@ -1,5 +1,5 @@
 -- What holds of the positions and bytes that transfers leave, in the words of the bytes before and behind the position.
-use Rattle.std.specs.Prelude.{◌≡◌, ◌↔◌, ◌⊎◌, ℕ, ◌+◌, ◌-◌, ◌<◌, ◌≤◌, List, [], ◌∷◌, ◌++◌, length, drop, true, false}
+use Rattle.std.specs.Prelude.{◌≡◌, ◌↔◌, ◌⊎◌, ℕ, ◌+◌, ◌<◌, ◌≤◌, List, [], ◌∷◌, ◌++◌, length, drop, true, false}
 use Rattle.fj_modes.specs.declared.specifiers.Access.TheVariants.{Sequential}
 use Rattle.fj_seqrec.specs.Lines.{lines}
 use Rattle.fj_unfrec.specs.Frames.{EndsWithFrame}

@@ -1,7 +1,6 @@
-use Rattle.std.proofs.Common.{rules, arith, ◌≡◌, ◌≢◌, ◌+◌, ◌<◌, ◌≤◌, length, List, ℕ, ◌∷◌, ◌++◌, [], drop, sym, ap, ◌∙◌}
+use Rattle.std.proofs.Common.{◌≡◌, ◌≢◌, ◌+◌, ◌<◌, length, List, ℕ, ◌∷◌, ◌++◌, [], sym, ◌∙◌}
 use Rattle.std.specs.Str.Lines.{strip_carriage_return}
-use Rattle.fj_seqrec.specs.declared.read.RecordRead.TheVariants.{Line, End, TooLong}
-use Rattle.fj_seqrec.specs.Reading.{record_at, HoldsRecord, IsWithin}
+use Rattle.fj_seqrec.specs.declared.read.RecordRead.TheVariants.{Line}
 use Rattle.fj_seqrec.proofs.ReadLaws.{IsRecord, at_line, at_long}
 use Rattle.fj_connect.specs.declared.spot.Within.TheVariants.{Writing}
 use Rattle.fj_connect.specs.Linked.{connection_of}
