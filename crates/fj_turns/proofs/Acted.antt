@@ -179,7 +179,7 @@ module _ {E J A S : Type 0} (m : Meaning E J A Bay Job Answer) (s : Shows S) (P 
     limit = limit;
     run = r;
     slots = qs;
-    ties = core_ties m limit r qs p core t (keeps.0 ∙ sym book) keeps.2;
+    ties = core_ties m limit r qs p core t (keeps.0 ∙ sym book) keeps.3;
     next = same ∙ sym keeps.1;
     ending = none;
     rest_is = is;
@@ -191,7 +191,7 @@ module _ {E J A S : Type 0} (m : Meaning E J A Bay Job Answer) (s : Shows S) (P 
       let q = at.0 in
       let number : ℕ = get_or r.sent slot 0 in
       let r1 : Run = with_core core r in
-      let t1 = core_ties m limit r qs p core t (keeps.0 ∙ sym book) keeps.2 in
+      let t1 = core_ties m limit r qs p core t (keeps.0 ∙ sym book) keeps.3 in
       let p1 : Desked = record { core = core; desks = p.desks } in
       let stage : Stage = Acting (next number) in
       let some : 0 < limit = subst (λ n. n < limit) untagged (less job untagged) in
@@ -206,7 +206,7 @@ module _ {E J A S : Type 0} (m : Meaning E J A Bay Job Answer) (s : Shows S) (P 
       let y : Plain Bay c = turned rest (turn st stage r2) qs2 in
       subst (λ n. ActedTo st rest r (acted (carry p.desks slot job) (next n)) x) logged
       (acted_first st rest r r2 (acted (carry p.desks slot job) (next number)) x y
-      (reach_next m s P x y y (ok x (inr (inl (record { jobs = k; slot = slot; job = job; hand = refl; desks = t.desks ∙ sym (ap (λ z. z.0) walk); gives = subst (λ d. GivesNext d slot job core) (sym (ap (λ z. z.1) walk)) (refl, refl, refl) }))))
+      (reach_next m s P x y y (ok x (record { told = t.told; point = inr (inl (record { jobs = k; slot = slot; job = job; hand = refl; desks = t.desks ∙ sym (ap (λ z. z.0) walk); gives = subst (λ d. GivesNext d slot job core) (sym (ap (λ z. z.1) walk)) (refl, refl, refl) })) }))
       (submit_next m s P st rest stage r1 qs slot q job none is at.1) (0, refl, tt))
       refl later)
     where
@@ -217,7 +217,7 @@ module _ {E J A S : Type 0} (m : Meaning E J A Bay Job Answer) (s : Shows S) (P 
       let q = at.0 in
       let number : ℕ = get_or r.sent slot 0 in
       let r1 : Run = with_core core r in
-      let t1 = core_ties m limit r qs p core t (keeps.0 ∙ sym book) keeps.2 in
+      let t1 = core_ties m limit r qs p core t (keeps.0 ∙ sym book) keeps.3 in
       let p1 : Desked = record { core = core; desks = p.desks } in
       let stage : Stage = Acting (next number) in
       let tag : tag_of job ≡ limit = tagged ∙ sym same in
@@ -233,7 +233,7 @@ module _ {E J A S : Type 0} (m : Meaning E J A Bay Job Answer) (s : Shows S) (P 
       let y : Plain Bay c = turned rest (turn st stage r2) qs2 in
       subst (λ n. ActedTo st rest r (acted (carry p.desks slot job) (next n)) x) logged
       (acted_first st rest r r2 (acted (carry p.desks slot job) (next number)) x y
-      (reach_next m s P x y y (ok x (inr (inl (record { jobs = k; slot = slot; job = job; hand = refl; desks = t.desks ∙ sym (ap (λ z. z.0) walk); gives = subst (λ d. GivesNext d slot job core) (sym (ap (λ z. z.1) walk)) (refl, refl, refl) }))))
+      (reach_next m s P x y y (ok x (record { told = t.told; point = inr (inl (record { jobs = k; slot = slot; job = job; hand = refl; desks = t.desks ∙ sym (ap (λ z. z.0) walk); gives = subst (λ d. GivesNext d slot job core) (sym (ap (λ z. z.1) walk)) (refl, refl, refl) })) }))
       (submit_next m s P st rest stage r1 qs slot q job none is at.1) (0, refl, tt))
       refl later)
   act_reaches (awaits slot job core next) from limit k variables st before rest r qs p t book same (inside, keeps, untagged, onward) walk ok none is =
@@ -241,7 +241,7 @@ module _ {E J A S : Type 0} (m : Meaning E J A Bay Job Answer) (s : Shows S) (P 
       let q = at.0 in
       let number : ℕ = get_or r.sent slot 0 in
       let r1 : Run = with_core core r in
-      let t1 = core_ties m limit r qs p core t (keeps.0 ∙ sym book) keeps.2 in
+      let t1 = core_ties m limit r qs p core t (keeps.0 ∙ sym book) keeps.3 in
       let p1 : Desked = record { core = core; desks = p.desks } in
       let p2 : Desked = record { core = core; desks = carry p.desks slot job } in
       let stage : Stage = Awaiting slot number next in
@@ -254,7 +254,7 @@ module _ {E J A S : Type 0} (m : Meaning E J A Bay Job Answer) (s : Shows S) (P 
       let walk2 : walked (suc k) before.desks (does variables st before) ≡ (carry p.desks slot job, next o) =
       walked_more k before.desks (does variables st before) ∙ ap (λ z. walked 1 z.0 z.1) walk in
       let own = own_out (number - q.told) limit st rest r2 qs2 p2 slot number (given q job) next o t2 none is
-          (λ r' qs' t'. ok (turned rest (settles slot (Awaiting slot number next) r') qs') (inr (inr (record {
+          (λ r' qs' t'. ok (turned rest (settles slot (Awaiting slot number next) r') qs') (record { told = t'.told; point = inr (inr (record {
             jobs = k;
             slot = slot;
             job = job;
@@ -262,7 +262,7 @@ module _ {E J A S : Type 0} (m : Meaning E J A Bay Job Answer) (s : Shows S) (P 
             hand = refl;
             awaited = ap (λ z. z.1) walk ∙ ap (λ now. awaits slot job now next) (sym t'.core);
             desks = t'.desks ∙ ap (λ ds. carry ds slot job) (sym (ap (λ z. z.0) walk));
-          }))))
+          })) }))
           (set_found qs slot (given q job) q at.1) (omega (arith, low)) (longer q job (sent_found m limit r qs p slot q t at.1))
           (ap (log_at (slice_get (carry p.desks slot job) slot)) logged ∙ logged_at m limit r qs p slot q job t at.1) in
       let later = act_reaches (next o) from limit (suc k) variables st before rest own.run own.slots p2 own.ties (ap (λ z. z.book) own.ties.core ∙ keeps.0) same (onward o) walk2 ok own.ending own.rest_is in
@@ -270,7 +270,7 @@ module _ {E J A S : Type 0} (m : Meaning E J A Bay Job Answer) (s : Shows S) (P 
       let y : Plain Bay c = turned rest (turn st stage r2) qs2 in
       let z : Plain Bay c = turned rest (turn_act st (next o) own.run) own.slots in
       acted_first st rest r own.run (acted (carry p.desks slot job) (next o)) x z
-      (reach_next m s P x y z (ok x (inr (inl (record { jobs = k; slot = slot; job = job; hand = refl; desks = t.desks ∙ sym (ap (λ w. w.0) walk); gives = subst (λ d. GivesNext d slot job core) (sym (ap (λ w. w.1) walk)) (refl, refl, refl) }))))
+      (reach_next m s P x y z (ok x (record { told = t.told; point = inr (inl (record { jobs = k; slot = slot; job = job; hand = refl; desks = t.desks ∙ sym (ap (λ w. w.0) walk); gives = subst (λ d. GivesNext d slot job core) (sym (ap (λ w. w.1) walk)) (refl, refl, refl) })) }))
       (submit_next m s P st rest stage r1 qs slot q job none is at.1) own.reaches)
       own.variables later
     where

@@ -1,5 +1,5 @@
 -- The runner served alone: where in a statement it stands, and what it comes to.
-use Rattle.std.specs.Prelude.{◌≡◌, ◌⊎◌, ℕ, zero, suc, List, [], ◌∷◌, Option, Some, None}
+use Rattle.std.specs.Prelude.{◌≡◌, ◌⊎◌, ℕ, zero, suc, ◌≤◌, true, List, [], ◌∷◌, map, slice_get, get_or, Option, Some, None}
 use Rattle.fj_statement.specs.declared.deck.Variable.{Variable}
 use Rattle.fj_slot.specs.Serving.{Meaning}
 use Rattle.fj_world.specs.declared.ask.Ask.TheVariants.{Submit, Settle, Finished}
@@ -8,13 +8,14 @@ use Rattle.fj_world.specs.Plain.{Plain, PlainSlot, next, after}
 use Rattle.fj_bay.specs.Bay.{Bay}
 use Rattle.fj_bay.specs.Jobs.{Job, Answer}
 use Rattle.fj_plain.specs.Statement.{Stated}
-use Rattle.fj_desk.specs.Core.{Core}
+use Rattle.fj_plain.specs.Telling.{tells_id}
+use Rattle.fj_desk.specs.Core.{Core, Pending}
 use Rattle.fj_desk.specs.Desks.{Desk, Outcome, carry}
 use Rattle.fj_desk.specs.Doing.{Doing, finishes, gives, awaits, Desked}
 use Rattle.fj_turns.specs.Run.{Run}
-use Rattle.fj_turns.specs.Turns.{unsettled, waited_now, rule_of}
+use Rattle.fj_turns.specs.Turns.{rule_of}
 use Rattle.fj_turns.specs.Serving.{Shows, run_conduct, desks_of}
-use Rattle.fj_turns.specs.Inside.{does, walked, cut_desks}
+use Rattle.fj_turns.specs.Inside.{waited_at, does, walked, cut_desks}
 
 -- ---- served alone, one state becomes another, and each on the way has a property
 
@@ -41,7 +42,12 @@ module _ {E J A S : Type 0} (m : Meaning E J A Bay Job Answer) (s : Shows S) whe
     pub hand : x.hand ≡ Settle slot
     pub core : x.script.core ≡ before.core
     pub desks : desks_of m x.slots ≡ before.desks
-    pub unsettled : unsettled (waited_now statement x.script) x.script.book ≡ Some slot
+    pub transfer : Pending
+    pub at : ℕ
+    pub pending : slice_get before.core.book at ≡ Some transfer
+    pub place : transfer.slot ≡ slot
+    pub tells : tells_id (waited_at statement before) transfer.id ≡ true
+    pub untold : get_or x.script.told slot 0 ≤ transfer.number
 
   -- its transfers are told and it gave so many jobs, that end halts or are its own: it gives the next one
   pub record GivesJob (variables : List Variable) (statement : Stated) (before : Desked) (x : Plain Bay (run_conduct s)) : Type 0 where
@@ -62,8 +68,10 @@ module _ {E J A S : Type 0} (m : Meaning E J A Bay Job Answer) (s : Shows S) whe
     pub awaited : (walked jobs before.desks (does variables statement before)).1 ≡ awaits slot job x.script.core onward
     pub desks : desks_of m x.slots ≡ carry (walked jobs before.desks (does variables statement before)).0 slot job
 
-  abbrev pub IsInside : List Variable → Stated → Desked → Plain Bay (run_conduct s) → Type 0
-  IsInside variables statement before x = Waits statement before x ⊎ (GivesJob variables statement before x ⊎ AwaitsJob variables statement before x)
+  -- the runner counts the jobs that were told, and stands at one of these points
+  pub record IsInside (variables : List Variable) (statement : Stated) (before : Desked) (x : Plain Bay (run_conduct s)) : Type 0 where
+    pub told : x.script.told ≡ map (λ q. q.told) x.slots
+    pub point : Waits statement before x ⊎ (GivesJob variables statement before x ⊎ AwaitsJob variables statement before x)
 
   -- it stands inside a statement of the deck that is not prohibited
   pub record StandsIn (variables : List Variable) (deck : List Stated) (first : Desked) (x : Plain Bay (run_conduct s)) : Type 0 where
