@@ -13,6 +13,7 @@ use Rattle.fj_world.proofs.Places.{slice_get_in}
 use Rattle.fj_bay.specs.Bay.{Bay}
 use Rattle.fj_bay.specs.Jobs.{Job, Answer}
 use Rattle.fj_plain.specs.Statement.{Stated}
+use Rattle.fj_plain.specs.Telling.{tell_of}
 use Rattle.fj_desk.specs.Core.{Core, Pending, Connected}
 use Rattle.fj_desk.specs.Desks.{Desk, Outcome, carry, log_at, log_length, most_slots}
 use Rattle.fj_desk.specs.Desks as desks
@@ -23,8 +24,8 @@ use Rattle.fj_desk.proofs.Carrying.{serves_at}
 use Rattle.fj_turns.specs.Run.{Held, Stage, Acting, Awaiting, Run}
 use Rattle.fj_turns.specs.Turns.{Turn, with_core, bump, submits, settles, tag_of, turn_finish, turn_act, turn, told_of, stage_told}
 use Rattle.fj_turns.specs.Serving.{over_bays, Shows, run_conduct, desk_of, desks_of}
-use Rattle.fj_turns.specs.Inside.{does, walked}
-use Rattle.fj_turns.specs.Standing.{Reaches, GivesNext, Waits, GivesJob, AwaitsJob, IsInside}
+use Rattle.fj_turns.specs.Inside.{waited_at, does, walked}
+use Rattle.fj_turns.specs.Standing.{Reaches, GivesNext, IsInside}
 use Rattle.fj_turns.proofs.Slots.{each_at, map_get, set_found}
 use Rattle.fj_turns.proofs.Tags.{tag_in, tag_at, serve_tag}
 use Rattle.fj_turns.proofs.Ties.{Ties, more, given, told_found, sent_found, length_found, log_found, settle_ties}
@@ -173,9 +174,9 @@ module _ {E J A S : Type 0} (m : Meaning E J A Bay Job Answer) (s : Shows S) (P 
   -- what a statement does, job after job
   pub act_reaches : (d : Doing) (from : Core) (limit k : ℕ) (variables : List Variable) (st : Stated) (before : Desked) (rest : List Stated) (r : Run) (qs : List (PlainSlot Bay Job)) (p : Desked)
       → Ties m limit r qs p → r.core.book ≡ from.book → limit ≡ from.next → Keeps from d → walked k before.desks (does variables st before) ≡ (p.desks, d)
-      → MayStand m s P variables st before → r.ending ≡ None → r.rest ≡ st ∷ rest
+      → from.tells ≡ before.core.tells ++ map (tell_of st.0.line) (waited_at st before) → MayStand m s P variables st before → r.ending ≡ None → r.rest ≡ st ∷ rest
       → ActedTo st rest r (acted p.desks d) (turned rest (turn_act st d r) qs)
-  act_reaches (finishes core condition) from limit k variables st before rest r qs p t book same keeps walk ok none is = record {
+  act_reaches (finishes core condition) from limit k variables st before rest r qs p t book same keeps walk made ok none is = record {
     limit = limit;
     run = r;
     slots = qs;
@@ -186,7 +187,7 @@ module _ {E J A S : Type 0} (m : Meaning E J A Bay Job Answer) (s : Shows S) (P 
     variables = refl;
     reaches = (0, refl, tt);
   }
-  act_reaches (gives slot job core next) from limit k variables st before rest r qs p t book same (inside, keeps, inl (untagged, onward)) walk ok none is =
+  act_reaches (gives slot job core next) from limit k variables st before rest r qs p t book same (inside, keeps, inl (untagged, onward)) walk made ok none is =
       let at = slice_get_in qs slot (subst (λ n. slot < n) (sym t.slots) inside) in
       let q = at.0 in
       let number : ℕ = get_or r.sent slot 0 in
@@ -201,18 +202,18 @@ module _ {E J A S : Type 0} (m : Meaning E J A Bay Job Answer) (s : Shows S) (P 
       let logged : number ≡ log_length (slice_get p.desks slot) = sent_log m limit r qs p slot q t at.1 in
       let walk2 : walked (suc k) before.desks (does variables st before) ≡ (carry p.desks slot job, next number) =
       walked_more k before.desks (does variables st before) ∙ ap (λ z. walked 1 z.0 z.1) walk ∙ ap (λ n. (carry p.desks slot job, next n)) (sym logged) in
-      let later = act_reaches (next number) from limit (suc k) variables st before rest r2 qs2 (record { core = core; desks = carry p.desks slot job }) t2 keeps.0 same (onward number) walk2 ok none is in
+      let later = act_reaches (next number) from limit (suc k) variables st before rest r2 qs2 (record { core = core; desks = carry p.desks slot job }) t2 keeps.0 same (onward number) walk2 made ok none is in
       let x : Plain Bay c = turned rest (submits slot job stage r1) qs in
       let y : Plain Bay c = turned rest (turn st stage r2) qs2 in
       subst (λ n. ActedTo st rest r (acted (carry p.desks slot job) (next n)) x) logged
       (acted_first st rest r r2 (acted (carry p.desks slot job) (next number)) x y
-      (reach_next m s P x y y (ok x (record { told = t.told; point = inr (inl (record { jobs = k; slot = slot; job = job; hand = refl; desks = t.desks ∙ sym (ap (λ z. z.0) walk); gives = subst (λ d. GivesNext d slot job core) (sym (ap (λ z. z.1) walk)) (refl, refl, refl) })) }))
+      (reach_next m s P x y y (ok x (record { told = t.told; asks = record { tells = keeps.2 ∙ made; jobs = k; desks_are = t.desks ∙ sym (ap (λ z. z.0) walk); gives = subst (λ d. GivesNext d slot job core) (sym (ap (λ z. z.1) walk)) (refl, refl, refl) } }))
       (submit_next m s P st rest stage r1 qs slot q job none is at.1) (0, refl, tt))
       refl later)
     where
       less : (j : Job) → tag_of j ≡ 0 → tag_of j < limit
       less j e = subst (λ n. n < limit) (sym e) (omega (arith, t.tags.below 0 0))
-  act_reaches (gives slot job core next) from limit k variables st before rest r qs p t book same (inside, keeps, inr (tagged, onward)) walk ok none is =
+  act_reaches (gives slot job core next) from limit k variables st before rest r qs p t book same (inside, keeps, inr (tagged, onward)) walk made ok none is =
       let at = slice_get_in qs slot (subst (λ n. slot < n) (sym t.slots) inside) in
       let q = at.0 in
       let number : ℕ = get_or r.sent slot 0 in
@@ -233,10 +234,10 @@ module _ {E J A S : Type 0} (m : Meaning E J A Bay Job Answer) (s : Shows S) (P 
       let y : Plain Bay c = turned rest (turn st stage r2) qs2 in
       subst (λ n. ActedTo st rest r (acted (carry p.desks slot job) (next n)) x) logged
       (acted_first st rest r r2 (acted (carry p.desks slot job) (next number)) x y
-      (reach_next m s P x y y (ok x (record { told = t.told; point = inr (inl (record { jobs = k; slot = slot; job = job; hand = refl; desks = t.desks ∙ sym (ap (λ z. z.0) walk); gives = subst (λ d. GivesNext d slot job core) (sym (ap (λ z. z.1) walk)) (refl, refl, refl) })) }))
+      (reach_next m s P x y y (ok x (record { told = t.told; asks = record { tells = keeps.2 ∙ made; jobs = k; desks_are = t.desks ∙ sym (ap (λ z. z.0) walk); gives = subst (λ d. GivesNext d slot job core) (sym (ap (λ z. z.1) walk)) (refl, refl, refl) } }))
       (submit_next m s P st rest stage r1 qs slot q job none is at.1) (0, refl, tt))
       refl later)
-  act_reaches (awaits slot job core next) from limit k variables st before rest r qs p t book same (inside, keeps, untagged, onward) walk ok none is =
+  act_reaches (awaits slot job core next) from limit k variables st before rest r qs p t book same (inside, keeps, untagged, onward) walk made ok none is =
       let at = slice_get_in qs slot (subst (λ n. slot < n) (sym t.slots) inside) in
       let q = at.0 in
       let number : ℕ = get_or r.sent slot 0 in
@@ -254,23 +255,22 @@ module _ {E J A S : Type 0} (m : Meaning E J A Bay Job Answer) (s : Shows S) (P 
       let walk2 : walked (suc k) before.desks (does variables st before) ≡ (carry p.desks slot job, next o) =
       walked_more k before.desks (does variables st before) ∙ ap (λ z. walked 1 z.0 z.1) walk in
       let own = own_out (number - q.told) limit st rest r2 qs2 p2 slot number (given q job) next o t2 none is
-          (λ r' qs' t'. ok (turned rest (settles slot (Awaiting slot number next) r') qs') (record { told = t'.told; point = inr (inr (record {
+          (λ r' qs' t'. ok (turned rest (settles slot (Awaiting slot number next) r') qs') (record { told = t'.told; asks = inr (record {
+            tells = ap (λ z. z.tells) t'.core ∙ keeps.2 ∙ made;
             jobs = k;
-            slot = slot;
             job = job;
             onward = next;
-            hand = refl;
             awaited = ap (λ z. z.1) walk ∙ ap (λ now. awaits slot job now next) (sym t'.core);
-            desks = t'.desks ∙ ap (λ ds. carry ds slot job) (sym (ap (λ z. z.0) walk));
-          })) }))
+            desks_are = t'.desks ∙ ap (λ ds. carry ds slot job) (sym (ap (λ z. z.0) walk));
+          }) }))
           (set_found qs slot (given q job) q at.1) (omega (arith, low)) (longer q job (sent_found m limit r qs p slot q t at.1))
           (ap (log_at (slice_get (carry p.desks slot job) slot)) logged ∙ logged_at m limit r qs p slot q job t at.1) in
-      let later = act_reaches (next o) from limit (suc k) variables st before rest own.run own.slots p2 own.ties (ap (λ z. z.book) own.ties.core ∙ keeps.0) same (onward o) walk2 ok own.ending own.rest_is in
+      let later = act_reaches (next o) from limit (suc k) variables st before rest own.run own.slots p2 own.ties (ap (λ z. z.book) own.ties.core ∙ keeps.0) same (onward o) walk2 made ok own.ending own.rest_is in
       let x : Plain Bay c = turned rest (submits slot job stage r1) qs in
       let y : Plain Bay c = turned rest (turn st stage r2) qs2 in
       let z : Plain Bay c = turned rest (turn_act st (next o) own.run) own.slots in
       acted_first st rest r own.run (acted (carry p.desks slot job) (next o)) x z
-      (reach_next m s P x y z (ok x (record { told = t.told; point = inr (inl (record { jobs = k; slot = slot; job = job; hand = refl; desks = t.desks ∙ sym (ap (λ w. w.0) walk); gives = subst (λ d. GivesNext d slot job core) (sym (ap (λ w. w.1) walk)) (refl, refl, refl) })) }))
+      (reach_next m s P x y z (ok x (record { told = t.told; asks = record { tells = keeps.2 ∙ made; jobs = k; desks_are = t.desks ∙ sym (ap (λ w. w.0) walk); gives = subst (λ d. GivesNext d slot job core) (sym (ap (λ w. w.1) walk)) (refl, refl, refl) } }))
       (submit_next m s P st rest stage r1 qs slot q job none is at.1) own.reaches)
       own.variables later
     where

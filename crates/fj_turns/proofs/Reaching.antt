@@ -25,7 +25,7 @@ use Rattle.fj_turns.specs.Run.{Held, known, Stage, Start, Waiting, Run}
 use Rattle.fj_turns.specs.Turns.{Turn, Pauses, Passes, Stops, unsettled, bump, submits, settles, turn_tell, wait_by, waited_now, turn_wait, turn, Asked, by_turn, asked_on, asked, told_of}
 use Rattle.fj_turns.specs.Serving.{over_bays, Shows, run_conduct, desks_of}
 use Rattle.fj_turns.specs.Inside.{waited_at}
-use Rattle.fj_turns.specs.Standing.{Along, Reaches, Waits, GivesJob, AwaitsJob, IsInside}
+use Rattle.fj_turns.specs.Standing.{Along, Reaches, IsInside}
 use Rattle.fj_turns.proofs.Slots.{map_get}
 use Rattle.fj_turns.proofs.Tags.{tag_in, tag_at, tag_inside}
 use Rattle.fj_turns.proofs.Ties.{answer_at, IsKept, Ties, more, given, untold, untold_less, told_found, sent_found, length_found, settle_ties}
@@ -208,11 +208,9 @@ module _ {E J A S : Type 0} (m : Meaning E J A Bay Job Answer) (s : Shows S) (P 
       let found = transfer_at m limit st r qs p slot t e in
       record {
         told = t.told;
-        point = inl (record {
-          slot = slot;
-          hand = refl;
+        asks = inl (record {
           core = t.core;
-          desks = t.desks;
+          desks_are = t.desks;
           transfer = found.0;
           at = found.1;
           pending = found.2;

@@ -151,7 +151,7 @@ module _ {E J A S : Type 0} (m : Meaning E J A Bay Job Answer) (s : Shows S) (P 
       ap (λ k. doing_told w.run.variables st told k) w.ties.core ∙ ap (λ vs. doing_told vs st told p.core) w.variables in
       let t2 = tell_ties m limit st told w.run w.slots p w.ties in
       let keeps = subst (λ vs. Keeps (told_core vs st.0.line told p.core) (does r.variables st p)) (sym w.variables) (does_keeps r.variables st p (subst (λ k. Housed k.units) w.ties.core w.ties.housed)) in
-      let acted_to = act_reaches m s P (does r.variables st p) new limit 0 r.variables st p rest run2 w.slots (record { core = new; desks = p.desks }) t2 (ap (λ k. k.book) t2.core) same keeps refl ok w.ending w.rest_is in
+      let acted_to = act_reaches m s P (does r.variables st p) new limit 0 r.variables st p rest run2 w.slots (record { core = new; desks = p.desks }) t2 (ap (λ k. k.book) t2.core) same keeps refl refl ok w.ending w.rest_is in
       let y : Plain Bay c = turned rest (turn_act st (does r.variables st p) run2) w.slots in
       let first : Reaches (over_bays m) c P (turned rest (turn_wait st r) qs) y =
       subst (λ d. Reaches (over_bays m) c P (turned rest (turn_wait st r) qs) (turned rest (turn_act st d run2) w.slots)) doing_is w.reaches in
