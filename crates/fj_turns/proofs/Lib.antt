@@ -8,3 +8,5 @@ pub mod Reaching
 pub mod Acted
 pub mod Statements
 pub mod Decks
+pub mod Finishing
+pub mod Cutting

@@ -1,0 +1,27 @@
+// What holds of every deck, as contracts of functions with nothing to do.
+ghost use Rattle.fj_turns.specs.Laws.{RunnersArePlain, RunsExecute, EntriesStand, StopsCut, WorldsAreCut};
+
+/// Served alone, the runner comes to the execution over desks; each state on the way stands inside a statement.
+pub fn runners_are_plain()
+    ensures { RunnersArePlain }
+{}
+
+/// Where a script was served alone and is not over, its runner and its slots hold what the execution came to.
+pub fn runs_execute()
+    ensures { RunsExecute }
+{}
+
+/// After any number of entries the runner has finished, or stands inside a statement that is not prohibited.
+pub fn entries_stand()
+    ensures { EntriesStand }
+{}
+
+/// Where an answer is awaited, the execution is cut just before a statement, whose first jobs the slots have.
+pub fn stops_cut()
+    ensures { StopsCut }
+{}
+
+/// A world whose script was told a stop is cut, whatever the order of its events was.
+pub fn worlds_are_cut()
+    ensures { WorldsAreCut }
+{}
