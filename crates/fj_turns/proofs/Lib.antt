@@ -10,3 +10,4 @@ pub mod Statements
 pub mod Decks
 pub mod Finishing
 pub mod Cutting
+pub mod Meant

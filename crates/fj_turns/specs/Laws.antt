@@ -9,6 +9,7 @@ use Rattle.fj_turns.specs.Run.{Run}
 use Rattle.fj_turns.specs.Serving.{Shows}
 use Rattle.fj_turns.specs.Whole.{RunnerIsPlain}
 use Rattle.fj_turns.specs.Executing.{ExecutesDecks}
+use Rattle.fj_turns.specs.Meant.{LeavesResult}
 use Rattle.fj_turns.specs.Cutting.{EachEntry, CutAtStop, WorldIsCut}
 
 -- a bay, with a count of faults of its file
@@ -32,6 +33,9 @@ RunnersArePlain = (s : Shows Run) → RunnerIsPlain plain_bays s
 
 abbrev pub RunsExecute : Type 0
 RunsExecute = (s : Shows Run) → ExecutesDecks plain_bays s
+
+abbrev pub RunsLeaveResults : Type 0
+RunsLeaveResults = (s : Shows Run) → LeavesResult plain_bays s
 
 abbrev pub EntriesStand : Type 0
 EntriesStand = (s : Shows Run) → EachEntry plain_bays s

@@ -6,5 +6,6 @@ pub mod Standing
 pub mod Whole
 pub mod Executing
 pub mod Cutting
+pub mod Meant
 pub mod Laws
 pub mod Cases

@@ -1,5 +1,6 @@
 // What holds of every deck, as contracts of functions with nothing to do.
-ghost use Rattle.fj_turns.specs.Laws.{RunnersArePlain, RunsExecute, EntriesStand, StopsCut, WorldsAreCut};
+ghost use Rattle.fj_turns.specs.Laws.{RunnersArePlain, RunsExecute, RunsLeaveResults, EntriesStand, StopsCut, WorldsAreCut};
+ghost use Rattle.fj_turns.specs.Meant.{CutsAgree};
 
 /// Served alone, the runner comes to the execution over desks; each state on the way stands inside a statement.
 pub fn runners_are_plain()
@@ -9,6 +10,11 @@ pub fn runners_are_plain()
 /// Where a script was served alone and is not over, its runner and its slots hold what the execution came to.
 pub fn runs_execute()
     ensures { RunsExecute }
+{}
+
+/// What it leaves is the result of the deck.
+pub fn runs_leave_results()
+    ensures { RunsLeaveResults }
 {}
 
 /// After any number of entries the runner has finished, or stands inside a statement that is not prohibited.
@@ -24,4 +30,9 @@ pub fn stops_cut()
 /// A world whose script was told a stop is cut, whatever the order of its events was.
 pub fn worlds_are_cut()
     ensures { WorldsAreCut }
+{}
+
+/// Where the execution over desks is cut, the statement and the state are those of what the deck means.
+pub fn cuts_agree()
+    ensures { CutsAgree }
 {}

@@ -7,4 +7,7 @@ mod cases;
 mod laws;
 
 pub use cases::{fine_ends_no_halt_alone, skipped_tell_their_cause_alone};
-pub use laws::{entries_stand, runners_are_plain, runs_execute, stops_cut, worlds_are_cut};
+pub use laws::{
+    cuts_agree, entries_stand, runners_are_plain, runs_execute, runs_leave_results, stops_cut,
+    worlds_are_cut,
+};
