@@ -1,12 +1,12 @@
 -- The runner served alone, through all that a statement does once its transfers are told.
-use Rattle.std.proofs.Common.{◌≡◌, ◌⊎◌, ℕ, zero, suc, ◌+◌, ◌-◌, ◌<◌, ◌≤◌, Bool, true, false, List, [], ◌∷◌, ◌++◌, map, length, Option, Some, None, slice_get, set, get_or, refl, sym, ap, ◌∙◌, subst, inl, inr, ◌&&◌, arith}
+use Rattle.std.proofs.Common.{◌≡◌, ℕ, zero, suc, ◌+◌, ◌-◌, ◌<◌, ◌≤◌, List, [], ◌∷◌, ◌++◌, map, length, Some, None, slice_get, set, get_or, refl, sym, ap, ◌∙◌, subst, inl, inr, ◌&&◌, arith}
 use Rattle.std.specs.Prelude.{if◌then◌else◌, ◌==◌}
 use Rattle.std.proofs.lemmas.Bool.{eq-eqb, ne_eqb}
 use Rattle.std.proofs.lemmas.List.{length-append}
 use Rattle.fj_value.specs.declared.condition.Condition.{Condition}
 use Rattle.fj_statement.specs.declared.deck.Variable.{Variable}
 use Rattle.fj_slot.specs.Serving.{Meaning}
-use Rattle.fj_slot.specs.Sound.{outcomes, outcome}
+use Rattle.fj_slot.specs.Sound.{outcome}
 use Rattle.fj_world.specs.Conduct.{Conduct}
 use Rattle.fj_world.specs.Plain.{Plain, PlainSlot, next}
 use Rattle.fj_world.proofs.Places.{slice_get_in}
@@ -14,24 +14,23 @@ use Rattle.fj_bay.specs.Bay.{Bay}
 use Rattle.fj_bay.specs.Jobs.{Job, Answer}
 use Rattle.fj_plain.specs.Statement.{Stated}
 use Rattle.fj_plain.specs.Telling.{tell_of}
-use Rattle.fj_desk.specs.Core.{Core, Pending, Connected}
+use Rattle.fj_desk.specs.Core.{Core}
 use Rattle.fj_desk.specs.Desks.{Desk, Outcome, carry, log_at, log_length, most_slots}
 use Rattle.fj_desk.specs.Desks as desks
 use Rattle.fj_desk.specs.Doing.{Doing, finishes, gives, awaits, Desked, acted}
 use Rattle.fj_desk.specs.Forgetting.{bay_at}
-use Rattle.fj_desk.proofs.Apart.{Each}
 use Rattle.fj_desk.proofs.Carrying.{serves_at}
-use Rattle.fj_turns.specs.Run.{Held, Stage, Acting, Awaiting, Run}
-use Rattle.fj_turns.specs.Turns.{Turn, with_core, bump, submits, settles, tag_of, turn_finish, turn_act, turn, told_of, stage_told}
-use Rattle.fj_turns.specs.Serving.{over_bays, Shows, run_conduct, desk_of, desks_of}
+use Rattle.fj_turns.specs.Run.{Stage, Acting, Awaiting, Run}
+use Rattle.fj_turns.specs.Turns.{Turn, with_core, bump, submits, settles, tag_of, turn_finish, turn_act, turn, told_of}
+use Rattle.fj_turns.specs.Serving.{over_bays, Shows, run_conduct, desk_of}
 use Rattle.fj_turns.specs.Inside.{waited_at, does, walked}
-use Rattle.fj_turns.specs.Standing.{Reaches, GivesNext, IsInside}
+use Rattle.fj_turns.specs.Standing.{Reaches, GivesNext}
 use Rattle.fj_turns.proofs.Slots.{each_at, map_get, set_found}
 use Rattle.fj_turns.proofs.Tags.{tag_in, tag_at, serve_tag}
 use Rattle.fj_turns.proofs.Ties.{Ties, more, given, told_found, sent_found, length_found, log_found, settle_ties}
 use Rattle.fj_turns.proofs.Tying.{core_ties, pending_ties, submit_ties}
-use Rattle.fj_turns.proofs.EachKind.{KeepsBook, Starts, Keeps}
-use Rattle.fj_turns.proofs.Reaching.{at_turn, settle_next, submit_next, reach_here, reach_next, reach_then, answer_of, MayStand}
+use Rattle.fj_turns.proofs.EachKind.{Starts, Keeps}
+use Rattle.fj_turns.proofs.Reaching.{at_turn, settle_next, submit_next, reach_next, reach_then, answer_of, MayStand}
 
 -- one job more
 pub walked_more : (k : ℕ) (ds : List Desk) (d : Doing) → walked (suc k) ds d ≡ walked 1 (walked k ds d).0 (walked k ds d).1
@@ -229,7 +228,7 @@ module _ {E J A S : Type 0} (m : Meaning E J A Bay Job Answer) (s : Shows S) (P 
       let low : get_or r.told slot 0 ≤ number =
       omega (arith, told_found m limit r qs p slot q t at.1, sent_found m limit r qs p slot q t at.1, each_at (λ x. x.told ≤ length x.jobs) qs slot q t.within at.1) in
       let later = start_reaches (next number) from limit st rest r2 qs2 (record { core = core; desks = carry p.desks slot job }) slot number t2 keeps.0 same (omega (arith, t.tags.below 0 0)) low
-          (ap (tag_at (carry p.desks slot job) slot) logged ∙ tag_logged m limit r qs p slot q job t at.1 ∙ tag) (onward number) none is in
+      (ap (tag_at (carry p.desks slot job) slot) logged ∙ tag_logged m limit r qs p slot q job t at.1 ∙ tag) (onward number) none is in
       let x : Plain Bay c = turned rest (submits slot job stage r1) qs in
       let y : Plain Bay c = turned rest (turn st stage r2) qs2 in
       subst (λ n. ActedTo st rest r (acted (carry p.desks slot job) (next n)) x) logged
@@ -255,16 +254,19 @@ module _ {E J A S : Type 0} (m : Meaning E J A Bay Job Answer) (s : Shows S) (P 
       let walk2 : walked (suc k) before.desks (does variables st before) ≡ (carry p.desks slot job, next o) =
       walked_more k before.desks (does variables st before) ∙ ap (λ z. walked 1 z.0 z.1) walk in
       let own = own_out (number - q.told) limit st rest r2 qs2 p2 slot number (given q job) next o t2 none is
-          (λ r' qs' t'. ok (turned rest (settles slot (Awaiting slot number next) r') qs') (record { told = t'.told; asks = inr (record {
-            tells = ap (λ z. z.tells) t'.core ∙ keeps.2 ∙ made;
-            jobs = k;
-            job = job;
-            onward = next;
-            awaited = ap (λ z. z.1) walk ∙ ap (λ now. awaits slot job now next) (sym t'.core);
-            desks_are = t'.desks ∙ ap (λ ds. carry ds slot job) (sym (ap (λ z. z.0) walk));
-          }) }))
-          (set_found qs slot (given q job) q at.1) (omega (arith, low)) (longer q job (sent_found m limit r qs p slot q t at.1))
-          (ap (log_at (slice_get (carry p.desks slot job) slot)) logged ∙ logged_at m limit r qs p slot q job t at.1) in
+      (λ r' qs' t'. ok (turned rest (settles slot (Awaiting slot number next) r') qs') (record {
+        told = t'.told;
+        asks = inr (record {
+          tells = ap (λ z. z.tells) t'.core ∙ keeps.2 ∙ made;
+          jobs = k;
+          job = job;
+          onward = next;
+          awaited = ap (λ z. z.1) walk ∙ ap (λ now. awaits slot job now next) (sym t'.core);
+          desks_are = t'.desks ∙ ap (λ ds. carry ds slot job) (sym (ap (λ z. z.0) walk));
+        });
+      }))
+      (set_found qs slot (given q job) q at.1) (omega (arith, low)) (longer q job (sent_found m limit r qs p slot q t at.1))
+      (ap (log_at (slice_get (carry p.desks slot job) slot)) logged ∙ logged_at m limit r qs p slot q job t at.1) in
       let later = act_reaches (next o) from limit (suc k) variables st before rest own.run own.slots p2 own.ties (ap (λ z. z.book) own.ties.core ∙ keeps.0) same (onward o) walk2 made ok own.ending own.rest_is in
       let x : Plain Bay c = turned rest (submits slot job stage r1) qs in
       let y : Plain Bay c = turned rest (turn st stage r2) qs2 in

@@ -1,15 +1,11 @@
 -- The execution cut where a stop is told.
-use Rattle.std.proofs.Common.{◌≡◌, ◌⊎◌, ℕ, zero, suc, ◌+◌, ◌<◌, ◌≤◌, true, List, [], ◌∷◌, map, length, take, get_or, Option, Some, None, slice_get, refl, sym, ap, ◌∙◌, subst, inl, inr, arith}
-use Rattle.std.specs.Prelude.{is_some}
+use Rattle.std.proofs.Common.{◌≡◌, ◌⊎◌, ℕ, zero, suc, List, take, get_or, Some, None, slice_get, refl, sym, ap, ◌∙◌, subst, inl, inr, arith}
 use Rattle.std.proofs.lemmas.Option.{slice_get_within}
 use Rattle.fj_statement.specs.declared.deck.Variable.{Variable}
-use Rattle.fj_slot.specs.Ledger.{Ledger}
 use Rattle.fj_slot.specs.Serving.{Meaning}
 use Rattle.fj_world.specs.declared.ask.Ask.TheVariants.{Settle, Finished}
 use Rattle.fj_world.specs.Conduct.{Conduct}
-use Rattle.fj_world.specs.Fits.{Fits}
-use Rattle.fj_world.specs.Plain.{Plain, PlainSlot, after, next, served}
-use Rattle.fj_world.specs.Scene.{Scene}
+use Rattle.fj_world.specs.Plain.{Plain, after, next, served}
 use Rattle.fj_world.proofs.Places.{slice_get_in}
 use Rattle.fj_bay.specs.Bay.{Bay}
 use Rattle.fj_bay.specs.Jobs.{Job, Answer}
@@ -17,14 +13,14 @@ use Rattle.fj_plain.specs.Statement.{Stated}
 use Rattle.fj_desk.specs.Desks.{Desk, carry, log_length}
 use Rattle.fj_desk.specs.Desks as desks
 use Rattle.fj_desk.specs.Doing.{Doing, finishes, gives, awaits, Desked, acted, given}
-use Rattle.fj_desk.specs.Desking.{acts, completed, goes_on, desk_step, fresh}
+use Rattle.fj_desk.specs.Desking.{completed, goes_on, desk_step, fresh}
 use Rattle.fj_desk.specs.Giving.{carry_all}
 use Rattle.fj_turns.specs.Run.{Run}
 use Rattle.fj_turns.specs.Turns.{rule_of}
 use Rattle.fj_turns.specs.Serving.{over_bays, Shows, run_conduct, desks_of, begins}
-use Rattle.fj_turns.specs.Inside.{waited_at, does, jobs_of, walked}
-use Rattle.fj_turns.specs.Standing.{Along, Waits, AwaitsJob, Asks, StandsIn}
-use Rattle.fj_turns.specs.Cutting.{StopAt, stands, EachEntry, IsCut, CutAtStop, IsCutRun, WorldIsCut}
+use Rattle.fj_turns.specs.Inside.{does, jobs_of, walked}
+use Rattle.fj_turns.specs.Standing.{Along, AwaitsJob, Asks, StandsIn}
+use Rattle.fj_turns.specs.Cutting.{StopAt, stands, EachEntry, CutAtStop, WorldIsCut}
 use Rattle.fj_turns.proofs.Slots.{get_mapped}
 use Rattle.fj_turns.proofs.Acted.{walked_more}
 use Rattle.fj_turns.proofs.Statements.{acts_are, step_is}

@@ -1,5 +1,5 @@
 -- The runner served alone, through a whole deck.
-use Rattle.std.proofs.Common.{◌≡◌, ◌⊎◌, ℕ, zero, suc, ◌+◌, ◌<◌, ◌≤◌, Bool, true, false, List, [], ◌∷◌, map, length, replicate, Option, Some, None, slice_get, refl, sym, ap, ◌∙◌, subst, inl, inr, arith}
+use Rattle.std.proofs.Common.{◌≡◌, ℕ, zero, suc, ◌≤◌, List, [], ◌∷◌, length, replicate, Option, Some, None, refl, sym, ap, ◌∙◌, subst, arith}
 use Rattle.fj_statement.specs.declared.deck.Variable.{Variable}
 use Rattle.fj_slot.specs.Serving.{Meaning}
 use Rattle.fj_world.specs.declared.ask.Ask.TheVariants.{Finished}
@@ -9,18 +9,17 @@ use Rattle.fj_bay.specs.Bay.{Bay}
 use Rattle.fj_bay.specs.Jobs.{Job, Answer}
 use Rattle.fj_plain.specs.State.{Files}
 use Rattle.fj_plain.specs.Statement.{Stated, Ending}
-use Rattle.fj_desk.specs.Core.{Core}
-use Rattle.fj_desk.specs.Desks.{Desk, most_slots, fresh_desks}
+use Rattle.fj_desk.specs.Desks.{most_slots}
 use Rattle.fj_desk.specs.Doing.{Desked}
 use Rattle.fj_desk.specs.Desking.{desk_step, DesksRan, over_desks, fresh}
 use Rattle.fj_turns.specs.Run.{Start, Run}
 use Rattle.fj_turns.specs.Turns.{Turn, Pauses, Passes, Stops, Asked, finish_by, rule_of, turn_start, goes, by_turn}
-use Rattle.fj_turns.specs.Serving.{over_bays, Shows, run_conduct, desks_of, first_run, fresh_slots, begins}
+use Rattle.fj_turns.specs.Serving.{over_bays, Shows, run_conduct, first_run, fresh_slots, begins}
 use Rattle.fj_turns.specs.Inside.{cut_desks}
 use Rattle.fj_turns.specs.Standing.{Reaches, StandsIn}
 use Rattle.fj_turns.specs.Whole.{ComesTo, RunnerIsPlain}
 use Rattle.fj_turns.proofs.Slots.{each_replicate, none_beyond}
-use Rattle.fj_turns.proofs.Tags.{tag_in, tag_at, AreTagged}
+use Rattle.fj_turns.proofs.Tags.{tag_in, tag_at}
 use Rattle.fj_turns.proofs.Ties.{Ties}
 use Rattle.fj_turns.proofs.Reaching.{reach_then, MayStand}
 use Rattle.fj_turns.proofs.Statements.{turned, Stepped, step_reaches}
@@ -28,24 +27,24 @@ use Rattle.fj_turns.proofs.Statements.{turned, Stepped, step_reaches}
 goes_is_turn : (st : Stated) (rest : List Stated) (r : Run) → goes (st ∷ rest) r ≡ by_turn rest (turn_start st (record r { rest = st ∷ rest }))
 goes_is_turn st rest r = by (turn_start st (record r { rest = st ∷ rest }))
   where
-    by : (t : Turn) → (elim t as (λ _. Asked) [ | Pauses ask run ↦ record { ask = ask; run = run } | Passes run ↦ goes rest run | Stops run ↦ record { ask = Finished; run = run } ]) ≡ by_turn rest t
+    by : (t : Turn) → (elim t as (λ _. Asked) [ Pauses ask run ↦ record { ask = ask; run = run } | Passes run ↦ goes rest run | Stops run ↦ record { ask = Finished; run = run } ]) ≡ by_turn rest t
     by (Pauses ask run) = refl
     by (Passes run) = refl
     by (Stops run) = refl
 
 ran_on : (variables : List Variable) (st : Stated) (more : List Stated) (p : Desked) → (desk_step variables st p).1 ≡ None → over_desks variables (st ∷ more) p ≡ over_desks variables more (desk_step variables st p).0
 ran_on variables st more p e =
-    ap (λ o. elim o as (λ _. DesksRan) [ | None ↦ over_desks variables more (desk_step variables st p).0 | Some x ↦ record { desked = (desk_step variables st p).0; ending = Some x } ]) e
+    ap (λ o. elim o as (λ _. DesksRan) [ None ↦ over_desks variables more (desk_step variables st p).0 | Some x ↦ record { desked = (desk_step variables st p).0; ending = Some x } ]) e
 
 ran_out : (variables : List Variable) (st : Stated) (more : List Stated) (p : Desked) (ending : Ending) → (desk_step variables st p).1 ≡ Some ending
     → over_desks variables (st ∷ more) p ≡ record { desked = (desk_step variables st p).0; ending = Some ending }
 ran_out variables st more p ending e =
-    ap (λ o. elim o as (λ _. DesksRan) [ | None ↦ over_desks variables more (desk_step variables st p).0 | Some x ↦ record { desked = (desk_step variables st p).0; ending = Some x } ]) e
+    ap (λ o. elim o as (λ _. DesksRan) [ None ↦ over_desks variables more (desk_step variables st p).0 | Some x ↦ record { desked = (desk_step variables st p).0; ending = Some x } ]) e
 
 pub cut_on : (variables : List Variable) (index : ℕ) (st : Stated) (more : List Stated) (p : Desked) → (desk_step variables st p).1 ≡ None
     → cut_desks variables (suc index) (st ∷ more) p ≡ cut_desks variables index more (desk_step variables st p).0
 cut_on variables index st more p e =
-    ap (λ o. elim o as (λ _. Option (Stated × Desked)) [ | None ↦ cut_desks variables index more (desk_step variables st p).0 | Some x ↦ None ]) e
+    ap (λ o. elim o as (λ _. Option (Stated × Desked)) [ None ↦ cut_desks variables index more (desk_step variables st p).0 | Some x ↦ None ]) e
 
 -- ---- the start
 

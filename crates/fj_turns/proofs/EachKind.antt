@@ -1,5 +1,5 @@
 -- What each kind of statement does keeps to slots, and leaves pending transfers alone, but for one that it starts.
-use Rattle.std.proofs.Common.{◌≡◌, ◌⊎◌, ℕ, ℤ, zero, suc, ◌+◌, ◌<◌, ◌≤◌, Bool, true, false, not, List, [], ◌∷◌, ◌++◌, map, Option, Some, None, refl, sym, ap, ◌∙◌, subst, inl, inr, ◌&&◌, ◌||◌, arith}
+use Rattle.std.proofs.Common.{◌≡◌, ◌⊎◌, ℕ, ℤ, zero, suc, ◌+◌, ◌<◌, Bool, true, false, not, List, [], ◌∷◌, ◌++◌, Option, Some, None, refl, sym, ap, ◌∙◌, subst, inl, inr, ◌&&◌, arith}
 use Rattle.std.specs.Prelude.{nat_lt, if◌then◌else◌, filter, ◌==◌, unwrap_or, Result, Ok, Err}
 use Rattle.std.specs.List.{list_any}
 use Rattle.std.proofs.lemmas.Bool.{cases_Bool}
@@ -9,7 +9,6 @@ use Rattle.fj_modes.specs.declared.modes.Modes.{Modes}
 use Rattle.fj_modes.specs.Modes.{settled}
 use Rattle.fj_modes.specs.Modes as mode
 use Rattle.fj_modes.specs.declared.specifiers.OpenSpec.{OpenSpec}
-use Rattle.fj_modes.specs.declared.asked.Question.{Question}
 use Rattle.fj_modes.specs.declared.asked.Wanted.{Wanted}
 use Rattle.fj_modes.specs.declared.unit.Motion.{Motion}
 use Rattle.fj_modes.specs.declared.unit.Motion.TheVariants as motion
@@ -24,7 +23,6 @@ use Rattle.fj_statement.specs.declared.statement.Statement.{Statement}
 use Rattle.fj_statement.specs.declared.statement.Statement.TheVariants as statement
 use Rattle.fj_statement.specs.declared.statement.Transfer.{Transfer}
 use Rattle.fj_bay.specs.Halt.{halts}
-use Rattle.fj_bay.specs.Jobs.{Job, resume}
 use Rattle.fj_plain.specs.Needs.{number_of, number_given, unit_about}
 use Rattle.fj_plain.specs.Telling.{is_asynchronous}
 use Rattle.fj_plain.specs.Transfers.{moved_in, layout_of, refusal, without_values, with_cells}
@@ -33,8 +31,8 @@ use Rattle.fj_plain.specs.Statement.{file_asked}
 use Rattle.fj_desk.specs.Core.{Core, Pending, Connected, connected_at, unit_named, with_connected, inserted, without_connected}
 use Rattle.fj_desk.specs.Desks.{Outcome, most_slots, cells_in, count_in, condition_in}
 use Rattle.fj_desk.specs.Doing.{Doing, finishes, gives, awaits}
-use Rattle.fj_desk.specs.Acting.{with_items_out, with_pending, pending_of, finishes_behind, carried_out, transferred, refused, unless_refused, on_unit, on_star, transfer_at, keeps, disconnected, detaches, closes, closes_anyway, all_closed, free_from, changes, is_taken, attaches, connects_at, connects, closes_first, opens_with, opens, job_of, moves, asks_connection, inquires, if_numbered, unit_at, own, instead, doing}
-use Rattle.fj_desk.proofs.Apart.{Each, each_filter, each_append, each_imp}
+use Rattle.fj_desk.specs.Acting.{pending_of, finishes_behind, transferred, unless_refused, on_unit, transfer_at, keeps, disconnected, detaches, closes, closes_anyway, all_closed, free_from, changes, is_taken, attaches, connects_at, connects, closes_first, opens_with, opens, job_of, moves, asks_connection, inquires, if_numbered, unit_at, own, instead, doing}
+use Rattle.fj_desk.proofs.Apart.{Each, each_filter, each_append}
 use Rattle.fj_turns.specs.Turns.{tag_of, ends_halts}
 
 -- each unit has a slot

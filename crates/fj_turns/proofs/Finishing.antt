@@ -1,25 +1,17 @@
 -- A runner that was served alone and has finished.
-use Rattle.std.proofs.Common.{◌≡◌, ℕ, zero, suc, ◌+◌, List, [], ◌∷◌, slice_get, Option, Some, None, false, refl, sym, ap, ◌∙◌, subst, arith}
-use Rattle.fj_statement.specs.declared.deck.Variable.{Variable}
-use Rattle.fj_slot.specs.Ledger.{Ledger}
+use Rattle.std.proofs.Common.{◌≡◌, ℕ, zero, suc, ◌+◌, List, [], ◌∷◌, slice_get, Some, refl, sym, ap, ◌∙◌, subst, arith}
 use Rattle.fj_slot.specs.Serving.{Meaning}
 use Rattle.fj_world.specs.declared.ask.Ask.TheVariants.{Submit, Settle, Finished}
 use Rattle.fj_world.specs.declared.ask.Ask.{Ask}
-use Rattle.fj_world.specs.Alone.{ServedAlone}
 use Rattle.fj_world.specs.Conduct.{Conduct, IsAsk}
 use Rattle.fj_world.specs.Fits.{Fits}
 use Rattle.fj_world.specs.Plain.{Plain, PlainSlot, after, next, served}
-use Rattle.fj_world.specs.Rack.{Rack}
 use Rattle.fj_world.specs.Scene.{Scene}
 use Rattle.fj_bay.specs.Bay.{Bay}
 use Rattle.fj_bay.specs.Jobs.{Job, Answer}
-use Rattle.fj_plain.specs.State.{Files}
-use Rattle.fj_plain.specs.Statement.{Stated}
 use Rattle.fj_desk.specs.Desks.{Desk}
-use Rattle.fj_desk.specs.Desking.{DesksRan, over_desks, fresh}
-use Rattle.fj_turns.specs.Run.{Run}
 use Rattle.fj_turns.specs.Serving.{over_bays, Shows, run_conduct, desk_of, desks_of, begins}
-use Rattle.fj_turns.specs.Executing.{HoldsDesk, HoldsDesks, CameTo, ExecutesDecks}
+use Rattle.fj_turns.specs.Executing.{HoldsDesks, ExecutesDecks}
 use Rattle.fj_turns.proofs.Decks.{runner_is_plain}
 
 module _ {S G J A P T R : Type 0} (mean : Meaning G J A P T R) (c : Conduct S T R) where

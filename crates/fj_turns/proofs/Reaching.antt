@@ -1,13 +1,12 @@
 -- The runner served alone, until the transfers that a statement waits for are told.
-use Rattle.std.proofs.Common.{◌≡◌, ◌⊎◌, ℕ, zero, suc, ◌+◌, ◌-◌, ◌<◌, ◌≤◌, Bool, true, false, List, [], ◌∷◌, ◌++◌, map, length, Option, Some, None, is_some, is_none, slice_get, set, get_or, refl, sym, ap, ◌∙◌, subst, inl, inr, arith}
+use Rattle.std.proofs.Common.{◌≡◌, ℕ, zero, suc, ◌+◌, ◌<◌, ◌≤◌, Bool, true, false, List, [], ◌∷◌, map, length, Option, Some, None, is_some, is_none, slice_get, set, get_or, refl, sym, ap, ◌∙◌, subst, inl, inr, arith}
 use Rattle.std.specs.Prelude.{if◌then◌else◌, nat_lt}
-use Rattle.std.proofs.lemmas.Bool.{cases_Bool, ltb-true, ltb-false}
+use Rattle.std.proofs.lemmas.Bool.{cases_Bool, ltb-false}
 use Rattle.fj_statement.specs.declared.deck.Variable.{Variable}
 use Rattle.fj_slot.specs.Serving.{Meaning}
 use Rattle.fj_slot.specs.Sound.{outcomes, outcome}
 use Rattle.fj_slot.proofs.Serving.{length-outcomes}
-use Rattle.fj_world.specs.declared.ask.Ask.{Ask}
-use Rattle.fj_world.specs.declared.ask.Ask.TheVariants.{Submit, Settle, Finished}
+use Rattle.fj_world.specs.declared.ask.Ask.TheVariants.{Finished}
 use Rattle.fj_world.specs.Conduct.{Conduct}
 use Rattle.fj_world.specs.Plain.{Plain, PlainSlot, after, next, settled_from, told_from, submitted_to}
 use Rattle.fj_world.proofs.Places.{slice_get_in}
@@ -16,19 +15,18 @@ use Rattle.fj_bay.specs.Jobs.{Job, Answer}
 use Rattle.fj_plain.specs.State.{Entry}
 use Rattle.fj_plain.specs.Statement.{Stated}
 use Rattle.fj_plain.specs.Telling.{tells_id, waited_in}
-use Rattle.fj_desk.specs.Core.{Core, Pending}
+use Rattle.fj_desk.specs.Core.{Pending}
 use Rattle.fj_desk.specs.Desks.{Desk, Outcome, entry_with, entry_of, log_at, log_length}
 use Rattle.fj_desk.specs.Doing.{Desked}
-use Rattle.fj_desk.specs.Desking.{entries}
 use Rattle.fj_desk.proofs.Apart.{each_both, each_imp}
-use Rattle.fj_turns.specs.Run.{Held, known, Stage, Start, Waiting, Run}
-use Rattle.fj_turns.specs.Turns.{Turn, Pauses, Passes, Stops, unsettled, bump, submits, settles, turn_tell, wait_by, waited_now, turn_wait, turn, Asked, by_turn, asked_on, asked, told_of}
+use Rattle.fj_turns.specs.Run.{Held, known, Stage, Waiting, Run}
+use Rattle.fj_turns.specs.Turns.{Turn, unsettled, bump, submits, settles, turn_tell, wait_by, waited_now, turn_wait, turn, by_turn, asked_on, asked, told_of}
 use Rattle.fj_turns.specs.Serving.{over_bays, Shows, run_conduct, desks_of}
 use Rattle.fj_turns.specs.Inside.{waited_at}
 use Rattle.fj_turns.specs.Standing.{Along, Reaches, IsInside}
 use Rattle.fj_turns.proofs.Slots.{map_get}
-use Rattle.fj_turns.proofs.Tags.{tag_in, tag_at, tag_inside}
-use Rattle.fj_turns.proofs.Ties.{answer_at, IsKept, Ties, more, given, untold, untold_less, told_found, sent_found, length_found, settle_ties}
+use Rattle.fj_turns.proofs.Tags.{tag_in, tag_inside}
+use Rattle.fj_turns.proofs.Ties.{IsKept, Ties, more, given, untold, untold_less, told_found, length_found, settle_ties}
 use Rattle.fj_turns.proofs.Waits.{AreKnown, waited_same, none_unsettled, unsettled_found, IsKnownOr, waited_among}
 
 -- ---- what is known
@@ -128,12 +126,14 @@ module _ {E J A : Type 0} (m : Meaning E J A Bay Job Answer) where
       let h = found.0 in
       let low : get_or r.told h.pending.slot 0 ≤ h.pending.number = not_told p.desks r.told h found.1.2 found.1.3 in
       let among = waited_among (λ x. entry_of p.desks x.pending) (entry_id p.desks) (entry_unit p.desks) r.core.vars st.0.what h.pending.id r.book
-          (each_imp (IsKept p.desks r.told) (IsKnownOr (λ x. entry_of p.desks x.pending)) r.book (known_or p.desks r.told) t.kept) found.1.5 in
-      (h.pending, found.1.0,
-      ap (λ l. slice_get l found.1.0) (sym (ap (λ k. k.book) t.core) ∙ sym t.same) ∙ map_get (λ (x : Held). x.pending) r.book found.1.0 h found.1.1,
-      found.1.4,
-      sym (ap (λ es. tells_id es h.pending.id) (book_is limit st r qs p t)) ∙ among,
-      subst (λ k. get_or r.told k 0 ≤ h.pending.number) found.1.4 low)
+      (each_imp (IsKept p.desks r.told) (IsKnownOr (λ x. entry_of p.desks x.pending)) r.book (known_or p.desks r.told) t.kept) found.1.5 in (
+        h.pending,
+        found.1.0,
+        ap (λ l. slice_get l found.1.0) (sym (ap (λ k. k.book) t.core) ∙ sym t.same) ∙ map_get (λ (x : Held). x.pending) r.book found.1.0 h found.1.1,
+        found.1.4,
+        sym (ap (λ es. tells_id es h.pending.id) (book_is limit st r qs p t)) ∙ among,
+        subst (λ k. get_or r.told k 0 ≤ h.pending.number) found.1.4 low,
+      )
 
   -- the answer of the next job not told
   pub answer_of : (q : PlainSlot Bay Job) → q.told < length q.jobs → (o : Outcome) × (outcome (over_bays m) q.start q.jobs q.told ≡ Some o)

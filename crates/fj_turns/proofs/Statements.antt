@@ -1,5 +1,5 @@
 -- The runner served alone, through a whole statement.
-use Rattle.std.proofs.Common.{◌≡◌, ◌⊎◌, ℕ, zero, suc, ◌+◌, ◌<◌, Bool, true, false, List, [], ◌∷◌, map, length, Option, Some, None, slice_get, refl, sym, ap, ◌∙◌, subst, inl, inr, arith}
+use Rattle.std.proofs.Common.{◌≡◌, ℕ, ◌<◌, Bool, true, false, List, [], ◌∷◌, map, Option, Some, None, refl, sym, ap, ◌∙◌, subst}
 use Rattle.std.specs.Prelude.{if◌then◌else◌, filter}
 use Rattle.fj_value.specs.Condition.{code_of}
 use Rattle.fj_value.specs.declared.condition.Condition.{Condition}
@@ -11,7 +11,7 @@ use Rattle.fj_world.specs.Plain.{Plain, PlainSlot}
 use Rattle.fj_bay.specs.Bay.{Bay}
 use Rattle.fj_bay.specs.Jobs.{Job, Answer, resume}
 use Rattle.fj_plain.specs.State.{Entry}
-use Rattle.fj_plain.specs.Statement.{Stated, Ending, prohibition, ends, iostat_of}
+use Rattle.fj_plain.specs.Statement.{Stated, Ending, iostat_of}
 use Rattle.fj_plain.specs.Telling.{condition_of, tells_cause}
 use Rattle.fj_plain.specs.Transfers.{with_number}
 use Rattle.fj_plain.specs.Variables.{Variables}
@@ -21,8 +21,8 @@ use Rattle.fj_desk.specs.Doing.{Doing, Desked, acted}
 use Rattle.fj_desk.specs.Acting.{doing}
 use Rattle.fj_desk.specs.Desking.{told_core, acts, completed, goes_on, desk_step}
 use Rattle.fj_desk.proofs.Apart.{Each, each_filter, each_map}
-use Rattle.fj_turns.specs.Run.{Held, Run}
-use Rattle.fj_turns.specs.Turns.{Turn, with_core, halted_slots, ends_halts, doing_told, with_iostat, turn_finish, turn_act, finish_by, with_tells, turn_tell, turn_wait, rule_of, start_by, turn_start}
+use Rattle.fj_turns.specs.Run.{Run}
+use Rattle.fj_turns.specs.Turns.{Turn, with_core, halted_slots, ends_halts, doing_told, with_iostat, turn_act, finish_by, with_tells, turn_wait, rule_of, start_by, turn_start}
 use Rattle.fj_turns.specs.Serving.{over_bays, Shows, run_conduct}
 use Rattle.fj_turns.specs.Inside.{waited_at, does}
 use Rattle.fj_turns.specs.Standing.{Reaches}

@@ -1,9 +1,8 @@
 -- The transfers that a statement waits for: once all that are known to be waited for were told, they are those that it tells.
-use Rattle.std.proofs.Common.{◌≡◌, ◌⊎◌, ℕ, ℤ, zero, suc, ◌+◌, ◌<◌, ◌≤◌, Bool, true, false, not, List, [], ◌∷◌, ◌++◌, map, length, Option, Some, None, is_none, slice_get, get_or, refl, sym, ap, ◌∙◌, subst, inl, inr, ◌&&◌, ◌||◌, arith}
-use Rattle.std.specs.Prelude.{pos, nat_lt, if◌then◌else◌, filter, ◌==◌}
-use Rattle.std.specs.List.{list_any}
+use Rattle.std.proofs.Common.{◌≡◌, ◌⊎◌, ℕ, ℤ, suc, Bool, true, false, List, [], ◌∷◌, map, Option, Some, None, is_none, slice_get, refl, sym, ap, ◌∙◌, subst, inl, inr, ◌&&◌, ◌||◌}
+use Rattle.std.specs.Prelude.{pos, if◌then◌else◌, filter, ◌==◌}
 use Rattle.std.specs.Ordering.{int_eq}
-use Rattle.std.proofs.lemmas.Bool.{cases_Bool, eq-eqb}
+use Rattle.std.proofs.lemmas.Bool.{eq-eqb}
 use Rattle.fj_value.specs.declared.condition.Condition.{Condition}
 use Rattle.fj_value.specs.declared.condition.Condition.TheVariants.{Fine, EndOfFile, EndOfRecord, Error}
 use Rattle.fj_statement.specs.declared.statement.Statement.{Statement}
@@ -12,7 +11,6 @@ use Rattle.fj_plain.specs.Variables.{Variables}
 use Rattle.fj_plain.specs.Needs.{number_of, number_given}
 use Rattle.fj_plain.specs.State.{Entry, halts}
 use Rattle.fj_plain.specs.Telling.{of_unit, of_id, graver, condition_of, waited_by, waited_in, is_asynchronous, tells_id}
-use Rattle.fj_desk.specs.Core.{Pending}
 use Rattle.fj_desk.specs.Desks.{Outcome, entry_with}
 use Rattle.fj_desk.proofs.Apart.{Each, each_imp, each_both}
 use Rattle.fj_turns.specs.Run.{Held, known}
@@ -32,9 +30,11 @@ filter_filter p q (x ∷ xs) = by (p x) (filter_filter p q xs)
 pub chosen_tells : (f : Held → Entry) (q : Entry → Bool) (hs : List Held) → ((h : Held) → (f h).id ≡ h.pending.id)
     → Each (λ (h : Held). q (f h) ≡ true → tells_id (filter q (map f hs)) h.pending.id ≡ true) hs
 chosen_tells f q [] ids = tt
-chosen_tells f q (x ∷ hs) ids =
-    (here (q (f x)), each_imp (λ h. q (f h) ≡ true → tells_id (filter q (map f hs)) h.pending.id ≡ true) (λ h. q (f h) ≡ true → tells_id (filter q (map f (x ∷ hs))) h.pending.id ≡ true) hs
-    (λ h k e. further (q (f x)) h.pending.id (k e)) (chosen_tells f q hs ids))
+chosen_tells f q (x ∷ hs) ids = (
+  here (q (f x)),
+  each_imp (λ h. q (f h) ≡ true → tells_id (filter q (map f hs)) h.pending.id ≡ true) (λ h. q (f h) ≡ true → tells_id (filter q (map f (x ∷ hs))) h.pending.id ≡ true) hs
+      (λ h k e. further (q (f x)) h.pending.id (k e)) (chosen_tells f q hs ids),
+)
   where
     here : (b : Bool) → b ≡ true → tells_id (if b then f x ∷ filter q (map f hs) else filter q (map f hs)) x.pending.id ≡ true
     here true e = ap (λ b. b || tells_id (filter q (map f hs)) x.pending.id) (eq-eqb (f x).id x.pending.id (ids x))

@@ -1,5 +1,5 @@
 -- Worked cases: the runner served alone over bays.
-use Rattle.std.specs.Prelude.{◌≡◌, ℕ, ℤ, pos, negsuc, false, List, [], ◌∷◌, ◌++◌, Some, None}
+use Rattle.std.specs.Prelude.{◌≡◌, pos, negsuc, false, List, [], ◌∷◌, Some, None}
 use Rattle.fj_value.specs.declared.value.Value.TheVariants.{Undefined}
 use Rattle.fj_value.specs.declared.condition.Condition.TheVariants.{EndOfFile}
 use Rattle.fj_statement.specs.declared.deck.Variable.{Variable}

@@ -5,7 +5,6 @@ use Rattle.fj_bay.specs.Jobs.{Job}
 use Rattle.fj_plain.specs.State.{Entry}
 use Rattle.fj_plain.specs.Telling.{waited_in}
 use Rattle.fj_plain.specs.Statement.{Stated}
-use Rattle.fj_desk.specs.Core.{Core}
 use Rattle.fj_desk.specs.Desks.{Desk, carry, outcome, log_length}
 use Rattle.fj_desk.specs.Doing.{Doing, finishes, gives, awaits, Desked, given}
 use Rattle.fj_desk.specs.Desking.{entries, desk_step}

@@ -1,5 +1,5 @@
 -- What the runner asks next, and what it is after each answer.
-use Rattle.std.specs.Prelude.{ℕ, ◌+◌, ◌==◌, ◌&&◌, not, Bool, List, [], ◌∷◌, map, filter, Option, Some, None, is_some, is_none, slice_set, get_or, if◌then◌else◌}
+use Rattle.std.specs.Prelude.{ℕ, ◌+◌, ◌==◌, ◌&&◌, not, List, [], ◌∷◌, map, filter, Option, Some, None, is_some, is_none, slice_set, get_or, if◌then◌else◌}
 use Rattle.fj_value.specs.Condition.{code_of}
 use Rattle.fj_value.specs.declared.condition.Condition.{Condition}
 use Rattle.fj_value.specs.declared.condition.Rule.{Rule}
