@@ -11,3 +11,4 @@ pub mod Decks
 pub mod Finishing
 pub mod Cutting
 pub mod Meant
+pub mod Pending

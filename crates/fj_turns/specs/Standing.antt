@@ -1,6 +1,8 @@
 -- The runner served alone: where in a statement it stands, and what it comes to.
 use Rattle.std.specs.Prelude.{◌≡◌, ◌⊎◌, ℕ, zero, suc, ◌≤◌, true, List, ◌++◌, map, slice_get, get_or, Some, None}
 use Rattle.fj_statement.specs.declared.deck.Variable.{Variable}
+use Rattle.fj_statement.specs.declared.statement.Statement.TheVariants as statement
+use Rattle.fj_statement.specs.declared.statement.Transfer.{Transfer}
 use Rattle.fj_slot.specs.Serving.{Meaning}
 use Rattle.fj_world.specs.declared.ask.Ask.{Ask}
 use Rattle.fj_world.specs.declared.ask.Ask.TheVariants.{Submit, Settle, Finished}
@@ -9,7 +11,7 @@ use Rattle.fj_world.specs.Plain.{Plain, next, after}
 use Rattle.fj_bay.specs.Bay.{Bay}
 use Rattle.fj_bay.specs.Jobs.{Job, Answer}
 use Rattle.fj_plain.specs.Statement.{Stated}
-use Rattle.fj_plain.specs.Telling.{tells_id, tell_of}
+use Rattle.fj_plain.specs.Telling.{tells_id, tell_of, is_asynchronous}
 use Rattle.fj_desk.specs.Core.{Core, Pending}
 use Rattle.fj_desk.specs.Desks.{Desk, Outcome, carry}
 use Rattle.fj_desk.specs.Doing.{Doing, finishes, gives, awaits, Desked}
@@ -71,6 +73,11 @@ abbrev pub Asks : List Variable → Stated → Desked → Ask Job → Run → Li
 Asks variables statement before (Submit slot job) run desks = GivesJob variables statement before slot job run desks
 Asks variables statement before (Settle slot) run desks = Waits statement before slot run desks ⊎ AwaitsJob variables statement before slot run desks
 Asks variables statement before Finished run desks = ⊥
+
+-- a READ or WRITE that will be pending awaits no answer: neither of transfers, nor of its own job
+abbrev pub PendingAwaitsNothing : Type 0
+PendingAwaitsNothing = (variables : List Variable) (st : Stated) (before : Desked) (t : Transfer) (slot : ℕ) (run : Run) (desks : List Desk) →
+    st.0.what ≡ statement.Transfer t → is_asynchronous t ≡ true → Asks variables st before (Settle slot) run desks → ⊥
 
 module _ {E J A S : Type 0} (m : Meaning E J A Bay Job Answer) (s : Shows S) where
   -- it counts the jobs that were told, and asks at one of these points

@@ -1,6 +1,7 @@
 // What holds of every deck, as contracts of functions with nothing to do.
 ghost use Rattle.fj_turns.specs.Laws.{RunnersArePlain, RunsExecute, RunsLeaveResults, EntriesStand, StopsCut, WorldsAreCut};
 ghost use Rattle.fj_turns.specs.Meant.{CutsAgree};
+ghost use Rattle.fj_turns.specs.Standing.{PendingAwaitsNothing};
 
 /// Served alone, the runner comes to the execution over desks; each state on the way stands inside a statement.
 pub fn runners_are_plain()
@@ -35,4 +36,9 @@ pub fn worlds_are_cut()
 /// Where the execution over desks is cut, the statement and the state are those of what the deck means.
 pub fn cuts_agree()
     ensures { CutsAgree }
+{}
+
+/// A READ or WRITE that will be pending awaits no answer.
+pub fn pending_awaits_nothing()
+    ensures { PendingAwaitsNothing }
 {}
