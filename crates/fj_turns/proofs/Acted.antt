@@ -1,36 +1,36 @@
 -- The runner served alone, through all that a statement does once its transfers are told.
-use Rattle.std.proofs.Common.{◌≡◌, ◌⊎◌, ℕ, zero, suc, ◌+◌, ◌-◌, ◌<◌, ◌≤◌, Bool, true, false, List, [], ◌∷◌, ◌++◌, map, length, Option, Some, None, slice_get, set, get_or, refl, sym, ap, ◌∙◌, subst, inl, inr, ◌&&◌, arith}
+use Rattle.std.proofs.Common.{◌≡◌, ℕ, zero, suc, ◌+◌, ◌-◌, ◌<◌, ◌≤◌, List, [], ◌∷◌, ◌++◌, map, length, Some, None, slice_get, set, get_or, refl, sym, ap, ◌∙◌, subst, inl, inr, ◌&&◌, arith}
 use Rattle.std.specs.Prelude.{if◌then◌else◌, ◌==◌}
 use Rattle.std.proofs.lemmas.Bool.{eq-eqb, ne_eqb}
 use Rattle.std.proofs.lemmas.List.{length-append}
 use Rattle.fj_value.specs.declared.condition.Condition.{Condition}
 use Rattle.fj_statement.specs.declared.deck.Variable.{Variable}
 use Rattle.fj_slot.specs.Serving.{Meaning}
-use Rattle.fj_slot.specs.Sound.{outcomes, outcome}
+use Rattle.fj_slot.specs.Sound.{outcome}
 use Rattle.fj_world.specs.Conduct.{Conduct}
 use Rattle.fj_world.specs.Plain.{Plain, PlainSlot, next}
 use Rattle.fj_world.proofs.Places.{slice_get_in}
 use Rattle.fj_bay.specs.Bay.{Bay}
 use Rattle.fj_bay.specs.Jobs.{Job, Answer}
 use Rattle.fj_plain.specs.Statement.{Stated}
-use Rattle.fj_desk.specs.Core.{Core, Pending, Connected}
+use Rattle.fj_plain.specs.Telling.{tell_of}
+use Rattle.fj_desk.specs.Core.{Core}
 use Rattle.fj_desk.specs.Desks.{Desk, Outcome, carry, log_at, log_length, most_slots}
 use Rattle.fj_desk.specs.Desks as desks
 use Rattle.fj_desk.specs.Doing.{Doing, finishes, gives, awaits, Desked, acted}
 use Rattle.fj_desk.specs.Forgetting.{bay_at}
-use Rattle.fj_desk.proofs.Apart.{Each}
 use Rattle.fj_desk.proofs.Carrying.{serves_at}
-use Rattle.fj_turns.specs.Run.{Held, Stage, Acting, Awaiting, Run}
-use Rattle.fj_turns.specs.Turns.{Turn, with_core, bump, submits, settles, tag_of, turn_finish, turn_act, turn, told_of, stage_told}
-use Rattle.fj_turns.specs.Serving.{over_bays, Shows, run_conduct, desk_of, desks_of}
-use Rattle.fj_turns.specs.Inside.{does, walked}
-use Rattle.fj_turns.specs.Standing.{Reaches, GivesNext, Waits, GivesJob, AwaitsJob, IsInside}
+use Rattle.fj_turns.specs.Run.{Stage, Acting, Awaiting, Run}
+use Rattle.fj_turns.specs.Turns.{Turn, with_core, bump, submits, settles, tag_of, turn_finish, turn_act, turn, told_of}
+use Rattle.fj_turns.specs.Serving.{over_bays, Shows, run_conduct, desk_of}
+use Rattle.fj_turns.specs.Inside.{waited_at, does, walked}
+use Rattle.fj_turns.specs.Standing.{Reaches, GivesNext}
 use Rattle.fj_turns.proofs.Slots.{each_at, map_get, set_found}
 use Rattle.fj_turns.proofs.Tags.{tag_in, tag_at, serve_tag}
 use Rattle.fj_turns.proofs.Ties.{Ties, more, given, told_found, sent_found, length_found, log_found, settle_ties}
 use Rattle.fj_turns.proofs.Tying.{core_ties, pending_ties, submit_ties}
-use Rattle.fj_turns.proofs.EachKind.{KeepsBook, Starts, Keeps}
-use Rattle.fj_turns.proofs.Reaching.{at_turn, settle_next, submit_next, reach_here, reach_next, reach_then, answer_of, MayStand}
+use Rattle.fj_turns.proofs.EachKind.{Starts, Keeps}
+use Rattle.fj_turns.proofs.Reaching.{at_turn, settle_next, submit_next, reach_next, reach_then, answer_of, MayStand}
 
 -- one job more
 pub walked_more : (k : ℕ) (ds : List Desk) (d : Doing) → walked (suc k) ds d ≡ walked 1 (walked k ds d).0 (walked k ds d).1
@@ -173,25 +173,25 @@ module _ {E J A S : Type 0} (m : Meaning E J A Bay Job Answer) (s : Shows S) (P 
   -- what a statement does, job after job
   pub act_reaches : (d : Doing) (from : Core) (limit k : ℕ) (variables : List Variable) (st : Stated) (before : Desked) (rest : List Stated) (r : Run) (qs : List (PlainSlot Bay Job)) (p : Desked)
       → Ties m limit r qs p → r.core.book ≡ from.book → limit ≡ from.next → Keeps from d → walked k before.desks (does variables st before) ≡ (p.desks, d)
-      → MayStand m s P variables st before → r.ending ≡ None → r.rest ≡ st ∷ rest
+      → from.tells ≡ before.core.tells ++ map (tell_of st.0.line) (waited_at st before) → MayStand m s P variables st before → r.ending ≡ None → r.rest ≡ st ∷ rest
       → ActedTo st rest r (acted p.desks d) (turned rest (turn_act st d r) qs)
-  act_reaches (finishes core condition) from limit k variables st before rest r qs p t book same keeps walk ok none is = record {
+  act_reaches (finishes core condition) from limit k variables st before rest r qs p t book same keeps walk made ok none is = record {
     limit = limit;
     run = r;
     slots = qs;
-    ties = core_ties m limit r qs p core t (keeps.0 ∙ sym book) keeps.2;
+    ties = core_ties m limit r qs p core t (keeps.0 ∙ sym book) keeps.3;
     next = same ∙ sym keeps.1;
     ending = none;
     rest_is = is;
     variables = refl;
     reaches = (0, refl, tt);
   }
-  act_reaches (gives slot job core next) from limit k variables st before rest r qs p t book same (inside, keeps, inl (untagged, onward)) walk ok none is =
+  act_reaches (gives slot job core next) from limit k variables st before rest r qs p t book same (inside, keeps, inl (untagged, onward)) walk made ok none is =
       let at = slice_get_in qs slot (subst (λ n. slot < n) (sym t.slots) inside) in
       let q = at.0 in
       let number : ℕ = get_or r.sent slot 0 in
       let r1 : Run = with_core core r in
-      let t1 = core_ties m limit r qs p core t (keeps.0 ∙ sym book) keeps.2 in
+      let t1 = core_ties m limit r qs p core t (keeps.0 ∙ sym book) keeps.3 in
       let p1 : Desked = record { core = core; desks = p.desks } in
       let stage : Stage = Acting (next number) in
       let some : 0 < limit = subst (λ n. n < limit) untagged (less job untagged) in
@@ -201,23 +201,23 @@ module _ {E J A S : Type 0} (m : Meaning E J A Bay Job Answer) (s : Shows S) (P 
       let logged : number ≡ log_length (slice_get p.desks slot) = sent_log m limit r qs p slot q t at.1 in
       let walk2 : walked (suc k) before.desks (does variables st before) ≡ (carry p.desks slot job, next number) =
       walked_more k before.desks (does variables st before) ∙ ap (λ z. walked 1 z.0 z.1) walk ∙ ap (λ n. (carry p.desks slot job, next n)) (sym logged) in
-      let later = act_reaches (next number) from limit (suc k) variables st before rest r2 qs2 (record { core = core; desks = carry p.desks slot job }) t2 keeps.0 same (onward number) walk2 ok none is in
+      let later = act_reaches (next number) from limit (suc k) variables st before rest r2 qs2 (record { core = core; desks = carry p.desks slot job }) t2 keeps.0 same (onward number) walk2 made ok none is in
       let x : Plain Bay c = turned rest (submits slot job stage r1) qs in
       let y : Plain Bay c = turned rest (turn st stage r2) qs2 in
       subst (λ n. ActedTo st rest r (acted (carry p.desks slot job) (next n)) x) logged
       (acted_first st rest r r2 (acted (carry p.desks slot job) (next number)) x y
-      (reach_next m s P x y y (ok x (inr (inl (record { jobs = k; slot = slot; job = job; hand = refl; desks = t.desks ∙ sym (ap (λ z. z.0) walk); gives = subst (λ d. GivesNext d slot job core) (sym (ap (λ z. z.1) walk)) (refl, refl, refl) }))))
+      (reach_next m s P x y y (ok x (record { told = t.told; asks = record { tells = keeps.2 ∙ made; jobs = k; desks_are = t.desks ∙ sym (ap (λ z. z.0) walk); gives = subst (λ d. GivesNext d slot job core) (sym (ap (λ z. z.1) walk)) (refl, refl, refl) } }))
       (submit_next m s P st rest stage r1 qs slot q job none is at.1) (0, refl, tt))
       refl later)
     where
       less : (j : Job) → tag_of j ≡ 0 → tag_of j < limit
       less j e = subst (λ n. n < limit) (sym e) (omega (arith, t.tags.below 0 0))
-  act_reaches (gives slot job core next) from limit k variables st before rest r qs p t book same (inside, keeps, inr (tagged, onward)) walk ok none is =
+  act_reaches (gives slot job core next) from limit k variables st before rest r qs p t book same (inside, keeps, inr (tagged, onward)) walk made ok none is =
       let at = slice_get_in qs slot (subst (λ n. slot < n) (sym t.slots) inside) in
       let q = at.0 in
       let number : ℕ = get_or r.sent slot 0 in
       let r1 : Run = with_core core r in
-      let t1 = core_ties m limit r qs p core t (keeps.0 ∙ sym book) keeps.2 in
+      let t1 = core_ties m limit r qs p core t (keeps.0 ∙ sym book) keeps.3 in
       let p1 : Desked = record { core = core; desks = p.desks } in
       let stage : Stage = Acting (next number) in
       let tag : tag_of job ≡ limit = tagged ∙ sym same in
@@ -233,15 +233,15 @@ module _ {E J A S : Type 0} (m : Meaning E J A Bay Job Answer) (s : Shows S) (P 
       let y : Plain Bay c = turned rest (turn st stage r2) qs2 in
       subst (λ n. ActedTo st rest r (acted (carry p.desks slot job) (next n)) x) logged
       (acted_first st rest r r2 (acted (carry p.desks slot job) (next number)) x y
-      (reach_next m s P x y y (ok x (inr (inl (record { jobs = k; slot = slot; job = job; hand = refl; desks = t.desks ∙ sym (ap (λ z. z.0) walk); gives = subst (λ d. GivesNext d slot job core) (sym (ap (λ z. z.1) walk)) (refl, refl, refl) }))))
+      (reach_next m s P x y y (ok x (record { told = t.told; asks = record { tells = keeps.2 ∙ made; jobs = k; desks_are = t.desks ∙ sym (ap (λ z. z.0) walk); gives = subst (λ d. GivesNext d slot job core) (sym (ap (λ z. z.1) walk)) (refl, refl, refl) } }))
       (submit_next m s P st rest stage r1 qs slot q job none is at.1) (0, refl, tt))
       refl later)
-  act_reaches (awaits slot job core next) from limit k variables st before rest r qs p t book same (inside, keeps, untagged, onward) walk ok none is =
+  act_reaches (awaits slot job core next) from limit k variables st before rest r qs p t book same (inside, keeps, untagged, onward) walk made ok none is =
       let at = slice_get_in qs slot (subst (λ n. slot < n) (sym t.slots) inside) in
       let q = at.0 in
       let number : ℕ = get_or r.sent slot 0 in
       let r1 : Run = with_core core r in
-      let t1 = core_ties m limit r qs p core t (keeps.0 ∙ sym book) keeps.2 in
+      let t1 = core_ties m limit r qs p core t (keeps.0 ∙ sym book) keeps.3 in
       let p1 : Desked = record { core = core; desks = p.desks } in
       let p2 : Desked = record { core = core; desks = carry p.desks slot job } in
       let stage : Stage = Awaiting slot number next in
@@ -254,23 +254,25 @@ module _ {E J A S : Type 0} (m : Meaning E J A Bay Job Answer) (s : Shows S) (P 
       let walk2 : walked (suc k) before.desks (does variables st before) ≡ (carry p.desks slot job, next o) =
       walked_more k before.desks (does variables st before) ∙ ap (λ z. walked 1 z.0 z.1) walk in
       let own = own_out (number - q.told) limit st rest r2 qs2 p2 slot number (given q job) next o t2 none is
-      (λ r' qs' t'. ok (turned rest (settles slot (Awaiting slot number next) r') qs') (inr (inr (record {
-        jobs = k;
-        slot = slot;
-        job = job;
-        onward = next;
-        hand = refl;
-        awaited = ap (λ z. z.1) walk ∙ ap (λ now. awaits slot job now next) (sym t'.core);
-        desks = t'.desks ∙ ap (λ ds. carry ds slot job) (sym (ap (λ z. z.0) walk));
-      }))))
+      (λ r' qs' t'. ok (turned rest (settles slot (Awaiting slot number next) r') qs') (record {
+        told = t'.told;
+        asks = inr (record {
+          tells = ap (λ z. z.tells) t'.core ∙ keeps.2 ∙ made;
+          jobs = k;
+          job = job;
+          onward = next;
+          awaited = ap (λ z. z.1) walk ∙ ap (λ now. awaits slot job now next) (sym t'.core);
+          desks_are = t'.desks ∙ ap (λ ds. carry ds slot job) (sym (ap (λ z. z.0) walk));
+        });
+      }))
       (set_found qs slot (given q job) q at.1) (omega (arith, low)) (longer q job (sent_found m limit r qs p slot q t at.1))
       (ap (log_at (slice_get (carry p.desks slot job) slot)) logged ∙ logged_at m limit r qs p slot q job t at.1) in
-      let later = act_reaches (next o) from limit (suc k) variables st before rest own.run own.slots p2 own.ties (ap (λ z. z.book) own.ties.core ∙ keeps.0) same (onward o) walk2 ok own.ending own.rest_is in
+      let later = act_reaches (next o) from limit (suc k) variables st before rest own.run own.slots p2 own.ties (ap (λ z. z.book) own.ties.core ∙ keeps.0) same (onward o) walk2 made ok own.ending own.rest_is in
       let x : Plain Bay c = turned rest (submits slot job stage r1) qs in
       let y : Plain Bay c = turned rest (turn st stage r2) qs2 in
       let z : Plain Bay c = turned rest (turn_act st (next o) own.run) own.slots in
       acted_first st rest r own.run (acted (carry p.desks slot job) (next o)) x z
-      (reach_next m s P x y z (ok x (inr (inl (record { jobs = k; slot = slot; job = job; hand = refl; desks = t.desks ∙ sym (ap (λ w. w.0) walk); gives = subst (λ d. GivesNext d slot job core) (sym (ap (λ w. w.1) walk)) (refl, refl, refl) }))))
+      (reach_next m s P x y z (ok x (record { told = t.told; asks = record { tells = keeps.2 ∙ made; jobs = k; desks_are = t.desks ∙ sym (ap (λ w. w.0) walk); gives = subst (λ d. GivesNext d slot job core) (sym (ap (λ w. w.1) walk)) (refl, refl, refl) } }))
       (submit_next m s P st rest stage r1 qs slot q job none is at.1) own.reaches)
       own.variables later
     where

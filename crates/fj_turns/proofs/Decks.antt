@@ -1,5 +1,5 @@
 -- The runner served alone, through a whole deck.
-use Rattle.std.proofs.Common.{◌≡◌, ◌⊎◌, ℕ, zero, suc, ◌+◌, ◌<◌, ◌≤◌, Bool, true, false, List, [], ◌∷◌, map, length, replicate, Option, Some, None, slice_get, refl, sym, ap, ◌∙◌, subst, inl, inr, arith}
+use Rattle.std.proofs.Common.{◌≡◌, ℕ, zero, suc, ◌≤◌, List, [], ◌∷◌, length, replicate, Option, Some, None, refl, sym, ap, ◌∙◌, subst, arith}
 use Rattle.fj_statement.specs.declared.deck.Variable.{Variable}
 use Rattle.fj_slot.specs.Serving.{Meaning}
 use Rattle.fj_world.specs.declared.ask.Ask.TheVariants.{Finished}
@@ -9,18 +9,17 @@ use Rattle.fj_bay.specs.Bay.{Bay}
 use Rattle.fj_bay.specs.Jobs.{Job, Answer}
 use Rattle.fj_plain.specs.State.{Files}
 use Rattle.fj_plain.specs.Statement.{Stated, Ending}
-use Rattle.fj_desk.specs.Core.{Core}
-use Rattle.fj_desk.specs.Desks.{Desk, most_slots, fresh_desks}
+use Rattle.fj_desk.specs.Desks.{most_slots}
 use Rattle.fj_desk.specs.Doing.{Desked}
 use Rattle.fj_desk.specs.Desking.{desk_step, DesksRan, over_desks, fresh}
 use Rattle.fj_turns.specs.Run.{Start, Run}
 use Rattle.fj_turns.specs.Turns.{Turn, Pauses, Passes, Stops, Asked, finish_by, rule_of, turn_start, goes, by_turn}
-use Rattle.fj_turns.specs.Serving.{over_bays, Shows, run_conduct, desks_of, first_run, fresh_slots, begins}
+use Rattle.fj_turns.specs.Serving.{over_bays, Shows, run_conduct, first_run, fresh_slots, begins}
 use Rattle.fj_turns.specs.Inside.{cut_desks}
 use Rattle.fj_turns.specs.Standing.{Reaches, StandsIn}
 use Rattle.fj_turns.specs.Whole.{ComesTo, RunnerIsPlain}
 use Rattle.fj_turns.proofs.Slots.{each_replicate, none_beyond}
-use Rattle.fj_turns.proofs.Tags.{tag_in, tag_at, AreTagged}
+use Rattle.fj_turns.proofs.Tags.{tag_in, tag_at}
 use Rattle.fj_turns.proofs.Ties.{Ties}
 use Rattle.fj_turns.proofs.Reaching.{reach_then, MayStand}
 use Rattle.fj_turns.proofs.Statements.{turned, Stepped, step_reaches}

@@ -8,3 +8,7 @@ pub mod Reaching
 pub mod Acted
 pub mod Statements
 pub mod Decks
+pub mod Finishing
+pub mod Cutting
+pub mod Meant
+pub mod Pending

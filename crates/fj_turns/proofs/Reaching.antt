@@ -1,13 +1,12 @@
 -- The runner served alone, until the transfers that a statement waits for are told.
-use Rattle.std.proofs.Common.{◌≡◌, ◌⊎◌, ℕ, zero, suc, ◌+◌, ◌-◌, ◌<◌, ◌≤◌, Bool, true, false, List, [], ◌∷◌, ◌++◌, map, length, Option, Some, None, is_some, is_none, slice_get, set, get_or, refl, sym, ap, ◌∙◌, subst, inl, inr, arith}
+use Rattle.std.proofs.Common.{◌≡◌, ℕ, zero, suc, ◌+◌, ◌<◌, ◌≤◌, Bool, true, false, List, [], ◌∷◌, map, length, Option, Some, None, is_some, is_none, slice_get, set, get_or, refl, sym, ap, ◌∙◌, subst, inl, inr, arith}
 use Rattle.std.specs.Prelude.{if◌then◌else◌, nat_lt}
-use Rattle.std.proofs.lemmas.Bool.{cases_Bool, ltb-true, ltb-false}
+use Rattle.std.proofs.lemmas.Bool.{cases_Bool, ltb-false}
 use Rattle.fj_statement.specs.declared.deck.Variable.{Variable}
 use Rattle.fj_slot.specs.Serving.{Meaning}
 use Rattle.fj_slot.specs.Sound.{outcomes, outcome}
 use Rattle.fj_slot.proofs.Serving.{length-outcomes}
-use Rattle.fj_world.specs.declared.ask.Ask.{Ask}
-use Rattle.fj_world.specs.declared.ask.Ask.TheVariants.{Submit, Settle, Finished}
+use Rattle.fj_world.specs.declared.ask.Ask.TheVariants.{Finished}
 use Rattle.fj_world.specs.Conduct.{Conduct}
 use Rattle.fj_world.specs.Plain.{Plain, PlainSlot, after, next, settled_from, told_from, submitted_to}
 use Rattle.fj_world.proofs.Places.{slice_get_in}
@@ -16,20 +15,19 @@ use Rattle.fj_bay.specs.Jobs.{Job, Answer}
 use Rattle.fj_plain.specs.State.{Entry}
 use Rattle.fj_plain.specs.Statement.{Stated}
 use Rattle.fj_plain.specs.Telling.{tells_id, waited_in}
-use Rattle.fj_desk.specs.Core.{Core, Pending}
+use Rattle.fj_desk.specs.Core.{Pending}
 use Rattle.fj_desk.specs.Desks.{Desk, Outcome, entry_with, entry_of, log_at, log_length}
 use Rattle.fj_desk.specs.Doing.{Desked}
-use Rattle.fj_desk.specs.Desking.{entries}
-use Rattle.fj_desk.proofs.Apart.{Each, each_both}
-use Rattle.fj_turns.specs.Run.{Held, known, Stage, Start, Waiting, Run}
-use Rattle.fj_turns.specs.Turns.{Turn, Pauses, Passes, Stops, unsettled, bump, submits, settles, turn_tell, wait_by, waited_now, turn_wait, turn, Asked, by_turn, asked_on, asked, told_of}
+use Rattle.fj_desk.proofs.Apart.{each_both, each_imp}
+use Rattle.fj_turns.specs.Run.{Held, known, Stage, Waiting, Run}
+use Rattle.fj_turns.specs.Turns.{Turn, unsettled, bump, submits, settles, turn_tell, wait_by, waited_now, turn_wait, turn, by_turn, asked_on, asked, told_of}
 use Rattle.fj_turns.specs.Serving.{over_bays, Shows, run_conduct, desks_of}
 use Rattle.fj_turns.specs.Inside.{waited_at}
-use Rattle.fj_turns.specs.Standing.{Along, Reaches, Waits, GivesJob, AwaitsJob, IsInside}
-use Rattle.fj_turns.proofs.Slots.{get_mapped, count_at}
-use Rattle.fj_turns.proofs.Tags.{tag_in, tag_at, tag_inside}
-use Rattle.fj_turns.proofs.Ties.{answer_at, IsKept, Ties, more, given, untold, untold_less, told_found, sent_found, length_found, settle_ties}
-use Rattle.fj_turns.proofs.Waits.{AreKnown, known_id, waited_same, none_unsettled, IsUnsettled, unsettled_found}
+use Rattle.fj_turns.specs.Standing.{Along, Reaches, IsInside}
+use Rattle.fj_turns.proofs.Slots.{map_get}
+use Rattle.fj_turns.proofs.Tags.{tag_in, tag_inside}
+use Rattle.fj_turns.proofs.Ties.{IsKept, Ties, more, given, untold, untold_less, told_found, length_found, settle_ties}
+use Rattle.fj_turns.proofs.Waits.{AreKnown, waited_same, none_unsettled, unsettled_found, IsKnownOr, waited_among}
 
 -- ---- what is known
 
@@ -72,6 +70,11 @@ entry_unit desks h = by (log_at (slice_get desks h.pending.slot) h.pending.numbe
     by (Some o) = refl
 
 module _ {E J A : Type 0} (m : Meaning E J A Bay Job Answer) where
+  book_is : (limit : ℕ) (st : Stated) (r : Run) (qs : List (PlainSlot Bay Job)) (p : Desked) → Ties m limit r qs p → waited_in (map (λ h. entry_of p.desks h.pending) r.book) r.core.vars st.0.what ≡ waited_at st p
+  book_is limit st r qs p t =
+      ap (λ l. waited_in l r.core.vars st.0.what) (sym (entries_book p.desks r.book) ∙ ap (map (entry_of p.desks)) t.same)
+      ∙ ap (λ c. waited_in (map (entry_of p.desks) c.book) c.vars st.0.what) t.core
+
   -- once all that are known to be waited for were told, they are those that the statement tells
   pub waited_is : (limit : ℕ) (st : Stated) (r : Run) (qs : List (PlainSlot Bay Job)) (p : Desked) → Ties m limit r qs p → unsettled (waited_now st r) r.book ≡ None → waited_now st r ≡ waited_at st p
   waited_is limit st r qs p t none =
@@ -79,9 +82,7 @@ module _ {E J A : Type 0} (m : Meaning E J A Bay Job Answer) where
       let are : AreKnown (λ h. entry_of p.desks h.pending) es r.book =
       each_both (IsKept p.desks r.told) (λ h. tells_id es h.pending.id ≡ true → is_none h.answer ≡ false) (λ h. tells_id es h.pending.id ≡ true → known h ≡ entry_of p.desks h.pending) r.book
       (λ h k f e. known_is p.desks r.told h k (f e)) t.kept (none_unsettled es r.book none) in
-      waited_same (λ h. entry_of p.desks h.pending) (entry_id p.desks) (entry_unit p.desks) r.book r.core.vars st.0.what are
-      ∙ ap (λ l. waited_in l r.core.vars st.0.what) (sym (entries_book p.desks r.book) ∙ ap (map (entry_of p.desks)) t.same)
-      ∙ ap (λ c. waited_in (map (entry_of p.desks) c.book) c.vars st.0.what) t.core
+      waited_same (λ h. entry_of p.desks h.pending) (entry_id p.desks) (entry_unit p.desks) r.book r.core.vars st.0.what are ∙ book_is limit st r qs p t
 
   -- the slot of one whose job is not told has a job that is not told
   pub waits_at : (limit : ℕ) (es : List Entry) (r : Run) (qs : List (PlainSlot Bay Job)) (p : Desked) (slot : ℕ) → Ties m limit r qs p → unsettled es r.book ≡ Some slot
@@ -89,10 +90,10 @@ module _ {E J A : Type 0} (m : Meaning E J A Bay Job Answer) where
   waits_at limit es r qs p slot t e =
       let found = unsettled_found (IsKept p.desks r.told) es r.book slot t.kept e in
       let h = found.0 in
-      let k = found.1.0 in
-      let low : get_or r.told h.pending.slot 0 ≤ h.pending.number = not_told p.desks r.told h k found.1.1 in
+      let k = found.1.2 in
+      let low : get_or r.told h.pending.slot 0 ≤ h.pending.number = not_told p.desks r.told h k found.1.3 in
       let inside : h.pending.number < log_length (slice_get p.desks h.pending.slot) = tag_inside p.desks h.pending.slot h.pending.number (subst (λ n. 0 < n) (sym k.tag) k.some) in
-      by h.pending.slot h.pending.number found.1.2 low inside (log_desks h.pending.slot h.pending.number inside)
+      by h.pending.slot h.pending.number found.1.4 low inside (log_desks h.pending.slot h.pending.number inside)
     where
       log_desks : (s n : ℕ) → n < log_length (slice_get p.desks s) → (q : PlainSlot Bay Job) × (slice_get qs s ≡ Some q)
       log_desks s n h = in_slots qs s n (subst (λ ds. n < log_length (slice_get ds s)) (sym t.desks) h)
@@ -109,6 +110,30 @@ module _ {E J A : Type 0} (m : Meaning E J A Bay Job Answer) where
           let told_here = told_found m limit r qs p s q t at in
           let long = length_found m limit r qs p s q t at in
           (q, subst (λ k. slice_get qs k ≡ Some q) same at, omega (arith, low, inside, told_here, long))
+
+  known_or : (desks : List Desk) (told : List ℕ) (h : Held) → IsKept desks told h → IsKnownOr (λ x. entry_of desks x.pending) h
+  known_or desks told h k = by h.answer refl
+    where
+      by : (o : Option Outcome) → h.answer ≡ o → IsKnownOr (λ x. entry_of desks x.pending) h
+      by None e = inl e
+      by (Some o) e = inr (known_is desks told h k (ap is_none e))
+
+  -- a transfer that the statement tells, whose job is not told
+  pub transfer_at : (limit : ℕ) (st : Stated) (r : Run) (qs : List (PlainSlot Bay Job)) (p : Desked) (slot : ℕ) → Ties m limit r qs p → unsettled (waited_now st r) r.book ≡ Some slot
+      → (e : Pending) × (at : ℕ) × (slice_get p.core.book at ≡ Some e) × (e.slot ≡ slot) × (tells_id (waited_at st p) e.id ≡ true) × (get_or r.told slot 0 ≤ e.number)
+  transfer_at limit st r qs p slot t e =
+      let found = unsettled_found (IsKept p.desks r.told) (waited_now st r) r.book slot t.kept e in
+      let h = found.0 in
+      let low : get_or r.told h.pending.slot 0 ≤ h.pending.number = not_told p.desks r.told h found.1.2 found.1.3 in
+      let among = waited_among (λ x. entry_of p.desks x.pending) (entry_id p.desks) (entry_unit p.desks) r.core.vars st.0.what h.pending.id r.book
+      (each_imp (IsKept p.desks r.told) (IsKnownOr (λ x. entry_of p.desks x.pending)) r.book (known_or p.desks r.told) t.kept) found.1.5 in (
+        h.pending,
+        found.1.0,
+        ap (λ l. slice_get l found.1.0) (sym (ap (λ k. k.book) t.core) ∙ sym t.same) ∙ map_get (λ (x : Held). x.pending) r.book found.1.0 h found.1.1,
+        found.1.4,
+        sym (ap (λ es. tells_id es h.pending.id) (book_is limit st r qs p t)) ∙ among,
+        subst (λ k. get_or r.told k 0 ≤ h.pending.number) found.1.4 low,
+      )
 
   -- the answer of the next job not told
   pub answer_of : (q : PlainSlot Bay Job) → q.told < length q.jobs → (o : Outcome) × (outcome (over_bays m) q.start q.jobs q.told ≡ Some o)
@@ -177,6 +202,24 @@ module _ {E J A S : Type 0} (m : Meaning E J A Bay Job Answer) (s : Shows S) (P 
     pub variables : run.variables ≡ r.variables
     pub reaches : Reaches (over_bays m) c P x (at_turn rest (turn_tell st (waited_at st p) run) slots)
 
+  waiting : (limit : ℕ) (st : Stated) (rest : List Stated) (r : Run) (qs : List (PlainSlot Bay Job)) (p : Desked) (slot : ℕ) → Ties m limit r qs p → unsettled (waited_now st r) r.book ≡ Some slot
+      → IsInside m s r.variables st p (at_turn rest (settles slot Waiting r) qs)
+  waiting limit st rest r qs p slot t e =
+      let found = transfer_at m limit st r qs p slot t e in
+      record {
+        told = t.told;
+        asks = inl (record {
+          core = t.core;
+          desks_are = t.desks;
+          transfer = found.0;
+          at = found.1;
+          pending = found.2;
+          place = found.3;
+          tells = found.4;
+          untold = found.5;
+        });
+      }
+
   waits_out : (n limit : ℕ) (st : Stated) (rest : List Stated) (r : Run) (qs : List (PlainSlot Bay Job)) (p : Desked)
       → Ties m limit r qs p → r.ending ≡ None → r.rest ≡ st ∷ rest → MayStand r.variables st p → untold qs ≡ n
       → (o : Option ℕ) → unsettled (waited_now st r) r.book ≡ o
@@ -208,7 +251,7 @@ module _ {E J A S : Type 0} (m : Meaning E J A Bay Job Answer) (s : Shows S) (P 
         rest_is = later.rest_is;
         variables = later.variables;
         reaches = reach_next (at_turn rest (settles slot Waiting r) qs) (at_turn rest (turn st Waiting r2) (set qs slot (more q))) (at_turn rest (turn_tell st (waited_at st p) later.run) later.slots)
-            (ok (at_turn rest (settles slot Waiting r) qs) (inl (record { slot = slot; hand = refl; core = t.core; desks = t.desks; unsettled = e })))
+            (ok (at_turn rest (settles slot Waiting r) qs) (waiting limit st rest r qs p slot t e))
             (settle_next st rest Waiting r qs slot q answer.0 none is found.1 answer.1) later.reaches;
       }
 

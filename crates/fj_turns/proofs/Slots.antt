@@ -1,5 +1,5 @@
 -- Lists of counts and slots.
-use Rattle.std.proofs.Common.{◌≡◌, ◌⊎◌, ℕ, zero, suc, ◌+◌, ◌-◌, ◌<◌, ◌≤◌, Bool, true, false, List, [], ◌∷◌, ◌++◌, map, length, Option, Some, None, slice_get, set, get_or, replicate, refl, sym, ap, ◌∙◌, subst, inl, inr, nat_lt, ◌&&◌, ◌||◌, arith}
+use Rattle.std.proofs.Common.{◌≡◌, ◌⊎◌, ℕ, zero, suc, ◌+◌, ◌<◌, ◌≤◌, Bool, true, false, List, [], ◌∷◌, ◌++◌, map, length, Some, None, slice_get, set, get_or, replicate, refl, sym, ap, ◌∙◌, subst, inl, inr, nat_lt, ◌&&◌, ◌||◌, arith}
 use Rattle.std.proofs.lemmas.Bool.{cases_Bool, ltb-true, ltb-false}
 use Rattle.fj_desk.proofs.Apart.{Each}
 

@@ -1,5 +1,5 @@
 -- The runner served alone, through a whole statement.
-use Rattle.std.proofs.Common.{◌≡◌, ◌⊎◌, ℕ, zero, suc, ◌+◌, ◌<◌, Bool, true, false, List, [], ◌∷◌, map, length, Option, Some, None, slice_get, refl, sym, ap, ◌∙◌, subst, inl, inr, arith}
+use Rattle.std.proofs.Common.{◌≡◌, ℕ, ◌<◌, Bool, true, false, List, [], ◌∷◌, map, Option, Some, None, refl, sym, ap, ◌∙◌, subst}
 use Rattle.std.specs.Prelude.{if◌then◌else◌, filter}
 use Rattle.fj_value.specs.Condition.{code_of}
 use Rattle.fj_value.specs.declared.condition.Condition.{Condition}
@@ -11,18 +11,18 @@ use Rattle.fj_world.specs.Plain.{Plain, PlainSlot}
 use Rattle.fj_bay.specs.Bay.{Bay}
 use Rattle.fj_bay.specs.Jobs.{Job, Answer, resume}
 use Rattle.fj_plain.specs.State.{Entry}
-use Rattle.fj_plain.specs.Statement.{Stated, Ending, prohibition, ends, iostat_of}
+use Rattle.fj_plain.specs.Statement.{Stated, Ending, iostat_of}
 use Rattle.fj_plain.specs.Telling.{condition_of, tells_cause}
 use Rattle.fj_plain.specs.Transfers.{with_number}
-use Rattle.fj_store.specs.Variables.{Variables}
+use Rattle.fj_plain.specs.Variables.{Variables}
 use Rattle.fj_desk.specs.Core.{Core, Connected}
 use Rattle.fj_desk.specs.Desks.{Desk, carry, resumed, most_slots}
 use Rattle.fj_desk.specs.Doing.{Doing, Desked, acted}
 use Rattle.fj_desk.specs.Acting.{doing}
 use Rattle.fj_desk.specs.Desking.{told_core, acts, completed, goes_on, desk_step}
 use Rattle.fj_desk.proofs.Apart.{Each, each_filter, each_map}
-use Rattle.fj_turns.specs.Run.{Held, Run}
-use Rattle.fj_turns.specs.Turns.{Turn, with_core, halted_slots, ends_halts, doing_told, with_iostat, turn_finish, turn_act, finish_by, with_tells, turn_tell, turn_wait, rule_of, start_by, turn_start}
+use Rattle.fj_turns.specs.Run.{Run}
+use Rattle.fj_turns.specs.Turns.{Turn, with_core, halted_slots, ends_halts, doing_told, with_iostat, turn_act, finish_by, with_tells, turn_wait, rule_of, start_by, turn_start}
 use Rattle.fj_turns.specs.Serving.{over_bays, Shows, run_conduct}
 use Rattle.fj_turns.specs.Inside.{waited_at, does}
 use Rattle.fj_turns.specs.Standing.{Reaches}
@@ -151,7 +151,7 @@ module _ {E J A S : Type 0} (m : Meaning E J A Bay Job Answer) (s : Shows S) (P 
       ap (λ k. doing_told w.run.variables st told k) w.ties.core ∙ ap (λ vs. doing_told vs st told p.core) w.variables in
       let t2 = tell_ties m limit st told w.run w.slots p w.ties in
       let keeps = subst (λ vs. Keeps (told_core vs st.0.line told p.core) (does r.variables st p)) (sym w.variables) (does_keeps r.variables st p (subst (λ k. Housed k.units) w.ties.core w.ties.housed)) in
-      let acted_to = act_reaches m s P (does r.variables st p) new limit 0 r.variables st p rest run2 w.slots (record { core = new; desks = p.desks }) t2 (ap (λ k. k.book) t2.core) same keeps refl ok w.ending w.rest_is in
+      let acted_to = act_reaches m s P (does r.variables st p) new limit 0 r.variables st p rest run2 w.slots (record { core = new; desks = p.desks }) t2 (ap (λ k. k.book) t2.core) same keeps refl refl ok w.ending w.rest_is in
       let y : Plain Bay c = turned rest (turn_act st (does r.variables st p) run2) w.slots in
       let first : Reaches (over_bays m) c P (turned rest (turn_wait st r) qs) y =
       subst (λ d. Reaches (over_bays m) c P (turned rest (turn_wait st r) qs) (turned rest (turn_act st d run2) w.slots)) doing_is w.reaches in

@@ -1,6 +1,6 @@
 -- The identifiers that jobs carry: each stands once in the logs.
-use Rattle.std.proofs.Common.{◌≡◌, ◌⊎◌, ℕ, zero, suc, ◌+◌, ◌-◌, ◌<◌, ◌≤◌, Bool, true, false, List, [], ◌∷◌, ◌++◌, length, Option, Some, None, slice_get, refl, sym, ap, ◌∙◌, subst, inl, inr, arith}
-use Rattle.std.proofs.lemmas.Bool.{cases_Bool, ltb-true, ltb-false}
+use Rattle.std.proofs.Common.{◌≡◌, ◌⊎◌, ℕ, ◌+◌, ◌<◌, ◌≤◌, Bool, true, false, List, [], ◌∷◌, ◌++◌, length, Option, Some, None, slice_get, refl, sym, ap, ◌∙◌, subst, inl, inr, arith}
+use Rattle.std.proofs.lemmas.Bool.{ltb-true, ltb-false}
 use Rattle.std.proofs.lemmas.Bool.Decides.{eqb_tells}
 use Rattle.std.specs.Prelude.{nat_lt}
 use Rattle.std.proofs.lemmas.List.{length-append}
@@ -9,7 +9,7 @@ use Rattle.fj_bay.specs.Bay.{Bay}
 use Rattle.fj_bay.specs.Jobs.{Job, attach, detach, move, go, change, flush, look, resume}
 use Rattle.fj_bay.specs.Serving.{serve, attached, detached, moved_in, gone, changed, looked}
 use Rattle.fj_desk.specs.Desks.{Desk, Outcome, outcome_on, carried, carry_at, carry, log_at, log_length}
-use Rattle.fj_desk.proofs.Carrying.{Later, carry_later, carry_other}
+use Rattle.fj_desk.proofs.Carrying.{carry_later, carry_other}
 use Rattle.fj_turns.specs.Turns.{tag_of}
 use Rattle.fj_turns.proofs.Slots.{found_inside, none_beyond, get_last, set_found}
 

@@ -1,10 +1,8 @@
 -- How the runner and its slots hold what the execution over desks holds.
-use Rattle.std.proofs.Common.{◌≡◌, ◌⊎◌, ℕ, zero, suc, ◌+◌, ◌-◌, ◌<◌, ◌≤◌, Bool, true, false, not, List, [], ◌∷◌, ◌++◌, map, length, Option, Some, None, slice_get, set, get_or, refl, sym, ap, ◌∙◌, subst, inl, inr, arith}
-use Rattle.std.specs.Prelude.{nat_lt, if◌then◌else◌, filter, ◌==◌}
-use Rattle.std.proofs.lemmas.Bool.{cases_Bool, ltb-true, ltb-false, eq-eqb}
+use Rattle.std.proofs.Common.{◌≡◌, ℕ, zero, suc, ◌+◌, ◌-◌, ◌<◌, ◌≤◌, Bool, true, false, List, [], ◌∷◌, ◌++◌, map, length, Option, Some, None, slice_get, set, get_or, refl, sym, ap, ◌∙◌, subst, inl, inr, arith}
+use Rattle.std.specs.Prelude.{nat_lt, if◌then◌else◌, ◌==◌}
+use Rattle.std.proofs.lemmas.Bool.{eq-eqb}
 use Rattle.std.proofs.lemmas.Bool.Decides.{eqb_tells}
-use Rattle.std.proofs.lemmas.List.{length-append}
-use Rattle.fj_statement.specs.declared.deck.Variable.{Variable}
 use Rattle.fj_bay.specs.Bay.{Bay}
 use Rattle.fj_bay.specs.Jobs.{Job, Answer}
 use Rattle.fj_bay.specs.Serving.{serve}
@@ -13,20 +11,15 @@ use Rattle.fj_slot.specs.Sound.{served_by, outcomes, outcome}
 use Rattle.fj_slot.proofs.Serving.{served_by-append, outcomes-append, length-outcomes}
 use Rattle.fj_world.specs.Plain.{PlainSlot}
 use Rattle.fj_world.proofs.Places.{set_itself}
-use Rattle.fj_plain.specs.State.{Entry}
-use Rattle.fj_plain.specs.Statement.{Stated}
-use Rattle.fj_plain.specs.Telling.{tells_id}
-use Rattle.fj_desk.specs.Core.{Core, Pending, Connected}
-use Rattle.fj_desk.specs.Desks.{Desk, Outcome, carried, carry_at, carry, log_at, log_length, most_slots}
+use Rattle.fj_desk.specs.Core.{Pending, Connected}
+use Rattle.fj_desk.specs.Desks.{Desk, Outcome, carried, log_at, log_length, most_slots}
 use Rattle.fj_desk.specs.Doing.{Desked}
-use Rattle.fj_desk.specs.Desking.{told_core}
-use Rattle.fj_desk.proofs.Apart.{Each, each_filter, each_append, each_imp, each_map, filter_map}
-use Rattle.fj_desk.proofs.Carrying.{carry_later}
+use Rattle.fj_desk.proofs.Apart.{Each, each_imp, each_map}
 use Rattle.fj_turns.specs.Run.{Held, Stage, Run}
-use Rattle.fj_turns.specs.Turns.{matched, with_core, bump, tag_of, with_answer, stage_told, told_of, with_tells}
+use Rattle.fj_turns.specs.Turns.{matched, bump, tag_of, with_answer, told_of}
 use Rattle.fj_turns.specs.Serving.{over_bays, desk_of, desks_of}
-use Rattle.fj_turns.proofs.Slots.{same_some, get_mapped, each_at, each_set, map_set, map_get, get_set_here, get_set_other, length_set, length_mapped, set_found, found_inside, is_below, not_below, below_more}
-use Rattle.fj_turns.proofs.Tags.{tag_in, tag_at, tag_inside, AreTagged, carry_tag, carry_tagged}
+use Rattle.fj_turns.proofs.Slots.{same_some, get_mapped, each_set, map_set, map_get, get_set_here, get_set_other, length_set, length_mapped, found_inside, is_below, below_more}
+use Rattle.fj_turns.proofs.Tags.{tag_in, tag_at, AreTagged}
 
 -- what is known of a pending transfer: what became of it, once so many jobs of its slot were told
 abbrev pub answer_at : List Desk → List ℕ → Pending → Option Outcome

@@ -1,5 +1,5 @@
 -- Tells, a Submit and a change of the core keep the ties.
-use Rattle.std.proofs.Common.{◌≡◌, ◌⊎◌, ℕ, zero, suc, ◌+◌, ◌-◌, ◌<◌, ◌≤◌, Bool, true, false, not, List, [], ◌∷◌, ◌++◌, map, length, Option, Some, None, slice_get, set, get_or, refl, sym, ap, ◌∙◌, subst, inl, inr, arith}
+use Rattle.std.proofs.Common.{◌≡◌, ◌⊎◌, ℕ, ◌+◌, ◌<◌, ◌≤◌, not, List, [], ◌∷◌, ◌++◌, map, length, Some, None, slice_get, set, get_or, refl, sym, ap, ◌∙◌, subst, arith}
 use Rattle.std.specs.Prelude.{nat_lt, if◌then◌else◌, filter}
 use Rattle.std.proofs.lemmas.List.{length-append}
 use Rattle.fj_bay.specs.Bay.{Bay}
@@ -11,7 +11,7 @@ use Rattle.fj_plain.specs.State.{Entry}
 use Rattle.fj_plain.specs.Statement.{Stated}
 use Rattle.fj_plain.specs.Telling.{tells_id}
 use Rattle.fj_desk.specs.Core.{Core, Pending, Connected}
-use Rattle.fj_desk.specs.Desks.{Desk, Outcome, carry_at, carry, log_at, most_slots}
+use Rattle.fj_desk.specs.Desks.{Desk, carry_at, carry, log_at, most_slots}
 use Rattle.fj_desk.specs.Doing.{Desked}
 use Rattle.fj_desk.specs.Desking.{told_core}
 use Rattle.fj_desk.proofs.Apart.{Each, each_filter, each_append, each_imp, filter_map}
@@ -21,7 +21,7 @@ use Rattle.fj_turns.specs.Turns.{matched, with_core, bump, tag_of, with_tells}
 use Rattle.fj_turns.specs.Serving.{desk_of, desks_of}
 use Rattle.fj_turns.proofs.Slots.{get_mapped, each_at, each_set, map_set, map_get, length_set, not_below}
 use Rattle.fj_turns.proofs.Tags.{tag_in, tag_at, tag_inside, carry_tagged}
-use Rattle.fj_turns.proofs.Ties.{answer_at, IsKept, Ties, given, matched_same, matched_more, pending_more, desk_given}
+use Rattle.fj_turns.proofs.Ties.{IsKept, Ties, given, matched_same, matched_more, pending_more, desk_given}
 
 pub kept_carried : (desks : List Desk) (told : List ℕ) (slot : ℕ) (job : Job) (h : Held) → IsKept desks told h → IsKept (carry desks slot job) told h
 kept_carried desks told slot job h k =

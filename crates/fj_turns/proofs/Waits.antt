@@ -1,16 +1,16 @@
 -- The transfers that a statement waits for: once all that are known to be waited for were told, they are those that it tells.
-use Rattle.std.proofs.Common.{◌≡◌, ◌⊎◌, ℕ, ℤ, zero, suc, ◌+◌, ◌<◌, ◌≤◌, Bool, true, false, not, List, [], ◌∷◌, ◌++◌, map, length, Option, Some, None, is_none, slice_get, get_or, refl, sym, ap, ◌∙◌, subst, inl, inr, ◌&&◌, ◌||◌, arith}
-use Rattle.std.specs.Prelude.{pos, nat_lt, if◌then◌else◌, filter, ◌==◌}
-use Rattle.std.specs.List.{list_any}
+use Rattle.std.proofs.Common.{◌≡◌, ◌⊎◌, ℕ, ℤ, suc, Bool, true, false, List, [], ◌∷◌, map, Option, Some, None, is_none, slice_get, refl, sym, ap, ◌∙◌, subst, inl, inr, ◌&&◌, ◌||◌}
+use Rattle.std.specs.Prelude.{pos, if◌then◌else◌, filter, ◌==◌}
 use Rattle.std.specs.Ordering.{int_eq}
-use Rattle.std.proofs.lemmas.Bool.{cases_Bool, eq-eqb}
+use Rattle.std.proofs.lemmas.Bool.{eq-eqb}
+use Rattle.fj_value.specs.declared.condition.Condition.{Condition}
+use Rattle.fj_value.specs.declared.condition.Condition.TheVariants.{Fine, EndOfFile, EndOfRecord, Error}
 use Rattle.fj_statement.specs.declared.statement.Statement.{Statement}
 use Rattle.fj_statement.specs.declared.statement.Statement.TheVariants as statement
-use Rattle.fj_store.specs.Variables.{Variables}
+use Rattle.fj_plain.specs.Variables.{Variables}
 use Rattle.fj_plain.specs.Needs.{number_of, number_given}
 use Rattle.fj_plain.specs.State.{Entry, halts}
-use Rattle.fj_plain.specs.Telling.{of_unit, of_id, condition_of, waited_by, waited_in, is_asynchronous, tells_id}
-use Rattle.fj_desk.specs.Core.{Pending}
+use Rattle.fj_plain.specs.Telling.{of_unit, of_id, graver, condition_of, waited_by, waited_in, is_asynchronous, tells_id}
 use Rattle.fj_desk.specs.Desks.{Outcome, entry_with}
 use Rattle.fj_desk.proofs.Apart.{Each, each_imp, each_both}
 use Rattle.fj_turns.specs.Run.{Held, known}
@@ -80,7 +80,7 @@ known_unit h = by h.answer
     by (Some o) = refl
 
 module _ (g : Held → Entry) (ids : (h : Held) → (g h).id ≡ h.pending.id) (units : (h : Held) → (g h).unit ≡ h.pending.unit) (hs : List Held) where
-  like : (q : ℕ → ℕ → Bool) (h : Held) → q (known h).unit (known h).id ≡ q (g h).unit (g h).id
+  pub like : (q : ℕ → ℕ → Bool) (h : Held) → q (known h).unit (known h).id ≡ q (g h).unit (g h).id
   like q h = ap (λ u. q u (known h).id) (known_unit h ∙ sym (units h)) ∙ ap (λ n. q (g h).unit n) (known_id h ∙ sym (ids h))
 
   -- chosen by unit and identifier
@@ -151,16 +151,132 @@ none_unsettled es (h ∷ hs) e = by (tells_id es h.pending.id) (is_none h.answer
     by true false f e = ((λ _. refl), f e)
     by false b f e = ((λ x. cc), f e)
 
--- one whose job is not told
-abbrev pub IsUnsettled : (Held → Type 0) → List Entry → ℕ → Held → Type 0
-IsUnsettled P es slot h = P h × (h.answer ≡ None) × (h.pending.slot ≡ slot) × (tells_id es h.pending.id ≡ true)
+-- one whose job is not told, and where it stands
+abbrev pub IsUnsettled : (Held → Type 0) → List Entry → List Held → ℕ → Held → Type 0
+IsUnsettled P es hs slot h = ((k : ℕ) × (slice_get hs k ≡ Some h) × P h × (h.answer ≡ None) × (h.pending.slot ≡ slot) × (tells_id es h.pending.id ≡ true))
 
-pub unsettled_found : (P : Held → Type 0) (es : List Entry) (hs : List Held) (slot : ℕ) → Each P hs → unsettled es hs ≡ Some slot → (h : Held) × IsUnsettled P es slot h
+pub unsettled_found : (P : Held → Type 0) (es : List Entry) (hs : List Held) (slot : ℕ) → Each P hs → unsettled es hs ≡ Some slot → (h : Held) × IsUnsettled P es hs slot h
 unsettled_found P es [] slot k e = cc
 unsettled_found P es (h ∷ hs) slot k e = by (tells_id es h.pending.id) (h.answer) refl refl (λ z. unsettled_found P es hs slot k.1 z) e
   where
-    by : (a : Bool) (o : Option Outcome) → tells_id es h.pending.id ≡ a → h.answer ≡ o → (unsettled es hs ≡ Some slot → (h : Held) × IsUnsettled P es slot h)
-        → (if a && is_none o then Some h.pending.slot else unsettled es hs) ≡ Some slot → (h : Held) × IsUnsettled P es slot h
-    by true None a o f e = (h, (k.0, o, cc, a))
-    by true (Some x) a o f e = f e
-    by false o a x f e = f e
+    further : (x : Held) × IsUnsettled P es hs slot x → (x : Held) × IsUnsettled P es (h ∷ hs) slot x
+    further f = (f.0, (suc f.1.0, f.1.1, f.1.2, f.1.3, f.1.4, f.1.5))
+
+    by : (a : Bool) (o : Option Outcome) → tells_id es h.pending.id ≡ a → h.answer ≡ o → (unsettled es hs ≡ Some slot → (x : Held) × IsUnsettled P es hs slot x)
+        → (if a && is_none o then Some h.pending.slot else unsettled es hs) ≡ Some slot → (x : Held) × IsUnsettled P es (h ∷ hs) slot x
+    by true None a o f e = (h, (0, refl, k.0, o, cc, a))
+    by true (Some x) a o f e = further (f e)
+    by false o a x f e = further (f e)
+
+-- ---- those that are known to be waited for are among those that it tells
+
+-- a graver condition halts where one of the two does
+pub halts_graver : (a b : Condition) → halts (graver a b) ≡ (halts a || halts b)
+halts_graver Fine b = refl
+halts_graver (Error n) b = refl
+halts_graver EndOfFile Fine = refl
+halts_graver EndOfFile EndOfFile = refl
+halts_graver EndOfFile EndOfRecord = refl
+halts_graver EndOfFile (Error n) = refl
+halts_graver EndOfRecord Fine = refl
+halts_graver EndOfRecord EndOfFile = refl
+halts_graver EndOfRecord EndOfRecord = refl
+halts_graver EndOfRecord (Error n) = refl
+
+-- nothing is known of it, or what became of it
+abbrev pub IsKnownOr : (Held → Entry) → Held → Type 0
+IsKnownOr g h = (h.answer ≡ None) ⊎ (known h ≡ g h)
+
+implied : (a b c d : Bool) → (a ≡ true → c ≡ true) → (b ≡ true → d ≡ true) → (a || b) ≡ true → (c || d) ≡ true
+implied true b c d f g e = ap (λ x. x || d) (f refl)
+implied false b true d f g e = refl
+implied false b false d f g e = g e
+
+module _ (g : Held → Entry) (ids : (h : Held) → (g h).id ≡ h.pending.id) (units : (h : Held) → (g h).unit ≡ h.pending.unit) where
+  fine_known : (h : Held) → IsKnownOr g h → halts (known h).condition ≡ true → halts (g h).condition ≡ true
+  fine_known h (inl none) e = absurd (let z : false ≡ true = sym (ap (λ o. halts (entry_with h.pending o).condition) none) ∙ e in cc)
+  fine_known h (inr same) e = ap (λ x. halts x.condition) (sym same) ∙ e
+
+  -- what is known of the chosen ones halts only where what became of them does
+  chosen_halts : (q : ℕ → ℕ → Bool) (hs : List Held) → Each (IsKnownOr g) hs → halts (condition_of (filter (λ (e : Entry). q e.unit e.id) (map known hs))) ≡ true → halts (condition_of (filter (λ (e : Entry). q e.unit e.id) (map g hs))) ≡ true
+  chosen_halts q [] k e = cc
+  chosen_halts q (h ∷ hs) k e =
+      by (q (known h).unit (known h).id) (q (g h).unit (g h).id) (like g ids units hs q h) (chosen_halts q hs k.1) e
+    where
+      by : (a b : Bool) → a ≡ b → (halts (condition_of (filter (λ (e : Entry). q e.unit e.id) (map known hs))) ≡ true → halts (condition_of (filter (λ (e : Entry). q e.unit e.id) (map g hs))) ≡ true)
+          → halts (condition_of (if a then known h ∷ filter (λ (e : Entry). q e.unit e.id) (map known hs) else filter (λ (e : Entry). q e.unit e.id) (map known hs))) ≡ true
+          → halts (condition_of (if b then g h ∷ filter (λ (e : Entry). q e.unit e.id) (map g hs) else filter (λ (e : Entry). q e.unit e.id) (map g hs))) ≡ true
+      by true true same f e =
+          halts_graver (g h).condition (condition_of (filter (λ (e : Entry). q e.unit e.id) (map g hs)))
+          ∙ implied (halts (known h).condition) (halts (condition_of (filter (λ (e : Entry). q e.unit e.id) (map known hs)))) (halts (g h).condition) (halts (condition_of (filter (λ (e : Entry). q e.unit e.id) (map g hs))))
+          (fine_known h k.0) f (sym (halts_graver (known h).condition (condition_of (filter (λ (e : Entry). q e.unit e.id) (map known hs)))) ∙ e)
+      by true false same f e = cc
+      by false true same f e = cc
+      by false false same f e = f e
+
+  chosen_ids : (q : ℕ → ℕ → Bool) (id : ℕ) (hs : List Held) → tells_id (filter (λ (e : Entry). q e.unit e.id) (map known hs)) id ≡ tells_id (filter (λ (e : Entry). q e.unit e.id) (map g hs)) id
+  chosen_ids q id [] = refl
+  chosen_ids q id (h ∷ hs) = by (q (known h).unit (known h).id) (q (g h).unit (g h).id) (like g ids units hs q h) (chosen_ids q id hs)
+    where
+      by : (a b : Bool) → a ≡ b → tells_id (filter (λ (e : Entry). q e.unit e.id) (map known hs)) id ≡ tells_id (filter (λ (e : Entry). q e.unit e.id) (map g hs)) id
+          → tells_id (if a then known h ∷ filter (λ (e : Entry). q e.unit e.id) (map known hs) else filter (λ (e : Entry). q e.unit e.id) (map known hs)) id
+          ≡ tells_id (if b then g h ∷ filter (λ (e : Entry). q e.unit e.id) (map g hs) else filter (λ (e : Entry). q e.unit e.id) (map g hs)) id
+      by true true same e = ap (λ n. (n == id) || tells_id (filter (λ (e : Entry). q e.unit e.id) (map known hs)) id) (known_id h ∙ sym (ids h)) ∙ ap (λ b. ((g h).id == id) || b) e
+      by true false same e = cc
+      by false true same e = cc
+      by false false same e = e
+
+  unit_ids : (number : Option ℕ) (id : ℕ) (hs : List Held) → tells_id (of_unit (map known hs) number) id ≡ tells_id (of_unit (map g hs) number) id
+  unit_ids None id hs = refl
+  unit_ids (Some n) id hs = chosen_ids (λ u k. u == n) id hs
+
+  id_halts : (number : Option ℕ) (which : ℤ) (hs : List Held) → Each (IsKnownOr g) hs → halts (condition_of (of_id (map known hs) number which)) ≡ true → halts (condition_of (of_id (map g hs) number which)) ≡ true
+  id_halts None which hs k e = cc
+  id_halts (Some n) which hs k e =
+      let two = λ (xs : List Entry). ap (λ es. halts (condition_of es)) (filter_filter (λ (x : Entry). x.unit == n) (λ (x : Entry). int_eq (pos x.id) which) xs) in
+      two (map g hs) ∙ chosen_halts (λ u j. (u == n) && int_eq (pos j) which) hs k (sym (two (map known hs)) ∙ e)
+
+  id_ids : (number : Option ℕ) (which : ℤ) (id : ℕ) (hs : List Held) → tells_id (of_id (map known hs) number which) id ≡ tells_id (of_id (map g hs) number which) id
+  id_ids None which id hs = refl
+  id_ids (Some n) which id hs =
+      let two = λ (xs : List Entry). ap (λ es. tells_id es id) (filter_filter (λ (x : Entry). x.unit == n) (λ (x : Entry). int_eq (pos x.id) which) xs) in
+      two (map known hs) ∙ chosen_ids (λ u j. (u == n) && int_eq (pos j) which) id hs ∙ sym (two (map g hs))
+
+  by_ids : (number : Option ℕ) (which : Option ℤ) (id : ℕ) (hs : List Held) → Each (IsKnownOr g) hs → tells_id (waited_by (map known hs) number which) id ≡ true → tells_id (waited_by (map g hs) number which) id ≡ true
+  by_ids number None id hs k e = sym (unit_ids number id hs) ∙ e
+  by_ids number (Some which) id hs k e =
+      by (halts (condition_of (of_id (map known hs) number which))) (halts (condition_of (of_id (map g hs) number which))) (id_halts number which hs k) e
+    where
+      narrow : (es : List Entry) → tells_id (filter (λ (x : Entry). int_eq (pos x.id) which) es) id ≡ true → tells_id es id ≡ true
+      narrow [] e = e
+      narrow (x ∷ es) e = inner (int_eq (pos x.id) which) (narrow es) e
+        where
+          inner : (b : Bool) → (tells_id (filter (λ (x : Entry). int_eq (pos x.id) which) es) id ≡ true → tells_id es id ≡ true)
+              → tells_id (if b then x ∷ filter (λ (x : Entry). int_eq (pos x.id) which) es else filter (λ (x : Entry). int_eq (pos x.id) which) es) id ≡ true → tells_id (x ∷ es) id ≡ true
+          inner true f e = implied (x.id == id) (tells_id (filter (λ (x : Entry). int_eq (pos x.id) which) es) id) (x.id == id) (tells_id es id) (λ z. z) f e
+          inner false f e = implied false true (x.id == id) (tells_id es id) (λ z. cc) (λ z. f e) refl
+
+      by : (a b : Bool) → (a ≡ true → b ≡ true) → tells_id (if a then of_unit (map known hs) number else of_id (map known hs) number which) id ≡ true
+          → tells_id (if b then of_unit (map g hs) number else of_id (map g hs) number which) id ≡ true
+      by true b f e = ap (λ x. tells_id (if x then of_unit (map g hs) number else of_id (map g hs) number which) id) (f refl) ∙ sym (unit_ids number id hs) ∙ e
+      by false true f e = narrow (of_unit (map g hs) number) (sym (id_ids number which id hs) ∙ e)
+      by false false f e = sym (id_ids number which id hs) ∙ e
+
+  -- for each kind of statement
+  pub waited_among : (vars : Variables) (st : Statement) (id : ℕ) (hs : List Held) → Each (IsKnownOr g) hs → tells_id (waited_in (map known hs) vars st) id ≡ true → tells_id (waited_in (map g hs) vars st) id ≡ true
+  waited_among vars (statement.Assign to from) id hs k e = e
+  waited_among vars (statement.OpenUnit u spec iostat) id hs k e = sym (unit_ids (number_of u) id hs) ∙ e
+  waited_among vars (statement.CloseUnit u keep iostat) id hs k e = sym (unit_ids (number_of u) id hs) ∙ e
+  waited_among vars (statement.WaitFor u which iostat) id hs k e = by_ids (number_of u) (number_given vars which) id hs k e
+  waited_among vars (statement.Move how u iostat) id hs k e = sym (unit_ids (number_of u) id hs) ∙ e
+  waited_among vars (statement.Inquire about asked which iostat) id hs k e = e
+  waited_among vars (statement.Transfer t) id hs k e = by (is_asynchronous t) e
+    where
+      by : (b : Bool) → tells_id (if b then [] else of_unit (map known hs) (number_of t.unit)) id ≡ true → tells_id (if b then [] else of_unit (map g hs) (number_of t.unit)) id ≡ true
+      by true e = e
+      by false e = sym (unit_ids (number_of t.unit) id hs) ∙ e
+  waited_among vars statement.End id hs k e = all hs e
+    where
+      all : (xs : List Held) → tells_id (map known xs) id ≡ true → tells_id (map g xs) id ≡ true
+      all [] e = e
+      all (x ∷ xs) e = implied ((known x).id == id) (tells_id (map known xs) id) ((g x).id == id) (tells_id (map g xs) id) (λ z. ap (λ n. n == id) (ids x ∙ sym (known_id x)) ∙ z) (all xs) e

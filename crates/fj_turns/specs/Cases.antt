@@ -1,14 +1,11 @@
 -- Worked cases: the runner served alone over bays.
-use Rattle.std.specs.Prelude.{◌≡◌, ℕ, ℤ, pos, negsuc, false, List, [], ◌∷◌, ◌++◌, Some, None}
+use Rattle.std.specs.Prelude.{◌≡◌, pos, negsuc, false, List, [], ◌∷◌, Some, None}
 use Rattle.fj_value.specs.declared.value.Value.TheVariants.{Undefined}
 use Rattle.fj_value.specs.declared.condition.Condition.TheVariants.{EndOfFile}
 use Rattle.fj_statement.specs.declared.deck.Variable.{Variable}
-use Rattle.fj_slot.specs.Serving.{Meaning}
 use Rattle.fj_world.specs.Conduct.{Idle}
 use Rattle.fj_world.specs.Plain.{Plain, after}
 use Rattle.fj_bay.specs.Bay.{Bay}
-use Rattle.fj_bay.specs.Jobs.{Job, Answer}
-use Rattle.fj_bay.specs.Serving.{serve}
 use Rattle.fj_plain.specs.State.{Files}
 use Rattle.fj_plain.specs.Statement.{Stated, ended, Result}
 use Rattle.fj_plain.specs.DeckWords.{integers, at, two_lines, r, lines_from, wait, «end», four_reads}
@@ -16,11 +13,9 @@ use Rattle.fj_plain.specs.Cases.{Comes, int, told}
 use Rattle.fj_desk.specs.Desking.{desk_result}
 use Rattle.fj_turns.specs.Run.{Run}
 use Rattle.fj_turns.specs.Serving.{over_bays, Shows, run_conduct, desks_of, begins}
+use Rattle.fj_turns.specs.Laws.{plain_bays}
 
--- bays and runners that are their own plain data
-abbrev pub plain_bays : Meaning Bay Job Answer Bay Job Answer
-plain_bays = record { state = λ bay. Some bay; task = λ job. Some job; reply = λ answer. answer; serve = serve; spoilt = λ bay job stop left. ⊥; faults = λ bay. 0 }
-
+-- a runner that is its own plain data
 abbrev pub plain_runs : Shows Run
 plain_runs = record { left = λ r. 0; uses = λ r. 0; owed = λ r slot. 0; due = λ r. Idle; over = λ r. false; stopped = λ r. false; state = λ r. Some r }
 

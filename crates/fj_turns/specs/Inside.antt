@@ -5,7 +5,6 @@ use Rattle.fj_bay.specs.Jobs.{Job}
 use Rattle.fj_plain.specs.State.{Entry}
 use Rattle.fj_plain.specs.Telling.{waited_in}
 use Rattle.fj_plain.specs.Statement.{Stated}
-use Rattle.fj_desk.specs.Core.{Core}
 use Rattle.fj_desk.specs.Desks.{Desk, carry, outcome, log_length}
 use Rattle.fj_desk.specs.Doing.{Doing, finishes, gives, awaits, Desked, given}
 use Rattle.fj_desk.specs.Desking.{entries, desk_step}
@@ -21,11 +20,6 @@ does variables st p = doing_told variables st (waited_at st p) p.core
 
 abbrev pub jobs_of : List Variable → Stated → Desked → List (ℕ × Job)
 jobs_of variables st p = given p.desks (does variables st p)
-
--- jobs are carried out, in that order
-abbrev pub carry_all : List Desk → List (ℕ × Job) → List Desk
-carry_all desks [] = desks
-carry_all desks (x ∷ xs) = carry_all (carry desks x.0 x.1) xs
 
 -- after so many jobs: the desks, and what is done next
 abbrev pub walked : ℕ → List Desk → Doing → List Desk × Doing

@@ -2,6 +2,10 @@ pub mod Run
 pub mod Turns
 pub mod Serving
 pub mod Inside
-pub mod Cases
 pub mod Standing
 pub mod Whole
+pub mod Executing
+pub mod Cutting
+pub mod Meant
+pub mod Laws
+pub mod Cases

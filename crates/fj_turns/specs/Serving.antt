@@ -1,8 +1,6 @@
 -- The runner as a script over slots of bays.
 use Rattle.std.specs.Prelude.{ℕ, Bool, List, [], map, replicate, Option, None}
-use Rattle.fj_value.specs.declared.condition.Condition.{Condition}
 use Rattle.fj_statement.specs.declared.deck.Variable.{Variable}
-use Rattle.fj_connect.specs.Connection.{Connection}
 use Rattle.fj_bay.specs.Bay.{Bay}
 use Rattle.fj_bay.specs.Jobs.{Job, Answer}
 use Rattle.fj_bay.specs.Serving.{serve}

@@ -1,20 +1,24 @@
 -- The runner served alone: where in a statement it stands, and what it comes to.
-use Rattle.std.specs.Prelude.{◌≡◌, ◌⊎◌, ℕ, zero, suc, List, [], ◌∷◌, Option, Some, None}
+use Rattle.std.specs.Prelude.{◌≡◌, ◌⊎◌, ℕ, zero, suc, ◌≤◌, true, List, ◌++◌, map, slice_get, get_or, Some, None}
 use Rattle.fj_statement.specs.declared.deck.Variable.{Variable}
+use Rattle.fj_statement.specs.declared.statement.Statement.TheVariants as statement
+use Rattle.fj_statement.specs.declared.statement.Transfer.{Transfer}
 use Rattle.fj_slot.specs.Serving.{Meaning}
+use Rattle.fj_world.specs.declared.ask.Ask.{Ask}
 use Rattle.fj_world.specs.declared.ask.Ask.TheVariants.{Submit, Settle, Finished}
 use Rattle.fj_world.specs.Conduct.{Conduct}
-use Rattle.fj_world.specs.Plain.{Plain, PlainSlot, next, after}
+use Rattle.fj_world.specs.Plain.{Plain, next, after}
 use Rattle.fj_bay.specs.Bay.{Bay}
 use Rattle.fj_bay.specs.Jobs.{Job, Answer}
 use Rattle.fj_plain.specs.Statement.{Stated}
-use Rattle.fj_desk.specs.Core.{Core}
+use Rattle.fj_plain.specs.Telling.{tells_id, tell_of, is_asynchronous}
+use Rattle.fj_desk.specs.Core.{Core, Pending}
 use Rattle.fj_desk.specs.Desks.{Desk, Outcome, carry}
 use Rattle.fj_desk.specs.Doing.{Doing, finishes, gives, awaits, Desked}
 use Rattle.fj_turns.specs.Run.{Run}
-use Rattle.fj_turns.specs.Turns.{unsettled, waited_now, rule_of}
+use Rattle.fj_turns.specs.Turns.{rule_of}
 use Rattle.fj_turns.specs.Serving.{Shows, run_conduct, desks_of}
-use Rattle.fj_turns.specs.Inside.{does, walked, cut_desks}
+use Rattle.fj_turns.specs.Inside.{waited_at, does, walked, cut_desks}
 
 -- ---- served alone, one state becomes another, and each on the way has a property
 
@@ -34,36 +38,52 @@ GivesNext (finishes core condition) at task now = ⊥
 GivesNext (gives slot job core next) at task now = (slot ≡ at) × (job ≡ task) × (core ≡ now)
 GivesNext (awaits slot job core next) at task now = (slot ≡ at) × (job ≡ task) × (core ≡ now)
 
+-- nothing of it is done: it waits for a job of the slot, where a transfer that it tells has one that is not told
+pub record Waits (statement : Stated) (before : Desked) (slot : ℕ) (run : Run) (desks : List Desk) : Type 0 where
+  pub core : run.core ≡ before.core
+  pub desks_are : desks ≡ before.desks
+  pub transfer : Pending
+  pub at : ℕ
+  pub pending : slice_get before.core.book at ≡ Some transfer
+  pub place : transfer.slot ≡ slot
+  pub tells : tells_id (waited_at statement before) transfer.id ≡ true
+  pub untold : get_or run.told slot 0 ≤ transfer.number
+
+-- the transfers that it waits for are told
+abbrev pub HasTold : Stated → Desked → Run → Type 0
+HasTold statement before run = run.core.tells ≡ before.core.tells ++ map (tell_of statement.0.line) (waited_at statement before)
+
+-- all is told, and it gave so many jobs, that end halts or are its own: it gives the next one
+pub record GivesJob (variables : List Variable) (statement : Stated) (before : Desked) (slot : ℕ) (job : Job) (run : Run) (desks : List Desk) : Type 0 where
+  pub tells : HasTold statement before run
+  pub jobs : ℕ
+  pub desks_are : desks ≡ (walked jobs before.desks (does variables statement before)).0
+  pub gives : GivesNext (walked jobs before.desks (does variables statement before)).1 slot job run.core
+
+-- all is told; behind so many others it gave its own job, and waits for it
+pub record AwaitsJob (variables : List Variable) (statement : Stated) (before : Desked) (slot : ℕ) (run : Run) (desks : List Desk) : Type 0 where
+  pub tells : HasTold statement before run
+  pub jobs : ℕ
+  pub job : Job
+  pub onward : Outcome → Doing
+  pub awaited : (walked jobs before.desks (does variables statement before)).1 ≡ awaits slot job run.core onward
+  pub desks_are : desks ≡ carry (walked jobs before.desks (does variables statement before)).0 slot job
+
+abbrev pub Asks : List Variable → Stated → Desked → Ask Job → Run → List Desk → Type 0
+Asks variables statement before (Submit slot job) run desks = GivesJob variables statement before slot job run desks
+Asks variables statement before (Settle slot) run desks = Waits statement before slot run desks ⊎ AwaitsJob variables statement before slot run desks
+Asks variables statement before Finished run desks = ⊥
+
+-- a READ or WRITE that will be pending awaits no answer: neither of transfers, nor of its own job
+abbrev pub PendingAwaitsNothing : Type 0
+PendingAwaitsNothing = (variables : List Variable) (st : Stated) (before : Desked) (t : Transfer) (slot : ℕ) (run : Run) (desks : List Desk) →
+    st.0.what ≡ statement.Transfer t → is_asynchronous t ≡ true → Asks variables st before (Settle slot) run desks → ⊥
+
 module _ {E J A S : Type 0} (m : Meaning E J A Bay Job Answer) (s : Shows S) where
-  -- nothing of it is done: it waits for a job of that slot, where a transfer that it tells has one that is not told
-  pub record Waits (statement : Stated) (before : Desked) (x : Plain Bay (run_conduct s)) : Type 0 where
-    pub slot : ℕ
-    pub hand : x.hand ≡ Settle slot
-    pub core : x.script.core ≡ before.core
-    pub desks : desks_of m x.slots ≡ before.desks
-    pub unsettled : unsettled (waited_now statement x.script) x.script.book ≡ Some slot
-
-  -- its transfers are told and it gave so many jobs, that end halts or are its own: it gives the next one
-  pub record GivesJob (variables : List Variable) (statement : Stated) (before : Desked) (x : Plain Bay (run_conduct s)) : Type 0 where
-    pub jobs : ℕ
-    pub slot : ℕ
-    pub job : Job
-    pub hand : x.hand ≡ Submit slot job
-    pub desks : desks_of m x.slots ≡ (walked jobs before.desks (does variables statement before)).0
-    pub gives : GivesNext (walked jobs before.desks (does variables statement before)).1 slot job x.script.core
-
-  -- it gave its own job behind so many others, and waits for it
-  pub record AwaitsJob (variables : List Variable) (statement : Stated) (before : Desked) (x : Plain Bay (run_conduct s)) : Type 0 where
-    pub jobs : ℕ
-    pub slot : ℕ
-    pub job : Job
-    pub onward : Outcome → Doing
-    pub hand : x.hand ≡ Settle slot
-    pub awaited : (walked jobs before.desks (does variables statement before)).1 ≡ awaits slot job x.script.core onward
-    pub desks : desks_of m x.slots ≡ carry (walked jobs before.desks (does variables statement before)).0 slot job
-
-  abbrev pub IsInside : List Variable → Stated → Desked → Plain Bay (run_conduct s) → Type 0
-  IsInside variables statement before x = Waits statement before x ⊎ (GivesJob variables statement before x ⊎ AwaitsJob variables statement before x)
+  -- it counts the jobs that were told, and asks at one of these points
+  pub record IsInside (variables : List Variable) (statement : Stated) (before : Desked) (x : Plain Bay (run_conduct s)) : Type 0 where
+    pub told : x.script.told ≡ map (λ q. q.told) x.slots
+    pub asks : Asks variables statement before x.hand x.script (desks_of m x.slots)
 
   -- it stands inside a statement of the deck that is not prohibited
   pub record StandsIn (variables : List Variable) (deck : List Stated) (first : Desked) (x : Plain Bay (run_conduct s)) : Type 0 where

@@ -1,0 +1,66 @@
+-- What runs leave and where they are cut, in the words of what the deck means.
+use Rattle.std.proofs.Common.{◌≡◌, ℕ, zero, suc, List, [], ◌∷◌, Option, Some, None, refl, sym, ap, ◌∙◌, subst}
+use Rattle.fj_statement.specs.declared.deck.Variable.{Variable}
+use Rattle.fj_slot.specs.Serving.{Meaning}
+use Rattle.fj_bay.specs.Bay.{Bay}
+use Rattle.fj_bay.specs.Jobs.{Job, Answer}
+use Rattle.fj_plain.specs.State.{State, start}
+use Rattle.fj_plain.specs.Statement.{Stated, Ending, executed, step, cut}
+use Rattle.fj_plain.proofs.Sound.{Sound, sound_start}
+use Rattle.fj_plain.proofs.Reached.{sound_step}
+use Rattle.fj_desk.specs.Doing.{Desked}
+use Rattle.fj_desk.specs.Desking.{over_desks, desk_step, fresh, desk_result}
+use Rattle.fj_desk.proofs.Forgetting.{start_tied, results_same}
+use Rattle.fj_desk.proofs.SoundStates.{sound_caused, slots_forgotten}
+use Rattle.fj_desk.proofs.Steps.{step_tied}
+use Rattle.fj_desk.proofs.Tied.{Tied}
+use Rattle.fj_turns.specs.Serving.{Shows}
+use Rattle.fj_turns.specs.Inside.{cut_desks}
+use Rattle.fj_turns.specs.Meant.{LeavesResult, CutsAgree}
+use Rattle.fj_turns.proofs.Finishing.{executes_decks}
+
+pub leaves_result : {E J A S : Type 0} (m : Meaning E J A Bay Job Answer) (s : Shows S) → LeavesResult m s
+leaves_result m s variables deck files script rack run alone going is =
+    let ran = over_desks variables deck (fresh variables files) in
+    let came = executes_decks m s variables deck files script rack run alone going is in
+    record {
+      desks = ran.desked.desks;
+      held = came.desks;
+      result = ap (λ core. desk_result (record { desked = record { core = core; desks = ran.desked.desks }; ending = run.ending })) came.core
+          ∙ ap (λ e. desk_result (record { desked = ran.desked; ending = e })) came.ending
+          ∙ results_same ran (executed variables deck (start variables files)) (slots_forgotten variables deck files);
+    }
+
+-- a cut over desks, and that of what the deck means
+record CutTied (variables : List Variable) (deck : List Stated) (index : ℕ) (s : State) (statement : Stated) (before : Desked) : Type 0 where
+  state : State
+  cut_is : cut variables index deck s ≡ Some (statement, state)
+  tied : Tied before state
+
+cut_on : (variables : List Variable) (index : ℕ) (st : Stated) (more : List Stated) (s : State) → (step variables st s).1 ≡ None → cut variables (suc index) (st ∷ more) s ≡ cut variables index more (step variables st s).0
+cut_on variables index st more s e =
+    ap (λ o. elim o as (λ _. Option (Stated × State)) [ None ↦ cut variables index more (step variables st s).0 | Some x ↦ None ]) e
+
+cut_tied : (variables : List Variable) (deck : List Stated) (index : ℕ) (p : Desked) (s : State) (statement : Stated) (before : Desked) → Tied p s → Sound s
+    → cut_desks variables index deck p ≡ Some (statement, before) → CutTied variables deck index s statement before
+cut_tied variables [] index p s statement before t h e = cc
+cut_tied variables (st ∷ more) zero p s statement before t h e =
+    let same : st ≡ statement = ap (λ (o : Option (Stated × Desked)). elim o as (λ _. Stated) [ None ↦ st | Some x ↦ x.0 ]) e in
+    let here : p ≡ before = ap (λ (o : Option (Stated × Desked)). elim o as (λ _. Desked) [ None ↦ p | Some x ↦ x.1 ]) e in
+    record { state = s; cut_is = ap (λ x. Some (x, s)) same; tied = subst (λ q. Tied q s) here t }
+cut_tied variables (st ∷ more) (suc index) p s statement before t h e =
+    let done = step_tied variables st p s t (sound_caused s h) in
+    by (desk_step variables st p).1 refl (λ f. cut_tied variables more index (desk_step variables st p).0 (step variables st s).0 statement before done.1 (sound_step variables st s h) f) done.0
+  where
+    by : (o : Option Ending) → (desk_step variables st p).1 ≡ o → (cut_desks variables index more (desk_step variables st p).0 ≡ Some (statement, before) → CutTied variables more index (step variables st s).0 statement before)
+        → (desk_step variables st p).1 ≡ (step variables st s).1 → CutTied variables (st ∷ more) (suc index) s statement before
+    by (Some x) f later same =
+        absurd (let z : None ≡ Some (statement, before) = sym (ap (λ o. elim o as (λ _. Option (Stated × Desked)) [ None ↦ cut_desks variables index more (desk_step variables st p).0 | Some y ↦ None ]) f) ∙ e in cc)
+    by None f later same =
+        let tied = later (sym (ap (λ o. elim o as (λ _. Option (Stated × Desked)) [ None ↦ cut_desks variables index more (desk_step variables st p).0 | Some y ↦ None ]) f) ∙ e) in
+        record { state = tied.state; cut_is = cut_on variables index st more s (sym same ∙ f) ∙ tied.cut_is; tied = tied.tied }
+
+pub cuts_agree : CutsAgree
+cuts_agree variables deck files index statement before e =
+    let it = cut_tied variables deck index (fresh variables files) (start variables files) statement before (start_tied variables files) (sound_start variables files) e in
+    record { state = it.state; cut_is = it.cut_is; same = it.tied.same }

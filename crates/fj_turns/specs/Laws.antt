@@ -1,0 +1,47 @@
+-- The laws of the runner over plain bays, for every script that shows a runner.
+use Rattle.std.specs.Prelude.{ℕ, Some}
+use Rattle.fj_slot.specs.Serving.{Meaning}
+use Rattle.fj_bay.specs.Bay.{Bay}
+use Rattle.fj_bay.specs.Jobs.{Job, Answer}
+use Rattle.fj_bay.specs.Serving.{serve}
+use Rattle.fj_bay.specs.Spoilt.{IsSpoilt}
+use Rattle.fj_turns.specs.Run.{Run}
+use Rattle.fj_turns.specs.Serving.{Shows}
+use Rattle.fj_turns.specs.Whole.{RunnerIsPlain}
+use Rattle.fj_turns.specs.Executing.{ExecutesDecks}
+use Rattle.fj_turns.specs.Meant.{LeavesResult}
+use Rattle.fj_turns.specs.Cutting.{EachEntry, CutAtStop, WorldIsCut}
+
+-- a bay, with a count of faults of its file
+abbrev pub Counted : Type 0
+Counted = Bay × ℕ
+
+-- bays that are their own plain data
+abbrev pub plain_bays : Meaning Counted Job Answer Bay Job Answer
+plain_bays = record {
+  state = λ e. Some e.0;
+  task = λ job. Some job;
+  reply = λ answer. answer;
+  serve = serve;
+  spoilt = λ bay job stop e. IsSpoilt bay job stop e.0 e.1;
+  faults = λ e. e.1;
+}
+
+-- served alone, the runner comes to the execution over desks, by states that stand inside a statement
+abbrev pub RunnersArePlain : Type 0
+RunnersArePlain = (s : Shows Run) → RunnerIsPlain plain_bays s
+
+abbrev pub RunsExecute : Type 0
+RunsExecute = (s : Shows Run) → ExecutesDecks plain_bays s
+
+abbrev pub RunsLeaveResults : Type 0
+RunsLeaveResults = (s : Shows Run) → LeavesResult plain_bays s
+
+abbrev pub EntriesStand : Type 0
+EntriesStand = (s : Shows Run) → EachEntry plain_bays s
+
+abbrev pub StopsCut : Type 0
+StopsCut = (s : Shows Run) → CutAtStop plain_bays s
+
+abbrev pub WorldsAreCut : Type 0
+WorldsAreCut = (s : Shows Run) → WorldIsCut plain_bays s

@@ -1,0 +1,44 @@
+// What holds of every deck, as contracts of functions with nothing to do.
+ghost use Rattle.fj_turns.specs.Laws.{RunnersArePlain, RunsExecute, RunsLeaveResults, EntriesStand, StopsCut, WorldsAreCut};
+ghost use Rattle.fj_turns.specs.Meant.{CutsAgree};
+ghost use Rattle.fj_turns.specs.Standing.{PendingAwaitsNothing};
+
+/// Served alone, the runner comes to the execution over desks; each state on the way stands inside a statement.
+pub fn runners_are_plain()
+    ensures { RunnersArePlain }
+{}
+
+/// Where a script was served alone and is not over, its runner and its slots hold what the execution came to.
+pub fn runs_execute()
+    ensures { RunsExecute }
+{}
+
+/// What it leaves is the result of the deck.
+pub fn runs_leave_results()
+    ensures { RunsLeaveResults }
+{}
+
+/// After any number of entries the runner has finished, or stands inside a statement that is not prohibited.
+pub fn entries_stand()
+    ensures { EntriesStand }
+{}
+
+/// Where an answer is awaited, the execution is cut just before a statement, whose first jobs the slots have.
+pub fn stops_cut()
+    ensures { StopsCut }
+{}
+
+/// A world whose script was told a stop is cut, whatever the order of its events was.
+pub fn worlds_are_cut()
+    ensures { WorldsAreCut }
+{}
+
+/// Where the execution over desks is cut, the statement and the state are those of what the deck means.
+pub fn cuts_agree()
+    ensures { CutsAgree }
+{}
+
+/// A READ or WRITE that will be pending awaits no answer.
+pub fn pending_awaits_nothing()
+    ensures { PendingAwaitsNothing }
+{}
