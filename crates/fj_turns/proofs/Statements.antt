@@ -14,7 +14,7 @@ use Rattle.fj_plain.specs.State.{Entry}
 use Rattle.fj_plain.specs.Statement.{Stated, Ending, iostat_of}
 use Rattle.fj_plain.specs.Telling.{condition_of, tells_cause}
 use Rattle.fj_plain.specs.Transfers.{with_number}
-use Rattle.fj_plain.specs.Variables.{Variables}
+use Rattle.fj_store.specs.Variables.{Variables}
 use Rattle.fj_desk.specs.Core.{Core, Connected}
 use Rattle.fj_desk.specs.Desks.{Desk, carry, resumed, most_slots}
 use Rattle.fj_desk.specs.Doing.{Doing, Desked, acted}

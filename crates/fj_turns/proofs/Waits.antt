@@ -7,7 +7,7 @@ use Rattle.fj_value.specs.declared.condition.Condition.{Condition}
 use Rattle.fj_value.specs.declared.condition.Condition.TheVariants.{Fine, EndOfFile, EndOfRecord, Error}
 use Rattle.fj_statement.specs.declared.statement.Statement.{Statement}
 use Rattle.fj_statement.specs.declared.statement.Statement.TheVariants as statement
-use Rattle.fj_plain.specs.Variables.{Variables}
+use Rattle.fj_store.specs.Variables.{Variables}
 use Rattle.fj_plain.specs.Needs.{number_of, number_given}
 use Rattle.fj_plain.specs.State.{Entry, halts}
 use Rattle.fj_plain.specs.Telling.{of_unit, of_id, graver, condition_of, waited_by, waited_in, is_asynchronous, tells_id}

@@ -8,7 +8,7 @@ use Rattle.fj_world.specs.declared.ask.Ask.{Ask}
 use Rattle.fj_world.specs.declared.ask.Ask.TheVariants.{Submit, Settle, Finished}
 use Rattle.fj_bay.specs.Jobs.{Job, attach, detach, move, go, change, flush, look, resume}
 use Rattle.fj_plain.specs.State.{Entry}
-use Rattle.fj_plain.specs.Prohibitions.{prohibited}
+use Rattle.fj_book.specs.Prohibitions.{prohibited}
 use Rattle.fj_plain.specs.Needs.{need_by}
 use Rattle.fj_plain.specs.Telling.{waited_in, condition_of, tells_id, tells_cause}
 use Rattle.fj_plain.specs.Transfers.{with_number}
