@@ -2,9 +2,12 @@
 #![tactic(auto)]
 
 mod change;
+mod fields;
 mod formatted;
+mod hand;
 mod laws;
 mod print;
+mod reader;
 mod stored;
 #[cfg(test)]
 mod tests;
@@ -14,7 +17,10 @@ mod writer;
 
 pub use change::EditChange;
 pub use formatted::write_lines;
-pub use laws::items_are_in_order;
+pub use laws::{
+    direct_records_stand_apart, errors_leave_the_connection, items_are_in_order,
+    stream_output_keeps_the_others, unformatted_records_come_back,
+};
 pub use print::{print_explicit, print_records};
 pub use transfer::{Layout, Members, Transfer, TransferSpec};
 pub use unformatted::{
