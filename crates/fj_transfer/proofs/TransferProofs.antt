@@ -23,14 +23,14 @@ use Rattle.fj_list.specs.ListInput.{Outcome, kind_at, with_value}
 use Rattle.fj_list.specs.Moved.{value_at}
 use Rattle.fj_list.specs.ReadAgain.{with_values}
 use Rattle.fj_control.specs.Steps.{Given}
-use Rattle.fj_connect.specs.Connection.{Connection, between, with_frame, with_direct, with_bytes}
+use Rattle.fj_connect.specs.Connection.{Connection, begun, between, with_frame, with_direct, with_bytes}
 use Rattle.fj_connect.specs.Positions.{ended}
 use Rattle.fj_transfer.specs.declared.transfer.TransferSpec.{TransferSpec}
 use Rattle.fj_transfer.specs.declared.transfer.Layout.{Layout}
 use Rattle.fj_transfer.specs.declared.transfer.Layout.TheVariants.{Unformatted, Explicit, Listed, Group}
 use Rattle.fj_value.specs.declared.edit.EditModes.{EditModes}
 use Rattle.fj_transfer.specs.AtHand.{AtHand}
-use Rattle.fj_transfer.specs.Printing.{Printed}
+use Rattle.fj_transfer.specs.Printing.{Printed, printed}
 use Rattle.fj_transfer.specs.Transfer.{Done, Ways, told_with, in_error, input_done, output_done, with_undefined, widths, bytes_of, body_of, bytes_needed, values_from, body_read, frame_read, sequential_read, piece_read, direct_read, bytes_read, stream_read, unformatted_read, explicit_ended, explicit_read, records_read, read_by, sequential_written, direct_written, stream_written, unformatted_written, pieces_written, text_written, lines_written, records_written, written_by, from_place, if_fit, transfer_by, unfit, begins_at}
 use Rattle.fj_transfer.specs.TransferLaws.{DirectRecordsStandApart, StreamOutputKeepsTheOthers, AreOfTheirKinds, UnformattedRecordsComeBack, ErrorsLeaveTheConnection}
 use Rattle.fj_transfer.proofs.StoredLemmas.{kind_kept, widths_kept, widths_of_cons}
@@ -116,9 +116,9 @@ records_leave old c spec cells printed = either old (same_access c.modes.access 
 
 written_leaves : (layout : Layout) (control : ℕ → List Given) (old c : Connection) (spec : TransferSpec) (modes : EditModes) (moved : Moved) → Leaves old (written_by layout control old c spec modes moved)
 written_leaves Unformatted control old c spec modes moved = unformatted_output_leaves c.modes.access old c moved
-written_leaves (Explicit f) control old c spec modes moved = records_leave old c spec moved.cells _
-written_leaves Listed control old c spec modes moved = records_leave old c spec moved.cells _
-written_leaves (Group name members) control old c spec modes moved = records_leave old c spec moved.cells _
+written_leaves (Explicit f) control old c spec modes moved = records_leave old c spec moved.cells (printed c.modes.recl (begun c) spec control modes moved)
+written_leaves Listed control old c spec modes moved = records_leave old c spec moved.cells (printed c.modes.recl (begun c) spec control modes moved)
+written_leaves (Group name members) control old c spec modes moved = records_leave old c spec moved.cells (printed c.modes.recl (begun c) spec control modes moved)
 
 place_leaves : (control : ℕ → List Given) (old : Connection) (spec : TransferSpec) (moved : Moved) (placed : Result Connection Condition) → Leaves old (from_place control old spec moved placed)
 place_leaves control old spec moved (Err condition) = is_old old _ condition
