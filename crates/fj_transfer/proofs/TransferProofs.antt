@@ -30,6 +30,7 @@ use Rattle.fj_transfer.specs.declared.transfer.Layout.{Layout}
 use Rattle.fj_transfer.specs.declared.transfer.Layout.TheVariants.{Unformatted, Explicit, Listed, Group}
 use Rattle.fj_value.specs.declared.edit.EditModes.{EditModes}
 use Rattle.fj_transfer.specs.AtHand.{AtHand}
+use Rattle.fj_transfer.specs.Change.{changed}
 use Rattle.fj_transfer.specs.Printing.{Printed, printed}
 use Rattle.fj_transfer.specs.Transfer.{Done, Ways, told_with, in_error, input_done, output_done, with_undefined, widths, bytes_of, body_of, bytes_needed, values_from, body_read, frame_read, sequential_read, piece_read, direct_read, bytes_read, stream_read, unformatted_read, explicit_ended, explicit_read, records_read, read_by, sequential_written, direct_written, stream_written, unformatted_written, pieces_written, text_written, lines_written, records_written, written_by, from_place, if_fit, transfer_by, unfit, begins_at}
 use Rattle.fj_transfer.specs.TransferLaws.{DirectRecordsStandApart, StreamOutputKeepsTheOthers, AreOfTheirKinds, UnformattedRecordsComeBack, ErrorsLeaveTheConnection}
@@ -121,14 +122,16 @@ written_leaves Listed control old c spec modes moved = records_leave old c spec 
 written_leaves (Group name members) control old c spec modes moved = records_leave old c spec moved.cells (printed c.modes.recl (begun c) spec control modes moved)
 
 place_leaves : (control : ℕ → List Given) (old : Connection) (spec : TransferSpec) (moved : Moved) (placed : Result Connection Condition) → Leaves old (from_place control old spec moved placed)
-place_leaves control old spec moved (Err condition) = is_old old _ condition
-place_leaves control old spec moved (Ok c) = either old spec.input _ _ (read_leaves spec.layout control old c spec _ moved) (written_leaves spec.layout control old c spec _ moved)
+place_leaves control old spec moved (Err condition) = is_old old (cond spec.input (with_undefined moved.cells) moved.cells) condition
+place_leaves control old spec moved (Ok c) =
+    let modes = changed spec.edit c.modes.edit in
+    either old spec.input (read_by spec.layout control old c spec modes moved) (written_by spec.layout control old c spec modes moved) (read_leaves spec.layout control old c spec modes moved) (written_leaves spec.layout control old c spec modes moved)
 
 fit_leaves : (control : ℕ → List Given) (c : Connection) (spec : TransferSpec) (moved : Moved) (unfitness : Condition) → Leaves c (if_fit control c spec moved unfitness)
-fit_leaves control c spec moved Fine = place_leaves control c spec moved _
-fit_leaves control c spec moved EndOfFile = is_old c _ EndOfFile
-fit_leaves control c spec moved EndOfRecord = is_old c _ EndOfRecord
-fit_leaves control c spec moved (Error n) = is_old c _ (Error n)
+fit_leaves control c spec moved Fine = place_leaves control c spec moved (begins_at spec (cond spec.input (ended c) c))
+fit_leaves control c spec moved EndOfFile = is_old c (cond spec.input (with_undefined moved.cells) moved.cells) EndOfFile
+fit_leaves control c spec moved EndOfRecord = is_old c (cond spec.input (with_undefined moved.cells) moved.cells) EndOfRecord
+fit_leaves control c spec moved (Error n) = is_old c (cond spec.input (with_undefined moved.cells) moved.cells) (Error n)
 
 pub errors_leave : ErrorsLeaveTheConnection
 unfolding transfer_by
@@ -238,7 +241,7 @@ records_come_back c from into inside short kinds e =
     let is = sequential_is c from.cells body e in
     let enough : bytes_needed into ≤ length body = omega (arith, widths_back from.cells into.cells from.order into.order kinds) in
     let values : values_from into.cells into.order body ≡ with_values into.cells into.order (map (value_at from.cells) from.order) =
-        ap (values_from into.cells into.order) (sym (append-nil body)) ∙ values_back from.cells into.cells from.order into.order [] kinds in
+    ap (values_from into.cells into.order) (sym (append-nil body)) ∙ values_back from.cells into.cells from.order into.order [] kinds in
     let P : Done → Type 0 = λ d. sequential_read (between d.connection c.spot.at) (between d.connection c.spot.at) into
-        ≡ told_with (between d.connection d.connection.spot.at) (with_values into.cells into.order (map (value_at from.cells) from.order)) Fine in
+    ≡ told_with (between d.connection d.connection.spot.at) (with_values into.cells into.order (map (value_at from.cells) from.order)) Fine in
     subst P (sym is.1) (frame_back c into body inside short is.0 enough ∙ ap (λ l. told_with (between (with_frame c body) (with_frame c body).spot.at) l Fine) values)

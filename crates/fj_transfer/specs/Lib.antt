@@ -6,6 +6,5 @@ pub mod AtHand
 pub mod Input
 pub mod Printing
 pub mod Places
-pub mod Reader
 pub mod Transfer
 pub mod TransferLaws

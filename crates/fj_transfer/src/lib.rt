@@ -2,12 +2,9 @@
 #![tactic(auto)]
 
 mod change;
-mod fields;
 mod formatted;
-mod hand;
 mod laws;
 mod print;
-mod reader;
 mod stored;
 #[cfg(test)]
 mod tests;
@@ -22,6 +19,7 @@ pub use laws::{
     stream_output_keeps_the_others, unformatted_records_come_back,
 };
 pub use print::{print_explicit, print_records};
+pub use stored::body_of;
 pub use transfer::{Layout, Members, Transfer, TransferSpec};
 pub use unformatted::{
     read_direct, read_sequential, read_stream, write_direct, write_sequential, write_stream,

@@ -6,18 +6,17 @@ ghost use Rattle.fj_outside.specs.Holdings.{IsInUse};
 ghost use Rattle.fj_transfer.specs.Moving.{HasValues};
 ghost use Rattle.fj_transfer.specs.Printing.{IsRecords};
 
-use crate::stored::put_items;
 use crate::tests::{A, I4, I8, Item, L, MODES, moved};
 use crate::{
-    Layout, read_direct, read_sequential, read_stream, write_direct, write_lines, write_sequential,
-    write_stream,
+    Layout, body_of, read_direct, read_sequential, read_stream, write_direct, write_lines,
+    write_sequential, write_stream,
 };
 use fj_connect::{Connection, OpenFault, open_file};
 use fj_format::parse;
 use fj_list::Moved;
 use fj_modes::{Access, FileName, FileStatus, OpenSpec, settle_open};
 use fj_outside::{Disk, FileStore, MemoryDisk, Stop};
-use fj_value::{Condition, Text, Value};
+use fj_value::{Condition, Value};
 use std::alloc::{AllocError, Global};
 use std::test::Fail;
 
@@ -118,8 +117,7 @@ fn written<D: Disk>(
     requires ordered { IsOrdered items.now }
     requires defined { HasValues items.now }
 {
-    let mut body = Text::new(alloc);
-    put_items(items.cells.as_slice(), items.order.as_slice(), &mut body).map_err(Stop::from)?;
+    let body = body_of(alloc, items).map_err(Stop::from)?;
     let mut c = connect(alloc, disk, &statement(access, false))?;
     let condition = write(&mut c, at, body.bytes());
     let spot = c.spot();
@@ -336,16 +334,7 @@ static READS: [Read; 10] = [
         0,
         1,
     ),
-    (
-        Direct,
-        b"AAAAAA",
-        1,
-        &[I8(0)],
-        Error(19),
-        &[None],
-        0,
-        1,
-    ),
+    (Direct, b"AAAAAA", 1, &[I8(0)], Error(19), &[None], 0, 1),
     (
         Stream,
         b"ab\x02\0\0\0c",
@@ -562,7 +551,9 @@ fn formatted_output(rt: HostRuntime) -> Result<(), Fail> {
         let items = moved(alloc, items, 1)?;
         let layout = Layout::Explicit(parse(alloc, format.as_bytes())?);
         let mut disk = disk_of(alloc, before)?;
-        let came = put_from(alloc, &mut disk, access, at, place, &layout, advance, &items)?;
+        let came = put_from(
+            alloc, &mut disk, access, at, place, &layout, advance, &items,
+        )?;
         assert_eq!(rt; came, (condition, position), "{format}");
         assert!(rt; disk.bytes_of(NAME) == Some(after), "{format}");
     }
