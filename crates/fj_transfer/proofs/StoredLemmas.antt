@@ -25,12 +25,15 @@ kind_there cells at cell e = rw e refl
 pub value_there : (cells : List Cell) (at : ℕ) (cell : Cell) → slice_get cells at ≡ Some cell → cell.value ≡ value_at cells at
 value_there cells at cell e = rw e refl
 
-kind_kept : (cells : List Cell) (at k : ℕ) (w : Value) → kind_at (with_value cells at w) k ≡ kind_at cells k
+pub kind_kept : (cells : List Cell) (at k : ℕ) (w : Value) → kind_at (with_value cells at w) k ≡ kind_at cells k
 kind_kept [] at k w = refl
 kind_kept (c ∷ cells) zero zero w = refl
 kind_kept (c ∷ cells) zero (suc k) w = refl
 kind_kept (c ∷ cells) (suc at) zero w = refl
 kind_kept (c ∷ cells) (suc at) (suc k) w = kind_kept cells at k w
+
+pub widths_of_cons : (cells : List Cell) (k : ℕ) (order : List ℕ) → widths cells (k ∷ order) ≡ stored_width (kind_at cells k) + widths cells order
+widths_of_cons cells k order = sum_by-cons (λ n. stored_width (kind_at cells n)) k order
 
 pub widths_kept : (cells : List Cell) (at : ℕ) (w : Value) (order : List ℕ) → widths (with_value cells at w) order ≡ widths cells order
 widths_kept cells at w [] = refl

@@ -35,7 +35,7 @@ too_long limit body a b long = ap (λ t. cond t a b) (lt-ltb limit (length body)
 pub not_too_long : (limit : ℕ) (body : List ℕ) (a b : Done) → length body ≤ limit → cond (nat_lt limit (length body)) a b ≡ b
 not_too_long limit body a b fits = ap (λ t. cond t a b) (le-ltb limit (length body) fits)
 
-framed_long : (body : List ℕ) → length (framed body) ≡ length body + 8
+pub framed_long : (body : List ℕ) → length (framed body) ≡ length body + 8
 framed_long body = omega (arith, ap length (append-nil (framed body)), (parts_of (framed body ++ []) body [] refl).long)
 
 frame_end : (c : Connection) (body : List ℕ) → c.spot.at ≤ length c.bytes → length (with_frame c body).bytes ≡ c.spot.at + length body + 8
@@ -156,6 +156,12 @@ read_whole c moved text next is holds =
   where
     held : {body rest : List ℕ} (o : Option (List ℕ × List ℕ)) → o ≡ Some (body, rest) → IfSome o (λ found. text ≡ found.0) → text ≡ body
     held o e h = rw e at h
+
+-- a whole frame of bytes within the limit
+pub read_whole_frame : (c : Connection) (moved : Moved) (body rest : List ℕ) → (length (bytes_behind c) == 0) ≡ false → frame (bytes_behind c) ≡ Some (body, rest) → length body ≤ c.modes.recl
+    → sequential_read c c moved ≡ body_read c moved body (between c (length c.bytes - length rest))
+read_whole_frame c moved body rest e is fits =
+    found_read c moved (Some (body, rest)) e is ∙ not_too_long c.modes.recl body (in_error c true moved.cells (Error 15)) (body_read c moved body (between c (length c.bytes - length rest))) fits
 
 -- direct records and bytes of streams, there or not
 pub piece_taken : (c : Connection) (number : ℕ) (moved : Moved) (found : Option (List ℕ)) → found ≡ piece c.bytes c.modes.recl number → direct_read c c number moved ≡ piece_read c c number moved found

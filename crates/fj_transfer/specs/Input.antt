@@ -16,6 +16,7 @@ use Rattle.fj_list.specs.ListInput.{with_value, kind_at}
 use Rattle.fj_connect.specs.Connection.{Connection, in_record}
 use Rattle.fj_transfer.specs.AtHand.{AtHand, behind, next_record}
 use Rattle.fj_line.specs.Line.{position_behind}
+use Rattle.fj_line.specs.declared.moves.Move.TheVariants.{Ahead}
 use Rattle.fj_control.specs.Paired.{Part, item, string, move, slash, lacking, paired}
 
 -- Where an input stands: the record at hand, and the position in it, counted from the left tab limit; the cells, and how many
@@ -50,7 +51,7 @@ stopped condition p = record { progress = p; condition = condition }
 
 -- the cell gets the value, and the position is behind the field
 abbrev pub with_field : ℕ → ℕ → ℕ → Value → Progress → Progress
-with_field width taken cell value p = record p { at = p.at + width; cells = with_value p.cells cell value; count = p.count + taken }
+with_field width taken cell value p = record p { at = position_behind (Ahead width) p.at; cells = with_value p.cells cell value; count = p.count + taken }
 
 -- The value of a field whose characters are there. One that is too short is filled up with blanks, and then in nonadvancing
 -- input the record has ended; under PAD='NO' advancing input is in error (30), and nonadvancing input takes no character.
@@ -60,7 +61,7 @@ field_read advance pad width chars cell (Ok value) p next =
     let read = with_field width (length chars) cell value p in
     if length chars == width then next read
     else (if advance then (if pad then next read else stopped (Error 30) p)
-    else (if pad then stopped EndOfRecord read else stopped EndOfRecord (with_field 0 0 cell Undefined p)))
+    else (if pad then stopped EndOfRecord read else stopped EndOfRecord (record p { cells = with_value p.cells cell Undefined })))
 
 -- condition 12 comes before the record's end is looked at, 13 and 14 only of a field that is there or filled up
 abbrev pub is_mismatch : Result Value Condition → Bool

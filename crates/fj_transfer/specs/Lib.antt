@@ -7,3 +7,4 @@ pub mod Input
 pub mod Printing
 pub mod Places
 pub mod Transfer
+pub mod TransferLaws

@@ -14,8 +14,12 @@ mod writer;
 
 pub use change::EditChange;
 pub use formatted::write_lines;
-pub use laws::items_are_in_order;
+pub use laws::{
+    direct_records_stand_apart, errors_leave_the_connection, items_are_in_order,
+    stream_output_keeps_the_others, unformatted_records_come_back,
+};
 pub use print::{print_explicit, print_records};
+pub use stored::body_of;
 pub use transfer::{Layout, Members, Transfer, TransferSpec};
 pub use unformatted::{
     read_direct, read_sequential, read_stream, write_direct, write_sequential, write_stream,

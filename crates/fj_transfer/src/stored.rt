@@ -4,9 +4,11 @@ ghost use Rattle.fj_value.specs.Kind.{IsOfKind};
 ghost use Rattle.fj_value.specs.declared.value.Cell.{Cell};
 ghost use Rattle.fj_unfrec.specs.Stored.{stored_width, value_of};
 ghost use Rattle.fj_list.specs.ListInput.{kind_at, places_of, with_value};
-ghost use Rattle.fj_transfer.specs.Transfer.{widths, bytes_of, values_from, with_undefined};
+ghost use Rattle.fj_list.specs.Moved.{IsOrdered};
+ghost use Rattle.fj_transfer.specs.Moving.{HasValues};
+ghost use Rattle.fj_transfer.specs.Transfer.{widths, bytes_of, body_of, values_from, with_undefined};
 
-use fj_list::{Cells, define};
+use fj_list::{Cells, Moved, define};
 use fj_unfrec::{get_value, put_value};
 use fj_value::{Cell, Kind, Text, Value};
 use std::alloc::{AllocError, Global};
@@ -55,7 +57,7 @@ fn put_item(cells: &[Cell], at: u32, out: &mut Text) -> Result<(), AllocError>
 }
 
 /// Adds the bytes of the items' values, in their order.
-pub fn put_items(cells: &[Cell], order: &[u32], out: &mut Text) -> Result<(), AllocError>
+fn put_items(cells: &[Cell], order: &[u32], out: &mut Text) -> Result<(), AllocError>
     requires ordered { All (λ at. at < length cells.now) order.now }
     requires defined { All (λ (cell : Cell). IsOfKind cell.kind cell.value) cells.now }
     ensures { OnOk result (out.new ≡ out.old ++ bytes_of cells.now order.now) }
@@ -64,6 +66,17 @@ pub fn put_items(cells: &[Cell], order: &[u32], out: &mut Text) -> Result<(), Al
         put_item(cells, *at, out)?;
     }
     Ok(())
+}
+
+/// The bytes of an output's values, which are the body of its record.
+pub fn body_of(alloc: Global, moved: &Moved) -> Result<Text, AllocError>
+    requires ordered { IsOrdered moved.now }
+    requires defined { HasValues moved.now }
+    ensures { IfOk result (λ body. body ≡ body_of moved.now) }
+{
+    let mut body = Text::new(alloc);
+    put_items(moved.cells.as_slice(), moved.order.as_slice(), &mut body)?;
+    Ok(body)
 }
 
 /// Gives a cell its value out of the front of some bytes, and answers how many it takes.

@@ -5,6 +5,8 @@ ghost use Rattle.fj_list.specs.Moved.{IsOrdered};
 ghost use Rattle.fj_transfer.specs.Moving.{HasValues};
 ghost use Rattle.fj_transfer.specs.Printing.{IsRecords};
 
+mod files;
+
 use crate::{EditChange, Layout, Transfer, TransferSpec, print_explicit, print_records};
 use fj_format::parse;
 use fj_list::{Moved, OutputItems, Run, Values};
