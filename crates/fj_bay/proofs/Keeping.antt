@@ -13,7 +13,7 @@ use Rattle.fj_modes.specs.declared.specifiers.Access.TheVariants.{Sequential, Di
 use Rattle.fj_modes.specs.Words.{same_access}
 use Rattle.fj_modes.specs.Limits.{longest_file}
 use Rattle.fj_list.specs.declared.moved.Moved.{Moved}
-use Rattle.fj_list.specs.ListInput.{Outcome, list_input, kind_at}
+use Rattle.fj_list.specs.ListInput.{Outcome, list_input, kind_at, with_value}
 use Rattle.fj_edit_in.specs.InputField.{input_field}
 use Rattle.fj_list.specs.ListText.{text_of}
 use Rattle.fj_namelist.specs.GroupInput.{group_input}
@@ -84,17 +84,18 @@ next_kept old c k = by (same_access c.modes.access Direct) (piece c.bytes c.mode
     line false true = tt
     line false false = record { named = k.named; modes = k.modes }
 
-    by : (b : Bool) (o : Option (List ℕ)) → HandKept old (if b then numbered c o else line_at c)
+    by : (b : Bool) (o : Option (List ℕ)) → HandKept old (if b then numbered c c.spot.next_number o else line_at c)
     by true None = tt
     by true (Some text) = record { named = k.named; modes = k.modes }
     by false o = line (length (bytes_behind c) == 0) (nat_lt c.modes.recl (length (rest_of_record c)))
 
 first_kept : (old c : Connection) → Kept old c → HandKept old (first_record c)
-first_kept old c k = by (is_reading c.spot.within)
+first_kept old c k = by (is_reading c.spot.within) (nat_lt c.modes.recl (begun c + length (rest_of_record c)))
   where
-    by : (b : Bool) → HandKept old (if b then Ok (record { connection = c; text = rest_of_record c }) else next_record c)
-    by true = k
-    by false = next_kept old c k
+    by : (b long : Bool) → HandKept old (if b then (if long then Err (Error 15) else Ok (record { connection = c; text = rest_of_record c })) else next_record c)
+    by true true = tt
+    by true false = k
+    by false long = next_kept old c k
 
 -- ---- input under an explicit format
 
@@ -109,7 +110,7 @@ field_kept old advance pad width chars cell (Ok value) p next k f = by (length c
     read : Progress
     read = with_field width (length chars) cell value p
 
-    by : (a b c : Bool) → Hands old (if a then next read else (if b then (if c then next read else stopped (Error 30) p) else (if c then stopped EndOfRecord read else stopped EndOfRecord (with_field 0 0 cell Undefined p))))
+    by : (a b c : Bool) → Hands old (if a then next read else (if b then (if c then next read else stopped (Error 30) p) else (if c then stopped EndOfRecord read else stopped EndOfRecord (record p { cells = with_value p.cells cell Undefined }))))
     by true b c = f read k
     by false true true = f read k
     by false true false = k
