@@ -53,7 +53,7 @@ fn check_beside(rt: &HostRuntime) -> anyhow::Result<()> {
     println!(rt; "enter: {} ns each", start.elapsed(rt)?.as_nanos() / u128::from(TRANSFERS))?;
     let place = [Run { var: 1, first: 1, count: 1 }];
     let need = Need {
-        unit: Some(3),
+        unit: Some((TRANSFERS - 13) % 16),
         references: &place,
         defines: &place,
         specifiers: &[],
