@@ -1,0 +1,2 @@
+pub mod WordProofs
+mod Cases

@@ -1,0 +1,4 @@
+pub mod Values
+pub mod Inquiring
+pub mod Asking
+pub mod Laws
