@@ -6,3 +6,4 @@ pub mod Hiring
 pub mod Liking
 pub mod Planning
 pub mod Closing
+pub mod NewSlots

@@ -1,8 +1,7 @@
 //! A script that submits numbers to two adders and waits for each sum, with other threads beside it.
 ghost use Rattle.std.specs.Prelude.{◌≡◌, ℕ, ◌+◌, ◌-◌, ◌^◌, ◌<◌, ◌≤◌, ◌==◌, None, if◌then◌else◌, true, false};
-ghost use Rattle.std.specs.Prelude.{[], length, is_some, IfSome};
-ghost use Rattle.fj_world.specs.Keeping.{AllCounted};
-ghost use Rattle.fj_world.specs.Rack.{At};
+ghost use Rattle.std.specs.Prelude.{[], ◌∷◌, ◌++◌, IfSome};
+ghost use Rattle.fj_slot.specs.Ledger.{fresh};
 ghost use Rattle.fj_world.specs.declared.ask.Ask.TheVariants.{Finished};
 ghost use Rattle.fj_world.specs.Conduct.{IsSubmitting, IsSettling, Takes, Tells, Idle, Submitting, Settling};
 
@@ -18,24 +17,30 @@ use std::test::Fail;
 use std::thread;
 use std::thread::Threads;
 
-// Looks so many times whether others have counted so far.
-fn comes_to(count: &AtomicU64, wanted: u64, looks: u32) -> bool {
+// This much and more is counted once two jobs were performed at a time.
+const MET: u64 = 1000;
+
+// Looks so many times whether another job is performed too.
+fn meet(at_work: &AtomicU64, looks: u32) {
+    let _ = at_work.fetch_add(1, SeqCst);
     for _ in 0..looks {
-        if count.load(SeqCst) >= wanted {
-            return true;
+        if at_work.load(SeqCst) >= 2 {
+            let _ = at_work.fetch_add(MET, SeqCst);
+            return;
         }
         thread::yield_now();
     }
-    false
+    let _ = at_work.fetch_sub(1, SeqCst);
 }
 
-// It adds until so many jobs are left, and then fails.
+// It looks at its first job whether another is at work, adds until so many jobs are left, and then fails.
 #[derive(Drop)]
 struct Adder {
     sum: u64,
     left: u64,
     faults: u64,
-    performed: Arc<AtomicU64>,
+    looks: u32,
+    at_work: Arc<AtomicU64>,
 }
 
 impl Engine for Adder {
@@ -64,9 +69,11 @@ impl Engine for Adder {
             self.faults = self.faults.saturating_add(1);
             return Err(Stop::Failed);
         }
+        if self.sum == 0 {
+            meet(&self.at_work, self.looks);
+        }
         self.left -= 1;
         self.sum = self.sum.wrapping_add(*job);
-        let _ = self.performed.fetch_add(1, SeqCst);
         Ok(self.sum)
     }
 
@@ -75,13 +82,10 @@ impl Engine for Adder {
     }
 }
 
-// Submits the numbers from 1 to a limit, by turns to two slots, looks for a while whether others perform them, and then waits for all of their sums.
+// Submits the numbers from 1 to a limit, by turns to two slots, and then waits for all of their sums.
 #[derive(Drop)]
 struct Asker {
     limit: u64,
-    looks: u32,
-    helped: bool,
-    performed: Arc<AtomicU64>,
     sent: u64,
     owed_first: u64,
     owed_second: u64,
@@ -135,10 +139,6 @@ impl Script for Asker {
         }
         if self.owed_first == 0 && self.owed_second == 0 {
             return Ask::Finished;
-        }
-        if !self.helped {
-            self.helped = comes_to(&self.performed, self.limit, self.looks);
-            self.looks = 0;
         }
         self.slot = if self.owed_second <= self.owed_first {
             0
@@ -198,7 +198,17 @@ impl Script for Asker {
     }
 }
 
-fn new_asker(performed: Arc<AtomicU64>, limit: u64, looks: u32) -> Asker
+fn new_adder(left: u64, looks: u32, at_work: Arc<AtomicU64>) -> Adder {
+    Adder {
+        sum: 0,
+        left,
+        faults: 0,
+        looks,
+        at_work,
+    }
+}
+
+fn new_asker(limit: u64) -> Asker
     requires { limit < 2 ^ 32 }
     ensures idle { ⟦<Asker as Script>⟧.conduct.due result ≡ Idle }
     ensures left { ⟦<Asker as Script>⟧.conduct.left result < 2 ^ 34 }
@@ -206,9 +216,6 @@ fn new_asker(performed: Arc<AtomicU64>, limit: u64, looks: u32) -> Asker
 {
     Asker {
         limit,
-        looks,
-        helped: false,
-        performed,
         sent: 0,
         owed_first: 0,
         owed_second: 0,
@@ -222,57 +229,44 @@ fn new_asker(performed: Arc<AtomicU64>, limit: u64, looks: u32) -> Asker
     }
 }
 
-fn new_adder(performed: Arc<AtomicU64>, left: u64) -> Adder {
-    Adder {
-        sum: 0,
-        left,
-        faults: 0,
-        performed,
+fn one_more(mut slots: Slots<Adder>, slot: Slot<Adder>) -> Option<Slots<Adder>>
+    ensures { IfSome result (λ it. it.slots ≡ slots.slots ++ slot ∷ []) }
+{
+    match slots.push(slot) {
+        Ok(()) => Some(slots),
+        Err(_) => None,
     }
 }
 
-fn two_slots(alloc: Global, performed: &Arc<AtomicU64>, left: u64) -> Option<Slots<Adder>>
-    ensures two { IfSome result (λ slots. length slots.slots ≡ 2) }
-    ensures new { IfSome result (λ slots. (at : ℕ) → At slots at (λ l. (l.jobs ≡ []) × (l.told ≡ 0) × (is_some l.home ≡ true))) }
-    ensures counted { IfSome result (λ slots. AllCounted ⟦<Adder as Engine>⟧.meaning slots) }
+fn two_slots(alloc: Global, first: Adder, second: Adder) -> Option<Slots<Adder>>
+    ensures { IfSome result (λ it. it.slots ≡ fresh first ∷ fresh second ∷ []) }
 {
-    let mut slots = Slots::new(alloc);
-    let first = new_adder(performed.clone().ok()?, left);
-    slots.push(Slot::new(alloc, first)).ok()?;
-    let second = new_adder(performed.clone().ok()?, left);
-    slots.push(Slot::new(alloc, second)).ok()?;
-    Some(slots)
+    let one = one_more(Slots::new(alloc), Slot::new(alloc, first))?;
+    one_more(one, Slot::new(alloc, second))
 }
 
-// What was told last of each slot, whether a stop was, whether others performed all, and what the slots have done.
-#[derive(Clone, Copy, Debug, PartialEq)]
-struct Outcome {
-    sums: (u64, u64),
-    stopped: bool,
-    helped: bool,
-    done: (u64, u64),
-}
+// What was told last of each slot, whether a stop was, whether two jobs were performed at a time, and how many jobs of each slot are done.
+type Outcome = ((u64, u64), bool, bool, (u64, u64));
 
 fn run_with<R: Threads + Wait + Sync>(
     rt: &R,
     alloc: Global,
     limit: u64,
     left: u64,
-    workers: u32,
     looks: u32,
+    workers: u32,
 ) -> Option<Outcome>
     requires { limit < 2 ^ 32 }
 {
-    let performed = Arc::new(alloc, AtomicU64::new(0)).ok()?;
-    let slots = two_slots(alloc, &performed, left)?;
-    let mut script = new_asker(performed, limit, looks);
+    let at_work = Arc::new(alloc, AtomicU64::new(0)).ok()?;
+    let first = new_adder(left, looks, at_work.clone().ok()?);
+    let second = new_adder(left, looks, at_work.clone().ok()?);
+    let slots = two_slots(alloc, first, second)?;
+    let mut script = new_asker(limit);
     let slots = run_crew(rt, alloc, &mut script, slots, workers).ok()?;
-    Some(Outcome {
-        sums: (script.first, script.second),
-        stopped: script.stopped,
-        helped: script.helped,
-        done: (slots.get(0)?.done(), slots.get(1)?.done()),
-    })
+    let met = at_work.load(SeqCst) >= MET;
+    let done = (slots.get(0)?.done(), slots.get(1)?.done());
+    Some(((script.first, script.second), script.stopped, met, done))
 }
 
 #[test]
@@ -284,16 +278,11 @@ fn any_number_of_workers_tells_what_one_thread_does(rt: HostRuntime) -> Result<(
         (4, 1_000_000),
         (64, 1_000_000),
     ] {
-        let outcome = run_with(&rt, rt.alloc(), 100, u64::MAX, workers, looks).ok_or("no memory")?;
+        let outcome = run_with(&rt, rt.alloc(), 100, u64::MAX, looks, workers);
         // 1 + 3 + .. + 99, 2 + 4 + .. + 100
         assert_eq!(rt;
             outcome,
-            Outcome {
-                sums: (2500, 2550),
-                stopped: false,
-                helped: workers != 0,
-                done: (50, 50)
-            }
+            Some(((2500, 2550), false, workers != 0, (50, 50)))
         );
     }
     Ok(())
@@ -303,16 +292,8 @@ fn any_number_of_workers_tells_what_one_thread_does(rt: HostRuntime) -> Result<(
 fn a_stop_is_told_once(rt: HostRuntime) -> Result<(), Fail> {
     for workers in [0, 1, 4] {
         // Each slot stops at its third number: 1 + 3, and before that 2 + 4
-        let outcome = run_with(&rt, rt.alloc(), 10, 2, workers, 0).ok_or("no memory")?;
-        assert_eq!(rt;
-            outcome,
-            Outcome {
-                sums: (4, 6),
-                stopped: true,
-                helped: false,
-                done: (2, 2)
-            }
-        );
+        let outcome = run_with(&rt, rt.alloc(), 10, 2, 0, workers);
+        assert_eq!(rt; outcome, Some(((4, 6), true, false, (2, 2))));
     }
     Ok(())
 }
