@@ -1,5 +1,4 @@
 pub mod Slots
-pub mod Tags
 pub mod Ties
 pub mod Tying
 pub mod Waits
