@@ -1,5 +1,5 @@
 -- The runner served alone, through a whole deck.
-use Rattle.std.proofs.Common.{◌≡◌, ℕ, zero, suc, ◌≤◌, List, [], ◌∷◌, length, replicate, Option, Some, None, refl, sym, ap, ◌∙◌, subst, arith}
+use Rattle.std.proofs.Common.{◌≡◌, ℕ, suc, ◌≤◌, List, [], ◌∷◌, length, Option, Some, None, refl, sym, ap, ◌∙◌, subst, arith}
 use Rattle.fj_statement.specs.declared.deck.Variable.{Variable}
 use Rattle.fj_slot.specs.Serving.{Meaning}
 use Rattle.fj_world.specs.declared.ask.Ask.TheVariants.{Finished}
@@ -18,7 +18,7 @@ use Rattle.fj_turns.specs.Serving.{over_bays, Shows, run_conduct, first_run, fre
 use Rattle.fj_turns.specs.Inside.{cut_desks}
 use Rattle.fj_turns.specs.Standing.{Reaches, StandsIn}
 use Rattle.fj_turns.specs.Whole.{ComesTo, RunnerIsPlain}
-use Rattle.fj_turns.proofs.Slots.{each_replicate, none_beyond}
+use Rattle.fj_turns.proofs.Slots.{each_replicate}
 use Rattle.fj_turns.proofs.Ties.{Ties}
 use Rattle.fj_turns.proofs.Reaching.{reach_then, MayStand}
 use Rattle.fj_turns.proofs.Statements.{turned, Stepped, step_reaches}

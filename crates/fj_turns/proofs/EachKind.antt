@@ -11,7 +11,6 @@ use Rattle.fj_modes.specs.Modes as mode
 use Rattle.fj_modes.specs.declared.specifiers.OpenSpec.{OpenSpec}
 use Rattle.fj_modes.specs.declared.asked.Wanted.{Wanted}
 use Rattle.fj_modes.specs.declared.unit.Motion.{Motion}
-use Rattle.fj_modes.specs.declared.unit.Motion.TheVariants as motion
 use Rattle.fj_modes.specs.declared.unit.UnitRef.{UnitRef}
 use Rattle.fj_modes.specs.declared.unit.UnitRef.TheVariants as unit
 use Rattle.fj_list.specs.declared.moved.Moved.{Moved}
@@ -31,7 +30,7 @@ use Rattle.fj_plain.specs.Statement.{file_asked}
 use Rattle.fj_desk.specs.Core.{Core, Pending, Connected, connected_at, unit_named, with_connected, inserted, without_connected}
 use Rattle.fj_desk.specs.Desks.{Outcome, most_slots, cells_in, count_in, condition_in}
 use Rattle.fj_desk.specs.Doing.{Doing, finishes, gives, awaits}
-use Rattle.fj_desk.specs.Acting.{pending_of, finishes_behind, transferred, unless_refused, on_unit, transfer_at, keeps, disconnected, detaches, closes, closes_anyway, all_closed, free_from, changes, is_taken, attaches, connects_at, connects, closes_first, opens_with, opens, job_of, moves, asks_connection, inquires, if_numbered, unit_at, own, instead, doing}
+use Rattle.fj_desk.specs.Acting.{pending_of, finishes_behind, transferred, unless_refused, on_unit, transfer_at, keeps, disconnected, detaches, closes, closes_anyway, all_closed, free_from, changes, is_taken, attaches, connects_at, connects, closes_first, opens_with, opens, moves, asks_connection, inquires, if_numbered, unit_at, own, instead, doing}
 use Rattle.fj_desk.proofs.Apart.{Each, each_filter, each_append}
 use Rattle.fj_turns.specs.Turns.{ends_halts}
 

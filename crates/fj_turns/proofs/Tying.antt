@@ -1,5 +1,5 @@
 -- Tells, a Submit and a change of the core keep the ties.
-use Rattle.std.proofs.Common.{◌≡◌, ◌⊎◌, ℕ, ◌+◌, ◌<◌, ◌≤◌, not, List, [], ◌∷◌, ◌++◌, map, length, Some, None, slice_get, set, get_or, refl, sym, ap, ◌∙◌, subst, arith}
+use Rattle.std.proofs.Common.{◌≡◌, ℕ, ◌+◌, ◌<◌, ◌≤◌, not, List, [], ◌∷◌, ◌++◌, map, length, Some, None, slice_get, set, get_or, refl, sym, ap, ◌∙◌, subst, arith}
 use Rattle.std.specs.Prelude.{nat_lt, if◌then◌else◌, filter}
 use Rattle.std.proofs.lemmas.List.{length-append}
 use Rattle.fj_bay.specs.Bay.{Bay}
