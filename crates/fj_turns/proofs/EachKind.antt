@@ -32,6 +32,7 @@ use Rattle.fj_desk.specs.Desks.{Outcome, most_slots, cells_in, count_in, conditi
 use Rattle.fj_desk.specs.Doing.{Doing, finishes, gives, awaits}
 use Rattle.fj_desk.specs.Acting.{pending_of, finishes_behind, transferred, unless_refused, on_unit, transfer_at, keeps, disconnected, detaches, closes, closes_anyway, all_closed, free_from, changes, is_taken, attaches, connects_at, connects, closes_first, opens_with, opens, moves, asks_connection, inquires, if_numbered, unit_at, own, instead, doing}
 use Rattle.fj_desk.proofs.Apart.{Each, each_filter, each_append}
+use Rattle.fj_desk.proofs.Opening.{free_found}
 use Rattle.fj_turns.specs.Turns.{ends_halts}
 
 -- each unit has a slot
@@ -72,14 +73,6 @@ found_housed (x ∷ us) n u h e =
 unit_housed : (core : Core) (number : Option ℕ) (u : Connected) → Housed core.units → unit_at core number ≡ Some u → u.slot < most_slots
 unit_housed core None u h e = cc
 unit_housed core (Some n) u h e = found_housed core.units n u h e
-
-free_within : (units : List Connected) (from n slot : ℕ) → free_from units from n ≡ Some slot → slot < from + n
-free_within units from zero slot e = cc
-free_within units from (suc n) slot e =
-    elim (cases_Bool (list_any (λ (u : Connected). u.slot == from) units)) [
-      | inl a ↦ let h = free_within units (from + 1) n slot (ap (λ b. if b then free_from units (from + 1) n else Some from) (sym a) ∙ e) in omega (arith, h)
-      | inr a ↦ let z : Some from ≡ Some slot = ap (λ b. if b then free_from units (from + 1) n else Some from) (sym a) ∙ e in let s : from ≡ slot = cc in omega (arith, s)
-    ]
 
 with_housed : (new : Connected) (us : List Connected) → new.slot < most_slots → Housed us → Housed (with_connected new us)
 with_housed new [] n h = tt
@@ -159,7 +152,7 @@ attaches_keeps from core number slot (Ok c) s k =
     (s, k, (λ o. (k.0, k.1, inserted_housed (record { number = number; slot = slot; name = c.name; modes = c.modes }) core.units s k.2)))
 
 connects_keeps : (from core : Core) (number : ℕ) (spec : OpenSpec) (modes : Modes) → KeepsBook from core → Keeps from (connects number spec modes core)
-connects_keeps from core number spec modes k = by (free_from core.units 0 most_slots) (λ slot e. free_within core.units 0 most_slots slot e)
+connects_keeps from core number spec modes k = by (free_from core.units 0 most_slots) (λ slot e. (free_found core.units 0 most_slots slot e).inside)
   where
     by : (o : Option ℕ) → ((slot : ℕ) → o ≡ Some slot → slot < 0 + most_slots) → Keeps from (connects_at number spec modes core o)
     by None f = k

@@ -11,3 +11,5 @@ pub mod Finishing
 pub mod Cutting
 pub mod Meant
 pub mod Pending
+pub mod Seated
+pub mod FewJobs
