@@ -21,12 +21,11 @@ use Rattle.fj_desk.specs.Doing.{Doing, finishes, gives, awaits, Desked, acted}
 use Rattle.fj_desk.specs.Forgetting.{bay_at}
 use Rattle.fj_desk.proofs.Carrying.{serves_at}
 use Rattle.fj_turns.specs.Run.{Stage, Acting, Awaiting, Run}
-use Rattle.fj_turns.specs.Turns.{Turn, with_core, bump, submits, settles, tag_of, turn_finish, turn_act, turn, told_of}
+use Rattle.fj_turns.specs.Turns.{Turn, with_core, bump, submits, settles, turn_finish, turn_act, turn, told_of}
 use Rattle.fj_turns.specs.Serving.{over_bays, Shows, run_conduct, desk_of}
 use Rattle.fj_turns.specs.Inside.{waited_at, does, walked}
 use Rattle.fj_turns.specs.Standing.{Reaches, GivesNext}
 use Rattle.fj_turns.proofs.Slots.{each_at, map_get, set_found}
-use Rattle.fj_turns.proofs.Tags.{tag_in, tag_at, serve_tag}
 use Rattle.fj_turns.proofs.Ties.{Ties, more, given, told_found, sent_found, length_found, log_found, settle_ties}
 use Rattle.fj_turns.proofs.Tying.{core_ties, pending_ties, submit_ties}
 use Rattle.fj_turns.proofs.EachKind.{Starts, Keeps}
@@ -40,23 +39,23 @@ walked_more (suc k) ds (gives slot job core next) = walked_more k (carry ds slot
 walked_more (suc k) ds (awaits slot job core next) = walked_more k (carry ds slot job) (next (desks.outcome ds slot job))
 
 module _ {E J A : Type 0} (m : Meaning E J A Bay Job Answer) where
-  -- what becomes of a job at a slot stands in its log, with its identifier
-  pub logged_at : (limit : ℕ) (r : Run) (qs : List (PlainSlot Bay Job)) (p : Desked) (slot : ℕ) (q : PlainSlot Bay Job) (job : Job) → Ties m limit r qs p → slice_get qs slot ≡ Some q
+  -- what becomes of a job at a slot stands in its log
+  pub logged_at : (r : Run) (qs : List (PlainSlot Bay Job)) (p : Desked) (slot : ℕ) (q : PlainSlot Bay Job) (job : Job) → Ties m r qs p → slice_get qs slot ≡ Some q
       → log_at (slice_get (carry p.desks slot job) slot) (log_length (slice_get p.desks slot)) ≡ Some (desks.outcome p.desks slot job)
-  logged_at limit r qs p slot q job t e =
+  logged_at r qs p slot q job t e =
       let here : bay_at (slice_get p.desks slot) ≡ Some (desk_of m q).bay = ap (λ ds. bay_at (slice_get ds slot)) (sym t.desks) ∙ ap bay_at (map_get (desk_of m) qs slot q e) in
       let served = serves_at p.desks slot job (desk_of m q).bay here in
       served.logged ∙ ap Some (sym served.outcome_is)
 
-  pub tag_logged : (limit : ℕ) (r : Run) (qs : List (PlainSlot Bay Job)) (p : Desked) (slot : ℕ) (q : PlainSlot Bay Job) (job : Job) → Ties m limit r qs p → slice_get qs slot ≡ Some q
-      → tag_at (carry p.desks slot job) slot (log_length (slice_get p.desks slot)) ≡ tag_of job
-  tag_logged limit r qs p slot q job t e =
+  pub logs_more : (r : Run) (qs : List (PlainSlot Bay Job)) (p : Desked) (slot : ℕ) (q : PlainSlot Bay Job) (job : Job) → Ties m r qs p → slice_get qs slot ≡ Some q
+      → log_length (slice_get p.desks slot) < log_length (slice_get (carry p.desks slot job) slot)
+  logs_more r qs p slot q job t e =
       let here : bay_at (slice_get p.desks slot) ≡ Some (desk_of m q).bay = ap (λ ds. bay_at (slice_get ds slot)) (sym t.desks) ∙ ap bay_at (map_get (desk_of m) qs slot q e) in
-      ap tag_in (serves_at p.desks slot job (desk_of m q).bay here).logged ∙ serve_tag (desk_of m q).bay job
+      (serves_at p.desks slot job (desk_of m q).bay here).longer
 
-  pub sent_log : (limit : ℕ) (r : Run) (qs : List (PlainSlot Bay Job)) (p : Desked) (slot : ℕ) (q : PlainSlot Bay Job) → Ties m limit r qs p → slice_get qs slot ≡ Some q
+  pub sent_log : (r : Run) (qs : List (PlainSlot Bay Job)) (p : Desked) (slot : ℕ) (q : PlainSlot Bay Job) → Ties m r qs p → slice_get qs slot ≡ Some q
       → get_or r.sent slot 0 ≡ log_length (slice_get p.desks slot)
-  sent_log limit r qs p slot q t e = sent_found m limit r qs p slot q t e ∙ sym (length_found m limit r qs p slot q t e)
+  sent_log r qs p slot q t e = sent_found m r qs p slot q t e ∙ sym (length_found m r qs p slot q t e)
 
 module _ {E J A S : Type 0} (m : Meaning E J A Bay Job Answer) (s : Shows S) (P : Plain Bay (run_conduct s) → Type 0) where
   abbrev pub c : Conduct S Job Answer
@@ -66,29 +65,29 @@ module _ {E J A S : Type 0} (m : Meaning E J A Bay Job Answer) (s : Shows S) (P 
   turned rest t qs = at_turn m s P rest t qs
 
   -- its own job was told: what the runner and its slots are then
-  record OwnTold (limit : ℕ) (st : Stated) (rest : List Stated) (r : Run) (p : Desked) (next : Outcome → Doing) (o : Outcome) (x : Plain Bay c) : Type 0 where
+  record OwnTold (st : Stated) (rest : List Stated) (r : Run) (p : Desked) (next : Outcome → Doing) (o : Outcome) (x : Plain Bay c) : Type 0 where
     run : Run
     slots : List (PlainSlot Bay Job)
-    ties : Ties m limit run slots p
+    ties : Ties m run slots p
     ending : run.ending ≡ None
     rest_is : run.rest ≡ st ∷ rest
     variables : run.variables ≡ r.variables
     reaches : Reaches (over_bays m) c P x (turned rest (turn_act st (next o) run) slots)
 
   -- jobs of its slot are told until it is
-  own_out : (k limit : ℕ) (st : Stated) (rest : List Stated) (r : Run) (qs : List (PlainSlot Bay Job)) (p : Desked) (slot number : ℕ) (q : PlainSlot Bay Job) (next : Outcome → Doing) (o : Outcome)
-      → Ties m limit r qs p → r.ending ≡ None → r.rest ≡ st ∷ rest
-      → ((r' : Run) (qs' : List (PlainSlot Bay Job)) → Ties m limit r' qs' p → P (turned rest (settles slot (Awaiting slot number next) r') qs'))
+  own_out : (k : ℕ) (st : Stated) (rest : List Stated) (r : Run) (qs : List (PlainSlot Bay Job)) (p : Desked) (slot number : ℕ) (q : PlainSlot Bay Job) (next : Outcome → Doing) (o : Outcome)
+      → Ties m r qs p → r.ending ≡ None → r.rest ≡ st ∷ rest
+      → ((r' : Run) (qs' : List (PlainSlot Bay Job)) → Ties m r' qs' p → P (turned rest (settles slot (Awaiting slot number next) r') qs'))
       → slice_get qs slot ≡ Some q → q.told + k ≡ number → number < length q.jobs → log_at (slice_get p.desks slot) number ≡ Some o
-      → OwnTold limit st rest r p next o (turned rest (settles slot (Awaiting slot number next) r) qs)
-  own_out zero limit st rest r qs p slot number q next o t none is ok at here below logged =
+      → OwnTold st rest r p next o (turned rest (settles slot (Awaiting slot number next) r) qs)
+  own_out zero st rest r qs p slot number q next o t none is ok at here below logged =
       let same : q.told ≡ number = omega (arith, here) in
-      let out : outcome (over_bays m) q.start q.jobs q.told ≡ Some o = ap (outcome (over_bays m) q.start q.jobs) same ∙ sym (log_found m limit r qs p slot number q t at) ∙ logged in
+      let out : outcome (over_bays m) q.start q.jobs q.told ≡ Some o = ap (outcome (over_bays m) q.start q.jobs) same ∙ sym (log_found m r qs p slot number q t at) ∙ logged in
       let r2 : Run = told_of (record r { stage = Awaiting slot number next; due = slot }) o in
-      let t2 = settle_ties m limit (Awaiting slot number next) r qs p slot q o t at out (omega (arith, same, below)) in
+      let t2 = settle_ties m (Awaiting slot number next) r qs p slot q o t at out (omega (arith, same, below)) in
       let is_own : r2.stage ≡ Acting (next o) =
       ap (λ b. if b && (number == get_or r.told slot 0) then Acting (next o) else Awaiting slot number next) (eq-eqb slot slot refl)
-      ∙ ap (λ b. if b then Acting (next o) else Awaiting slot number next) (eq-eqb number (get_or r.told slot 0) (sym (told_found m limit r qs p slot q t at ∙ same))) in
+      ∙ ap (λ b. if b then Acting (next o) else Awaiting slot number next) (eq-eqb number (get_or r.told slot 0) (sym (told_found m r qs p slot q t at ∙ same))) in
       record {
         run = r2;
         slots = set qs slot (more q);
@@ -101,16 +100,16 @@ module _ {E J A S : Type 0} (m : Meaning E J A Bay Job Answer) (s : Shows S) (P 
             (settle_next m s P st rest (Awaiting slot number next) r qs slot q o none is at out ∙ ap (λ g. turned rest (turn st g r2) (set qs slot (more q))) is_own)
             (0, refl, tt);
       }
-  own_out (suc k) limit st rest r qs p slot number q next o t none is ok at here below logged =
+  own_out (suc k) st rest r qs p slot number q next o t none is ok at here below logged =
       let less : q.told < length q.jobs = omega (arith, here, below) in
       let answer = answer_of m q less in
       let r2 : Run = told_of (record r { stage = Awaiting slot number next; due = slot }) answer.0 in
-      let t2 = settle_ties m limit (Awaiting slot number next) r qs p slot q answer.0 t at answer.1 less in
-      let was : get_or r.told slot 0 ≡ q.told = told_found m limit r qs p slot q t at in
+      let t2 = settle_ties m (Awaiting slot number next) r qs p slot q answer.0 t at answer.1 less in
+      let was : get_or r.told slot 0 ≡ q.told = told_found m r qs p slot q t at in
       let other : r2.stage ≡ Awaiting slot number next =
       ap (λ b. if b && (number == get_or r.told slot 0) then Acting (next answer.0) else Awaiting slot number next) (eq-eqb slot slot refl)
       ∙ ap (λ b. if b then Acting (next answer.0) else Awaiting slot number next) (ne_eqb number (get_or r.told slot 0) (λ e. absurd (omega (arith, e, was, here)))) in
-      let later = own_out k limit st rest r2 (set qs slot (more q)) p slot number (more q) next o t2 none is ok (set_found qs slot (more q) q at) (omega (arith, here)) below logged in
+      let later = own_out k st rest r2 (set qs slot (more q)) p slot number (more q) next o t2 none is ok (set_found qs slot (more q) q at) (omega (arith, here)) below logged in
       record {
         run = later.run;
         slots = later.slots;
@@ -126,11 +125,9 @@ module _ {E J A S : Type 0} (m : Meaning E J A Bay Job Answer) (s : Shows S) (P 
 
   -- the statement is done, but for its definitions
   pub record ActedTo (st : Stated) (rest : List Stated) (r : Run) (done : Desked × Condition) (x : Plain Bay c) : Type 0 where
-    pub limit : ℕ
     pub run : Run
     pub slots : List (PlainSlot Bay Job)
-    pub ties : Ties m limit (with_core done.0.core run) slots done.0
-    pub next : limit ≡ done.0.core.next
+    pub ties : Ties m (with_core done.0.core run) slots done.0
     pub ending : run.ending ≡ None
     pub rest_is : run.rest ≡ st ∷ rest
     pub variables : run.variables ≡ r.variables
@@ -138,11 +135,9 @@ module _ {E J A S : Type 0} (m : Meaning E J A Bay Job Answer) (s : Shows S) (P 
 
   acted_first : (st : Stated) (rest : List Stated) (r r' : Run) (done : Desked × Condition) (x y : Plain Bay c) → Reaches (over_bays m) c P x y → r'.variables ≡ r.variables → ActedTo st rest r' done y → ActedTo st rest r done x
   acted_first st rest r r' done x y h e a = record {
-    limit = a.limit;
     run = a.run;
     slots = a.slots;
     ties = a.ties;
-    next = a.next;
     ending = a.ending;
     rest_is = a.rest_is;
     variables = a.variables ∙ e;
@@ -150,114 +145,104 @@ module _ {E J A S : Type 0} (m : Meaning E J A Bay Job Answer) (s : Shows S) (P 
   }
 
   -- a pending transfer was started
-  start_reaches : (d : Doing) (from : Core) (limit : ℕ) (st : Stated) (rest : List Stated) (r : Run) (qs : List (PlainSlot Bay Job)) (p : Desked) (slot number : ℕ)
-      → Ties m (limit + 1) r qs p → r.core.book ≡ from.book → limit ≡ from.next → 0 < limit → get_or r.told slot 0 ≤ number → tag_at p.desks slot number ≡ limit → Starts from slot number d
+  start_reaches : (d : Doing) (from : Core) (st : Stated) (rest : List Stated) (r : Run) (qs : List (PlainSlot Bay Job)) (p : Desked) (slot number : ℕ)
+      → Ties m r qs p → r.core.book ≡ from.book → get_or r.told slot 0 ≤ number → number < log_length (slice_get p.desks slot) → Starts from slot number d
       → r.ending ≡ None → r.rest ≡ st ∷ rest → ActedTo st rest r (acted p.desks d) (turned rest (turn_act st d r) qs)
-  start_reaches (finishes core condition) from limit st rest r qs p slot number t book same some untold tag (e, pended, at_slot, at_number, at_id, next_is, units) none is = record {
-    limit = limit + 1;
+  start_reaches (finishes core condition) from st rest r qs p slot number t book untold inside (e, pended, at_slot, at_number, units) none is = record {
     run = r;
     slots = qs;
-    ties = pending_ties m (limit + 1) r qs p core e t (pended ∙ ap (λ l. l ++ e ∷ []) (sym book)) units
+    ties = pending_ties m r qs p core e t (pended ∙ ap (λ l. l ++ e ∷ []) (sym book)) units
         (subst (λ k. get_or r.told k 0 ≤ e.number) (sym at_slot) (subst (λ n. get_or r.told slot 0 ≤ n) (sym at_number) untold))
-        (ap (λ k. tag_at p.desks k e.number) at_slot ∙ ap (tag_at p.desks slot) at_number ∙ tag ∙ same ∙ sym at_id)
-        (subst (λ n. 0 < n) (same ∙ sym at_id) some);
-    next = ap (λ n. n + 1) same ∙ sym next_is;
+        (subst (λ k. e.number < log_length (slice_get p.desks k)) (sym at_slot) (subst (λ n. n < log_length (slice_get p.desks slot)) (sym at_number) inside));
     ending = none;
     rest_is = is;
     variables = refl;
     reaches = (0, refl, tt);
   }
-  start_reaches (gives at job core next) from limit st rest r qs p slot number t book same some untold tag no_start none is = absurd no_start
-  start_reaches (awaits at job core next) from limit st rest r qs p slot number t book same some untold tag no_start none is = absurd no_start
+  start_reaches (gives at job core next) from st rest r qs p slot number t book untold inside no_start none is = absurd no_start
+  start_reaches (awaits at job core next) from st rest r qs p slot number t book untold inside no_start none is = absurd no_start
 
   -- what a statement does, job after job
-  pub act_reaches : (d : Doing) (from : Core) (limit k : ℕ) (variables : List Variable) (st : Stated) (before : Desked) (rest : List Stated) (r : Run) (qs : List (PlainSlot Bay Job)) (p : Desked)
-      → Ties m limit r qs p → r.core.book ≡ from.book → limit ≡ from.next → Keeps from d → walked k before.desks (does variables st before) ≡ (p.desks, d)
+  pub act_reaches : (d : Doing) (from : Core) (k : ℕ) (variables : List Variable) (st : Stated) (before : Desked) (rest : List Stated) (r : Run) (qs : List (PlainSlot Bay Job)) (p : Desked)
+      → Ties m r qs p → r.core.book ≡ from.book → Keeps from d → walked k before.desks (does variables st before) ≡ (p.desks, d)
       → from.tells ≡ before.core.tells ++ map (tell_of st.0.line) (waited_at st before) → MayStand m s P variables st before → r.ending ≡ None → r.rest ≡ st ∷ rest
       → ActedTo st rest r (acted p.desks d) (turned rest (turn_act st d r) qs)
-  act_reaches (finishes core condition) from limit k variables st before rest r qs p t book same keeps walk made ok none is = record {
-    limit = limit;
+  act_reaches (finishes core condition) from k variables st before rest r qs p t book keeps walk made ok none is = record {
     run = r;
     slots = qs;
-    ties = core_ties m limit r qs p core t (keeps.0 ∙ sym book) keeps.3;
-    next = same ∙ sym keeps.1;
+    ties = core_ties m r qs p core t (keeps.0 ∙ sym book) keeps.2;
     ending = none;
     rest_is = is;
     variables = refl;
     reaches = (0, refl, tt);
   }
-  act_reaches (gives slot job core next) from limit k variables st before rest r qs p t book same (inside, keeps, inl (untagged, onward)) walk made ok none is =
+  act_reaches (gives slot job core next) from k variables st before rest r qs p t book (inside, keeps, inl onward) walk made ok none is =
       let at = slice_get_in qs slot (subst (λ n. slot < n) (sym t.slots) inside) in
       let q = at.0 in
       let number : ℕ = get_or r.sent slot 0 in
       let r1 : Run = with_core core r in
-      let t1 = core_ties m limit r qs p core t (keeps.0 ∙ sym book) keeps.3 in
+      let t1 = core_ties m r qs p core t (keeps.0 ∙ sym book) keeps.2 in
       let p1 : Desked = record { core = core; desks = p.desks } in
       let stage : Stage = Acting (next number) in
-      let some : 0 < limit = subst (λ n. n < limit) untagged (less job untagged) in
-      let t2 = submit_ties m limit limit stage r1 qs p1 slot q job t1 at.1 (omega (arith)) (less job untagged) (inl untagged) in
+      let t2 = submit_ties m stage r1 qs p1 slot q job t1 at.1 in
       let r2 : Run = record r1 { sent = bump r1.sent slot; stage = stage } in
       let qs2 : List (PlainSlot Bay Job) = set qs slot (given q job) in
-      let logged : number ≡ log_length (slice_get p.desks slot) = sent_log m limit r qs p slot q t at.1 in
+      let logged : number ≡ log_length (slice_get p.desks slot) = sent_log m r qs p slot q t at.1 in
       let walk2 : walked (suc k) before.desks (does variables st before) ≡ (carry p.desks slot job, next number) =
       walked_more k before.desks (does variables st before) ∙ ap (λ z. walked 1 z.0 z.1) walk ∙ ap (λ n. (carry p.desks slot job, next n)) (sym logged) in
-      let later = act_reaches (next number) from limit (suc k) variables st before rest r2 qs2 (record { core = core; desks = carry p.desks slot job }) t2 keeps.0 same (onward number) walk2 made ok none is in
+      let later = act_reaches (next number) from (suc k) variables st before rest r2 qs2 (record { core = core; desks = carry p.desks slot job }) t2 keeps.0 (onward number) walk2 made ok none is in
       let x : Plain Bay c = turned rest (submits slot job stage r1) qs in
       let y : Plain Bay c = turned rest (turn st stage r2) qs2 in
       subst (λ n. ActedTo st rest r (acted (carry p.desks slot job) (next n)) x) logged
       (acted_first st rest r r2 (acted (carry p.desks slot job) (next number)) x y
-      (reach_next m s P x y y (ok x (record { told = t.told; asks = record { tells = keeps.2 ∙ made; jobs = k; desks_are = t.desks ∙ sym (ap (λ z. z.0) walk); gives = subst (λ d. GivesNext d slot job core) (sym (ap (λ z. z.1) walk)) (refl, refl, refl) } }))
+      (reach_next m s P x y y (ok x (record { told = t.told; asks = record { tells = keeps.1 ∙ made; jobs = k; desks_are = t.desks ∙ sym (ap (λ z. z.0) walk); gives = subst (λ d. GivesNext d slot job core) (sym (ap (λ z. z.1) walk)) (refl, refl, refl) } }))
       (submit_next m s P st rest stage r1 qs slot q job none is at.1) (0, refl, tt))
       refl later)
-    where
-      less : (j : Job) → tag_of j ≡ 0 → tag_of j < limit
-      less j e = subst (λ n. n < limit) (sym e) (omega (arith, t.tags.below 0 0))
-  act_reaches (gives slot job core next) from limit k variables st before rest r qs p t book same (inside, keeps, inr (tagged, onward)) walk made ok none is =
+  act_reaches (gives slot job core next) from k variables st before rest r qs p t book (inside, keeps, inr onward) walk made ok none is =
       let at = slice_get_in qs slot (subst (λ n. slot < n) (sym t.slots) inside) in
       let q = at.0 in
       let number : ℕ = get_or r.sent slot 0 in
       let r1 : Run = with_core core r in
-      let t1 = core_ties m limit r qs p core t (keeps.0 ∙ sym book) keeps.3 in
+      let t1 = core_ties m r qs p core t (keeps.0 ∙ sym book) keeps.2 in
       let p1 : Desked = record { core = core; desks = p.desks } in
       let stage : Stage = Acting (next number) in
-      let tag : tag_of job ≡ limit = tagged ∙ sym same in
-      let t2 = submit_ties m limit (limit + 1) stage r1 qs p1 slot q job t1 at.1 (omega (arith)) (omega (arith, tag)) (inr tag) in
+      let t2 = submit_ties m stage r1 qs p1 slot q job t1 at.1 in
       let r2 : Run = record r1 { sent = bump r1.sent slot; stage = stage } in
       let qs2 : List (PlainSlot Bay Job) = set qs slot (given q job) in
-      let logged : number ≡ log_length (slice_get p.desks slot) = sent_log m limit r qs p slot q t at.1 in
+      let logged : number ≡ log_length (slice_get p.desks slot) = sent_log m r qs p slot q t at.1 in
       let low : get_or r.told slot 0 ≤ number =
-      omega (arith, told_found m limit r qs p slot q t at.1, sent_found m limit r qs p slot q t at.1, each_at (λ x. x.told ≤ length x.jobs) qs slot q t.within at.1) in
-      let later = start_reaches (next number) from limit st rest r2 qs2 (record { core = core; desks = carry p.desks slot job }) slot number t2 keeps.0 same (omega (arith, t.tags.below 0 0)) low
-      (ap (tag_at (carry p.desks slot job) slot) logged ∙ tag_logged m limit r qs p slot q job t at.1 ∙ tag) (onward number) none is in
+      omega (arith, told_found m r qs p slot q t at.1, sent_found m r qs p slot q t at.1, each_at (λ x. x.told ≤ length x.jobs) qs slot q t.within at.1) in
+      let later = start_reaches (next number) from st rest r2 qs2 (record { core = core; desks = carry p.desks slot job }) slot number t2 keeps.0 low
+      (subst (λ n. n < log_length (slice_get (carry p.desks slot job) slot)) (sym logged) (logs_more m r qs p slot q job t at.1)) (onward number) none is in
       let x : Plain Bay c = turned rest (submits slot job stage r1) qs in
       let y : Plain Bay c = turned rest (turn st stage r2) qs2 in
       subst (λ n. ActedTo st rest r (acted (carry p.desks slot job) (next n)) x) logged
       (acted_first st rest r r2 (acted (carry p.desks slot job) (next number)) x y
-      (reach_next m s P x y y (ok x (record { told = t.told; asks = record { tells = keeps.2 ∙ made; jobs = k; desks_are = t.desks ∙ sym (ap (λ z. z.0) walk); gives = subst (λ d. GivesNext d slot job core) (sym (ap (λ z. z.1) walk)) (refl, refl, refl) } }))
+      (reach_next m s P x y y (ok x (record { told = t.told; asks = record { tells = keeps.1 ∙ made; jobs = k; desks_are = t.desks ∙ sym (ap (λ z. z.0) walk); gives = subst (λ d. GivesNext d slot job core) (sym (ap (λ z. z.1) walk)) (refl, refl, refl) } }))
       (submit_next m s P st rest stage r1 qs slot q job none is at.1) (0, refl, tt))
       refl later)
-  act_reaches (awaits slot job core next) from limit k variables st before rest r qs p t book same (inside, keeps, untagged, onward) walk made ok none is =
+  act_reaches (awaits slot job core next) from k variables st before rest r qs p t book (inside, keeps, onward) walk made ok none is =
       let at = slice_get_in qs slot (subst (λ n. slot < n) (sym t.slots) inside) in
       let q = at.0 in
       let number : ℕ = get_or r.sent slot 0 in
       let r1 : Run = with_core core r in
-      let t1 = core_ties m limit r qs p core t (keeps.0 ∙ sym book) keeps.3 in
+      let t1 = core_ties m r qs p core t (keeps.0 ∙ sym book) keeps.2 in
       let p1 : Desked = record { core = core; desks = p.desks } in
       let p2 : Desked = record { core = core; desks = carry p.desks slot job } in
       let stage : Stage = Awaiting slot number next in
-      let t2 = submit_ties m limit limit stage r1 qs p1 slot q job t1 at.1 (omega (arith)) (subst (λ n. n < limit) (sym untagged) (omega (arith, t.tags.below 0 0))) (inl untagged) in
+      let t2 = submit_ties m stage r1 qs p1 slot q job t1 at.1 in
       let r2 : Run = record r1 { sent = bump r1.sent slot; stage = stage } in
       let qs2 : List (PlainSlot Bay Job) = set qs slot (given q job) in
-      let logged : number ≡ log_length (slice_get p.desks slot) = sent_log m limit r qs p slot q t at.1 in
+      let logged : number ≡ log_length (slice_get p.desks slot) = sent_log m r qs p slot q t at.1 in
       let o : Outcome = desks.outcome p.desks slot job in
-      let low : q.told ≤ number = omega (arith, sent_found m limit r qs p slot q t at.1, each_at (λ x. x.told ≤ length x.jobs) qs slot q t.within at.1) in
+      let low : q.told ≤ number = omega (arith, sent_found m r qs p slot q t at.1, each_at (λ x. x.told ≤ length x.jobs) qs slot q t.within at.1) in
       let walk2 : walked (suc k) before.desks (does variables st before) ≡ (carry p.desks slot job, next o) =
       walked_more k before.desks (does variables st before) ∙ ap (λ z. walked 1 z.0 z.1) walk in
-      let own = own_out (number - q.told) limit st rest r2 qs2 p2 slot number (given q job) next o t2 none is
+      let own = own_out (number - q.told) st rest r2 qs2 p2 slot number (given q job) next o t2 none is
       (λ r' qs' t'. ok (turned rest (settles slot (Awaiting slot number next) r') qs') (record {
         told = t'.told;
         asks = inr (record {
-          tells = ap (λ z. z.tells) t'.core ∙ keeps.2 ∙ made;
+          tells = ap (λ z. z.tells) t'.core ∙ keeps.1 ∙ made;
           jobs = k;
           job = job;
           onward = next;
@@ -265,14 +250,14 @@ module _ {E J A S : Type 0} (m : Meaning E J A Bay Job Answer) (s : Shows S) (P 
           desks_are = t'.desks ∙ ap (λ ds. carry ds slot job) (sym (ap (λ z. z.0) walk));
         });
       }))
-      (set_found qs slot (given q job) q at.1) (omega (arith, low)) (longer q job (sent_found m limit r qs p slot q t at.1))
-      (ap (log_at (slice_get (carry p.desks slot job) slot)) logged ∙ logged_at m limit r qs p slot q job t at.1) in
-      let later = act_reaches (next o) from limit (suc k) variables st before rest own.run own.slots p2 own.ties (ap (λ z. z.book) own.ties.core ∙ keeps.0) same (onward o) walk2 made ok own.ending own.rest_is in
+      (set_found qs slot (given q job) q at.1) (omega (arith, low)) (longer q job (sent_found m r qs p slot q t at.1))
+      (ap (log_at (slice_get (carry p.desks slot job) slot)) logged ∙ logged_at m r qs p slot q job t at.1) in
+      let later = act_reaches (next o) from (suc k) variables st before rest own.run own.slots p2 own.ties (ap (λ z. z.book) own.ties.core ∙ keeps.0) (onward o) walk2 made ok own.ending own.rest_is in
       let x : Plain Bay c = turned rest (submits slot job stage r1) qs in
       let y : Plain Bay c = turned rest (turn st stage r2) qs2 in
       let z : Plain Bay c = turned rest (turn_act st (next o) own.run) own.slots in
       acted_first st rest r own.run (acted (carry p.desks slot job) (next o)) x z
-      (reach_next m s P x y z (ok x (record { told = t.told; asks = record { tells = keeps.2 ∙ made; jobs = k; desks_are = t.desks ∙ sym (ap (λ w. w.0) walk); gives = subst (λ d. GivesNext d slot job core) (sym (ap (λ w. w.1) walk)) (refl, refl, refl) } }))
+      (reach_next m s P x y z (ok x (record { told = t.told; asks = record { tells = keeps.1 ∙ made; jobs = k; desks_are = t.desks ∙ sym (ap (λ w. w.0) walk); gives = subst (λ d. GivesNext d slot job core) (sym (ap (λ w. w.1) walk)) (refl, refl, refl) } }))
       (submit_next m s P st rest stage r1 qs slot q job none is at.1) own.reaches)
       own.variables later
     where

@@ -1,5 +1,5 @@
 -- The runner served alone, through a whole deck.
-use Rattle.std.proofs.Common.{◌≡◌, ℕ, zero, suc, ◌≤◌, List, [], ◌∷◌, length, replicate, Option, Some, None, refl, sym, ap, ◌∙◌, subst, arith}
+use Rattle.std.proofs.Common.{◌≡◌, ℕ, suc, ◌≤◌, List, [], ◌∷◌, length, Option, Some, None, refl, sym, ap, ◌∙◌, subst, arith}
 use Rattle.fj_statement.specs.declared.deck.Variable.{Variable}
 use Rattle.fj_slot.specs.Serving.{Meaning}
 use Rattle.fj_world.specs.declared.ask.Ask.TheVariants.{Finished}
@@ -18,8 +18,7 @@ use Rattle.fj_turns.specs.Serving.{over_bays, Shows, run_conduct, first_run, fre
 use Rattle.fj_turns.specs.Inside.{cut_desks}
 use Rattle.fj_turns.specs.Standing.{Reaches, StandsIn}
 use Rattle.fj_turns.specs.Whole.{ComesTo, RunnerIsPlain}
-use Rattle.fj_turns.proofs.Slots.{each_replicate, none_beyond}
-use Rattle.fj_turns.proofs.Tags.{tag_in, tag_at}
+use Rattle.fj_turns.proofs.Slots.{each_replicate}
 use Rattle.fj_turns.proofs.Ties.{Ties}
 use Rattle.fj_turns.proofs.Reaching.{reach_then, MayStand}
 use Rattle.fj_turns.proofs.Statements.{turned, Stepped, step_reaches}
@@ -48,13 +47,7 @@ cut_on variables index st more p e =
 
 -- ---- the start
 
-fresh_tag : (k : ℕ) (bay : Bay) (slot number : ℕ) → tag_at (replicate k (record { bay = bay; log = [] })) slot number ≡ 0
-fresh_tag zero bay zero number = refl
-fresh_tag zero bay (suc slot) number = refl
-fresh_tag (suc k) bay zero number = ap tag_in (none_beyond [] number (omega (arith)))
-fresh_tag (suc k) bay (suc slot) number = fresh_tag k bay slot number
-
-first_ties : {E J A : Type 0} (m : Meaning E J A Bay Job Answer) (variables : List Variable) (deck : List Stated) (files : Files) → Ties m 1 (first_run variables deck files) fresh_slots (fresh variables files)
+first_ties : {E J A : Type 0} (m : Meaning E J A Bay Job Answer) (variables : List Variable) (deck : List Stated) (files : Files) → Ties m (first_run variables deck files) fresh_slots (fresh variables files)
 first_ties m variables deck files = record {
   core = refl;
   desks = refl;
@@ -65,10 +58,6 @@ first_ties m variables deck files = record {
   housed = tt;
   same = refl;
   kept = tt;
-  tags = record {
-    below = λ slot number. omega (arith, fresh_tag most_slots (record { connection = None; halt = None }) slot number);
-    once = λ s n s' n' some same. absurd (omega (arith, some, fresh_tag most_slots (record { connection = None; halt = None }) s n));
-  };
 }
 
 module _ {E J A S : Type 0} (m : Meaning E J A Bay Job Answer) (s : Shows S) (P : Plain Bay (run_conduct s) → Type 0) where
@@ -92,23 +81,23 @@ module _ {E J A S : Type 0} (m : Meaning E J A Bay Job Answer) (s : Shows S) (P 
     reaches = reach_then m s P x y (record { script = k.run; hand = Finished; slots = k.slots }) h k.reaches;
   }
 
-  pub deck_reaches : (variables : List Variable) (sts : List Stated) (limit : ℕ) (r : Run) (qs : List (PlainSlot Bay Job)) (p : Desked)
-      → Ties m limit r qs p → limit ≡ p.core.next → r.ending ≡ None → r.variables ≡ variables → MayGo variables sts p
+  pub deck_reaches : (variables : List Variable) (sts : List Stated) (r : Run) (qs : List (PlainSlot Bay Job)) (p : Desked)
+      → Ties m r qs p → r.ending ≡ None → r.variables ≡ variables → MayGo variables sts p
       → ComesTo m s P (over_desks variables sts p) (going sts r qs)
-  deck_reaches variables [] limit r qs p t same none vs ok = record { run = record r { rest = [] }; slots = qs; core = t.core; desks = t.desks; ending = none; reaches = (0, refl, tt) }
-  deck_reaches variables (st ∷ more) limit r qs p t same none vs ok =
+  deck_reaches variables [] r qs p t none vs ok = record { run = record r { rest = [] }; slots = qs; core = t.core; desks = t.desks; ending = none; reaches = (0, refl, tt) }
+  deck_reaches variables (st ∷ more) r qs p t none vs ok =
       let r1 : Run = record r { rest = st ∷ more } in
       let first : Stepped m s P st more r1 (desk_step variables st p) (turned m s P more (turn_start st r1) qs) =
       subst (λ v. Stepped m s P st more r1 (desk_step v st p) (turned m s P more (turn_start st r1) qs)) vs
-      (step_reaches m s P limit st more r1 qs p (record { core = t.core; desks = t.desks; sent = t.sent; told = t.told; within = t.within; slots = t.slots; housed = t.housed; same = t.same; kept = t.kept; tags = t.tags }) same none refl
+      (step_reaches m s P st more r1 qs p (record { core = t.core; desks = t.desks; sent = t.sent; told = t.told; within = t.within; slots = t.slots; housed = t.housed; same = t.same; kept = t.kept }) none refl
       (λ rule. subst (λ v. MayStand m s P v st p) (sym vs) (ok 0 st p refl (ap (λ v. rule_of v st p.core) (sym vs) ∙ rule)))) in
       subst (λ a. ComesTo m s P (over_desks variables (st ∷ more) p) (record { script = a.run; hand = a.ask; slots = qs })) (sym (goes_is_turn st more r))
       (by first (desk_step variables st p).1 refl
-      (λ e. deck_reaches variables more first.limit (record first.run { stage = Start }) first.slots (desk_step variables st p).0 (restart first.limit first.run first.slots (desk_step variables st p).0 first.ties) first.next first.ending (first.variables ∙ vs)
+      (λ e. deck_reaches variables more (record first.run { stage = Start }) first.slots (desk_step variables st p).0 (restart first.run first.slots (desk_step variables st p).0 first.ties) first.ending (first.variables ∙ vs)
       (λ index at before reached. ok (suc index) at before (cut_on variables index st more p e ∙ reached))))
     where
-      restart : (limit : ℕ) (r : Run) (qs : List (PlainSlot Bay Job)) (p : Desked) → Ties m limit r qs p → Ties m limit (record r { stage = Start }) qs p
-      restart limit r qs p t = record { core = t.core; desks = t.desks; sent = t.sent; told = t.told; within = t.within; slots = t.slots; housed = t.housed; same = t.same; kept = t.kept; tags = t.tags }
+      restart : (r : Run) (qs : List (PlainSlot Bay Job)) (p : Desked) → Ties m r qs p → Ties m (record r { stage = Start }) qs p
+      restart r qs p t = record { core = t.core; desks = t.desks; sent = t.sent; told = t.told; within = t.within; slots = t.slots; housed = t.housed; same = t.same; kept = t.kept }
 
       by : (first : Stepped m s P st more (record r { rest = st ∷ more }) (desk_step variables st p) (turned m s P more (turn_start st (record r { rest = st ∷ more })) qs)) (o : Option Ending) → (desk_step variables st p).1 ≡ o
           → ((desk_step variables st p).1 ≡ None → ComesTo m s P (over_desks variables more (desk_step variables st p).0) (going more (record first.run { stage = Start }) first.slots))
@@ -137,5 +126,5 @@ module _ {E J A S : Type 0} (m : Meaning E J A Bay Job Answer) (s : Shows S) whe
   runner_is_plain variables deck files =
       let P = StandsIn m s variables deck (fresh variables files) in
       subst (ComesTo m s P (over_desks variables deck (fresh variables files))) (begins_is variables deck files P)
-      (deck_reaches m s P variables deck 1 (first_run variables deck files) fresh_slots (fresh variables files) (first_ties m variables deck files) refl refl refl
+      (deck_reaches m s P variables deck (first_run variables deck files) fresh_slots (fresh variables files) (first_ties m variables deck files) refl refl
       (λ index st before reached allowed x inside. record { index = index; statement = st; before = before; reached = reached; allowed = allowed; inside = inside }))

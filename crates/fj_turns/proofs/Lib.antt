@@ -1,5 +1,4 @@
 pub mod Slots
-pub mod Tags
 pub mod Ties
 pub mod Tying
 pub mod Waits
@@ -12,3 +11,5 @@ pub mod Finishing
 pub mod Cutting
 pub mod Meant
 pub mod Pending
+pub mod Seated
+pub mod FewJobs

@@ -1,6 +1,6 @@
 -- A READ or WRITE that will be pending awaits no answer.
-use Rattle.std.proofs.Common.{◌≡◌, ℕ, zero, suc, Bool, true, false, List, [], ◌∷◌, map, Option, Some, None, slice_get, refl, sym, ap, ◌∙◌, subst, inl, inr}
-use Rattle.std.specs.Prelude.{if◌then◌else◌, filter}
+use Rattle.std.proofs.Common.{◌≡◌, ℕ, zero, suc, Bool, true, false, List, [], ◌∷◌, Option, Some, None, slice_get, refl, sym, ap, ◌∙◌, subst, inl, inr}
+use Rattle.std.specs.Prelude.{if◌then◌else◌}
 use Rattle.fj_value.specs.declared.condition.Condition.{Condition}
 use Rattle.fj_value.specs.declared.condition.Condition.TheVariants.{Fine, EndOfFile, EndOfRecord, Error}
 use Rattle.fj_modes.specs.declared.unit.UnitRef.{UnitRef}
@@ -11,13 +11,11 @@ use Rattle.fj_statement.specs.declared.deck.Variable.{Variable}
 use Rattle.fj_statement.specs.declared.statement.Statement.TheVariants as statement
 use Rattle.fj_statement.specs.declared.statement.Transfer.{Transfer}
 use Rattle.fj_plain.specs.Needs.{number_of}
-use Rattle.fj_plain.specs.State.{Entry}
 use Rattle.fj_plain.specs.Statement.{Stated}
-use Rattle.fj_plain.specs.Telling.{of_unit, is_asynchronous, waited_in, condition_of, tells_id}
+use Rattle.fj_plain.specs.Telling.{of_unit, is_asynchronous, waited_in, tells_id}
 use Rattle.fj_plain.specs.Transfers.{moved_in, layout_of, refusal}
 use Rattle.fj_desk.specs.Core.{Core, Connected, connected_at}
 use Rattle.fj_desk.specs.Desks.{Desk, carry, log_length}
-use Rattle.fj_desk.specs.Desks as desks
 use Rattle.fj_desk.specs.Doing.{Doing, finishes, gives, awaits, Desked}
 use Rattle.fj_desk.specs.Acting.{transferred, unless_refused, on_unit, transfer_at, doing}
 use Rattle.fj_desk.specs.Desking.{entries, told_core}

@@ -25,7 +25,6 @@ use Rattle.fj_turns.specs.Serving.{over_bays, Shows, run_conduct, desks_of}
 use Rattle.fj_turns.specs.Inside.{waited_at}
 use Rattle.fj_turns.specs.Standing.{Along, Reaches, IsInside}
 use Rattle.fj_turns.proofs.Slots.{map_get}
-use Rattle.fj_turns.proofs.Tags.{tag_in, tag_inside}
 use Rattle.fj_turns.proofs.Ties.{IsKept, Ties, more, given, untold, untold_less, told_found, length_found, settle_ties}
 use Rattle.fj_turns.proofs.Waits.{AreKnown, waited_same, none_unsettled, unsettled_found, IsKnownOr, waited_among}
 
@@ -46,10 +45,14 @@ not_told desks told h k none =
       | inl a ↦
           let logged : None ≡ log_at (slice_get desks h.pending.slot) h.pending.number =
           sym none ∙ k.answer ∙ ap (λ b. if b then log_at (slice_get desks h.pending.slot) h.pending.number else None) a in
-          let zero_tag : 0 ≡ h.pending.id = ap tag_in logged ∙ k.tag in
-          absurd (omega (arith, zero_tag, k.some))
+          let there = logged_in (slice_get desks h.pending.slot) h.pending.number k.placed in
+          absurd (let z : None ≡ Some there.0 = logged ∙ there.1 in cc)
       | inr a ↦ ltb-false h.pending.number (get_or told h.pending.slot 0) a
     ]
+  where
+    logged_in : (o : Option Desk) (n : ℕ) → n < log_length o → (x : Outcome) × (log_at o n ≡ Some x)
+    logged_in None n l = absurd (omega (arith, l))
+    logged_in (Some d) n l = slice_get_in d.log n l
 
 entries_book : (desks : List Desk) (hs : List Held) → map (entry_of desks) (map (λ (h : Held). h.pending) hs) ≡ map (λ (h : Held). entry_of desks h.pending) hs
 entries_book desks [] = refl
@@ -70,29 +73,29 @@ entry_unit desks h = by (log_at (slice_get desks h.pending.slot) h.pending.numbe
     by (Some o) = refl
 
 module _ {E J A : Type 0} (m : Meaning E J A Bay Job Answer) where
-  book_is : (limit : ℕ) (st : Stated) (r : Run) (qs : List (PlainSlot Bay Job)) (p : Desked) → Ties m limit r qs p → waited_in (map (λ h. entry_of p.desks h.pending) r.book) r.core.vars st.0.what ≡ waited_at st p
-  book_is limit st r qs p t =
+  book_is : (st : Stated) (r : Run) (qs : List (PlainSlot Bay Job)) (p : Desked) → Ties m r qs p → waited_in (map (λ h. entry_of p.desks h.pending) r.book) r.core.vars st.0.what ≡ waited_at st p
+  book_is st r qs p t =
       ap (λ l. waited_in l r.core.vars st.0.what) (sym (entries_book p.desks r.book) ∙ ap (map (entry_of p.desks)) t.same)
       ∙ ap (λ c. waited_in (map (entry_of p.desks) c.book) c.vars st.0.what) t.core
 
   -- once all that are known to be waited for were told, they are those that the statement tells
-  pub waited_is : (limit : ℕ) (st : Stated) (r : Run) (qs : List (PlainSlot Bay Job)) (p : Desked) → Ties m limit r qs p → unsettled (waited_now st r) r.book ≡ None → waited_now st r ≡ waited_at st p
-  waited_is limit st r qs p t none =
+  pub waited_is : (st : Stated) (r : Run) (qs : List (PlainSlot Bay Job)) (p : Desked) → Ties m r qs p → unsettled (waited_now st r) r.book ≡ None → waited_now st r ≡ waited_at st p
+  waited_is st r qs p t none =
       let es : List Entry = waited_now st r in
       let are : AreKnown (λ h. entry_of p.desks h.pending) es r.book =
       each_both (IsKept p.desks r.told) (λ h. tells_id es h.pending.id ≡ true → is_none h.answer ≡ false) (λ h. tells_id es h.pending.id ≡ true → known h ≡ entry_of p.desks h.pending) r.book
       (λ h k f e. known_is p.desks r.told h k (f e)) t.kept (none_unsettled es r.book none) in
-      waited_same (λ h. entry_of p.desks h.pending) (entry_id p.desks) (entry_unit p.desks) r.book r.core.vars st.0.what are ∙ book_is limit st r qs p t
+      waited_same (λ h. entry_of p.desks h.pending) (entry_id p.desks) (entry_unit p.desks) r.book r.core.vars st.0.what are ∙ book_is st r qs p t
 
   -- the slot of one whose job is not told has a job that is not told
-  pub waits_at : (limit : ℕ) (es : List Entry) (r : Run) (qs : List (PlainSlot Bay Job)) (p : Desked) (slot : ℕ) → Ties m limit r qs p → unsettled es r.book ≡ Some slot
+  pub waits_at : (es : List Entry) (r : Run) (qs : List (PlainSlot Bay Job)) (p : Desked) (slot : ℕ) → Ties m r qs p → unsettled es r.book ≡ Some slot
       → (q : PlainSlot Bay Job) × (slice_get qs slot ≡ Some q) × (q.told < length q.jobs)
-  waits_at limit es r qs p slot t e =
+  waits_at es r qs p slot t e =
       let found = unsettled_found (IsKept p.desks r.told) es r.book slot t.kept e in
       let h = found.0 in
       let k = found.1.2 in
       let low : get_or r.told h.pending.slot 0 ≤ h.pending.number = not_told p.desks r.told h k found.1.3 in
-      let inside : h.pending.number < log_length (slice_get p.desks h.pending.slot) = tag_inside p.desks h.pending.slot h.pending.number (subst (λ n. 0 < n) (sym k.tag) k.some) in
+      let inside : h.pending.number < log_length (slice_get p.desks h.pending.slot) = k.placed in
       by h.pending.slot h.pending.number found.1.4 low inside (log_desks h.pending.slot h.pending.number inside)
     where
       log_desks : (s n : ℕ) → n < log_length (slice_get p.desks s) → (q : PlainSlot Bay Job) × (slice_get qs s ≡ Some q)
@@ -107,8 +110,8 @@ module _ {E J A : Type 0} (m : Meaning E J A Bay Job Answer) where
       by : (s n : ℕ) → s ≡ slot → get_or r.told s 0 ≤ n → n < log_length (slice_get p.desks s) → (q : PlainSlot Bay Job) × (slice_get qs s ≡ Some q)
           → (q : PlainSlot Bay Job) × (slice_get qs slot ≡ Some q) × (q.told < length q.jobs)
       by s n same low inside (q, at) =
-          let told_here = told_found m limit r qs p s q t at in
-          let long = length_found m limit r qs p s q t at in
+          let told_here = told_found m r qs p s q t at in
+          let long = length_found m r qs p s q t at in
           (q, subst (λ k. slice_get qs k ≡ Some q) same at, omega (arith, low, inside, told_here, long))
 
   known_or : (desks : List Desk) (told : List ℕ) (h : Held) → IsKept desks told h → IsKnownOr (λ x. entry_of desks x.pending) h
@@ -119,9 +122,9 @@ module _ {E J A : Type 0} (m : Meaning E J A Bay Job Answer) where
       by (Some o) e = inr (known_is desks told h k (ap is_none e))
 
   -- a transfer that the statement tells, whose job is not told
-  pub transfer_at : (limit : ℕ) (st : Stated) (r : Run) (qs : List (PlainSlot Bay Job)) (p : Desked) (slot : ℕ) → Ties m limit r qs p → unsettled (waited_now st r) r.book ≡ Some slot
+  pub transfer_at : (st : Stated) (r : Run) (qs : List (PlainSlot Bay Job)) (p : Desked) (slot : ℕ) → Ties m r qs p → unsettled (waited_now st r) r.book ≡ Some slot
       → (e : Pending) × (at : ℕ) × (slice_get p.core.book at ≡ Some e) × (e.slot ≡ slot) × (tells_id (waited_at st p) e.id ≡ true) × (get_or r.told slot 0 ≤ e.number)
-  transfer_at limit st r qs p slot t e =
+  transfer_at st r qs p slot t e =
       let found = unsettled_found (IsKept p.desks r.told) (waited_now st r) r.book slot t.kept e in
       let h = found.0 in
       let low : get_or r.told h.pending.slot 0 ≤ h.pending.number = not_told p.desks r.told h found.1.2 found.1.3 in
@@ -131,7 +134,7 @@ module _ {E J A : Type 0} (m : Meaning E J A Bay Job Answer) where
         found.1.0,
         ap (λ l. slice_get l found.1.0) (sym (ap (λ k. k.book) t.core) ∙ sym t.same) ∙ map_get (λ (x : Held). x.pending) r.book found.1.0 h found.1.1,
         found.1.4,
-        sym (ap (λ es. tells_id es h.pending.id) (book_is limit st r qs p t)) ∙ among,
+        sym (ap (λ es. tells_id es h.pending.id) (book_is st r qs p t)) ∙ among,
         subst (λ k. get_or r.told k 0 ≤ h.pending.number) found.1.4 low,
       )
 
@@ -193,19 +196,19 @@ module _ {E J A S : Type 0} (m : Meaning E J A Bay Job Answer) (s : Shows S) (P 
   MayStand variables st before = (x : Plain Bay c) → IsInside m s variables st before x → P x
 
   -- all that it waits for was told: what the runner and its slots are then
-  pub record Settling (limit : ℕ) (st : Stated) (rest : List Stated) (r : Run) (p : Desked) (x : Plain Bay c) : Type 0 where
+  pub record Settling (st : Stated) (rest : List Stated) (r : Run) (p : Desked) (x : Plain Bay c) : Type 0 where
     pub run : Run
     pub slots : List (PlainSlot Bay Job)
-    pub ties : Ties m limit run slots p
+    pub ties : Ties m run slots p
     pub ending : run.ending ≡ None
     pub rest_is : run.rest ≡ st ∷ rest
     pub variables : run.variables ≡ r.variables
     pub reaches : Reaches (over_bays m) c P x (at_turn rest (turn_tell st (waited_at st p) run) slots)
 
-  waiting : (limit : ℕ) (st : Stated) (rest : List Stated) (r : Run) (qs : List (PlainSlot Bay Job)) (p : Desked) (slot : ℕ) → Ties m limit r qs p → unsettled (waited_now st r) r.book ≡ Some slot
+  waiting : (st : Stated) (rest : List Stated) (r : Run) (qs : List (PlainSlot Bay Job)) (p : Desked) (slot : ℕ) → Ties m r qs p → unsettled (waited_now st r) r.book ≡ Some slot
       → IsInside m s r.variables st p (at_turn rest (settles slot Waiting r) qs)
-  waiting limit st rest r qs p slot t e =
-      let found = transfer_at m limit st r qs p slot t e in
+  waiting st rest r qs p slot t e =
+      let found = transfer_at m st r qs p slot t e in
       record {
         told = t.told;
         asks = inl (record {
@@ -220,29 +223,29 @@ module _ {E J A S : Type 0} (m : Meaning E J A Bay Job Answer) (s : Shows S) (P 
         });
       }
 
-  waits_out : (n limit : ℕ) (st : Stated) (rest : List Stated) (r : Run) (qs : List (PlainSlot Bay Job)) (p : Desked)
-      → Ties m limit r qs p → r.ending ≡ None → r.rest ≡ st ∷ rest → MayStand r.variables st p → untold qs ≡ n
+  waits_out : (n : ℕ) (st : Stated) (rest : List Stated) (r : Run) (qs : List (PlainSlot Bay Job)) (p : Desked)
+      → Ties m r qs p → r.ending ≡ None → r.rest ≡ st ∷ rest → MayStand r.variables st p → untold qs ≡ n
       → (o : Option ℕ) → unsettled (waited_now st r) r.book ≡ o
-      → Settling limit st rest r p (at_turn rest (wait_by st (waited_now st r) o r) qs)
-  waits_out n limit st rest r qs p t none is ok left None e = record {
+      → Settling st rest r p (at_turn rest (wait_by st (waited_now st r) o r) qs)
+  waits_out n st rest r qs p t none is ok left None e = record {
     run = r;
     slots = qs;
     ties = t;
     ending = none;
     rest_is = is;
     variables = refl;
-    reaches = reach_here (at_turn rest (turn_tell st (waited_now st r) r) qs) (at_turn rest (turn_tell st (waited_at st p) r) qs) (ap (λ es. at_turn rest (turn_tell st es r) qs) (waited_is m limit st r qs p t e));
+    reaches = reach_here (at_turn rest (turn_tell st (waited_now st r) r) qs) (at_turn rest (turn_tell st (waited_at st p) r) qs) (ap (λ es. at_turn rest (turn_tell st es r) qs) (waited_is m st r qs p t e));
   }
-  waits_out zero limit st rest r qs p t none is ok left (Some slot) e =
-      let found = waits_at m limit (waited_now st r) r qs p slot t e in
+  waits_out zero st rest r qs p t none is ok left (Some slot) e =
+      let found = waits_at m (waited_now st r) r qs p slot t e in
       absurd (omega (arith, left, untold_less qs slot found.0 found.1 found.2))
-  waits_out (suc n) limit st rest r qs p t none is ok left (Some slot) e =
-      let found = waits_at m limit (waited_now st r) r qs p slot t e in
+  waits_out (suc n) st rest r qs p t none is ok left (Some slot) e =
+      let found = waits_at m (waited_now st r) r qs p slot t e in
       let q = found.0 in
       let answer = answer_of m q found.2 in
       let r2 : Run = told_of (record r { stage = Waiting; due = slot }) answer.0 in
-      let t2 = settle_ties m limit Waiting r qs p slot q answer.0 t found.1 answer.1 found.2 in
-      let later = waits_out n limit st rest r2 (set qs slot (more q)) p t2 none is ok (omega (arith, left, untold_less qs slot q found.1 found.2)) (unsettled (waited_now st r2) r2.book) refl in
+      let t2 = settle_ties m Waiting r qs p slot q answer.0 t found.1 answer.1 found.2 in
+      let later = waits_out n st rest r2 (set qs slot (more q)) p t2 none is ok (omega (arith, left, untold_less qs slot q found.1 found.2)) (unsettled (waited_now st r2) r2.book) refl in
       record {
         run = later.run;
         slots = later.slots;
@@ -251,11 +254,11 @@ module _ {E J A S : Type 0} (m : Meaning E J A Bay Job Answer) (s : Shows S) (P 
         rest_is = later.rest_is;
         variables = later.variables;
         reaches = reach_next (at_turn rest (settles slot Waiting r) qs) (at_turn rest (turn st Waiting r2) (set qs slot (more q))) (at_turn rest (turn_tell st (waited_at st p) later.run) later.slots)
-            (ok (at_turn rest (settles slot Waiting r) qs) (waiting limit st rest r qs p slot t e))
+            (ok (at_turn rest (settles slot Waiting r) qs) (waiting st rest r qs p slot t e))
             (settle_next st rest Waiting r qs slot q answer.0 none is found.1 answer.1) later.reaches;
       }
 
-  pub wait_reaches : (limit : ℕ) (st : Stated) (rest : List Stated) (r : Run) (qs : List (PlainSlot Bay Job)) (p : Desked)
-      → Ties m limit r qs p → r.ending ≡ None → r.rest ≡ st ∷ rest → MayStand r.variables st p
-      → Settling limit st rest r p (at_turn rest (turn_wait st r) qs)
-  wait_reaches limit st rest r qs p t none is ok = waits_out (untold qs) limit st rest r qs p t none is ok refl (unsettled (waited_now st r) r.book) refl
+  pub wait_reaches : (st : Stated) (rest : List Stated) (r : Run) (qs : List (PlainSlot Bay Job)) (p : Desked)
+      → Ties m r qs p → r.ending ≡ None → r.rest ≡ st ∷ rest → MayStand r.variables st p
+      → Settling st rest r p (at_turn rest (turn_wait st r) qs)
+  wait_reaches st rest r qs p t none is ok = waits_out (untold qs) st rest r qs p t none is ok refl (unsettled (waited_now st r) r.book) refl

@@ -80,9 +80,9 @@ does_keeps variables st p h =
 
 module _ {E J A : Type 0} (m : Meaning E J A Bay Job Answer) where
   -- other variables
-  vars_ties : (limit : ℕ) (r : Run) (qs : List (PlainSlot Bay Job)) (p : Desked) (vars : Variables) → Ties m limit r qs p
-      → Ties m limit (record r { core = record r.core { vars = vars } }) qs (record { core = record p.core { vars = vars }; desks = p.desks })
-  vars_ties limit r qs p vars t = record {
+  vars_ties : (r : Run) (qs : List (PlainSlot Bay Job)) (p : Desked) (vars : Variables) → Ties m r qs p
+      → Ties m (record r { core = record r.core { vars = vars } }) qs (record { core = record p.core { vars = vars }; desks = p.desks })
+  vars_ties r qs p vars t = record {
     core = ap (λ (k : Core). record k { vars = vars }) t.core;
     desks = t.desks;
     sent = t.sent;
@@ -92,7 +92,6 @@ module _ {E J A : Type 0} (m : Meaning E J A Bay Job Answer) where
     housed = t.housed;
     same = t.same;
     kept = t.kept;
-    tags = t.tags;
   }
 
 module _ {E J A S : Type 0} (m : Meaning E J A Bay Job Answer) (s : Shows S) (P : Plain Bay (run_conduct s) → Type 0) where
@@ -104,23 +103,19 @@ module _ {E J A S : Type 0} (m : Meaning E J A Bay Job Answer) (s : Shows S) (P 
 
   -- a statement was carried out
   pub record Stepped (st : Stated) (rest : List Stated) (r : Run) (done : Desked × Option Ending) (x : Plain Bay c) : Type 0 where
-    pub limit : ℕ
     pub run : Run
     pub slots : List (PlainSlot Bay Job)
-    pub ties : Ties m limit run slots done.0
-    pub next : limit ≡ done.0.core.next
+    pub ties : Ties m run slots done.0
     pub ending : run.ending ≡ None
     pub variables : run.variables ≡ r.variables
     pub reaches : Reaches (over_bays m) c P x (turned rest (finish_by done.1 run) slots)
 
   finishes_step : (st : Stated) (rest : List Stated) (r : Run) (done : Desked × Condition) (x : Plain Bay c) → ActedTo m s P st rest r done x → Stepped st rest r (completed r.variables st.0.line st.0.what done) x
   finishes_step st rest r done x a = record {
-    limit = a.limit;
     run = with_core (with_iostat st done.1 a.run done.0.core) a.run;
     slots = a.slots;
-    ties = subst (λ vs. Ties m a.limit (with_core (with_iostat st done.1 a.run done.0.core) a.run) a.slots (record { core = record (done.0.core) { vars = with_number vs (iostat_of st.0.what) (code_of done.1) done.0.core.vars }; desks = done.0.desks })) a.variables
-        (vars_ties m a.limit (with_core done.0.core a.run) a.slots done.0 (with_number a.run.variables (iostat_of st.0.what) (code_of done.1) done.0.core.vars) a.ties);
-    next = a.next;
+    ties = subst (λ vs. Ties m (with_core (with_iostat st done.1 a.run done.0.core) a.run) a.slots (record { core = record (done.0.core) { vars = with_number vs (iostat_of st.0.what) (code_of done.1) done.0.core.vars }; desks = done.0.desks })) a.variables
+        (vars_ties m (with_core done.0.core a.run) a.slots done.0 (with_number a.run.variables (iostat_of st.0.what) (code_of done.1) done.0.core.vars) a.ties);
     ending = a.ending;
     variables = a.variables;
     reaches = a.reaches;
@@ -128,30 +123,28 @@ module _ {E J A S : Type 0} (m : Meaning E J A Bay Job Answer) (s : Shows S) (P 
 
   stepped_later : (st : Stated) (rest : List Stated) (r r' : Run) (done : Desked × Option Ending) (x y : Plain Bay c) → Reaches (over_bays m) c P x y → r'.variables ≡ r.variables → Stepped st rest r' done y → Stepped st rest r done x
   stepped_later st rest r r' done x y h e a = record {
-    limit = a.limit;
     run = a.run;
     slots = a.slots;
     ties = a.ties;
-    next = a.next;
     ending = a.ending;
     variables = a.variables ∙ e;
     reaches = reach_then m s P x y (turned rest (finish_by done.1 a.run) a.slots) h a.reaches;
   }
 
   -- a statement that is not prohibited
-  goes_reaches : (limit : ℕ) (st : Stated) (rest : List Stated) (r : Run) (qs : List (PlainSlot Bay Job)) (p : Desked)
-      → Ties m limit r qs p → limit ≡ p.core.next → r.ending ≡ None → r.rest ≡ st ∷ rest → MayStand m s P r.variables st p
+  goes_reaches : (st : Stated) (rest : List Stated) (r : Run) (qs : List (PlainSlot Bay Job)) (p : Desked)
+      → Ties m r qs p → r.ending ≡ None → r.rest ≡ st ∷ rest → MayStand m s P r.variables st p
       → Stepped st rest r (completed r.variables st.0.line st.0.what (acts st.1 r.variables st.0.line st.0.what p (waited_at st p))) (turned rest (turn_wait st r) qs)
-  goes_reaches limit st rest r qs p t same none is ok =
-      let w = wait_reaches m s P limit st rest r qs p t none is ok in
+  goes_reaches st rest r qs p t none is ok =
+      let w = wait_reaches m s P st rest r qs p t none is ok in
       let told : List Entry = waited_at st p in
       let run2 : Run = with_tells st told w.run in
       let new : Core = told_core w.run.variables st.0.line told p.core in
       let doing_is : doing_told w.run.variables st told w.run.core ≡ does r.variables st p =
       ap (λ k. doing_told w.run.variables st told k) w.ties.core ∙ ap (λ vs. doing_told vs st told p.core) w.variables in
-      let t2 = tell_ties m limit st told w.run w.slots p w.ties in
+      let t2 = tell_ties m st told w.run w.slots p w.ties in
       let keeps = subst (λ vs. Keeps (told_core vs st.0.line told p.core) (does r.variables st p)) (sym w.variables) (does_keeps r.variables st p (subst (λ k. Housed k.units) w.ties.core w.ties.housed)) in
-      let acted_to = act_reaches m s P (does r.variables st p) new limit 0 r.variables st p rest run2 w.slots (record { core = new; desks = p.desks }) t2 (ap (λ k. k.book) t2.core) same keeps refl refl ok w.ending w.rest_is in
+      let acted_to = act_reaches m s P (does r.variables st p) new 0 r.variables st p rest run2 w.slots (record { core = new; desks = p.desks }) t2 (ap (λ k. k.book) t2.core) keeps refl refl ok w.ending w.rest_is in
       let y : Plain Bay c = turned rest (turn_act st (does r.variables st p) run2) w.slots in
       let first : Reaches (over_bays m) c P (turned rest (turn_wait st r) qs) y =
       subst (λ d. Reaches (over_bays m) c P (turned rest (turn_wait st r) qs) (turned rest (turn_act st d run2) w.slots)) doing_is w.reaches in
@@ -160,16 +153,16 @@ module _ {E J A S : Type 0} (m : Meaning E J A Bay Job Answer) (s : Shows S) (P 
       (stepped_later st rest r run2 (completed r.variables st.0.line st.0.what done) (turned rest (turn_wait st r) qs) y first w.variables
       (subst (λ vs. Stepped st rest run2 (completed vs st.0.line st.0.what done) y) w.variables (finishes_step st rest run2 done y acted_to)))
 
-  pub step_reaches : (limit : ℕ) (st : Stated) (rest : List Stated) (r : Run) (qs : List (PlainSlot Bay Job)) (p : Desked)
-      → Ties m limit r qs p → limit ≡ p.core.next → r.ending ≡ None → r.rest ≡ st ∷ rest → (rule_of r.variables st p.core ≡ None → MayStand m s P r.variables st p)
+  pub step_reaches : (st : Stated) (rest : List Stated) (r : Run) (qs : List (PlainSlot Bay Job)) (p : Desked)
+      → Ties m r qs p → r.ending ≡ None → r.rest ≡ st ∷ rest → (rule_of r.variables st p.core ≡ None → MayStand m s P r.variables st p)
       → Stepped st rest r (desk_step r.variables st p) (turned rest (turn_start st r) qs)
-  step_reaches limit st rest r qs p t same none is ok =
+  step_reaches st rest r qs p t none is ok =
       subst (λ d. Stepped st rest r d (turned rest (turn_start st r) qs)) (sym (step_is r.variables st p))
       (subst (λ k. Stepped st rest r (goes_on st.1 r.variables st.0.line st.0.what p (rule_of r.variables st p.core)) (turned rest (start_by st (rule_of r.variables st k) r) qs)) (sym t.core)
       (by (rule_of r.variables st p.core) refl))
     where
       by : (o : Option Rule) → rule_of r.variables st p.core ≡ o → Stepped st rest r (goes_on st.1 r.variables st.0.line st.0.what p (rule_of r.variables st p.core)) (turned rest (start_by st (rule_of r.variables st p.core) r) qs)
       by (Some rule) e = subst (λ o. Stepped st rest r (goes_on st.1 r.variables st.0.line st.0.what p o) (turned rest (start_by st o r) qs)) (sym e)
-          (record { limit = limit; run = r; slots = qs; ties = t; next = same; ending = none; variables = refl; reaches = (0, refl, tt) })
+          (record { run = r; slots = qs; ties = t; ending = none; variables = refl; reaches = (0, refl, tt) })
       by None e = subst (λ o. Stepped st rest r (goes_on st.1 r.variables st.0.line st.0.what p o) (turned rest (start_by st o r) qs)) (sym e)
-          (goes_reaches limit st rest r qs p t same none is (ok e))
+          (goes_reaches st rest r qs p t none is (ok e))

@@ -1,7 +1,7 @@
 -- How the runner and its slots hold what the execution over desks holds.
-use Rattle.std.proofs.Common.{◌≡◌, ℕ, zero, suc, ◌+◌, ◌-◌, ◌<◌, ◌≤◌, Bool, true, false, List, [], ◌∷◌, ◌++◌, map, length, Option, Some, None, slice_get, set, get_or, refl, sym, ap, ◌∙◌, subst, inl, inr, arith}
+use Rattle.std.proofs.Common.{◌≡◌, ℕ, zero, suc, ◌+◌, ◌-◌, ◌<◌, ◌≤◌, ◌&&◌, Bool, true, false, List, [], ◌∷◌, ◌++◌, map, length, Option, Some, None, slice_get, set, get_or, refl, sym, ap, ◌∙◌, subst, inl, inr, arith}
 use Rattle.std.specs.Prelude.{nat_lt, if◌then◌else◌, ◌==◌}
-use Rattle.std.proofs.lemmas.Bool.{eq-eqb}
+use Rattle.std.proofs.lemmas.Bool.{eqb-true, eq-eqb}
 use Rattle.std.proofs.lemmas.Bool.Decides.{eqb_tells}
 use Rattle.fj_bay.specs.Bay.{Bay}
 use Rattle.fj_bay.specs.Jobs.{Job, Answer}
@@ -16,22 +16,20 @@ use Rattle.fj_desk.specs.Desks.{Desk, Outcome, carried, log_at, log_length, most
 use Rattle.fj_desk.specs.Doing.{Desked}
 use Rattle.fj_desk.proofs.Apart.{Each, each_imp, each_map}
 use Rattle.fj_turns.specs.Run.{Held, Stage, Run}
-use Rattle.fj_turns.specs.Turns.{matched, bump, tag_of, with_answer, told_of}
+use Rattle.fj_turns.specs.Turns.{matched, bump, is_at, with_answer, told_of}
 use Rattle.fj_turns.specs.Serving.{over_bays, desk_of, desks_of}
-use Rattle.fj_turns.proofs.Slots.{same_some, get_mapped, each_set, map_set, map_get, get_set_here, get_set_other, length_set, length_mapped, found_inside, is_below, below_more}
-use Rattle.fj_turns.proofs.Tags.{tag_in, tag_at, AreTagged}
+use Rattle.fj_turns.proofs.Slots.{same_some, and_true, get_mapped, each_set, map_set, map_get, get_set_here, get_set_other, length_set, length_mapped, found_inside, is_below, below_more}
 
 -- what is known of a pending transfer: what became of it, once so many jobs of its slot were told
 abbrev pub answer_at : List Desk → List ℕ → Pending → Option Outcome
 answer_at desks told e = if nat_lt e.number (get_or told e.slot 0) then log_at (slice_get desks e.slot) e.number else None
 
--- its job carries its identifier, and its answer stands in it once it was told
+-- its job was submitted, and its answer stands in it once it was told
 pub record IsKept (desks : List Desk) (told : List ℕ) (h : Held) : Type 0 where
   pub answer : h.answer ≡ answer_at desks told h.pending
-  pub tag : tag_at desks h.pending.slot h.pending.number ≡ h.pending.id
-  pub some : 0 < h.pending.id
+  pub placed : h.pending.number < log_length (slice_get desks h.pending.slot)
 
-pub record Ties {E J A : Type 0} (m : Meaning E J A Bay Job Answer) (limit : ℕ) (r : Run) (qs : List (PlainSlot Bay Job)) (p : Desked) : Type 0 where
+pub record Ties {E J A : Type 0} (m : Meaning E J A Bay Job Answer) (r : Run) (qs : List (PlainSlot Bay Job)) (p : Desked) : Type 0 where
   pub core : r.core ≡ p.core
   pub desks : desks_of m qs ≡ p.desks
   pub sent : r.sent ≡ map (λ q. length q.jobs) qs
@@ -42,7 +40,6 @@ pub record Ties {E J A : Type 0} (m : Meaning E J A Bay Job Answer) (limit : ℕ
   pub housed : Each (λ (u : Connected). u.slot < most_slots) r.core.units
   pub same : map (λ (h : Held). h.pending) r.book ≡ r.core.book
   pub kept : Each (IsKept p.desks r.told) r.book
-  pub tags : AreTagged limit p.desks
 
 abbrev pub more : PlainSlot Bay Job → PlainSlot Bay Job
 more q = record { start = q.start; jobs = q.jobs; told = q.told + 1 }
@@ -75,34 +72,34 @@ pub pending_more : (hs : List Held) (e : Pending) → map (λ (h : Held). h.pend
 pending_more [] e = refl
 pending_more (h ∷ hs) e = ap (λ l. h.pending ∷ l) (pending_more hs e)
 
-pub answers_pending : (o : Outcome) (hs : List Held) → map (λ (h : Held). h.pending) (with_answer o hs) ≡ map (λ (h : Held). h.pending) hs
-answers_pending o [] = refl
-answers_pending o (h ∷ hs) = by (h.pending.id == tag_of o.0) (answers_pending o hs)
+pub answers_pending : (slot number : ℕ) (o : Outcome) (hs : List Held) → map (λ (h : Held). h.pending) (with_answer slot number o hs) ≡ map (λ (h : Held). h.pending) hs
+answers_pending slot number o [] = refl
+answers_pending slot number o (h ∷ hs) = by (is_at slot number h.pending) (answers_pending slot number o hs)
   where
-    by : (b : Bool) → map (λ (h : Held). h.pending) (with_answer o hs) ≡ map (λ (h : Held). h.pending) hs
-        → (if b then record { pending = h.pending; answer = Some o } else h).pending ∷ map (λ (h : Held). h.pending) (with_answer o hs) ≡ h.pending ∷ map (λ (h : Held). h.pending) hs
+    by : (b : Bool) → map (λ (h : Held). h.pending) (with_answer slot number o hs) ≡ map (λ (h : Held). h.pending) hs
+        → (if b then record { pending = h.pending; answer = Some o } else h).pending ∷ map (λ (h : Held). h.pending) (with_answer slot number o hs) ≡ h.pending ∷ map (λ (h : Held). h.pending) hs
     by true e = ap (λ l. h.pending ∷ l) e
     by false e = ap (λ l. h.pending ∷ l) e
 
 module _ {E J A : Type 0} (m : Meaning E J A Bay Job Answer) where
   -- ---- what is found at a slot
 
-  pub log_found : (limit : ℕ) (r : Run) (qs : List (PlainSlot Bay Job)) (p : Desked) (slot number : ℕ) (q : PlainSlot Bay Job)
-      → Ties m limit r qs p → slice_get qs slot ≡ Some q → log_at (slice_get p.desks slot) number ≡ outcome (over_bays m) q.start q.jobs number
-  log_found limit r qs p slot number q t e =
+  pub log_found : (r : Run) (qs : List (PlainSlot Bay Job)) (p : Desked) (slot number : ℕ) (q : PlainSlot Bay Job)
+      → Ties m r qs p → slice_get qs slot ≡ Some q → log_at (slice_get p.desks slot) number ≡ outcome (over_bays m) q.start q.jobs number
+  log_found r qs p slot number q t e =
       ap (λ ds. log_at (slice_get ds slot) number) (sym t.desks) ∙ ap (λ d. log_at d number) (map_get (desk_of m) qs slot q e)
 
-  pub told_found : (limit : ℕ) (r : Run) (qs : List (PlainSlot Bay Job)) (p : Desked) (slot : ℕ) (q : PlainSlot Bay Job)
-      → Ties m limit r qs p → slice_get qs slot ≡ Some q → get_or r.told slot 0 ≡ q.told
-  told_found limit r qs p slot q t e = ap (λ l. get_or l slot 0) t.told ∙ get_mapped (λ x. x.told) qs slot q e
+  pub told_found : (r : Run) (qs : List (PlainSlot Bay Job)) (p : Desked) (slot : ℕ) (q : PlainSlot Bay Job)
+      → Ties m r qs p → slice_get qs slot ≡ Some q → get_or r.told slot 0 ≡ q.told
+  told_found r qs p slot q t e = ap (λ l. get_or l slot 0) t.told ∙ get_mapped (λ x. x.told) qs slot q e
 
-  pub sent_found : (limit : ℕ) (r : Run) (qs : List (PlainSlot Bay Job)) (p : Desked) (slot : ℕ) (q : PlainSlot Bay Job)
-      → Ties m limit r qs p → slice_get qs slot ≡ Some q → get_or r.sent slot 0 ≡ length q.jobs
-  sent_found limit r qs p slot q t e = ap (λ l. get_or l slot 0) t.sent ∙ get_mapped (λ x. length x.jobs) qs slot q e
+  pub sent_found : (r : Run) (qs : List (PlainSlot Bay Job)) (p : Desked) (slot : ℕ) (q : PlainSlot Bay Job)
+      → Ties m r qs p → slice_get qs slot ≡ Some q → get_or r.sent slot 0 ≡ length q.jobs
+  sent_found r qs p slot q t e = ap (λ l. get_or l slot 0) t.sent ∙ get_mapped (λ x. length x.jobs) qs slot q e
 
-  pub length_found : (limit : ℕ) (r : Run) (qs : List (PlainSlot Bay Job)) (p : Desked) (slot : ℕ) (q : PlainSlot Bay Job)
-      → Ties m limit r qs p → slice_get qs slot ≡ Some q → log_length (slice_get p.desks slot) ≡ length q.jobs
-  length_found limit r qs p slot q t e =
+  pub length_found : (r : Run) (qs : List (PlainSlot Bay Job)) (p : Desked) (slot : ℕ) (q : PlainSlot Bay Job)
+      → Ties m r qs p → slice_get qs slot ≡ Some q → log_length (slice_get p.desks slot) ≡ length q.jobs
+  length_found r qs p slot q t e =
       ap (λ ds. log_length (slice_get ds slot)) (sym t.desks) ∙ ap log_length (map_get (desk_of m) qs slot q e) ∙ length-outcomes (over_bays m) q.start q.jobs
 
   pub desk_given : (q : PlainSlot Bay Job) (job : Job) → desk_of m (given q job) ≡ carried (desk_of m q) job
@@ -112,32 +109,30 @@ module _ {E J A : Type 0} (m : Meaning E J A Bay Job Answer) where
 
   -- ---- a job is told
 
-  kept_told : (limit : ℕ) (desks : List Desk) (told : List ℕ) (slot : ℕ) (o : Outcome) (h : Held) → AreTagged limit desks → slot < length told → log_at (slice_get desks slot) (get_or told slot 0) ≡ Some o
-      → IsKept desks told h → (b : Bool) → (h.pending.id == tag_of o.0) ≡ b → IsKept desks (bump told slot) (if b then record { pending = h.pending; answer = Some o } else h)
-  kept_told limit desks told slot o h tags inside here k true is =
-      let tag : h.pending.id ≡ tag_of o.0 = elim (eqb_tells h.pending.id (tag_of o.0)) [ inl a ↦ a.1 | inr a ↦ (let z : true ≡ false = sym is ∙ a.0 in cc) ] in
-      let same : tag_at desks h.pending.slot h.pending.number ≡ tag_at desks slot (get_or told slot 0) = k.tag ∙ tag ∙ sym (ap tag_in here) in
-      let place = tags.once h.pending.slot h.pending.number slot (get_or told slot 0) (subst (λ n. 0 < n) (sym k.tag) k.some) same in
+  kept_told : (desks : List Desk) (told : List ℕ) (slot : ℕ) (o : Outcome) (h : Held) → slot < length told → log_at (slice_get desks slot) (get_or told slot 0) ≡ Some o
+      → IsKept desks told h → (b : Bool) → is_at slot (get_or told slot 0) h.pending ≡ b → IsKept desks (bump told slot) (if b then record { pending = h.pending; answer = Some o } else h)
+  kept_told desks told slot o h inside here k true is =
+      let both = and_true (h.pending.slot == slot) (h.pending.number == get_or told slot 0) is in
+      let at_slot : h.pending.slot ≡ slot = eqb-true h.pending.slot slot both.0 in
+      let at_number : h.pending.number ≡ get_or told slot 0 = eqb-true h.pending.number (get_or told slot 0) both.1 in
       let now : get_or (bump told slot) slot 0 ≡ get_or told slot 0 + 1 = get_set_here told slot (get_or told slot 0 + 1) inside in
       let below : nat_lt (get_or told slot 0) (get_or (bump told slot) slot 0) ≡ true = is_below (get_or told slot 0) (get_or (bump told slot) slot 0) (omega (arith, now)) in
       record {
         answer = sym (
-            ap (λ s. if nat_lt h.pending.number (get_or (bump told slot) s 0) then log_at (slice_get desks s) h.pending.number else None) place.0
-            ∙ ap (λ n. if nat_lt n (get_or (bump told slot) slot 0) then log_at (slice_get desks slot) n else None) place.1
+            ap (λ s. if nat_lt h.pending.number (get_or (bump told slot) s 0) then log_at (slice_get desks s) h.pending.number else None) at_slot
+            ∙ ap (λ n. if nat_lt n (get_or (bump told slot) slot 0) then log_at (slice_get desks slot) n else None) at_number
             ∙ ap (λ b. if b then log_at (slice_get desks slot) (get_or told slot 0) else None) below ∙ here);
-        tag = k.tag;
-        some = k.some;
+        placed = k.placed;
       }
-  kept_told limit desks told slot o h tags inside here k false is = record {
+  kept_told desks told slot o h inside here k false is = record {
     answer = k.answer ∙ sym (ap (λ b. if b then log_at (slice_get desks h.pending.slot) h.pending.number else None) unchanged);
-    tag = k.tag;
-    some = k.some;
+    placed = k.placed;
   }
     where
       other : h.pending.slot ≡ slot → h.pending.number ≡ get_or told slot 0 → ⊥
       other e f =
-          let tag : h.pending.id ≡ tag_of o.0 = sym k.tag ∙ ap (λ s. tag_at desks s h.pending.number) e ∙ ap (λ n. tag_at desks slot n) f ∙ ap tag_in here in
-          let z : true ≡ false = sym (eq-eqb h.pending.id (tag_of o.0) tag) ∙ is in cc
+          let z : true ≡ false =
+          sym (ap (λ b. b && (h.pending.number == get_or told slot 0)) (eq-eqb h.pending.slot slot e) ∙ eq-eqb h.pending.number (get_or told slot 0) f) ∙ is in cc
 
       unchanged : nat_lt h.pending.number (get_or (bump told slot) h.pending.slot 0) ≡ nat_lt h.pending.number (get_or told h.pending.slot 0)
       unchanged =
@@ -150,12 +145,12 @@ module _ {E J A : Type 0} (m : Meaning E J A Bay Job Answer) where
             | inr a ↦ ap (nat_lt h.pending.number) (get_set_other told slot h.pending.slot (get_or told slot 0 + 1) a.1)
           ]
 
-  pub settle_ties : (limit : ℕ) (stage : Stage) (r : Run) (qs : List (PlainSlot Bay Job)) (p : Desked) (slot : ℕ) (q : PlainSlot Bay Job) (o : Outcome)
-      → Ties m limit r qs p → slice_get qs slot ≡ Some q → outcome (over_bays m) q.start q.jobs q.told ≡ Some o → q.told < length q.jobs
-      → Ties m limit (told_of (record r { stage = stage; due = slot }) o) (set qs slot (more q)) p
-  settle_ties limit stage r qs p slot q o t e out below =
-      let was : get_or r.told slot 0 ≡ q.told = told_found limit r qs p slot q t e in
-      let here : log_at (slice_get p.desks slot) (get_or r.told slot 0) ≡ Some o = ap (log_at (slice_get p.desks slot)) was ∙ log_found limit r qs p slot q.told q t e ∙ out in
+  pub settle_ties : (stage : Stage) (r : Run) (qs : List (PlainSlot Bay Job)) (p : Desked) (slot : ℕ) (q : PlainSlot Bay Job) (o : Outcome)
+      → Ties m r qs p → slice_get qs slot ≡ Some q → outcome (over_bays m) q.start q.jobs q.told ≡ Some o → q.told < length q.jobs
+      → Ties m (told_of (record r { stage = stage; due = slot }) o) (set qs slot (more q)) p
+  settle_ties stage r qs p slot q o t e out below =
+      let was : get_or r.told slot 0 ≡ q.told = told_found r qs p slot q t e in
+      let here : log_at (slice_get p.desks slot) (get_or r.told slot 0) ≡ Some o = ap (log_at (slice_get p.desks slot)) was ∙ log_found r qs p slot q.told q t e ∙ out in
       let inside : slot < length r.told = subst (λ l. slot < length l) (sym t.told) (subst (λ n. slot < n) (sym (length_mapped (λ x. x.told) qs)) (found_inside qs slot q e)) in
       record {
         core = t.core;
@@ -165,9 +160,8 @@ module _ {E J A : Type 0} (m : Meaning E J A Bay Job Answer) where
         within = each_set (λ x. x.told ≤ length x.jobs) qs slot (more q) t.within (omega (arith, below));
         slots = length_set qs slot (more q) ∙ t.slots;
         housed = t.housed;
-        same = answers_pending o r.book ∙ t.same;
-        kept = each_map (IsKept p.desks (bump r.told slot)) (λ (h : Held). if h.pending.id == tag_of o.0 then record { pending = h.pending; answer = Some o } else h) r.book
-            (each_imp (IsKept p.desks r.told) (λ h. IsKept p.desks (bump r.told slot) (if h.pending.id == tag_of o.0 then record { pending = h.pending; answer = Some o } else h)) r.book
-            (λ h k. kept_told limit p.desks r.told slot o h t.tags inside here k (h.pending.id == tag_of o.0) refl) t.kept);
-        tags = t.tags;
+        same = answers_pending slot (get_or r.told slot 0) o r.book ∙ t.same;
+        kept = each_map (IsKept p.desks (bump r.told slot)) (λ (h : Held). if is_at slot (get_or r.told slot 0) h.pending then record { pending = h.pending; answer = Some o } else h) r.book
+            (each_imp (IsKept p.desks r.told) (λ h. IsKept p.desks (bump r.told slot) (if is_at slot (get_or r.told slot 0) h.pending then record { pending = h.pending; answer = Some o } else h)) r.book
+            (λ h k. kept_told p.desks r.told slot o h inside here k (is_at slot (get_or r.told slot 0) h.pending) refl) t.kept);
       }

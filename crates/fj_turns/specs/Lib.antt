@@ -9,3 +9,4 @@ pub mod Cutting
 pub mod Meant
 pub mod Laws
 pub mod Cases
+pub mod Few

@@ -1,12 +1,12 @@
 -- What the runner asks next, and what it is after each answer.
-use Rattle.std.specs.Prelude.{ℕ, ◌+◌, ◌==◌, ◌&&◌, not, List, [], ◌∷◌, map, filter, Option, Some, None, is_some, is_none, slice_set, get_or, if◌then◌else◌}
+use Rattle.std.specs.Prelude.{ℕ, ◌+◌, ◌==◌, ◌&&◌, not, Bool, List, [], ◌∷◌, map, filter, Option, Some, None, is_some, is_none, slice_set, get_or, if◌then◌else◌}
 use Rattle.fj_value.specs.Condition.{code_of}
 use Rattle.fj_value.specs.declared.condition.Condition.{Condition}
 use Rattle.fj_value.specs.declared.condition.Rule.{Rule}
 use Rattle.fj_statement.specs.declared.deck.Variable.{Variable}
 use Rattle.fj_world.specs.declared.ask.Ask.{Ask}
 use Rattle.fj_world.specs.declared.ask.Ask.TheVariants.{Submit, Settle, Finished}
-use Rattle.fj_bay.specs.Jobs.{Job, attach, detach, move, go, change, flush, look, resume}
+use Rattle.fj_bay.specs.Jobs.{Job, resume}
 use Rattle.fj_plain.specs.State.{Entry}
 use Rattle.fj_book.specs.Prohibitions.{prohibited}
 use Rattle.fj_plain.specs.Needs.{need_by}
@@ -148,20 +148,12 @@ asked r = if is_some r.ending then record { ask = Finished; run = r } else asked
 
 -- ---- the answer of the next job of the slot that it waits for
 
--- the identifier under which a transfer is pending; 0 has no transfer
-abbrev pub tag_of : Job → ℕ
-tag_of (attach place) = 0
-tag_of (detach place) = 0
-tag_of (move t) = t.tag
-tag_of (go how) = 0
-tag_of (change edit) = 0
-tag_of flush = 0
-tag_of (look place) = 0
-tag_of resume = 0
+-- the transfer whose job has that number at that slot has its answer
+abbrev pub is_at : ℕ → ℕ → Pending → Bool
+is_at slot number e = (e.slot == slot) && (e.number == number)
 
--- the transfer of that identifier has its answer
-abbrev pub with_answer : Outcome → List Held → List Held
-with_answer it hs = map (λ (h : Held). if h.pending.id == tag_of it.0 then record { pending = h.pending; answer = Some it } else h) hs
+abbrev pub with_answer : ℕ → ℕ → Outcome → List Held → List Held
+with_answer slot number it hs = map (λ (h : Held). if is_at slot number h.pending then record { pending = h.pending; answer = Some it } else h) hs
 
 -- or it is the statement's own job
 abbrev pub stage_told : Stage → ℕ → ℕ → Outcome → Stage
@@ -171,4 +163,4 @@ stage_told (Acting does) slot number it = Acting does
 stage_told (Awaiting own last next) slot number it = if (own == slot) && (last == number) then Acting (next it) else Awaiting own last next
 
 abbrev pub told_of : Run → Outcome → Run
-told_of r it = record r { told = bump r.told r.due; book = with_answer it r.book; stage = stage_told r.stage r.due (get_or r.told r.due 0) it }
+told_of r it = record r { told = bump r.told r.due; book = with_answer r.due (get_or r.told r.due 0) it r.book; stage = stage_told r.stage r.due (get_or r.told r.due 0) it }

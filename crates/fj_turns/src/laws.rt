@@ -1,5 +1,6 @@
 // What holds of every deck, as contracts of functions with nothing to do.
 ghost use Rattle.fj_turns.specs.Laws.{RunnersArePlain, RunsExecute, RunsLeaveResults, EntriesStand, StopsCut, WorldsAreCut};
+ghost use Rattle.fj_turns.specs.Few.{GivesFewJobs};
 ghost use Rattle.fj_turns.specs.Meant.{CutsAgree};
 ghost use Rattle.fj_turns.specs.Standing.{PendingAwaitsNothing};
 
@@ -41,4 +42,9 @@ pub fn cuts_agree()
 /// A READ or WRITE that will be pending awaits no answer.
 pub fn pending_awaits_nothing()
     ensures { PendingAwaitsNothing }
+{}
+
+/// Each statement that is come to gives at most two jobs for each slot.
+pub fn gives_few_jobs()
+    ensures { GivesFewJobs }
 {}
