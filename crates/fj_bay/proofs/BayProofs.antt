@@ -19,6 +19,7 @@ use Rattle.fj_bay.specs.Jobs.{Moving, Job, attach, detach, move, go, change, flu
 use Rattle.fj_bay.specs.Serving.{serve, answered, attached, detached, moved_in, moved_so, gone, changed, looked}
 use Rattle.fj_bay.specs.Spoilt.{first_difference, first_change, bytes_left, MayStop}
 use Rattle.fj_bay.specs.BayLaws.{IsHalting, end_of_file, error, MeetsCondition, HaltsByTransfers, HaltsUntilResumed, SkipsInHalts, TransfersElse, LeavesBytes, MovesOn, DetachesEnded, IsEmptyOrTakes, StopsWhereBytesChange, KeepsConnection, KeepsItsConnection}
+use Rattle.fj_bay.proofs.Differences.{no_difference}
 use Rattle.fj_bay.proofs.Keeping.{Kept, kept_same, ended_kept, moved_kept, transfer_kept}
 
 -- ---- halts
@@ -254,10 +255,6 @@ empty_or_takes bay none = (
 )
 
 -- ---- bytes
-
-no_difference : (xs : List ℕ) → first_difference xs xs ≡ None
-no_difference [] = refl
-no_difference (x ∷ xs) = ap (λ b. if b then option_map (λ n. suc n) (first_difference xs xs) else Some 0) (eq-eqb x x refl) ∙ ap (option_map (λ n. suc n)) (no_difference xs)
 
 pub stops_where_bytes_change : StopsWhereBytesChange
 unfolding serve

@@ -1,5 +1,5 @@
 -- What holds of every bay and every job, in the words of connections and halts.
-use Rattle.std.specs.Prelude.{◌≡◌, ◌≢◌, ◌↔◌, ℕ, [], ◌∷◌, ◌++◌, Option, Some, None, if◌then◌else◌}
+use Rattle.std.specs.Prelude.{◌≡◌, ◌≢◌, ◌↔◌, ℕ, List, [], ◌∷◌, ◌++◌, Option, Some, None, if◌then◌else◌, take, slice_get}
 use Rattle.fj_value.specs.declared.condition.Condition.{Condition}
 use Rattle.fj_value.specs.declared.condition.Condition.TheVariants.{Fine, EndOfFile, Error}
 use Rattle.fj_value.specs.declared.edit.EditModes.{EditModes}
@@ -12,7 +12,7 @@ use Rattle.fj_transfer.specs.Transfer.{with_undefined, transfer_by}
 use Rattle.fj_bay.specs.Bay.{Bay}
 use Rattle.fj_bay.specs.Jobs.{Moving, Looked, looked_at, Job, attach, detach, move, go, change, flush, look, resume, done, skipped}
 use Rattle.fj_bay.specs.Serving.{serve, answered, with_done}
-use Rattle.fj_bay.specs.Spoilt.{first_change, MayStop}
+use Rattle.fj_bay.specs.Spoilt.{first_difference, first_change, MayStop}
 
 pub data IsHalting : Condition → Type 0 where
   end_of_file : IsHalting EndOfFile
@@ -81,6 +81,12 @@ IsEmptyOrTakes = (bay : Bay) → bay.connection ≡ None →
     × ((edit : EditModes) → serve bay (change edit) ≡ answered bay (change edit) (Error 1))
     × (serve bay flush ≡ answered bay flush Fine)
     × ((place : Option Looked) → serve bay (look place) ≡ answered bay (look place) (Error 1))
+
+-- where two files differ first: all bytes before that place are the same, and there they are not; nowhere else is such a place
+abbrev pub FindsFirstDifference : Type 0
+FindsFirstDifference = (old new : List ℕ) →
+    (first_difference old new ≡ None ↔ (old ≡ new))
+    × ((n : ℕ) → first_difference old new ≡ Some n → (take n old ≡ take n new) × (slice_get old n ≢ slice_get new n))
 
 -- a job that never stops changes no byte
 abbrev pub StopsWhereBytesChange : Type 0

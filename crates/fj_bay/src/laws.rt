@@ -1,5 +1,5 @@
 // What holds of every bay and every job, each law the contract of a function with nothing to do.
-ghost use Rattle.fj_bay.specs.BayLaws.{HaltsByTransfers, HaltsUntilResumed, ResumesAlone, SkipsInHalts, TransfersElse, LeavesBytes, MovesOn, DetachesEnded, IsEmptyOrTakes, StopsWhereBytesChange, KeepsItsConnection};
+ghost use Rattle.fj_bay.specs.BayLaws.{HaltsByTransfers, HaltsUntilResumed, ResumesAlone, SkipsInHalts, TransfersElse, LeavesBytes, MovesOn, DetachesEnded, IsEmptyOrTakes, StopsWhereBytesChange, FindsFirstDifference, KeepsItsConnection};
 
 /// A halt is set by an error or the end of the file that a transfer meets, and by nothing else.
 pub fn halts_by_transfers()
@@ -54,4 +54,9 @@ pub fn stops_where_bytes_change()
 /// A bay keeps its connection, under its name and with its modes.
 pub fn keeps_its_connection()
     ensures { KeepsItsConnection }
+{}
+
+/// Where two files differ first.
+pub fn finds_first_difference()
+    ensures { FindsFirstDifference }
 {}
