@@ -20,15 +20,7 @@ use Rattle.fj_statement.specs.declared.statement.Control.TheVariants as control
 use Rattle.fj_modes.specs.declared.unit.UnitRef.{UnitRef}
 use Rattle.fj_modes.specs.declared.unit.UnitRef.TheVariants as unit
 use Rattle.fj_statement.specs.declared.statement.Transfer.{Transfer}
-<<<<<<< HEAD
-use Rattle.fj_connect.specs.Connection.{Connection}
 use Rattle.fj_store.specs.Variables.{Variables, with_value, given_back, undefined_at, moved_of, is_at}
-||||||| 4f3f9dc
-use Rattle.fj_connect.specs.Connection.{Connection}
-use Rattle.fj_plain.specs.Variables.{Variables, with_value, given_back, undefined_at, moved_of, is_at}
-=======
-use Rattle.fj_plain.specs.Variables.{Variables, with_value, given_back, undefined_at, moved_of, is_at}
->>>>>>> b6bcd1d21dc8347b52560dec1c2e650e92130c21
 use Rattle.fj_plain.specs.Items.{kind_of, cell_at, cells_of, number_for}
 use Rattle.fj_plain.specs.Needs.{transfer_places, group_places, if_given, number_given}
 use Rattle.fj_plain.specs.Telling.{is_asynchronous, with_size}
