@@ -231,13 +231,13 @@ step_seated variables st p h = subst (λ d. Seated d.0.core.units) (sym (step_is
 cut_seated : (variables : List Variable) (deck : List Stated) (index : ℕ) (p : Desked) (statement : Stated) (before : Desked) → Seated p.core.units → cut_desks variables index deck p ≡ Some (statement, before) → Seated before.core.units
 cut_seated variables [] index p statement before h e = cc
 cut_seated variables (st ∷ more) zero p statement before h e =
-    let here : p ≡ before = ap (λ (o : Option (Stated × Desked)). elim o as (λ _. Desked) [ | None ↦ p | Some x ↦ x.1 ]) e in subst (λ q. Seated q.core.units) here h
+    let here : p ≡ before = ap (λ (o : Option (Stated × Desked)). elim o as (λ _. Desked) [ None ↦ p | Some x ↦ x.1 ]) e in subst (λ q. Seated q.core.units) here h
 cut_seated variables (st ∷ more) (suc index) p statement before h e =
     by (desk_step variables st p).1 refl (λ f. cut_seated variables more index (desk_step variables st p).0 statement before (step_seated variables st p h) f)
   where
     by : (o : Option Ending) → (desk_step variables st p).1 ≡ o → (cut_desks variables index more (desk_step variables st p).0 ≡ Some (statement, before) → Seated before.core.units) → Seated before.core.units
     by (Some x) f later =
-        absurd (let z : None ≡ Some (statement, before) = sym (ap (λ o. elim o as (λ _. Option (Stated × Desked)) [ | None ↦ cut_desks variables index more (desk_step variables st p).0 | Some y ↦ None ]) f) ∙ e in cc)
+        absurd (let z : None ≡ Some (statement, before) = sym (ap (λ o. elim o as (λ _. Option (Stated × Desked)) [ None ↦ cut_desks variables index more (desk_step variables st p).0 | Some y ↦ None ]) f) ∙ e in cc)
     by None f later = later (sym (cut_on variables index st more p f) ∙ e)
 
 pub gives_few_jobs : GivesFewJobs
