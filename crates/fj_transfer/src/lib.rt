@@ -2,9 +2,13 @@
 #![tactic(auto)]
 
 mod change;
+mod explicit;
+mod fields;
 mod formatted;
+mod hand;
 mod laws;
 mod print;
+mod reader;
 mod stored;
 #[cfg(test)]
 mod tests;
