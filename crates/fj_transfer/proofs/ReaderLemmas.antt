@@ -6,13 +6,15 @@ use Rattle.fj_value.specs.declared.condition.Condition.TheVariants.{Fine, EndOfR
 use Rattle.fj_value.specs.declared.value.Cell.{Cell}
 use Rattle.fj_outside.specs.declared.errors.Stop.{Stop}
 use Rattle.fj_connect.specs.Connection.{Connection}
-use Rattle.fj_transfer.specs.Transfer.{Done, Ways, input_done}
+use Rattle.fj_connect.specs.Linked.{Linked, connection_of}
+use Rattle.fj_transfer.specs.Places.{at_place}
+use Rattle.fj_transfer.specs.Transfer.{Done, Ways, input_done, explicit_ended}
 use Rattle.fj_control.specs.declared.step.Step.{Step}
 use Rattle.fj_control.specs.declared.step.Step.TheVariants as told
 use Rattle.std.proofs.lemmas.Bool.{lt-ltb, le-ltb, cases_lt}
 use Rattle.fj_control.specs.Steps.{Given, gives, done, no_data}
 use Rattle.fj_control.specs.Walk.{Walk, GivesWhatIsDue, due, given, is_left, is_end, items_behind}
-use Rattle.fj_transfer.specs.Input.{Progress, carried_out}
+use Rattle.fj_transfer.specs.Input.{Progress, Ended, carried_out}
 use Rattle.fj_transfer.specs.Reader.{items_left, parts_left, comes}
 use Rattle.fj_transfer.specs.declared.reader.Reader.{Reader}
 
@@ -79,3 +81,12 @@ fine_done ways cells count condition e = let P : Condition → Type 0 = λ k. as
 
 pub record_done : (ways : Ways) (cells : List Cell) (count : Option ℕ) (condition : Condition) → condition ≡ EndOfRecord → as_done ways.end_of_record cells count condition ≡ input_done ways cells count condition
 record_done ways cells count condition e = let P : Condition → Type 0 = λ k. as_done ways.end_of_record cells count k ≡ input_done ways cells count k in subst P (sym e) refl
+
+-- the same file after reads
+pub same_read : {F : Type 0} (bytes : F → List ℕ) (old new : Linked F) → new ≡ record old { file = new.file; hand = new.hand } → bytes new.file ≡ bytes old.file → connection_of bytes new ≡ connection_of bytes old
+same_read bytes old new rest same = ap (connection_of bytes) rest ∙ ap (λ b. record { modes = old.modes; name = old.name; bytes = b; spot = old.spot }) same
+
+-- the end of the file is where it is, wherever an input began
+pub ended_anywhere : (old c : Connection) (place : Option ℕ) (advance : Bool) (e : Ended) → explicit_ended old c advance e ≡ explicit_ended old (at_place place c) advance e
+ended_anywhere old c None advance e = refl
+ended_anywhere old c (Some place) advance e = refl

@@ -57,6 +57,10 @@ found_of c (Met condition) = Err condition
 abbrev pub progress_of : Connection → Reader → List Cell → Progress
 progress_of c r cells = record { hand = hand_of c r.hand r.text; at = r.at; cells = cells; count = r.count }
 
+-- an input that begins at a record
+abbrev pub begins : Connection → Hand → List ℕ → List Cell → Progress
+begins c hand text cells = record { hand = hand_of c hand text; at = 0; cells = cells; count = 0 }
+
 -- the items that are left, with what is due of the format
 abbrev pub items_left : Reader → List ℕ
 items_left r = drop r.next r.order.now

@@ -176,7 +176,7 @@ pub struct Performed {
 }
 
 /// Leaves the connection and the items of an input that ended with a condition.
-fn finish<F: FileStore>(
+pub fn finish<F: FileStore>(
     connection: &mut Connection<F>,
     reader: &Reader,
     cells: &mut Cells,
@@ -233,7 +233,7 @@ fn finish<F: FileStore>(
 }
 
 /// Leaves the connection and the items of an input that found no record to begin in.
-fn refuse<F: FileStore>(
+pub fn refuse<F: FileStore>(
     connection: &mut Connection<F>,
     cells: &mut Cells,
     condition: Condition,
@@ -340,7 +340,7 @@ fn first_here<F: FileStore>(alloc: Global, connection: &mut Connection<F>) -> Re
 }
 
 /// The record that an input begins in, at the position or at a place of a stream.
-fn first_found<F: FileStore>(
+pub fn first_found<F: FileStore>(
     alloc: Global,
     connection: &mut Connection<F>,
     place: Option<u64>,
