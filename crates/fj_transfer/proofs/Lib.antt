@@ -4,4 +4,6 @@ pub mod UnformattedLemmas
 pub mod PrintedLemmas
 pub mod FormattedLemmas
 pub mod TransferProofs
+pub mod FieldLemmas
+pub mod ReaderLemmas
 pub mod Cases

@@ -7,4 +7,5 @@ pub mod Input
 pub mod Printing
 pub mod Places
 pub mod Transfer
+pub mod Reader
 pub mod TransferLaws

@@ -139,6 +139,10 @@ output_done old cells new feed = if nat_lt longest_file (length new.bytes + feed
 
 -- ---- formatted input
 
+-- no record was there to begin in
+abbrev pub unread : Connection → Connection → Ways
+unread old c = record { old = old; end_of_file = past_end c; end_of_record = old; fine = old }
+
 -- under an explicit format, from the first record on; the end of the file leaves the connection behind its last record
 abbrev pub explicit_ended : Connection → Connection → Bool → Ended → Done
 explicit_ended old c advance e =
@@ -146,7 +150,7 @@ explicit_ended old c advance e =
 
 abbrev pub explicit_read : Connection → Connection → Bool → EditModes → (ℕ → List Given) → Moved → Result AtHand Condition → Done
 explicit_read old c advance modes control moved (Err condition) =
-    input_done (record { old = old; end_of_file = past_end c; end_of_record = old; fine = old }) moved.cells None condition
+    input_done (unread old c) moved.cells None condition
 explicit_read old c advance modes control moved (Ok hand) =
     explicit_ended old c advance (explicit_input advance modes (control (length moved.order)) moved.order (record { hand = hand; at = 0; cells = moved.cells; count = 0 }))
 

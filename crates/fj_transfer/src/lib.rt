@@ -2,9 +2,14 @@
 #![tactic(auto)]
 
 mod change;
+mod explicit;
+mod fields;
 mod formatted;
+mod hand;
+mod input;
 mod laws;
 mod print;
+mod reader;
 mod stored;
 #[cfg(test)]
 mod tests;
@@ -13,7 +18,9 @@ mod unformatted;
 mod writer;
 
 pub use change::EditChange;
+pub use explicit::Performed;
 pub use formatted::write_lines;
+pub use input::read_lines;
 pub use laws::{
     direct_records_stand_apart, errors_leave_the_connection, items_are_in_order,
     stream_output_keeps_the_others, unformatted_records_come_back,

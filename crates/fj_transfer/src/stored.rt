@@ -24,7 +24,8 @@ fn stored_width(kind: Kind) -> u32
     }
 }
 
-fn kind_at(cells: &[Cell], at: u32) -> Kind
+/// The kind of a cell.
+pub fn kind_at(cells: &[Cell], at: u32) -> Kind
     requires { at < length cells.now }
     ensures { result ≡ kind_at cells.now at }
 {
