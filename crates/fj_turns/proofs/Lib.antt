@@ -13,3 +13,5 @@ pub mod Meant
 pub mod Pending
 pub mod Seated
 pub mod FewJobs
+pub mod Counts
+pub mod Steady
