@@ -15,3 +15,4 @@ pub mod Seated
 pub mod FewJobs
 pub mod Counts
 pub mod Steady
+pub mod Bounded
