@@ -23,7 +23,7 @@ use Rattle.fj_turns.proofs.Ties.{Ties}
 use Rattle.fj_turns.proofs.Reaching.{reach_then, MayStand}
 use Rattle.fj_turns.proofs.Statements.{turned, Stepped, step_reaches}
 
-goes_is_turn : (st : Stated) (rest : List Stated) (r : Run) → goes (st ∷ rest) r ≡ by_turn rest (turn_start st (record r { rest = st ∷ rest }))
+pub goes_is_turn : (st : Stated) (rest : List Stated) (r : Run) → goes (st ∷ rest) r ≡ by_turn rest (turn_start st (record r { rest = st ∷ rest }))
 goes_is_turn st rest r = by (turn_start st (record r { rest = st ∷ rest }))
   where
     by : (t : Turn) → (elim t as (λ _. Asked) [ Pauses ask run ↦ record { ask = ask; run = run } | Passes run ↦ goes rest run | Stops run ↦ record { ask = Finished; run = run } ]) ≡ by_turn rest t

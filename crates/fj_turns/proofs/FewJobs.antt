@@ -38,7 +38,7 @@ use Rattle.fj_desk.specs.Acting.{finishes_behind, transferred, unless_refused, o
 use Rattle.fj_desk.specs.Desking.{told_core, desk_step, goes_on, completed, fresh}
 use Rattle.fj_desk.proofs.Apart.{Differs}
 use Rattle.fj_desk.proofs.Opening.{free_found}
-use Rattle.fj_turns.specs.Turns.{halted_slots, ends_halts, rule_of}
+use Rattle.fj_turns.specs.Turns.{halted_slots, ends_halts, doing_told, rule_of}
 use Rattle.fj_turns.specs.Inside.{waited_at, does, cut_desks}
 use Rattle.fj_turns.specs.Few.{AtMost, most_jobs, GivesFewJobs}
 use Rattle.fj_turns.proofs.Seated.{Seated, slot_of, few_seated, filter_seated, with_seated, found_number, inserted_seated}
@@ -194,13 +194,12 @@ few_halted told (u ∷ us) = by (tells_cause told u.number) (few_halted told us)
     by false h = omega (arith, h)
 
 -- all that a statement does once its transfers are told
-pub does_fair : (variables : List Variable) (st : Stated) (p : Desked) → Seated p.core.units → Fair most_jobs (does variables st p)
-does_fair variables st p h =
-    let told : List Entry = waited_at st p in
-    let new : Core = told_core variables st.0.line told p.core in
-    let slots : List ℕ = halted_slots told p.core.units in
-    let few : length p.core.units ≤ 16 = few_seated p.core.units h in
-    let halted : length slots ≤ length p.core.units = few_halted told p.core.units in
+pub told_fair : (variables : List Variable) (st : Stated) (told : List Entry) (core : Core) → Seated core.units → Fair most_jobs (doing_told variables st told core)
+told_fair variables st told core h =
+    let new : Core = told_core variables st.0.line told core in
+    let slots : List ℕ = halted_slots told core.units in
+    let few : length core.units ≤ 16 = few_seated core.units h in
+    let halted : length slots ≤ length core.units = few_halted told core.units in
     let k : ℕ = 30 - length slots in
     halts_fair slots new (doing st.1 variables st.0.line new st.0.what (condition_of told)) (suc (suc k)) most_jobs (omega (arith, few, halted)) h
     (doing_fair k st.1 variables st.0.line new st.0.what (condition_of told) h (omega (arith, few, halted)))
@@ -226,7 +225,7 @@ step_seated variables st p h = subst (λ d. Seated d.0.core.units) (sym (step_is
   where
     by : (o : Option Rule) → Seated (goes_on st.1 variables st.0.line st.0.what p o).0.core.units
     by (Some rule) = h
-    by None = subst (λ d. Seated (completed variables st.0.line st.0.what d).0.core.units) (acts_are variables st p) (acted_seated most_jobs p.desks (does variables st p) (does_fair variables st p h))
+    by None = subst (λ d. Seated (completed variables st.0.line st.0.what d).0.core.units) (acts_are variables st p) (acted_seated most_jobs p.desks (does variables st p) (told_fair variables st (waited_at st p) p.core h))
 
 cut_seated : (variables : List Variable) (deck : List Stated) (index : ℕ) (p : Desked) (statement : Stated) (before : Desked) → Seated p.core.units → cut_desks variables index deck p ≡ Some (statement, before) → Seated before.core.units
 cut_seated variables [] index p statement before h e = cc
@@ -243,4 +242,4 @@ cut_seated variables (st ∷ more) (suc index) p statement before h e =
 pub gives_few_jobs : GivesFewJobs
 gives_few_jobs variables deck files index statement before e =
     let h = cut_seated variables deck index (fresh variables files) statement before (record { inside = tt; slots = tt; numbers = tt }) e in
-    fair_most most_jobs (does variables statement before) (does_fair variables statement before h)
+    fair_most most_jobs (does variables statement before) (told_fair variables statement (waited_at statement before) before.core h)

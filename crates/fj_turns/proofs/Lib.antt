@@ -13,3 +13,6 @@ pub mod Meant
 pub mod Pending
 pub mod Seated
 pub mod FewJobs
+pub mod Counts
+pub mod Steady
+pub mod Bounded

@@ -71,11 +71,10 @@ slots_housed told us h =
     each_map (λ slot. slot < most_slots) (λ (u : Connected). u.slot) (filter (λ (u : Connected). tells_cause told u.number) us)
     (each_filter (λ (u : Connected). u.slot < most_slots) (λ (u : Connected). tells_cause told u.number) us h)
 
-pub does_keeps : (variables : List Variable) (st : Stated) (p : Desked) → Housed p.core.units → Keeps (told_core variables st.0.line (waited_at st p) p.core) (does variables st p)
-does_keeps variables st p h =
-    let told : List Entry = waited_at st p in
-    let new : Core = told_core variables st.0.line told p.core in
-    halts_keep (halted_slots told p.core.units) new (doing st.1 variables st.0.line new st.0.what (condition_of told)) h (slots_housed told p.core.units h)
+pub told_keeps : (variables : List Variable) (st : Stated) (told : List Entry) (core : Core) → Housed core.units → Keeps (told_core variables st.0.line told core) (doing_told variables st told core)
+told_keeps variables st told core h =
+    let new : Core = told_core variables st.0.line told core in
+    halts_keep (halted_slots told core.units) new (doing st.1 variables st.0.line new st.0.what (condition_of told)) h (slots_housed told core.units h)
     (doing_keeps st.1 variables st.0.line new st.0.what (condition_of told) h)
 
 module _ {E J A : Type 0} (m : Meaning E J A Bay Job Answer) where
@@ -143,7 +142,7 @@ module _ {E J A S : Type 0} (m : Meaning E J A Bay Job Answer) (s : Shows S) (P 
       let doing_is : doing_told w.run.variables st told w.run.core ≡ does r.variables st p =
       ap (λ k. doing_told w.run.variables st told k) w.ties.core ∙ ap (λ vs. doing_told vs st told p.core) w.variables in
       let t2 = tell_ties m st told w.run w.slots p w.ties in
-      let keeps = subst (λ vs. Keeps (told_core vs st.0.line told p.core) (does r.variables st p)) (sym w.variables) (does_keeps r.variables st p (subst (λ k. Housed k.units) w.ties.core w.ties.housed)) in
+      let keeps = subst (λ vs. Keeps (told_core vs st.0.line told p.core) (does r.variables st p)) (sym w.variables) (told_keeps r.variables st (waited_at st p) p.core (subst (λ k. Housed k.units) w.ties.core w.ties.housed)) in
       let acted_to = act_reaches m s P (does r.variables st p) new 0 r.variables st p rest run2 w.slots (record { core = new; desks = p.desks }) t2 (ap (λ k. k.book) t2.core) keeps refl refl ok w.ending w.rest_is in
       let y : Plain Bay c = turned rest (turn_act st (does r.variables st p) run2) w.slots in
       let first : Reaches (over_bays m) c P (turned rest (turn_wait st r) qs) y =

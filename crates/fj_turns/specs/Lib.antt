@@ -10,3 +10,4 @@ pub mod Meant
 pub mod Laws
 pub mod Cases
 pub mod Few
+pub mod Bounds

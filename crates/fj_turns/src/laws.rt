@@ -1,5 +1,6 @@
 // What holds of every deck, as contracts of functions with nothing to do.
 ghost use Rattle.fj_turns.specs.Laws.{RunnersArePlain, RunsExecute, RunsLeaveResults, EntriesStand, StopsCut, WorldsAreCut};
+ghost use Rattle.fj_turns.specs.Bounds.{AsksKeepToSlots, AsksEnd};
 ghost use Rattle.fj_turns.specs.Few.{GivesFewJobs};
 ghost use Rattle.fj_turns.specs.Meant.{CutsAgree};
 ghost use Rattle.fj_turns.specs.Standing.{PendingAwaitsNothing};
@@ -47,4 +48,14 @@ pub fn pending_awaits_nothing()
 /// Each statement that is come to gives at most two jobs for each slot.
 pub fn gives_few_jobs()
     ensures { GivesFewJobs }
+{}
+
+/// Whatever is answered, a job is given to a slot that there is, and an answer is awaited only where a job is not told.
+pub fn asks_keep_to_slots()
+    ensures { AsksKeepToSlots }
+{}
+
+/// Whatever is answered, the runner has finished after so many asks for each statement.
+pub fn asks_end()
+    ensures { AsksEnd }
 {}

@@ -8,6 +8,7 @@ mod laws;
 
 pub use cases::{fine_ends_no_halt_alone, skipped_tell_their_cause_alone};
 pub use laws::{
-    cuts_agree, entries_stand, gives_few_jobs, pending_awaits_nothing, runners_are_plain,
-    runs_execute, runs_leave_results, stops_cut, worlds_are_cut,
+    asks_end, asks_keep_to_slots, cuts_agree, entries_stand, gives_few_jobs,
+    pending_awaits_nothing, runners_are_plain, runs_execute, runs_leave_results, stops_cut,
+    worlds_are_cut,
 };
