@@ -8,7 +8,7 @@ use Rattle.fj_format.specs.declared.item.FormatItem.TheVariants as item
 use Rattle.fj_format.specs.declared.item.FormatItem.TheOpen.{FormatItem-F}
 use Rattle.fj_format.specs.declared.item.FormatItem.TheFolds.{fold-FormatItem, fold_out-FormatItem, map-FormatItem}
 use Rattle.fj_format.specs.Unfolding.{Steps, repeated, pass, written_out, again, is_group, group_step, from_last_group, first_some, again_items, height}
-use Rattle.fj_format.specs.UnfoldingLaws.{written_out-Group, is_group-Group}
+use Rattle.fj_format.proofs.UnfoldingLaws.{written_out-Group, is_group-Group}
 use Rattle.fj_control.specs.Steps.{is_data, has_data, parentheses_step, right_parentheses, RevertsToTheLastGroup, RevertsToTheStart}
 use Rattle.std.specs.List.{list_any}
 use Rattle.fj_control.proofs.Walks.{pass-drop}

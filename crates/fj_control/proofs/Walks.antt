@@ -3,7 +3,7 @@ use Rattle.std.proofs.Common.{ℕ, zero, suc, ◌+◌, ◌-◌, ◌*◌, ◌≡�
 use Rattle.std.proofs.lemmas.List.{drop_all, take_more_set, take_more, length-set, length-take}
 use Rattle.fj_format.specs.declared.item.FormatItem.{FormatItem}
 use Rattle.fj_format.specs.Unfolding.{Elementary, Steps, repeated, pass, written_out, height, height_step, work, work_step}
-use Rattle.fj_format.specs.UnfoldingLaws.{written_out-Group, height-Group, work-Group, work-positive}
+use Rattle.fj_format.proofs.UnfoldingLaws.{written_out-Group, height-Group, work-Group, work-positive}
 use Rattle.fj_format.specs.declared.item.FormatItem.TheVariants as item
 use Rattle.fj_control.specs.declared.walker.Repeat.{Repeat}
 use Rattle.fj_format.specs.declared.item.FormatItem.TheFolds.{fold-FormatItem}

@@ -6,7 +6,7 @@ use Rattle.fj_value.specs.declared.edit.Edit.{Edit}
 use Rattle.fj_value.specs.declared.edit.Edit.TheVariants as edit
 use Rattle.fj_value.specs.declared.kind.Kind.{Kind}
 use Rattle.fj_value.specs.declared.kind.Kind.TheVariants.{Int4, Int8, Logical, Chars}
-use Rattle.fj_edit_in.specs.BlankLaws.{trimmed-blank}
+use Rattle.fj_edit_in.proofs.BlankLaws.{trimmed-blank}
 use Rattle.fj_value.specs.Reading.{truth_read}
 use Rattle.fj_edit_in.specs.InputField.{input_field, read_by, integer_value, bits_value, logical_value, logical_kind, signed_number, unsigned_number}
 

@@ -3,3 +3,4 @@ pub mod Halves
 pub mod Leading
 pub mod Scanned
 pub mod Trimmed
+pub mod BlankLaws

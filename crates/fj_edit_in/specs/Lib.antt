@@ -1,3 +1,2 @@
 pub mod InputField
 pub mod Scan
-pub mod BlankLaws

@@ -5,7 +5,7 @@ use Rattle.std.proofs.lemmas.List.{length-replicate}
 use Rattle.std.proofs.Math.ListN.{get_or-replicate}
 use Rattle.std.proofs.lemmas.Bool.{cases_lt}
 use Rattle.std.proofs.lemmas.Bool.Decides.{nat_tests}
-use Rattle.fj_edit_in.specs.BlankLaws.{trimmed-blank}
+use Rattle.fj_edit_in.proofs.BlankLaws.{trimmed-blank}
 use Rattle.fj_edit_in.specs.InputField.{trimmed}
 use Rattle.fj_edit_out.specs.OutputField.{adjusted}
 

@@ -8,7 +8,7 @@ use Rattle.fj_format.specs.declared.symbol.Symbol.TheVariants.{Digit, Open, Clos
 use Rattle.fj_format.specs.Marks.{symbol, string, outside}
 use Rattle.fj_format.specs.Grammar.{letter, number, stop, digit, no_least, no_width, comma, plain, counted, integer, characters, skip, group, items, none, one, format, IsFormat}
 use Rattle.fj_format.specs.Unfolding.{edit, right, pass}
-use Rattle.fj_format.specs.UnfoldingLaws.{written_out-Field, written_out-Group, written_out-Skip}
+use Rattle.fj_format.proofs.UnfoldingLaws.{written_out-Field, written_out-Group, written_out-Skip}
 
 -- Blanks and case have no effect outside strings; a doubled delimiter is one character.
 one_text : outside (codes "( i5 ,'it''s A' )") ≡ symbol Open ∷ letter I ∷ symbol (Digit 5) ∷ symbol Comma ∷ string (codes "it's A") ∷ symbol Close ∷ []

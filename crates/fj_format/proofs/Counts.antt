@@ -7,7 +7,7 @@ use Rattle.fj_value.specs.declared.edit.Edit.{Edit}
 use Rattle.fj_format.specs.declared.item.FormatItem.{FormatItem}
 use Rattle.fj_format.specs.declared.item.FormatItem.TheVariants as item
 use Rattle.fj_format.specs.Unfolding.{edit, slash, Steps, repeated, written_out, pass}
-use Rattle.fj_format.specs.UnfoldingLaws.{written_out-Field, written_out-Group, written_out-Slash}
+use Rattle.fj_format.proofs.UnfoldingLaws.{written_out-Field, written_out-Group, written_out-Slash}
 
 length-repeated : (n : ℕ) (steps : Steps) → length (repeated n steps) ≡ n * length steps
 length-repeated zero steps = sym (zero-mul (length steps))

@@ -8,7 +8,7 @@ use Rattle.fj_format.specs.declared.place.Tabbing.TheVariants.{To, Left, Right}
 use Rattle.fj_format.specs.Marks.{Marks}
 use Rattle.fj_format.specs.Grammar.{times, integer_edit, moved, Item, plain, counted, Body, integer, logical, characters, general, tab, skip, slash, colon, sign_mode, blank_mode, decimal_mode, quoted, group, Items, items, More, none, one, IsFormatOf, empty, format}
 use Rattle.fj_format.specs.Unfolding.{height, height_step}
-use Rattle.fj_format.specs.UnfoldingLaws.{height-Field, height-Group, height-Str, height-Tab, height-Left, height-Right, height-Skip, height-Slash, height-Colon, height-Mode}
+use Rattle.fj_format.proofs.UnfoldingLaws.{height-Field, height-Group, height-Str, height-Tab, height-Left, height-Right, height-Skip, height-Slash, height-Colon, height-Mode}
 
 height-moved : (direction : Tabbing) (n : ℕ) → fold-FormatItem ℕ height_step (moved direction n) ≡ 0
 height-moved To n = height-Tab n

@@ -12,3 +12,4 @@ pub mod Printed
 pub mod Decided
 pub mod Cases
 pub mod Withins
+pub mod UnfoldingLaws

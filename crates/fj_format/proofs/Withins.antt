@@ -15,7 +15,7 @@ use Rattle.fj_format.specs.Marks.{Marks, symbol}
 use Rattle.fj_format.specs.Grammar.{Number, number, times, integer_edit, moved, Least, no_least, least, Width, no_width, width, Item, plain, counted, Body, integer, logical, characters, general, tab, skip, slash, colon, sign_mode, blank_mode, decimal_mode, quoted, group, Items, items, More, none, one, IsFormatOf, empty, format}
 use Rattle.fj_format.specs.Unfolding.{Elementary, edit, Steps, repeated, written_out, pass}
 use Rattle.fj_format.specs.Unfolding as step
-use Rattle.fj_format.specs.UnfoldingLaws.{written_out-Field, written_out-Group, written_out-Str, written_out-Tab, written_out-Left, written_out-Right, written_out-Skip, written_out-Slash, written_out-Colon, written_out-Mode}
+use Rattle.fj_format.proofs.UnfoldingLaws.{written_out-Field, written_out-Group, written_out-Str, written_out-Tab, written_out-Left, written_out-Right, written_out-Skip, written_out-Slash, written_out-Colon, written_out-Mode}
 use Rattle.fj_format.specs.Within.{IsPositive, IsLeastWithin, IsEditWithin, IsStepWithin}
 
 abbrev AllWithin : Steps → Type 0

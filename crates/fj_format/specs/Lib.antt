@@ -1,5 +1,4 @@
 pub mod Unfolding
-pub mod UnfoldingLaws
 pub mod Symbols
 pub mod Marks
 pub mod Grammar

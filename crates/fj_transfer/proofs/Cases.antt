@@ -17,7 +17,7 @@ use Rattle.fj_format.specs.declared.item.FormatItem.{FormatItem}
 use Rattle.fj_format.specs.declared.item.FormatItem.TheVariants.{Field, Group, Str, Skip, Tab}
 use Rattle.fj_format.specs.Unfolding as step
 use Rattle.fj_format.specs.Unfolding.{Steps, pass, again}
-use Rattle.fj_format.specs.UnfoldingLaws.{written_out-Field, written_out-Group, written_out-Skip, written_out-Str, written_out-Tab, is_group-Field, is_group-Group, is_group-Str, is_group-Tab}
+use Rattle.fj_format.proofs.UnfoldingLaws.{written_out-Field, written_out-Group, written_out-Skip, written_out-Str, written_out-Tab, is_group-Field, is_group-Group, is_group-Str, is_group-Tab}
 use Rattle.fj_control.specs.Steps.{control, rounds}
 use Rattle.fj_line.specs.Actions.{AtHand, first_record, output}
 use Rattle.fj_control.specs.Paired.{paired}

@@ -1,7 +1,7 @@
 use Rattle.std.proofs.Common.{◌+◌, ◌||◌, refl, sym, ap, ◌∙◌, arith, drop}
 use Rattle.fj_format.specs.declared.item.FormatItem.TheVariants.{Group}
 use Rattle.fj_format.specs.Unfolding.{written_out, pass}
-use Rattle.fj_format.specs.UnfoldingLaws.{written_out-Field, written_out-Slash}
+use Rattle.fj_format.proofs.UnfoldingLaws.{written_out-Field, written_out-Slash}
 use Rattle.fj_control.specs.Steps.{has_data}
 use Rattle.fj_control.proofs.Reversion.{data_here, group_data, field_data, no_data_repeated}
 use Rattle.fj_control.proofs.again.+data.Goals as goal
