@@ -10,5 +10,6 @@ pub mod BreakLaws
 pub mod Ahead
 pub mod Pieces
 pub mod Parts
+pub mod Assigning
 pub mod Meaning
 pub mod Naming
