@@ -75,6 +75,10 @@ impl<F: FileStore> FileStore for Buffered<F> {
 
     ghost tells = { λ buffered. F.tells (file_in buffered) };
 
+    ghost told = { λ buffered. F.told (file_in buffered) };
+
+    ghost decided = { λ buffered. F.decided (file_in buffered) };
+
     ghost bytes = { λ buffered. F.bytes (file_in buffered) };
 
     ghost size = { λ buffered. F.size (file_in buffered) };

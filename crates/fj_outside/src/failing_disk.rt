@@ -1,5 +1,5 @@
 // A disk in memory of which some calls fail, and some calls on its files.
-ghost use Rattle.std.specs.Prelude.{◌≡◌, ◌≢◌, ◌⊎◌, ◌<◌, ◌≤◌, ◌==◌, [], List, ℕ, IfOk, OnOk, OnErr, IfSome, IfNone, IsTrue, IsErr, ◌↔◌, Some, None, false, is_err};
+ghost use Rattle.std.specs.Prelude.{◌≡◌, ◌≢◌, ◌⊎◌, ◌<◌, ◌≤◌, ◌==◌, [], List, ℕ, IfOk, OnOk, OnErr, IfSome, IfNone, IsTrue, IsErr, ◌↔◌, Some, None, false, is_err, true, refl};
 ghost use Rattle.std.specs.Option.{option_copied};
 ghost use Rattle.std.specs.FinMap as map;
 ghost use Rattle.std.specs.BTreeMap.{IsEmpty};
@@ -101,6 +101,10 @@ impl Disk for FailingDisk {
     type File = FailingFile;
 
     ghost tells = { λ _. Unit {0} };
+
+    ghost told = { λ _. true };
+
+    ghost decided = { λ _. (λ _. tt, λ _. refl) };
 
     ghost held = { disk_held };
 

@@ -1,5 +1,5 @@
 // A file in memory of which some calls fail.
-ghost use Rattle.std.specs.Prelude.{◌≡◌, ◌⊎◌, ◌+◌, ◌-◌, ◌<◌, ◌≤◌, ◌++◌, [], List, ℕ, length, take, drop, min, max, IfOk, OnOk, OnErr, IsErr, IsTrue, ◌↔◌};
+ghost use Rattle.std.specs.Prelude.{◌≡◌, ◌⊎◌, ◌+◌, ◌-◌, ◌<◌, ◌≤◌, ◌++◌, [], List, ℕ, length, take, drop, min, max, IfOk, OnOk, OnErr, IsErr, IsTrue, ◌↔◌, true, refl};
 ghost use Rattle.fj_outside.specs.Faults.{Rose};
 ghost use Rattle.fj_outside.specs.Bytes.{written, IsPartlyWritten};
 ghost use Rattle.fj_outside.specs.Plan.{FailsNext, after_call};
@@ -71,6 +71,10 @@ impl FileStore for FailingFile {
     ghost use Rattle.fj_outside.specs.FailingFile.{file_bytes, file_calls, file_count};
 
     ghost tells = { λ _. Unit {0} };
+
+    ghost told = { λ _. true };
+
+    ghost decided = { λ _. (λ _. tt, λ _. refl) };
 
     ghost bytes = { file_bytes };
 

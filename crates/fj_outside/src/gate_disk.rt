@@ -1,5 +1,5 @@
 // A disk in memory with a gate between two of its files.
-ghost use Rattle.std.specs.Prelude.{◌≡◌, ◌≢◌, ◌≤◌, ◌==◌, [], List, ℕ, IfOk, OnOk, OnErr, IfSome, IfNone, IsTrue, IsOk, Some, None, ◌↔◌};
+ghost use Rattle.std.specs.Prelude.{◌≡◌, ◌≢◌, ◌≤◌, ◌==◌, [], List, ℕ, IfOk, OnOk, OnErr, IfSome, IfNone, IsTrue, IsOk, Some, None, ◌↔◌, true, refl};
 ghost use Rattle.std.specs.Option.{option_copied};
 ghost use Rattle.std.specs.Str.{bytes_eq};
 ghost use Rattle.std.specs.FinMap as map;
@@ -79,6 +79,10 @@ impl Disk for GateDisk {
     type File = GateFile;
 
     ghost tells = { λ _. Unit {0} };
+
+    ghost told = { λ _. true };
+
+    ghost decided = { λ _. (λ _. tt, λ _. refl) };
 
     ghost held = { disk_held };
 

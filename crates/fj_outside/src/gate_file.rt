@@ -1,5 +1,5 @@
 // A file in memory at a gate.
-ghost use Rattle.std.specs.Prelude.{◌≡◌, ◌≢◌, ◌-◌, ◌<◌, ◌≤◌, ◌++◌, List, ℕ, length, take, drop, min, IfOk, OnOk, OnErr, IsOk, false};
+ghost use Rattle.std.specs.Prelude.{◌≡◌, ◌≢◌, ◌-◌, ◌<◌, ◌≤◌, ◌++◌, List, ℕ, length, take, drop, min, IfOk, OnOk, OnErr, IsOk, false, true, refl};
 ghost use Rattle.fj_outside.specs.Faults.{Rose};
 ghost use Rattle.fj_outside.specs.Bytes.{written, IsPartlyWritten};
 
@@ -55,6 +55,10 @@ impl FileStore for GateFile {
     ghost use Rattle.fj_outside.specs.Gate.{file_bytes, file_waits, file_count};
 
     ghost tells = { λ _. Unit {0} };
+
+    ghost told = { λ _. true };
+
+    ghost decided = { λ _. (λ _. tt, λ _. refl) };
 
     ghost bytes = { file_bytes };
 

@@ -1,5 +1,5 @@
 // A disk in memory.
-ghost use Rattle.std.specs.Prelude.{◌≡◌, List, ℕ, OnOk, OnErr};
+ghost use Rattle.std.specs.Prelude.{◌≡◌, List, ℕ, OnOk, OnErr, true, refl};
 ghost use Rattle.std.specs.Option.{option_copied};
 ghost use Rattle.std.specs.FinMap as map;
 ghost use Rattle.std.specs.FinSet as set;
@@ -81,6 +81,10 @@ impl Disk for MemoryDisk {
     type File = MemoryFile;
 
     ghost tells = { λ _. Unit {0} };
+
+    ghost told = { λ _. true };
+
+    ghost decided = { λ _. (λ _. tt, λ _. refl) };
 
     ghost held = { λ d. d };
 

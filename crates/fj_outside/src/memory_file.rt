@@ -1,5 +1,5 @@
 // A file in memory.
-ghost use Rattle.std.specs.Prelude.{◌≡◌, ◌+◌, ◌≤◌, [], ◌++◌, List, ℕ, length, take, drop, IfOk, OnOk, OnErr};
+ghost use Rattle.std.specs.Prelude.{◌≡◌, ◌+◌, ◌≤◌, [], ◌++◌, List, ℕ, length, take, drop, IfOk, OnOk, OnErr, true, refl};
 
 use crate::errors::{Failed, Stop};
 use crate::outside::FileStore;
@@ -47,6 +47,10 @@ impl MemoryFile {
 
 impl FileStore for MemoryFile {
     ghost tells = { λ _. Unit {0} };
+
+    ghost told = { λ _. true };
+
+    ghost decided = { λ _. (λ _. tt, λ _. refl) };
 
     ghost bytes = { λ s. s };
 

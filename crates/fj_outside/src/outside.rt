@@ -2,7 +2,7 @@
 //
 // Each counts its faults. An object may tell what it holds: then `tells` is true of it, and goes on being true. The
 // clauses that speak of what it holds begin with that premise; over an object that does not tell they are void.
-ghost use Rattle.std.specs.Prelude.{◌≡◌, ◌≢◌, ◌⊎◌, ◌+◌, ◌-◌, ◌<◌, ◌≤◌, ◌==◌, [], ◌++◌, List, ℕ, length, take, drop, min, max, IfOk, OnOk, OnErr, IfSome, IfNone, IsTrue, ◌↔◌, Some, None, is_err, false};
+ghost use Rattle.std.specs.Prelude.{◌≡◌, ◌≢◌, ◌⊎◌, ◌+◌, ◌-◌, ◌<◌, ◌≤◌, ◌==◌, [], ◌++◌, List, ℕ, length, take, drop, min, max, IfOk, OnOk, OnErr, IfSome, IfNone, IsTrue, ◌↔◌, Some, None, is_err, false, Bool};
 ghost use Rattle.std.specs.FinMap as map;
 ghost use Rattle.fj_outside.specs.Faults.{Rose};
 ghost use Rattle.fj_outside.specs.Refusals.{CountsFailure, has_failed};
@@ -71,6 +71,9 @@ pub trait Sink {
 pub trait FileStore: Drop {
     /// Whether it tells its bytes.
     ghost tells: { Self → Type 0 };
+
+    /// The same as a truth value.
+    ghost told: { Self → Bool };
 
     /// Its bytes.
     ghost bytes: { Self → List ℕ };
@@ -144,6 +147,8 @@ pub trait FileStore: Drop {
     /// How many faults it had since it came out of the disk. The count stays at `u64::MAX` once it is there.
     fn faults(&self) -> u64
         ensures { result ≡ count self.now };
+
+    ghost decided: { (it : Self) → (IsTrue (told it) → tells it) × (tells it → IsTrue (told it)) };
 }
 
 /// Files by name. A file is at home, or is out and its name in use; then it exists too.
@@ -152,6 +157,9 @@ pub trait Disk {
 
     /// Whether it tells what it holds.
     ghost tells: { Self → Type 0 };
+
+    /// The same as a truth value.
+    ghost told: { Self → Bool };
 
     /// Its files, the names in use, and the names that are hurt.
     ghost held: { Self → Holdings };
@@ -227,4 +235,6 @@ pub trait Disk {
     /// there.
     fn faults(&self) -> u64
         ensures { result ≡ count self.now };
+
+    ghost decided: { (it : Self) → (IsTrue (told it) → tells it) × (tells it → IsTrue (told it)) };
 }

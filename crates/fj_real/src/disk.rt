@@ -1,5 +1,6 @@
 // The files of the current folder.
-ghost use Rattle.std.specs.Prelude.{◌≡◌, ◌≢◌, ◌≤◌, IfOk, IfSome};
+ghost use Rattle.std.specs.Prelude.{◌≡◌, ◌≢◌, ◌≤◌, IfOk, IfSome, false};
+ghost use Rattle.std.proofs.Common.{rules};
 ghost use Rattle.std.specs.FinMap as map;
 ghost use Rattle.std.specs.FinSet as set;
 ghost use Rattle.fj_outside.specs.Faults.{Rose};
@@ -73,6 +74,10 @@ impl<R: Files<File = File>> Disk for RealDisk<R> {
     type File = RealFile;
 
     ghost tells = { λ _. ⊥ };
+
+    ghost told = { λ _. false };
+
+    ghost decided = { Prim.search rules };
 
     ghost held = { λ _. record { files = map.empty; in_use = set.empty; hurt = set.empty } };
 

@@ -1,5 +1,6 @@
 // A file of the operating system.
-ghost use Rattle.std.specs.Prelude.{◌≡◌, ◌⊎◌, ◌≤◌, ◌-◌, ◌+◌, ◌<◌, ◌^◌, [], length, min, max, IfOk, OnOk, OnErr};
+ghost use Rattle.std.specs.Prelude.{◌≡◌, ◌⊎◌, ◌≤◌, ◌-◌, ◌+◌, ◌<◌, ◌^◌, [], length, min, max, IfOk, OnOk, OnErr, false};
+ghost use Rattle.std.proofs.Common.{rules};
 ghost use Rattle.fj_outside.specs.Faults.{Rose};
 
 use fj_outside::{Failed, FileStore, Stop};
@@ -68,6 +69,10 @@ fn write_whole(file: &File, at: u64, piece: &[u8]) -> usize
 
 impl FileStore for RealFile {
     ghost tells = { λ _. ⊥ };
+
+    ghost told = { λ _. false };
+
+    ghost decided = { Prim.search rules };
 
     ghost bytes = { λ _. [] };
 

@@ -1,5 +1,5 @@
 // Records that are read through a window, and what is asked of the file for them.
-ghost use Rattle.std.specs.Prelude.{length};
+ghost use Rattle.std.specs.Prelude.{length, true, refl};
 
 use fj_outside::{Buffered, Failed, FileStore, MemoryFile, Stop};
 use fj_seqrec::{RecordRead, read_record};
@@ -17,6 +17,10 @@ struct Counting {
 
 impl FileStore for Counting {
     ghost tells = { λ _. Unit {0} };
+
+    ghost told = { λ _. true };
+
+    ghost decided = { λ _. (λ _. tt, λ _. refl) };
 
     ghost bytes = { λ file. file.inner };
 

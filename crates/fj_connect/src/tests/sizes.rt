@@ -1,5 +1,6 @@
 // Files of any length that hold one byte over and over: the longest file, and what is asked of a file.
-ghost use Rattle.std.specs.Prelude.{◌≡◌, ◌⊎◌, ◌≤◌, [], length, min, max, IfOk, OnOk, OnErr};
+ghost use Rattle.std.specs.Prelude.{◌≡◌, ◌⊎◌, ◌≤◌, [], length, min, max, IfOk, OnOk, OnErr, false};
+ghost use Rattle.std.proofs.Common.{rules};
 ghost use Rattle.std.specs.FinMap as map;
 ghost use Rattle.std.specs.FinSet as set;
 
@@ -21,6 +22,10 @@ struct Plain {
 
 impl FileStore for Plain {
     ghost tells = { λ _. ⊥ };
+
+    ghost told = { λ _. false };
+
+    ghost decided = { Prim.search rules };
 
     ghost bytes = { λ _. [] };
 
@@ -69,6 +74,10 @@ impl Disk for PlainDisk {
     type File = Plain;
 
     ghost tells = { λ _. ⊥ };
+
+    ghost told = { λ _. false };
+
+    ghost decided = { Prim.search rules };
 
     ghost held = { λ _. record { files = map.empty; in_use = set.empty; hurt = set.empty } };
 

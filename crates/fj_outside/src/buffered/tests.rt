@@ -1,5 +1,5 @@
 // A file with a window beside the same file without one, with the calls that are made, and with each of these failing.
-ghost use Rattle.std.specs.Prelude.{◌≡◌, ◌≤◌, ◌<◌, length, IsTrue};
+ghost use Rattle.std.specs.Prelude.{◌≡◌, ◌≤◌, ◌<◌, length, IsTrue, true, refl};
 ghost use Rattle.fj_outside.specs.Faults.{Rose};
 
 use crate::{Buffered, Failed, FileStore, MemoryFile, Stop};
@@ -33,6 +33,10 @@ impl Counting {
 
 impl FileStore for Counting {
     ghost tells = { λ _. Unit {0} };
+
+    ghost told = { λ _. true };
+
+    ghost decided = { λ _. (λ _. tt, λ _. refl) };
 
     ghost bytes = { λ file. file.inner };
 
