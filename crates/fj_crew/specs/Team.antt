@@ -3,6 +3,7 @@ use Rattle.std.specs.Prelude.{◌≡◌, ◌⊎◌, ◌+◌, ◌<◌, ◌≤◌,
 use Rattle.fj_slot.specs.Serving.{Meaning}
 use Rattle.fj_world.specs.declared.ask.Ask.TheVariants.{Finished}
 use Rattle.fj_world.specs.Conduct.{Conduct, Idle}
+use Rattle.fj_world.specs.Leading.{LeadsTo}
 use Rattle.fj_world.specs.Plain.{asked_next}
 use Rattle.fj_queue.specs.declared.view.View.{View}
 use Rattle.fj_queue.specs.declared.seats.SubmitterOf.{SubmitterOf}
@@ -62,4 +63,5 @@ module _ {S C G J A P T R L : Type 0} (m : Meaning G J A P T R) (c : Conduct S T
     pub owed : OwesAsSaid c new seats'
     pub answered : AllAnswered seats → c.over new ≡ false → AllAnswered seats'
     pub stopped : c.stopped script ≡ false → c.stopped new ≡ true → SomeTold seats'
+    pub leads : LeadsTo c.leads script new
     pub alone : (b : Begun m c script seats) → CrewGoes m c (c.stopped script) (AllAnswered seats) (asked_next m c b.state b.slots) (c.left script) new Finished seats'

@@ -1,6 +1,7 @@
 //! A script served over queues, and the slots that come back.
 ghost use Rattle.std.specs.Prelude.{true, false, ◌≡◌, ◌+◌, ◌<◌, ◌≤◌, ◌^◌, ℕ, List, length, Some, IfOk, IfErr};
 ghost use Rattle.fj_world.specs.Conduct.{Idle};
+ghost use Rattle.fj_world.specs.Leading.{LeadsTo};
 ghost use Rattle.fj_world.specs.Rack.{At};
 ghost use Rattle.fj_world.specs.Plain.{PlainSlot, asked_next};
 ghost use Rattle.fj_world.specs.Fits.{SlotsFit};
@@ -50,6 +51,9 @@ where
 
     // The jobs submitted and told are those of which the script says so.
     ensures owed { IfOk result (λ it. OwesAsSaid S.conduct script.new it) }
+
+    // Nothing but its calls was done with the script.
+    ensures leads { IfOk result (λ it. LeadsTo S.conduct.leads script.old script.new) }
 
     // A script is told a stop of a slot that has stopped.
     ensures stopped { IfOk result (λ it. S.conduct.stopped script.old ≡ false → S.conduct.stopped script.new ≡ true → SomeStopped it) }

@@ -1,6 +1,7 @@
 //! A script's asks, served by queues.
 ghost use Rattle.std.specs.Prelude.{◌≡◌, ◌⊎◌, ◌≤◌, true, false, length};
 ghost use Rattle.fj_world.specs.Conduct.{Idle};
+ghost use Rattle.fj_world.specs.Leading.{LeadsTo};
 ghost use Rattle.fj_world.specs.declared.ask.Ask.TheVariants.{Finished};
 ghost use Rattle.fj_world.specs.Plain.{asked_next};
 ghost use Rattle.fj_crew.specs.Seats.{Paired};
@@ -33,6 +34,7 @@ pub(crate) fn serve<S: Script, R: Wait>(
     ensures owed { OwesAsSaid S.conduct script.new seats.new.items }
     ensures answered { AllAnswered seats.old.items → S.conduct.over script.new ≡ false → AllAnswered seats.new.items }
     ensures stopped { S.conduct.stopped script.old ≡ false → S.conduct.stopped script.new ≡ true → SomeTold seats.new.items }
+    ensures leads { LeadsTo S.conduct.leads script.old script.new }
     ensures alone { (b : Begun S.Gear.meaning S.conduct script.old seats.old.items)
         → CrewGoes S.Gear.meaning S.conduct (S.conduct.stopped script.old) (AllAnswered seats.old.items) (asked_next S.Gear.meaning S.conduct b.state b.slots) (S.conduct.left script.old) script.new Finished seats.new.items }
 {

@@ -17,7 +17,7 @@ use Rattle.fj_turns.specs.Laws.{plain_bays}
 
 -- a runner that is its own plain data
 abbrev pub plain_runs : Shows Run
-plain_runs = record { left = λ r. 0; uses = λ r. 0; owed = λ r slot. 0; due = λ r. Idle; over = λ r. false; stopped = λ r. false; state = λ r. Some r }
+plain_runs = record { left = λ r. 0; uses = λ r. 0; owed = λ r slot. 0; due = λ r. Idle; over = λ r. false; stopped = λ r. false; leads = λ r r'. Unit {0}; state = λ r. Some r }
 
 -- what so many entries come to
 abbrev pub came_to : Plain Bay (run_conduct plain_runs) → Result

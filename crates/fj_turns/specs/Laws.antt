@@ -1,6 +1,7 @@
 -- The laws of the runner over plain bays, for every script that shows a runner.
-use Rattle.std.specs.Prelude.{ℕ, Some}
+use Rattle.std.specs.Prelude.{ℕ, Bool, Option, Some}
 use Rattle.fj_slot.specs.Serving.{Meaning}
+use Rattle.fj_world.specs.Conduct.{Due}
 use Rattle.fj_bay.specs.Bay.{Bay}
 use Rattle.fj_bay.specs.Jobs.{Job, Answer}
 use Rattle.fj_bay.specs.Serving.{serve}
@@ -27,21 +28,34 @@ plain_bays = record {
   faults = λ e. e.1;
 }
 
+-- what a script shows of which nothing is said but that it shows a runner
+pub record Seen (S : Type 0) : Type 0 where
+  pub left : S → ℕ
+  pub uses : S → ℕ
+  pub owed : S → ℕ → ℕ
+  pub due : S → Due
+  pub over : S → Bool
+  pub stopped : S → Bool
+  pub state : S → Option Run
+
+abbrev pub shown : {S : Type 0} → Seen S → Shows S
+shown s = record { left = s.left; uses = s.uses; owed = s.owed; due = s.due; over = s.over; stopped = s.stopped; leads = λ old new. Unit {0}; state = s.state }
+
 -- served alone, the runner comes to the execution over desks, by states that stand inside a statement
 abbrev pub RunnersArePlain : Type 0
-RunnersArePlain = (s : Shows Run) → RunnerIsPlain plain_bays s
+RunnersArePlain = (s : Seen Run) → RunnerIsPlain plain_bays (shown s)
 
 abbrev pub RunsExecute : Type 0
-RunsExecute = (s : Shows Run) → ExecutesDecks plain_bays s
+RunsExecute = (s : Seen Run) → ExecutesDecks plain_bays (shown s)
 
 abbrev pub RunsLeaveResults : Type 0
-RunsLeaveResults = (s : Shows Run) → LeavesResult plain_bays s
+RunsLeaveResults = (s : Seen Run) → LeavesResult plain_bays (shown s)
 
 abbrev pub EntriesStand : Type 0
-EntriesStand = (s : Shows Run) → EachEntry plain_bays s
+EntriesStand = (s : Seen Run) → EachEntry plain_bays (shown s)
 
 abbrev pub StopsCut : Type 0
-StopsCut = (s : Shows Run) → CutAtStop plain_bays s
+StopsCut = (s : Seen Run) → CutAtStop plain_bays (shown s)
 
 abbrev pub WorldsAreCut : Type 0
-WorldsAreCut = (s : Shows Run) → WorldIsCut plain_bays s
+WorldsAreCut = (s : Seen Run) → WorldIsCut plain_bays (shown s)

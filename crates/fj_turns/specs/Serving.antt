@@ -19,14 +19,15 @@ use Rattle.fj_turns.specs.Turns.{asked, told_of}
 abbrev pub over_bays : {E J A : Type 0} → Meaning E J A Bay Job Answer → Meaning E J A Bay Job Answer
 over_bays m = record { state = m.state; task = m.task; reply = m.reply; serve = serve; spoilt = m.spoilt; faults = m.faults }
 
--- what a script of runners shows: the numbers that it keeps to, the ask that is due, whether it is over or was told a stop, and the runner
-pub record Shows (S : Type 0) : Type 0 where
+-- what a script of runners shows: the numbers that it keeps to, the ask that is due, whether it is over or was told a stop, what a call may leave of it, and the runner
+pub record Shows (S : Type 0) : Type 1 where
   pub left : S → ℕ
   pub uses : S → ℕ
   pub owed : S → ℕ → ℕ
   pub due : S → Due
   pub over : S → Bool
   pub stopped : S → Bool
+  pub leads : S → S → Type 0
   pub state : S → Option Run
 
 abbrev pub run_conduct : {S : Type 0} → Shows S → Conduct S Job Answer
@@ -37,6 +38,7 @@ run_conduct s = record {
   due = s.due;
   over = s.over;
   stopped = s.stopped;
+  leads = s.leads;
   State = Run;
   state = s.state;
   ask = λ r. (asked r).ask;

@@ -4,6 +4,7 @@ pub mod Fitting
 pub mod AloneSteps
 pub mod Kept
 pub mod Runs
+pub mod Leads
 pub mod Running
 pub mod Commute
 pub mod Front

@@ -25,6 +25,8 @@ pub record Conduct (S T R : Type 0) : Type 1 where
   pub over : S → Bool
   -- it was told a stop, and as plain data is what it was when it asked
   pub stopped : S → Bool
+  -- what one call may leave of it, whatever is asked and answered
+  pub leads : S → S → Type 0
   -- what it is as plain data, where it tells; what it asks next, and what it is then; what it is after an answer
   pub State : Type 0
   pub state : S → Option State
@@ -66,6 +68,7 @@ pub record Asks {S G J A P T R : Type 0} (m : Meaning G J A P T R) (c : Conduct 
   pub over : c.over old ≡ true → c.over new ≡ true
   pub ends : c.over new ≡ true → result ≡ Finished
   pub stops : c.stopped new ≡ true → (c.stopped old ≡ true) × (c.state new ≡ c.state old)
+  pub leads : c.leads old new
   pub told : (s : c.State) → c.state old ≡ Some s → c.over new ≡ false → (c.state new ≡ Some (c.asked s)) × IsAsk m (c.ask s) result
 
 abbrev pub IsSubmitting : Due → Type 0
@@ -102,6 +105,7 @@ pub record Takes {S T R J : Type 0} (c : Conduct S T R) (old : S) (number : Resu
   pub over : c.over old ≡ true → c.over new ≡ true
   pub refused : OnErr number (c.over new ≡ true)
   pub stops : c.stopped new ≡ true → c.stopped old ≡ true
+  pub leads : c.leads old new
   pub took : (s : c.State) → c.state old ≡ Some s → c.over new ≡ false → IfOk number (λ n. c.state new ≡ Some (c.took s n))
 
 -- the answer of a job, over plain data
@@ -124,4 +128,5 @@ pub record Tells {S G J A P T R : Type 0} (m : Meaning G J A P T R) (c : Conduct
   pub stops : c.stopped new ≡ true → (is_done it ≡ false) × (c.state new ≡ c.state old)
   -- a stop is kept
   pub keeps : is_done it ≡ false → c.stopped new ≡ true
+  pub leads : c.leads old new
   pub told : (s : c.State) (reply : T × R) → c.state old ≡ Some s → c.over new ≡ false → IsAnswer m it reply → c.state new ≡ Some (c.told s reply)

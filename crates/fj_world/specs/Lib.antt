@@ -1,4 +1,5 @@
 pub mod Conduct
+pub mod Leading
 pub mod Rack
 pub mod Scene
 pub mod Plain

@@ -2,6 +2,7 @@
 ghost use Rattle.std.specs.Prelude.{false, ◌≡◌, ℕ, ◌+◌, ◌<◌, ◌≤◌, ◌^◌, true, List, length, Some, is_some, slice_get};
 ghost use Rattle.fj_slot.specs.Ledger.{Ledger, can_begin};
 ghost use Rattle.fj_world.specs.Conduct.{Idle};
+ghost use Rattle.fj_world.specs.Leading.{LeadsTo};
 ghost use Rattle.fj_world.specs.Rack.{At};
 ghost use Rattle.fj_world.specs.Plain.{PlainSlot, asked_next};
 ghost use Rattle.fj_world.specs.Fits.{SlotsFit};
@@ -30,6 +31,9 @@ pub fn run_alone<S: Script>(script: &mut S, slots: &mut Slots<S::Gear>)
 
     // The jobs submitted and told are those of which the script says so.
     ensures owed { OwesAsSaid S.conduct script.new slots.new }
+
+    // Nothing but its calls was done with the script.
+    ensures leads { LeadsTo S.conduct.leads script.old script.new }
     ensures alone { (s : S.conduct.State) (qs : List (PlainSlot S.Gear.State S.Gear.Task)) → S.conduct.state script.old ≡ Some s
         → S.conduct.stopped script.old ≡ false → SlotsFit S.Gear.meaning qs slots.old → ServedAlone S.Gear.meaning S.conduct (asked_next S.Gear.meaning S.conduct s qs) script.new slots.new }
 {

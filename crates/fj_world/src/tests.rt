@@ -90,6 +90,7 @@ impl Script for Asker {
       due = λ s. if s.number_due then Submitting s.slot else (if s.answer_due then Settling s.slot else Idle);
       over = λ s. s.over;
       stopped = λ s. s.stopped;
+      leads = λ _ _. Unit {0};
       State = ℕ;
       state = λ _. None;
       ask = λ _. Finished;

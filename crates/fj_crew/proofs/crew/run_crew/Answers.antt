@@ -149,3 +149,6 @@ returns-in-Err-open-clause-lost_counted g c =
     let m = g.S.Gear.Engine.meaning in let con = g.S.Script.conduct in
     let plans : ℕ → Option _ = plan_at m con c.args.script.now c.args.slots.slots in
     back_counted m plans c.args.slots.slots c.open.new.slots.slots c.shut-in-Err-open.new.slots.slots c.open.new.seats.items c.in-Err-open.ensures.opened c.shut-in-Err-open.ensures.shut (plan_names m con c.args.script.now c.args.slots.slots) c.requires.counted
+
+pub returns-in-Ok-done-clause-leads : goal.returns-in-Ok-done-clause-leads
+returns-in-Ok-done-clause-leads g c = (on_ok c.employ-queues.result.1 c.in-Ok-done.field-0 c.in-Ok-done.is c.employ-queues.ensures.served).leads

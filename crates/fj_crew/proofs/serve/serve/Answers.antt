@@ -1,6 +1,7 @@
 use Rattle.std.proofs.Common.{◌≡◌, ℕ, ◌+◌, ◌<◌, ◌≤◌, ◌^◌, true, false, length, Some, slice_get, set, refl, sym, ap, ◌∙◌, subst, arith}
 use Rattle.std.proofs.lemmas.List.{length-set}
 use Rattle.std.proofs.lemmas.Bool.{false_from_ne_true}
+use Rattle.fj_world.proofs.Leads.{led_once, led_twice}
 use Rattle.fj_world.specs.declared.ask.Ask.TheVariants.{Submit, Settle, Finished}
 use Rattle.fj_world.specs.Conduct.{KeepsTo, IsDueAsk}
 use Rattle.fj_world.specs.Plain.{asked_next}
@@ -25,6 +26,7 @@ loop-slot-init g c =
       same = same_itself c.args.seats.now.items;
       answered = λ all _. all;
       stopped = λ was is. absurd (let o = (asks.stops is).0 in cc);
+      leads = led_once k.leads c.args.script.now c.ask-hand.new.self asks.leads;
       goes = λ b. first_goes m k c.args.script.now c.ask-hand.new.self c.ask-hand.result c.args.seats.now.items b asks;
     }
 
@@ -65,6 +67,7 @@ loop-slot-preserved-in-Submit g c =
       paired = c.submit_at-number.ensures.paired;
       same = same_set c.args.seats.now.items old new c.in-Submit.slot found.0 did.seat found.1 did.after kept.0 kept.1 kept.3 kept.4 inv.same;
       answered = λ all _. submit_answers m k old new c.in-Submit.slot c.submit_at-number.result found.0 (inv.answered all going) found.1 did;
+      leads = led_twice k.leads c.args.script.now c.loop-slot.script c.took.new.self c.ask-hand-in-Submit.new.self inv.leads c.took.ensures.leads asks.leads;
       stopped = λ was is. submit_told m k c.loop-slot.script c.took.new.self c.ask-hand-in-Submit.new.self c.ask-hand-in-Submit.result new c.submit_at-number.result (λ e. (inv.stopped was e).0) going c.took.ensures asks is;
       goes = λ b. submit_goes m k (asked_next m k b.state b.slots) (k.left c.args.script.now) c.loop-slot.script c.took.new.self c.ask-hand-in-Submit.new.self c.loop-slot.hand c.ask-hand-in-Submit.result
           old new c.in-Submit.slot c.in-Submit.job c.submit_at-number.result found.0 (inv.goes b) going hand found.1 did c.took.ensures asks;
@@ -97,6 +100,7 @@ loop-slot-preserved g c =
       paired = c.settle_at-told.ensures.paired;
       same = same_set c.args.seats.now.items old new c.in-Settle.slot found.0 did.seat found.1 did.after numbers.plan numbers.hands_is (omega (arith, numbers.sent_is)) (omega (arith, numbers.heard_is)) inv.same;
       answered = λ all on. settle_answers m k c.loop-slot.script c.told.new.self c.ask-hand-in-Settle.new.self c.ask-hand-in-Settle.result old new c.in-Settle.slot c.settle_at-told.result found.0 (inv.answered all going) found.1 did c.told.ensures asks on;
+      leads = led_twice k.leads c.args.script.now c.loop-slot.script c.told.new.self c.ask-hand-in-Settle.new.self inv.leads c.told.ensures.leads asks.leads;
       stopped = λ was is. settle_told m k c.loop-slot.script c.told.new.self c.ask-hand-in-Settle.new.self c.ask-hand-in-Settle.result old new c.in-Settle.slot c.settle_at-told.result found.0 found.1 did c.told.ensures asks is;
       goes = λ b. settle_goes m k (asked_next m k b.state b.slots) (k.left c.args.script.now) c.args.seats.now.items c.loop-slot.script c.told.new.self c.ask-hand-in-Settle.new.self c.loop-slot.hand c.ask-hand-in-Settle.result
           old new c.in-Settle.slot c.settle_at-told.result found.0 b.planned inv.same (inv.goes b) going keeps.1 hand found.1 (omega (arith, owes, keeps.2)) (λ all. inv.answered all going c.in-Settle.slot found.0 found.1) did c.told.ensures asks;

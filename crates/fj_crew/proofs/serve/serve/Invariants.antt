@@ -1,6 +1,7 @@
 use Rattle.std.proofs.Common.{◌≡◌, ◌≤◌, true, false, length}
 use Rattle.fj_world.specs.Conduct.{IsDueAsk, KeepsTo}
 use Rattle.fj_world.specs.declared.ask.Ask.TheVariants.{Finished}
+use Rattle.fj_world.specs.Leading.{LeadsTo}
 use Rattle.fj_world.specs.Plain.{asked_next}
 use Rattle.fj_crew.specs.Seats.{Paired}
 use Rattle.fj_crew.specs.Fits.{SeatsSame, OwesAsSaid, FewJobs, AllAnswered, SomeTold, Begun, CrewGoes}
@@ -18,6 +19,7 @@ invariant-loop-slot g l = record {
   same : SeatsSame l.fn.seats.items l.seats.items;
   answered : AllAnswered l.fn.seats.items → g.S.Script.conduct.over l.script ≡ false → AllAnswered l.seats.items;
   stopped : g.S.Script.conduct.stopped l.fn.script ≡ false → g.S.Script.conduct.stopped l.script ≡ true → (g.S.Script.conduct.over l.script ≡ true) × SomeTold l.seats.items;
+  leads : LeadsTo g.S.Script.conduct.leads l.fn.script l.script;
   goes : (b : Begun g.S.Gear.Engine.meaning g.S.Script.conduct l.fn.script l.fn.seats.items)
       → CrewGoes g.S.Gear.Engine.meaning g.S.Script.conduct (g.S.Script.conduct.stopped l.fn.script) (AllAnswered l.fn.seats.items) (asked_next g.S.Gear.Engine.meaning g.S.Script.conduct b.state b.slots) (g.S.Script.conduct.left l.fn.script) l.script l.hand l.seats.items;
 }

@@ -6,6 +6,7 @@ use Rattle.fj_world.specs.declared.ask.Ask.TheVariants.{Submit, Settle, Finished
 use Rattle.fj_world.specs.Conduct.{KeepsTo, IsDueAsk}
 use Rattle.fj_world.specs.Plain.{asked_next, after}
 use Rattle.fj_world.specs.Fits.{Fits}
+use Rattle.fj_world.proofs.Leads.{led_once, led_twice}
 use Rattle.fj_world.proofs.Order.{serve_orderly, submit_alike}
 use Rattle.fj_world.proofs.Fitting.{submit_advances}
 use Rattle.fj_world.proofs.Runs.{begins_orderly, begins_fitting}
@@ -27,6 +28,7 @@ loop-slot-init g c =
       counted = λ all. all;
       owed = λ at l used e. omega (arith, c.requires.owed at l (omega (arith, used, asks.uses)) e, asks.owed at);
       home = c.requires.home;
+      leads = led_once k.leads c.args.script.now c.ask-hand.new.self asks.leads;
       fits = λ s qs state on fit. (
         0,
         restart m k (asked_next m k s qs) c.args.script.now c.ask-hand.new.self c.ask-hand.new.self c.ask-hand.result c.args.slots.now
@@ -58,6 +60,7 @@ loop-slot-preserved-in-Submit g c =
       counted = λ all. moves.1 (inv.counted all);
       owed = submit_owed m k c.loop-slot.script c.took.new.self c.ask-hand-in-Submit.new.self c.ask-hand-in-Submit.result c.loop-slot.slots c.submit-number.new.self c.in-Submit.slot c.submit-number.result found.0 c.in-Submit.job
           inv.owed due found.1 (c.submit-number.ensures.after found.0 found.1) c.submit-number.ensures.err c.took.ensures asks;
+      leads = led_twice k.leads c.args.script.now c.loop-slot.script c.took.new.self c.ask-hand-in-Submit.new.self inv.leads c.took.ensures.leads asks.leads;
       home = submit_home m k c.loop-slot.slots c.submit-number.new.self c.in-Submit.slot c.submit-number.result found.0 c.in-Submit.job inv.home found.1 (c.submit-number.ensures.after found.0 found.1) c.submit-number.ensures.err;
       fits = λ s qs state on fit.
           let before = inv.fits s qs state on fit in
@@ -93,6 +96,7 @@ loop-slot-preserved g c =
           (λ was. counted_tell m settled.ledger (settled.serves.counted was) settled.ready) (inv.counted all);
       owed = owes_settle m k c.loop-slot.script c.told.new.self c.ask-hand-in-Settle.new.self c.ask-hand-in-Settle.result c.loop-slot.slots c.settle-told.new.slots c.in-Settle.slot found.0 settled.ledger c.settle-told.result
           inv.owed due keeps.2 found.1 settled.after settled.serves.told settled.serves.jobs c.told.ensures asks;
+      leads = led_twice k.leads c.args.script.now c.loop-slot.script c.told.new.self c.ask-hand-in-Settle.new.self inv.leads c.told.ensures.leads asks.leads;
       home = set_home m k c.loop-slot.slots.slots c.settle-told.new.slots.slots c.in-Settle.slot (with_tell settled.ledger) settled.after settled.serves.home inv.home;
       fits = λ s qs state on fit.
           let before = inv.fits s qs state on fit in

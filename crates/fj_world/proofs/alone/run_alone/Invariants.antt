@@ -2,6 +2,7 @@ use Rattle.std.proofs.Common.{◌≡◌, ℕ, [], true, false, List, Some}
 use Rattle.fj_world.specs.Scene.{IsOrderly}
 use Rattle.fj_world.specs.Plain.{PlainSlot, asked_next, after}
 use Rattle.fj_world.specs.Fits.{Fits, SlotsFit}
+use Rattle.fj_world.specs.Leading.{LeadsTo}
 use Rattle.fj_world.specs.Alone.{AllHome, OwesAsSaid}
 use Rattle.fj_world.specs.Keeping.{AllGoOn, AllCounted, SomeStopped}
 use Rattle.fj_world.proofs.alone.run_alone.Given as goal
@@ -14,6 +15,7 @@ invariant-loop-slot g l = record {
   keeps : AllGoOn l.fn.slots l.slots;
   counted : AllCounted g.S.Gear.Engine.meaning l.fn.slots → AllCounted g.S.Gear.Engine.meaning l.slots;
   home : AllHome l.slots;
+  leads : LeadsTo g.S.Script.conduct.leads l.fn.script l.script;
   fits : (s : g.S.Script.conduct.State) (qs : List (PlainSlot g.row.S-Gear-State.Denot g.row.S-Gear-Task.Denot)) → g.S.Script.conduct.state l.fn.script ≡ Some s
       → g.S.Script.conduct.stopped l.fn.script ≡ false → SlotsFit g.S.Gear.Engine.meaning qs l.fn.slots
       → (n : ℕ) × Fits g.S.Gear.Engine.meaning g.S.Script.conduct (after g.S.Gear.Engine.meaning g.S.Script.conduct n (asked_next g.S.Gear.Engine.meaning g.S.Script.conduct s qs)) (record { start = l.script; script = l.script; hand = l.hand; rack = l.slots; workers = [] });
