@@ -3,3 +3,4 @@ pub mod DecidedLemmas
 pub mod LawLemmas
 pub mod LineLemmas
 pub mod RunLemmas
+pub mod SoundLemmas

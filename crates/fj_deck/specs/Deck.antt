@@ -4,6 +4,7 @@ use Rattle.std.specs.Str.Lines.{lines}
 use Rattle.fj_statement.specs.declared.deck.Deck.{Deck}
 use Rattle.fj_statement.specs.declared.reason.Reason.{Reason}
 use Rattle.fj_statement.specs.declared.reason.Reason.TheVariants.{TextTooLong, NoEnd}
+use Rattle.fj_statement.specs.Sound.{IsSound}
 use Rattle.fj_deck.specs.Line.{empty, LineIs}
 use Rattle.fj_deck.specs.declared.draft.Draft.{Draft}
 use Rattle.fj_deck.specs.declared.fault.DeckFault.{DeckFault}
@@ -52,3 +53,7 @@ NoneIsBoth = (text : List ℕ) (deck : Deck) (line : ℕ) (reason : Reason) → 
 -- and it is refused at one line, for one reason
 abbrev pub OneRefusal : Type 0
 OneRefusal = (text : List ℕ) (line another : ℕ) (reason other : Reason) → IsRefused text line reason → IsRefused text another other → (line ≡ another) × (reason ≡ other)
+
+-- what is a deck is sound
+abbrev pub DecksAreSound : Type 0
+DecksAreSound = (text : List ℕ) (deck : Deck) → IsDeck text deck → IsSound deck

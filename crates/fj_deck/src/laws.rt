@@ -1,5 +1,5 @@
 // Laws of decks, which hold of every text.
-ghost use Rattle.fj_deck.specs.Deck.{OneDeck, NoneIsBoth, OneRefusal};
+ghost use Rattle.fj_deck.specs.Deck.{DecksAreSound, OneDeck, NoneIsBoth, OneRefusal};
 
 /// A text is one deck or is refused at one line for one reason, so that what `parse_deck` answers is the only answer.
 pub fn one_answer()
@@ -10,3 +10,8 @@ pub fn one_answer()
     fj_syntax::one_meaning();
     fj_meaning::one_meaning();
 }
+
+/// What is a deck is sound: its names, places and kinds fit, no limit is passed, and END is its last statement.
+pub fn decks_are_sound()
+    ensures { DecksAreSound }
+{}
