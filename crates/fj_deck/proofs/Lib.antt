@@ -4,3 +4,4 @@ pub mod LawLemmas
 pub mod LineLemmas
 pub mod RunLemmas
 pub mod SoundLemmas
+pub mod SomeAnswer

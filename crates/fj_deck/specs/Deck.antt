@@ -1,5 +1,5 @@
 -- Which deck a text is, or which line of it is the first that is refused.
-use Rattle.std.specs.Prelude.{◌≡◌, ℕ, ◌+◌, ◌<◌, ◌≤◌, true, false, List, [], ◌∷◌, ◌++◌, length, Result, Ok, Err}
+use Rattle.std.specs.Prelude.{◌≡◌, ℕ, ◌+◌, ◌<◌, ◌≤◌, true, false, List, [], ◌∷◌, ◌++◌, length, Result, Ok, Err, ◌⊎◌}
 use Rattle.std.specs.Str.Lines.{lines}
 use Rattle.fj_statement.specs.declared.deck.Deck.{Deck}
 use Rattle.fj_statement.specs.declared.reason.Reason.{Reason}
@@ -53,6 +53,10 @@ NoneIsBoth = (text : List ℕ) (deck : Deck) (line : ℕ) (reason : Reason) → 
 -- and it is refused at one line, for one reason
 abbrev pub OneRefusal : Type 0
 OneRefusal = (text : List ℕ) (line another : ℕ) (reason other : Reason) → IsRefused text line reason → IsRefused text another other → (line ≡ another) × (reason ≡ other)
+
+-- each text is a deck or is refused
+abbrev pub SomeAnswer : Type 0
+SomeAnswer = (text : List ℕ) → ((deck : Deck) × IsDeck text deck) ⊎ ((line : ℕ) × (reason : Reason) × IsRefused text line reason)
 
 -- what is a deck is sound
 abbrev pub DecksAreSound : Type 0
