@@ -198,7 +198,7 @@ written_answer line number draft w short is = elim (is_either (is_misplaced draf
 
 short_answer : (line : List ℕ) (number : ℕ) (draft : Draft) → length line ≤ 1000 → LineAnswer line number draft
 short_answer line number draft short = elim (parse_answer line) [
-  | inl blank ↦ (Ok draft, LineIs.blank short blank)
+  | inl bare ↦ (Ok draft, LineIs.blank short bare)
   | inr some ↦ elim some [
     | inl w ↦ written_answer line number draft w.0 short w.1
     | inr none ↦ (Err reasons.Syntax, LineIs.garbled short none)
