@@ -3,3 +3,5 @@ pub mod DecidedLemmas
 pub mod LawLemmas
 pub mod LineLemmas
 pub mod RunLemmas
+pub mod SoundLemmas
+pub mod SomeAnswer

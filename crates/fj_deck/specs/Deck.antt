@@ -1,9 +1,10 @@
 -- Which deck a text is, or which line of it is the first that is refused.
-use Rattle.std.specs.Prelude.{◌≡◌, ℕ, ◌+◌, ◌<◌, ◌≤◌, true, false, List, [], ◌∷◌, ◌++◌, length, Result, Ok, Err}
+use Rattle.std.specs.Prelude.{◌≡◌, ℕ, ◌+◌, ◌<◌, ◌≤◌, true, false, List, [], ◌∷◌, ◌++◌, length, Result, Ok, Err, ◌⊎◌}
 use Rattle.std.specs.Str.Lines.{lines}
 use Rattle.fj_statement.specs.declared.deck.Deck.{Deck}
 use Rattle.fj_statement.specs.declared.reason.Reason.{Reason}
 use Rattle.fj_statement.specs.declared.reason.Reason.TheVariants.{TextTooLong, NoEnd}
+use Rattle.fj_statement.specs.Sound.{IsSound}
 use Rattle.fj_deck.specs.Line.{empty, LineIs}
 use Rattle.fj_deck.specs.declared.draft.Draft.{Draft}
 use Rattle.fj_deck.specs.declared.fault.DeckFault.{DeckFault}
@@ -52,3 +53,11 @@ NoneIsBoth = (text : List ℕ) (deck : Deck) (line : ℕ) (reason : Reason) → 
 -- and it is refused at one line, for one reason
 abbrev pub OneRefusal : Type 0
 OneRefusal = (text : List ℕ) (line another : ℕ) (reason other : Reason) → IsRefused text line reason → IsRefused text another other → (line ≡ another) × (reason ≡ other)
+
+-- each text is a deck or is refused
+abbrev pub SomeAnswer : Type 0
+SomeAnswer = (text : List ℕ) → ((deck : Deck) × IsDeck text deck) ⊎ ((line : ℕ) × (reason : Reason) × IsRefused text line reason)
+
+-- what is a deck is sound
+abbrev pub DecksAreSound : Type 0
+DecksAreSound = (text : List ℕ) (deck : Deck) → IsDeck text deck → IsSound deck

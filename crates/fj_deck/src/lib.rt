@@ -7,7 +7,7 @@ mod laws;
 mod reader;
 
 pub use fault::DeckFault;
-pub use laws::one_answer;
+pub use laws::{decks_are_sound, one_answer, some_answer};
 pub use reader::parse_deck;
 
 #[cfg(test)]

@@ -1,5 +1,7 @@
 // The text of a deck, read line after line.
+ghost use Rattle.std.specs.Prelude.{IfOk};
 ghost use Rattle.fj_deck.specs.Deck.{Reads};
+ghost use Rattle.fj_statement.specs.Sound.{IsSound};
 
 use crate::draft::Draft;
 use crate::fault::DeckFault;
@@ -12,7 +14,8 @@ pub const MAX_TEXT: usize = 4_194_304;
 
 /// The deck that a text is, or the first line that is refused. Lines are numbered from 1.
 pub fn parse_deck(alloc: Global, text: &[u8]) -> Result<Deck, DeckFault>
-    ensures { Reads text.now result }
+    ensures answer { Reads text.now result }
+    ensures sound { IfOk result IsSound }
 {
     if text.len() > MAX_TEXT {
         return Err(DeckFault::Refused {

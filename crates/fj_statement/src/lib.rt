@@ -2,9 +2,11 @@
 #![tactic(auto)]
 
 mod deck;
+mod laws;
 mod reason;
 mod statement;
 
 pub use deck::{Deck, Lined, Statements, Variable, Variables};
+pub use laws::named_is_there;
 pub use reason::Reason;
 pub use statement::{Control, Operand, Operands, Statement, Transfer, Vars};

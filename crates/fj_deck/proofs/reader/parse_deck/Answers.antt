@@ -1,16 +1,20 @@
 use Rattle.std.proofs.Common.{◌≡◌, ◌<◌, ◌∷◌, arith, length}
 use Rattle.std.specs.Str.Lines.{lines}
 use Rattle.fj_deck.specs.Deck.{IsRefused}
-use Rattle.fj_deck.proofs.RunLemmas.{shorter, one_more, fault_at, without_end}
+use Rattle.fj_deck.proofs.RunLemmas.{shorter, one_more, fault_at, with_end, without_end}
+use Rattle.fj_deck.proofs.SoundLemmas.{sound_deck}
 use Rattle.fj_deck.proofs.reader.parse_deck.Goals as goal
 
 pub returns-then-text-gt-MAX_TEXT : goal.returns-then-text-gt-MAX_TEXT
-returns-then-text-gt-MAX_TEXT c = IsRefused.long c.if-text-gt-MAX_TEXT.true
+returns-then-text-gt-MAX_TEXT c = record { answer = IsRefused.long c.if-text-gt-MAX_TEXT.true; sound = tt }
 
 pub returns-in-Err : goal.returns-in-Err
 returns-in-Err c =
     rw c.at.ensures
-    (fault_at c.args.text.now c.reading.rest.now c.in-Some.line.now c.in-Some.more.now c.reading.number c.reading.draft c.in-Err.fault (omega arith) c.in-Some.ensures.first c.reading.invariant.read c.in-Err.ensures)
+    (record {
+      answer = fault_at c.args.text.now c.reading.rest.now c.in-Some.line.now c.in-Some.more.now c.reading.number c.reading.draft c.in-Err.fault (omega arith) c.in-Some.ensures.first c.reading.invariant.read c.in-Err.ensures;
+      sound = tt;
+    })
 
 pub reading-preserved : goal.reading-preserved
 reading-preserved c =
@@ -22,5 +26,12 @@ reading-preserved c =
     }
 
 pub returns-then-not-draft : goal.returns-then-not-draft
-returns-then-not-draft c =
-    without_end c.args.text.now c.reading.rest.now c.reading.number c.reading.draft (omega arith) c.in_default.ensures.none c.reading.invariant.read c.if-not-draft.true
+returns-then-not-draft c = record {
+  answer = without_end c.args.text.now c.reading.rest.now c.reading.number c.reading.draft (omega arith) c.in_default.ensures.none c.reading.invariant.read c.if-not-draft.true;
+  sound = tt;
+}
+
+pub returns-clause-sound : goal.returns-clause-sound
+returns-clause-sound c =
+    sound_deck c.args.text.now c.into_deck.result
+    (with_end c.args.text.now c.reading.rest.now c.reading.number c.reading.draft c.into_deck.result (omega arith) c.in_default.ensures.none c.reading.invariant.read c.if-not-draft.false c.into_deck.ensures)

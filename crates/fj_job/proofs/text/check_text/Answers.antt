@@ -6,14 +6,14 @@ use Rattle.fj_job.proofs.text.check_text.Goals as goal
 pub returns-in-Ok-clause-replied : goal.returns-in-Ok-clause-replied
 returns-in-Ok-clause-replied g c = λ files a. record {
   reply = checked (Ok c.in-Ok.deck) files;
-  is = (Ok c.in-Ok.deck, c.in-Ok.ensures, refl);
+  is = (Ok c.in-Ok.deck, c.in-Ok.ensures.answer, refl);
   answer = search rules;
   files_left = refl;
   output = λ t. c.check_deck.ensures.output a t;
 }
 
 pub returns-in-Ok-clause-prefix : goal.returns-in-Ok-clause-prefix
-returns-in-Ok-clause-prefix g c = λ t files. inr (checked (Ok c.in-Ok.deck) files, (Ok c.in-Ok.deck, c.in-Ok.ensures, refl), inl (c.check_deck.ensures.prefix t))
+returns-in-Ok-clause-prefix g c = λ t files. inr (checked (Ok c.in-Ok.deck) files, (Ok c.in-Ok.deck, c.in-Ok.ensures.answer, refl), inl (c.check_deck.ensures.prefix t))
 
 pub returns-in-Err-Refused-clause-replied : goal.returns-in-Err-Refused-clause-replied
 returns-in-Err-Refused-clause-replied g c = λ files a. record {
@@ -32,7 +32,7 @@ returns-in-Err-Refused-clause-prefix g c = λ t files. inr (
 )
 
 pub returns-in-Ok-clause-ended : goal.returns-in-Ok-clause-ended
-returns-in-Ok-clause-ended g c = ended_by c.check_deck.result _ (c.in-Ok.deck, c.in-Ok.ensures)
+returns-in-Ok-clause-ended g c = ended_by c.check_deck.result _ (c.in-Ok.deck, c.in-Ok.ensures.answer)
 
 pub returns-in-Err-Refused-clause-ended : goal.returns-in-Err-Refused-clause-ended
 returns-in-Err-Refused-clause-ended g c = no_end _ _ _ tt c.refuse_line.ensures.refused

@@ -6,7 +6,7 @@ use Rattle.fj_job.proofs.text.run_text.Goals as goal
 pub returns-in-Ok-clause-replied : goal.returns-in-Ok-clause-replied
 returns-in-Ok-clause-replied g c = λ a u. record {
   reply = executed (Ok c.in-Ok.deck) (g.D.Disk.held c.args.disk.now).files;
-  is = (Ok c.in-Ok.deck, c.in-Ok.ensures, refl);
+  is = (Ok c.in-Ok.deck, c.in-Ok.ensures.answer, refl);
   answer = c.run_built.ensures.status a u;
   files_left = c.run_built.ensures.files a u;
   output = λ t. c.run_built.ensures.output a t u;
@@ -15,8 +15,8 @@ returns-in-Ok-clause-replied g c = λ a u. record {
 pub returns-in-Ok-clause-prefix : goal.returns-in-Ok-clause-prefix
 returns-in-Ok-clause-prefix g c = λ t u. inr (
   executed (Ok c.in-Ok.deck) (g.D.Disk.held c.args.disk.now).files,
-  (Ok c.in-Ok.deck, c.in-Ok.ensures, refl),
-  due_weaker _ _ _ _ _ (λ stmt o f. ((f.0.0, (c.in-Ok.deck, c.in-Ok.ensures, f.0.1), f.0.2), f.1)) (c.run_built.ensures.prefix t u),
+  (Ok c.in-Ok.deck, c.in-Ok.ensures.answer, refl),
+  due_weaker _ _ _ _ _ (λ stmt o f. ((f.0.0, (c.in-Ok.deck, c.in-Ok.ensures.answer, f.0.1), f.0.2), f.1)) (c.run_built.ensures.prefix t u),
 )
 
 pub returns-in-Err-Refused-clause-replied : goal.returns-in-Err-Refused-clause-replied
@@ -36,10 +36,10 @@ returns-in-Err-Refused-clause-prefix g c = λ t u. inr (
 )
 
 pub returns-in-Ok-clause-fault_line : goal.returns-in-Ok-clause-fault_line
-returns-in-Ok-clause-fault_line g c = λ t u. fault_for _ _ _ _ c.run_built.result (λ stmt o f. (f.0, (c.in-Ok.deck, c.in-Ok.ensures, f.1), f.2)) (c.run_built.ensures.fault_line t u)
+returns-in-Ok-clause-fault_line g c = λ t u. fault_for _ _ _ _ c.run_built.result (λ stmt o f. (f.0, (c.in-Ok.deck, c.in-Ok.ensures.answer, f.1), f.2)) (c.run_built.ensures.fault_line t u)
 
 pub returns-in-Ok-clause-ended : goal.returns-in-Ok-clause-ended
-returns-in-Ok-clause-ended g c = ended_weaker c.run_built.result _ _ (λ h. (h.0, (c.in-Ok.deck, c.in-Ok.ensures, h.1))) c.run_built.ensures.ended
+returns-in-Ok-clause-ended g c = ended_weaker c.run_built.result _ _ (λ h. (h.0, (c.in-Ok.deck, c.in-Ok.ensures.answer, h.1))) c.run_built.ensures.ended
 
 pub returns-in-Err-Refused-clause-ended : goal.returns-in-Err-Refused-clause-ended
 returns-in-Err-Refused-clause-ended g c = no_end _ _ _ tt c.refuse_line.ensures.refused

@@ -1,0 +1,286 @@
+-- Each text is a deck or is refused: what each layer answers, found by its definitions.
+use Rattle.std.proofs.Common.{◌≡◌, ◌≢◌, ℕ, zero, suc, ◌+◌, ◌≤◌, true, false, List, [], ◌∷◌, ◌++◌, length, take, drop, get_or, Ok, Err, Option, Some, None, ◌⊎◌, inl, inr, refl, sym, ap, subst, arith}
+use Rattle.std.specs.Prelude.{IsSome, nat_lt}
+use Rattle.std.specs.List.{prefix_len}
+use Rattle.std.specs.Str.Lines.{lines}
+use Rattle.std.proofs.Math.Dec.{eqb-suc-zero}
+use Rattle.std.proofs.lemmas.Bool.{ltb-true, ltb-false}
+use Rattle.fj_format.specs.Grammar.{IsFormat}
+use Rattle.fj_format.specs.Parsing.{IsNoFormat}
+use Rattle.fj_format.specs.Reading.{Answers}
+use Rattle.fj_format.specs.Scanning.{first, scan}
+use Rattle.fj_format.specs.declared.item.FormatItem.{FormatItem}
+use Rattle.fj_format.specs.declared.place.Place.{Place}
+use Rattle.fj_format.specs.declared.place.Place.TheVariants.{Done}
+use Rattle.fj_format.specs.declared.scanner.Scanner.{Scanner}
+use Rattle.fj_format.proofs.Parsed.{done_items, refused, short, taken}
+use Rattle.fj_format.proofs.Scanned.{Stands, stands_first}
+use Rattle.fj_statement.specs.declared.deck.Deck.{Deck}
+use Rattle.fj_statement.specs.declared.reason.Reason.{Reason}
+use Rattle.fj_statement.specs.declared.reason.Reason.TheVariants as reasons
+use Rattle.fj_statement.specs.declared.statement.Statement.{Statement}
+use Rattle.fj_syntax.specs.Class.{is_of}
+use Rattle.fj_syntax.specs.declared.class.Class.TheVariants.{Blank}
+use Rattle.fj_syntax.specs.declared.token.Token.{Token}
+use Rattle.fj_syntax.specs.declared.written.Written.{Written}
+use Rattle.fj_syntax.specs.declared.written.Written.TheVariants as written
+use Rattle.fj_syntax.specs.FirstToken.{first_token}
+use Rattle.fj_syntax.specs.Parsing.{IsBlankLine, IsNoStatement, IsStatement}
+use Rattle.fj_syntax.specs.Statement.{written_of}
+use Rattle.fj_syntax.specs.Tokens.{HasNoTokens, HasTokens, ends_line}
+use Rattle.fj_syntax.proofs.ParseLemmas.{statement_none, tokens_none}
+use Rattle.fj_syntax.proofs.ScanLemmas.{Scans, no_blank, rest_shorter, scans_blanks, scans_done, scans_first, scans_refused, scans_token}
+use Rattle.fj_syntax.proofs.TokenLemmas.{is_either}
+use Rattle.fj_meaning.specs.Declaring.{Declares, Groups, is_within, with_declaration, with_group}
+use Rattle.fj_meaning.specs.Meaning.{HasMeaning, IsFormatOf, Means, format_text, is_within_limits, meaning}
+use Rattle.fj_meaning.specs.declared.fault.Fault.{Fault}
+use Rattle.fj_meaning.specs.declared.fault.Fault.TheVariants as fault
+use Rattle.fj_meaning.specs.declared.scope.Scope.{Scope}
+use Rattle.fj_deck.specs.Deck.{AreGood, IsDeck, IsRefused, SomeAnswer, deck_of}
+use Rattle.fj_deck.specs.Faults.{of_meaning}
+use Rattle.fj_deck.specs.Line.{Answer, Adds, Declaring, LineIs, Stating, empty, is_misplaced, with_names, with_statement}
+use Rattle.fj_deck.specs.declared.draft.Draft.{Draft}
+use Rattle.fj_deck.specs.declared.fault.LineFault.TheVariants.{Refused}
+
+-- an option is none, or something
+none_or : {A : Type 0} (o : Option A) → (o ≡ None) ⊎ ((x : A) × (o ≡ Some x))
+none_or None = inl refl
+none_or (Some x) = inr (x, refl)
+
+-- ---- formats
+
+abbrev FormatAnswer : List ℕ → Type 0
+FormatAnswer text = ((items : List FormatItem) × IsFormat text items) ⊎ ((at : ℕ) × IsNoFormat text at)
+
+is_done : (p : Place) → (p ≡ Done) ⊎ (p ≢ Done)
+is_done Done = inl refl
+is_done p = inr (λ e. cc)
+
+format_from : (left : ℕ) (text : List ℕ) (i : ℕ) (s : Scanner) → i + left ≡ length text → Stands (take i text) s → FormatAnswer text
+format_from zero text i s all st = elim (is_done s.reader.place) [
+  | inl e ↦ inl (s.reader.items, (done_items text i s s.reader.items e st refl).is)
+  | inr q ↦ inr (length text, short text i s (omega arith) q st)
+]
+format_from (suc left) text i s all st = elim (is_done s.reader.place) [
+  | inl e ↦ inl (s.reader.items, (done_items text i s s.reader.items e st refl).is)
+  | inr q ↦ elim (none_or (scan s (get_or text i 0))) [
+    | inl e ↦ inr (i, refused text i s s false (omega arith) q st (subst (λ o. Answers o false s) (sym e) refl) refl)
+    | inr n ↦ format_from left text (i + 1) n.0 (omega arith) (taken text i s n.0 true (omega arith) q st (subst (λ o. Answers o true n.0) (sym n.1) (refl, refl)) refl)
+  ]
+]
+
+format_answer : (text : List ℕ) → FormatAnswer text
+format_answer text = format_from (length text) text 0 first (omega arith) stands_first
+
+-- ---- tokens
+
+abbrev TokenAnswer : List ℕ → Type 0
+TokenAnswer line = ((tokens : List Token) × HasTokens line tokens) ⊎ HasNoTokens line
+
+abbrev behind_blanks : List ℕ → List ℕ
+behind_blanks rest = drop (prefix_len (is_of Blank) rest) rest
+
+tokens_by : (line rest : List ℕ) (found : List Token) → Scans line rest found
+    → ((t : Token) (behind : List ℕ) → first_token (behind_blanks rest) ≡ Some (t, behind) → TokenAnswer line) → TokenAnswer line
+tokens_by line rest found s more =
+    let here : Scans line (behind_blanks rest) found = scans_blanks line rest found s in
+    elim (is_either (ends_line (behind_blanks rest))) [
+      | inl e ↦ inl (found, scans_done line (behind_blanks rest) found here e)
+      | inr e ↦ elim (none_or (first_token (behind_blanks rest))) [
+        | inl n ↦ inr (scans_refused line (behind_blanks rest) found here e (no_blank rest (behind_blanks rest) refl) n)
+        | inr n ↦ more n.0.0 n.0.1 n.1
+      ]
+    ]
+
+tokens_from : (left : ℕ) (line rest : List ℕ) (found : List Token) → length rest ≤ left → Scans line rest found → TokenAnswer line
+tokens_from zero line rest found most s =
+    tokens_by line rest found s (λ t behind e. absurd (omega (arith, rest_shorter rest (behind_blanks rest) behind t refl e)))
+tokens_from (suc left) line rest found most s =
+    tokens_by line rest found s (λ t behind e. tokens_from left line behind (found ++ t ∷ []) (omega (arith, rest_shorter rest (behind_blanks rest) behind t refl e))
+    (scans_token line (behind_blanks rest) behind t found (scans_blanks line rest found s) e))
+
+token_answer : (line : List ℕ) → TokenAnswer line
+token_answer line = tokens_from (length line) line line [] (omega arith) (scans_first line)
+
+-- ---- statements as they are written
+
+abbrev ParseAnswer : List ℕ → Type 0
+ParseAnswer line = IsBlankLine line ⊎ (((w : Written) × IsStatement line w) ⊎ IsNoStatement line)
+
+parse_tokens : (line : List ℕ) (tokens : List Token) → HasTokens line tokens → ParseAnswer line
+parse_tokens line [] has = inl has.is
+parse_tokens line (t ∷ tokens) has = elim (none_or (written_of (t ∷ tokens))) [
+  | inl n ↦ inr (inr (statement_none line (t ∷ tokens) has (eqb-suc-zero (length tokens)) n))
+  | inr n ↦ inr (inl (n.0, (t ∷ tokens, has.is, n.1)))
+]
+
+parse_answer : (line : List ℕ) → ParseAnswer line
+parse_answer line = elim (token_answer line) [
+  | inl some ↦ parse_tokens line some.0 some.1
+  | inr none ↦ inr (inr (tokens_none line none))
+]
+
+-- ---- what statements mean
+
+-- a fault that is a reason
+record Reasoned (s : Scope) (w : Written) : Type 0 where
+  fault : Fault
+  reason : Reason
+  is : of_meaning fault ≡ Refused reason
+  means : Means s w (Err fault)
+
+abbrev MeaningAnswer : Scope → Written → Type 0
+MeaningAnswer s w = ((m : Statement) × HasMeaning s w m) ⊎ Reasoned s w
+
+with_format : (s : Scope) (w : Written) (items : Option (List FormatItem)) → IsFormatOf (format_text w) items → MeaningAnswer s w
+with_format s w items format = elim (none_or (meaning s items w)) [
+  | inl n ↦ inr (record { fault = fault.NoMeaning; reason = reasons.Meaning; is = refl; means = record { items = items; format = format; none = n } })
+  | inr m ↦ elim (is_either (is_within_limits s items w)) [
+    | inl e ↦ inl (m.0, record { items = items; format = format; is = m.1; within = e })
+    | inr e ↦ inr (record {
+      fault = fault.TooMany;
+      reason = reasons.TooMany;
+      is = refl;
+      means = record { items = items; format = format; some = subst IsSome (sym m.1) refl; beyond = e };
+    })
+  ]
+]
+
+by_text : (s : Scope) (w : Written) (text : Option (List ℕ)) → format_text w ≡ text → MeaningAnswer s w
+by_text s w None e = with_format s w None (subst (λ t. IsFormatOf t None) (sym e) tt)
+by_text s w (Some text) e = elim (format_answer text) [
+  | inl f ↦ with_format s w (Some f.0) (subst (λ t. IsFormatOf t (Some f.0)) (sym e) f.1)
+  | inr n ↦ inr (record { fault = fault.Format n.0; reason = reasons.Format n.0; is = refl; means = record { text = text; stands = e; none = n.1 } })
+]
+
+meaning_answer : (s : Scope) (w : Written) → MeaningAnswer s w
+meaning_answer s w = by_text s w (format_text w) refl
+
+-- ---- what a line adds
+
+stating : (draft : Draft) (number : ℕ) (w : Written) → (answer : Answer) × Stating draft number w answer
+stating draft number w = elim (meaning_answer draft.names w) [
+  | inl m ↦ elim (is_either (nat_lt (length draft.statements) 100000)) [
+    | inl few ↦ (Ok (with_statement draft number m.0), Stating.added m.0 m.1 (ltb-true (length draft.statements) 100000 few))
+    | inr many ↦ (Err reasons.TooMany, Stating.full m.0 m.1 (ltb-false (length draft.statements) 100000 many))
+  ]
+  | inr r ↦ (Err r.reason, Stating.refused r.fault r.means r.is)
+]
+
+declaring : (draft : Draft) (next : Option Scope) → (answer : Answer) × Declaring draft (Declares next) answer
+declaring draft next = elim (none_or next) [
+  | inl n ↦ (Err reasons.Meaning, Declaring.refused draft.names fault.NoMeaning n refl)
+  | inr s ↦ elim (is_either (is_within s.0.variables)) [
+    | inl e ↦ (Ok (with_names draft s.0), Declaring.added s.0 (s.1, e))
+    | inr e ↦ (Err reasons.TooMany, Declaring.refused draft.names fault.TooMany (s.0, s.1, e) refl)
+  ]
+]
+
+grouping : (draft : Draft) (next : Option Scope) → (answer : Answer) × Declaring draft (Groups next) answer
+grouping draft next = elim (none_or next) [
+  | inl n ↦ (Err reasons.Meaning, Declaring.refused draft.names fault.NoMeaning n refl)
+  | inr s ↦ (Ok (with_names draft s.0), Declaring.added s.0 s.1)
+]
+
+adding : (draft : Draft) (number : ℕ) (w : Written) → (answer : Answer) × Adds draft number w answer
+adding draft number (written.Declaration d) = declaring draft (with_declaration draft.names number d)
+adding draft number (written.Group g) = grouping draft (with_group draft.names number g)
+adding draft number w = stating draft number w
+
+abbrev LineAnswer : List ℕ → ℕ → Draft → Type 0
+LineAnswer line number draft = (answer : Answer) × LineIs line number draft answer
+
+written_answer : (line : List ℕ) (number : ℕ) (draft : Draft) (w : Written) → length line ≤ 1000 → IsStatement line w → LineAnswer line number draft
+written_answer line number draft w short is = elim (is_either (is_misplaced draft w)) [
+  | inl e ↦ (Err reasons.Syntax, LineIs.misplaced w short is e)
+  | inr e ↦ let adds = adding draft number w in (adds.0, LineIs.placed w short is e adds.1)
+]
+
+short_answer : (line : List ℕ) (number : ℕ) (draft : Draft) → length line ≤ 1000 → LineAnswer line number draft
+short_answer line number draft short = elim (parse_answer line) [
+  | inl bare ↦ (Ok draft, LineIs.blank short bare)
+  | inr some ↦ elim some [
+    | inl w ↦ written_answer line number draft w.0 short w.1
+    | inr none ↦ (Err reasons.Syntax, LineIs.garbled short none)
+  ]
+]
+
+line_answer : (line : List ℕ) (number : ℕ) (draft : Draft) → LineAnswer line number draft
+line_answer line number draft = elim (is_either (nat_lt 1000 (length line))) [
+  | inl e ↦ (Err reasons.LineTooLong, LineIs.long (ltb-true 1000 (length line) e))
+  | inr e ↦ short_answer line number draft (ltb-false 1000 (length line) e)
+]
+
+-- ---- lines
+
+-- the first line that is refused, behind those that are good
+record IsBad (number : ℕ) (draft : Draft) (text : List (List ℕ)) : Type 0 where
+  before : List (List ℕ)
+  line : List ℕ
+  behind : List (List ℕ)
+  reached : Draft
+  reason : Reason
+  all : text ≡ before ++ line ∷ behind
+  good : AreGood number draft before reached
+  is : LineIs line (length before + number) reached (Err reason)
+
+abbrev LinesAnswer : ℕ → Draft → List (List ℕ) → Type 0
+LinesAnswer number draft text = ((last : Draft) × AreGood number draft text last) ⊎ IsBad number draft text
+
+bad_behind : (line : List ℕ) (more : List (List ℕ)) (number : ℕ) (draft next : Draft) → LineIs line number draft (Ok next) → IsBad (number + 1) next more → IsBad number draft (line ∷ more)
+bad_behind line more number draft next is bad = record {
+  before = line ∷ bad.before;
+  line = bad.line;
+  behind = bad.behind;
+  reached = bad.reached;
+  reason = bad.reason;
+  all = ap (λ l. line ∷ l) bad.all;
+  good = (next, is, bad.good);
+  is = subst (λ n. LineIs bad.line n bad.reached (Err bad.reason)) (omega arith) bad.is;
+}
+
+first_bad : (line : List ℕ) (more : List (List ℕ)) (number : ℕ) (draft : Draft) (reason : Reason) → LineIs line number draft (Err reason) → IsBad number draft (line ∷ more)
+first_bad line more number draft reason is = record {
+  before = [];
+  line = line;
+  behind = more;
+  reached = draft;
+  reason = reason;
+  all = refl;
+  good = refl;
+  is = subst (λ n. LineIs line n draft (Err reason)) (omega arith) is;
+}
+
+behind_line : (line : List ℕ) (more : List (List ℕ)) (number : ℕ) (draft : Draft) (answer : Answer) → LineIs line number draft answer
+    → ((next : Draft) → LinesAnswer (number + 1) next more) → LinesAnswer number draft (line ∷ more)
+behind_line line more number draft (Err reason) is rest = inr (first_bad line more number draft reason is)
+behind_line line more number draft (Ok next) is rest = elim (rest next) [
+  | inl good ↦ inl (good.0, (next, is, good.1))
+  | inr bad ↦ inr (bad_behind line more number draft next is bad)
+]
+
+lines_answer : (number : ℕ) (draft : Draft) (text : List (List ℕ)) → LinesAnswer number draft text
+lines_answer number draft [] = inl (draft, refl)
+lines_answer number draft (line ∷ more) =
+    let here = line_answer line number draft in
+    behind_line line more number draft here.0 here.1 (λ next. lines_answer (number + 1) next more)
+
+-- ---- texts
+
+abbrev TextAnswer : List ℕ → Type 0
+TextAnswer text = ((deck : Deck) × IsDeck text deck) ⊎ ((line : ℕ) × (reason : Reason) × IsRefused text line reason)
+
+short_text : (text : List ℕ) → length text ≤ 4194304 → TextAnswer text
+short_text text short = elim (lines_answer 1 empty (lines text)) [
+  | inl good ↦ elim (is_either good.0.ended) [
+    | inl e ↦ inl (deck_of good.0, record { short = short; last = good.0; good = good.1; ended = e; is = refl })
+    | inr e ↦ inr (length (lines text) + 1, reasons.NoEnd, IsRefused.endless good.0 short good.1 e)
+  ]
+  | inr bad ↦ inr (length bad.before + 1, bad.reason, IsRefused.bad bad.before bad.line bad.behind short bad.all bad.good bad.is)
+]
+
+pub some_answer : SomeAnswer
+some_answer text = elim (is_either (nat_lt 4194304 (length text))) [
+  | inl e ↦ inr (1, reasons.TextTooLong, IsRefused.long (ltb-true 4194304 (length text) e))
+  | inr e ↦ short_text text (ltb-false 4194304 (length text) e)
+]
