@@ -5,20 +5,47 @@ use Rattle.std.proofs.lemmas.Fmt.{decimal_digit}
 use Rattle.fj_value.specs.declared.value.Value.TheVariants as value
 use Rattle.fj_value.specs.declared.condition.Rule.TheVariants.{P1}
 use Rattle.fj_statement.specs.declared.reason.Reason.TheVariants.{Format, NoEnd}
-use Rattle.fj_report.specs.declared.form.Form.TheVariants.{Run, Alone, Check, Wrong}
+use Rattle.fj_report.specs.declared.form.Form.TheVariants.{Run, Alone, Check, Gen, Wrong}
 use Rattle.fj_report.specs.declared.status.Status.TheVariants.{Ended, ErrorStop, Prohibited, DeckRefused, Memory}
-use Rattle.fj_report.specs.Words.{form_of}
+use Rattle.clap.proofs.OnLiterals.{clap_on_literals}
+use Rattle.fj_value.specs.Digits.{number_in}
+use Rattle.fj_report.specs.Words.{form_of, run_form, alone_form, check_form, gen_form, given, number_up_to}
 use Rattle.fj_report.specs.Lines.{usage_text, status_text, check_text, trace_text, variable_text}
 
 pub record WordsAreRight : Type 0 where
   pub alone : form_of (codes "alone" ∷ []) ≡ Alone false
+  pub traced : form_of (codes "alone" ∷ codes "--trace" ∷ codes "--" ∷ []) ≡ Alone true
   pub check : form_of (codes "check" ∷ []) ≡ Check
-  pub run : form_of (codes "run" ∷ codes "--workers" ∷ codes "0" ∷ []) ≡ Run 0 false
-  pub four : form_of (codes "run" ∷ codes "--workers" ∷ codes "4" ∷ []) ≡ Wrong
+  pub four : form_of (codes "run" ∷ []) ≡ Run 4 false
+  pub behind : form_of (codes "run" ∷ codes "--workers" ∷ codes "64" ∷ []) ≡ Run 64 false
+  pub joined : form_of (codes "run" ∷ codes "--trace" ∷ codes "--workers=0" ∷ []) ≡ Run 0 true
+  pub made : form_of (codes "gen" ∷ codes "--count" ∷ codes "0" ∷ codes "--text" ∷ codes "--seed=1" ∷ []) ≡ Gen 1 0 true
+  pub beyond : form_of (codes "run" ∷ codes "--workers" ∷ codes "65" ∷ []) ≡ Wrong
+  pub no_number : form_of (codes "run" ∷ codes "--workers" ∷ codes "x" ∷ []) ≡ Wrong
+  pub eleven_digits : form_of (codes "run" ∷ codes "--workers" ∷ codes "00000000004" ∷ []) ≡ Wrong
+  pub repeated : form_of (codes "run" ∷ codes "--trace" ∷ codes "--trace" ∷ []) ≡ Wrong
+  pub no_value : form_of (codes "alone" ∷ codes "--trace=1" ∷ []) ≡ Wrong
+  pub no_count : form_of (codes "gen" ∷ codes "--seed" ∷ codes "1" ∷ []) ≡ Wrong
   pub nothing : form_of [] ≡ Wrong
 
 pub words_are_right : WordsAreRight
-words_are_right = record { alone = refl; check = refl; run = refl; four = refl; nothing = refl }
+unfolding form_of run_form alone_form check_form gen_form given number_up_to number_in clap_on_literals
+words_are_right = record {
+  alone = refl;
+  traced = refl;
+  check = refl;
+  four = refl;
+  behind = refl;
+  joined = refl;
+  made = refl;
+  beyond = refl;
+  no_number = refl;
+  eleven_digits = refl;
+  repeated = refl;
+  no_value = refl;
+  no_count = refl;
+  nothing = refl;
+}
 
 -- numbers of one digit
 one_1 : decimal 1 ≡ (48 + 1) ∷ []

@@ -1,7 +1,9 @@
 //! The words of a run, and the lines of its report.
 #![tactic(auto)]
 
+mod command;
 mod form;
+mod given;
 mod line;
 mod pieces;
 mod status;

@@ -1,35 +1,10 @@
-// The forms of words, and each line of the report once.
-use crate::{
-    Form, Status, check_line, read_words, status_line, trace_line, usage_line, variable_line,
-};
+// Each line of the report once.
+use crate::{Status, check_line, status_line, trace_line, usage_line, variable_line};
 use fj_statement::Reason;
 use fj_value::{Rule, Tag, Text, Value};
-use std::alloc::{AllocError, Global};
 use std::test::Fail;
 
-static WORDS: [(&str, Form); 15] = [
-    ("alone", Form::Alone { trace: false }),
-    ("check", Form::Check),
-    (
-        "run --workers 0",
-        Form::Run {
-            workers: 0,
-            trace: false,
-        },
-    ),
-    ("", Form::Wrong),
-    ("ALONE", Form::Wrong),
-    ("alone alone", Form::Wrong),
-    ("alone --trace", Form::Wrong),
-    ("alone --workers 0", Form::Wrong),
-    ("check --trace", Form::Wrong),
-    ("run", Form::Wrong),
-    ("run --workers", Form::Wrong),
-    ("run --workers 4", Form::Wrong),
-    ("run --workers=0", Form::Wrong),
-    ("run --workers 00", Form::Wrong),
-    ("gen --seed 0 --count 0", Form::Wrong),
-];
+mod words;
 
 static STATUSES: [(Status, &[u8]); 19] = [
     (Status::Ended, b"= ended\n"),
@@ -142,25 +117,6 @@ static CHARACTERS: [(&[u8], &[u8]); 8] = [
     (b"\x00\t\n\x1f", b"C = '\\00\\09\\0A\\1F'\n"),
     (b"\x7f\x80\xab\xff", b"C = '\\7F\\80\\AB\\FF'\n"),
 ];
-
-/// Whether the words, which single blanks part, are of the form.
-fn has_form(alloc: Global, text: &str, form: Form) -> Result<bool, AllocError> {
-    let mut words = Vec::new(alloc);
-    if !text.is_empty() {
-        for word in text.split(' ') {
-            words.push(String::from_str(alloc, word)?)?;
-        }
-    }
-    Ok(read_words(alloc, &words)? == form)
-}
-
-#[test]
-fn forms(rt: HostRuntime) -> Result<(), Fail> {
-    for (text, form) in WORDS.iter() {
-        assert!(rt; has_form(rt.alloc(), text, *form)?, "{text}");
-    }
-    Ok(())
-}
 
 #[test]
 fn answers(rt: HostRuntime) -> Result<(), Fail> {

@@ -1,0 +1,8 @@
+use Rattle.std.proofs.Common.{sym, ◌∙◌}
+use Rattle.clap.specs.Words.{app_of}
+use Rattle.fj_report.proofs.GivenLemmas.{simple_of, rows_given, none_given}
+use Rattle.fj_report.proofs.given.given.Goals as goal
+
+pub returns-in-Ok : goal.returns-in-Ok
+returns-in-Ok c =
+    rows_given (app_of c.args.command) _ _ (c.in-Ok.ensures.kinds c.requires) (c.in-Ok.ensures.matches (simple_of (app_of c.args.command) c.requires)).0
