@@ -14,7 +14,7 @@ use Rattle.clap.proofs.WalkLemmas.{first_value-rows}
 use Rattle.fj_value.specs.Digits.{number_in}
 use Rattle.fj_report.specs.declared.form.Form.{Form}
 use Rattle.fj_report.specs.declared.form.Form.TheVariants.{Run, Alone, Check, Gen, Wrong}
-use Rattle.fj_report.specs.Words.{given, has_flag, number_behind, number_up_to, run_command, alone_command, check_command, gen_command, run_with, alone_with, gen_with, run_form, alone_form, check_form, gen_form}
+use Rattle.fj_report.specs.Words.{given, has_flag, number_behind, number_up_to, run_command, alone_command, check_command, gen_command, run_with, alone_with, gen_with, run_form, alone_form, check_form, gen_form, form_of}
 
 left_true : (a b : Bool) → (a && b) ≡ true → a ≡ true
 left_true true b e = refl
@@ -31,7 +31,7 @@ rows_given a words rows none is = sym (ap (λ faults. if is_empty faults then So
 among_some : (faults : Kinds) (e : Error) → HasKind faults e → (kind_of e ≡ OutOfMemory → ⊥) → is_empty faults ≡ false
 among_some [] e (inl memory) other = absurd (other memory)
 among_some [] e (inr among) other = absurd among
-among_some (f ∷ fs) e h other = refl
+among_some (f ∷ fs) e h other = grind (arith, nat_tests)
 
 -- where it finds one, nothing is
 pub none_given : (a : App) (words : List Text) (e : Error) → HasKind (fault_of a words) e → (kind_of e ≡ OutOfMemory → ⊥) → None ≡ given a words
@@ -168,3 +168,38 @@ unfolding gen_form
 gen_is words rows seed count text e some_seed some_count flag =
     ap (Gen seed count) flag ∙ ap (λ o. option_map_or (λ count. Gen seed count (has_flag (codes "text") rows)) o Wrong) some_count
     ∙ ap (λ o. option_map_or (with_count rows) o Wrong) some_seed ∙ ap (λ o. option_map_or gen_with o Wrong) e
+
+-- ---- the name of a command
+
+abbrev by_name : Bool → Bool → Bool → Bool → List Text → Form
+by_name run alone check gen words =
+    if run then run_form words else if alone then alone_form words else if check then check_form words else if gen then gen_form words else Wrong
+
+module _ (name : Text) (words : List Text) (not_run : bytes_eq name (codes "run") ≡ false) where
+  to_alone : form_of (name ∷ words) ≡ by_name false (bytes_eq name (codes "alone")) (bytes_eq name (codes "check")) (bytes_eq name (codes "gen")) words
+  unfolding form_of
+  to_alone = ap (λ b. by_name b (bytes_eq name (codes "alone")) (bytes_eq name (codes "check")) (bytes_eq name (codes "gen")) words) not_run
+
+  pub named_alone : bytes_eq name (codes "alone") ≡ true → alone_form words ≡ form_of (name ∷ words)
+  named_alone e = sym (to_alone ∙ ap (λ b. by_name false b (bytes_eq name (codes "check")) (bytes_eq name (codes "gen")) words) e)
+
+  module _ (not_alone : bytes_eq name (codes "alone") ≡ false) where
+    to_check : form_of (name ∷ words) ≡ by_name false false (bytes_eq name (codes "check")) (bytes_eq name (codes "gen")) words
+    to_check = to_alone ∙ ap (λ b. by_name false b (bytes_eq name (codes "check")) (bytes_eq name (codes "gen")) words) not_alone
+
+    pub named_check : bytes_eq name (codes "check") ≡ true → check_form words ≡ form_of (name ∷ words)
+    named_check e = sym (to_check ∙ ap (λ b. by_name false false b (bytes_eq name (codes "gen")) words) e)
+
+    module _ (not_check : bytes_eq name (codes "check") ≡ false) where
+      to_gen : form_of (name ∷ words) ≡ by_name false false false (bytes_eq name (codes "gen")) words
+      to_gen = to_check ∙ ap (λ b. by_name false false b (bytes_eq name (codes "gen")) words) not_check
+
+      pub named_gen : bytes_eq name (codes "gen") ≡ true → gen_form words ≡ form_of (name ∷ words)
+      named_gen e = sym (to_gen ∙ ap (λ b. by_name false false false b words) e)
+
+      pub named_nothing : bytes_eq name (codes "gen") ≡ false → Wrong ≡ form_of (name ∷ words)
+      named_nothing e = sym (to_gen ∙ ap (λ b. by_name false false false b words) e)
+
+pub named_run : (name : Text) (words : List Text) → bytes_eq name (codes "run") ≡ true → run_form words ≡ form_of (name ∷ words)
+unfolding form_of
+named_run name words e = sym (ap (λ b. by_name b (bytes_eq name (codes "alone")) (bytes_eq name (codes "check")) (bytes_eq name (codes "gen")) words) e)

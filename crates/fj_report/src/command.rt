@@ -36,7 +36,9 @@ fn workers_option<'a>(alloc: Global) -> Arg<'a>
     ensures rule { rule_of result ≡ workers_option }
     ensures local { result.global ≡ false }
 {
-    Arg::new(alloc, "workers").long("workers").default_value("4")
+    Arg::new(alloc, "workers")
+        .long("workers")
+        .default_value("4")
 }
 
 pub fn run_command<'a>(alloc: Global) -> Result<Command<'a>, AllocError>

@@ -42,7 +42,12 @@ static GENERATED: [(&str, u32, u32, bool); 13] = [
     ("gen --count=2 --text --seed=1", 1, 2, true),
     ("gen --seed 1 --count 2 --text", 1, 2, true),
     ("gen --count 2 --seed 1 --text --", 1, 2, true),
-    ("gen --seed 2147483647 --count 20000", 2_147_483_647, 20_000, false),
+    (
+        "gen --seed 2147483647 --count 20000",
+        2_147_483_647,
+        20_000,
+        false,
+    ),
     ("gen --seed 0000000001 --count 0000000002", 1, 2, false),
 ];
 
@@ -140,7 +145,10 @@ fn forms(rt: HostRuntime) -> Result<(), Fail> {
         assert!(rt; form_of(alloc, words)? == form, "{words}");
     }
     for (words, trace) in ALONE.iter() {
-        assert!(rt; form_of(alloc, words)? == Form::Alone { trace: *trace }, "{words}");
+        assert!(rt;
+            form_of(alloc, words)? == Form::Alone { trace: *trace },
+            "{words}"
+        );
     }
     for words in ["check", "check --"].iter() {
         assert!(rt; form_of(alloc, words)? == Form::Check, "{words}");
