@@ -1,5 +1,8 @@
 // Each line of the report once.
-use crate::{Status, check_line, status_line, trace_line, usage_line, variable_line};
+use crate::{
+    Status, Summary, Tell, check_line, status_line, summary_line, trace_line, trace_lines,
+    usage_line, variable_line,
+};
 use fj_statement::Reason;
 use fj_value::{Rule, Tag, Text, Value};
 use std::test::Fail;
@@ -156,5 +159,42 @@ fn variables(rt: HostRuntime) -> Result<(), Fail> {
         variable_line(b"C", 0, Some(&value), &mut out)?;
         assert_eq!(rt; out.bytes(), *line);
     }
+    Ok(())
+}
+
+#[test]
+fn traces(rt: HostRuntime) -> Result<(), Fail> {
+    let told = |stmt, tag, code| Tell {
+        stmt,
+        unit: 10,
+        tag: Tag(tag),
+        code,
+    };
+    let mut out = Text::new(rt.alloc());
+    let tells = [told(7, 1, 0), told(8, 2, 0), told(8, 3, -1), told(8, 4, -1)];
+    trace_lines(&tells, &mut out)?;
+    assert_eq!(rt;
+        out.bytes(),
+        b"~ 7 10 1 0\n~ 8 10 2 0\n~ 8 10 3 -1\n~ 8 10 4 -1\n".as_slice()
+    );
+    Ok(())
+}
+
+#[test]
+fn summaries(rt: HostRuntime) -> Result<(), Fail> {
+    let summary = Summary {
+        seed: 1,
+        count: 20_000,
+        statements: 50_003,
+        tells: 20_000,
+        conditions: 0,
+        bytes: 140_000,
+        sum: 5_231_001,
+    };
+    let mut out = Text::new(rt.alloc());
+    summary_line(&summary, &mut out)?;
+    let line =
+        b"= gen seed 1 count 20000: 50003 statements, 20000 tells, 0 conditions, 140000 bytes, sum 5231001\n";
+    assert_eq!(rt; out.bytes(), line.as_slice());
     Ok(())
 }
