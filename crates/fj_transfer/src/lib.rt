@@ -8,6 +8,7 @@ mod formatted;
 mod hand;
 mod input;
 mod laws;
+mod listed;
 mod print;
 mod reader;
 mod stored;
@@ -25,6 +26,7 @@ pub use laws::{
     direct_records_stand_apart, errors_leave_the_connection, items_are_in_order,
     stream_output_keeps_the_others, unformatted_records_come_back,
 };
+pub use listed::{read_grouped, read_listed};
 pub use print::{print_explicit, print_records};
 pub use stored::body_of;
 pub use transfer::{Layout, Members, Transfer, TransferSpec};
