@@ -133,6 +133,9 @@ rest_fits c text next w short holds past =
       past,
     )
 
+none_left : (n : ℕ) → n - 0 ≡ n
+none_left n = omega arith
+
 -- one that fits or not
 rest_either : (c : Connection) (text : List ℕ) (next : ℕ) → c.spot.within ≡ Reading → text ≡ rest_of_record c → past_record c ≡ between c next
     → IsNextRecord None c (cond (nat_lt c.modes.recl (begun c + length text)) TooLong (Line next)) text
@@ -152,7 +155,7 @@ rest_looked_at c read text w is =
       | inr none ↦
           let past : length c.bytes ≤ c.spot.at = omega (arith, none, length-drop c.spot.at c.bytes) in
           let nothing : bytes_behind c ≡ [] = drop_all c.spot.at c.bytes past in
-          let last : length c.bytes - length (behind_line (bytes_behind c)) ≡ length c.bytes = ap (λ b. length c.bytes - length (behind_line b)) nothing in
+          let last : length c.bytes - length (behind_line (bytes_behind c)) ≡ length c.bytes = ap (λ b. length c.bytes - length (behind_line b)) nothing ∙ none_left (length c.bytes) in
           subst P (at_end c.bytes c.spot.at c.modes.recl past ∙ sym is) (λ h. rest_either c text (length c.bytes) w (h ∙ ap first_line (sym nothing)) (ap (between c) last))
       | inl some ↦ elim (cases_lt c.modes.recl (length (rest_of_record c))) [
         | inl long ↦ subst P (at_long c.bytes c.spot.at c.modes.recl some long ∙ sym is) (λ h. rest_long c text w (omega (arith, long)))
@@ -201,7 +204,7 @@ past_more : (records : List (List ℕ)) (c : Connection) → past_records record
 past_more [] c = refl
 past_more (line ∷ more) c = past_more more (past_record c)
 
-further : (n : ℕ) (records : List (List ℕ)) (c : Connection) → n < length records → past_records (drop n records) c ≡ past_record (past_records (drop (n + 1) records) c)
+further : (n : ℕ) (records : List (List ℕ)) (c : Connection) → n < length records → past_records (drop n records) c ≡ past_record (past_records (drop (suc n) records) c)
 further n [] c low = absurd (omega (arith, low))
 further zero (line ∷ more) c low = past_more more c
 further (suc n) (line ∷ more) c low = further n more c (omega (arith, low))
@@ -213,7 +216,7 @@ pub one_further : (c now next : Connection) (text : List ℕ) → length (record
     → records_to_come now ≡ text ∷ records_to_come next → past_record now ≡ next
     → (length (records_to_come next) ≤ length (records_to_come c)) × (behind_looked_at c (length (records_to_come next)) ≡ next)
 one_further c now next text low is come past =
-    let long : length (records_to_come now) ≡ length (records_to_come next) + 1 = ap length come in (
+    let long : length (records_to_come now) ≡ suc (length (records_to_come next)) = ap length come in (
       omega (arith, low, long),
       further (length (records_to_come next)) (records_to_come c) c (omega (arith, low, long)) ∙ ap past_record (ap (behind_looked_at c) (sym long) ∙ is) ∙ past,
     )

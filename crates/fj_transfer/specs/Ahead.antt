@@ -1,6 +1,9 @@
 -- The records that list-directed and namelist input has still to read (ISO/IEC 1539-1:2004, 9.5.3), and where it began.
 use Rattle.std.specs.Prelude.{◌≡◌, ℕ, ◌+◌, ◌-◌, ◌<◌, ◌≤◌, nat_lt, true, false, List, [], ◌∷◌, length, drop, Option, Some, None, if◌then◌else◌}
+use Rattle.fj_value.specs.declared.edit.EditModes.{EditModes}
 use Rattle.fj_value.specs.declared.edit.Delim.TheVariants.{Plain}
+use Rattle.fj_modes.specs.declared.modes.Modes.{Modes}
+use Rattle.fj_connect.specs.declared.spot.Spot.{Spot}
 use Rattle.fj_value.specs.declared.value.Cell.{Cell}
 use Rattle.fj_value.specs.declared.condition.Condition.{Condition}
 use Rattle.fj_value.specs.declared.condition.Condition.TheVariants.{EndOfFile, Error}
@@ -61,9 +64,9 @@ pub record Begun : Type 0 where
 -- one of them
 abbrev pub nowhere : Begun
 nowhere =
-    let edit = record { blank_zero = false; comma = false; delim = Plain; pad = false; plus = false } in
-    let modes = record { access = Stream; formatted = true; recl = 1; action = Read; asynchronous = false; scratch = false; start = AsIs; edit = edit } in
-    let spot = record { at = 0; start = 0; within = Outside; after_end = false; next_number = 1 } in
+    let edit : EditModes = record { blank_zero = false; comma = false; delim = Plain; pad = false; plus = false } in
+    let modes : Modes = record { access = Stream; formatted = true; recl = 1; action = Read; asynchronous = false; scratch = false; start = AsIs; edit = edit } in
+    let spot : Spot = record { at = 0; start = 0; within = Outside; after_end = false; next_number = 1 } in
     record { connection = record { modes = modes; name = []; bytes = []; spot = spot }; size = 0; place = None }
 
 -- the connection at a place, or still at its position
