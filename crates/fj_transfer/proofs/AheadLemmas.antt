@@ -1,6 +1,10 @@
 -- The records that list-directed and namelist input looks at, and where it comes to.
 use Rattle.std.proofs.Common.{◌≡◌, ◌<◌, ◌≤◌, ◌+◌, ◌-◌, ℕ, zero, suc, Bool, true, false, cond, List, [], ◌∷◌, length, take, drop, Option, Some, None, arith, refl, sym, ap, subst, ◌∙◌, inl, inr}
-use Rattle.std.specs.Prelude.{nat_lt, IfOk}
+use Rattle.std.specs.Prelude.{nat_lt, unwrap_or, IfOk, Result, Ok, Err}
+use Rattle.fj_outside.specs.declared.errors.Stop.{Stop}
+use Rattle.fj_connect.specs.declared.spot.Spot.{Spot}
+use Rattle.fj_connect.specs.Spot.{is_reading, size_ended}
+use Rattle.fj_list.specs.Scan.{IsOutcome}
 use Rattle.std.proofs.lemmas.Bool.{cases_lt, lt-ltb, le-ltb}
 use Rattle.std.proofs.lemmas.List.{drop_all, drop_at, drop-drop, length-drop}
 use Rattle.fj_value.specs.declared.value.Cell.{Cell}
@@ -16,12 +20,11 @@ use Rattle.fj_seqrec.proofs.ReadLaws.{at_line, at_long, at_end}
 use Rattle.fj_list.specs.ListInput.{Outcome, condition_of}
 use Rattle.fj_connect.specs.Connection.{Connection, bytes_behind, rest_of_record, begun, between, past_record, past_end}
 use Rattle.fj_connect.specs.Positions.{ended}
-use Rattle.fj_connect.specs.Spot.{is_reading}
 use Rattle.fj_connect.specs.declared.spot.Within.{Within}
 use Rattle.fj_connect.specs.declared.spot.Within.TheVariants.{Outside, Reading, Writing}
-use Rattle.fj_transfer.specs.Ahead.{ending_of, IsNextRecord, rest_read, behind_looked_at, ways_from, Comes}
+use Rattle.fj_transfer.specs.Ahead.{ending_of, IsNextRecord, rest_read, behind_looked_at, ways_from, come_to, Begun, HasCome, Comes}
 use Rattle.fj_transfer.specs.declared.reached.Reached.{Reached}
-use Rattle.fj_transfer.specs.Places.{at_place}
+use Rattle.fj_transfer.specs.Places.{at_place, IsPlace}
 use Rattle.fj_transfer.specs.Transfer.{Done, input_done, up_to_excess, behind_them, rest_exceeds, records_to_come, condition_to_come, past_records, records_read}
 
 -- ---- the lines of bytes
@@ -249,3 +252,120 @@ comes_to old place reached cells before o is =
     ∙ ap (λ (x : Connection). input_done (record { old = old; end_of_file = x; end_of_record = old; fine = behind }) cells None reached.condition) (end_anywhere (ended old) place)
     ∙ ap (λ (x : List Cell). input_done (record { old = old; end_of_file = past_end (at_place place (ended old)); end_of_record = old; fine = behind }) x None reached.condition) is.cells_are
     ∙ ap (λ (k : Condition). input_done (record { old = old; end_of_file = past_end (at_place place (ended old)); end_of_record = old; fine = behind }) o.cells None k) is.condition_is
+
+-- ---- the same of answers
+
+pub outside_if : (r : Result RecordRead Stop) (c : Connection) (s : Spot) (text : List ℕ) → s ≡ c.spot → s.within ≡ Outside
+    → IfOk r (λ read. read ≡ record_at (ended c).bytes s.at c.modes.recl) → IfOk r (λ read. HoldsRecord (ended c).bytes s.at read text) → IfOk r (λ read. IsNextRecord None (ended c) read text)
+outside_if (Err stop) c s text e w is holds = tt
+outside_if (Ok read) c s text e w is holds =
+    here_outside c read text (ap (λ (x : Spot). x.within) (sym e) ∙ w) (is ∙ ap (λ (x : Spot). record_at (ended c).bytes x.at c.modes.recl) e) (subst (λ (x : Spot). HoldsRecord (ended c).bytes x.at read text) e holds)
+
+pub writing_if : (r : Result RecordRead Stop) (c : Connection) (s : Spot) (text : List ℕ) → s ≡ c.spot → s.within ≡ Writing
+    → IfOk r (λ read. read ≡ record_at (ended c).bytes (s.at + 1) c.modes.recl) → IfOk r (λ read. HoldsRecord (ended c).bytes (s.at + 1) read text) → IfOk r (λ read. IsNextRecord None (ended c) read text)
+writing_if (Err stop) c s text e w is holds = tt
+writing_if (Ok read) c s text e w is holds =
+    here_writing c read text (ap (λ (x : Spot). x.within) (sym e) ∙ w) (is ∙ ap (λ (x : Spot). record_at (ended c).bytes (x.at + 1) c.modes.recl) e) (subst (λ (x : Spot). HoldsRecord (ended c).bytes (x.at + 1) read text) e holds)
+
+pub place_if : (r : Result RecordRead Stop) (c : Connection) (place : Option ℕ) (at : ℕ) (text : List ℕ) → place ≡ Some at
+    → IfOk r (λ read. read ≡ record_at (ended c).bytes at c.modes.recl) → IfOk r (λ read. HoldsRecord (ended c).bytes at read text) → IfOk r (λ read. IsNextRecord place (ended c) read text)
+place_if (Err stop) c place at text e is holds = tt
+place_if (Ok read) c place at text e is holds = subst (λ (x : Option ℕ). IsNextRecord x (ended c) read text) (sym e) (place_looked_at c at read text is holds)
+
+-- ---- the input over its records
+
+pub place_from : (place : Option ℕ) (size : ℕ) → IsPlace place size → unwrap_or place 0 ≤ size
+place_from None size h = omega arith
+place_from (Some at) size h = h
+
+pub place_to : (place : Option ℕ) (size : ℕ) → unwrap_or place 0 ≤ size → IsPlace place size
+place_to None size h = tt
+place_to (Some at) size h = h
+
+pub starts : (tells : Type 0) (now : Connection) (size : ℕ) (place : Option ℕ) (b : Begun) → b ≡ record { connection = now; size = size; place = place } → IsPlace place (size_ended now.spot size)
+    → HasCome tells now size place b
+starts tells now size place b is within =
+    let P : Begun → Type 0 = λ x. HasCome tells now size place x in
+    subst P (sym is) (record {
+      modes = refl;
+      name = refl;
+      spot = refl;
+      bytes = λ t. refl;
+      extent = refl;
+      within = place_from place (size_ended now.spot size) within;
+      fewer = λ t. omega arith;
+      behind = λ t. nothing_looked_at (at_place place (ended now));
+    })
+
+pub same_as : (tells : Type 0) (now old : Connection) (size before : ℕ) (to place : Option ℕ) (b : Begun) → HasCome tells now size to b → b ≡ record { connection = old; size = before; place = place } → tells → now ≡ old
+same_as tells now old size before to place b h is t =
+    same_connection now b.connection h.modes h.name (h.bytes t) h.spot ∙ ap (λ (x : Begun). x.connection) is
+
+pub goes_further : (tells : Type 0) (now : Connection) (size : ℕ) (place : Option ℕ) (b : Begun) (next : ℕ) (text : List ℕ) → HasCome tells now size place b → next ≤ size_ended now.spot size
+    → (tells → IsNextRecord place (ended now) (Line next) text) → HasCome tells now size (Some next) b
+goes_further tells now size place b next text h within come =
+    let same : tells → now ≡ b.connection = λ t. same_connection now b.connection h.modes h.name (h.bytes t) h.spot in
+    let there : tells → IsNextRecord place (ended b.connection) (Line next) text = λ t. subst (λ (x : Connection). IsNextRecord place (ended x) (Line next) text) (same t) (come t) in
+    let on : tells → (length (records_to_come (come_to b (Some next))) ≤ length (records_to_come (come_to b b.place))) × (behind_looked_at (come_to b b.place) (length (records_to_come (come_to b (Some next)))) ≡ come_to b (Some next)) =
+    λ t. one_further (come_to b b.place) (come_to b place) (come_to b (Some next)) text (h.fewer t) (h.behind t) (there t).0 (there t).2 in
+    record {
+      modes = h.modes;
+      name = h.name;
+      spot = h.spot;
+      bytes = h.bytes;
+      extent = h.extent;
+      within = within;
+      fewer = λ t. (on t).0;
+      behind = λ t. (on t).1;
+    }
+
+pub came : (tells : Type 0) (now old : Connection) (size before : ℕ) (to place : Option ℕ) (b : Begun) → HasCome tells now size to b → b ≡ record { connection = old; size = before; place = place } → tells
+    → (condition : Condition) (cells : List Cell) (o : Outcome) → IsOutcome condition o cells (records_to_come (at_place to (ended now))) → Comes (record { condition = condition; place = to }) cells (ended old) place o
+came tells now old size before to place b h is t condition cells o out =
+    let P : Begun → Type 0 = λ x. HasCome tells now size to x in
+    let h' = subst P is h in
+    let same = same_as tells now old size before to place b h is t in
+    record {
+      condition_is = out.condition_is;
+      cells_are = out.cells_are;
+      place_is = sym (h'.behind t)
+          ∙ ap (λ (l : List (List ℕ)). behind_looked_at (at_place place (ended old)) (length l)) (ap (λ (x : Connection). records_to_come (at_place to (ended x))) (sym same) ∙ out.left_are);
+    }
+
+-- the same behind a look that read the file
+pub further_on : (tells tells' : Type 0) (now now' : Connection) (size size' : ℕ) (place : Option ℕ) (b : Begun) (next : ℕ) (text : List ℕ) → HasCome tells now size place b → (tells' → tells)
+    → now' ≡ record now { bytes = now'.bytes } → (tells → now'.bytes ≡ now.bytes) → size' ≡ size → (tells → IsNextRecord place (ended now) (Line next) text) → next ≤ size_ended now.spot size
+    → HasCome tells' now' size' (Some next) b
+further_on tells tells' now now' size size' place b next text h told like same extent come within =
+    let on = goes_further tells now size place b next text h within come in
+    let spot : now'.spot ≡ now.spot = ap (λ (x : Connection). x.spot) like in
+    record {
+      modes = ap (λ (x : Connection). x.modes) like ∙ on.modes;
+      name = ap (λ (x : Connection). x.name) like ∙ on.name;
+      spot = spot ∙ on.spot;
+      bytes = λ t. same (told t) ∙ on.bytes (told t);
+      extent = extent ∙ on.extent;
+      within = subst (λ (x : Spot). next ≤ size_ended x size') (sym spot) (subst (λ (n : ℕ). next ≤ size_ended now.spot n) (sym extent) within);
+      fewer = λ t. on.fewer (told t);
+      behind = λ t. on.behind (told t);
+    }
+
+-- what stays, told or not
+pub record Stays (now old : Connection) (size before : ℕ) (to : Option ℕ) : Type 0 where
+  pub modes : now.modes ≡ old.modes
+  pub name : now.name ≡ old.name
+  pub spot : now.spot ≡ old.spot
+  pub extent : size ≡ before
+  pub within : IsPlace to (size_ended old.spot before)
+
+pub stays : (tells : Type 0) (now old : Connection) (size before : ℕ) (to place : Option ℕ) (b : Begun) → HasCome tells now size to b → b ≡ record { connection = old; size = before; place = place } → Stays now old size before to
+stays tells now old size before to place b h is =
+    let P : Begun → Type 0 = λ x. HasCome tells now size to x in
+    let h' = subst P is h in
+    record {
+      modes = h'.modes;
+      name = h'.name;
+      spot = h'.spot;
+      extent = h'.extent;
+      within = subst (λ (x : Spot). IsPlace to (size_ended x before)) h'.spot (subst (λ (n : ℕ). IsPlace to (size_ended now.spot n)) h'.extent (place_to to (size_ended now.spot size) h'.within));
+    }

@@ -1,5 +1,5 @@
 -- The records that list-directed and namelist input has still to read (ISO/IEC 1539-1:2004, 9.5.3), and where it began.
-use Rattle.std.specs.Prelude.{◌≡◌, ℕ, ◌+◌, ◌-◌, ◌<◌, ◌≤◌, nat_lt, true, false, List, [], ◌∷◌, length, drop, Option, Some, None, if◌then◌else◌}
+use Rattle.std.specs.Prelude.{◌≡◌, ℕ, ◌+◌, ◌-◌, ◌<◌, ◌≤◌, nat_lt, true, false, List, [], ◌∷◌, length, drop, Option, Some, None, unwrap_or, if◌then◌else◌}
 use Rattle.fj_value.specs.declared.edit.EditModes.{EditModes}
 use Rattle.fj_value.specs.declared.edit.Delim.TheVariants.{Plain}
 use Rattle.fj_modes.specs.declared.modes.Modes.{Modes}
@@ -17,7 +17,7 @@ use Rattle.fj_connect.specs.Connection.{Connection, between, past_record, past_e
 use Rattle.fj_connect.specs.Positions.{ended}
 use Rattle.fj_connect.specs.Spot.{size_ended}
 use Rattle.fj_connect.specs.declared.spot.Within.TheVariants.{Outside}
-use Rattle.fj_transfer.specs.Places.{at_place, IsPlace}
+use Rattle.fj_transfer.specs.Places.{at_place}
 use Rattle.fj_transfer.specs.Transfer.{Ways, records_to_come, condition_to_come, past_records}
 use Rattle.fj_transfer.specs.declared.reached.Reached.{Reached}
 
@@ -84,7 +84,7 @@ pub record HasCome (tells : Type 0) (now : Connection) (size : ℕ) (place : Opt
   pub spot : now.spot ≡ b.connection.spot
   pub bytes : tells → now.bytes ≡ b.connection.bytes
   pub extent : size ≡ b.size
-  pub within : IsPlace place (size_ended now.spot size)
+  pub within : unwrap_or place 0 ≤ size_ended now.spot size
   pub fewer : tells → length (records_to_come (come_to b place)) ≤ length (records_to_come (come_to b b.place))
   pub behind : tells → behind_looked_at (come_to b b.place) (length (records_to_come (come_to b place))) ≡ come_to b place
 

@@ -76,6 +76,7 @@ impl<F: FileStore, B: Beginning> Records for RecordsAhead<'_, F, B> {
 }
 
 /// Reads the items by list-directed formatting. The connection stays.
+#[tactic(auto, using(crate::proofs::AheadLemmas::same_as))]
 pub fn list_from<F: FileStore, B: Beginning>(
     alloc: Global,
     connection: &mut Connection<F>,
@@ -114,6 +115,7 @@ pub fn list_from<F: FileStore, B: Beginning>(
 }
 
 /// Reads a namelist group. The connection stays.
+#[tactic(auto, using(crate::proofs::AheadLemmas::same_as))]
 pub fn group_from<F: FileStore, B: Beginning>(
     alloc: Global,
     connection: &mut Connection<F>,

@@ -1,15 +1,12 @@
 // A look at the next record of a connection, for list-directed and namelist input.
-ghost use Rattle.std.specs.Prelude.{◌≡◌, ◌+◌, ◌-◌, ◌<◌, ◌≤◌, ◌↔◌, length, false, IfOk, List, ℕ};
+ghost use Rattle.std.specs.Prelude.{◌≡◌, ◌+◌, ◌-◌, ◌<◌, ◌≤◌, ◌↔◌, None, unwrap_or, IfOk};
 ghost use Rattle.fj_outside.specs.Faults.{Rose};
-ghost use Rattle.fj_modes.specs.Words.{same_access};
 ghost use Rattle.fj_connect.specs.Linked.{connection_of};
 ghost use Rattle.fj_connect.specs.Positions.{ended};
 ghost use Rattle.fj_connect.specs.Spot.{size_ended};
 ghost use Rattle.fj_transfer.specs.Ahead.{rest_read, IsNextRecord, GoesOn};
-ghost use Rattle.fj_transfer.specs.Places.{IsPlace};
 
 use fj_connect::{Connection, Spot, Within};
-use fj_modes::Access;
 use fj_outside::{FileStore, Stop};
 use fj_seqrec::RecordRead;
 
@@ -81,7 +78,7 @@ pub fn look_on<F: FileStore>(
     connection: &mut Connection<F>,
     place: Option<u64>,
 ) -> Result<RecordRead, Stop>
-    requires { IsPlace place (size_ended connection.old.spot (F.size connection.old.file)) }
+    requires { unwrap_or place 0 ≤ size_ended connection.old.spot (F.size connection.old.file) }
     ensures telling { F.tells connection.old.file ↔ F.tells connection.new.file }
     ensures same { F.tells connection.old.file → F.bytes connection.new.file ≡ F.bytes connection.old.file }
     ensures next { F.tells connection.old.file → IfOk result (λ read.
