@@ -1,12 +1,12 @@
 -- The records that list-directed and namelist input looks at, and where it comes to.
-use Rattle.std.proofs.Common.{◌≡◌, ◌<◌, ◌≤◌, ◌+◌, ◌-◌, ℕ, zero, suc, Bool, true, false, cond, List, [], ◌∷◌, length, take, drop, Option, Some, None, arith, refl, sym, ap, subst, ◌∙◌, inl, inr}
+use Rattle.std.proofs.Common.{◌≡◌, ◌<◌, ◌≤◌, ◌+◌, ◌-◌, ℕ, zero, suc, true, false, cond, List, [], ◌∷◌, length, drop, Option, Some, None, arith, refl, sym, ap, subst, ◌∙◌, inl, inr}
 use Rattle.std.specs.Prelude.{nat_lt, unwrap_or, IfOk, Result, Ok, Err}
 use Rattle.fj_outside.specs.declared.errors.Stop.{Stop}
 use Rattle.fj_connect.specs.declared.spot.Spot.{Spot}
 use Rattle.fj_connect.specs.Spot.{is_reading, size_ended}
 use Rattle.fj_list.specs.Scan.{IsOutcome}
 use Rattle.std.proofs.lemmas.Bool.{cases_lt, lt-ltb, le-ltb}
-use Rattle.std.proofs.lemmas.List.{drop_all, drop_at, drop-drop, length-drop}
+use Rattle.std.proofs.lemmas.List.{drop_all, drop-drop, length-drop}
 use Rattle.fj_value.specs.declared.value.Cell.{Cell}
 use Rattle.fj_value.specs.declared.condition.Condition.{Condition}
 use Rattle.fj_value.specs.declared.condition.Condition.TheVariants.{Fine, EndOfFile, EndOfRecord, Error}
@@ -25,7 +25,7 @@ use Rattle.fj_connect.specs.declared.spot.Within.TheVariants.{Outside, Reading, 
 use Rattle.fj_transfer.specs.Ahead.{ending_of, IsNextRecord, rest_read, behind_looked_at, ways_from, come_to, Begun, HasCome, Comes}
 use Rattle.fj_transfer.specs.declared.reached.Reached.{Reached}
 use Rattle.fj_transfer.specs.Places.{at_place, IsPlace}
-use Rattle.fj_transfer.specs.Transfer.{Done, input_done, up_to_excess, behind_them, rest_exceeds, records_to_come, condition_to_come, past_records, records_read}
+use Rattle.fj_transfer.specs.Transfer.{input_done, up_to_excess, behind_them, rest_exceeds, records_to_come, condition_to_come, past_records, records_read}
 
 -- ---- the lines of bytes
 

@@ -144,7 +144,6 @@ pub fn read_grouped<F: FileStore>(
     ensures later { F.count connection.old.file ≤ F.count connection.new.file }
     ensures failed { result ≡ Err Stop.Failed → Rose (F.count connection.old.file) (F.count connection.new.file) }
 {
-    let reached =
-        group_from::<F, Brand>(alloc, connection, place, group, members, modes, moved)?;
+    let reached = group_from::<F, Brand>(alloc, connection, place, group, members, modes, moved)?;
     leave(connection, reached, &mut moved.cells)
 }

@@ -1,5 +1,5 @@
 use Rattle.fj_connect.specs.Linked.{connection_of}
-use Rattle.fj_transfer.proofs.AheadLemmas.{outside_if, writing_if}
+use Rattle.fj_transfer.proofs.AheadLemmas.{outside_if}
 use Rattle.fj_transfer.proofs.look.look_here.Goals as goal
 
 pub returns-in-Outside-clause-next : goal.returns-in-Outside-clause-next
