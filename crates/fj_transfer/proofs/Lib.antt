@@ -6,4 +6,5 @@ pub mod FormattedLemmas
 pub mod TransferProofs
 pub mod FieldLemmas
 pub mod ReaderLemmas
+pub mod AheadLemmas
 pub mod Cases

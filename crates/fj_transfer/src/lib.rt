@@ -1,6 +1,7 @@
 //! One whole transfer: what a READ or WRITE transfers, and the records that it writes (ISO/IEC 1539-1:2004, 9.5 and 10.1).
 #![tactic(auto)]
 
+mod ahead;
 mod change;
 mod explicit;
 mod fields;
@@ -8,7 +9,10 @@ mod formatted;
 mod hand;
 mod input;
 mod laws;
+mod listed;
+mod look;
 mod print;
+mod reached;
 mod reader;
 mod stored;
 #[cfg(test)]
@@ -25,6 +29,7 @@ pub use laws::{
     direct_records_stand_apart, errors_leave_the_connection, items_are_in_order,
     stream_output_keeps_the_others, unformatted_records_come_back,
 };
+pub use listed::{read_grouped, read_listed};
 pub use print::{print_explicit, print_records};
 pub use stored::body_of;
 pub use transfer::{Layout, Members, Transfer, TransferSpec};
