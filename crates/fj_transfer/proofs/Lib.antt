@@ -7,3 +7,6 @@ pub mod TransferProofs
 pub mod FieldLemmas
 pub mod ReaderLemmas
 pub mod Cases
+pub mod PieceLemmas
+pub mod NumberedLemmas
+pub mod GroupLemmas
