@@ -45,3 +45,9 @@ byte_within size (Some n) = if nat_le n (size + 1) then Ok (start.Byte (n - 1)) 
 abbrev pub place_of : Start → Option ℕ
 place_of (start.Byte place) = Some place
 place_of _ = None
+
+-- whether POS= names it
+abbrev pub IsNamed : Start → Bool → Type 0
+IsNamed start.Here named = named ≡ false
+IsNamed (start.Byte place) named = named ≡ true
+IsNamed (start.Record number) named = Unit {0}

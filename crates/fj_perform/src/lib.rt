@@ -3,7 +3,7 @@
 
 mod input;
 mod output;
-mod perform;
 mod start;
+mod whole;
 
-pub use perform::perform;
+pub use whole::perform;

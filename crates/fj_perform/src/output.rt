@@ -1,5 +1,5 @@
 // A WRITE from the place where it begins (ISO/IEC 1539-1:2004, 9.5.4), by its layout and the access.
-ghost use Rattle.std.specs.Prelude.{◌≡◌, ◌≤◌, ◌↔◌, false, IfOk, OnErr};
+ghost use Rattle.std.specs.Prelude.{◌≡◌, ◌≤◌, ◌↔◌, false, is_some, IfOk, OnErr};
 ghost use Rattle.fj_value.specs.declared.condition.Condition.TheVariants.{Fine};
 ghost use Rattle.fj_outside.specs.Faults.{Rose};
 ghost use Rattle.fj_span.specs.Change.{KeepsUpToChange};
@@ -11,7 +11,7 @@ ghost use Rattle.fj_transfer.specs.Change.{changed};
 ghost use Rattle.fj_transfer.specs.Moving.{HasValues};
 ghost use Rattle.fj_transfer.specs.Printing.{control_of, IsRecords};
 ghost use Rattle.fj_transfer.specs.Transfer.{told_with, body_of, unfit, unformatted_written, written_by};
-ghost use Rattle.fj_perform.specs.Front.{started, IsStart};
+ghost use Rattle.fj_perform.specs.Front.{started, IsStart, IsNamed};
 
 use crate::start::Start;
 use fj_connect::Connection;
@@ -94,6 +94,7 @@ fn write_formatted<F: FileStore>(
     job: &Transfer,
 ) -> Result<Condition, Stop>
     requires start { IsStart connection.old.modes.access (F.size connection.old.file) start }
+    requires named { IsNamed start (is_some job.now.spec.pos) }
     requires records { IsRecords job.now.spec.layout }
     requires fit { unfit connection.old.modes job.now.spec ≡ Fine }
     ensures telling { F.tells connection.old.file ↔ F.tells connection.new.file }
@@ -135,6 +136,7 @@ pub fn write_from<F: FileStore>(
     job: &Transfer,
 ) -> Result<Condition, Stop>
     requires start { IsStart connection.old.modes.access (F.size connection.old.file) start }
+    requires named { IsNamed start (is_some job.now.spec.pos) }
     requires output { job.now.spec.input ≡ false }
     requires fit { unfit connection.old.modes job.now.spec ≡ Fine }
     ensures telling { F.tells connection.old.file ↔ F.tells connection.new.file }

@@ -1,12 +1,12 @@
 // Where a transfer begins, and what does not go together with its connection (ISO/IEC 1539-1:2004, 9.5.1).
-ghost use Rattle.std.specs.Prelude.{◌≡◌, ◌&&◌, not, is_some, if◌then◌else◌, IfOk};
+ghost use Rattle.std.specs.Prelude.{◌≡◌, ◌<◌, ◌≤◌, ◌^◌, ◌&&◌, not, is_some, if◌then◌else◌, IfOk, IfSome};
 ghost use Rattle.fj_modes.specs.Words.{same_access};
 ghost use Rattle.fj_modes.specs.declared.specifiers.Access.TheVariants.{Direct, Stream};
 ghost use Rattle.fj_value.specs.declared.condition.Condition.TheVariants.{Fine};
 ghost use Rattle.fj_connect.specs.Linked.{connection_of};
 ghost use Rattle.fj_connect.specs.Spot.{size_ended};
 ghost use Rattle.fj_transfer.specs.Transfer.{is_formatted, is_explicit, differ, is_unfit, is_forbidden, unfit, begins_at};
-ghost use Rattle.fj_perform.specs.Front.{counted, byte_within, starts, follows, IsStart};
+ghost use Rattle.fj_perform.specs.Front.{counted, byte_within, starts, follows, IsStart, IsNamed};
 
 use fj_connect::{Connection, Within};
 use fj_modes::{Access, Action, Modes};
@@ -107,7 +107,8 @@ pub fn unfit(modes: &Modes, spec: &TransferSpec) -> Condition
 
 /// A number that counts from 1.
 fn counted(n: i64) -> Option<u64>
-    ensures { result ≡ counted n }
+    ensures value { result ≡ counted n }
+    ensures near { IfSome result (λ m. (0 < m) × (m < 2 ^ 63)) }
 {
     if n < 1 { None } else { Some(n as u64) }
 }
@@ -142,6 +143,7 @@ pub fn begins_at<F: FileStore>(connection: &Connection<F>, spec: &TransferSpec) 
         starts c result ≡ begins_at spec.now c }
     ensures within { IfOk result (IsStart connection.now.modes.access
         (if spec.now.input then size_ended connection.now.spot (F.size connection.now.file) else F.size connection.now.file)) }
+    ensures named { IfOk result (λ start. IsNamed start (is_some spec.now.pos)) }
 {
     if connection.spot().after_end {
         return Err(Condition::Error(20));

@@ -10,3 +10,5 @@ pub mod Cases
 pub mod PieceLemmas
 pub mod NumberedLemmas
 pub mod GroupLemmas
+pub mod PutLemmas
+pub mod FillLemmas

@@ -1,5 +1,5 @@
 -- Records of direct access that are put at once.
-use Rattle.std.proofs.Common.{◌≡◌, ◌≢◌, ℕ, zero, suc, ◌+◌, ◌-◌, ◌*◌, ◌<◌, ◌≤◌, Bool, true, false, cond, ltb, List, [], ◌∷◌, ◌++◌, length, take, drop, replicate, max, Option, Some, None, Result, Ok, Err, refl, sym, ap, subst, ◌∙◌, arith, append_assoc}
+use Rattle.std.proofs.Common.{◌≡◌, ◌≢◌, ℕ, zero, suc, ◌+◌, ◌-◌, ◌*◌, ◌<◌, ◌≤◌, Bool, true, false, cond, ltb, List, [], ◌∷◌, ◌++◌, length, take, drop, replicate, max, Option, Some, None, Result, Ok, Err, refl, sym, ap, subst, ◌∙◌, inl, inr, arith, append_assoc}
 use Rattle.std.specs.Prelude.{nat_lt, if◌then◌else◌, OnOk}
 use Rattle.std.proofs.lemmas.Bool.{lt-ltb, le-ltb, cases_lt}
 use Rattle.std.proofs.lemmas.List.{append-nil, take_at, drop_at, drop-drop, length-append, length-take, length-drop, length-replicate}
@@ -69,7 +69,10 @@ room limit characters bytes e = by (ltb limit characters) refl e
   where
     by : (b : Bool) → ltb limit characters ≡ b → cond b (Some (Error 15)) (cond (ltb most_bytes bytes) (Some (Error 26)) None) ≡ None → characters ≤ limit
     by true is none = cc
-    by false is none = omega (arith, is)
+    by false is none = elim (cases_lt limit characters) [
+      | inl past ↦ let h : true ≡ false = sym (lt-ltb limit characters past) ∙ is in cc
+      | inr within ↦ within
+    ]
 
 none_of : (condition : Option Condition) (more : Result AtHand Condition) (last : AtHand) → unless condition more ≡ Ok last → condition ≡ None
 none_of (Some condition) more last e = cc
@@ -97,13 +100,11 @@ written_on old a b at inside =
     let rest = drop (at + length a) old in
     let long : length front ≡ at + length a = omega (arith, length-append (take at old) a, length-take at old) in
     let sum : at + length a + length b ≡ at + length (a ++ b) = omega (arith, length-append a b) in
-    let back : length b + (at + length a) ≡ at + length a + length b = omega arith in
     let behind' : drop (at + length a + length b) (front ++ rest) ≡ drop (at + length (a ++ b)) old =
-    ap (λ n. drop n (front ++ rest)) (sym back)
-    ∙ sym (drop-drop (length b) (at + length a) (front ++ rest))
+    sym (drop-drop (length b) (at + length a) (front ++ rest))
     ∙ ap (drop (length b)) (drop_at front rest (at + length a) long)
     ∙ drop-drop (length b) (at + length a) old
-    ∙ ap (λ n. drop n old) (back ∙ sum) in
+    ∙ ap (λ n. drop n old) sum in
     ap (λ s. s ++ b ++ drop (at + length a + length b) (front ++ rest)) (take_at front rest (at + length a) long)
     ∙ ap (λ s. front ++ b ++ s) behind'
     ∙ ap (λ s. s ++ drop (at + length (a ++ b)) old) (append_assoc (take at old) a b)
@@ -152,6 +153,7 @@ pieces_as_run c text (next ∷ more) some short =
 
 -- how long they are
 pub run_size : (recl fill : ℕ) (texts : List (List ℕ)) → AreShort recl texts → length (run_of recl fill texts) ≡ length texts * recl
-run_size recl fill [] short = refl
+run_size recl fill [] short = omega arith
 run_size recl fill (t ∷ ts) short =
-    length-append (filled_to t recl fill) (run_of recl fill ts) ∙ ap (λ n. n + length (run_of recl fill ts)) (record_long t recl fill short.0) ∙ ap (λ n. recl + n) (run_size recl fill ts short.1)
+    let one : length (t ∷ ts) * recl ≡ recl + length ts * recl = omega arith in
+    omega (arith, one, length-append (filled_to t recl fill) (run_of recl fill ts), record_long t recl fill short.0, run_size recl fill ts short.1)

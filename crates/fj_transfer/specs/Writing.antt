@@ -62,6 +62,6 @@ AreShort limit (text ∷ texts) = (length text ≤ limit) × AreShort limit text
 
 -- bytes that are records of this size, at least one, none longer before it was filled up
 pub record HasPieces (recl : ℕ) (records : List (List ℕ)) (run : List ℕ) : Type 0 where
-  pub run : run ≡ run_of recl 32 records
+  pub made : run ≡ run_of recl 32 records
   pub some : 0 < length records
   pub short : AreShort recl records
