@@ -51,13 +51,11 @@ pub record Filled (recl : ℕ) (printed : Result Printed Condition) (run : List 
   pub has : HasPieces recl p.records run
 
 pub filled : (recl begun : ℕ) (xs : List Action) (run : List ℕ) → Fills recl (printed_by recl begun (xs ++ end_record ∷ [])) [] (Ok tt) run → Filled recl (printed_by recl begun (xs ++ end_record ∷ [])) run
-filled recl begun xs run h = by (carried_out (first_record recl begun) acts) refl
+filled recl begun xs run h = by (carried_out (first_record recl begun) (xs ++ end_record ∷ [])) refl
   where
-    abbrev acts : List Action
-    acts = xs ++ end_record ∷ []
-
-    by : (r : Result AtHand Condition) → carried_out (first_record recl begun) acts ≡ r → Filled recl (printed_by recl begun acts) run
+    by : (r : Result AtHand Condition) → carried_out (first_record recl begun) (xs ++ end_record ∷ []) ≡ r → Filled recl (printed_by recl begun (xs ++ end_record ∷ [])) run
     by (Ok last) e =
+        let acts = xs ++ end_record ∷ [] in
         let p = printed_of (texts_of acts) in
         let whole : printed_by recl begun acts ≡ Ok p = ap (if_fine acts) e in
         let P : Result Printed Condition → Type 0 = λ r. Fills recl r [] (Ok tt) run in
@@ -74,6 +72,7 @@ filled recl begun xs run h = by (carried_out (first_record recl begun) acts) ref
           };
         }
     by (Err condition) e =
+        let acts = xs ++ end_record ∷ [] in
         let whole : printed_by recl begun acts ≡ Err condition = ap (if_fine acts) e in
         let P : Result Printed Condition → Type 0 = λ r. Fills recl r [] (Ok tt) run in
         absurd (subst P whole h)
