@@ -128,7 +128,13 @@ fn read_explicit<F: FileStore>(
     match start {
         Start::Here => read_lines(alloc, connection, None, format, advance, modes, moved),
         Start::Byte(place) => read_lines(
-            alloc, connection, Some(place), format, advance, modes, moved,
+            alloc,
+            connection,
+            Some(place),
+            format,
+            advance,
+            modes,
+            moved,
         ),
         Start::Record(number) => read_numbered(alloc, connection, number, format, modes, moved),
     }

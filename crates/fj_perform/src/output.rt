@@ -117,7 +117,13 @@ fn write_formatted<F: FileStore>(
     match start {
         Start::Here => write_lines(alloc, connection, None, layout, advance, modes, &job.moved),
         Start::Byte(place) => write_lines(
-            alloc, connection, Some(place), layout, advance, modes, &job.moved,
+            alloc,
+            connection,
+            Some(place),
+            layout,
+            advance,
+            modes,
+            &job.moved,
         ),
         Start::Record(number) => match layout {
             Layout::Explicit(format) => {

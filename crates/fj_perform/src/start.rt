@@ -137,7 +137,10 @@ fn size_for<F: FileStore>(connection: &Connection<F>, input: bool) -> u64
 }
 
 /// Where a transfer begins. The error is 20 behind the endfile record, and 21 where POS= or REC= names no place.
-pub fn begins_at<F: FileStore>(connection: &Connection<F>, spec: &TransferSpec) -> Result<Start, Condition>
+pub fn begins_at<F: FileStore>(
+    connection: &Connection<F>,
+    spec: &TransferSpec,
+) -> Result<Start, Condition>
     requires { unfit connection.now.modes spec.now ≡ Fine }
     ensures start { F.tells connection.now.file → let c = follows spec.now.input (connection_of F.bytes connection.now) in
         starts c result ≡ begins_at spec.now c }

@@ -66,9 +66,9 @@ filled recl begun xs run h = by (carried_out (first_record recl begun) (xs ++ en
           p = p;
           is = whole;
           has = record {
-              made = subst P whole h;
-              some = subst (λ (l : List (List ℕ)). 0 < length l) (sym same) (texts_there empty_line xs);
-              short = subst Q (sym same) (short_front recl (texts_of xs) ([] ∷ []) (subst Q (texts_ended empty_line xs) short));
+            made = subst P whole h;
+            some = subst (λ (l : List (List ℕ)). 0 < length l) (sym same) (texts_there empty_line xs);
+            short = subst Q (sym same) (short_front recl (texts_of xs) ([] ∷ []) (subst Q (texts_ended empty_line xs) short));
           };
         }
     by (Err condition) e =

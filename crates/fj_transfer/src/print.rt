@@ -152,7 +152,15 @@ pub fn print_records(
             print_explicit(format, job.spec.advance, modes, items, recl, begun, out)
         }
         Layout::Listed => print_listed(modes, items, recl, begun, out),
-        Layout::Group(name, members) => print_group(modes, name.bytes(), members.as_slice(), job.moved.cells.as_slice(), recl, begun, out),
+        Layout::Group(name, members) => print_group(
+            modes,
+            name.bytes(),
+            members.as_slice(),
+            job.moved.cells.as_slice(),
+            recl,
+            begun,
+            out,
+        ),
         Layout::Unformatted => unreachable!(),
     }
 }
@@ -179,7 +187,14 @@ fn write_layout(
     match layout {
         Layout::Explicit(format) => write_explicit(page, text, modes, format, advance, items),
         Layout::Listed => put_list(page, text, modes, items),
-        Layout::Group(name, members) => put_group(page, text, modes, name.bytes(), members.as_slice(), moved.cells.as_slice()),
+        Layout::Group(name, members) => put_group(
+            page,
+            text,
+            modes,
+            name.bytes(),
+            members.as_slice(),
+            moved.cells.as_slice(),
+        ),
         Layout::Unformatted => unreachable!(),
     }
 }
