@@ -6,6 +6,7 @@ pub mod FormattedLemmas
 pub mod TransferProofs
 pub mod FieldLemmas
 pub mod ReaderLemmas
+pub mod AheadLemmas
 pub mod Cases
 pub mod PieceLemmas
 pub mod NumberedLemmas

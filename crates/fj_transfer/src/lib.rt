@@ -1,6 +1,7 @@
 //! One whole transfer: what a READ or WRITE transfers, and the records that it writes (ISO/IEC 1539-1:2004, 9.5 and 10.1).
 #![tactic(auto)]
 
+mod ahead;
 mod change;
 mod explicit;
 mod fields;
@@ -10,9 +11,11 @@ mod hand;
 mod input;
 mod laws;
 mod listed;
+mod look;
 mod numbered;
 mod pieces;
 mod print;
+mod reached;
 mod reader;
 mod stored;
 #[cfg(test)]

@@ -6,6 +6,7 @@ ghost use Rattle.fj_transfer.specs.Moving.{HasValues};
 ghost use Rattle.fj_transfer.specs.Printing.{IsRecords};
 
 mod files;
+mod listed;
 
 use crate::{EditChange, Layout, Transfer, TransferSpec, print_explicit, print_records};
 use fj_format::parse;
@@ -16,7 +17,7 @@ use std::test::Fail;
 
 /// An item of a table.
 #[derive(Clone, Copy)]
-enum Item {
+pub enum Item {
     I4(i32),
     I8(i64),
     L(bool),
@@ -25,7 +26,7 @@ enum Item {
 
 use Item::{A, I4, I8, L};
 
-const MODES: EditModes = EditModes {
+pub const MODES: EditModes = EditModes {
     blank_zero: false,
     comma: false,
     delim: Delim::Plain,
@@ -78,7 +79,7 @@ fn cell_of(alloc: Global, item: Item) -> Result<Cell, AllocError>
 }
 
 /// The cells of items, and so many items of each in turn.
-fn moved(alloc: Global, items: &[Item], times: u32) -> Result<Moved, AllocError>
+pub fn moved(alloc: Global, items: &[Item], times: u32) -> Result<Moved, AllocError>
     requires { length items.now < 1000 }
     ensures ordered { IfOk result (λ moved. IsOrdered moved) }
     ensures defined { IfOk result (λ moved. HasValues moved) }

@@ -20,13 +20,13 @@ use fj_value::{Condition, Value};
 use std::alloc::{AllocError, Global};
 use std::test::Fail;
 
-const NAME: &str = "fort.10";
+pub const NAME: &str = "fort.10";
 
 /// A row that asks for what its access does not have.
-const NOT_DONE: Condition = Condition::Error(99);
+pub const NOT_DONE: Condition = Condition::Error(99);
 
 /// An OPEN statement; records have at most six bytes.
-fn statement(access: Access, formatted: bool) -> OpenSpec {
+pub fn statement(access: Access, formatted: bool) -> OpenSpec {
     let mut spec = OpenSpec::default();
     spec.status = Some(FileStatus::Old);
     spec.access = Some(access);
@@ -39,7 +39,7 @@ fn statement(access: Access, formatted: bool) -> OpenSpec {
 
 /// Connects to the file of unit 10, on a disk of which no file is out.
 #[tactic(auto, using(fj_outside::proofs::HoldingLaws::free_of_empty))]
-fn connect<D: Disk>(
+pub fn connect<D: Disk>(
     alloc: Global,
     disk: &mut D,
     spec: &OpenSpec,
@@ -57,7 +57,7 @@ fn connect<D: Disk>(
 
 /// A disk that holds that file with these bytes.
 #[tactic(auto, using(fj_outside::proofs::HoldingLaws::free_of_empty))]
-fn disk_of(alloc: Global, bytes: &[u8]) -> Result<MemoryDisk, AllocError>
+pub fn disk_of(alloc: Global, bytes: &[u8]) -> Result<MemoryDisk, AllocError>
     ensures { IfOk result (λ disk. disk.in_use ≡ set.empty) }
 {
     let mut disk = MemoryDisk::new(alloc);
@@ -144,7 +144,7 @@ fn read_from<D: Disk>(
 }
 
 /// Whether a value is that of an item; no item stands for no value.
-fn is_value(value: &Value, item: Option<Item>) -> bool {
+pub fn is_value(value: &Value, item: Option<Item>) -> bool {
     match (value, item) {
         (Value::Undefined, None) => true,
         (Value::Int(n), Some(I4(m))) => *n == i64::from(m),
