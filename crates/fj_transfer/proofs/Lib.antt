@@ -8,3 +8,8 @@ pub mod FieldLemmas
 pub mod ReaderLemmas
 pub mod AheadLemmas
 pub mod Cases
+pub mod PieceLemmas
+pub mod NumberedLemmas
+pub mod GroupLemmas
+pub mod PutLemmas
+pub mod FillLemmas

@@ -34,7 +34,7 @@ more_printed text line actions =
     let P : List (List ℕ) → Type 0 = λ l. printed_of (text ∷ l) ≡ behind_record text (printed_of l) in
     subst P (sym some.1.1) refl
 
-went_well : (condition : Option Condition) (more : Result AtHand Condition) (last : AtHand) → unless condition more ≡ Ok last → more ≡ Ok last
+pub went_well : (condition : Option Condition) (more : Result AtHand Condition) (last : AtHand) → unless condition more ≡ Ok last → more ≡ Ok last
 went_well (Some condition) more last e = cc
 went_well None more last e = e
 

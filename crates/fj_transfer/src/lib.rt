@@ -6,11 +6,14 @@ mod change;
 mod explicit;
 mod fields;
 mod formatted;
+mod group;
 mod hand;
 mod input;
 mod laws;
 mod listed;
 mod look;
+mod numbered;
+mod pieces;
 mod print;
 mod reached;
 mod reader;
@@ -30,8 +33,10 @@ pub use laws::{
     stream_output_keeps_the_others, unformatted_records_come_back,
 };
 pub use listed::{read_grouped, read_listed};
+pub use numbered::read_numbered;
+pub use pieces::write_numbered;
 pub use print::{print_explicit, print_records};
-pub use stored::body_of;
+pub use stored::{body_of, undefine};
 pub use transfer::{Layout, Members, Transfer, TransferSpec};
 pub use unformatted::{
     read_direct, read_sequential, read_stream, write_direct, write_sequential, write_stream,
