@@ -5,3 +5,4 @@ pub mod Serving
 pub mod Spoilt
 pub mod BayLaws
 pub mod Cases
+pub mod Plain
