@@ -27,7 +27,7 @@ state_of told bytes bay = option_map (λ place. record { connection = place; hal
 
 -- a transfer, with what its format gives for its items
 abbrev pub moving_of : Transfer → Moving
-moving_of t = record { stmt = t.stmt; tag = t.tag.field-0; spec = t.spec; control = control_of t.spec.layout; moved = t.moved; size = t.size; count = t.count }
+moving_of t = record { stmt = t.stmt; tag = t.tag.0; spec = t.spec; control = control_of t.spec.layout; moved = t.moved; size = t.size; count = t.count }
 
 abbrev pub looked_of : Look → Looked
 looked_of it = record { spot = it.spot; size = it.size }
