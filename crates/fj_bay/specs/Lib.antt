@@ -6,3 +6,4 @@ pub mod Spoilt
 pub mod BayLaws
 pub mod Cases
 pub mod Plain
+pub mod Meaning

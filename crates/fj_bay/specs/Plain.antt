@@ -6,7 +6,7 @@ use Rattle.fj_connect.specs.declared.spot.Look.{Look}
 use Rattle.fj_transfer.specs.Printing.{control_of}
 use Rattle.fj_transfer.specs.declared.transfer.Transfer.{Transfer}
 use Rattle.fj_bay.specs.Bay.{Bay as PlainBay}
-use Rattle.fj_bay.specs.Jobs.{Moving, Looked, Job as PlainJob, attach, detach, move, go, change, flush, look, resume, Answer as PlainAnswer, done, skipped}
+use Rattle.fj_bay.specs.Jobs.{items_for, Moving, Looked, Job as PlainJob, attach, detach, move, go, change, flush, look, resume, Answer as PlainAnswer, done, skipped}
 use Rattle.fj_bay.specs.declared.bay.Bay.{Bay}
 use Rattle.fj_bay.specs.declared.job.Job.{Job}
 use Rattle.fj_bay.specs.declared.job.Job.TheVariants as job
@@ -27,7 +27,7 @@ state_of told bytes bay = option_map (λ place. record { connection = place; hal
 
 -- a transfer, with what its format gives for its items
 abbrev pub moving_of : Transfer → Moving
-moving_of t = record { stmt = t.stmt; tag = t.tag.0; spec = t.spec; control = control_of t.spec.layout; moved = t.moved; size = t.size; count = t.count }
+moving_of t = record { stmt = t.stmt; tag = t.tag.0; spec = t.spec; control = control_of t.spec.layout (items_for t.spec.input t.moved); moved = t.moved; size = t.size; count = t.count }
 
 abbrev pub looked_of : Look → Looked
 looked_of it = record { spot = it.spot; size = it.size }

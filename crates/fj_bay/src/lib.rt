@@ -6,6 +6,7 @@ mod bay;
 mod cases;
 mod job;
 mod laws;
+mod plain;
 
 pub use bay::Bay;
 pub use cases::{
@@ -17,6 +18,7 @@ pub use laws::{
     is_empty_or_takes, keeps_its_connection, leaves_bytes, moves_on, resumes_alone, skips_in_halts,
     stops_where_bytes_change, transfers_else,
 };
+pub use plain::{PlainAnswer, PlainBay, PlainJob};
 
 #[cfg(test)]
 mod tests;
