@@ -1,5 +1,5 @@
 -- A transfer takes of its format control what that gives for its items alone.
-use Rattle.std.proofs.Common.{◌≡◌, ℕ, zero, suc, ◌+◌, Bool, true, false, List, [], ◌∷◌, ◌++◌, length, map, Some, None, Option, Result, Ok, Err, slice_get, refl, ap, ◌∙◌, if◌then◌else◌}
+use Rattle.std.proofs.Common.{◌≡◌, ℕ, zero, suc, ◌+◌, Bool, true, false, List, [], ◌∷◌, ◌++◌, length, map, Some, None, Option, Result, Ok, Err, slice_get, refl, sym, ap, ◌∙◌, if◌then◌else◌}
 use Rattle.std.proofs.lemmas.List.{length-append}
 use Rattle.fj_value.specs.declared.value.Cell.{Cell}
 use Rattle.fj_value.specs.declared.edit.EditModes.{EditModes}
@@ -88,7 +88,7 @@ count_same cells others (at ∷ order) e =
     length-append (in_cell (slice_get others at)) (in_cells others order)
     ∙ ap (λ n. n + length (in_cells others order)) (there_same cells others e at)
     ∙ ap (λ n. length (in_cell (slice_get cells at)) + n) (count_same cells others order e)
-    ∙ (λ i. length-append (in_cell (slice_get cells at)) (in_cells cells order) (~ i))
+    ∙ sym (length-append (in_cell (slice_get cells at)) (in_cells cells order))
 
 pub items_same : (input : Bool) (old new : Moved) → new.order ≡ old.order → places_of new.cells ≡ places_of old.cells → items_for input new ≡ items_for input old
 items_same true old new order places = ap length order
