@@ -34,7 +34,7 @@ returns-in_err-condition-clause-serves g c =
 
 pub returns-clause-serves : goal.returns-clause-serves
 returns-clause-serves g c =
-    let new = record c.args.self.now { connection = Some c.perform.new.connection; halt = c.halt_of.result } in
+    let new = record c.args.self.now { connection = Some c.perform.new.connection; halt = c.halt_of-self.result } in
     λ s t st e. for_task (λ u. Serves (bay_meaning g.F.FileStore.told g.F.FileStore.bytes g.F.FileStore.count) s u (Ok (answer.Done c.in_ok-condition.condition)) new (job.Move c.perform.new.job)) (move (moving_of c.args.job.now)) t e
     (move_full g.F.FileStore.told g.F.FileStore.bytes g.F.FileStore.count g.F.FileStore.tells g.met.F.FileStore.decided c.args.self.now new c.in-Some.connection c.perform.new.connection s c.args.job.now c.perform.new.job c.in_ok-condition.condition c.in-Some.is c.in_default-halt.is st refl
-      c.halt_of.ensures c.in_ok-condition.ensures.telling c.in_ok-condition.ensures.done c.in_ok-condition.ensures.statement)
+      c.halt_of-self.ensures c.in_ok-condition.ensures.telling c.in_ok-condition.ensures.done c.in_ok-condition.ensures.statement)
