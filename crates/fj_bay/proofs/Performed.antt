@@ -54,7 +54,7 @@ for_task P t u e h = let same : t ≡ u = cc in subst P same h
 moving_left : (old new : Transfer) → LeavesStatement old new → (c : Connection) (condition : Condition) → moving_of new ≡ with_done (moving_of old) (comes_to c new condition)
 moving_left old new left c condition =
     let same : control_of new.spec.layout (items_for new.spec.input new.moved) ≡ control_of old.spec.layout (items_for old.spec.input old.moved) =
-      ap (λ s. control_of s.layout (items_for s.input new.moved)) left.spec ∙ ap (control_of old.spec.layout) (items_same old.spec.input old.moved new.moved left.order left.places) in
+    ap (λ s. control_of s.layout (items_for s.input new.moved)) left.spec ∙ ap (control_of old.spec.layout) (items_same old.spec.input old.moved new.moved left.order left.places) in
     λ i. record {
       stmt = left.stmt i;
       tag = (left.tag i).0;
@@ -101,19 +101,19 @@ module _ {F : Type 0} (told : F → Bool) (bytes : F → List ℕ) (count : F �
       let two = full_state old c s full st in
       let is = tells_state new d (telling.0 two.0) after in
       subst (λ v. IsSome (state_of told bytes new) × IfSome (state_of told bytes new) (λ p. IsSpoilt v t stop p (file_faults count new.connection))) two.1
-        (subst (λ o. IsSome o × IfSome o (λ p. IsSpoilt (plain old c) t stop p (file_faults count new.connection))) (sym is) (
-          refl,
-          record {
-            before = connection_of bytes c;
-            full = refl;
-            may = may;
-            after = connection_of bytes d;
-            keeps = refl;
-            named = name;
-            agrees = agree (bytes c.file) (bytes_left (serve (plain old c) t)) (bytes d.file) (subst (λ l. KeepsUpToChange (bytes c.file) l (bytes d.file)) (sym left) (kept two.0)) (first_change (plain old c) (plain old c).connection t) refl;
-            failed = λ e. subst (λ o. 0 < file_faults count o) (sym after) (above (count c.file) (count d.file) (rose e));
-          },
-        ))
+      (subst (λ o. IsSome o × IfSome o (λ p. IsSpoilt (plain old c) t stop p (file_faults count new.connection))) (sym is) (
+        refl,
+        record {
+          before = connection_of bytes c;
+          full = refl;
+          may = may;
+          after = connection_of bytes d;
+          keeps = refl;
+          named = name;
+          agrees = agree (bytes c.file) (bytes_left (serve (plain old c) t)) (bytes d.file) (subst (λ l. KeepsUpToChange (bytes c.file) l (bytes d.file)) (sym left) (kept two.0)) (first_change (plain old c) (plain old c).connection t) refl;
+          failed = λ e. subst (λ o. 0 < file_faults count o) (sym after) (above (count c.file) (count d.file) (rose e));
+        },
+      ))
 
   -- what is carried out on a connection
   pub served : (old new : Bay F) (c d : Linked F) (s : PlainBay) (t : PlainJob) (j : Job F) (a : Answer) → old.connection ≡ Some c → state_of told bytes old ≡ Some s → new.connection ≡ Some d → (tells c.file ↔ tells d.file)
@@ -192,7 +192,7 @@ module _ {F : Type 0} (told : F → Bool) (bytes : F → List ℕ) (count : F �
       (subst (λ v. Serves (bay_meaning told bytes count) v (detach found.0) (Ok (answer.Done Fine)) new (job.Detach (Some d))) two.1 (
         (λ i. option_map (λ (p : Option Connection). record { connection = p; halt = halt i }) (place_of told bytes (after i))),
         ap (λ b. option_map detach (option_map Some (if b then Some (connection_of bytes d) else None))) ((decided d.file).1 (telling.0 two.0))
-        ∙ ap (λ x. Some (detach (Some x))) (by two.0),
+            ∙ ap (λ x. Some (detach (Some x))) (by two.0),
         refl,
       ))
 
@@ -218,8 +218,8 @@ module _ {F : Type 0} (told : F → Bool) (bytes : F → List ℕ) (count : F �
       let mv = moving_of t in
       served bay bay c c s (move mv) (job.Move u) (answer.Skipped cause) full st full (λ t. t, λ t. t)
       (λ tell. subst (λ h. let r = moved_so mv h (unless_halted h x t.spec.input t.moved.cells (transfer_by (λ n. mv.control) x t.spec t.moved)) in
-          (record { connection = Some x; halt = h } ≡ r.engine) × (Some (move (moving_of u)) ≡ Some r.job) × (skipped cause ≡ r.answer)) (sym halt)
-        (refl, ap (λ m. Some (move m)) (moving_left t u left x cause) ∙ ap (λ d. Some (move (with_done mv d))) (undone x), refl))
+      (record { connection = Some x; halt = h } ≡ r.engine) × (Some (move (moving_of u)) ≡ Some r.job) × (skipped cause ≡ r.answer)) (sym halt)
+      (refl, ap (λ m. Some (move m)) (moving_left t u left x cause) ∙ ap (λ d. Some (move (with_done mv d))) (undone x), refl))
 
   -- carried out
   pub move_full : (old new : Bay F) (c d : Linked F) (s : PlainBay) (t u : Transfer) (condition : Condition) → old.connection ≡ Some c → old.halt ≡ None → state_of told bytes old ≡ Some s → new.connection ≡ Some d
@@ -232,11 +232,11 @@ module _ {F : Type 0} (told : F → Bool) (bytes : F → List ℕ) (count : F �
       let mv = moving_of t in
       served old new c d s (move mv) (job.Move u) (answer.Done condition) full st after telling
       (λ tell.
-        let is : comes_to y u condition ≡ transfer_by (λ n. mv.control) x t.spec t.moved = by tell ∙ sym (control_same (control_of t.spec.layout) t.moved x t.spec) in
-        subst (λ h. let r = moved_so mv h (unless_halted h x t.spec.input t.moved.cells (transfer_by (λ n. mv.control) x t.spec t.moved)) in
-          (record { connection = Some y; halt = new.halt } ≡ r.engine) × (Some (move (moving_of u)) ≡ Some r.job) × (done condition ≡ r.answer)) (sym halt)
-        (subst (λ z. let r = moved_so mv None z in (record { connection = Some y; halt = new.halt } ≡ r.engine) × (Some (move (moving_of u)) ≡ Some r.job) × (done condition ≡ r.answer)) is
-          ((λ i. record { connection = Some y; halt = sets i }), ap (λ m. Some (move m)) (moving_left t u left y condition), refl)))
+      let is : comes_to y u condition ≡ transfer_by (λ n. mv.control) x t.spec t.moved = by tell ∙ sym (control_same (control_of t.spec.layout) t.moved x t.spec) in
+      subst (λ h. let r = moved_so mv h (unless_halted h x t.spec.input t.moved.cells (transfer_by (λ n. mv.control) x t.spec t.moved)) in
+      (record { connection = Some y; halt = new.halt } ≡ r.engine) × (Some (move (moving_of u)) ≡ Some r.job) × (done condition ≡ r.answer)) (sym halt)
+      (subst (λ z. let r = moved_so mv None z in (record { connection = Some y; halt = new.halt } ≡ r.engine) × (Some (move (moving_of u)) ≡ Some r.job) × (done condition ≡ r.answer)) is
+      ((λ i. record { connection = Some y; halt = sets i }), ap (λ m. Some (move m)) (moving_left t u left y condition), refl)))
 
   pub move_stopped : (old new : Bay F) (c d : Linked F) (s : PlainBay) (t u : Transfer) (stop : Stop) → old.connection ≡ Some c → old.halt ≡ None → state_of told bytes old ≡ Some s → new.connection ≡ Some d
       → (tells c.file ↔ tells d.file) → (tells c.file → KeepsUpToChange (bytes c.file) (transfer (connection_of bytes c) t.spec t.moved).connection.bytes (bytes d.file)) → d.name ≡ c.name
@@ -247,7 +247,7 @@ module _ {F : Type 0} (told : F → Bool) (bytes : F → List ℕ) (count : F �
       let mv = moving_of t in
       stopped old new c d s (move mv) (job.Move u) stop (transfer x t.spec t.moved).connection.bytes full st after tt
       (ap (λ h. (unless_halted h x t.spec.input t.moved.cells (transfer_by (λ n. mv.control) x t.spec t.moved)).connection.bytes) halt
-        ∙ ap (λ z. z.connection.bytes) (control_same (control_of t.spec.layout) t.moved x t.spec))
+      ∙ ap (λ z. z.connection.bytes) (control_same (control_of t.spec.layout) t.moved x t.spec))
       telling kept name rose
 
   pub attached : (old new : Bay F) (brought left : Option (Linked F)) (condition : Condition) → (IsSome old.connection → (new ≡ old) × (left ≡ brought) × (condition ≡ Error 7))
@@ -263,15 +263,15 @@ module _ {F : Type 0} (told : F → Bool) (bytes : F → List ℕ) (count : F �
           let got = refused (ap is_some full) in
           subst (λ b. Serves (bay_meaning told bytes count) s (attach p) (Ok (answer.Done condition)) b (job.Attach left)) (sym got.0)
           (subst (λ l. Serves (bay_meaning told bytes count) s (attach p) (Ok (answer.Done condition)) old (job.Attach l)) (sym got.1)
-            (subst (λ a. Serves (bay_meaning told bytes count) s (attach p) (Ok (answer.Done a)) old (job.Attach brought)) (sym got.2)
-              (served old old c c s (attach p) (job.Attach brought) (answer.Done (Error 7)) full st full (λ x. x, λ x. x) (λ tell. (refl, ap (option_map attach) is, refl)))))
+          (subst (λ a. Serves (bay_meaning told bytes count) s (attach p) (Ok (answer.Done a)) old (job.Attach brought)) (sym got.2)
+          (served old old c c s (attach p) (job.Attach brought) (answer.Done (Error 7)) full st full (λ x. x, λ x. x) (λ tell. (refl, ap (option_map attach) is, refl)))))
       by p is None none =
           let got = taken none in
           subst (λ b. Serves (bay_meaning told bytes count) s (attach p) (Ok (answer.Done condition)) b (job.Attach left)) (sym got.0)
           (subst (λ l. Serves (bay_meaning told bytes count) s (attach p) (Ok (answer.Done condition)) (record old { connection = brought }) (job.Attach l)) (sym got.1)
-            (subst (λ a. Serves (bay_meaning told bytes count) s (attach p) (Ok (answer.Done a)) (record old { connection = brought }) (job.Attach None)) (sym got.2)
-              (subst (λ v. Serves (bay_meaning told bytes count) v (attach p) (Ok (answer.Done Fine)) (record old { connection = brought }) (job.Attach None)) (empty_state old s none st)
-                (ap (option_map (λ (q : Option Connection). record { connection = q; halt = old.halt })) is, refl, refl))))
+          (subst (λ a. Serves (bay_meaning told bytes count) s (attach p) (Ok (answer.Done a)) (record old { connection = brought }) (job.Attach None)) (sym got.2)
+          (subst (λ v. Serves (bay_meaning told bytes count) v (attach p) (Ok (answer.Done Fine)) (record old { connection = brought }) (job.Attach None)) (empty_state old s none st)
+          (ap (option_map (λ (q : Option Connection). record { connection = q; halt = old.halt })) is, refl, refl))))
 
   pub flushed : (bay : Bay F) (s : PlainBay) (t : PlainJob) → state_of told bytes bay ≡ Some s → Some flush ≡ Some t → Serves (bay_meaning told bytes count) s t (Ok (answer.Done Fine)) bay job.Flush
   unfolding serve

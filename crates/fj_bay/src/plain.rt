@@ -20,7 +20,6 @@ pub struct PlainJob {}
 
 impl Model for PlainJob {
     ghost use Rattle.fj_bay.specs.Jobs.{Job, flush};
-
     ghost use Rattle.std.specs.Coded.{codes};
     ghost use Rattle.fj_format.specs.contracts.item.FormatItem as item;
 

@@ -5,13 +5,15 @@ ghost use Rattle.fj_outside.specs.FailingDisk.{disk_held};
 
 use crate::Answer::{Done, Skipped};
 use crate::{Answer, Bay, Job};
-use fj_connect::{Connection, Look, OpenFault, Positioning, Spot, Within, open_file};
+use fj_connect::{Connection, OpenFault, Positioning, open_file};
+use fj_format::parse;
+use fj_list::Moved;
 use fj_modes::{FileName, FileStatus, OpenSpec, settle_open};
 use fj_outside::{FailingDisk, FailingFile, FileStore, MemoryDisk, Stop};
 use fj_slot::Engine;
 use fj_transfer::{EditChange, Layout, Transfer, TransferSpec};
 use fj_value::Condition::{EndOfFile, Error, Fine};
-use fj_value::{Condition, Delim, EditModes, Items, Tag};
+use fj_value::{Delim, EditModes, Items, Tag};
 use std::alloc::{AllocError, Global};
 use std::test::Fail;
 
@@ -70,14 +72,17 @@ fn connection(alloc: Global, fails: u64) -> Result<Connection<FailingFile>, Open
     }
 }
 
-/// READ (10, *) with no items, which passes over a record.
-fn read(alloc: Global) -> Transfer {
-    Transfer {
+/// READ (10, '()') with no items, which passes over a record.
+fn read(alloc: Global) -> Result<Transfer, OpenFault> {
+    let Ok(format) = parse(alloc, b"()") else {
+        return Err(OpenFault::Refused(Error(11)));
+    };
+    Ok(Transfer {
         stmt: 1,
         tag: Tag(0),
         spec: TransferSpec {
             input: true,
-            layout: Layout::Listed,
+            layout: Layout::Explicit(format),
             advance: true,
             rec: None,
             pos: None,
@@ -89,20 +94,20 @@ fn read(alloc: Global) -> Transfer {
                 plus: None,
             },
         },
-        moved: fj_list::Moved {
+        moved: Moved {
             cells: Items::new(alloc),
             order: Items::new(alloc),
         },
         size: None,
         count: None,
-    }
+    })
 }
 
 fn job_of(alloc: Global, step: Step) -> Result<Job<FailingFile>, OpenFault> {
     match step {
         Step::Attach => Ok(Job::Attach(Some(connection(alloc, 0)?))),
         Step::Detach => Ok(Job::Detach(None)),
-        Step::Read => Ok(Job::Move(read(alloc))),
+        Step::Read => Ok(Job::Move(read(alloc)?)),
         Step::Go(how) => Ok(Job::Go(how)),
         Step::Change => Ok(Job::Change(MODES)),
         Step::Flush => Ok(Job::Flush),
