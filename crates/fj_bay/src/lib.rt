@@ -19,6 +19,3 @@ pub use laws::{
     stops_where_bytes_change, transfers_else,
 };
 pub use plain::{PlainAnswer, PlainBay, PlainJob};
-
-#[cfg(test)]
-mod tests;
