@@ -1,8 +1,9 @@
-use Rattle.std.proofs.Common.{◌≡◌, ◌+◌, ◌-◌, ◌++◌, ◌∷◌, drop, ap, ◌∙◌, Ok, Err, arith}
+use Rattle.std.proofs.Common.{◌≡◌, ◌+◌, ◌-◌, ◌++◌, ◌∷◌, List, drop, ap, ◌∙◌, Ok, Err, arith}
 use Rattle.std.proofs.lemmas.Result.{err_from_is_err_and}
 use Rattle.fj_line.specs.Actions.{carried_out}
 use Rattle.fj_line.specs.Page.{at_hand}
 use Rattle.fj_line.proofs.Carrying.{kept_on}
+use Rattle.fj_list.specs.declared.moved.GroupMember.{GroupMember}
 use Rattle.fj_namelist.specs.GroupText.{values_of, member_written, members_written}
 use Rattle.fj_transfer.specs.Printing.{record_actions}
 use Rattle.fj_transfer.proofs.GroupLemmas.{from_here, first_stops, carries_front, carries_member}
@@ -21,7 +22,7 @@ returns-in_err-put_member-clause-done c =
     let first = member_written c.args.modes m.name (values_of m cells) in
     let rest = members_written c.args.modes (drop (here.member-index + 1) members) cells in
     let next = from_here members here.member-index m c.loop-member-test.true c.member-item.is in
-    let written = λ left. record_actions (members_written c.args.modes left cells) in
+    let written = λ (left : List GroupMember). record_actions (members_written c.args.modes left cells) in
     rw (p.1, p.2) (first_stops begun hand new (written members) (written (drop here.member-index members)) (record_actions (first ++ rest)) (record_actions rest) c.in_err-put_member.field-0.0
     here.invariant.same (ap written next) (carries_front hand new first rest (Err c.in_err-put_member.field-0.0)
     (carries_member c.args.modes m cells c.bytes.result.now (m.first + m.count - m.first) hand new (Err c.in_err-put_member.field-0.0) c.bytes.ensures (omega arith) c.in_err-put_member.ensures.done)))
