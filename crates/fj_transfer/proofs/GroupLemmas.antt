@@ -1,7 +1,6 @@
 -- Whole records as actions, one after another.
 use Rattle.std.proofs.Common.{◌≡◌, ◌+◌, ◌<◌, ℕ, List, [], ◌∷◌, ◌++◌, length, take, drop, get_or, Result, Ok, Err, refl, sym, ap, subst, ◌∙◌}
 use Rattle.std.proofs.lemmas.List.{drop_more}
-use Rattle.fj_value.specs.declared.condition.Condition.{Condition}
 use Rattle.fj_value.specs.declared.edit.EditModes.{EditModes}
 use Rattle.fj_value.specs.declared.value.Cell.{Cell}
 use Rattle.fj_line.specs.declared.unwritten.Unwritten.{Unwritten}

@@ -1,4 +1,4 @@
-use Rattle.std.proofs.Common.{◌≡◌, ◌+◌, ◌-◌, ◌++◌, ◌∷◌, List, drop, ap, ◌∙◌, Ok, Err, arith}
+use Rattle.std.proofs.Common.{◌+◌, ◌-◌, ◌++◌, List, drop, ap, ◌∙◌, Ok, Err, arith}
 use Rattle.std.proofs.lemmas.Result.{err_from_is_err_and}
 use Rattle.fj_line.specs.Actions.{carried_out}
 use Rattle.fj_line.specs.Page.{at_hand}

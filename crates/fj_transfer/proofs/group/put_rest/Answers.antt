@@ -1,4 +1,4 @@
-use Rattle.std.proofs.Common.{◌≡◌, ◌+◌, ◌∷◌, List, ℕ, drop, ap}
+use Rattle.std.proofs.Common.{◌+◌, ◌∷◌, List, ℕ, drop, ap}
 use Rattle.std.proofs.lemmas.Result.{err_from_is_err_and}
 use Rattle.fj_value.specs.declared.value.Value.{Value}
 use Rattle.fj_line.specs.Page.{at_hand}

@@ -1,4 +1,3 @@
-use Rattle.std.proofs.Common.{◌≡◌}
 use Rattle.fj_line.specs.Page.{at_hand}
 use Rattle.fj_list.specs.Items.{items_left}
 use Rattle.fj_transfer.specs.declared.writer.Writer.{Writer}

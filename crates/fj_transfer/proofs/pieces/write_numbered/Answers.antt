@@ -1,4 +1,4 @@
-use Rattle.std.proofs.Common.{◌≡◌, ℕ, List, ap, ◌∙◌, sym, subst, true}
+use Rattle.std.proofs.Common.{◌≡◌, List, ap, ◌∙◌, subst, true}
 use Rattle.std.specs.Prelude.{IfOk, OnErr}
 use Rattle.fj_value.specs.declared.value.Cell.{Cell}
 use Rattle.fj_span.specs.Change.{KeepsUpToChange}
@@ -9,7 +9,7 @@ use Rattle.fj_list.specs.Items.{items_left, items_of, in_cells}
 use Rattle.fj_transfer.specs.Explicit.{explicit_actions}
 use Rattle.fj_transfer.specs.Places.{before_number}
 use Rattle.fj_transfer.specs.Printing.{printed_by}
-use Rattle.fj_transfer.specs.Transfer.{Done, told_with, output_done, with_pieces}
+use Rattle.fj_transfer.specs.Transfer.{Done, told_with}
 use Rattle.fj_transfer.proofs.FillLemmas.{filled_as, written_filled}
 use Rattle.fj_transfer.proofs.pieces.write_numbered.Goals as goal
 
