@@ -15,7 +15,7 @@ returns-in_err-put_members-clause-done c =
     let first = at_hand c.put_line.new.page c.put_line.new.text in
     let new = at_hand c.put_members.new.page c.put_members.new.text in
     let title = 32 ∷ 38 ∷ str_to_ascii_uppercase c.args.name.now in
-    let shown : c.bytes.result.now ≡ title = 
+    let shown : c.bytes.result.now ≡ title =
     c.bytes.ensures ∙ c.in_ok-push_upper.ensures
     ∙ ap (λ (l : List ℕ). l ++ str_to_ascii_uppercase c.args.name.now) (c.in_ok-push_all.ensures.ok ∙ ap (λ (l : List ℕ). l ++ 32 ∷ 38 ∷ []) c.new-line.ensures) in
     let P : List ℕ → Type 0 = λ l. carried_out old (record_actions (l ∷ [])) ≡ Ok first in
@@ -28,7 +28,7 @@ returns-clause-done c =
     let first = at_hand c.put_line.new.page c.put_line.new.text in
     let behind = at_hand c.put_members.new.page c.put_members.new.text in
     let title = 32 ∷ 38 ∷ str_to_ascii_uppercase c.args.name.now in
-    let shown : c.bytes.result.now ≡ title = 
+    let shown : c.bytes.result.now ≡ title =
     c.bytes.ensures ∙ c.in_ok-push_upper.ensures
     ∙ ap (λ (l : List ℕ). l ++ str_to_ascii_uppercase c.args.name.now) (c.in_ok-push_all.ensures.ok ∙ ap (λ (l : List ℕ). l ++ 32 ∷ 38 ∷ []) c.new-line.ensures) in
     let P : List ℕ → Type 0 = λ l. carried_out old (record_actions (l ∷ [])) ≡ Ok first in
