@@ -1,5 +1,5 @@
 -- A run of records put into a file.
-use Rattle.std.proofs.Common.{◌≡◌, ℕ, ◌+◌, ◌-◌, ◌<◌, ◌≤◌, false, List, ◌++◌, length, take, drop, replicate, min, refl, sym, ap, subst, ◌∙◌, arith, append_assoc}
+use Rattle.std.proofs.Common.{◌≡◌, ℕ, ◌+◌, ◌-◌, false, List, ◌++◌, length, take, drop, replicate, min, refl, sym, ap, subst, ◌∙◌, arith, append_assoc}
 use Rattle.std.proofs.lemmas.List.{take_at, drop_at, length-append, length-take-le, length-replicate}
 use Rattle.fj_outside.specs.Bytes.{written}
 use Rattle.fj_span.specs.Change.{with_piece, KeepsUpToChange, IsChanged}

@@ -1,24 +1,17 @@
 -- Input of direct access, answer by answer.
-use Rattle.std.proofs.Common.{◌≡◌, ℕ, Bool, true, false, List, [], ◌∷◌, Option, Some, None, Result, Ok, Err, refl, sym, ap, subst, ◌∙◌}
+use Rattle.std.proofs.Common.{◌≡◌, ℕ, true, false, List, [], ◌∷◌, refl, ap}
 use Rattle.std.specs.Prelude.{if◌then◌else◌}
-use Rattle.fj_value.specs.declared.value.Cell.{Cell}
-use Rattle.fj_value.specs.declared.condition.Condition.{Condition}
-use Rattle.fj_value.specs.declared.condition.Condition.TheVariants.{Fine, EndOfRecord, EndOfFile}
 use Rattle.fj_modes.specs.declared.specifiers.Access.{Access}
 use Rattle.fj_modes.specs.declared.specifiers.Access.TheVariants.{Direct}
 use Rattle.fj_modes.specs.Words.{same_access}
-use Rattle.fj_connect.specs.Connection.{Connection, at_number, past_end, with_records}
+use Rattle.fj_connect.specs.Connection.{Connection, at_number, with_records}
 use Rattle.fj_connect.specs.Positions.{ended}
 use Rattle.fj_connect.specs.Spot.{is_writing}
-use Rattle.fj_transfer.specs.AtHand.{AtHand, behind}
-use Rattle.fj_transfer.specs.Input.{Progress, left_at, stopped}
+use Rattle.fj_transfer.specs.AtHand.{behind}
 use Rattle.fj_transfer.specs.Places.{before_number}
-use Rattle.fj_transfer.specs.Reader.{hand_of, progress_of, IsIn}
-use Rattle.fj_transfer.specs.Transfer.{Done, input_done, explicit_ended}
+use Rattle.fj_transfer.specs.Reader.{hand_of, IsIn}
 use Rattle.fj_transfer.specs.declared.hand.Hand.{Hand}
 use Rattle.fj_transfer.specs.declared.hand.Hand.TheVariants.{Line, Numbered}
-use Rattle.fj_transfer.specs.declared.reader.Reader.{Reader}
-use Rattle.fj_transfer.proofs.ReaderLemmas.{as_done, fine_done, record_done}
 
 -- no record is open
 pub not_open : (c : Connection) → is_writing c.spot.within ≡ false → ended c ≡ c

@@ -1,8 +1,7 @@
 -- Records of direct access that are put at once.
-use Rattle.std.proofs.Common.{◌≡◌, ◌≢◌, ℕ, zero, suc, ◌+◌, ◌-◌, ◌*◌, ◌<◌, ◌≤◌, Bool, true, false, cond, ltb, List, [], ◌∷◌, ◌++◌, length, take, drop, replicate, max, Option, Some, None, Result, Ok, Err, refl, sym, ap, subst, ◌∙◌, inl, inr, arith, append_assoc}
-use Rattle.std.specs.Prelude.{nat_lt, if◌then◌else◌, OnOk}
-use Rattle.std.proofs.lemmas.Bool.{lt-ltb, le-ltb, cases_lt}
-use Rattle.std.proofs.lemmas.List.{append-nil, take_at, drop_at, drop-drop, length-append, length-take, length-drop, length-replicate}
+use Rattle.std.proofs.Common.{◌≡◌, ℕ, ◌+◌, ◌-◌, ◌*◌, ◌<◌, ◌≤◌, Bool, true, false, cond, ltb, List, [], ◌∷◌, ◌++◌, length, take, drop, replicate, max, Option, Some, None, Result, Ok, refl, sym, ap, ◌∙◌, inl, inr, arith, append_assoc}
+use Rattle.std.proofs.lemmas.Bool.{lt-ltb, cases_lt}
+use Rattle.std.proofs.lemmas.List.{append-nil, take_at, drop_at, drop-drop, length-append, length-take, length-replicate}
 use Rattle.fj_value.specs.declared.condition.Condition.{Condition}
 use Rattle.fj_value.specs.declared.condition.Condition.TheVariants.{Error}
 use Rattle.fj_outside.specs.Bytes.{written}
@@ -14,8 +13,8 @@ use Rattle.fj_connect.specs.Connection.{Connection, at_number, with_direct}
 use Rattle.fj_connect.specs.DirectRuns.{with_direct_run}
 use Rattle.fj_line.specs.Line.{LineState, most_bytes, empty_line, written as put_on, moved}
 use Rattle.fj_line.specs.Actions.{Action, put, move, end_record, meet, AtHand, behind, condition_in, excess_of, unless, carried_out}
-use Rattle.fj_line.specs.Records.{texts_from, texts_of}
-use Rattle.fj_transfer.specs.Printing.{Printed, printed_of}
+use Rattle.fj_line.specs.Records.{texts_from}
+use Rattle.fj_transfer.specs.Printing.{printed_of}
 use Rattle.fj_transfer.specs.Transfer.{with_pieces}
 use Rattle.fj_transfer.specs.Writing.{AreShort}
 use Rattle.fj_transfer.proofs.PrintedLemmas.{went_well}

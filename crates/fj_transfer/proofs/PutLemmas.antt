@@ -1,17 +1,16 @@
 -- Records of direct access put into a file, answer by answer.
-use Rattle.std.proofs.Common.{◌≡◌, ℕ, zero, suc, ◌+◌, ◌-◌, ◌*◌, ◌/◌, ◌<◌, ◌≤◌, List, [], ◌∷◌, length, max, refl, sym, ap, subst, ◌∙◌, arith}
+use Rattle.std.proofs.Common.{◌≡◌, ℕ, suc, ◌+◌, ◌-◌, ◌*◌, ◌/◌, ◌<◌, ◌≤◌, List, [], ◌∷◌, length, max, sym, ap, ◌∙◌, arith}
 use Rattle.std.proofs.Math.Nat.{mul-div_cancel, mul-le-mul_left}
 use Rattle.fj_value.specs.declared.value.Cell.{Cell}
 use Rattle.fj_value.specs.declared.condition.Condition.TheVariants.{Fine, Error}
 use Rattle.fj_span.specs.Change.{KeepsUpToChange}
 use Rattle.fj_span.proofs.ChangeLaws.{kept_as}
 use Rattle.fj_byterec.specs.Pieces.{record_start}
-use Rattle.fj_byterec.specs.Runs.{run_of}
 use Rattle.fj_connect.specs.Connection.{Connection}
 use Rattle.fj_connect.specs.DirectRuns.{with_direct_run}
 use Rattle.fj_transfer.specs.Places.{before_number}
 use Rattle.fj_transfer.specs.Transfer.{Done, told_with, output_done, with_pieces}
-use Rattle.fj_transfer.specs.Writing.{AreShort, HasPieces}
+use Rattle.fj_transfer.specs.Writing.{HasPieces}
 use Rattle.fj_transfer.proofs.PieceLemmas.{pieces_as_run, run_long, run_size}
 use Rattle.fj_transfer.proofs.UnformattedLemmas.{within, past_limit}
 

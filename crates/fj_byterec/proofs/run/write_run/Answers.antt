@@ -1,4 +1,3 @@
-use Rattle.std.proofs.Common.{◌≡◌}
 use Rattle.std.proofs.lemmas.Result.{on_err_weaker, on_ok_weaker}
 use Rattle.fj_span.proofs.ChangeLaws.{on_any_err}
 use Rattle.fj_byterec.proofs.RunLemmas.{kept_in_hole, after_hole, kept_in_run, after_run}

@@ -8,8 +8,8 @@ use Rattle.fj_connect.specs.Positions.{ended}
 use Rattle.fj_transfer.specs.AtHand.{AtHand}
 use Rattle.fj_transfer.specs.Input.{Ended, carried_out, explicit_input, stopped}
 use Rattle.fj_transfer.specs.Places.{before_number}
-use Rattle.fj_transfer.specs.Reader.{begins, hand_of, progress_of, done_with}
-use Rattle.fj_transfer.specs.Transfer.{Done, explicit_ended}
+use Rattle.fj_transfer.specs.Reader.{begins, hand_of, progress_of}
+use Rattle.fj_transfer.specs.Transfer.{explicit_ended}
 use Rattle.fj_transfer.specs.declared.hand.Hand.TheVariants.{Numbered}
 use Rattle.fj_transfer.proofs.NumberedLemmas.{not_open, numbered_hand}
 use Rattle.fj_transfer.proofs.ReaderLemmas.{same_read}

@@ -1,8 +1,6 @@
-use Rattle.std.proofs.Common.{◌≡◌, ◌<◌, ◌≤◌, ◌+◌, ◌-◌, ◌*◌, ◌/◌, ℕ, length, ap, subst, sym, ◌∙◌, arith}
-use Rattle.std.proofs.lemmas.Result.{on_ok_weaker}
+use Rattle.std.proofs.Common.{◌≡◌, ◌<◌, ◌≤◌, ◌+◌, ◌-◌, ◌*◌, ◌/◌, ℕ, length, ap, subst, ◌∙◌, arith}
 use Rattle.fj_span.specs.Change.{KeepsUpToChange}
 use Rattle.fj_span.proofs.ChangeLaws.{on_any_err}
-use Rattle.fj_byterec.specs.Pieces.{record_start}
 use Rattle.fj_connect.specs.Connection.{Connection}
 use Rattle.fj_connect.specs.DirectRuns.{with_direct_run}
 use Rattle.fj_connect.specs.Linked.{connection_of}
