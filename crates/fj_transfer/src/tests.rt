@@ -1,5 +1,5 @@
 // Outputs under explicit formats, with their records written out by hand.
-ghost use Rattle.std.specs.Prelude.{◌≡◌, ◌<◌, ◌≤◌, ◌^◌, [], length, All, IfOk};
+ghost use Rattle.std.specs.Prelude.{◌≡◌, ◌<◌, ◌^◌, [], length, All, IfOk};
 ghost use Rattle.fj_value.specs.Kind.{IsOfKind};
 ghost use Rattle.fj_list.specs.Moved.{IsOrdered};
 ghost use Rattle.fj_namelist.specs.GroupText.{IsWithin};
@@ -82,11 +82,9 @@ fn cell_of(alloc: Global, item: Item) -> Result<Cell, AllocError>
 
 /// The cells of items, and so many items of each in turn.
 pub fn moved(alloc: Global, items: &[Item], times: u32) -> Result<Moved, AllocError>
-    requires items { length items.now < 1000 }
-    requires times { times < 1000 }
+    requires { length items.now < 1000 }
     ensures cells { IfOk result (λ moved. length moved.cells ≡ length items.now) }
     ensures ordered { IfOk result (λ moved. IsOrdered moved) }
-    ensures few { IfOk result (λ moved. length moved.order ≤ 1000000) }
     ensures defined { IfOk result (λ moved. HasValues moved) }
 {
     let mut cells = Items::new(alloc);
@@ -339,6 +337,7 @@ fn records(rt: HostRuntime) -> Result<(), Fail> {
             assert!(rt; format.len() < 100 && items.len() < 100);
             let layout = layout_of(alloc, format.as_bytes())?;
             let items = moved(alloc, items, 1)?;
+            assert!(rt; items.order.len() < 1000);
             let job = transfer(layout, items, advance, NO_CHANGE);
             let got = added(alloc, &job, false, *recl, *begun)?;
             assert!(rt; is_added(got, *want), "{format} behind {begun} of {recl}");
@@ -365,6 +364,7 @@ fn modes(rt: HostRuntime) -> Result<(), Fail> {
             ..NO_CHANGE
         };
         let layout = layout_of(alloc, format.as_bytes())?;
+        assert!(rt; items.order.len() < 1000);
         let job = transfer(layout, items, true, edit);
         let got = added(alloc, &job, plus, 80, 0)?;
         assert!(rt; is_added(got, Ok(want)), "{format}");
@@ -374,6 +374,7 @@ fn modes(rt: HostRuntime) -> Result<(), Fail> {
         ..NO_CHANGE
     };
     let items = moved(alloc, &[A(b"a\"b"), A(b"'")], 1)?;
+    assert!(rt; items.order.len() < 1000);
     let job = transfer(Layout::Listed, items, true, edit);
     let got = added(alloc, &job, false, 80, 0)?;
     assert!(rt; is_added(got, Ok(b" \"a\"\"b\" \"'\"\n")));
@@ -401,6 +402,7 @@ fn limits(rt: HostRuntime) -> Result<(), Fail> {
         assert!(rt; format.len() < 100);
         let items = moved(alloc, &[A(b"x")], items)?;
         let layout = layout_of(alloc, format.as_bytes())?;
+        assert!(rt; items.order.len() < 1000);
         let job = transfer(layout, items, advance, NO_CHANGE);
         let (told, out) = added(alloc, &job, false, recl, 0)?;
         assert_eq!(rt; told, condition, "{format}");
@@ -415,6 +417,7 @@ fn group(rt: HostRuntime) -> Result<(), Fail> {
     let alloc = rt.alloc();
     let items = moved(alloc, &[I4(5), I4(-7)], 1)?;
     let layout = Layout::Group(Text::from_bytes(alloc, b"g")?, members(alloc)?);
+    assert!(rt; items.order.len() < 1000);
     let job = transfer(layout, items, true, NO_CHANGE);
     let got = added(alloc, &job, false, 80, 0)?;
     assert!(rt; is_added(got, Ok(b" &G\n A=5\n B=-7\n /\n")));

@@ -622,6 +622,7 @@ fn direct_input_under_a_format(rt: HostRuntime) -> Result<(), Fail> {
         let mut items = moved(alloc, items, 1)?;
         let mut disk = disk_of(alloc, bytes)?;
         let format = parse(alloc, format.as_bytes())?;
+        assert!(rt; items.order.len() < 1000);
         let came = get_from(alloc, &mut disk, number, &format, &mut items)?;
         assert_eq!(rt; came, condition);
         for (cell, item) in items.cells.as_slice().iter().zip(after) {
