@@ -1,0 +1,229 @@
+-- What is kept of pending transfers hangs together, also after one is entered, answered or taken off.
+use Rattle.std.proofs.Common.{◌≡◌, ◌≢◌, ℕ, ◌+◌, ◌<◌, ◌≤◌, ◌&&◌, ◌||◌, eqb, not, Bool, true, false, List, [], ◌∷◌, ◌++◌, length, set, int_eq, pos, ℤ, Option, Some, None, All, refl, sym, ap, subst, ◌∙◌, inl, inr, arith}
+use Rattle.std.specs.Prelude.{if◌then◌else◌, filter, is_some, ◌==◌, min}
+use Rattle.std.specs.List.{list_any}
+use Rattle.std.proofs.lemmas.Bool.{ne_eqb, eq-eqb, cases_lt}
+use Rattle.std.proofs.lemmas.Bool.Decides.{eqb_tells}
+use Rattle.std.proofs.lemmas.List.{get_or-set_same, get_or-set_other, get_or_past}
+use Rattle.std.proofs.lemmas.List.Elements.{All-nil, All-cons, All-head, All-tail, All-weaker, All-append, All-filter}
+use Rattle.std.proofs.lemmas.List.Kept.{AllPairs-filter}
+use Rattle.std.proofs.lemmas.List.Quantifiers.{all_pairs_push}
+use Rattle.fj_value.specs.declared.place.Place.{Place}
+use Rattle.fj_value.specs.declared.condition.Rule.{Rule}
+use Rattle.fj_value.specs.declared.condition.Rule.TheVariants.{P1, P2, P3, P4, P5}
+use Rattle.fj_store.specs.Places.{is_among, places_in}
+use Rattle.fj_store.specs.Variables.{Variables, value_at, is_undefined}
+use Rattle.fj_book.specs.declared.pending.Pending.{Pending}
+use Rattle.fj_book.specs.Entries.{tag_of, has_tag}
+use Rattle.fj_book.specs.Entries as book
+use Rattle.fj_book.specs.Prohibitions.{Need, is_read, is_held, has_id, names_pending, defines_twice, prohibited}
+use Rattle.fj_plain.proofs.Lists.{any_same}
+use Rattle.fj_pending.specs.declared.held.Held.{Held}
+use Rattle.fj_pending.specs.declared.mark.Mark.{Mark}
+use Rattle.fj_pending.specs.Plain.{holders}
+use Rattle.fj_pending.specs.Taking.{without}
+use Rattle.fj_pending.specs.Tied.{IsMarked, IsSame, AreSame, IsTied, mark_at, no_mark, entered_marks}
+use Rattle.fj_pending.proofs.Waited.{among_chosen}
+
+-- ---- the book prohibits what the transfers prohibit
+
+read_same : (p : Place) (es : List Pending) (hs : List Held) → AreSame es hs → is_read (book.holders es) p ≡ is_read (holders hs) p
+read_same p [] [] s = refl
+read_same p [] (h ∷ hs) s = absurd s
+read_same p (e ∷ es) [] s = absurd s
+read_same p (e ∷ es) (h ∷ hs) s =
+    ap (λ b. (b && is_among e.places p) || is_read (book.holders es) p) s.0.input
+    ∙ ap (λ b. (h.input && b) || is_read (book.holders es) p) (s.0.places p)
+    ∙ ap (λ b. (h.input && is_among (places_in h.runs) p) || b) (read_same p es hs s.1)
+
+held_same : (p : Place) (es : List Pending) (hs : List Held) → AreSame es hs → is_held (book.holders es) p ≡ is_held (holders hs) p
+held_same p [] [] s = refl
+held_same p [] (h ∷ hs) s = absurd s
+held_same p (e ∷ es) [] s = absurd s
+held_same p (e ∷ es) (h ∷ hs) s =
+    ap (λ b. b || is_held (book.holders es) p) (s.0.places p)
+    ∙ ap (λ b. is_among (places_in h.runs) p || b) (held_same p es hs s.1)
+
+ids_same : (unit : Option ℕ) (id : ℤ) (es : List Pending) (hs : List Held) → AreSame es hs → list_any (has_id unit id) (book.holders es) ≡ list_any (has_id unit id) (holders hs)
+ids_same unit id [] [] s = refl
+ids_same unit id [] (h ∷ hs) s = absurd s
+ids_same unit id (e ∷ es) [] s = absurd s
+ids_same None id (e ∷ es) (h ∷ hs) s = ids_same None id es hs s.1
+ids_same (Some u) id (e ∷ es) (h ∷ hs) s =
+    ap (λ n. ((n == u) && int_eq (pos (tag_of e)) id) || list_any (has_id (Some u) id) (book.holders es)) s.0.unit
+    ∙ ap (λ n. ((h.unit == u) && int_eq (pos n) id) || list_any (has_id (Some u) id) (book.holders es)) s.0.tag
+    ∙ ap (λ b. ((h.unit == u) && int_eq (pos h.tag.0) id) || b) (ids_same (Some u) id es hs s.1)
+
+names_same : (unit : Option ℕ) (id : Option ℤ) (es : List Pending) (hs : List Held) → AreSame es hs → names_pending (book.holders es) unit id ≡ names_pending (holders hs) unit id
+names_same unit None es hs s = refl
+names_same unit (Some id) es hs s = ids_same unit id es hs s
+
+abbrev lowest : Variables → Need → Bool → Bool → Bool → Option Rule
+lowest vars n reads defines names =
+    if reads then Some P1
+    else (if defines then Some P2
+    else (if list_any (λ place. is_undefined (value_at vars place)) n.references then Some P3
+    else (if not names then Some P4
+    else (if defines_twice n then Some P5 else None))))
+
+pub same_rule : (vars : Variables) (n : Need) (es : List Pending) (hs : List Held) → AreSame es hs → prohibited vars (book.holders es) n ≡ prohibited vars (holders hs) n
+same_rule vars n es hs s =
+    ap (λ b. lowest vars n b (list_any (is_held (book.holders es)) n.defines) (names_pending (book.holders es) n.unit n.id)) (any_same (is_read (book.holders es)) (is_read (holders hs)) n.references (λ p. read_same p es hs s))
+    ∙ ap (λ b. lowest vars n (list_any (is_read (holders hs)) n.references) b (names_pending (book.holders es) n.unit n.id)) (any_same (is_held (book.holders es)) (is_held (holders hs)) n.defines (λ p. held_same p es hs s))
+    ∙ ap (lowest vars n (list_any (is_read (holders hs)) n.references) (list_any (is_held (holders hs)) n.defines)) (names_same n.unit n.id es hs s)
+
+-- ---- one more
+
+same_push : (es : List Pending) (hs : List Held) (e : Pending) (h : Held) → AreSame es hs → IsSame e h → AreSame (es ++ e ∷ []) (hs ++ h ∷ [])
+same_push [] [] e h s this = (this, tt)
+same_push [] (x ∷ hs) e h s this = absurd s
+same_push (x ∷ es) [] e h s this = absurd s
+same_push (x ∷ es) (y ∷ hs) e h s this = (s.0, same_push es hs e h s.1 this)
+
+-- identifiers below those of all transfers are below those of the book
+pub book_below : (es : List Pending) (hs : List Held) (n : ℕ) → AreSame es hs → All (λ (h : Held). h.tag.0 < n) hs → All (λ (e : Pending). tag_of e < n) es
+book_below [] [] n s below = All-nil (λ (e : Pending). tag_of e < n)
+book_below [] (h ∷ hs) n s below = absurd s
+book_below (e ∷ es) [] n s below = absurd s
+book_below (e ∷ es) (h ∷ hs) n s below =
+    All-cons (λ (x : Pending). tag_of x < n) e es (let low = All-head (λ (x : Held). x.tag.0 < n) h hs below in let same = s.0.tag in omega arith)
+    (book_below es hs n s.1 (All-tail (λ (x : Held). x.tag.0 < n) h hs below))
+
+mark_here : (marks : List Mark) (slot t : ℕ) (m : Mark) → slot < length marks → t ≡ slot → mark_at (set marks slot m) t ≡ m
+mark_here marks slot t m low same = ap (mark_at (set marks slot m)) same ∙ get_or-set_same marks slot m no_mark low
+
+mark_other : (marks : List Mark) (slot t : ℕ) (m : Mark) → t ≢ slot → mark_at (set marks slot m) t ≡ mark_at marks t
+mark_other marks slot t m other = get_or-set_other marks slot t m no_mark other
+
+-- a transfer with a true mark has a slot
+pub seated : (marks : List Mark) (h : Held) → IsMarked marks h → h.slot < length marks
+seated marks h k = elim (cases_lt h.slot (length marks)) [
+  | inl low ↦ low
+  | inr high ↦
+      let none : mark_at marks h.slot ≡ no_mark = get_or_past marks h.slot no_mark high in
+      let never : h.number < 0 = subst (λ (m : Mark). h.number < m.next) none k.next in
+      absurd (omega (arith, never))
+]
+
+pub own_marked : (marks : List Mark) (slot : ℕ) (m : Mark) (h : Held) → slot < length marks → h.slot ≡ slot
+    → (h.tag.0 < m.passed → is_some h.answer ≡ true) → (is_some h.answer ≡ true → h.number ≤ m.reached) → h.number < m.next → IsMarked (set marks slot m) h
+own_marked marks slot m h low same passed reached next =
+    let is = mark_here marks slot h.slot m low same in record {
+      passed = λ lt. passed (subst (λ (k : Mark). h.tag.0 < k.passed) is lt);
+      reached = λ some. subst (λ (k : Mark). h.number ≤ k.reached) (sym is) (reached some);
+      next = subst (λ (k : Mark). h.number < k.next) (sym is) next;
+    }
+
+-- a mark that is put is true of the transfers of the slot, and the others keep theirs
+pub remarked : (marks : List Mark) (slot : ℕ) (m : Mark) (h : Held) → IsMarked marks h
+    → (h.slot ≡ slot → (h.tag.0 < m.passed → is_some h.answer ≡ true) × (is_some h.answer ≡ true → h.number ≤ m.reached) × (h.number < m.next)) → IsMarked (set marks slot m) h
+remarked marks slot m h old new = elim (eqb_tells h.slot slot) [
+  | inl here ↦ let facts = new here.1 in own_marked marks slot m h (subst (λ n. n < length marks) here.1 (seated marks h old)) here.1 facts.0 facts.1 facts.2
+  | inr other ↦ let is = mark_other marks slot h.slot m other.1 in record {
+    passed = λ lt. old.passed (subst (λ (k : Mark). h.tag.0 < k.passed) is lt);
+    reached = λ some. subst (λ (k : Mark). h.number ≤ k.reached) (sym is) (old.reached some);
+    next = subst (λ (k : Mark). h.number < k.next) (sym is) old.next;
+  }
+]
+
+all_one : {X : Type 0} (P : X → Type 0) (x : X) → P x → All P (x ∷ [])
+all_one P x h = All-cons P x [] h (All-nil P)
+
+pub entered_is : (hs : List Held) (es : List Pending) (marks : List Mark) (h : Held) (e : Pending) → IsTied hs es marks → h.answer ≡ None → IsSame e h → h.slot < length marks
+    → All (λ (x : Held). x.tag.0 < h.tag.0) hs → (mark_at marks h.slot).next ≤ h.number → IsTied (hs ++ h ∷ []) (es ++ e ∷ []) (entered_marks marks h)
+entered_is hs es marks h e t none this low above from =
+    let m : Mark = record { passed = min (mark_at marks h.slot).passed h.tag.0; reached = (mark_at marks h.slot).reached; next = h.number + 1 } in
+    let unanswered : is_some h.answer ≡ false = ap is_some none in
+    record {
+      ascending = all_pairs_push (λ (a b : Held). a.tag.0 < b.tag.0) hs h t.ascending above;
+      rising = all_pairs_push (λ (a b : Held). a.slot ≡ b.slot → a.number < b.number) hs h t.rising
+          (All-weaker (IsMarked marks) (λ (x : Held). x.slot ≡ h.slot → x.number < h.number) (λ x k same. let under = subst (λ n. x.number < (mark_at marks n).next) same k.next in omega (arith, under, from)) hs t.marked);
+      same = same_push es hs e h t.same this;
+      marked = All-append (IsMarked (entered_marks marks h)) hs (h ∷ [])
+          (All-weaker (IsMarked marks) (IsMarked (set marks h.slot m)) (λ x k. remarked marks h.slot m x k (λ here. before x k here m refl)) hs t.marked)
+          (all_one (IsMarked (set marks h.slot m)) h (fresh m unanswered refl));
+    }
+  where
+    before : (x : Held) → IsMarked marks x → x.slot ≡ h.slot → (m : Mark) → m ≡ record { passed = min (mark_at marks h.slot).passed h.tag.0; reached = (mark_at marks h.slot).reached; next = h.number + 1 }
+        → (x.tag.0 < m.passed → is_some x.answer ≡ true) × (is_some x.answer ≡ true → x.number ≤ m.reached) × (x.number < m.next)
+    before x k here m is =
+        let passed : m.passed ≡ min (mark_at marks h.slot).passed h.tag.0 = ap (λ (y : Mark). y.passed) is in
+        let reached : m.reached ≡ (mark_at marks h.slot).reached = ap (λ (y : Mark). y.reached) is in
+        let next : m.next ≡ h.number + 1 = ap (λ (y : Mark). y.next) is in
+        let below : x.number < (mark_at marks h.slot).next = subst (λ n. x.number < (mark_at marks n).next) here k.next in (
+          (λ lt. k.passed (subst (λ n. x.tag.0 < (mark_at marks n).passed) (sym here) (omega arith))),
+          (λ some. let far : x.number ≤ (mark_at marks h.slot).reached = subst (λ n. x.number ≤ (mark_at marks n).reached) here (k.reached some) in omega arith),
+          omega arith,
+        )
+
+    fresh : (m : Mark) → is_some h.answer ≡ false → m ≡ record { passed = min (mark_at marks h.slot).passed h.tag.0; reached = (mark_at marks h.slot).reached; next = h.number + 1 } → IsMarked (set marks h.slot m) h
+    fresh m unanswered is =
+        let here = mark_here marks h.slot h.slot m low refl in
+        let passed : m.passed ≡ min (mark_at marks h.slot).passed h.tag.0 = ap (λ (y : Mark). y.passed) is in
+        let next : m.next ≡ h.number + 1 = ap (λ (y : Mark). y.next) is in
+        record {
+          passed = λ lt. let under : h.tag.0 < m.passed = subst (λ (y : Mark). h.tag.0 < y.passed) here lt in absurd (omega arith);
+          reached = λ some. (let never : false ≡ true = sym unanswered ∙ some in cc);
+          next = subst (λ (y : Mark). h.number < y.next) (sym here) (let n : h.number < m.next = omega arith in n);
+        }
+
+pub tied_as : (hs hs' : List Held) (es es' : List Pending) (ms ms' : List Mark) → hs' ≡ hs → es' ≡ es → ms' ≡ ms → IsTied hs es ms → IsTied hs' es' ms'
+tied_as hs hs' es es' ms ms' a b m t = subst (λ l. IsTied l es' ms') (sym a) (subst (λ l. IsTied hs l ms') (sym b) (subst (IsTied hs es) (sym m) t))
+
+-- ---- taken off
+
+same_filter : (f : Pending → Bool) (g : Held → Bool) (es : List Pending) (hs : List Held) → AreSame es hs
+    → All (λ (h : Held). (e : Pending) → tag_of e ≡ h.tag.0 → f e ≡ g h) hs → AreSame (filter f es) (filter g hs)
+same_filter f g [] [] s agree = tt
+same_filter f g [] (h ∷ hs) s agree = absurd s
+same_filter f g (e ∷ es) [] s agree = absurd s
+same_filter f g (e ∷ es) (h ∷ hs) s agree =
+    by (f e) (g h) (All-head (λ (x : Held). (y : Pending) → tag_of y ≡ x.tag.0 → f y ≡ g x) h hs agree e s.0.tag)
+    (same_filter f g es hs s.1 (All-tail (λ (x : Held). (y : Pending) → tag_of y ≡ x.tag.0 → f y ≡ g x) h hs agree))
+  where
+    by : (b c : Bool) → b ≡ c → AreSame (filter f es) (filter g hs) → AreSame (if b then e ∷ filter f es else filter f es) (if c then h ∷ filter g hs else filter g hs)
+    by true true k rest = (s.0, rest)
+    by true false k rest = (let never : true ≡ false = k in cc)
+    by false true k rest = (let never : false ≡ true = k in cc)
+    by false false k rest = rest
+
+pub without_is : (told : List Held) (es : List Pending) → without told es ≡ filter (λ (e : Pending). not (list_any (λ (h : Held). h.tag.0 == tag_of e) told)) es
+without_is [] es = sym (all es)
+  where
+    all : (xs : List Pending) → filter (λ (e : Pending). true) xs ≡ xs
+    all [] = refl
+    all (x ∷ xs) = ap (λ l. x ∷ l) (all xs)
+without_is (h ∷ told) es = without_is told (filter (λ e. not (has_tag h.tag.0 e)) es) ∙ both es
+  where
+    both : (xs : List Pending) → filter (λ (e : Pending). not (list_any (λ (x : Held). x.tag.0 == tag_of e) told)) (filter (λ e. not (has_tag h.tag.0 e)) xs)
+        ≡ filter (λ (e : Pending). not ((h.tag.0 == tag_of e) || list_any (λ (x : Held). x.tag.0 == tag_of e) told)) xs
+    both [] = refl
+    both (x ∷ xs) = turn (h.tag.0 == tag_of x) (has_tag h.tag.0 x) (swapped (h.tag.0) (tag_of x)) (both xs)
+      where
+        swapped : (a b : ℕ) → eqb a b ≡ eqb b a
+        swapped a b = elim (eqb_tells a b) [
+          | inl same ↦ eq-eqb a b same.1 ∙ sym (eq-eqb b a (sym same.1))
+          | inr other ↦ ne_eqb a b other.1 ∙ sym (ne_eqb b a (λ k. other.1 (sym k)))
+        ]
+
+        turn : (a b : Bool) → a ≡ b
+            → filter (λ (e : Pending). not (list_any (λ (y : Held). y.tag.0 == tag_of e) told)) (filter (λ e. not (has_tag h.tag.0 e)) xs) ≡ filter (λ (e : Pending). not ((h.tag.0 == tag_of e) || list_any (λ (y : Held). y.tag.0 == tag_of e) told)) xs
+            → filter (λ (e : Pending). not (list_any (λ (y : Held). y.tag.0 == tag_of e) told)) (if not b then x ∷ filter (λ e. not (has_tag h.tag.0 e)) xs else filter (λ e. not (has_tag h.tag.0 e)) xs)
+            ≡ (if not (a || list_any (λ (y : Held). y.tag.0 == tag_of x) told) then x ∷ filter (λ (e : Pending). not ((h.tag.0 == tag_of e) || list_any (λ (y : Held). y.tag.0 == tag_of e) told)) xs
+            else filter (λ (e : Pending). not ((h.tag.0 == tag_of e) || list_any (λ (y : Held). y.tag.0 == tag_of e) told)) xs)
+        turn true true k rest = rest
+        turn true false k rest = (let never : true ≡ false = k in cc)
+        turn false true k rest = (let never : false ≡ true = k in cc)
+        turn false false k rest = ap (λ l. if not (list_any (λ (y : Held). y.tag.0 == tag_of x) told) then x ∷ l else l) rest
+
+pub taken_is : (q : Held → Bool) (hs : List Held) (es : List Pending) (marks : List Mark) → IsTied hs es marks → IsTied (filter (λ h. not (q h)) hs) (without (filter q hs) es) marks
+taken_is q hs es marks t = record {
+  ascending = AllPairs-filter (λ (a b : Held). a.tag.0 < b.tag.0) (λ h. not (q h)) hs t.ascending;
+  rising = AllPairs-filter (λ (a b : Held). a.slot ≡ b.slot → a.number < b.number) (λ h. not (q h)) hs t.rising;
+  same = subst (λ l. AreSame l (filter (λ h. not (q h)) hs)) (sym (without_is (filter q hs) es))
+      (same_filter (λ (e : Pending). not (list_any (λ (h : Held). h.tag.0 == tag_of e) (filter q hs))) (λ h. not (q h)) es hs t.same
+      (All-weaker (λ (h : Held). list_any (λ (x : Held). x.tag.0 == h.tag.0) (filter q hs) ≡ q h)
+      (λ (h : Held). (e : Pending) → tag_of e ≡ h.tag.0 → not (list_any (λ (x : Held). x.tag.0 == tag_of e) (filter q hs)) ≡ not (q h))
+      (λ h k e same. ap (λ n. not (list_any (λ (x : Held). x.tag.0 == n) (filter q hs))) same ∙ ap not k) hs (among_chosen q hs t.ascending)));
+  marked = All-filter (λ h. not (q h)) (IsMarked marks) hs t.marked;
+}

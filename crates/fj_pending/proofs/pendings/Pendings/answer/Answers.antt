@@ -1,0 +1,22 @@
+use Rattle.std.proofs.Common.{◌≡◌, subst, sym, ap, ◌∙◌}
+use Rattle.fj_turns.specs.Turns.{with_answer}
+use Rattle.fj_pending.specs.Plain.{held, outcome_of}
+use Rattle.fj_pending.specs.Tied.{IsTied}
+use Rattle.fj_pending.proofs.Answering.{none_answered, answered_is, answer_is}
+use Rattle.fj_pending.proofs.pendings.Pendings.answer.Goals as goal
+
+pub returns-in_default-clause-answered : goal.returns-in_default-clause-answered
+returns-in_default-clause-answered c =
+    subst (λ hs. held hs ≡ with_answer c.args.slot c.args.number (outcome_of c.args.told) (held hs)) c.self.view_is
+    (sym (none_answered c.args.slot c.args.number (outcome_of c.args.told) c.self.inside.helds.items c.in_default.ensures.none))
+
+pub invariant_of-self : goal.invariant_of-self
+invariant_of-self c =
+    subst (IsTied c.put_answer.new.helds.items c.self.inside.book) (sym c.mark_answered.ensures)
+    (answered_is c.args.told c.self.inside.helds.items c.put_answer.new.helds.items c.self.inside.book c.pass.new.marks.items c.args.slot c.args.number c.in-Some.at c.in-Some.ensures.some.0 c.in-Some.ensures.some.1 c.put_answer.ensures
+    (record { ascending = c.self.invariant.ascending; rising = c.self.invariant.rising; same = c.self.invariant.same; marked = c.pass.ensures }))
+
+pub returns-clause-answered : goal.returns-clause-answered
+returns-clause-answered c =
+    answer_is c.args.told c.self.inside.helds.items c.put_answer.new.helds.items c.args.slot c.args.number c.in-Some.at c.self.invariant.rising c.in-Some.ensures.some.0 c.in-Some.ensures.some.1 c.put_answer.ensures
+    ∙ ap (λ hs. with_answer c.args.slot c.args.number (outcome_of c.args.told) (held hs)) c.self.view_is

@@ -1,0 +1,21 @@
+use Rattle.std.proofs.Common.{◌≡◌, true, [], ◌∷◌, ◌++◌, refl, ap, ◌∙◌, rules}
+use Rattle.fj_book.specs.declared.pending.Pending.{Pending}
+use Rattle.fj_pending.specs.Tied.{entered_marks}
+use Rattle.fj_pending.proofs.Tying.{book_below, entered_is, tied_as}
+use Rattle.fj_pending.proofs.pendings.Pendings.enter.Goals as goal
+
+pub enter-requires : goal.enter-requires
+enter-requires c =
+    let next : c.is_next.result ≡ true = search rules in
+    book_below c.self.inside.book c.self.inside.helds.items c.args.entered.tag.0 c.self.invariant.same (c.is_next.ensures.ascends next)
+
+pub invariant_of-self-2 : goal.invariant_of-self-2
+invariant_of-self-2 c =
+    let next : c.is_next.result ≡ true = search rules in
+    let hs = c.self.inside.helds.items in
+    let h = c.args.entered in
+    let marks = c.self.inside.marks.items in
+    let e : Pending = record { tag = h.tag; unit = h.unit; input = h.input; places = c.args.places; number = h.number } in
+    tied_as (hs ++ h ∷ []) c.push_back_reserved.new.self.items (c.self.inside.book ++ e ∷ []) c.enter.new.self (entered_marks marks h) c.mark_entered.new.marks.items
+    (c.push_back_reserved.ensures.items ∙ ap (λ l. l ++ h ∷ []) c.in_ok-reserve.ensures.items) c.in_ok-enter.ensures.ok c.mark_entered.ensures
+    (entered_is hs c.self.inside.book marks h e c.self.invariant c.requires.unanswered (record { tag = refl; unit = refl; input = refl; places = c.requires.same }) (c.is_next.ensures.slot next) (c.is_next.ensures.ascends next) (c.is_next.ensures.rises next))

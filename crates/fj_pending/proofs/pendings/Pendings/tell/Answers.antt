@@ -1,0 +1,25 @@
+use Rattle.std.proofs.Common.{not, filter, refl, sym, ap, ◌∙◌}
+use Rattle.fj_plain.specs.Telling.{tells_id}
+use Rattle.fj_turns.specs.Run as run
+use Rattle.fj_pending.specs.declared.held.Held.{Held}
+use Rattle.fj_pending.specs.Plain.{held, entries}
+use Rattle.fj_pending.specs.Taking.{without}
+use Rattle.fj_pending.specs.Waits.{waited_of, picks}
+use Rattle.fj_pending.proofs.Tying.{taken_is, tied_as}
+use Rattle.fj_pending.proofs.Waited.{left_is, when_done}
+use Rattle.fj_pending.proofs.pendings.Pendings.tell.Goals as goal
+
+pub invariant_of-self-2 : goal.invariant_of-self-2
+invariant_of-self-2 c =
+    let hs = c.self.inside.helds.items in
+    let p = c.picked-pick.result in
+    tied_as (filter (λ (h : Held). not (picks p h)) hs) c.take_picked.new.helds.items (without (filter (picks p) hs) c.self.inside.book) c.leave.new.book c.self.inside.marks.items c.self.inside.marks.items
+    c.in_ok-told.ensures.left (c.leave.ensures ∙ ap (λ l. without l c.self.inside.book) c.in_ok-told.ensures.told) refl (taken_is (picks p) hs c.self.inside.book c.self.inside.marks.items c.self.invariant)
+
+pub returns-clause-left : goal.returns-clause-left
+returns-clause-left c =
+    let hs = c.self.inside.helds.items in
+    when_done c.deliver.result
+    (ap held c.in_ok-told.ensures.left
+    ∙ sym (left_is (picks c.picked-pick.result) hs (waited_of c.args.whose (entries hs)) c.self.invariant.ascending c.picked-pick.ensures.picked)
+    ∙ ap (λ xs. filter (λ (h : run.Held). not (tells_id (waited_of c.args.whose (entries xs)) h.pending.id)) (held xs)) c.self.view_is)

@@ -1,0 +1,20 @@
+// Why a run cannot go on.
+ghost use Rattle.std.specs.Prelude.{◌≡◌};
+ghost use Rattle.fj_pending.specs.declared.lost.Lost.TheVariants.{Memory};
+
+use std::alloc::AllocError;
+
+#[derive(Debug, Drop)]
+pub enum Lost {
+    Memory(AllocError),
+    /// What came back is not what is due.
+    Unfit,
+}
+
+impl From<AllocError> for Lost {
+    ghost from_gives = { λ error lost. lost ≡ Memory error };
+
+    fn from(error: AllocError) -> Lost {
+        Lost::Memory(error)
+    }
+}

@@ -1,0 +1,297 @@
+// The pending transfers of a run, in ascending order of their identifiers.
+ghost use Rattle.std.specs.Prelude.{◌≡◌, ◌<◌, ◌≤◌, ◌+◌, ◌^◌, true, ◌++◌, [], ◌∷◌, not, All, HoldsAt, length, map, filter, take, IfOk, IfSome, IfNone, IfErr, OnOk, OnErr};
+ghost use Rattle.std.specs.Option.{option_map};
+ghost use Rattle.std.specs.List.{find, list_any};
+ghost use Rattle.fj_value.specs.declared.place.Place.{Place};
+ghost use Rattle.fj_store.specs.Places.{is_among, places_in};
+ghost use Rattle.fj_store.specs.Storage.{values_of};
+ghost use Rattle.fj_book.specs.Needs.{need_of};
+ghost use Rattle.fj_book.specs.Prohibitions.{prohibited};
+ghost use Rattle.fj_plain.specs.Telling.{condition_of, tells_id, tells_cause, with_inputs};
+ghost use Rattle.fj_plain.specs.Telling as telling;
+ghost use Rattle.fj_turns.specs.Turns.{is_at, unsettled, with_answer};
+ghost use Rattle.fj_pending.specs.Plain.{held, entries, holders, outcome_of, tells_of};
+ghost use Rattle.fj_pending.specs.Tied.{IsAscending, mark_at, entered_marks, answered_marks};
+ghost use Rattle.fj_pending.specs.Waits.{waited_of, IsPassed, is_due, is_cause};
+
+use crate::answers::{mark_at, pass, put_answer, put_mark, seek};
+use crate::deliver::deliver;
+use crate::held::{Held, Told};
+use crate::lost::Lost;
+use crate::mark::Mark;
+use crate::pick::{Pick, causes, picked, place_of};
+use crate::taking::{leave, take_picked};
+use crate::tell::Tell;
+use crate::whose::Whose;
+use fj_book::{Book, Need, Pending, Places};
+use fj_statement::Variable;
+use fj_store::Store;
+use fj_value::{Condition, Items, Kind, Rule};
+use std::alloc::{AllocError, Global};
+use std::collections::VecDeque;
+use std::marker::Model;
+
+/// The most slots.
+const MOST_SLOTS: usize = 16;
+
+/// The pending transfers with the answers that their jobs had, seen as their list.
+#[derive(Drop)]
+pub struct Pendings {
+    helds: VecDeque<Held>,
+    /// The same transfers, as prohibitions see them.
+    book: Book,
+    /// By slot.
+    marks: Vec<Mark>,
+}
+
+impl Model for Pendings {
+    ghost use Rattle.std.specs.Prelude.{List};
+    ghost use Rattle.std.specs.Coded.{codes};
+    ghost use Rattle.fj_format.specs.contracts.item.FormatItem as item;
+    ghost use Rattle.fj_pending.specs.declared.held.Held.{Held};
+
+    ghost Value = { List Held };
+
+    ghost coded = { Prim.hlevel (codes, item.the_row.coded) };
+
+    ghost use Rattle.fj_pending.specs.Tied.{IsTied};
+
+    ghost view = { λ p. p.helds.items };
+
+    ghost invariant = { λ p. IsTied p.helds.items p.book p.marks.items };
+}
+
+/// The slot of the first transfer that is waited for and has no answer, where none stands before the place, and where it stands.
+fn next_due(helds: &VecDeque<Held>, pick: Pick, from: usize) -> Option<(usize, u32)>
+    ensures slot { find (is_due pick) (take from helds.now.items) ≡ None → option_map (λ r. r.1) result ≡ option_map (λ h. h.slot) (find (is_due pick) helds.now.items) }
+    ensures passed { find (is_due pick) (take from helds.now.items) ≡ None → IfSome result (λ r. find (is_due pick) (take r.0 helds.now.items) ≡ None) }
+{
+    for at in from..helds.len() {
+        let held = &helds[at];
+        if pick.awaits(held) {
+            return Some((at, held.slot));
+        }
+    }
+    None
+}
+
+/// The slot of the transfer of an identifier, where it has no answer.
+fn one_due(helds: &VecDeque<Held>, id: u32) -> Option<(usize, u32)>
+    requires { IsAscending helds.now.items }
+    ensures slot { option_map (λ r. r.1) result ≡ option_map (λ h. h.slot) (find (is_due (Pick.One id)) helds.now.items) }
+    ensures first { IfSome result (λ r. r.0 ≡ 0) }
+{
+    let Some(at) = place_of(helds, u64::from(id)) else {
+        return None;
+    };
+    let held = &helds[at];
+    if held.answer.is_some() {
+        return None;
+    }
+    Some((0, held.slot))
+}
+
+/// The slot of the first transfer without an answer among those that are waited for, and a place from which to look on.
+fn unsettled_in(helds: &VecDeque<Held>, whose: Whose, from: usize) -> Option<(usize, u32)>
+    requires { IsAscending helds.now.items }
+    ensures slot { IsPassed whose (held helds.now.items) from → option_map (λ r. r.1) result ≡ unsettled (waited_of whose (entries helds.now.items)) (held helds.now.items) }
+    ensures passed { IsPassed whose (held helds.now.items) from → IfSome result (λ r. IsPassed whose (held helds.now.items) r.0) }
+{
+    match picked(helds, whose) {
+        Pick::None => None,
+        Pick::OfUnit(unit) => next_due(helds, Pick::OfUnit(unit), from),
+        Pick::One(id) => one_due(helds, id),
+        Pick::All => next_due(helds, Pick::All, from),
+    }
+}
+
+/// Whether one that is waited for halted the unit.
+fn any_causes(helds: &VecDeque<Held>, pick: Pick, unit: u32) -> bool
+    ensures { result ≡ list_any (is_cause pick unit) helds.now.items }
+{
+    for at in 0..helds.len() {
+        if causes(pick, unit, &helds[at]) {
+            return true;
+        }
+    }
+    false
+}
+
+/// Whether the transfer that stands behind all others may come.
+fn is_next(helds: &VecDeque<Held>, marks: &Vec<Mark>, entered: &Held) -> bool
+    requires { IsAscending helds.now.items }
+    ensures ascends { result ≡ true → All (λ h. h.tag.0 < entered.now.tag.0) helds.now.items }
+    ensures slot { result ≡ true → entered.now.slot < length marks.now.items }
+    ensures rises { result ≡ true → (mark_at marks.now.items entered.now.slot).next ≤ entered.now.number }
+    ensures more { result ≡ true → entered.now.number + 1 < 2 ^ 64 }
+{
+    if entered.slot as usize >= marks.len() || entered.number == u64::MAX {
+        return false;
+    }
+    if entered.number < mark_at(marks, entered.slot).next {
+        return false;
+    }
+    match helds.back() {
+        Some(last) => last.tag.0 < entered.tag.0,
+        None => true,
+    }
+}
+
+/// One more at its slot.
+fn mark_entered(marks: &mut Vec<Mark>, entered: &Held)
+    requires { entered.now.number + 1 < 2 ^ 64 }
+    ensures { marks.new.items ≡ entered_marks marks.old.items entered.now }
+{
+    let mark = mark_at(marks, entered.slot);
+    let passed = mark.passed.min(u64::from(entered.tag.0));
+    put_mark(
+        marks,
+        entered.slot,
+        Mark {
+            passed,
+            reached: mark.reached,
+            next: entered.number + 1,
+        },
+    );
+}
+
+/// The numbers of a slot that have answers go so far.
+fn mark_answered(marks: &mut Vec<Mark>, slot: u32, number: u64)
+    ensures { marks.new.items ≡ answered_marks marks.old.items slot number }
+{
+    let mark = mark_at(marks, slot);
+    let reached = mark.reached.max(number);
+    put_mark(
+        marks,
+        slot,
+        Mark {
+            passed: mark.passed,
+            reached,
+            next: mark.next,
+        },
+    );
+}
+
+impl Pendings {
+    /// No transfer, for variables of these kinds with so many elements.
+    pub fn new(alloc: Global, kinds: &[(Kind, u32)]) -> Result<Pendings, AllocError>
+        ensures { IfOk result (λ pendings. pendings ≡ []) }
+    {
+        let book = Book::new(alloc, kinds)?;
+        let none = Mark {
+            passed: 0,
+            reached: 0,
+            next: 0,
+        };
+        let marks = vec![in alloc; none; MOST_SLOTS]?;
+        Ok(Pendings {
+            helds: VecDeque::new(alloc),
+            book,
+            marks,
+        })
+    }
+
+    /// All of them, in ascending order of their identifiers.
+    pub fn entries(&self) -> &VecDeque<Held>
+        ensures entries { result.now.items ≡ self.now }
+        ensures ascending { IsAscending self.now }
+    {
+        let _ = &self.book;
+        &self.helds
+    }
+
+    /// Enters a transfer, which has no answer yet, with its places each once. It is refused where its identifier or the number of its
+    /// job is not greater than those that were entered, or its slot is not below 16. Where it is not entered nothing changes.
+    pub fn enter(&mut self, entered: Held, places: Places) -> Result<(), Lost>
+        requires unanswered { entered.answer ≡ None }
+        requires same { (p : Place) → is_among places p ≡ is_among (places_in entered.runs) p }
+        ensures ok { OnOk result (self.new ≡ self.old ++ entered ∷ []) }
+        ensures err { OnErr result (self.new ≡ self.old) }
+    {
+        if !is_next(&self.helds, &self.marks, &entered) {
+            return Err(Lost::Unfit);
+        }
+        self.helds.reserve(1)?;
+        self.book.enter(Pending {
+            tag: entered.tag,
+            unit: entered.unit,
+            input: entered.input,
+            places,
+            number: entered.number,
+        })?;
+        mark_entered(&mut self.marks, &entered);
+        self.helds.push_back_reserved(entered);
+        Ok(())
+    }
+
+    /// Gives the transfer whose job has the number at the slot its answer. Where no transfer has it, what was told comes back. It
+    /// takes no memory.
+    pub fn answer(&mut self, slot: u32, number: u64, told: Told) -> Result<(), Told>
+        ensures answered { held self.new ≡ with_answer slot number (outcome_of told) (held self.old) }
+        ensures none { OnErr result (self.new ≡ self.old) }
+        ensures back { IfErr result (λ it. it ≡ told) }
+    {
+        let Some(at) = seek(&self.helds, &self.marks, slot, number) else {
+            return Err(told);
+        };
+        pass(&self.helds, &mut self.marks, slot);
+        put_answer(&mut self.helds, at, told);
+        mark_answered(&mut self.marks, slot, number);
+        Ok(())
+    }
+
+    /// Whether the job of a transfer has the number at the slot.
+    pub fn has(&self, slot: u32, number: u64) -> bool
+        ensures { result ≡ list_any (λ h. is_at slot number h.pending) (held self.now) }
+    {
+        seek(&self.helds, &self.marks, slot, number).is_some()
+    }
+
+    /// The slot of the first transfer without an answer among those that are waited for, and a place behind which all such stand, from
+    /// which to look on after its answer; none where all have answers. No such transfer may stand before the place `from`.
+    pub fn next_unsettled(&self, whose: Whose, from: usize) -> Option<(usize, u32)>
+        ensures slot { IsPassed whose (held self.now) from → option_map (λ r. r.1) result ≡ unsettled (waited_of whose (entries self.now)) (held self.now) }
+        ensures passed { IsPassed whose (held self.now) from → IfSome result (λ r. IsPassed whose (held self.now) r.0) }
+    {
+        unsettled_in(&self.helds, whose, from)
+    }
+
+    /// Whether telling the transfers that are waited for ends the halt of a unit.
+    pub fn ends_halt(&self, whose: Whose, unit: u32) -> bool
+        ensures { result ≡ tells_cause (waited_of whose (entries self.now)) unit }
+    {
+        let pick = picked(&self.helds, whose);
+        any_causes(&self.helds, pick, unit)
+    }
+
+    /// Tells the transfers that are waited for, at a line: items and SIZE= of inputs become defined, the transfers are pending no
+    /// more, and the condition that they have together is answered. Where it is not done, nothing is said of what is left.
+    pub fn tell(
+        &mut self,
+        alloc: Global,
+        whose: Whose,
+        line: u32,
+        variables: &[Variable],
+        store: &mut Store,
+        tells: &mut Items<Tell>,
+    ) -> Result<Condition, Lost>
+        requires { store.old.kinds ≡ map (λ v. v.kind) variables.now }
+        ensures condition { IfOk result (λ condition. condition ≡ condition_of (waited_of whose (entries self.old))) }
+        ensures values { OnOk result (values_of store.new ≡ with_inputs variables.now (waited_of whose (entries self.old)) (values_of store.old)) }
+        ensures kinds { store.new.kinds ≡ store.old.kinds }
+        ensures left { OnOk result (held self.new ≡ filter (λ h. not (tells_id (waited_of whose (entries self.old)) h.pending.id)) (held self.old)) }
+        ensures tells { OnOk result (tells_of tells.new ≡ tells_of tells.old ++ map (telling.tell_of line) (waited_of whose (entries self.old))) }
+    {
+        let pick = picked(&self.helds, whose);
+        let told = take_picked(alloc, &mut self.helds, pick)?;
+        leave(&mut self.book, &told);
+        deliver(told, line, variables, store, tells)
+    }
+
+    /// The lowest rule that a statement breaks. It takes no memory.
+    pub(crate) fn rule_for(&self, store: &Store, need: &Need<'_>) -> Option<Rule>
+        ensures { result ≡ prohibited (values_of store.now) (holders self.now) (need_of need.now) }
+    {
+        self.book.check(store, need)
+    }
+}
