@@ -103,7 +103,7 @@ all_distinct (cell ∷ items) moved once = all_distinct items (with_item moved c
 
 -- ---- cells put over a place that was changed
 
-absorbed : {T : Type 0} → (made : Cell → T) (cells : List Cell) (rows : List (List T)) (p : Place) (x y : T) → with_element (with_cells made cells (with_element rows p x)) p y ≡ with_element (with_cells made cells rows) p y
+pub absorbed : {T : Type 0} → (made : Cell → T) (cells : List Cell) (rows : List (List T)) (p : Place) (x y : T) → with_element (with_cells made cells (with_element rows p x)) p y ≡ with_element (with_cells made cells rows) p y
 absorbed made [] rows p x y = with_twice rows p x y
 absorbed made (c ∷ cells) rows p x y =
     elim (places_tell p c.place) [

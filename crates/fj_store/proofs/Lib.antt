@@ -1,3 +1,4 @@
+pub mod CopyLemmas
 pub mod LawLemmas
 pub mod ListLemmas
 pub mod PlaceLemmas

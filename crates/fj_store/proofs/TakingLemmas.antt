@@ -51,25 +51,25 @@ each_in_runs kinds t (run ∷ runs) =
 
 -- ---- which slots stand at the places that were home
 
-abbrev slot_for : ℕ → ℕ → Value → Slot
+abbrev pub slot_for : ℕ → ℕ → Value → Slot
 slot_for at count v = cond (eqb at count) (Home v) (Out at)
 
 -- a place that was home has its value, or, once it has a cell, that cell's number
-record Marks (start slots : List (List Slot)) (cells : List Cell) : Type 0 where
-  marked : (p : Place) (v : Value) → element_at start p ≡ Some (Home v) → element_at slots p ≡ Some (slot_for (position_or_len (is_at p) cells) (length cells) v)
+pub record Marks (start slots : List (List Slot)) (cells : List Cell) : Type 0 where
+  pub marked : (p : Place) (v : Value) → element_at start p ≡ Some (Home v) → element_at slots p ≡ Some (slot_for (position_or_len (is_at p) cells) (length cells) v)
 
 -- with no cells each place is as it was
-no_marks : (start : List (List Slot)) → Marks start start []
+pub no_marks : (start : List (List Slot)) → Marks start start []
 no_marks start = record { marked = λ p v e. e }
 
-position_low : {X : Type 0} → (f : X → Bool) (xs : List X) → position_or_len f xs ≤ length xs
+pub position_low : {X : Type 0} → (f : X → Bool) (xs : List X) → position_or_len f xs ≤ length xs
 position_low f xs = prefix_len-le-length (λ x. not (f x)) xs
 
 -- a cell more: where it is the place's own, and where it is another's
 mark_own : (at n : ℕ) (v : Value) → at ≡ n → slot_for (cond (eqb at n) (n + 0) at) (n + 1) v ≡ Out n
 mark_own at n v e = rw e (grind (arith, nat_tests))
 
-mark_other : (at n : ℕ) (v : Value) → at ≤ n → slot_for (cond (eqb at n) (n + 1) at) (n + 1) v ≡ slot_for at n v
+pub mark_other : (at n : ℕ) (v : Value) → at ≤ n → slot_for (cond (eqb at n) (n + 1) at) (n + 1) v ≡ slot_for at n v
 mark_other at n v low = elim (eqb_tells at n) [
   | inl same ↦ rw same.0 (grind (arith, nat_tests))
   | inr other ↦ rw other.0 (let far : eqb at (n + 1) ≡ false = grind (arith, nat_tests) in rw far refl)
@@ -77,17 +77,17 @@ mark_other at n v low = elim (eqb_tells at n) [
 
 -- ---- one step
 
-abbrev moved_in : Taking → Moved
+abbrev pub moved_in : Taking → Moved
 moved_in t = record { cells = t.cells; order = t.order }
 
-abbrev values_in : List (List Slot) → List (List (Option Value))
+abbrev pub values_in : List (List Slot) → List (List (Option Value))
 values_in slots = map (map value_in) slots
 
 -- taking the place of a cell out
-record Takes (start : List (List Slot)) (t t' : Taking) (cell : Cell) : Type 0 where
-  marks : Marks start t'.slots t'.cells
-  item : moved_in t' ≡ with_item (moved_in t) cell
-  empty : values_in t'.slots ≡ with_element (values_in t.slots) cell.place None
+pub record Takes (start : List (List Slot)) (t t' : Taking) (cell : Cell) : Type 0 where
+  pub marks : Marks start t'.slots t'.cells
+  pub item : moved_in t' ≡ with_item (moved_in t) cell
+  pub empty : values_in t'.slots ≡ with_element (values_in t.slots) cell.place None
 
 same_self : (p : Place) → same_place p p ≡ true
 same_self p = grind (arith, nat_tests)
@@ -144,7 +144,7 @@ takes_again start t cell m e test = record {
   empty = sym (with_itself (values_in t.slots) cell.place None (mapped_at value_in t.slots cell.place ∙ ap (option_map value_in) e));
 }
 
-takes_one : (start : List (List Slot)) (t : Taking) (cell : Cell) → Marks start t.slots t.cells → element_at start cell.place ≡ Some (Home cell.value)
+pub takes_one : (start : List (List Slot)) (t : Taking) (cell : Cell) → Marks start t.slots t.cells → element_at start cell.place ≡ Some (Home cell.value)
     → Takes start t (take_one cell.kind t cell.place) cell
 takes_one start t cell m home =
     let P : Option Slot → Type 0 = λ o. Takes start t (taken_by o cell.kind t cell.place) cell in
@@ -166,15 +166,15 @@ home_value None h = cc
 home_value (Some (Home v)) h = (v, refl)
 home_value (Some (Out n)) h = cc
 
-abbrev IsHome : List Kind → List (List Slot) → Place → Type 0
+abbrev pub IsHome : List Kind → List (List Slot) → Place → Type 0
 IsHome kinds start p = IsSome (value_at (storage kinds start) p)
 
-home_at : (kinds : List Kind) (start : List (List Slot)) (p : Place) → IsHome kinds start p → (v : Value) × (element_at start p ≡ Some (Home v))
+pub home_at : (kinds : List Kind) (start : List (List Slot)) (p : Place) → IsHome kinds start p → (v : Value) × (element_at start p ≡ Some (Home v))
 home_at kinds start p h =
     let P : Option (Option Value) → Type 0 = λ o. IsSome (option_flatten o) in
     home_value (element_at start p) (subst P (mapped_at value_in start p) h)
 
-cell_is : (kinds : List Kind) (start : List (List Slot)) (p : Place) (v : Value) → element_at start p ≡ Some (Home v)
+pub cell_is : (kinds : List Kind) (start : List (List Slot)) (p : Place) (v : Value) → element_at start p ≡ Some (Home v)
     → cell_at (storage kinds start) p ≡ record { place = p; kind = kind_at kinds p.var; value = v }
 cell_is kinds start p v e =
     ap (λ (o : Option (Option Value)). let cell : Cell = record { place = p; kind = kind_at kinds p.var; value = unwrap_or (option_flatten o) Undefined } in cell)

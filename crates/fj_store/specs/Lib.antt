@@ -1,6 +1,7 @@
 pub mod Cases
 pub mod Kinds
 pub mod Laws
+pub mod Pieces
 pub mod Places
 pub mod Storage
 pub mod Tables

@@ -3,11 +3,14 @@ use Rattle.std.specs.Prelude.{◌+◌, ◌≤◌, ℕ, List, [], ◌∷◌, ◌+
 use Rattle.fj_value.specs.declared.kind.Kind.{Kind}
 use Rattle.fj_value.specs.declared.place.Place.{Place}
 use Rattle.fj_value.specs.declared.value.Cell.{Cell}
+use Rattle.fj_store.specs.declared.piece.Piece.{Piece}
+use Rattle.fj_store.specs.declared.piece.Piece.TheVariants.{Places, Own}
 use Rattle.fj_store.specs.declared.run.Run.{Run}
 use Rattle.fj_store.specs.declared.slot.Slot.{Slot}
 use Rattle.fj_store.specs.declared.slot.Slot.TheVariants.{Home, Out}
 use Rattle.fj_store.specs.declared.taken.Taken.{Taken}
 use Rattle.fj_store.specs.Kinds.{kind_at, of_kind}
+use Rattle.fj_store.specs.Pieces.{own_cell}
 use Rattle.fj_store.specs.Places.{places_of}
 use Rattle.fj_store.specs.Tables.{element_at, with_element}
 
@@ -48,3 +51,16 @@ take_runs kinds t (run ∷ runs) = take_runs kinds (take_all (kind_at kinds run.
 -- the value of a cell, at home again
 abbrev pub home : List Kind → Cell → Slot
 home kinds cell = Home (of_kind (kind_at kinds cell.place.var) cell.value)
+
+-- a value of its own has a cell by itself
+abbrev pub with_own : Taking → Cell → Taking
+with_own t cell = record t { cells = t.cells ++ cell ∷ []; order = t.order ++ length t.cells ∷ [] }
+
+abbrev pub take_pieces : List Kind → ℕ → Taking → List Piece → Taking
+take_pieces kinds number t [] = t
+take_pieces kinds number t (Places run ∷ pieces) = take_pieces kinds number (take_all (kind_at kinds run.var) t (places_of run)) pieces
+take_pieces kinds number t (Own kind value ∷ pieces) = take_pieces kinds (number + 1) (with_own t (own_cell number kind value)) pieces
+
+-- the value of a cell, at home again as it was
+abbrev pub home_again : Cell → Slot
+home_again cell = Home cell.value

@@ -15,7 +15,7 @@ pub(crate) fn kind_in(kinds: &[Kind], var: u32) -> Kind
 }
 
 /// Whether a value is of a kind.
-fn is_of_kind(kind: Kind, value: &Value) -> bool
+pub fn is_of_kind(kind: Kind, value: &Value) -> bool
     ensures { result ≡ is_of_kind kind value.now }
 {
     match (kind, value) {

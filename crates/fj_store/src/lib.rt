@@ -4,15 +4,18 @@
 
 mod kinds;
 mod laws;
+mod piece;
 mod run;
 mod slot;
 mod store;
 mod table;
 mod taken;
 
+pub use kinds::is_of_kind;
 pub use laws::{
     all_comes_back, cells_are_distinct, items_have_cells, just_these_are_out, places_come_back,
 };
+pub use piece::Piece;
 pub use run::Run;
 pub use store::Store;
 pub use table::Table;

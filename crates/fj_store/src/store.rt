@@ -1,23 +1,26 @@
 // The variables of a deck: what their places hold, and taking values out and giving them back.
-ghost use Rattle.std.specs.Prelude.{◌≡◌, ◌<◌, length, All, map, replicate, IsSome, IfOk, OnOk, OnErr};
+ghost use Rattle.std.specs.Prelude.{◌≡◌, ◌<◌, ◌≤◌, length, All, map, replicate, IsSome, IfOk, OnOk, OnErr};
 ghost use Rattle.std.specs.Option.{option_copied};
 ghost use Rattle.fj_store.specs.Places.{places_in};
 ghost use Rattle.fj_store.specs.Tables.{with_element, with_cells};
 ghost use Rattle.fj_store.specs.Kinds.{kind_at, of_kind};
 ghost use Rattle.fj_store.specs.Storage.{all_undefined, value_at, cell_at, with_value, without, given_back};
 ghost use Rattle.fj_store.specs.Variables.{moved_of};
-ghost use Rattle.fj_store.specs.Taking.{home};
+ghost use Rattle.fj_store.specs.Pieces.{no_variable, cells_in, places_among, sizes};
+ghost use Rattle.fj_store.specs.Taking.{home, home_again};
 ghost use Rattle.fj_store.specs.declared.slot.Slot.TheVariants.{Home};
 ghost use Rattle.fj_value.specs.declared.value.Value.TheVariants.{Undefined};
 
 use crate::kinds::{kind_in, of_kind};
+use crate::piece::Piece;
 use crate::run::Run;
 use crate::slot::Slot;
 use crate::table::Table;
-use crate::taken::{count_of, room_for, take_places};
+use crate::taken::{count_of, room_for, take_pieces, take_places};
 use fj_list::Moved;
 use fj_value::{Cell, Items, Kind, Place, Value};
 use std::alloc::{AllocError, Global};
+use std::collections::VecDeque;
 use std::marker::Model;
 
 /// By variable its kind, and at each of its places a value, or none where it is moved out.
@@ -61,6 +64,36 @@ fn put_back(slots: &mut Table<Slot>, kinds: &[Kind], cells: Vec<Cell>)
         let value = of_kind(kind_in(kinds, place.var), value);
         slots.put(place, Slot::Home(value));
     }
+}
+
+/// Puts the values of cells back as they are, each at its place.
+fn put_again(slots: &mut Table<Slot>, cells: Vec<Cell>)
+    ensures { slots.new ≡ with_cells home_again cells.items slots.old }
+{
+    for cell in cells {
+        let Cell {
+            place,
+            kind: _,
+            value,
+        } = cell;
+        slots.put(place, Slot::Home(value));
+    }
+}
+
+/// The same cells once more.
+fn copies(alloc: Global, cells: &[Cell]) -> Result<Items<Cell>, AllocError>
+    ensures { IfOk result (λ copies. copies ≡ cells.now) }
+{
+    let mut copies = Items::new(alloc);
+    copies.reserve(cells.len())?;
+    for cell in cells {
+        copies.push(Cell {
+            place: cell.place,
+            kind: cell.kind,
+            value: cell.value.try_clone()?,
+        })?;
+    }
+    Ok(copies)
 }
 
 impl Store {
@@ -107,6 +140,36 @@ impl Store {
         take_places(&mut self.slots, &self.kinds, runs, &mut taken);
         Ok(Moved {
             cells: Items::from_vec(taken.cells),
+            order: Items::from_vec(taken.order),
+        })
+    }
+
+    /// The number of its variables.
+    pub fn count(&self) -> usize
+        ensures { result ≡ length self.now.values }
+    {
+        self.slots.count()
+    }
+
+    /// Copies the values of so many items, each place once, in the order of the items. It changes nothing.
+    pub fn copy_of(
+        &mut self,
+        alloc: Global,
+        pieces: VecDeque<Piece>,
+        size: u32,
+    ) -> Result<Moved, AllocError>
+        requires home { All (λ place. IsSome (value_at self.old place)) (places_among pieces.items) }
+        requires size { sizes pieces.items ≤ size }
+        requires rows { length self.old.values ≤ no_variable }
+        ensures moved { IfOk result (λ moved. moved ≡ moved_of (cells_in self.old pieces.items)) }
+        ensures same { self.new ≡ self.old }
+    {
+        let mut taken = room_for(alloc, size as usize)?;
+        take_pieces(&mut self.slots, &self.kinds, pieces, &mut taken);
+        let cells = copies(alloc, &taken.cells);
+        put_again(&mut self.slots, taken.cells);
+        Ok(Moved {
+            cells: cells?,
             order: Items::from_vec(taken.order),
         })
     }

@@ -1,5 +1,5 @@
 // Tables with an element at each place of each variable.
-ghost use Rattle.std.specs.Prelude.{◌≡◌, [], ◌∷◌, ◌++◌, OnOk, OnErr};
+ghost use Rattle.std.specs.Prelude.{◌≡◌, [], ◌∷◌, ◌++◌, length, OnOk, OnErr};
 ghost use Rattle.std.specs.Option.{option_copied};
 ghost use Rattle.fj_store.specs.Tables.{element_at, with_element};
 
@@ -32,6 +32,13 @@ impl<T> Table<T> {
         Table {
             rows: Vec::new(alloc),
         }
+    }
+
+    /// The number of variables.
+    pub fn count(&self) -> usize
+        ensures { result ≡ length self.now }
+    {
+        self.rows.len()
     }
 
     /// What stands at a place, if it has such a place.

@@ -1,15 +1,19 @@
 // What is taken out of a table: each place once, and the cell of each item.
-ghost use Rattle.std.specs.Prelude.{◌≡◌, ◌+◌, ◌<◌, ◌≤◌, ℕ, [], length, OnOk, IfOk, vec_len, vec_capacity};
+ghost use Rattle.std.specs.Prelude.{◌≡◌, ◌+◌, ◌<◌, ◌≤◌, ℕ, List, [], length, OnOk, IfOk, vec_len, vec_capacity};
 ghost use Rattle.fj_store.specs.Places.{places_of, places_in};
-ghost use Rattle.fj_store.specs.Taking.{taking, HasRoom, take_one, take_all, take_runs};
+ghost use Rattle.fj_store.specs.Taking.{taking, HasRoom, take_one, take_all, take_runs, with_own, take_pieces};
 ghost use Rattle.fj_store.specs.Kinds.{kind_at};
+ghost use Rattle.fj_store.specs.declared.slot.Slot.{Slot};
+ghost use Rattle.fj_store.specs.Pieces.{own_cell, sizes};
 
 use crate::kinds::kind_in;
+use crate::piece::Piece;
 use crate::run::Run;
 use crate::slot::Slot;
 use crate::table::Table;
-use fj_value::{Cell, Kind, Place};
+use fj_value::{Cell, Kind, Place, Value};
 use std::alloc::{AllocError, Global};
+use std::collections::VecDeque;
 
 /// Cells, and the number of the cell of each item.
 #[derive(Debug, Drop)]
@@ -82,4 +86,44 @@ pub(crate) fn count_of(runs: &[Run]) -> usize
         count += run.count as usize;
     }
     count
+}
+
+/// The variable of values that have no place.
+const NO_VARIABLE: u32 = 4294967295;
+
+/// Adds a value of its own, by its number among these.
+fn add_own(number: u32, kind: Kind, value: Value, taken: &mut Taken)
+    requires { HasRoom taken.old 1 }
+    ensures taken { (slots : List (List Slot)) → taking slots taken.new ≡ with_own (taking slots taken.old) (own_cell number kind value) }
+    ensures room { (n : ℕ) → HasRoom taken.old (n + 1) → HasRoom taken.new n }
+{
+    let place = Place {
+        var: NO_VARIABLE,
+        index: number,
+    };
+    taken.order.push_reserved(taken.cells.len() as u32);
+    taken.cells.push_reserved(Cell { place, kind, value });
+}
+
+/// Takes pieces one behind the other: their places out, and their own values.
+pub(crate) fn take_pieces(
+    slots: &mut Table<Slot>,
+    kinds: &[Kind],
+    mut pieces: VecDeque<Piece>,
+    taken: &mut Taken,
+)
+    requires room { HasRoom taken.old (sizes pieces.items) }
+    requires few { sizes pieces.items < 4294967296 }
+    ensures { taking slots.new taken.new ≡ take_pieces kinds.now 1 (taking slots.old taken.old) pieces.items }
+{
+    let mut own = 0;
+    'taking: while let Some(piece) = pieces.pop_front() {
+        match piece {
+            Piece::Places(run) => take_run(slots, kind_in(kinds, run.var), run, taken),
+            Piece::Own(kind, value) => {
+                own += 1;
+                add_own(own, kind, value, taken);
+            }
+        }
+    }
 }

@@ -1,0 +1,182 @@
+-- What the output on `*` grows by.
+use Rattle.std.proofs.Common.{◌≡◌, ℕ, zero, suc, ◌+◌, ◌-◌, ◌≤◌, eqb, cond, not, Bool, true, false, List, [], ◌∷◌, ◌++◌, length, take, drop, Result, Ok, Err, OnErr, refl, sym, ap, subst, ◌∙◌, arith, append_assoc, append-nil, length-append}
+use Rattle.std.proofs.lemmas.List.{take-append-le}
+use Rattle.std.proofs.lemmas.Bool.Decides.{nat_tests}
+use Rattle.std.specs.List.{flat_map}
+use Rattle.fj_value.specs.declared.condition.Condition.{Condition}
+use Rattle.fj_value.specs.declared.condition.Condition.TheVariants.{Fine, Error}
+use Rattle.fj_list.specs.ListText.{text_of}
+use Rattle.fj_list.specs.declared.moved.Moved.{Moved}
+use Rattle.fj_modes.specs.Modes.{usual_edit}
+use Rattle.fj_statement.specs.declared.deck.Variable.{Variable}
+use Rattle.fj_statement.specs.declared.statement.Transfer.{Transfer as Stated}
+use Rattle.fj_statement.specs.declared.statement.Statement.TheVariants.{Transfer}
+use Rattle.fj_store.specs.Variables.{Variables}
+use Rattle.fj_transfer.specs.Change.{changed}
+use Rattle.fj_transfer.specs.Printing.{Printed, open_count, actions_by, printed_by}
+use Rattle.fj_transfer.specs.Transfer.{is_formatted}
+use Rattle.fj_transfer.specs.Writing.{Prints}
+use Rattle.fj_plain.specs.State.{Output}
+use Rattle.fj_plain.specs.Statement.{control_by}
+use Rattle.fj_plain.specs.Telling.{is_asynchronous}
+use Rattle.fj_plain.specs.Transfers.{spec_in, moved_in, printed_to}
+use Rattle.fj_items.specs.Outputs.{output_of}
+use Rattle.fj_items.specs.declared.star.Output.TheInside.{Inside}
+use Rattle.fj_items.specs.Handing.{whole_records, ended_part, printed_on, HandsOver, HandsFront, TakesFront}
+
+take_both : (k j : ℕ) (xs : List ℕ) → take (k + j) xs ≡ take k xs ++ take j (drop k xs)
+take_both zero j xs = let e : zero + j ≡ j = omega arith in ap (λ n. take n xs) e
+take_both (suc k) zero [] = let e : suc k + zero ≡ suc k = omega arith in ap (λ n. take n (let none : List ℕ = [] in none)) e
+take_both (suc k) (suc j) [] = let e : suc k + suc j ≡ suc (k + suc j) = omega arith in ap (λ n. take n (let none : List ℕ = [] in none)) e
+take_both (suc k) j (x ∷ xs) = let e : suc k + j ≡ suc (k + j) = omega arith in ap (λ n. take n (x ∷ xs)) e ∙ ap (λ ys. x ∷ ys) (take_both k j xs)
+
+-- the records that end where characters are added and so many stay open
+part_is : (t x : List ℕ) (b count : ℕ) → b ≤ length t → count ≤ b + length x
+    → take (length (t ++ x) - count) (t ++ x) ≡ take (length t - b) t ++ take ((b + length x) - count) (drop (length (t ++ x) - (b + length x)) (t ++ x))
+part_is t x b count low few =
+    let k : ℕ = length t - b in
+    let j : ℕ = (b + length x) - count in
+    let long : length (t ++ x) ≡ length t + length x = length-append t x in
+    let whole : length (t ++ x) - count ≡ k + j = omega (arith, long, low, few) in
+    let front : length (t ++ x) - (b + length x) ≡ k = omega (arith, long, low) in
+    let in_old : k ≤ length t = omega arith in
+    ap (λ n. take n (t ++ x)) whole
+    ∙ take_both k j (t ++ x)
+    ∙ ap (λ ys. ys ++ take j (drop k (t ++ x))) (take-append-le k t x in_old)
+    ∙ sym (ap (λ n. take k t ++ take j (drop n (t ++ x))) front)
+
+abbrev grown : Output → List ℕ → ℕ → Output
+grown o x count = record { text = o.text ++ x; begun = count }
+
+whole_is : (o : Output) (x : List ℕ) (count : ℕ) → o.begun ≤ length o.text → count ≤ o.begun + length x
+    → whole_records (grown o x count) ≡ whole_records o ++ ended_part (grown o x (o.begun + length x)) count
+whole_is o x count low few = part_is o.text x o.begun count low few
+
+count_by : (b a : ℕ) (records : List (List ℕ)) → cond (eqb (length records) 0) b 0 + a ≤ b + (length (text_of records) + a)
+count_by b a [] = omega arith
+count_by b a (r ∷ records) =
+    let some : eqb (length (r ∷ records)) 0 ≡ false = grind (arith, nat_tests) in
+    let low : 0 + a ≤ b + (length (text_of (r ∷ records)) + a) = omega arith in
+    rw some low
+
+count_low : (b : ℕ) (p : Printed) → open_count b p ≤ b + length (text_of p.records ++ p.«open»)
+count_low b p =
+    let h : open_count b p ≤ b + (length (text_of p.records) + length p.«open») = count_by b (length p.«open») p.records in
+    let long : length (text_of p.records ++ p.«open») ≡ length (text_of p.records) + length p.«open» = length-append (text_of p.records) p.«open» in
+    omega (arith, h, long)
+
+-- ---- what was printed
+
+abbrev Printing : Result Printed Condition → ℕ → List ℕ → ℕ → List ℕ → Type 0
+Printing r b old count new = (p : Printed) × (r ≡ Ok p) × (count ≡ open_count b p) × (new ≡ old ++ (text_of p.records ++ p.«open»))
+
+fine_by : (b : ℕ) (r : Result Printed Condition) (old : List ℕ) (count : ℕ) (new : List ℕ) → Prints b r old (Ok count) new → Printing r b old count new
+fine_by b (Ok p) old count new h = (p, refl, h.0, h.1)
+fine_by b (Err c) old count new h = absurd h
+
+-- what is added, as one
+all_one : (o : Output) (p : Printed) → printed_to o (Ok p) ≡ (grown o (text_of p.records ++ p.«open») (open_count o.begun p), Fine)
+all_one o p = ap (λ t. (let z : Output = record { text = t; begun = open_count o.begun p } in z, Fine)) (append_assoc o.text (text_of p.records) p.«open»)
+
+abbrev seen : List ℕ → List ℕ → Output
+seen flat kept = record { text = flat ++ kept; begun = length kept }
+
+-- where it was fine
+pub record Went (r : Result Printed Condition) (o mid : Output) (count : ℕ) : Type 0 where
+  x : List ℕ
+  mid_is : mid ≡ grown o x (o.begun + length x)
+  few : count ≤ o.begun + length x
+  due : printed_to o r ≡ (grown o x count, Fine)
+
+went_at : (r : Result Printed Condition) (flat kept kept' : List ℕ) (count : ℕ) → Prints (length kept) r kept (Ok count) kept' → Went r (seen flat kept) (seen flat kept') count
+went_at r flat kept kept' count h =
+    let f : Printing r (length kept) kept count kept' = fine_by (length kept) r kept count kept' h in
+    let p : Printed = f.0 in
+    let x : List ℕ = text_of p.records ++ p.«open» in
+    record {
+      x = x;
+      mid_is =
+          ap (seen flat) f.3
+          ∙ ap (λ t. let z : Output = record { text = t; begun = length (kept ++ x) } in z) (sym (append_assoc flat kept x))
+          ∙ ap (λ n. let z : Output = record { text = (flat ++ kept) ++ x; begun = n } in z) (length-append kept x);
+      few = let low = count_low (length kept) p in let e : count ≡ open_count (length kept) p = f.2 in omega (arith, low, e);
+      due = ap (printed_to (seen flat kept)) f.1 ∙ all_one (seen flat kept) p ∙ ap (λ n. (grown (seen flat kept) x n, Fine)) (sym f.2);
+    }
+
+pub went : (R : ℕ → Result Printed Condition) (o mid : Output) (flat kept kept' : List ℕ) (begun count : ℕ) → seen flat kept ≡ o → seen flat kept' ≡ mid → begun ≡ length kept → Prints begun (R begun) kept (Ok count) kept'
+    → Went (R o.begun) o mid count
+went R o mid flat kept kept' begun count view after same h =
+    let P : ℕ → Type 0 = λ b. Prints b (R b) kept (Ok count) kept' in
+    let Q : Output → Type 0 = λ z. Went (R z.begun) z mid count in
+    let M : Output → Type 0 = λ m. Went (R (length kept)) (seen flat kept) m count in
+    subst Q view (subst M after (went_at (R (length kept)) flat kept kept' count (subst P same h)))
+
+pub went_over : (r : Result Printed Condition) (o mid new : Output) (count : ℕ) (taken taken' : List ℕ) → Went r o mid count → o.begun ≤ length o.text → new ≡ record mid { begun = count }
+    → taken' ≡ taken ++ ended_part mid count → HandsOver taken taken' o new
+went_over r o mid new count taken taken' w low put gave =
+    let part : List ℕ = ended_part (grown o w.x (o.begun + length w.x)) count in (
+      part,
+      ap whole_records (put ∙ ap (λ (m : Output). let z : Output = record m { begun = count } in z) w.mid_is) ∙ whole_is o w.x count low w.few,
+      gave ∙ ap (λ m. taken ++ ended_part m count) w.mid_is,
+    )
+
+pub went_front : (r : Result Printed Condition) (o mid : Output) (count : ℕ) (taken taken' : List ℕ) → Went r o mid count → o.begun ≤ length o.text → TakesFront taken taken' (ended_part mid count)
+    → HandsFront taken taken' o (printed_to o r).0
+went_front r o mid count taken taken' w low front = (
+  front.0,
+  front.1,
+  ap (λ d. whole_records d.0) w.due ∙ whole_is o w.x count low w.few ∙ ap (λ m. whole_records o ++ ended_part m count) (sym w.mid_is) ∙ ap (λ ys. whole_records o ++ ys) front.2,
+  front.3,
+)
+
+-- ---- nothing was taken
+
+abbrev Grows : Output → Output → Type 0
+Grows old due = (rest : List ℕ) × (whole_records due ≡ whole_records old ++ rest)
+
+grows : (r : Result Printed Condition) (o : Output) → o.begun ≤ length o.text → Grows o (printed_to o r).0
+grows (Err c) o low = ([], sym (append-nil (whole_records o)))
+grows (Ok p) o low =
+    let x : List ℕ = text_of p.records ++ p.«open» in
+    (ended_part (grown o x (o.begun + length x)) (open_count o.begun p), ap (λ d. whole_records d.0) (all_one o p) ∙ whole_is o x (open_count o.begun p) low (count_low o.begun p))
+
+none_of : (o due : Output) (taken taken' : List ℕ) → Grows o due → taken' ≡ taken → HandsFront taken taken' o due
+none_of o due taken taken' g same = ([], g.0, g.1, same ∙ sym (append-nil taken))
+
+pub none_taken : (r : Result Printed Condition) (o : Output) (taken taken' : List ℕ) → o.begun ≤ length o.text → taken' ≡ taken → HandsFront taken taken' o (printed_to o r).0
+none_taken r o taken taken' low same = none_of o (printed_to o r).0 taken taken' (grows r o low) same
+
+-- ---- the statement
+
+by_tests : (a b : Bool) (r : Result Printed Condition) (o : Output) → o.begun ≤ length o.text → Grows o (cond a (o, Error 2) (cond b (o, Error 16) (printed_to o r))).0
+by_tests true b r o low = ([], sym (append-nil (whole_records o)))
+by_tests false true r o low = ([], sym (append-nil (whole_records o)))
+by_tests false false r o low = grows r o low
+
+pub nothing_printed : (variables : List Variable) (vars : Variables) (t : Stated) (o : Output) (taken taken' : List ℕ) → o.begun ≤ length o.text → taken' ≡ taken
+    → HandsFront taken taken' o (printed_on variables vars t o).0
+nothing_printed variables vars t o taken taken' low same =
+    let moved : Moved = moved_in variables vars t in
+    let spec = spec_in variables vars t moved.cells in
+    none_of o (printed_on variables vars t o).0 taken taken'
+    (by_tests (is_asynchronous t) (not (is_formatted spec.layout)) (printed_by 65536 o.begun (actions_by spec.layout (control_by (Transfer t)) (changed spec.edit usual_edit) spec.advance moved)) o low) same
+
+-- ---- of what the program keeps
+
+pub on_err : {A E : Type 0} → (r : Result A E) (X : Type 0) → X → OnErr r X
+on_err (Ok a) X x = tt
+on_err (Err e) X x = x
+
+abbrev flat_of : Inside → List ℕ
+flat_of i = flat_map (λ piece. piece.value) i.handed.items
+
+pub kept_low : (i : Inside) (o : Output) → output_of i ≡ o → o.begun ≤ length o.text
+kept_low i o view =
+    let P : Output → Type 0 = λ z. z.begun ≤ length z.text in
+    let long : length (flat_of i ++ i.«open») ≡ length (flat_of i) + length i.«open» = length-append (flat_of i) i.«open» in
+    let low : length i.«open» ≤ length (flat_of i ++ i.«open») = omega (arith, long) in
+    subst P view low
+
+pub went_on : (R : ℕ → Result Printed Condition) (o : Output) (i : Inside) (kept : List ℕ) (begun count : ℕ) → output_of i ≡ o → begun ≡ length i.«open» → Prints begun (R begun) i.«open» (Ok count) kept
+    → Went (R o.begun) o (seen (flat_of i) kept) count
+went_on R o i kept begun count view same h = went R o (seen (flat_of i) kept) (flat_of i) i.«open» kept begun count view refl same h

@@ -1,0 +1,117 @@
+-- The variables of a store as plain ones.
+use Rattle.std.proofs.Common.{◌≡◌, ℕ, zero, suc, ◌+◌, ◌-◌, ◌<◌, ◌≤◌, cond, Bool, true, false, List, [], ◌∷◌, ◌++◌, length, map, take, replicate, Option, Some, None, All, unwrap_or, slice_get, refl, sym, ap, ◌∙◌, arith}
+use Rattle.std.proofs.lemmas.Option.{slice_get-map}
+use Rattle.std.proofs.lemmas.List.Elements.{All-head, All-tail}
+use Rattle.std.specs.Option.{option_map, option_map_or, option_flatten}
+use Rattle.fj_value.specs.declared.kind.Kind.{Kind}
+use Rattle.fj_value.specs.declared.kind.Kind.TheVariants.{Logical}
+use Rattle.fj_value.specs.declared.place.Place.{Place}
+use Rattle.fj_value.specs.declared.value.Cell.{Cell}
+use Rattle.fj_value.specs.declared.value.Value.{Value}
+use Rattle.fj_value.specs.declared.value.Value.TheVariants.{Undefined}
+use Rattle.fj_value.specs.Reading.{assigned_text}
+use Rattle.fj_statement.specs.declared.deck.Variable.{Variable}
+use Rattle.fj_store.specs.Kinds.{kind_at, is_of_kind, of_kind}
+use Rattle.fj_store.specs.Tables.{element_at, with_element, with_cells}
+use Rattle.fj_store.specs.Places.{counted_from}
+use Rattle.fj_store.specs.Storage.{Storage, value_at, with_value, returned, given_back, values_of}
+use Rattle.fj_store.specs.Variables as plain
+use Rattle.fj_store.proofs.TableLemmas.{mapped_at, mapped_with}
+use Rattle.fj_plain.specs.Items.{kind_of}
+use Rattle.fj_items.specs.Kinds.{kinds_of, Fits, CellFits}
+
+-- ---- kinds
+
+or_logical : (o : Option Variable) → unwrap_or (option_map (λ (v : Variable). v.kind) o) Logical ≡ option_map_or (λ (v : Variable). v.kind) o Logical
+or_logical None = refl
+or_logical (Some v) = refl
+
+pub kind_same : (variables : List Variable) (var : ℕ) → kind_at (kinds_of variables) var ≡ kind_of variables var
+kind_same variables var = ap (λ o. unwrap_or o Logical) (slice_get-map (λ (v : Variable). v.kind) variables var) ∙ or_logical (slice_get variables var)
+
+pub kind_is : (variables : List Variable) (kinds : List Kind) (var : ℕ) → kinds ≡ kinds_of variables → kind_at kinds var ≡ kind_of variables var
+kind_is variables kinds var e = ap (λ ks. kind_at ks var) e ∙ kind_same variables var
+
+same_both : (b : Bool) (v : Value) → cond b v v ≡ v
+same_both true v = refl
+same_both false v = refl
+
+pub undefined_fits : (kind : Kind) → Fits kind Undefined
+undefined_fits kind = same_both (is_of_kind kind Undefined) Undefined
+
+pub true_fits : (kind : Kind) (v : Value) → is_of_kind kind v ≡ true → Fits kind v
+true_fits kind v e = ap (λ b. cond b v Undefined) e
+
+-- ---- a place gets a value
+
+abbrev pub shown : Option Value → Value
+shown o = unwrap_or o Undefined
+
+flat_shown : (o : Option (Option Value)) → unwrap_or (option_map shown o) Undefined ≡ shown (option_flatten o)
+flat_shown None = refl
+flat_shown (Some None) = refl
+flat_shown (Some (Some v)) = refl
+
+-- what is read at a place
+pub read_is : (s : Storage) (p : Place) → plain.value_at (values_of s) p ≡ shown (value_at s p)
+read_is s p = ap (λ o. unwrap_or o Undefined) (mapped_at shown s.values p) ∙ flat_shown (element_at s.values p)
+
+pub set_is : (variables : List Variable) (s new : Storage) (p : Place) (v : Value) → s.kinds ≡ kinds_of variables → Fits (kind_of variables p.var) v → new ≡ with_value s p v
+    → values_of new ≡ plain.with_value (values_of s) p v
+set_is variables s new p v kinds fits put =
+    ap values_of put
+    ∙ mapped_with shown s.values p (Some (of_kind (kind_at s.kinds p.var) v))
+    ∙ ap (λ x. with_element (values_of s) p x) (ap (λ k. of_kind k v) (kind_is variables s.kinds p.var kinds) ∙ fits)
+
+pub kinds_stay : (s new : Storage) (p : Place) (v : Value) → new ≡ with_value s p v → new.kinds ≡ s.kinds
+kinds_stay s new p v put = ap (λ z. z.kinds) put
+
+-- ---- cells come back
+
+back_rows : (variables : List Variable) (kinds : List Kind) (cells : List Cell) (rows : List (List (Option Value))) → kinds ≡ kinds_of variables → All (CellFits variables) cells
+    → map (map shown) (with_cells (returned kinds) cells rows) ≡ with_cells (λ (cell : Cell). cell.value) cells (map (map shown) rows)
+back_rows variables kinds [] rows same fit = refl
+back_rows variables kinds (c ∷ cells) rows same fit =
+    back_rows variables kinds cells (with_element rows c.place (returned kinds c)) same (All-tail (CellFits variables) c cells fit)
+    ∙ ap (with_cells (λ (cell : Cell). cell.value) cells) (
+    mapped_with shown rows c.place (returned kinds c)
+    ∙ ap (λ x. with_element (map (map shown) rows) c.place x) (ap (λ k. of_kind k c.value) (kind_is variables kinds c.place.var same) ∙ All-head (CellFits variables) c cells fit))
+
+pub back_is : (variables : List Variable) (s new : Storage) (cells : List Cell) → s.kinds ≡ kinds_of variables → All (CellFits variables) cells → new ≡ given_back cells s
+    → values_of new ≡ plain.given_back cells (values_of s)
+back_is variables s new cells kinds fit back = ap values_of back ∙ back_rows variables s.kinds cells s.values kinds fit
+
+pub back_kinds : (s new : Storage) (cells : List Cell) → new ≡ given_back cells s → new.kinds ≡ s.kinds
+back_kinds s new cells back = ap (λ z. z.kinds) back
+
+-- ---- places one behind another
+
+-- of so many places from the first on, those from one on are this one and those behind it
+pub places_left : (var i n : ℕ) → i < n → counted_from var (i + 1) (n - i) ≡ record { var = var; index = i + 1 } ∷ counted_from var ((i + 1) + 1) (n - (i + 1))
+places_left var i n low =
+    let left : n - i ≡ suc (n - (i + 1)) = omega arith in
+    ap (counted_from var (i + 1)) left
+
+pub no_places_left : (var i n : ℕ) → n ≤ i → counted_from var (i + 1) (n - i) ≡ []
+no_places_left var i n past =
+    let none : n - i ≡ 0 = omega arith in
+    ap (counted_from var (i + 1)) none
+
+-- ---- characters
+
+none_taken : (n : ℕ) → take n (let none : List ℕ = [] in none) ≡ []
+none_taken zero = refl
+none_taken (suc n) = refl
+
+cut_from : (n m : ℕ) (cs : List ℕ) → n ≤ m → take n (cs ++ replicate m 32) ≡ take n cs ++ replicate (n - length cs) 32
+cut_from zero m cs low = let none : zero - length cs ≡ 0 = omega arith in sym (ap (λ k. replicate k 32) none)
+cut_from (suc n) zero [] low = absurd (omega arith)
+cut_from (suc n) (suc m) [] low =
+    let less : suc n - 0 ≡ suc (n - 0) = omega arith in
+    ap (λ xs. 32 ∷ xs) (cut_from n m [] (omega arith) ∙ ap (λ xs. xs ++ replicate (n - 0) 32) (none_taken n)) ∙ sym (ap (λ k. replicate k 32) less)
+cut_from (suc n) m (c ∷ cs) low =
+    let less : suc n - suc (length cs) ≡ n - length cs = omega arith in
+    ap (λ xs. c ∷ xs) (cut_from n m cs (omega arith)) ∙ sym (ap (λ k. (c ∷ take n cs) ++ replicate k 32) less)
+
+pub cut_is : (n : ℕ) (cs : List ℕ) → take n (cs ++ replicate n 32) ≡ assigned_text n cs
+cut_is n cs = cut_from n n cs (omega arith)

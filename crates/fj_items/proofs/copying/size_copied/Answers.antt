@@ -1,0 +1,22 @@
+use Rattle.std.proofs.Common.{◌≡◌, [], ◌∷◌, IsSome, rules}
+use Rattle.fj_store.specs.declared.piece.Piece.TheVariants.{Places}
+use Rattle.fj_store.specs.Storage.{value_at}
+use Rattle.fj_items.proofs.Takes.{pushed_alone, among_home, among_size, among_cell, size_cell}
+use Rattle.fj_items.proofs.copying.size_copied.Goals as goal
+
+pub copy_of-requires-clause-home : goal.copy_of-requires-clause-home
+copy_of-requires-clause-home c =
+    let here : IsSome (value_at c.args.store.now c.in-Some.place) = c.if-not-is_home.ensures (search rules) in
+    let is : c.push_back.new.self.items ≡ Places c.of_place-run.result ∷ [] = pushed_alone c.of_place-run.result c.new-pieces.result.items c.push_back.new.self.items c.new-pieces.ensures.items c.in-Ok.ensures.items in
+    among_home c.args.store.now c.of_place-run.result c.in-Some.place c.push_back.new.self.items c.of_place-run.ensures is here
+
+pub copy_of-requires-clause-size : goal.copy_of-requires-clause-size
+copy_of-requires-clause-size c =
+    let is : c.push_back.new.self.items ≡ Places c.of_place-run.result ∷ [] = pushed_alone c.of_place-run.result c.new-pieces.result.items c.push_back.new.self.items c.new-pieces.ensures.items c.in-Ok.ensures.items in
+    among_size c.of_place-run.result c.in-Some.place c.push_back.new.self.items c.of_place-run.ensures is
+
+pub returns-clause-moved : goal.returns-clause-moved
+returns-clause-moved c =
+    let is : c.push_back.new.self.items ≡ Places c.of_place-run.result ∷ [] = pushed_alone c.of_place-run.result c.new-pieces.result.items c.push_back.new.self.items c.new-pieces.ensures.items c.in-Ok.ensures.items in
+    size_cell c.args.variables.now c.args.store.now c.args.size c.in-Some.place c.in_ok-moved.moved c.in-Some.is c.requires
+    (among_cell c.args.store.now c.of_place-run.result c.in-Some.place c.push_back.new.self.items c.in_ok-moved.moved c.of_place-run.ensures is c.in_ok-moved.ensures.moved)

@@ -1,0 +1,7 @@
+use Rattle.std.proofs.Common.{◌++◌, List, take}
+use Rattle.fj_statement.specs.declared.statement.Operand.{Operand}
+use Rattle.fj_items.specs.Gathering.{IsGathered}
+use Rattle.fj_items.proofs.gathering.add_items.Given as goal
+
+abbrev pub invariant-loop-item : goal.invariant-loop-item
+invariant-loop-item l = (before : List Operand) → IsGathered l.variables l.store before l.initial.gathered → IsGathered l.variables l.store (before ++ take l.item-index l.items) l.gathered

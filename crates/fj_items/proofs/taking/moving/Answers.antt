@@ -1,0 +1,27 @@
+use Rattle.std.proofs.Common.{◌≡◌, ◌∙◌, true, ap}
+use Rattle.std.specs.Prelude.{unwrap_or}
+use Rattle.fj_bay.specs.Plain.{moving_of as job_of}
+use Rattle.fj_bay.specs.Jobs.{Moving}
+use Rattle.fj_desk.specs.Acting.{moving_of}
+use Rattle.fj_plain.specs.Needs.{number_given}
+use Rattle.fj_plain.specs.Statement.{control_by}
+use Rattle.fj_plain.specs.Transfers.{layout_of, moved_in}
+use Rattle.fj_statement.specs.declared.statement.Transfer.{Transfer as Stated}
+use Rattle.fj_statement.specs.declared.statement.Statement.TheVariants.{Transfer}
+use Rattle.fj_store.specs.Storage.{Storage, values_of}
+use Rattle.fj_transfer.specs.declared.transfer.Transfer.{Transfer as Job}
+use Rattle.fj_items.proofs.Takes.{if_more, job_parts, moving_is, input_size}
+use Rattle.fj_items.proofs.taking.moving.Goals as goal
+
+pub returns-then-t-clause-job : goal.returns-then-t-clause-job
+returns-then-t-clause-job c =
+    let t : Stated = c.args.t.now in
+    let s : Storage = c.args.store.now in
+    let parts : Moving = job_parts c.args.variables.now c.args.line c.args.tag.0 t c.in_ok-moved.moved c.in_ok-size.size c.number_given-rec.result c.number_given-pos.result
+    (layout_of c.args.variables.now c.in_ok-moved.moved.cells t.control) (record { blank_zero = t.blank_zero; comma = t.comma; delim = t.delim; pad = t.pad; plus = t.plus }) (unwrap_or t.advance true) (control_by (Transfer t)) in
+    let due : Moving = moving_of (control_by (Transfer t)) c.args.variables.now c.args.line c.args.tag.0 (values_of s) t (moved_in c.args.variables.now (values_of s) t) in
+    let same : parts ≡ due =
+    moving_is c.args.variables.now (values_of s) c.args.line c.args.tag.0 t c.in_ok-moved.moved c.in_ok-size.size c.number_given-rec.result c.number_given-pos.result c.in_ok-moved.ensures.moved
+    (input_size c.args.variables.now s c.taken.new.store t c.in_ok-size.size c.in_ok-size.ensures.moved c.in_ok-size.ensures.home c.in_ok-moved.ensures.others)
+    (c.number_given-rec.ensures ∙ ap (number_given (values_of s)) c.as_ref.ensures.value) (c.number_given-pos.ensures ∙ ap (number_given (values_of s)) c.as_ref-2.ensures.value) in
+    if_more c.job_with.result (λ (job : Job). job_of job ≡ parts) (λ (job : Job). job_of job ≡ due) (λ job e. e ∙ same) c.job_with.ensures

@@ -1,0 +1,4 @@
+pub mod Gathering
+pub mod Handing
+pub mod Kinds
+pub mod Outputs

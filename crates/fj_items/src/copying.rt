@@ -1,0 +1,66 @@
+// The items of a WRITE, copied out of the variables.
+ghost use Rattle.std.specs.Prelude.{◌≡◌, ◌∷◌, [], Err, option_map, IfOk};
+ghost use Rattle.fj_plain.specs.Items.{cell_at as plain_cell};
+ghost use Rattle.fj_store.specs.Variables.{moved_of};
+ghost use Rattle.fj_plain.specs.Transfers.{moved_in};
+ghost use Rattle.fj_store.specs.Storage.{values_of};
+ghost use Rattle.fj_items.specs.Kinds.{kinds_of};
+
+use crate::gathering::{gather, is_home};
+use crate::lost::Lost;
+use fj_list::Moved;
+use fj_statement::{Transfer, Variables};
+use fj_store::{Piece, Run, Store};
+use fj_value::Place;
+use std::alloc::{AllocError, Global};
+use std::collections::VecDeque;
+
+/// The values of the items, copied. `Unfit`: a place has no value, or they are too many. It changes nothing.
+pub(crate) fn copied(
+    alloc: Global,
+    variables: &Variables,
+    store: &mut Store,
+    t: &Transfer,
+) -> Result<Moved, Lost>
+    requires { store.old.kinds ≡ kinds_of variables.now }
+    ensures moved { IfOk result (λ moved. moved ≡ moved_in variables.now (values_of store.old) t.now) }
+    ensures same { store.new ≡ store.old }
+    ensures own { result ≡ Err Lost.Sink → ⊥ }
+{
+    let gathered = gather(alloc, variables, store, t)?;
+    if store.count() > 4294967295 {
+        return Err(Lost::Unfit);
+    }
+    let moved = store.copy_of(alloc, gathered.pieces, gathered.size)?;
+    Ok(moved)
+}
+
+/// SIZE=, copied as one cell. `Unfit`: it has no value. It changes nothing.
+pub(crate) fn size_copied(
+    alloc: Global,
+    variables: &Variables,
+    store: &mut Store,
+    size: Option<Place>,
+) -> Result<Option<Moved>, Lost>
+    requires { store.old.kinds ≡ kinds_of variables.now }
+    ensures moved { IfOk result (λ moved. moved ≡ option_map (λ place. moved_of (plain_cell variables.now (values_of store.old) place ∷ [])) size) }
+    ensures same { store.new ≡ store.old }
+{
+    let Some(place) = size else {
+        return Ok(None);
+    };
+    if !is_home(store, place) {
+        return Err(Lost::Unfit);
+    }
+    if store.count() > 4294967295 {
+        return Err(Lost::Unfit);
+    }
+    let run = Run::of_place(place);
+    let mut pieces = VecDeque::new(alloc);
+    match pieces.push_back(Piece::Places(run)) {
+        Ok(()) => {}
+        Err(e) => return Err(AllocError::from(e).into()),
+    }
+    let moved = store.copy_of(alloc, pieces, 1)?;
+    Ok(Some(moved))
+}

@@ -1,0 +1,118 @@
+// The layout of a transfer, with the cells of its group.
+ghost use Rattle.std.specs.Prelude.{◌≡◌, Err, IfOk, IsTrue, All};
+ghost use Rattle.std.specs.List.{position_or_len};
+ghost use Rattle.fj_namelist.specs.GroupText.{IsWithin};
+ghost use Rattle.fj_plain.specs.Transfers.{member_of, members_of, layout_of};
+ghost use Rattle.fj_store.specs.Places.{same_place};
+ghost use Rattle.fj_store.specs.Variables.{is_at};
+ghost use Rattle.fj_transfer.specs.Moving as moving;
+
+use crate::assigning::elements;
+use crate::lost::Lost;
+use fj_list::GroupMember;
+use fj_statement::{Control, Variable, Variables};
+use fj_transfer::{Layout, Members};
+use fj_value::{Cell, Place};
+use std::alloc::Global;
+
+fn same_place(a: Place, b: Place) -> bool
+    ensures { result ≡ same_place a b }
+{
+    a.var == b.var && a.index == b.index
+}
+
+/// The number of the cell of a place; where there is none, the number of cells.
+fn position(cells: &[Cell], place: Place) -> usize
+    ensures { result ≡ position_or_len (is_at place) cells.now }
+{
+    for at in 0..cells.len() {
+        if same_place(place, cells[at].place) {
+            return at;
+        }
+    }
+    cells.len()
+}
+
+/// A variable of a group. `Unfit`: there are too many cells.
+fn member_of(cells: &[Cell], var: u32, variable: &Variable) -> Result<GroupMember, Lost>
+    ensures member { IfOk result (λ member. member ≡ member_of cells.now var variable.now) }
+    ensures own { result ≡ Err Lost.Sink → ⊥ }
+{
+    let first = position(cells, Place { var, index: 1 });
+    if first > 4294967295 {
+        return Err(Lost::Unfit);
+    }
+    let name = variable.name.try_clone()?;
+    Ok(GroupMember {
+        name,
+        kind: variable.kind,
+        first: first as u32,
+        count: elements(variable),
+        scalar: variable.count == 0,
+    })
+}
+
+/// The variables of a group.
+fn members_of(
+    alloc: Global,
+    variables: &Variables,
+    cells: &[Cell],
+    vars: &[u32],
+) -> Result<Members, Lost>
+    ensures members { IfOk result (λ members. members ≡ members_of variables.now cells.now vars.now) }
+    ensures own { result ≡ Err Lost.Sink → ⊥ }
+{
+    let mut members = Members::new(alloc);
+    for var in vars {
+        if let Some(variable) = variables.get(*var as usize) {
+            members.push(member_of(cells, *var, variable)?)?;
+        }
+    }
+    Ok(members)
+}
+
+/// The layout of a transfer with these cells.
+pub(crate) fn layout_for(
+    alloc: Global,
+    variables: &Variables,
+    cells: &[Cell],
+    control: &Control,
+) -> Result<Layout, Lost>
+    ensures layout { IfOk result (λ layout. layout ≡ layout_of variables.now cells.now control.now) }
+    ensures own { result ≡ Err Lost.Sink → ⊥ }
+{
+    match control {
+        Control::Unformatted => Ok(Layout::Unformatted),
+        Control::Explicit(format) => {
+            let format = format.try_clone()?;
+            Ok(Layout::Explicit(format))
+        }
+        Control::Listed => Ok(Layout::Listed),
+        Control::Group { name, vars } => {
+            let members = members_of(alloc, variables, cells, vars.as_slice())?;
+            let name = name.try_clone()?;
+            Ok(Layout::Group(name, members))
+        }
+    }
+}
+
+fn are_within(cells: usize, members: &[GroupMember]) -> bool
+    ensures { IsTrue result → All (IsWithin cells) members.now }
+{
+    for member in members {
+        if member.first as u64 + member.count as u64 > cells as u64 {
+            return false;
+        }
+    }
+    true
+}
+
+/// Whether the variables of a group have their cells among so many.
+pub(crate) fn is_grouped(cells: usize, layout: &Layout) -> bool
+    ensures { IsTrue result → All (IsWithin cells) (moving.members_of layout.now) }
+{
+    match layout {
+        Layout::Group(_, members) => are_within(cells, members.as_slice()),
+        _ => true,
+    }
+}

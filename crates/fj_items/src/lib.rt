@@ -1,0 +1,26 @@
+//! What a statement moves between variables and transfers, the output on unit `*`, and assignment.
+#![tactic(auto)]
+
+mod assigning;
+mod copying;
+mod gathering;
+mod giving;
+mod laying;
+mod lost;
+mod number;
+mod refusing;
+mod sink;
+mod sound;
+mod star;
+mod taking;
+mod undefining;
+
+pub use assigning::assign;
+pub use giving::give_cells;
+pub use lost::Lost;
+pub use number::{number_given, set_number};
+pub use refusing::refusal;
+pub use sink::put_all;
+pub use star::{Output, write_star};
+pub use taking::moving;
+pub use undefining::undefine;

@@ -1,0 +1,203 @@
+// The output on unit `*`: its records go to a sink as they end.
+ghost use Rattle.std.specs.Prelude.{◌≡◌, ◌≤◌, ◌++◌, [], ◌↔◌, Err, IfOk, OnOk, OnErr, All, length};
+ghost use Rattle.fj_outside.specs.Faults.{Rose};
+ghost use Rattle.fj_store.specs.Storage.{values_of};
+ghost use Rattle.fj_namelist.specs.GroupText.{IsWithin};
+ghost use Rattle.fj_plain.specs.Transfers.{printed_to};
+ghost use Rattle.fj_transfer.specs.Moving.{members_of};
+ghost use Rattle.fj_transfer.specs.Printing.{IsRecords, actions_by, control_of, printed_by};
+ghost use Rattle.fj_items.specs.Handing.{open_record, ended_part, printed_on, IsPrinted, HandsOver, HandsFront, TakesFront};
+ghost use Rattle.fj_items.specs.Kinds.{kinds_of};
+
+use crate::copying::copied;
+use crate::laying::{is_grouped, layout_for};
+use crate::lost::Lost;
+use crate::refusing::is_formatted;
+use crate::sink::put_all;
+use fj_line::Unwritten;
+use fj_list::Moved;
+use fj_modes::usual_edit;
+use fj_outside::Sink;
+use fj_statement::{Transfer, Variables};
+use fj_store::Store;
+use fj_transfer::{EditChange, Layout, print_onto};
+use fj_value::{Condition, EditModes, Text};
+use std::alloc::{AllocError, Global};
+use std::marker::Model;
+use std::snapshot::Snapshot;
+
+/// The longest record of `*`, in characters.
+const STAR_LIMIT: u32 = 65536;
+
+/// What was written on unit `*`. The records that ended were handed on; the characters of the one that is open are kept.
+#[derive(Drop)]
+pub struct Output {
+    handed: Vec<Snapshot<Text>>,
+    open: Text,
+}
+
+impl Model for Output {
+    ghost use Rattle.fj_plain.specs.State.{Output as PlainOutput};
+    ghost use Rattle.fj_items.specs.Outputs.{output_of};
+
+    ghost Value = { PlainOutput };
+
+    ghost view = { output_of };
+}
+
+impl Output {
+    /// Nothing was written.
+    pub fn new(alloc: Global) -> Output
+        ensures { result ≡ record { text = []; begun = 0 } }
+    {
+        Output {
+            handed: Vec::new(alloc),
+            open: Text::new(alloc),
+        }
+    }
+
+    /// Hands on the record that is open, if there is one, with a line feed behind it: the output ends with it.
+    pub fn end_open<W: Sink>(&mut self, out: &mut W) -> Result<(), Lost>
+        ensures telling { W.tells out.old ↔ W.tells out.new }
+        ensures ok { W.tells out.old → OnOk result (W.taken out.new ≡ W.taken out.old ++ open_record self.old) }
+        ensures front { W.tells out.old → TakesFront (W.taken out.old) (W.taken out.new) (open_record self.old) }
+        ensures later { W.count out.old ≤ W.count out.new }
+        ensures failed { result ≡ Err Lost.Sink → Rose (W.count out.old) (W.count out.new) }
+    {
+        if self.open.is_empty() {
+            return Ok(());
+        }
+        self.open.push_all(b"\n")?;
+        put_all(out, self.open.bytes())
+    }
+
+    /// The record that is open is a part of what was written.
+    fn open_is_part(&self)
+        ensures { self.now.begun ≤ length self.now.text }
+    {
+        let _ = self.open.len();
+    }
+
+    /// Hands on the characters that are kept, but for so many of the last.
+    fn hand_on<W: Sink>(&mut self, alloc: Global, out: &mut W, count: usize) -> Result<(), Lost>
+        requires { count ≤ self.old.begun }
+        ensures new { OnOk result (self.new ≡ record self.old { begun = count }) }
+        ensures telling { W.tells out.old ↔ W.tells out.new }
+        ensures ok { W.tells out.old → OnOk result (W.taken out.new ≡ W.taken out.old ++ ended_part self.old count) }
+        ensures front { W.tells out.old → TakesFront (W.taken out.old) (W.taken out.new) (ended_part self.old count) }
+        ensures later { W.count out.old ≤ W.count out.new }
+        ensures failed { result ≡ Err Lost.Sink → Rose (W.count out.old) (W.count out.new) }
+    {
+        let end = self.open.len() - count;
+        let rest = Text::from_bytes(alloc, &self.open.bytes()[end..])?;
+        self.open.truncate(end);
+        put_all(out, self.open.bytes())?;
+        match self.handed.push(Snapshot::of(&self.open)) {
+            Ok(()) => {}
+            Err(e) => return Err(AllocError::from(e).into()),
+        }
+        self.open = rest;
+        Ok(())
+    }
+
+    /// What a layout prints behind the open record. The records that end are handed on.
+    fn print<W: Sink>(
+        &mut self,
+        alloc: Global,
+        out: &mut W,
+        layout: &Layout,
+        advance: bool,
+        modes: EditModes,
+        moved: &Moved,
+    ) -> Result<Condition, Lost>
+        requires records { IsRecords layout.now }
+        requires grouped { All (IsWithin (length moved.now.cells)) (members_of layout.now) }
+        ensures printed { IfOk result (λ condition. (self.new, condition)
+            ≡ printed_to self.old (printed_by 65536 self.old.begun (actions_by layout.now (control_of layout.now) modes advance moved.now))) }
+        ensures telling { W.tells out.old ↔ W.tells out.new }
+        ensures taken { W.tells out.old → OnOk result (HandsOver (W.taken out.old) (W.taken out.new) self.old self.new) }
+        ensures front { W.tells out.old → OnErr result (HandsFront (W.taken out.old) (W.taken out.new) self.old
+            (printed_to self.old (printed_by 65536 self.old.begun (actions_by layout.now (control_of layout.now) modes advance moved.now))).0) }
+        ensures later { W.count out.old ≤ W.count out.new }
+        ensures failed { result ≡ Err Lost.Sink → Rose (W.count out.old) (W.count out.new) }
+    {
+        let begun = self.open.len();
+        if begun > STAR_LIMIT as usize {
+            return Err(Lost::Unfit);
+        }
+        match print_onto(
+            layout,
+            advance,
+            modes,
+            moved,
+            STAR_LIMIT,
+            begun as u32,
+            &mut self.open,
+        ) {
+            Ok(count) => {
+                self.hand_on(alloc, out, count as usize)?;
+                Ok(Condition::Fine)
+            }
+            Err(Unwritten::Met(condition)) => Ok(condition),
+            Err(Unwritten::Memory(error)) => Err(Lost::Memory(error)),
+        }
+    }
+}
+
+/// The modes that a READ or WRITE names.
+pub(crate) fn edit_of(t: &Transfer) -> EditChange
+    ensures { result ≡ record { blank_zero = t.now.blank_zero; comma = t.now.comma; delim = t.now.delim; pad = t.now.pad; plus = t.now.plus } }
+{
+    EditChange {
+        blank_zero: t.blank_zero,
+        comma: t.comma,
+        delim: t.delim,
+        pad: t.pad,
+        plus: t.plus,
+    }
+}
+
+/// A WRITE on `*`: the records that it ends are handed to the sink, all at once, and the characters of the one that it leaves open
+/// are kept. Answers its condition. `Unfit`: a place has no value, or the items are too many. After an `Err` the variables have their
+/// kinds, and nothing is said of their values and of the output.
+pub fn write_star<W: Sink>(
+    alloc: Global,
+    variables: &Variables,
+    store: &mut Store,
+    output: &mut Output,
+    out: &mut W,
+    t: &Transfer,
+) -> Result<Condition, Lost>
+    requires { store.old.kinds ≡ kinds_of variables.now }
+    ensures printed { IfOk result (λ condition. IsPrinted variables.now (values_of store.old) t.now output.old output.new condition) }
+    ensures vars { OnOk result (values_of store.new ≡ values_of store.old) }
+    ensures kinds { store.new.kinds ≡ store.old.kinds }
+    ensures telling { W.tells out.old ↔ W.tells out.new }
+    ensures taken { W.tells out.old → OnOk result (HandsOver (W.taken out.old) (W.taken out.new) output.old output.new) }
+    ensures front { W.tells out.old → OnErr result (HandsFront (W.taken out.old) (W.taken out.new) output.old
+        (printed_on variables.now (values_of store.old) t.now output.old).0) }
+    ensures later { W.count out.old ≤ W.count out.new }
+    ensures failed { result ≡ Err Lost.Sink → Rose (W.count out.old) (W.count out.new) }
+{
+    output.open_is_part();
+    if t.asynchronous.unwrap_or(false) {
+        return Ok(Condition::Error(2));
+    }
+    if !is_formatted(&t.control) {
+        return Ok(Condition::Error(16));
+    }
+    let moved = copied(alloc, variables, store, t)?;
+    let layout = layout_for(alloc, variables, moved.cells.as_slice(), &t.control)?;
+    if !is_grouped(moved.cells.len(), &layout) {
+        return Err(Lost::Unfit);
+    }
+    let modes = edit_of(t).change(usual_edit());
+    output.print(
+        alloc,
+        out,
+        &layout,
+        t.advance.unwrap_or(true),
+        modes,
+        &moved,
+    )
+}

@@ -1,0 +1,187 @@
+// A READ or WRITE as a job: its items are moved or copied out of the variables.
+ghost use Rattle.std.specs.Prelude.{◌≡◌, ◌∷◌, [], map, true, None, unwrap_or, option_map, IsSome, IfSome, IfOk, OnOk};
+ghost use Rattle.fj_bay.specs.Plain.{moving_of as job_of};
+ghost use Rattle.fj_desk.specs.Acting.{moving_of};
+ghost use Rattle.fj_plain.specs.Items.{cell_at as plain_cell};
+ghost use Rattle.fj_plain.specs.Statement.{control_by};
+ghost use Rattle.fj_plain.specs.Telling.{with_size};
+ghost use Rattle.fj_plain.specs.Transfers.{layout_of, moved_in, without_values};
+ghost use Rattle.fj_statement.specs.declared.statement.Statement.TheVariants as statement;
+ghost use Rattle.fj_store.specs.Storage.{value_at, values_of};
+ghost use Rattle.fj_store.specs.Variables.{moved_of, undefined_at};
+ghost use Rattle.fj_store.specs.declared.piece.Piece.TheVariants.{Places};
+ghost use Rattle.fj_items.specs.Kinds.{kinds_of};
+
+use crate::copying::{copied, size_copied};
+use crate::gathering::{gather, is_home};
+use crate::laying::{is_grouped, layout_for};
+use crate::lost::Lost;
+use crate::number::number_given;
+use crate::sound::is_sound;
+use crate::star::edit_of;
+use fj_list::Moved;
+use fj_statement::{Transfer, Variables};
+use fj_store::{Piece, Run, Store};
+use fj_transfer::{Transfer as Moving, TransferSpec};
+use fj_value::{Items, Place, Tag};
+use std::alloc::Global;
+use std::collections::VecDeque;
+
+/// Pieces that are runs alone. `Unfit`: one is a literal.
+fn runs_of(alloc: Global, mut pieces: VecDeque<Piece>) -> Result<Items<Run>, Lost>
+    ensures { IfOk result (λ runs. pieces.items ≡ map Places runs) }
+{
+    let mut runs = Items::new(alloc);
+    'taking: while let Some(piece) = pieces.pop_front() {
+        match piece {
+            Piece::Places(run) => runs.push(run)?,
+            Piece::Own(_, _) => return Err(Lost::Unfit),
+        }
+    }
+    Ok(runs)
+}
+
+/// The items, moved out. `Unfit`: one has no value, or is a literal, or they are too many.
+fn taken(
+    alloc: Global,
+    variables: &Variables,
+    store: &mut Store,
+    t: &Transfer,
+) -> Result<Moved, Lost>
+    requires { store.old.kinds ≡ kinds_of variables.now }
+    ensures moved { IfOk result (λ moved. moved ≡ moved_in variables.now (values_of store.old) t.now) }
+    ensures vars { OnOk result (values_of store.new ≡ undefined_at (moved_in variables.now (values_of store.old) t.now).cells (values_of store.old)) }
+    ensures others { OnOk result ((place : Place) → IsSome (value_at store.new place) → value_at store.new place ≡ value_at store.old place) }
+    ensures kinds { store.new.kinds ≡ store.old.kinds }
+{
+    let gathered = gather(alloc, variables, store, t)?;
+    let runs = runs_of(alloc, gathered.pieces)?;
+    let moved = store.take_out(alloc, runs.as_slice())?;
+    Ok(moved)
+}
+
+/// SIZE=, moved out as one cell. `Unfit`: it has no value.
+fn size_taken(
+    alloc: Global,
+    variables: &Variables,
+    store: &mut Store,
+    size: Option<Place>,
+) -> Result<Option<Moved>, Lost>
+    requires { store.old.kinds ≡ kinds_of variables.now }
+    ensures moved { IfOk result (λ moved. moved ≡ option_map (λ place. moved_of (plain_cell variables.now (values_of store.old) place ∷ [])) size) }
+    ensures vars { OnOk result (values_of store.new ≡ with_size variables.now size None (values_of store.old)) }
+    ensures home { OnOk result (IfSome size (λ place. IsSome (value_at store.old place))) }
+    ensures kinds { store.new.kinds ≡ store.old.kinds }
+{
+    let Some(place) = size else {
+        return Ok(None);
+    };
+    if !is_home(store, place) {
+        return Err(Lost::Unfit);
+    }
+    let run = Run::of_place(place);
+    let moved = store.take_out(alloc, &[run])?;
+    Ok(Some(moved))
+}
+
+/// The items of a transfer, the cell of SIZE=, and the numbers that REC= and POS= give.
+#[derive(Drop)]
+struct Parts {
+    moved: Moved,
+    size: Option<Moved>,
+    rec: Option<i64>,
+    pos: Option<i64>,
+}
+
+/// The job of these parts. `Unfit`: there are too many items, or a value of an output is not of its kind.
+fn job_with(
+    alloc: Global,
+    variables: &Variables,
+    line: u32,
+    tag: Tag,
+    t: &Transfer,
+    parts: Parts,
+) -> Result<Moving, Lost>
+    ensures { IfOk result (λ job. job_of job ≡ record {
+      stmt = line;
+      tag = tag.0;
+      spec = record {
+        input = t.now.input;
+        layout = layout_of variables.now parts.moved.cells t.now.control;
+        advance = unwrap_or t.now.advance true;
+        rec = parts.rec;
+        pos = parts.pos;
+        edit = record { blank_zero = t.now.blank_zero; comma = t.now.comma; delim = t.now.delim; pad = t.now.pad; plus = t.now.plus };
+      };
+      control = control_by (statement.Transfer t.now);
+      moved = parts.moved;
+      size = parts.size;
+      count = None;
+    }) }
+{
+    let layout = layout_for(alloc, variables, parts.moved.cells.as_slice(), &t.control)?;
+    if !is_grouped(parts.moved.cells.len(), &layout) {
+        return Err(Lost::Unfit);
+    }
+    if !is_sound(t.input, &parts.moved) {
+        return Err(Lost::Unfit);
+    }
+    let spec = TransferSpec {
+        input: t.input,
+        layout,
+        advance: t.advance.unwrap_or(true),
+        rec: parts.rec,
+        pos: parts.pos,
+        edit: edit_of(t),
+    };
+    Ok(Moving {
+        stmt: line,
+        tag,
+        spec,
+        moved: parts.moved,
+        size: parts.size,
+        count: None,
+    })
+}
+
+/// The job of a READ or WRITE of a line, under an identifier, which is 0 where it is not pending. The items of an input and
+/// SIZE= are moved out of the variables, the values of an output are copied. `Unfit`: a place has no value, or one of an
+/// output is not of its kind. After an `Err` the variables have their kinds, and nothing is said of their values.
+pub fn moving(
+    alloc: Global,
+    variables: &Variables,
+    store: &mut Store,
+    line: u32,
+    tag: Tag,
+    t: &Transfer,
+) -> Result<Moving, Lost>
+    requires { store.old.kinds ≡ kinds_of variables.now }
+    ensures job { IfOk result (λ job. job_of job ≡ moving_of (control_by (statement.Transfer t.now)) variables.now line tag.0
+        (values_of store.old) t.now (moved_in variables.now (values_of store.old) t.now)) }
+    ensures vars { OnOk result (values_of store.new
+        ≡ without_values variables.now t.now (moved_in variables.now (values_of store.old) t.now) (values_of store.old)) }
+    ensures kinds { store.new.kinds ≡ store.old.kinds }
+{
+    let rec = number_given(store, t.rec.as_ref());
+    let pos = number_given(store, t.pos.as_ref());
+    if t.input {
+        let moved = taken(alloc, variables, store, t)?;
+        let size = size_taken(alloc, variables, store, t.size)?;
+        let parts = Parts {
+            moved,
+            size,
+            rec,
+            pos,
+        };
+        return job_with(alloc, variables, line, tag, t, parts);
+    }
+    let moved = copied(alloc, variables, store, t)?;
+    let size = size_copied(alloc, variables, store, t.size)?;
+    let parts = Parts {
+        moved,
+        size,
+        rec,
+        pos,
+    };
+    job_with(alloc, variables, line, tag, t, parts)
+}

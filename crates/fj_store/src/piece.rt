@@ -1,0 +1,10 @@
+// The items of an output.
+use crate::run::Run;
+use fj_value::{Kind, Value};
+
+/// Places, or a value of its own that has none.
+#[derive(Debug, Drop)]
+pub enum Piece {
+    Places(Run),
+    Own(Kind, Value),
+}
