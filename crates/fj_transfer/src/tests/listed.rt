@@ -1,5 +1,5 @@
 // List-directed and namelist inputs on files in memory, with the values and positions worked out by hand.
-ghost use Rattle.std.specs.Prelude.{◌≡◌, All, IfOk, length};
+ghost use Rattle.std.specs.Prelude.{◌≡◌, ◌<◌, All, IfOk, length};
 ghost use Rattle.std.specs.FinSet as set;
 ghost use Rattle.fj_list.specs.Moved.{IsOrdered};
 ghost use Rattle.fj_namelist.specs.GroupText.{IsWithin};
@@ -15,20 +15,27 @@ use fj_value::{Condition, Items, Kind, Text};
 use std::alloc::{AllocError, Global};
 use std::test::Fail;
 
+/// A scalar of a group of two.
+fn member(alloc: Global, name: &[u8], first: u32) -> Result<GroupMember, AllocError>
+    requires { first < 2 }
+    ensures { IfOk result (λ member. IsWithin 2 member) }
+{
+    Ok(GroupMember {
+        name: Text::from_bytes(alloc, name)?,
+        kind: Kind::Int4,
+        first,
+        count: 1,
+        scalar: true,
+    })
+}
+
 /// The members of the group G: INTEGER A, B.
 pub fn members(alloc: Global) -> Result<Members, AllocError>
     ensures { IfOk result (λ members. All (IsWithin 2) members) }
 {
     let mut members = Items::new(alloc);
-    for (first, name) in [b"A".as_slice(), b"B".as_slice()].iter().enumerate() {
-        members.push(GroupMember {
-            name: Text::from_bytes(alloc, name)?,
-            kind: Kind::Int4,
-            first: first as u32,
-            count: 1,
-            scalar: true,
-        })?;
-    }
+    members.push(member(alloc, b"A", 0)?)?;
+    members.push(member(alloc, b"B", 1)?)?;
     Ok(members)
 }
 
