@@ -10,7 +10,7 @@ use Rattle.fj_value.specs.declared.place.Place.{Place}
 use Rattle.fj_value.specs.declared.value.Cell.{Cell}
 use Rattle.fj_value.specs.declared.value.Value.{Value}
 use Rattle.fj_value.specs.declared.value.Value.TheVariants.{Undefined}
-use Rattle.fj_bay.specs.Jobs.{Moving}
+use Rattle.fj_bay.specs.Jobs.{Moving, items_for}
 use Rattle.fj_control.specs.Steps.{Given}
 use Rattle.fj_desk.specs.Acting.{moving_of}
 use Rattle.fj_list.specs.declared.moved.Moved.{Moved}
@@ -196,7 +196,7 @@ job_parts variables line tag t moved size of_rec of_pos layout edit advance c = 
   stmt = line;
   tag = tag;
   spec = record { input = t.input; layout = layout; advance = advance; rec = of_rec; pos = of_pos; edit = edit };
-  control = c;
+  control = c (items_for t.input moved);
   moved = moved;
   size = size;
   count = None;

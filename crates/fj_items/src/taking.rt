@@ -1,5 +1,6 @@
 // A READ or WRITE as a job: its items are moved or copied out of the variables.
 ghost use Rattle.std.specs.Prelude.{◌≡◌, ◌∷◌, [], map, true, None, unwrap_or, option_map, IsSome, IfSome, IfOk, OnOk};
+ghost use Rattle.fj_bay.specs.Jobs.{items_for};
 ghost use Rattle.fj_bay.specs.Plain.{moving_of as job_of};
 ghost use Rattle.fj_desk.specs.Acting.{moving_of};
 ghost use Rattle.fj_plain.specs.Items.{cell_at as plain_cell};
@@ -113,7 +114,7 @@ fn job_with(
         pos = parts.pos;
         edit = record { blank_zero = t.now.blank_zero; comma = t.now.comma; delim = t.now.delim; pad = t.now.pad; plus = t.now.plus };
       };
-      control = control_by (statement.Transfer t.now);
+      control = control_by (statement.Transfer t.now) (items_for t.now.input parts.moved);
       moved = parts.moved;
       size = parts.size;
       count = None;
