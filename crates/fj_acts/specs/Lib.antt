@@ -1,0 +1,4 @@
+pub mod Units
+pub mod Names
+pub mod State
+pub mod Doing

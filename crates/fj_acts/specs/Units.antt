@@ -1,0 +1,23 @@
+-- Connected units as the program holds them.
+use Rattle.std.specs.Prelude.{ℕ, Bool, List, [], ◌∷◌, ◌==◌, ◌&&◌, not, Option, Some, None}
+use Rattle.std.specs.List.{list_any}
+use Rattle.std.specs.Str.{bytes_eq}
+use Rattle.fj_modes.specs.declared.modes.Modes.{Modes}
+use Rattle.fj_desk.specs.Core.{Connected as PlainConnected, with_connected}
+use Rattle.fj_acts.specs.declared.units.Connected.{Connected}
+
+abbrev pub connected_of : Connected → PlainConnected
+connected_of u = record { number = u.number; slot = u.slot; name = u.name; modes = u.modes }
+
+-- a file of that name is connected to a unit of another number
+abbrev pub is_taken : List PlainConnected → ℕ → List ℕ → Bool
+is_taken us number name = list_any (λ (u : PlainConnected). not (u.number == number) && bytes_eq u.name name) us
+
+-- the unit, if there is one, has other modes
+abbrev pub with_modes : List PlainConnected → Option PlainConnected → Modes → List PlainConnected
+with_modes us None modes = us
+with_modes us (Some u) modes = with_connected (record u { modes = modes }) us
+
+abbrev pub first_number : List PlainConnected → Option ℕ
+first_number [] = None
+first_number (u ∷ us) = Some u.number
