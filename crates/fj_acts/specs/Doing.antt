@@ -109,3 +109,13 @@ abbrev pub IsDoing : {F : Type 0} → (F → Bool) → (F → List ℕ) → List
 IsDoing told bytes variables st core (doing.Finishes condition) plain = plain ≡ finishes core condition
 IsDoing told bytes variables st core (doing.Gives slot job next) plain = IsGiven told bytes job (λ task. gives slot task core (next_of variables st core next)) plain
 IsDoing told bytes variables st core (doing.Awaits slot job next) plain = IsGiven told bytes job (λ task. awaits slot task core (then_of variables st core next)) plain
+
+-- the statement is an OPEN of these specifiers
+abbrev pub AsksToOpen : Statement → OpenSpec → Type 0
+AsksToOpen (statement.OpenUnit u spec iostat) asked = spec ≡ asked
+AsksToOpen _ asked = ⊥
+
+-- the statement is an INQUIRE of these specifiers
+abbrev pub AsksAbout : Statement → Subject → List Wanted → Option Operand → Type 0
+AsksAbout (statement.Inquire about wanted id iostat) subject asked given_id = (about ≡ subject) × (wanted ≡ asked) × (id ≡ given_id)
+AsksAbout _ subject asked given_id = ⊥

@@ -2,3 +2,4 @@ pub mod Units
 pub mod Names
 pub mod State
 pub mod Doing
+pub mod Answers

@@ -2,14 +2,21 @@
 //! on from there.
 #![tactic(auto)]
 
-mod begin;
+mod beginning;
+mod closing;
 mod doing;
+mod file_names;
+mod inquiring;
+mod lost;
 mod names;
+mod opening;
+mod places;
 mod state;
 mod steps;
+mod transfers;
 mod units;
 
-pub use begin::begin;
+pub use beginning::begin;
 pub use doing::{After, Doing, Given, Then};
 pub use names::Names;
 pub use state::Core;

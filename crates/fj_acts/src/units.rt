@@ -1,16 +1,15 @@
 // The connected units.
-ghost use Rattle.std.specs.Prelude.{◌≡◌, ◌==◌, [], OnOk};
-ghost use Rattle.std.specs.Option.{option_copied, option_map};
-ghost use Rattle.std.specs.List.{list_any};
+ghost use Rattle.std.specs.Prelude.{◌≡◌, ◌+◌, ◌≤◌, ◌<◌, ◌++◌, [], None, length, map, filter, nat_lt, slice_get, HoldsAt, IfSome, IfNone, OnOk};
+ghost use Rattle.std.specs.Option.{option_copied, option_map, option_and_then};
 ghost use Rattle.fj_desk.specs.Core.{connected_at, unit_named, inserted, without_connected};
 ghost use Rattle.fj_desk.specs.Desks.{most_slots};
-ghost use Rattle.fj_desk.specs.Acting.{free_from};
-ghost use Rattle.fj_acts.specs.Units.{connected_of, first_number, is_taken, with_modes};
+ghost use Rattle.fj_plain.specs.Needs.{number_of};
+ghost use Rattle.fj_desk.specs.Acting as acting;
+ghost use Rattle.fj_acts.specs.Units.{AreApart, connected_of, has_slot, is_taken, with_modes};
 
-use fj_modes::{FileName, Modes};
+use fj_modes::{FileName, Modes, UnitRef};
 use std::alloc::{AllocError, Global};
 use std::marker::Model;
-use std::mem;
 
 /// A connected unit. Its connection is at its slot.
 #[derive(Debug, Drop)]
@@ -33,14 +32,121 @@ pub struct Units {
 impl Model for Units {
     ghost use Rattle.std.specs.Prelude.{List, map};
     ghost use Rattle.fj_desk.specs.Core.{Connected};
-    ghost use Rattle.fj_desk.proofs.Apart.{Apart};
-    ghost use Rattle.fj_acts.specs.Units.{connected_of};
+    ghost use Rattle.fj_acts.specs.Units.{AreApart, connected_of};
 
     ghost Value = { List Connected };
 
     ghost view = { λ units. map connected_of units.list.items };
 
-    ghost invariant = { λ units. Apart (λ u. u.number) units.list.items };
+    ghost invariant = { λ units. AreApart (map connected_of units.list.items) };
+}
+
+/// The unit of a number.
+fn find_in(list: &[Connected], number: u32) -> Option<&Connected>
+    ensures { option_map connected_of (option_copied result) ≡ connected_at (map connected_of list.now) number }
+{
+    for at in 0..list.len() {
+        let unit = &list[at];
+        if unit.number == number {
+            return Some(unit);
+        }
+    }
+    None
+}
+
+/// The number of the unit that a file is connected to.
+fn named_in(list: &[Connected], name: &FileName) -> Option<u32>
+    ensures { result ≡ unit_named (map connected_of list.now) name.now }
+{
+    for at in 0..list.len() {
+        let unit = &list[at];
+        if unit.name.as_str() == name.as_str() {
+            return Some(unit.number);
+        }
+    }
+    None
+}
+
+/// Whether a file is connected to another unit than that of a number.
+fn is_taken_in(list: &[Connected], number: u32, name: &FileName) -> bool
+    ensures { result ≡ is_taken (map connected_of list.now) number name.now }
+{
+    for at in 0..list.len() {
+        let unit = &list[at];
+        if unit.number != number && unit.name.as_str() == name.as_str() {
+            return true;
+        }
+    }
+    false
+}
+
+/// Whether a unit has a slot.
+fn has_slot_in(list: &[Connected], slot: u32) -> bool
+    ensures { result ≡ has_slot (map connected_of list.now) slot }
+{
+    for at in 0..list.len() {
+        if list[at].slot == slot {
+            return true;
+        }
+    }
+    false
+}
+
+/// The lowest of so many slots from this one on that no unit has.
+fn free_from(list: &[Connected], slot: u32, count: u32) -> Option<u32>
+    requires { slot + count ≤ 16 }
+    ensures { result ≡ acting.free_from (map connected_of list.now) slot count }
+{
+    if count == 0 {
+        return None;
+    }
+    if !has_slot_in(list, slot) {
+        return Some(slot);
+    }
+    free_from(list, slot + 1, count - 1)
+}
+
+/// Where the unit of a number stands; the length, where there is none.
+fn place_of(list: &[Connected], number: u32) -> Option<usize>
+    ensures some { IfSome result (λ at. (at < length list.now) × HoldsAt (λ u. u.number ≡ number) list.now at) }
+    ensures none { IfNone result (connected_at (map connected_of list.now) number ≡ None) }
+{
+    for at in 0..list.len() {
+        if list[at].number == number {
+            return Some(at);
+        }
+    }
+    None
+}
+
+/// Adds the units with numbers below one to the first, and those above it to the second.
+fn split(
+    list: Vec<Connected>,
+    number: u32,
+    below: &mut Vec<Connected>,
+    above: &mut Vec<Connected>,
+) -> Result<(), AllocError>
+    ensures below { OnOk result (below.new.items ≡ below.old.items ++ filter (λ u. nat_lt u.number number) list.items) }
+    ensures above { OnOk result (above.new.items ≡ above.old.items ++ filter (λ u. nat_lt number u.number) list.items) }
+{
+    for unit in list {
+        if unit.number < number {
+            below.push(unit)?;
+        } else if unit.number > number {
+            above.push(unit)?;
+        }
+    }
+    Ok(())
+}
+
+/// Adds units behind others.
+fn append(list: &mut Vec<Connected>, more: Vec<Connected>) -> Result<(), AllocError>
+    ensures { OnOk result (list.new.items ≡ list.old.items ++ more.items) }
+{
+    for unit in more {
+        list.push(unit)?;
+    }
+    Ok(())
 }
 
 impl Units {
@@ -57,59 +163,46 @@ impl Units {
     pub fn find(&self, number: u32) -> Option<&Connected>
         ensures { option_map connected_of (option_copied result) ≡ connected_at self.now number }
     {
-        for unit in &self.list {
-            if unit.number == number {
-                return Some(unit);
-            }
+        find_in(&self.list, number)
+    }
+
+    /// The unit that a statement names; none for `*`.
+    pub fn at(&self, unit: UnitRef) -> Option<&Connected>
+        ensures { option_map connected_of (option_copied result) ≡ option_and_then (connected_at self.now) (number_of unit) }
+    {
+        match unit {
+            UnitRef::Star => None,
+            UnitRef::Number(number) => self.find(number),
         }
-        None
     }
 
     /// The number of the unit that a file is connected to.
     pub fn named(&self, name: &FileName) -> Option<u32>
         ensures { result ≡ unit_named self.now name.now }
     {
-        for unit in &self.list {
-            if unit.name.as_str() == name.as_str() {
-                return Some(unit.number);
-            }
-        }
-        None
+        named_in(&self.list, name)
     }
 
-    /// The number of the first unit.
-    pub fn first(&self) -> Option<u32>
-        ensures { result ≡ first_number self.now }
+    /// The first unit. No other has its number.
+    pub fn first(&self) -> Option<&Connected>
+        ensures unit { option_map connected_of (option_copied result) ≡ slice_get self.now 0 }
+        ensures apart { AreApart self.now }
     {
-        match self.list.first() {
-            Some(unit) => Some(unit.number),
-            None => None,
-        }
+        self.list.first()
     }
 
     /// Whether a file is connected to another unit than that of a number.
     pub fn is_taken(&self, number: u32, name: &FileName) -> bool
         ensures { result ≡ is_taken self.now number name.now }
     {
-        self.list.iter().any(|unit| unit.number != number && unit.name.as_str() == name.as_str())
-    }
-
-    fn has_slot(&self, slot: u32) -> bool
-        ensures { result ≡ list_any (λ u. u.slot == slot) self.now }
-    {
-        self.list.iter().any(|unit| unit.slot == slot)
+        is_taken_in(&self.list, number, name)
     }
 
     /// The lowest slot that no unit has.
     pub fn free_slot(&self) -> Option<u32>
-        ensures { result ≡ free_from self.now 0 most_slots }
+        ensures { result ≡ acting.free_from self.now 0 most_slots }
     {
-        for slot in 0..MOST_SLOTS {
-            if !self.has_slot(slot) {
-                return Some(slot);
-            }
-        }
-        None
+        free_from(&self.list, 0, MOST_SLOTS)
     }
 
     /// Adds a unit, in place of one of its number. After want of memory the units are of no account.
@@ -117,20 +210,12 @@ impl Units {
         ensures { OnOk result (self.new ≡ inserted (connected_of new) self.old) }
     {
         let alloc = *self.list.allocator();
-        let number = new.number;
-        let mut above = Vec::new(alloc);
         let mut list = Vec::new(alloc);
-        for unit in mem::replace(&mut self.list, Vec::new(alloc)) {
-            if unit.number < number {
-                list.push(unit)?;
-            } else if unit.number > number {
-                above.push(unit)?;
-            }
-        }
+        let mut above = Vec::new(alloc);
+        let old = std::mem::replace(&mut self.list, Vec::new(alloc));
+        split(old, new.number, &mut list, &mut above)?;
         list.push(new)?;
-        for unit in above {
-            list.push(unit)?;
-        }
+        append(&mut list, above)?;
         self.list = list;
         Ok(())
     }
@@ -146,11 +231,8 @@ impl Units {
     pub fn set_modes(&mut self, number: u32, modes: Modes)
         ensures { self.new ≡ with_modes self.old (connected_at self.old number) modes }
     {
-        for unit in self.list.iter_mut() {
-            if unit.number == number {
-                unit.modes = modes;
-                return;
-            }
+        if let Some(at) = place_of(&self.list, number) {
+            self.list[at].modes = modes;
         }
     }
 }
