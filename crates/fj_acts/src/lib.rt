@@ -13,6 +13,8 @@ mod opening;
 mod places;
 mod state;
 mod steps;
+#[cfg(test)]
+mod tests;
 mod transfers;
 mod units;
 
