@@ -120,6 +120,7 @@ fn place_of(list: &[Connected], number: u32) -> Option<usize>
 }
 
 /// Adds the units with numbers below one to the first, and those above it to the second.
+#[tactic(auto, using(crate::proofs::UnitLemmas::filter_push))]
 fn split(
     list: Vec<Connected>,
     number: u32,
