@@ -1,7 +1,8 @@
 -- Lists of connected units.
-use Rattle.std.proofs.Common.{◌≡◌, ℕ, Bool, true, false, not, List, [], ◌∷◌, ◌++◌, map, refl, sym, ap, subst, ◌∙◌}
-use Rattle.std.specs.Prelude.{◌==◌, if◌then◌else◌, filter}
-use Rattle.fj_desk.specs.Core.{Connected as PlainConnected, without_connected}
+use Rattle.std.proofs.Common.{◌≡◌, ℕ, ◌<◌, ◌≤◌, arith, Bool, true, false, not, List, [], ◌∷◌, ◌++◌, map, refl, sym, ap, subst, ◌∙◌}
+use Rattle.std.proofs.lemmas.Bool.Decides.{nat_tests}
+use Rattle.std.specs.Prelude.{◌==◌, if◌then◌else◌, filter, nat_lt}
+use Rattle.fj_desk.specs.Core.{Connected as PlainConnected, inserted, without_connected}
 use Rattle.fj_acts.specs.Units.{AreApart, AreOthers, connected_of}
 use Rattle.fj_acts.specs.declared.units.Connected.{Connected}
 
@@ -46,3 +47,70 @@ filter_push p (y ∷ ys) x = by (p y) (filter_push p ys x)
         → (if b then y ∷ filter p (ys ++ x ∷ []) else filter p (ys ++ x ∷ [])) ≡ (if b then y ∷ filter p ys else filter p ys) ++ filter p (x ∷ [])
     by true e = ap (λ l. y ∷ l) e
     by false e = e
+
+-- ---- a unit more
+
+abbrev AreBelow : ℕ → List PlainConnected → Type 0
+AreBelow n [] = Unit {0}
+AreBelow n (u ∷ us) = (u.number < n) × AreBelow n us
+
+abbrev AreAbove : ℕ → List PlainConnected → Type 0
+AreAbove n [] = Unit {0}
+AreAbove n (u ∷ us) = (n < u.number) × AreAbove n us
+
+below_filter : (n : ℕ) (us : List PlainConnected) → AreBelow n (filter (λ (u : PlainConnected). nat_lt u.number n) us)
+below_filter n [] = tt
+below_filter n (u ∷ us) = by (nat_lt u.number n) refl (below_filter n us)
+  where
+    by : (b : Bool) → nat_lt u.number n ≡ b → AreBelow n (filter (λ (v : PlainConnected). nat_lt v.number n) us)
+        → AreBelow n (if b then u ∷ filter (λ (v : PlainConnected). nat_lt v.number n) us else filter (λ (v : PlainConnected). nat_lt v.number n) us)
+    by true e h = (grind (arith, nat_tests), h)
+    by false e h = h
+
+above_filter : (n : ℕ) (us : List PlainConnected) → AreAbove n (filter (λ (u : PlainConnected). nat_lt n u.number) us)
+above_filter n [] = tt
+above_filter n (u ∷ us) = by (nat_lt n u.number) refl (above_filter n us)
+  where
+    by : (b : Bool) → nat_lt n u.number ≡ b → AreAbove n (filter (λ (v : PlainConnected). nat_lt n v.number) us)
+        → AreAbove n (if b then u ∷ filter (λ (v : PlainConnected). nat_lt n v.number) us else filter (λ (v : PlainConnected). nat_lt n v.number) us)
+    by true e h = (grind (arith, nat_tests), h)
+    by false e h = h
+
+others_above : (m n : ℕ) (us : List PlainConnected) → m ≤ n → AreAbove n us → AreOthers m us
+others_above m n [] le h = tt
+others_above m n (u ∷ us) le h = (λ e. absurd (omega (arith, h.0)), others_above m n us le h.1)
+
+others_join : (m : ℕ) (ls : List PlainConnected) (n : PlainConnected) (bs : List PlainConnected) → m < n.number → AreOthers m ls → AreAbove n.number bs → AreOthers m (ls ++ n ∷ bs)
+others_join m [] n bs lt h above = (λ e. absurd (omega arith), others_above m n.number bs (omega arith) above)
+others_join m (a ∷ ls) n bs lt h above = (h.0, others_join m ls n bs lt h.1 above)
+
+apart_join : (ls : List PlainConnected) (n : PlainConnected) (bs : List PlainConnected) → AreApart ls → AreApart bs → AreBelow n.number ls → AreAbove n.number bs → AreApart (ls ++ n ∷ bs)
+apart_join [] n bs ha hb below above = (others_above n.number n.number bs (omega arith) above, hb)
+apart_join (a ∷ ls) n bs ha hb below above = (others_join a.number ls n bs below.0 ha.0 above, apart_join ls n bs ha.1 hb below.1 above)
+
+pub inserted_apart : (n : PlainConnected) (us : List PlainConnected) → AreApart us → AreApart (inserted n us)
+inserted_apart n us h =
+    apart_join (filter (λ (u : PlainConnected). nat_lt u.number n.number) us) n (filter (λ (u : PlainConnected). nat_lt n.number u.number) us)
+    (apart_filter (λ (u : PlainConnected). nat_lt u.number n.number) us h) (apart_filter (λ (u : PlainConnected). nat_lt n.number u.number) us h)
+    (below_filter n.number us) (above_filter n.number us)
+
+map_append : {X Y : Type 0} (f : X → Y) (xs ys : List X) → map f (xs ++ ys) ≡ map f xs ++ map f ys
+map_append f [] ys = refl
+map_append f (x ∷ xs) ys = ap (λ l. f x ∷ l) (map_append f xs ys)
+
+joined : {X : Type 0} (xs : List X) (y : X) (zs : List X) → (xs ++ y ∷ []) ++ zs ≡ xs ++ y ∷ zs
+joined [] y zs = refl
+joined (x ∷ xs) y zs = ap (λ l. x ∷ l) (joined xs y zs)
+
+pub inserted_is : (xs old none nothing below above pushed all : List Connected) (new : Connected) → old ≡ xs → none ≡ [] → nothing ≡ []
+    → below ≡ none ++ filter (λ (u : Connected). nat_lt u.number new.number) old → above ≡ nothing ++ filter (λ (u : Connected). nat_lt new.number u.number) old
+    → pushed ≡ below ++ new ∷ [] → all ≡ pushed ++ above → map connected_of all ≡ inserted (connected_of new) (map connected_of xs)
+inserted_is xs old none nothing below above pushed all new eo en em eb ea ep el =
+    let low : List Connected = filter (λ (u : Connected). nat_lt u.number new.number) xs in
+    let high : List Connected = filter (λ (u : Connected). nat_lt new.number u.number) xs in
+    let is_below : below ≡ low = rw (eb, en, eo) refl in
+    let is_above : above ≡ high = rw (ea, em, eo) refl in
+    let is_all : all ≡ low ++ new ∷ high = rw (el, ep, is_below, is_above) (joined low new high) in
+    ap (map connected_of) is_all ∙ map_append connected_of low (new ∷ high)
+    ∙ ap (λ l. l ++ connected_of new ∷ map connected_of high) (sym (filter_map connected_of (λ (u : PlainConnected). nat_lt u.number new.number) xs))
+    ∙ ap (λ l. filter (λ (u : PlainConnected). nat_lt u.number new.number) (map connected_of xs) ++ connected_of new ∷ l) (sym (filter_map connected_of (λ (u : PlainConnected). nat_lt new.number u.number) xs))
