@@ -1,9 +1,12 @@
 -- Lists of connected units.
-use Rattle.std.proofs.Common.{◌≡◌, ℕ, ◌<◌, ◌≤◌, arith, Bool, true, false, not, List, [], ◌∷◌, ◌++◌, map, refl, sym, ap, subst, ◌∙◌}
+use Rattle.std.proofs.Common.{◌≡◌, ℕ, zero, suc, ◌<◌, ◌≤◌, arith, Bool, true, false, not, List, [], ◌∷◌, ◌++◌, map, length, get_or, Some, ◌×◌, refl, sym, ap, subst, ◌∙◌}
+use Rattle.std.proofs.Math.ListN.{set, get_or-map}
+use Rattle.std.proofs.lemmas.List.{length-map, map-set}
 use Rattle.std.proofs.lemmas.Bool.Decides.{nat_tests}
-use Rattle.std.specs.Prelude.{◌==◌, if◌then◌else◌, filter, nat_lt}
-use Rattle.fj_desk.specs.Core.{Connected as PlainConnected, inserted, without_connected}
-use Rattle.fj_acts.specs.Units.{AreApart, AreOthers, connected_of}
+use Rattle.std.specs.Prelude.{◌==◌, if◌then◌else◌, filter, nat_lt, HoldsAt}
+use Rattle.fj_modes.specs.declared.modes.Modes.{Modes}
+use Rattle.fj_desk.specs.Core.{Connected as PlainConnected, connected_at, inserted, with_connected, without_connected}
+use Rattle.fj_acts.specs.Units.{AreApart, AreOthers, connected_of, with_modes}
 use Rattle.fj_acts.specs.declared.units.Connected.{Connected}
 
 filter_map : {X Y : Type 0} → (g : X → Y) (q : Y → Bool) (xs : List X) → filter q (map g xs) ≡ map g (filter (λ x. q (g x)) xs)
@@ -114,3 +117,70 @@ inserted_is xs old none nothing below above pushed all new eo en em eb ea ep el 
     ap (map connected_of) is_all ∙ map_append connected_of low (new ∷ high)
     ∙ ap (λ l. l ++ connected_of new ∷ map connected_of high) (sym (filter_map connected_of (λ (u : PlainConnected). nat_lt u.number new.number) xs))
     ∙ ap (λ l. filter (λ (u : PlainConnected). nat_lt u.number new.number) (map connected_of xs) ++ connected_of new ∷ l) (sym (filter_map connected_of (λ (u : PlainConnected). nat_lt new.number u.number) xs))
+
+-- ---- a unit in place of another of its number
+
+same_number : (a b : ℕ) → a ≡ b → (a == b) ≡ true
+same_number a b e = grind (arith, nat_tests)
+
+other_number : (a b : ℕ) → (a ≡ b → ⊥) → (a == b) ≡ false
+other_number a b d = grind (arith, nat_tests)
+
+others_at : (m at : ℕ) (us : List PlainConnected) (d : PlainConnected) → AreOthers m us → at < length us → (get_or us at d).number ≡ m → ⊥
+others_at m at [] d h lt e = omega arith
+others_at m zero (u ∷ us) d h lt e = h.0 e
+others_at m (suc at) (u ∷ us) d h lt e = others_at m at us d h.1 (omega arith) e
+
+pub found_at : (at : ℕ) (us : List PlainConnected) (d : PlainConnected) → AreApart us → at < length us → connected_at us (get_or us at d).number ≡ Some (get_or us at d)
+found_at at [] d h lt = absurd (omega arith)
+found_at zero (u ∷ us) d h lt = ap (λ t. if t then Some u else connected_at us u.number) (same_number u.number u.number refl)
+found_at (suc at) (u ∷ us) d h lt =
+    ap (λ t. if t then Some u else connected_at us (get_or us at d).number) (other_number u.number (get_or us at d).number (λ e. others_at u.number at us d h.0 (omega arith) (sym e)))
+    ∙ found_at at us d h.1 (omega arith)
+
+kept_others : (n : ℕ) (new : PlainConnected) (us : List PlainConnected) → new.number ≡ n → AreOthers n us → with_connected new us ≡ us
+kept_others n new [] e h = refl
+kept_others n new (u ∷ us) e h =
+    ap (λ t. (if t then new else u) ∷ with_connected new us) (other_number u.number new.number (λ x. h.0 (x ∙ e)))
+    ∙ ap (λ l. u ∷ l) (kept_others n new us e h.1)
+
+pub placed_at : (at : ℕ) (us : List PlainConnected) (d new : PlainConnected) → AreApart us → at < length us → new.number ≡ (get_or us at d).number → set us at new ≡ with_connected new us
+placed_at at [] d new h lt e = absurd (omega arith)
+placed_at zero (u ∷ us) d new h lt e =
+    sym (ap (λ t. (if t then new else u) ∷ with_connected new us) (same_number u.number new.number (sym e)) ∙ ap (λ l. new ∷ l) (kept_others u.number new us e h.0))
+placed_at (suc at) (u ∷ us) d new h lt e =
+    ap (λ l. u ∷ l) (placed_at at us d new h.1 (omega arith) e)
+    ∙ sym (ap (λ t. (if t then new else u) ∷ with_connected new us) (other_number u.number new.number (λ x. others_at u.number at us d h.0 (omega arith) (sym e ∙ sym x))))
+
+others_placed : (m at : ℕ) (us : List PlainConnected) (d new : PlainConnected) → AreOthers m us → new.number ≡ (get_or us at d).number → at < length us → AreOthers m (set us at new)
+others_placed m at [] d new h e lt = absurd (omega arith)
+others_placed m zero (u ∷ us) d new h e lt = (λ x. h.0 (sym e ∙ x), h.1)
+others_placed m (suc at) (u ∷ us) d new h e lt = (h.0, others_placed m at us d new h.1 e (omega arith))
+
+pub apart_placed : (at : ℕ) (us : List PlainConnected) (d new : PlainConnected) → AreApart us → at < length us → new.number ≡ (get_or us at d).number → AreApart (set us at new)
+apart_placed at [] d new h lt e = absurd (omega arith)
+apart_placed zero (u ∷ us) d new h lt e = (kept_number e h.0, h.1)
+  where
+    kept_number : new.number ≡ u.number → AreOthers u.number us → AreOthers new.number us
+    kept_number x others = subst (λ n. AreOthers n us) (sym x) others
+apart_placed (suc at) (u ∷ us) d new h lt e = (others_placed u.number at us d new h.0 e (omega arith), apart_placed at us d new h.1 (omega arith) e)
+
+-- the unit at a place has other modes
+pub modes_set : (xs : List Connected) (at n : ℕ) (m : Modes) (x : Connected) → at < length xs → x ≡ get_or xs at x → HoldsAt (λ (u : Connected). u.number ≡ n) xs at → AreApart (map connected_of xs)
+    → (map connected_of (set xs at (record x { modes = m })) ≡ with_modes (map connected_of xs) (connected_at (map connected_of xs) n) m)
+      × AreApart (map connected_of (set xs at (record x { modes = m })))
+modes_set xs at n m x low is holds apart =
+    let us : List PlainConnected = map connected_of xs in
+    let u : PlainConnected = connected_of x in
+    let new : PlainConnected = record u { modes = m } in
+    let within : at < length us = omega (arith, length-map xs connected_of) in
+    let here : get_or us at u ≡ u = get_or-map connected_of xs at x ∙ ap connected_of (sym is) in
+    let number : x.number ≡ n = ap (λ (y : Connected). y.number) is ∙ holds x in
+    let same : new.number ≡ (get_or us at u).number = ap (λ (y : PlainConnected). y.number) (sym here) in
+    let written : map connected_of (set xs at (record x { modes = m })) ≡ set us at new = map-set connected_of xs at (record x { modes = m }) in
+    let found : connected_at us n ≡ Some u =
+        ap (connected_at us) (sym number ∙ same) ∙ found_at at us u apart within ∙ ap Some here in
+    (
+      written ∙ placed_at at us u new apart within same ∙ ap (λ o. with_modes us o m) (sym found),
+      subst AreApart (sym written) (apart_placed at us u new apart within same),
+    )

@@ -3,3 +3,4 @@ pub mod Names
 pub mod State
 pub mod Doing
 pub mod Answers
+pub mod Places

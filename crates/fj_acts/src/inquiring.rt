@@ -153,7 +153,7 @@ pub(crate) fn answer_look<F: FileStore>(
     requires kinds { core.old.store.kinds ≡ kinds_of variables.now }
     ensures doing { (st : Stated) (files : Files) → IfOk result (λ next. IsDoing F.told F.bytes variables.now st (core_of files core.new) next
         (looks_at (core_of files core.old) (unit_about (unit_named core.old.units) subject.now) (file_asked subject.now) asked.now
-        (number_given (values_of core.old.store) id) (unit_at (core_of files core.old) (unit_about (unit_named core.old.units) subject.now)) (option_map looked_of look))) }
+        (number_given (values_of core.old.store) (option_copied id.entry)) (unit_at (core_of files core.old) (unit_about (unit_named core.old.units) subject.now)) (option_map looked_of look))) }
     ensures kinds { core.new.store.kinds ≡ core.old.store.kinds }
     ensures names { core.new.names ≡ core.old.names }
     ensures output { core.new.output ≡ core.old.output }
@@ -199,10 +199,10 @@ pub(crate) fn inquire<D: Disk>(
 ) -> Result<Doing<D::File>, Lost>
     requires kinds { core.old.store.kinds ≡ kinds_of variables.now }
     requires names { D.tells disk.old → AreInUse core.old.names (D.held disk.old).in_use }
-    ensures doing { D.tells disk.old → (st : Stated) → AsksAbout st.0.what subject.now asked.now id → IfOk result (λ next. IsDoing D.File.told D.File.bytes variables.now st
+    ensures doing { D.tells disk.old → (st : Stated) → AsksAbout st.0.what subject.now asked.now (option_copied id.entry) → IfOk result (λ next. IsDoing D.File.told D.File.bytes variables.now st
         (core_of (files_of (D.held disk.new)) core.new) next
         (inquires (core_of (files_of (D.held disk.old)) core.old) (unit_about (unit_named core.old.units) subject.now) (file_asked subject.now) asked.now
-        (number_given (values_of core.old.store) id) (unit_at (core_of (files_of (D.held disk.old)) core.old) (unit_about (unit_named core.old.units) subject.now)))) }
+        (number_given (values_of core.old.store) (option_copied id.entry)) (unit_at (core_of (files_of (D.held disk.old)) core.old) (unit_about (unit_named core.old.units) subject.now)))) }
     ensures held { D.tells disk.old → D.held disk.new ≡ D.held disk.old }
     ensures kinds { core.new.store.kinds ≡ core.old.store.kinds }
     ensures names { core.new.names ≡ core.old.names }

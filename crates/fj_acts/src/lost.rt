@@ -21,7 +21,7 @@ pub(crate) fn lost_by_entry(lost: fj_pending::Lost) -> Lost
 {
     match lost {
         fj_pending::Lost::Memory(error) => Lost::Memory(error),
-        fj_pending::Lost::Unfit => Lost::Unfit,
+        _ => Lost::Unfit,
     }
 }
 
