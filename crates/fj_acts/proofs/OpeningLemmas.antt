@@ -1,5 +1,5 @@
 -- What OPEN does, as jobs and how the statement goes on.
-use Rattle.std.proofs.Common.{◌≡◌, ℕ, Bool, true, List, ◌×◌, Option, Some, None, Result, Ok, Err, refl, sym, ap, ◌∙◌}
+use Rattle.std.proofs.Common.{◌≡◌, ℕ, Bool, true, List, Option, Some, None, Result, Ok, Err, refl, sym, ap, ◌∙◌}
 use Rattle.std.specs.Prelude.{option_map, if◌then◌else◌}
 use Rattle.fj_value.specs.declared.condition.Condition.{Condition}
 use Rattle.fj_modes.specs.declared.modes.Modes.{Modes}

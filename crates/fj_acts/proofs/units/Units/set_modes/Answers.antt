@@ -1,4 +1,4 @@
-use Rattle.std.proofs.Common.{◌≡◌, List, map, sym, ap, subst, ◌∙◌, ◌<◌, length, get_or, ◌×◌}
+use Rattle.std.proofs.Common.{◌≡◌, List, map, sym, ap, subst, ◌∙◌, ◌<◌, length, get_or}
 use Rattle.std.specs.Prelude.{HoldsAt}
 use Rattle.fj_desk.specs.Core.{Connected as PlainConnected, connected_at}
 use Rattle.fj_acts.specs.Units.{AreApart, connected_of, with_modes}
