@@ -21,18 +21,16 @@ use Rattle.fj_acts.specs.Doing.{IsDoing, AsksToOpen, closed, connects_in, connec
 use Rattle.fj_acts.specs.declared.doing.After.TheVariants as after
 use Rattle.fj_acts.specs.declared.doing.Then.TheVariants as then
 use Rattle.fj_acts.specs.declared.doing.Doing.TheVariants as doing
-use Rattle.fj_acts.proofs.UnitLemmas.{same_number, other_number}
+use Rattle.std.proofs.lemmas.Bool.{eq-eqb, ne_eqb, eqb-true}
 
-is_same : (a b : ℕ) → (a == b) ≡ true → a ≡ b
-is_same a b e = search rules
+found_number_by : (v : Connected) (us : List Connected) (n : ℕ) (u : Connected) (b : Bool) → (v.number == n) ≡ b → (connected_at us n ≡ Some u → u.number ≡ n)
+    → (if b then Some v else connected_at us n) ≡ Some u → u.number ≡ n
+found_number_by v us n u true t rest e = let is : v ≡ u = cc in ap (λ (w : Connected). w.number) (sym is) ∙ eqb-true v.number n t
+found_number_by v us n u false t rest e = rest e
 
 pub found_number : (us : List Connected) (n : ℕ) (u : Connected) → connected_at us n ≡ Some u → u.number ≡ n
 found_number [] n u e = absurd (let bad : ⊥ = cc in bad)
-found_number (v ∷ us) n u e = by (v.number == n) refl e
-  where
-    by : (b : Bool) → (v.number == n) ≡ b → (if b then Some v else connected_at us n) ≡ Some u → u.number ≡ n
-    by true t f = let is : v ≡ u = cc in ap (λ (w : Connected). w.number) (sym is) ∙ is_same v.number n t
-    by false t f = found_number us n u f
+found_number (v ∷ us) n u e = found_number_by v us n u (v.number == n) refl (found_number us n u) e
 
 pub found_again : (us : List Connected) (n : ℕ) (u : Connected) → connected_at us n ≡ Some u → connected_at us u.number ≡ Some u
 found_again us n u e = ap (connected_at us) (found_number us n u e) ∙ e
@@ -53,14 +51,14 @@ closes_is told bytes variables st core u keep condition found = record {
 others_left : (n : ℕ) (us : List Connected) → AreOthers n us → without_connected n us ≡ us
 others_left n [] h = refl
 others_left n (u ∷ us) h =
-    ap (λ b. if not b then u ∷ without_connected n us else without_connected n us) (other_number u.number n h.0) ∙ ap (λ l. u ∷ l) (others_left n us h.1)
+    ap (λ b. if not b then u ∷ without_connected n us else without_connected n us) (ne_eqb u.number n h.0) ∙ ap (λ l. u ∷ l) (others_left n us h.1)
 
 first_left : (u : Connected) (us : List Connected) → AreApart (u ∷ us) → without_connected u.number (u ∷ us) ≡ us
 first_left u us h =
-    ap (λ b. if not b then u ∷ without_connected u.number us else without_connected u.number us) (same_number u.number u.number refl) ∙ others_left u.number us h.0
+    ap (λ b. if not b then u ∷ without_connected u.number us else without_connected u.number us) (eq-eqb u.number u.number refl) ∙ others_left u.number us h.0
 
 first_found : (u : Connected) (us : List Connected) → connected_at (u ∷ us) u.number ≡ Some u
-first_found u us = ap (λ b. if b then Some u else connected_at us u.number) (same_number u.number u.number refl)
+first_found u us = ap (λ b. if b then Some u else connected_at us u.number) (eq-eqb u.number u.number refl)
 
 pub closes_all_is : {F : Type 0} (told : F → Bool) (bytes : F → List ℕ) (variables : List Variable) (st : Stated) (core : Core) (u : Connected) (us : List Connected) (condition : Condition)
     → core.units ≡ u ∷ us → AreApart core.units

@@ -9,7 +9,7 @@ use Rattle.fj_store.specs.declared.run.Run.{Run}
 use Rattle.fj_store.specs.Places.{same_place, is_among, has_twice, counted_from, places_of, places_in}
 use Rattle.fj_store.proofs.TableLemmas.{places_tell}
 use Rattle.fj_acts.specs.Places.{apart_from}
-use Rattle.fj_acts.proofs.UnitLemmas.{same_number, other_number}
+use Rattle.std.proofs.lemmas.Bool.{eq-eqb, ne_eqb}
 
 clash : true ≡ false → ⊥
 clash e = cc
@@ -18,7 +18,7 @@ place_is : (p q : Place) → same_place p q ≡ true → p ≡ q
 place_is p q t = elim (places_tell p q) [ | inl same ↦ same.1 | inr other ↦ absurd (clash (sym t ∙ other.0)) ]
 
 itself : (p : Place) → same_place p p ≡ true
-itself p = ap (λ b. b && (p.index == p.index)) (same_number p.var p.var refl) ∙ same_number p.index p.index refl
+itself p = ap (λ b. b && (p.index == p.index)) (eq-eqb p.var p.var refl) ∙ eq-eqb p.index p.index refl
 
 parts : (a b : Bool) → (a || b) ≡ false → (a ≡ false) × (b ≡ false)
 parts true b e = absurd (clash e)
@@ -82,7 +82,7 @@ joined_once (x ∷ xs) ys h k apart =
 before : (var m first n : ℕ) → m < first → is_among (counted_from var first n) (record { var = var; index = m }) ≡ false
 before var m first zero h = refl
 before var m first (suc n) h =
-    ap (λ b. ((var == var) && b) || is_among (counted_from var (first + 1) n) (record { var = var; index = m })) (other_number m first (λ e. omega arith))
+    ap (λ b. ((var == var) && b) || is_among (counted_from var (first + 1) n) (record { var = var; index = m })) (ne_eqb m first (λ e. omega arith))
     ∙ ap (λ b. b || is_among (counted_from var (first + 1) n) (record { var = var; index = m })) (and_false (var == var))
     ∙ before var m (first + 1) n (omega arith)
 

@@ -2,6 +2,7 @@
 use Rattle.std.proofs.Common.{◌≡◌, ℕ, zero, suc, ◌<◌, ◌≤◌, arith, Bool, true, false, not, List, [], ◌∷◌, ◌++◌, map, length, get_or, Some, refl, sym, ap, subst, ◌∙◌}
 use Rattle.std.proofs.Math.ListN.{set, get_or-map}
 use Rattle.std.proofs.lemmas.List.{length-map, map-set}
+use Rattle.std.proofs.lemmas.Bool.{eq-eqb, ne_eqb}
 use Rattle.std.proofs.lemmas.Bool.Decides.{nat_tests}
 use Rattle.std.specs.Prelude.{◌==◌, if◌then◌else◌, filter, nat_lt, HoldsAt}
 use Rattle.fj_modes.specs.declared.modes.Modes.{Modes}
@@ -120,12 +121,6 @@ inserted_is xs old none nothing below above pushed all new eo en em eb ea ep el 
 
 -- ---- a unit in place of another of its number
 
-same_number : (a b : ℕ) → a ≡ b → (a == b) ≡ true
-same_number a b e = grind (arith, nat_tests)
-
-other_number : (a b : ℕ) → (a ≡ b → ⊥) → (a == b) ≡ false
-other_number a b d = grind (arith, nat_tests)
-
 others_at : (m at : ℕ) (us : List PlainConnected) (d : PlainConnected) → AreOthers m us → at < length us → (get_or us at d).number ≡ m → ⊥
 others_at m at [] d h lt e = omega arith
 others_at m zero (u ∷ us) d h lt e = h.0 e
@@ -133,24 +128,24 @@ others_at m (suc at) (u ∷ us) d h lt e = others_at m at us d h.1 (omega arith)
 
 pub found_at : (at : ℕ) (us : List PlainConnected) (d : PlainConnected) → AreApart us → at < length us → connected_at us (get_or us at d).number ≡ Some (get_or us at d)
 found_at at [] d h lt = absurd (omega arith)
-found_at zero (u ∷ us) d h lt = ap (λ t. if t then Some u else connected_at us u.number) (same_number u.number u.number refl)
+found_at zero (u ∷ us) d h lt = ap (λ t. if t then Some u else connected_at us u.number) (eq-eqb u.number u.number refl)
 found_at (suc at) (u ∷ us) d h lt =
-    ap (λ t. if t then Some u else connected_at us (get_or us at d).number) (other_number u.number (get_or us at d).number (λ e. others_at u.number at us d h.0 (omega arith) (sym e)))
+    ap (λ t. if t then Some u else connected_at us (get_or us at d).number) (ne_eqb u.number (get_or us at d).number (λ e. others_at u.number at us d h.0 (omega arith) (sym e)))
     ∙ found_at at us d h.1 (omega arith)
 
 kept_others : (n : ℕ) (new : PlainConnected) (us : List PlainConnected) → new.number ≡ n → AreOthers n us → with_connected new us ≡ us
 kept_others n new [] e h = refl
 kept_others n new (u ∷ us) e h =
-    ap (λ t. (if t then new else u) ∷ with_connected new us) (other_number u.number new.number (λ x. h.0 (x ∙ e)))
+    ap (λ t. (if t then new else u) ∷ with_connected new us) (ne_eqb u.number new.number (λ x. h.0 (x ∙ e)))
     ∙ ap (λ l. u ∷ l) (kept_others n new us e h.1)
 
 pub placed_at : (at : ℕ) (us : List PlainConnected) (d new : PlainConnected) → AreApart us → at < length us → new.number ≡ (get_or us at d).number → set us at new ≡ with_connected new us
 placed_at at [] d new h lt e = absurd (omega arith)
 placed_at zero (u ∷ us) d new h lt e =
-    sym (ap (λ t. (if t then new else u) ∷ with_connected new us) (same_number u.number new.number (sym e)) ∙ ap (λ l. new ∷ l) (kept_others u.number new us e h.0))
+    sym (ap (λ t. (if t then new else u) ∷ with_connected new us) (eq-eqb u.number new.number (sym e)) ∙ ap (λ l. new ∷ l) (kept_others u.number new us e h.0))
 placed_at (suc at) (u ∷ us) d new h lt e =
     ap (λ l. u ∷ l) (placed_at at us d new h.1 (omega arith) e)
-    ∙ sym (ap (λ t. (if t then new else u) ∷ with_connected new us) (other_number u.number new.number (λ x. others_at u.number at us d h.0 (omega arith) (sym e ∙ sym x))))
+    ∙ sym (ap (λ t. (if t then new else u) ∷ with_connected new us) (ne_eqb u.number new.number (λ x. others_at u.number at us d h.0 (omega arith) (sym e ∙ sym x))))
 
 others_placed : (m at : ℕ) (us : List PlainConnected) (d new : PlainConnected) → AreOthers m us → new.number ≡ (get_or us at d).number → at < length us → AreOthers m (set us at new)
 others_placed m at [] d new h e lt = absurd (omega arith)

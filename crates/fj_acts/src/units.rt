@@ -192,6 +192,13 @@ impl Units {
         self.list.first()
     }
 
+    /// The units, in ascending order of their numbers.
+    pub fn as_slice(&self) -> &[Connected]
+        ensures { map connected_of result.now ≡ self.now }
+    {
+        &self.list
+    }
+
     /// Whether a file is connected to another unit than that of a number.
     pub fn is_taken(&self, number: u32, name: &FileName) -> bool
         ensures { result ≡ is_taken self.now number name.now }
