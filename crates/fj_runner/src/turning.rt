@@ -1,0 +1,85 @@
+// A statement goes on from its stage.
+ghost use Rattle.std.specs.Prelude.{◌≡◌, ◌≤◌, ◌↔◌, List, ◌∷◌, Some, Err, IfOk, OnOk};
+ghost use Rattle.fj_outside.specs.Faults.{Rose};
+ghost use Rattle.fj_items.specs.Kinds.{kinds_of};
+ghost use Rattle.fj_items.specs.Handing.{HandsOver};
+ghost use Rattle.fj_plain.specs.Statement.{Stated, control_by};
+ghost use Rattle.fj_turns.specs.Run.{Stage as PlainStage};
+ghost use Rattle.fj_turns.specs.Turns as turns;
+ghost use Rattle.fj_acts.specs.Names.{AreInUse};
+ghost use Rattle.fj_acts.specs.State.{core_of, files_of};
+ghost use Rattle.fj_runner.specs.Machine.{run_in, stage_of};
+ghost use Rattle.fj_runner.specs.Turned.{IsTurn};
+ghost use Rattle.fj_runner.specs.Taking.{TakesMore};
+
+use crate::stage::Stage;
+use crate::state::State;
+use crate::turned::Turned;
+use fj_acts::{answered, given};
+use fj_items::Lost;
+use fj_outside::{Disk, FileStore, Sink};
+use fj_statement::{Lined, Variables};
+use std::alloc::Global;
+use std::mem;
+
+impl<F: FileStore> State<F> {
+    /// Goes on with the statement at hand from its stage.
+    pub(crate) fn turn<W: Sink, D: Disk<File = F>>(
+        &mut self,
+        alloc: Global,
+        variables: &Variables,
+        lined: &Lined,
+        disk: &mut D,
+        out: &mut W,
+    ) -> Result<Turned<F>, Lost>
+        requires kinds { self.old.core.store.kinds ≡ kinds_of variables.now }
+        requires names { D.tells disk.old → AreInUse self.old.core.names (D.held disk.old).in_use }
+        ensures turn { D.tells disk.old → (more : List Stated) (stage : PlainStage)
+            → stage_of F.told F.bytes variables.now ((lined.now, control_by lined.now.what) ∷ more) (core_of (files_of (D.held disk.old)) self.old.core) self.old.stage ≡ Some stage
+            → IfOk result (λ t. IsTurn F.told F.bytes variables.now ((lined.now, control_by lined.now.what) ∷ more) (files_of (D.held disk.new)) self.new t
+                (turns.turn (lined.now, control_by lined.now.what) stage
+                    (run_in variables.now ((lined.now, control_by lined.now.what) ∷ more) (files_of (D.held disk.old)) self.old stage))) }
+        ensures kinds { self.new.core.store.kinds ≡ self.old.core.store.kinds }
+        ensures names { D.tells disk.old → AreInUse self.new.core.names (D.held disk.new).in_use }
+        ensures telling { D.tells disk.old ↔ D.tells disk.new }
+        ensures later { D.count disk.old ≤ D.count disk.new }
+        ensures failed { result ≡ Err Lost.Disk → Rose (D.count disk.old) (D.count disk.new) }
+        ensures telling_out { W.tells out.old ↔ W.tells out.new }
+        ensures output { W.tells out.old → OnOk result (HandsOver (W.taken out.old) (W.taken out.new) self.old.core.output self.new.core.output) }
+        ensures front { W.tells out.old → TakesMore (W.taken out.old) (W.taken out.new) }
+        ensures later_out { W.count out.old ≤ W.count out.new }
+        ensures failed_out { result ≡ Err Lost.Sink → Rose (W.count out.old) (W.count out.new) }
+    {
+        match mem::replace(&mut self.stage, Stage::Start) {
+            Stage::Start => self.start(alloc, variables, lined, disk, out),
+            Stage::Waiting { whose, from } => {
+                self.wait(alloc, variables, lined, whose, from, disk, out)
+            }
+            Stage::Resuming {
+                slots,
+                next,
+                condition,
+            } => self.resume(alloc, variables, lined, slots, next, condition, disk, out),
+            Stage::Going { next, number } => {
+                let doing = given(alloc, variables, lined, next, number, &mut self.core)?;
+                self.act(variables, lined, doing)
+            }
+            Stage::Awaiting { slot, number, then } => {
+                Ok(self.settle(slot, Stage::Awaiting { slot, number, then }))
+            }
+            Stage::Answered { then, job, answer } => {
+                let doing = answered(
+                    alloc,
+                    variables,
+                    lined,
+                    then,
+                    job,
+                    answer,
+                    &mut self.core,
+                    disk,
+                )?;
+                self.act(variables, lined, doing)
+            }
+        }
+    }
+}
