@@ -9,7 +9,6 @@ mod halted;
 mod hand;
 mod machine;
 mod making;
-mod script;
 mod serving;
 mod stage;
 mod state;
@@ -20,4 +19,3 @@ mod turns;
 
 pub use ending::Ending;
 pub use machine::Machine;
-pub use script::Runner;
