@@ -84,6 +84,6 @@ module _ {F : Type 0} {ghosts : Ghosts F} (told : F → Bool) (bytes : F → Lis
     asks = subst (λ rest. IsTask told bytes (goes rest (run_at files m Start)).ask Finished) (sym e) tt;
   }
     where
-    emptied : (rest : List Stated) (r : Run) → rest ≡ [] → r.rest ≡ rest → r ≡ (goes rest r).run
-    emptied [] r e h = ap (λ rest. record r { rest = rest }) h
-    emptied (st ∷ rest) r e h = cc
+      emptied : (rest : List Stated) (r : Run) → rest ≡ [] → r.rest ≡ rest → r ≡ (goes rest r).run
+      emptied [] r e h = ap (λ rest. record r { rest = rest }) h
+      emptied (st ∷ rest) r e h = cc

@@ -57,7 +57,7 @@ module _ {F : Type 0} {ghosts : Ghosts F} (variables : List Variable) (rest : Li
       ≡ finish_by (ends st.0.line st.0.what condition) (record (run_in variables rest files s stage) { core = record (core_of files s.core) { vars = vars } })
   finish_is st condition vars v = ap (λ b. finish_by (ends st.0.line st.0.what condition) (record (run_in variables rest files s stage) {
     core = record (core_of files s.core) { vars = with_number variables (iostat_of st.0.what) (code_of condition) (values_of s.core.store) };
-    book = b
+    book = b;
   })) (sym e) ∙ ap (λ vs. finish_by (ends st.0.line st.0.what condition) (record (run_in variables rest files s stage) { core = record (core_of files s.core) { vars = vs } })) (sym v)
 
 -- ---- statements one after another

@@ -28,7 +28,6 @@ module _ {F : Type 0} (told : F → Bool) (bytes : F → List ℕ) where
   IsTask Finished Finished = Unit {0}
   IsTask a b = ⊥
 
-
 module _ {F : Type 0} {ghosts : Ghosts F} (told : F → Bool) (bytes : F → List ℕ) where
   -- it pauses at this ask; the state is then at a stage
   pub record Pausing (variables : List Variable) (rest : List Stated) (files : Files) (s : State F ghosts) (ask : Ask (Job F)) (t : Turn) : Type 0 where

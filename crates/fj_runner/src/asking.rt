@@ -29,7 +29,7 @@ impl<F: FileStore> Machine<F> {
             → IfSome result (λ ask. IsAsked F.told F.bytes files self.new ask (by_turn (drop (self.old.at + 1) (stated self.old.deck.statements)) t)) }
         ensures passes { (files : Files) (t : Turn) → IsTurn F.told F.bytes self.old.deck.variables (rest_of self.old) files self.old.state turned t
             → IfNone result ((self.new.state.stage ≡ Stage.Start) × (by_turn (drop (self.old.at + 1) (stated self.old.deck.statements)) t
-                ≡ goes (rest_of self.new) (run_at files self.new Start))) }
+            ≡ goes (rest_of self.new) (run_at files self.new Start))) }
         ensures at { IfNone result (self.new.at ≡ self.old.at + 1) }
         ensures deck { self.new.deck ≡ self.old.deck }
         ensures state { self.new.state ≡ self.old.state }
@@ -74,7 +74,9 @@ impl<F: FileStore> Machine<F> {
         ensures kept { self.new.kept ≡ self.old.kept }
     {
         let lined = &self.deck.statements.as_slice()[self.at];
-        let turned = self.state.start(alloc, &self.deck.variables, lined, disk, out)?;
+        let turned = self
+            .state
+            .start(alloc, &self.deck.variables, lined, disk, out)?;
         Ok(self.asked_by(turned))
     }
 
@@ -136,7 +138,9 @@ impl<F: FileStore> Machine<F> {
             return Ok(Ask::Finished);
         }
         let lined = &self.deck.statements.as_slice()[self.at];
-        let turned = self.state.turn(alloc, &self.deck.variables, lined, disk, out)?;
+        let turned = self
+            .state
+            .turn(alloc, &self.deck.variables, lined, disk, out)?;
         match self.asked_by(turned) {
             Some(ask) => Ok(ask),
             None => self.go(alloc, disk, out),

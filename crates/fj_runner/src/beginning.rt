@@ -75,8 +75,8 @@ impl<F: FileStore> State<F> {
         requires names { D.tells disk.old → AreInUse self.old.core.names (D.held disk.old).in_use }
         ensures turn { D.tells disk.old → (more : List Stated) (stage : PlainStage)
             → IfOk result (λ t. IsTurn F.told F.bytes variables.now ((lined.now, control_by lined.now.what) ∷ more) (files_of (D.held disk.new)) self.new t
-                (turn_tell (lined.now, control_by lined.now.what) (waited_of whose (entries self.old.core.pending))
-                    (run_in variables.now ((lined.now, control_by lined.now.what) ∷ more) (files_of (D.held disk.old)) self.old stage))) }
+            (turn_tell (lined.now, control_by lined.now.what) (waited_of whose (entries self.old.core.pending))
+            (run_in variables.now ((lined.now, control_by lined.now.what) ∷ more) (files_of (D.held disk.old)) self.old stage))) }
         ensures kinds { self.new.core.store.kinds ≡ self.old.core.store.kinds }
         ensures names { D.tells disk.old → AreInUse self.new.core.names (D.held disk.new).in_use }
         ensures telling { D.tells disk.old ↔ D.tells disk.new }
@@ -137,8 +137,8 @@ impl<F: FileStore> State<F> {
         requires from { are_passed self.old.core.pending whose from ≡ true }
         ensures turn { D.tells disk.old → (more : List Stated) (stage : PlainStage)
             → IfOk result (λ t. IsTurn F.told F.bytes variables.now ((lined.now, control_by lined.now.what) ∷ more) (files_of (D.held disk.new)) self.new t
-                (turn_wait (lined.now, control_by lined.now.what)
-                    (run_in variables.now ((lined.now, control_by lined.now.what) ∷ more) (files_of (D.held disk.old)) self.old stage))) }
+            (turn_wait (lined.now, control_by lined.now.what)
+            (run_in variables.now ((lined.now, control_by lined.now.what) ∷ more) (files_of (D.held disk.old)) self.old stage))) }
         ensures kinds { self.new.core.store.kinds ≡ self.old.core.store.kinds }
         ensures names { D.tells disk.old → AreInUse self.new.core.names (D.held disk.new).in_use }
         ensures telling { D.tells disk.old ↔ D.tells disk.new }
@@ -172,8 +172,8 @@ impl<F: FileStore> State<F> {
         requires passed { are_passed self.old.core.pending known from ≡ true }
         ensures turn { D.tells disk.old → (more : List Stated) (stage : PlainStage)
             → IfOk result (λ t. IsTurn F.told F.bytes variables.now ((lined.now, control_by lined.now.what) ∷ more) (files_of (D.held disk.new)) self.new t
-                (turn_wait (lined.now, control_by lined.now.what)
-                    (run_in variables.now ((lined.now, control_by lined.now.what) ∷ more) (files_of (D.held disk.old)) self.old stage))) }
+            (turn_wait (lined.now, control_by lined.now.what)
+            (run_in variables.now ((lined.now, control_by lined.now.what) ∷ more) (files_of (D.held disk.old)) self.old stage))) }
         ensures kinds { self.new.core.store.kinds ≡ self.old.core.store.kinds }
         ensures names { D.tells disk.old → AreInUse self.new.core.names (D.held disk.new).in_use }
         ensures telling { D.tells disk.old ↔ D.tells disk.new }
@@ -203,8 +203,8 @@ impl<F: FileStore> State<F> {
         requires names { D.tells disk.old → AreInUse self.old.core.names (D.held disk.old).in_use }
         ensures turn { D.tells disk.old → (more : List Stated) (stage : PlainStage)
             → IfOk result (λ t. IsTurn F.told F.bytes variables.now ((lined.now, control_by lined.now.what) ∷ more) (files_of (D.held disk.new)) self.new t
-                (turn_start (lined.now, control_by lined.now.what)
-                    (run_in variables.now ((lined.now, control_by lined.now.what) ∷ more) (files_of (D.held disk.old)) self.old stage))) }
+            (turn_start (lined.now, control_by lined.now.what)
+            (run_in variables.now ((lined.now, control_by lined.now.what) ∷ more) (files_of (D.held disk.old)) self.old stage))) }
         ensures kinds { self.new.core.store.kinds ≡ self.old.core.store.kinds }
         ensures names { D.tells disk.old → AreInUse self.new.core.names (D.held disk.new).in_use }
         ensures telling { D.tells disk.old ↔ D.tells disk.new }

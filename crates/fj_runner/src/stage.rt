@@ -11,7 +11,10 @@ pub(crate) enum Stage<F: FileStore> {
     /// Nothing of it is done.
     Start,
     /// It waits for transfers that it tells; those before a place have answers.
-    Waiting { whose: Whose, from: usize },
+    Waiting {
+        whose: Whose,
+        from: usize,
+    },
     /// They are told; the halts at these slots end, and then it does what is its own where that condition was told.
     Resuming {
         slots: Items<u32>,
@@ -19,9 +22,16 @@ pub(crate) enum Stage<F: FileStore> {
         condition: Condition,
     },
     /// It goes on with the number of the job that it gave.
-    Going { next: Given, number: u64 },
+    Going {
+        next: Given,
+        number: u64,
+    },
     /// It waits for its own job, of that slot and number.
-    Awaiting { slot: u32, number: u64, then: Then },
+    Awaiting {
+        slot: u32,
+        number: u64,
+        then: Then,
+    },
     /// It goes on with what became of its own job.
     Answered {
         then: Then,

@@ -37,8 +37,8 @@ impl<F: FileStore> State<F> {
         ensures turn { D.tells disk.old → (more : List Stated) (stage : PlainStage)
             → stage_of F.told F.bytes variables.now ((lined.now, control_by lined.now.what) ∷ more) (core_of (files_of (D.held disk.old)) self.old.core) self.old.stage ≡ Some stage
             → IfOk result (λ t. IsTurn F.told F.bytes variables.now ((lined.now, control_by lined.now.what) ∷ more) (files_of (D.held disk.new)) self.new t
-                (turns.turn (lined.now, control_by lined.now.what) stage
-                    (run_in variables.now ((lined.now, control_by lined.now.what) ∷ more) (files_of (D.held disk.old)) self.old stage))) }
+            (turns.turn (lined.now, control_by lined.now.what) stage
+            (run_in variables.now ((lined.now, control_by lined.now.what) ∷ more) (files_of (D.held disk.old)) self.old stage))) }
         ensures kinds { self.new.core.store.kinds ≡ self.old.core.store.kinds }
         ensures names { D.tells disk.old → AreInUse self.new.core.names (D.held disk.new).in_use }
         ensures telling { D.tells disk.old ↔ D.tells disk.new }

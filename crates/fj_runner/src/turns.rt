@@ -83,8 +83,8 @@ impl<F: FileStore> State<F> {
         ensures turn { (more : List Stated) (files : Files) (core : PlainCore) (book : List Held) (stage : PlainStage)
             → held self.old.core.pending ≡ matched (map (λ (h : Held). h.pending) (held self.old.core.pending)) book
             → IfOk result (λ t. IsTurn F.told F.bytes variables.now ((lined.now, control_by lined.now.what) ∷ more) files self.new t
-                (turn_finish (lined.now, control_by lined.now.what) (core_of files self.old.core) condition
-                    (record (run_in variables.now ((lined.now, control_by lined.now.what) ∷ more) files self.old stage) { core = core; book = book }))) }
+            (turn_finish (lined.now, control_by lined.now.what) (core_of files self.old.core) condition
+            (record (run_in variables.now ((lined.now, control_by lined.now.what) ∷ more) files self.old stage) { core = core; book = book }))) }
         ensures kinds { self.new.core.store.kinds ≡ self.old.core.store.kinds }
         ensures names { self.new.core.names ≡ self.old.core.names }
         ensures output { self.new.core.output ≡ self.old.core.output }
@@ -117,8 +117,8 @@ impl<F: FileStore> State<F> {
             → held self.old.core.pending ≡ matched (map (λ (h : Held). h.pending) (held self.old.core.pending)) book
             → IsDoing F.told F.bytes variables.now (lined.now, control_by lined.now.what) (core_of files self.old.core) doing plain
             → IfOk result (λ t. IsTurn F.told F.bytes variables.now ((lined.now, control_by lined.now.what) ∷ more) files self.new t
-                (turn_act (lined.now, control_by lined.now.what) plain
-                    (record (run_in variables.now ((lined.now, control_by lined.now.what) ∷ more) files self.old stage) { core = core; book = book }))) }
+            (turn_act (lined.now, control_by lined.now.what) plain
+            (record (run_in variables.now ((lined.now, control_by lined.now.what) ∷ more) files self.old stage) { core = core; book = book }))) }
         ensures kinds { self.new.core.store.kinds ≡ self.old.core.store.kinds }
         ensures names { self.new.core.names ≡ self.old.core.names }
         ensures output { self.new.core.output ≡ self.old.core.output }
@@ -154,10 +154,10 @@ impl<F: FileStore> State<F> {
         ensures turn { D.tells disk.old → (more : List Stated) (core : PlainCore) (book : List Held) (stage : PlainStage)
             → held self.old.core.pending ≡ matched (map (λ (h : Held). h.pending) (held self.old.core.pending)) book
             → IfOk result (λ t. IsTurn F.told F.bytes variables.now ((lined.now, control_by lined.now.what) ∷ more) (files_of (D.held disk.new)) self.new t
-                (turn_act (lined.now, control_by lined.now.what)
-                    (ends_halts (drop next slots) (core_of (files_of (D.held disk.old)) self.old.core)
-                        (doing (control_by lined.now.what) variables.now lined.now.line (core_of (files_of (D.held disk.old)) self.old.core) lined.now.what condition))
-                    (record (run_in variables.now ((lined.now, control_by lined.now.what) ∷ more) (files_of (D.held disk.old)) self.old stage) { core = core; book = book }))) }
+            (turn_act (lined.now, control_by lined.now.what)
+            (ends_halts (drop next slots) (core_of (files_of (D.held disk.old)) self.old.core)
+            (doing (control_by lined.now.what) variables.now lined.now.line (core_of (files_of (D.held disk.old)) self.old.core) lined.now.what condition))
+            (record (run_in variables.now ((lined.now, control_by lined.now.what) ∷ more) (files_of (D.held disk.old)) self.old stage) { core = core; book = book }))) }
         ensures kinds { self.new.core.store.kinds ≡ self.old.core.store.kinds }
         ensures names { D.tells disk.old → AreInUse self.new.core.names (D.held disk.new).in_use }
         ensures telling { D.tells disk.old ↔ D.tells disk.new }
@@ -179,7 +179,15 @@ impl<F: FileStore> State<F> {
             return self.submit(slot, Job::Resume, stage);
         }
         self.stage = Stage::Start;
-        let doing = begin(alloc, variables, lined, condition, &mut self.core, disk, out)?;
+        let doing = begin(
+            alloc,
+            variables,
+            lined,
+            condition,
+            &mut self.core,
+            disk,
+            out,
+        )?;
         self.act(variables, lined, doing)
     }
 }
