@@ -9,6 +9,7 @@ mod halted;
 mod hand;
 mod machine;
 mod making;
+mod script;
 mod serving;
 mod stage;
 mod state;
@@ -19,3 +20,4 @@ mod turns;
 
 pub use ending::Ending;
 pub use machine::Machine;
+pub use script::Runner;
