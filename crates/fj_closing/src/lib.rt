@@ -1,0 +1,14 @@
+//! What becomes of slots and of files when a deck has ended or a run was given up: the jobs that are left are performed, open
+//! records are ended, and the files go back to the disk.
+#![tactic(auto)]
+
+mod closing;
+mod finish;
+mod losing;
+mod remains;
+mod serving;
+
+pub use closing::close_units;
+pub use finish::finish;
+pub use remains::{Remains, what_remains};
+pub use serving::served;
