@@ -1,6 +1,7 @@
 -- Files that go back to the disk, and names that are taken off.
-use Rattle.std.specs.Prelude.{◌≡◌, ◌⊎◌, ℕ, true, false, List, [], ◌∷◌, Option, Some, None, IfSome, IsSome, slice_get}
+use Rattle.std.specs.Prelude.{◌≡◌, ◌⊎◌, ℕ, Bool, if◌then◌else◌, true, false, List, [], ◌∷◌, Option, Some, None, IfSome, IsSome, slice_get}
 use Rattle.fj_connect.specs.Linked.{Linked}
+use Rattle.fj_plain.specs.State.{Files, with_file, without_file}
 use Rattle.fj_desk.specs.Core.{Connected}
 use Rattle.fj_desk.specs.Desks.{Desk}
 use Rattle.fj_acts.specs.Names.{stands, left_of}
@@ -17,6 +18,10 @@ IsBack names it = IfSome it.connection (λ c. stands names c.name ≡ false)
 -- as it was, or its connection is gone and the file is back
 abbrev pub IsKept : {F : Type 0} → List (List ℕ) → Remains F → Remains F → Type 0
 IsKept names was now = (now ≡ was) ⊎ ((now.connection ≡ None) × IsBack names was)
+
+-- a file is among the others again, or removed
+abbrev pub returned : List ℕ → List ℕ → Bool → Files → Files
+returned name bytes keep files = if keep then with_file name bytes files else without_file name files
 
 -- the names of the units are taken off
 abbrev pub names_left : List Connected → List (List ℕ) → List (List ℕ)

@@ -1,7 +1,8 @@
 // Connections are closed: open records are ended, and the files go back to the disk.
-ghost use Rattle.std.specs.Prelude.{◌≡◌, ◌≢◌, ◌↔◌, ◌≤◌, true, false, not, List, map, All, Some, None, Err, OnOk, slice_get, vec_len};
+ghost use Rattle.std.specs.Prelude.{◌≡◌, ◌≢◌, ◌↔◌, ◌≤◌, true, false, not, List, map, All, Some, None, Err, OnOk, OnErr, slice_get};
 ghost use Rattle.fj_outside.specs.Faults.{Rose};
 ghost use Rattle.fj_connect.specs.Linked.{connection_of};
+ghost use Rattle.fj_connect.specs.Positions.{ended};
 ghost use Rattle.fj_plain.specs.State.{left};
 ghost use Rattle.fj_desk.specs.Both.{Both};
 ghost use Rattle.fj_desk.specs.Desks.{Desk};
@@ -10,7 +11,7 @@ ghost use Rattle.fj_acts.specs.Names.{stands, left_of, AreInUse};
 ghost use Rattle.fj_acts.specs.State.{files_of};
 ghost use Rattle.fj_acts.specs.Units.{connected_of};
 ghost use Rattle.fj_closing.specs.Remains.{AreOfDesks};
-ghost use Rattle.fj_closing.specs.Closing.{Lessens, IsBack, IsKept, names_left, AreSeated};
+ghost use Rattle.fj_closing.specs.Closing.{Lessens, IsBack, IsKept, returned, names_left, AreSeated};
 ghost use Rattle.fj_closing.specs.declared.remains.Remains.{Remains as Remaining};
 
 use crate::losing::{after, lost_by};
@@ -18,7 +19,43 @@ use crate::remains::Remains;
 use fj_acts::{Connected, Names, Units};
 use fj_connect::Connection;
 use fj_items::Lost;
-use fj_outside::{Disk, Stop};
+use fj_outside::{Disk, Failed, FileStore, Stop};
+
+/// Ends the open record of a connection, unless its slot stopped.
+fn end_open<F: FileStore>(connection: &mut Connection<F>, stop: Option<Stop>) -> Result<(), Stop>
+    ensures telling { F.tells connection.old.file ↔ F.tells connection.new.file }
+    ensures ended { F.tells connection.old.file → OnOk result
+        (connection_of F.bytes connection.new ≡ ended (connection_of F.bytes connection.old)) }
+    ensures running { OnOk result (stop ≡ None) }
+    ensures name { connection.new.name ≡ connection.old.name }
+{
+    match stop {
+        Some(stop) => Err(stop),
+        None => connection.end_record(),
+    }
+}
+
+/// Gives the file of a connection back, and takes its name off.
+fn give_back<D: Disk>(
+    connection: Connection<D::File>,
+    keep: bool,
+    names: &mut Names,
+    disk: &mut D,
+) -> Result<(), Failed>
+    requires names { D.tells disk.old → AreInUse names.old (D.held disk.old).in_use }
+    requires out { stands names.old connection.name ≡ true }
+    ensures names { D.tells disk.old → AreInUse names.new (D.held disk.new).in_use }
+    ensures off { names.new ≡ left_of names.old connection.name }
+    ensures files { D.tells disk.old → OnOk result
+        (files_of (D.held disk.new) ≡ returned connection.name (D.File.bytes connection.file) keep (files_of (D.held disk.old))) }
+    ensures telling { D.tells disk.old ↔ D.tells disk.new }
+    ensures later { D.count disk.old ≤ D.count disk.new }
+    ensures hurt { D.File.count connection.file ≢ 0 → Rose (D.count disk.old) (D.count disk.new) }
+    ensures failed { OnErr result (Rose (D.count disk.old) (D.count disk.new)) }
+{
+    names.remove(connection.name());
+    connection.close_file(disk, keep)
+}
 
 /// Ends the open record of a connection, unless its slot stopped, and gives its file back. A file whose name is not known to be
 /// out is not given back.
@@ -48,13 +85,9 @@ fn close<D: Disk>(
         return Err(Lost::Unfit);
     }
     let mut connection = connection;
-    let ended = match stop {
-        Some(stop) => Err(stop),
-        None => connection.end_record(),
-    };
+    let ended = end_open(&mut connection, stop);
     let hurt = connection.faults() > 0;
-    names.remove(connection.name());
-    let given = connection.close_file(disk, keep);
+    let given = give_back(connection, keep, names, disk);
     lost_by(ended, hurt, given)
 }
 

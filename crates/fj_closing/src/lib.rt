@@ -3,12 +3,12 @@
 #![tactic(auto)]
 
 mod closing;
-mod finish;
+mod finishing;
 mod losing;
 mod remains;
 mod serving;
 
 pub use closing::close_units;
-pub use finish::finish;
+pub use finishing::finish;
 pub use remains::{Remains, what_remains};
 pub use serving::served;

@@ -1,0 +1,177 @@
+-- Files that go back to the disk, and names that are taken off.
+use Rattle.std.proofs.Common.{◌≡◌, ◌≢◌, ◌⊎◌, ℕ, zero, suc, ◌+◌, ◌≤◌, Bool, true, false, not, cond, List, [], ◌∷◌, ◌++◌, length, set, filter, Some, None, Option, All, IsSome, IfSome, slice_get, Result, Ok, Err, OnOk, OnErr, if◌then◌else◌, inl, inr, refl, sym, ap, ◌∙◌, subst, arith}
+use Rattle.std.specs.List.{list_any}
+use Rattle.std.specs.Str.{bytes_eq}
+use Rattle.fj_items.specs.declared.lost.Lost.{Lost}
+use Rattle.fj_items.specs.declared.lost.Lost.TheVariants.{Memory, Sink, Disk, Unfit}
+use Rattle.fj_outside.specs.Holdings.{Holdings, given, without}
+use Rattle.fj_connect.specs.Connection.{Connection}
+use Rattle.fj_connect.specs.Linked.{Linked, connection_of}
+use Rattle.fj_connect.specs.Positions.{ended}
+use Rattle.fj_bay.specs.Plain.{place_of}
+use Rattle.fj_plain.specs.State.{Files, Unit as PlainUnit, left}
+use Rattle.fj_desk.specs.Both.{Both}
+use Rattle.fj_desk.specs.Core.{Connected}
+use Rattle.fj_desk.specs.Desks.{Desk}
+use Rattle.fj_desk.specs.Forgetting.{IsSeen, bay_at}
+use Rattle.fj_acts.specs.Names.{stands, left_of, AreInUse}
+use Rattle.fj_acts.specs.State.{files_of}
+use Rattle.fj_acts.proofs.Files.{files-given, files-gone, names-given, names-gone}
+use Rattle.fj_closing.specs.Losing.{after}
+use Rattle.fj_closing.specs.Closing.{Lessens, IsBack, IsKept, returned, AreSeated}
+use Rattle.fj_closing.specs.declared.remains.Remains.{Remains}
+
+-- ---- losses
+
+pub both_ok : {T X Y Z : Type 0} → (a b : Result T Lost) → OnOk a X → OnOk b Y → (X → Y → Z) → OnOk (after a b) Z
+both_ok (Ok x) (Ok y) p q f = f p q
+both_ok (Ok x) (Err e) p q f = tt
+both_ok (Err e) (Ok y) p q f = tt
+both_ok (Err e) (Err (Memory error)) p q f = tt
+both_ok (Err e) (Err Sink) p q f = tt
+both_ok (Err e) (Err Disk) p q f = tt
+both_ok (Err e) (Err Unfit) p q f = tt
+
+pub either_lost : {T : Type 0} → (a b : Result T Lost) (lost : Lost) → after a b ≡ Err lost → (a ≡ Err lost) ⊎ (b ≡ Err lost)
+either_lost (Ok x) b lost e = inr e
+either_lost (Err l) (Ok y) lost e = inl e
+either_lost (Err l) (Err (Memory error)) lost e = inr e
+either_lost (Err l) (Err Sink) lost e = inl e
+either_lost (Err l) (Err Disk) lost e = inl e
+either_lost (Err l) (Err Unfit) lost e = inl e
+
+-- ---- names
+
+any_filter : {X : Type 0} → (p q : X → Bool) (xs : List X) → list_any p (filter q xs) ≡ true → list_any p xs ≡ true
+any_filter p q [] e = e
+any_filter p q (x ∷ xs) e = by (p x) refl (q x) refl
+  where
+    by : (a : Bool) → p x ≡ a → (b : Bool) → q x ≡ b → list_any p (x ∷ xs) ≡ true
+    by true pa b qb = rw pa refl
+    by false pa true qb = rw pa (any_filter p q xs (rw (qb, pa) at e))
+    by false pa false qb = rw pa (any_filter p q xs (rw qb at e))
+
+none_left : {X : Type 0} → (p : X → Bool) (xs : List X) → list_any p (filter (λ x. not (p x)) xs) ≡ false
+none_left p [] = refl
+none_left p (x ∷ xs) = by (p x) refl
+  where
+    by : (a : Bool) → p x ≡ a → list_any p (filter (λ y. not (p y)) (x ∷ xs)) ≡ false
+    by true pa = rw pa (none_left p xs)
+    by false pa = rw (pa, pa) (none_left p xs)
+
+pub name_off : (names : List (List ℕ)) (name : List ℕ) → stands (left_of names name) name ≡ false
+name_off names name = none_left (λ (other : List ℕ). bytes_eq other name) names
+
+pub off_lessens : (names : List (List ℕ)) (name : List ℕ) → Lessens names (left_of names name)
+off_lessens names name q e = any_filter (λ (other : List ℕ). bytes_eq other q) (λ (other : List ℕ). not (bytes_eq other name)) names e
+
+pub names_back : {A B : Type 0} → (names : List (List ℕ)) (h new : Holdings) (n bytes : List ℕ) (sound keep : Bool) (result : Result A B)
+    → OnOk result (new ≡ (if keep then given h n bytes sound else without (given h n bytes sound) n)) → OnErr result (new ≡ given h n bytes sound)
+    → AreInUse names h.in_use → AreInUse (left_of names n) new.in_use
+names_back names h new n bytes sound true (Ok x) ok err are = subst (λ (z : Holdings). AreInUse (left_of names n) z.in_use) (sym ok) (names-given names h n bytes sound are)
+names_back names h new n bytes sound false (Ok x) ok err are = subst (λ (z : Holdings). AreInUse (left_of names n) z.in_use) (sym ok) (names-gone names h n bytes sound are)
+names_back names h new n bytes sound keep (Err x) ok err are = subst (λ (z : Holdings). AreInUse (left_of names n) z.in_use) (sym err) (names-given names h n bytes sound are)
+
+-- ---- files
+
+pub files_back : {A B : Type 0} → (h new : Holdings) (n bytes : List ℕ) (sound keep : Bool) (result : Result A B)
+    → OnOk result (new ≡ (if keep then given h n bytes sound else without (given h n bytes sound) n)) → OnOk result (files_of new ≡ returned n bytes keep (files_of h))
+files_back h new n bytes sound true (Ok x) ok = ap files_of ok ∙ files-given h n bytes sound
+files_back h new n bytes sound false (Ok x) ok = ap files_of ok ∙ files-gone h n bytes sound
+files_back h new n bytes sound keep (Err x) ok = tt
+
+pub left_with : (c : Connection) (name bytes : List ℕ) (keep : Bool) (old new : Files) → name ≡ c.name → bytes ≡ (ended c).bytes
+    → new ≡ returned name bytes keep old → new ≡ left c keep old
+left_with c name bytes keep old new named same is = is ∙ ap (λ n. returned n bytes keep old) named ∙ ap (λ b. returned c.name b keep old) same
+
+pub placed : {F : Type 0} → (told : F → Bool) (bytes : F → List ℕ) (c : Linked F) (place : Option Connection) → place_of told bytes (Some c) ≡ Some place
+    → (told c.file ≡ true) × (place ≡ Some (connection_of bytes c))
+placed told bytes c place e = by (told c.file) refl
+  where
+    by : (b : Bool) → told c.file ≡ b → (told c.file ≡ true) × (place ≡ Some (connection_of bytes c))
+    by true t = (t, (let is = rw t at e in cc))
+    by false t = absurd (let is = rw t at e in cc)
+
+-- ---- what remains
+
+clash : (a : Bool) → (a ≡ true → false ≡ true) → a ≡ false
+clash true f = sym (f refl)
+clash false f = refl
+
+pub fewer : (old new : List (List ℕ)) (name : List ℕ) → Lessens old new → stands old name ≡ false → stands new name ≡ false
+fewer old new name less off = clash (stands new name) (λ e. sym off ∙ less name e)
+
+module _ {F : Type 0} where
+  pub back_fewer : (old new : List (List ℕ)) (it : Remains F) → Lessens old new → IsBack old it → IsBack new it
+  back_fewer old new it less = by it.connection
+    where
+      by : (o : Option (Linked F)) → IfSome o (λ c. stands old c.name ≡ false) → IfSome o (λ c. stands new c.name ≡ false)
+      by None e = tt
+      by (Some c) e = fewer old new c.name less e
+
+  kept_item : (old new : List (List ℕ)) (was now : Remains F) → Lessens old new → IsKept old was now → IsKept new was now
+  kept_item old new was now less (inl same) = inl same
+  kept_item old new was now less (inr gone) = inr (gone.0, back_fewer old new was less gone.1)
+
+  pub kept_fewer : (old new : List (List ℕ)) (was now : List (Remains F)) → Lessens old new → Both (IsKept old) was now → Both (IsKept new) was now
+  kept_fewer old new [] [] less b = tt
+  kept_fewer old new [] (y ∷ ys) less b = absurd b
+  kept_fewer old new (x ∷ xs) [] less b = absurd b
+  kept_fewer old new (x ∷ xs) (y ∷ ys) less b = (kept_item old new x y less b.0, kept_fewer old new xs ys less b.1)
+
+  pub kept_all : (names : List (List ℕ)) (all : List (Remains F)) → Both (IsKept names) all all
+  kept_all names [] = tt
+  kept_all names (x ∷ xs) = (inl refl, kept_all names xs)
+
+  gone_item : (old new : List (List ℕ)) (was now it it' : Remains F) → Lessens old new → IsKept old was now → now ≡ it → it'.connection ≡ None → IsBack new it → IsKept new was it'
+  gone_item old new was now it it' less (inl same) is none back = inr (none, subst (IsBack new) (sym is ∙ same) back)
+  gone_item old new was now it it' less (inr gone) is none back = inr (none, back_fewer old new was less gone.1)
+
+  pub kept_gone : (old new : List (List ℕ)) (was now : List (Remains F)) (at : ℕ) (it it' : Remains F) → Lessens old new → Both (IsKept old) was now
+      → slice_get now at ≡ Some it → it'.connection ≡ None → IsBack new it → Both (IsKept new) was (set now at it')
+  kept_gone old new [] [] zero it it' less b e none back = absurd (cc)
+  kept_gone old new [] [] (suc at) it it' less b e none back = absurd (cc)
+  kept_gone old new [] (y ∷ ys) at it it' less b e none back = absurd b
+  kept_gone old new (x ∷ xs) [] at it it' less b e none back = absurd b
+  kept_gone old new (x ∷ xs) (y ∷ ys) zero it it' less b e none back = (gone_item old new x y it it' less b.0 (let is : y ≡ it = cc in is) none back, kept_fewer old new xs ys less b.1)
+  kept_gone old new (x ∷ xs) (y ∷ ys) (suc at) it it' less b e none back = (kept_item old new x y less b.0, kept_gone old new xs ys at it it' less b.1 e none back)
+
+  same_item : (names : List (List ℕ)) (was now it : Remains F) (c : Linked F) → IsKept names was now → now ≡ it → it.connection ≡ Some c → was ≡ it
+  same_item names was now it c (inl same) is some = sym same ∙ is
+  same_item names was now it c (inr gone) is some = absurd (let none : it.connection ≡ None = ap (λ (z : Remains F). z.connection) (sym is) ∙ gone.0 in cc)
+
+  -- what has its connection is as it was
+  pub kept_get : (names : List (List ℕ)) (was now : List (Remains F)) (at : ℕ) (it : Remains F) (c : Linked F) → Both (IsKept names) was now
+      → slice_get now at ≡ Some it → it.connection ≡ Some c → slice_get was at ≡ Some it
+  kept_get names [] [] zero it c b e some = absurd (cc)
+  kept_get names [] [] (suc at) it c b e some = absurd (cc)
+  kept_get names [] (y ∷ ys) at it c b e some = absurd b
+  kept_get names (x ∷ xs) [] at it c b e some = absurd b
+  kept_get names (x ∷ xs) (y ∷ ys) zero it c b e some = ap Some (same_item names x y it c b.0 (let is : y ≡ it = cc in is) some)
+  kept_get names (x ∷ xs) (y ∷ ys) (suc at) it c b e some = kept_get names xs ys at it c b.1 e some
+
+  back_item : (old new : List (List ℕ)) (was now : Remains F) → Lessens old new → IsKept old was now → IsBack new now → IsBack new was
+  back_item old new was now less (inl same) back = subst (IsBack new) same back
+  back_item old new was now less (inr gone) back = back_fewer old new was less gone.1
+
+  pub back_all : (old new : List (List ℕ)) (was now : List (Remains F)) → Lessens old new → Both (IsKept old) was now → All (IsBack new) now → All (IsBack new) was
+  back_all old new [] [] less b a = tt
+  back_all old new [] (y ∷ ys) less b a = absurd b
+  back_all old new (x ∷ xs) [] less b a = absurd b
+  back_all old new (x ∷ xs) (y ∷ ys) less b a = (back_item old new x y less b.0 a.0, back_all old new xs ys less b.1 a.1)
+
+  pub back_more : (old new : List (List ℕ)) (all : List (Remains F)) (it : Remains F) → Lessens old new → All (IsBack old) all → IsBack new it → All (IsBack new) (all ++ it ∷ [])
+  back_more old new [] it less a back = (back, tt)
+  back_more old new (x ∷ xs) it less a back = (back_fewer old new x less a.0, back_more old new xs it less a.1 back)
+
+-- ---- units
+
+-- units that are seen have desks
+pub seated : (desks : List Desk) (us : List Connected) (vs : List PlainUnit) → Both (IsSeen desks) us vs → AreSeated desks us
+seated desks [] vs b = tt
+seated desks (u ∷ us) [] b = absurd b
+seated desks (u ∷ us) (v ∷ vs) b = (there (slice_get desks u.slot) _ b.0.bay, seated desks us vs b.1)
+  where
+    there : (o : Option Desk) (x : _) → bay_at o ≡ Some x → IsSome o
+    there None x e = absurd (cc)
+    there (Some d) x e = tt
