@@ -72,3 +72,13 @@ both_more R [] [] x y b r = (r, tt)
 both_more R [] (b' ∷ ys) x y b r = absurd b
 both_more R (a ∷ xs) [] x y b r = absurd b
 both_more R (a ∷ xs) (b' ∷ ys) x y b r = (b.0, both_more R xs ys x y b.1 r)
+
+pub front_get : {X : Type 0} → (xs : List X) (x y : X) (k : ℕ) → slice_get xs k ≡ Some y → slice_get (xs ++ x ∷ []) k ≡ Some y
+front_get [] x y zero e = absurd (cc)
+front_get [] x y (suc k) e = absurd (cc)
+front_get (z ∷ xs) x y zero e = e
+front_get (z ∷ xs) x y (suc k) e = front_get xs x y k e
+
+pub last_get : {X : Type 0} → (xs : List X) (x : X) → slice_get (xs ++ x ∷ []) (length xs) ≡ Some x
+last_get [] x = refl
+last_get (z ∷ xs) x = last_get xs x

@@ -12,7 +12,7 @@ use Rattle.fj_closing.specs.Serving.{ServesFirst}
 
 module _ {G J A P T R : Type 0} (m : Meaning G J A P T R) where
   -- a list of this slot alone
-  alone : Ledger G J A → Rack G J A
+  abbrev alone : Ledger G J A → Rack G J A
   alone l = record { slots = l ∷ []; spare = 0 }
 
   first_by : (l new : Ledger G J A) (engine engine' : G) (job job' : J) (got : Result A Stop)

@@ -1,5 +1,5 @@
 -- Files that go back to the disk, and names that are taken off.
-use Rattle.std.proofs.Common.{◌≡◌, ◌≢◌, ◌⊎◌, ℕ, zero, suc, ◌+◌, ◌≤◌, Bool, true, false, not, cond, List, [], ◌∷◌, ◌++◌, length, set, filter, Some, None, Option, All, IsSome, IfSome, slice_get, Result, Ok, Err, OnOk, OnErr, if◌then◌else◌, inl, inr, refl, sym, ap, ◌∙◌, subst, arith}
+use Rattle.std.proofs.Common.{◌≡◌, ◌≢◌, ◌⊎◌, ℕ, zero, suc, ◌+◌, ◌≤◌, Bool, true, false, not, cond, List, [], ◌∷◌, ◌++◌, length, set, filter, Some, None, Option, IsSome, IfSome, slice_get, Result, Ok, Err, OnOk, OnErr, if◌then◌else◌, inl, inr, refl, sym, ap, ◌∙◌, subst, arith}
 use Rattle.std.specs.List.{list_any}
 use Rattle.std.specs.Str.{bytes_eq}
 use Rattle.fj_items.specs.declared.lost.Lost.{Lost}
@@ -13,12 +13,14 @@ use Rattle.fj_plain.specs.State.{Files, Unit as PlainUnit, left}
 use Rattle.fj_desk.specs.Both.{Both}
 use Rattle.fj_desk.specs.Core.{Connected}
 use Rattle.fj_desk.specs.Desks.{Desk}
+use Rattle.fj_desk.specs.Desking.{left_by}
 use Rattle.fj_desk.specs.Forgetting.{IsSeen, bay_at}
 use Rattle.fj_acts.specs.Names.{stands, left_of, AreInUse}
 use Rattle.fj_acts.specs.State.{files_of}
 use Rattle.fj_acts.proofs.Files.{files-given, files-gone, names-given, names-gone}
+use Rattle.fj_closing.specs.Remains.{AreOfDesks}
 use Rattle.fj_closing.specs.Losing.{after}
-use Rattle.fj_closing.specs.Closing.{Lessens, IsBack, IsKept, returned, AreSeated}
+use Rattle.fj_closing.specs.Closing.{Lessens, IsBack, AreBack, IsKept, returned, AreSeated}
 use Rattle.fj_closing.specs.declared.remains.Remains.{Remains}
 
 -- ---- losses
@@ -42,22 +44,24 @@ either_lost (Err l) (Err Unfit) lost e = inl e
 
 -- ---- names
 
+filter_by : {X : Type 0} → (p q : X → Bool) (x : X) (xs : List X) (a b : Bool) → p x ≡ a → q x ≡ b → (list_any p (filter q xs) ≡ true → list_any p xs ≡ true)
+    → list_any p (filter q (x ∷ xs)) ≡ true → list_any p (x ∷ xs) ≡ true
+filter_by p q x xs true b pa qb rest e = rw pa refl
+filter_by p q x xs false true pa qb rest e = rw pa (rest (rw (qb, pa) at e))
+filter_by p q x xs false false pa qb rest e = rw pa (rest (rw qb at e))
+
 any_filter : {X : Type 0} → (p q : X → Bool) (xs : List X) → list_any p (filter q xs) ≡ true → list_any p xs ≡ true
 any_filter p q [] e = e
-any_filter p q (x ∷ xs) e = by (p x) refl (q x) refl
-  where
-    by : (a : Bool) → p x ≡ a → (b : Bool) → q x ≡ b → list_any p (x ∷ xs) ≡ true
-    by true pa b qb = rw pa refl
-    by false pa true qb = rw pa (any_filter p q xs (rw (qb, pa) at e))
-    by false pa false qb = rw pa (any_filter p q xs (rw qb at e))
+any_filter p q (x ∷ xs) e = filter_by p q x xs (p x) (q x) refl refl (any_filter p q xs) e
+
+left_by_one : {X : Type 0} → (p : X → Bool) (x : X) (xs : List X) (a : Bool) → p x ≡ a → list_any p (filter (λ y. not (p y)) xs) ≡ false
+    → list_any p (filter (λ y. not (p y)) (x ∷ xs)) ≡ false
+left_by_one p x xs true pa rest = rw pa rest
+left_by_one p x xs false pa rest = rw (pa, pa) rest
 
 none_left : {X : Type 0} → (p : X → Bool) (xs : List X) → list_any p (filter (λ x. not (p x)) xs) ≡ false
 none_left p [] = refl
-none_left p (x ∷ xs) = by (p x) refl
-  where
-    by : (a : Bool) → p x ≡ a → list_any p (filter (λ y. not (p y)) (x ∷ xs)) ≡ false
-    by true pa = rw pa (none_left p xs)
-    by false pa = rw (pa, pa) (none_left p xs)
+none_left p (x ∷ xs) = left_by_one p x xs (p x) refl (none_left p xs)
 
 pub name_off : (names : List (List ℕ)) (name : List ℕ) → stands (left_of names name) name ≡ false
 name_off names name = none_left (λ (other : List ℕ). bytes_eq other name) names
@@ -154,13 +158,13 @@ module _ {F : Type 0} where
   back_item old new was now less (inl same) back = subst (IsBack new) same back
   back_item old new was now less (inr gone) back = back_fewer old new was less gone.1
 
-  pub back_all : (old new : List (List ℕ)) (was now : List (Remains F)) → Lessens old new → Both (IsKept old) was now → All (IsBack new) now → All (IsBack new) was
+  pub back_all : (old new : List (List ℕ)) (was now : List (Remains F)) → Lessens old new → Both (IsKept old) was now → AreBack new now → AreBack new was
   back_all old new [] [] less b a = tt
   back_all old new [] (y ∷ ys) less b a = absurd b
   back_all old new (x ∷ xs) [] less b a = absurd b
   back_all old new (x ∷ xs) (y ∷ ys) less b a = (back_item old new x y less b.0 a.0, back_all old new xs ys less b.1 a.1)
 
-  pub back_more : (old new : List (List ℕ)) (all : List (Remains F)) (it : Remains F) → Lessens old new → All (IsBack old) all → IsBack new it → All (IsBack new) (all ++ it ∷ [])
+  pub back_more : (old new : List (List ℕ)) (all : List (Remains F)) (it : Remains F) → Lessens old new → AreBack old all → IsBack new it → AreBack new (all ++ it ∷ [])
   back_more old new [] it less a back = (back, tt)
   back_more old new (x ∷ xs) it less a back = (back_fewer old new x less a.0, back_more old new xs it less a.1 back)
 
@@ -174,4 +178,15 @@ seated desks (u ∷ us) (v ∷ vs) b = (there (slice_get desks u.slot) _ b.0.bay
   where
     there : (o : Option Desk) (x : _) → bay_at o ≡ Some x → IsSome o
     there None x e = absurd (cc)
-    there (Some d) x e = tt
+    there (Some d) x e = refl
+
+-- the connection of a unit's desk is closed
+pub closes_desk : {F T : Type 0} → (told : F → Bool) (bytes : F → List ℕ) (names : List (List ℕ)) (was now : List (Remains F)) (desks : List Desk) (at : ℕ) (it : Remains F) (c : Linked F) (d : Desk)
+    (old new : Files) (result : Result T Lost) → Both (IsKept names) was now → AreOfDesks told bytes was desks → slice_get desks at ≡ Some d
+    → slice_get now at ≡ Some it → it.connection ≡ Some c → OnOk result (it.stop ≡ None)
+    → (told c.file ≡ true → OnOk result (new ≡ left (connection_of bytes c) (not c.modes.scratch) old)) → OnOk result (new ≡ left_by d.bay.connection old)
+closes_desk told bytes names was now desks at it c d old new (Err e) b are at_d at_it some running files = tt
+closes_desk told bytes names was now desks at it c d old new (Ok x) b are at_d at_it some running files =
+    let place = are at it d (kept_get names was now at it c b at_it some) at_d running in
+    let is = placed told bytes c d.bay.connection (ap (place_of told bytes) (sym some) ∙ place) in
+    files is.0 ∙ ap (λ o. left_by o old) (sym is.1)

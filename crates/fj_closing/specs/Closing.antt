@@ -15,6 +15,11 @@ Lessens old new = (name : List ℕ) → stands new name ≡ true → stands old 
 abbrev pub IsBack : {F : Type 0} → List (List ℕ) → Remains F → Type 0
 IsBack names it = IfSome it.connection (λ c. stands names c.name ≡ false)
 
+-- the same of each
+abbrev pub AreBack : {F : Type 0} → List (List ℕ) → List (Remains F) → Type 0
+AreBack names [] = Unit {0}
+AreBack names (it ∷ its) = IsBack names it × AreBack names its
+
 -- as it was, or its connection is gone and the file is back
 abbrev pub IsKept : {F : Type 0} → List (List ℕ) → Remains F → Remains F → Type 0
 IsKept names was now = (now ≡ was) ⊎ ((now.connection ≡ None) × IsBack names was)

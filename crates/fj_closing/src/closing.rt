@@ -1,5 +1,5 @@
 // Connections are closed: open records are ended, and the files go back to the disk.
-ghost use Rattle.std.specs.Prelude.{◌≡◌, ◌≢◌, ◌↔◌, ◌≤◌, true, false, not, List, map, All, Some, None, Err, OnOk, OnErr, slice_get};
+ghost use Rattle.std.specs.Prelude.{◌≡◌, ◌≢◌, ◌↔◌, ◌≤◌, true, false, not, List, map, Some, None, Err, OnOk, OnErr, slice_get};
 ghost use Rattle.fj_outside.specs.Faults.{Rose};
 ghost use Rattle.fj_connect.specs.Linked.{connection_of};
 ghost use Rattle.fj_connect.specs.Positions.{ended};
@@ -11,7 +11,7 @@ ghost use Rattle.fj_acts.specs.Names.{stands, left_of, AreInUse};
 ghost use Rattle.fj_acts.specs.State.{files_of};
 ghost use Rattle.fj_acts.specs.Units.{connected_of};
 ghost use Rattle.fj_closing.specs.Remains.{AreOfDesks};
-ghost use Rattle.fj_closing.specs.Closing.{Lessens, IsBack, IsKept, returned, names_left, AreSeated};
+ghost use Rattle.fj_closing.specs.Closing.{Lessens, IsBack, AreBack, IsKept, returned, names_left, AreSeated};
 ghost use Rattle.fj_closing.specs.declared.remains.Remains.{Remains as Remaining};
 
 use crate::losing::{after, lost_by};
@@ -197,7 +197,7 @@ fn close_rest<D: Disk>(
     ensures later { D.count disk.old ≤ D.count disk.new }
     ensures disk { result ≡ Err Lost.Disk → Rose (D.count disk.old) (D.count disk.new) }
     ensures sink { result ≢ Err Lost.Sink }
-    ensures back { All (IsBack names.new) all.old.items }
+    ensures back { AreBack names.new all.old.items }
     ensures lessens { Lessens names.old names.new }
 {
     let Some(it) = all.pop() else {
@@ -227,7 +227,7 @@ pub fn close_units<D: Disk>(
     ensures disk { result ≡ Err Lost.Disk → Rose (D.count disk.old) (D.count disk.new) }
     ensures sink { result ≢ Err Lost.Sink }
     ensures off { OnOk result (names.new ≡ names_left units.now names.old) }
-    ensures back { All (IsBack names.new) all.items }
+    ensures back { AreBack names.new all.items }
 {
     let mut all = all;
     let first = close_each(units.as_slice(), &mut all, names, disk);

@@ -5,11 +5,11 @@ use Rattle.fj_closing.proofs.Performing.{may_serve, nothing_left}
 use Rattle.fj_closing.proofs.serving.served.Goals as goal
 
 pub loop-slot-init : goal.loop-slot-init
-loop-slot-init g c = record { serves = itself g.E.Engine.meaning c.args.slot c.requires; stopped = λ _. refl }
+loop-slot-init g c = record { serves = itself g.E.Engine.meaning c.args.slot c.requires.home; stopped = λ _. refl }
 
 pub serve_first-requires : goal.serve_first-requires
 serve_first-requires g c =
-    may_serve g.E.Engine.meaning c.loop-slot.slot c.loop-slot.invariant.serves.home (sym c.has_more.ensures.more ∙ c.loop-slot-test.true)
+    record { begins = may_serve g.E.Engine.meaning c.loop-slot.slot c.loop-slot.invariant.serves.home (sym c.has_more.ensures.more ∙ c.loop-slot-test.true) }
 
 pub loop-slot-smaller : goal.loop-slot-smaller
 loop-slot-smaller g c =
