@@ -1,5 +1,5 @@
 -- Files that go back to the disk, and names that are taken off.
-use Rattle.std.proofs.Common.{◌≡◌, ◌≢◌, ◌⊎◌, ℕ, zero, suc, ◌+◌, ◌≤◌, Bool, true, false, not, cond, List, [], ◌∷◌, ◌++◌, length, set, filter, Some, None, Option, IsSome, IfSome, slice_get, Result, Ok, Err, OnOk, OnErr, if◌then◌else◌, inl, inr, refl, sym, ap, ◌∙◌, subst, arith}
+use Rattle.std.proofs.Common.{◌≡◌, ◌≢◌, ◌⊎◌, ℕ, zero, suc, ◌+◌, ◌≤◌, Bool, true, false, not, cond, List, [], ◌∷◌, ◌++◌, length, map, drop, get_or, set, filter, Some, None, Option, IsSome, IfSome, slice_get, Result, Ok, Err, OnOk, OnErr, if◌then◌else◌, inl, inr, refl, sym, ap, ◌∙◌, subst, arith}
 use Rattle.std.specs.List.{list_any}
 use Rattle.std.specs.Str.{bytes_eq}
 use Rattle.fj_items.specs.declared.lost.Lost.{Lost}
@@ -13,7 +13,7 @@ use Rattle.fj_plain.specs.State.{Files, Unit as PlainUnit, left}
 use Rattle.fj_desk.specs.Both.{Both}
 use Rattle.fj_desk.specs.Core.{Connected}
 use Rattle.fj_desk.specs.Desks.{Desk}
-use Rattle.fj_desk.specs.Desking.{left_by}
+use Rattle.fj_desk.specs.Desking.{all_left, connection_at, left_by}
 use Rattle.fj_desk.specs.Forgetting.{IsSeen, bay_at}
 use Rattle.fj_acts.specs.Names.{stands, left_of, AreInUse}
 use Rattle.fj_acts.specs.State.{files_of}
@@ -190,3 +190,20 @@ closes_desk told bytes names was now desks at it c d old new (Ok x) b are at_d a
     let place = are at it d (kept_get names was now at it c b at_it some) at_d running in
     let is = placed told bytes c d.bay.connection (ap (place_of told bytes) (sym some) ∙ place) in
     files is.0 ∙ ap (λ o. left_by o old) (sym is.1)
+
+some_in : {X : Type 0} → (o : Option X) → IsSome o → (x : X) × (o ≡ Some x)
+some_in None e = absurd (cc)
+some_in (Some x) e = (x, refl)
+
+-- one unit closed, and then the others
+pub each_closed : {X T : Type 0} → (f : X → Connected) (desks : List Desk) (units : List X) (unit : X) (old mid new : Files) (a b r : Result T Lost)
+    → r ≡ after a b → 1 ≤ length units → unit ≡ get_or units 0 unit → AreSeated desks (map f units)
+    → ((d : Desk) → slice_get desks (f unit).slot ≡ Some d → OnOk a (mid ≡ left_by d.bay.connection old))
+    → (AreSeated desks (map f (drop 1 units)) → OnOk b (new ≡ all_left desks (map f (drop 1 units)) mid))
+    → OnOk r (new ≡ all_left desks (map f units) old)
+each_closed f desks [] unit old mid new a b r is long item seats first then = absurd (omega (arith, long))
+each_closed f desks (u ∷ us) unit old mid new a b r is long item seats first then =
+    let at = some_in (slice_get desks (f u).slot) seats.0 in
+    subst (λ z. OnOk z (new ≡ all_left desks (map f (u ∷ us)) old)) (sym is)
+    (both_ok a b (first at.0 (ap (λ x. slice_get desks (f x).slot) item ∙ at.1)) (then seats.1)
+    (λ p q. q ∙ ap (all_left desks (map f us)) (p ∙ ap (λ o. left_by (connection_at o) old) (sym at.1))))

@@ -1,4 +1,4 @@
-use Rattle.std.proofs.Common.{◌≡◌, ◌<◌, ◌≤◌, true, not, length, List, Some, None, IfSome, OnOk, slice_get, refl, sym, ap, ◌∙◌, subst, arith}
+use Rattle.std.proofs.Common.{◌≡◌, ◌<◌, ◌≤◌, true, false, not, length, List, Some, None, IfSome, OnOk, slice_get, refl, sym, ap, ◌∙◌, subst, arith}
 use Rattle.std.proofs.lemmas.Option.{slice_get_read}
 use Rattle.fj_connect.specs.Linked.{Linked, connection_of}
 use Rattle.fj_plain.specs.State.{left}
@@ -22,11 +22,11 @@ returns-then-due-clause-kept g c = λ was b.
     let within : c.args.unit.now.slot < length c.args.all.now.items = omega (arith, c.if-at-len.false, c.len.ensures, c.args.all.now.ok.0) in
     let found = slice_get_read c.args.all.now.items (length c.args.all.now.items) c.args.unit.now.slot c.index_mut-it.result.now refl within c.index_mut-it.ensures.value in
     kept_gone c.args.names.now c.close-closed.new.names was c.args.all.now.items c.args.unit.now.slot c.index_mut-it.result.now _ c.close-closed.ensures.lessens b found c.take.ensures.after
-    (subst (λ o. IfSome o (λ (x : Linked _). stands c.close-closed.new.names x.name ≡ _)) c.in-Some.ensures.value c.close-closed.ensures.back)
+    (subst (λ o. IfSome o (λ (x : Linked _). stands c.close-closed.new.names x.name ≡ false)) c.in-Some.ensures.value c.close-closed.ensures.back)
 
 pub returns-else-due-clause-kept : goal.returns-else-due-clause-kept
 returns-else-due-clause-kept g c = λ was b.
     let within : c.args.unit.now.slot < length c.args.all.now.items = omega (arith, c.if-at-len.false, c.len.ensures, c.args.all.now.ok.0) in
     let found = slice_get_read c.args.all.now.items (length c.args.all.now.items) c.args.unit.now.slot c.index_mut-it.result.now refl within c.index_mut-it.ensures.value in
     kept_gone c.args.names.now c.close-closed.new.names was c.args.all.now.items c.args.unit.now.slot c.index_mut-it.result.now _ c.close-closed.ensures.lessens b found c.take.ensures.after
-    (subst (λ o. IfSome o (λ (x : Linked _). stands c.close-closed.new.names x.name ≡ _)) c.in-Some.ensures.value c.close-closed.ensures.back)
+    (subst (λ o. IfSome o (λ (x : Linked _). stands c.close-closed.new.names x.name ≡ false)) c.in-Some.ensures.value c.close-closed.ensures.back)
