@@ -24,15 +24,15 @@ use fj_outside::{Disk, Failed, FileStore, Stop};
 /// Ends the open record of a connection, unless its slot stopped.
 fn end_open<F: FileStore>(connection: &mut Connection<F>, stop: Option<Stop>) -> Result<(), Stop>
     ensures telling { F.tells connection.old.file ↔ F.tells connection.new.file }
-    ensures ended { F.tells connection.old.file → OnOk result
+    ensures ended { F.told connection.old.file ≡ true → OnOk result
         (connection_of F.bytes connection.new ≡ ended (connection_of F.bytes connection.old)) }
     ensures running { OnOk result (stop ≡ None) }
     ensures name { connection.new.name ≡ connection.old.name }
 {
-    match stop {
-        Some(stop) => Err(stop),
-        None => connection.end_record(),
+    if let Some(stop) = stop {
+        return Err(stop);
     }
+    connection.end_record()
 }
 
 /// Gives the file of a connection back, and takes its name off.
@@ -68,7 +68,7 @@ fn close<D: Disk>(
 ) -> Result<(), Lost>
     requires names { D.tells disk.old → AreInUse names.old (D.held disk.old).in_use }
     ensures names { D.tells disk.old → AreInUse names.new (D.held disk.new).in_use }
-    ensures files { D.tells disk.old → D.File.tells connection.file → OnOk result
+    ensures files { D.tells disk.old → D.File.told connection.file ≡ true → OnOk result
         (files_of (D.held disk.new) ≡ left (connection_of D.File.bytes connection) keep (files_of (D.held disk.old))) }
 
     // Told or not.

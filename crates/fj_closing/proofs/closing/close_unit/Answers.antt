@@ -15,7 +15,7 @@ returns-then-due-clause-files g c = λ tells was desks d b are at_d.
     (files_of (g.D.Disk.held c.args.disk.now)) (files_of (g.D.Disk.held c.close-closed.new.disk)) c.close-closed.result b are at_d found
     (sym c.in-Some.ensures.value) c.close-closed.ensures.running
     (λ told. subst (λ m. OnOk c.close-closed.result (files_of (g.D.Disk.held c.close-closed.new.disk) ≡ left (connection_of g.D.File.FileStore.bytes c.in-Some.connection) (not m.scratch) (files_of (g.D.Disk.held c.args.disk.now))))
-    c.modes.ensures.value (c.close-closed.ensures.files tells ((g.met.D.File.FileStore.decided c.in-Some.connection.file).0 told)))
+    c.modes.ensures.value (c.close-closed.ensures.files tells told))
 
 pub returns-then-due-clause-kept : goal.returns-then-due-clause-kept
 returns-then-due-clause-kept g c = λ was b.
