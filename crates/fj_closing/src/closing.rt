@@ -161,11 +161,7 @@ fn close_each<D: Disk>(
 }
 
 /// Gives a connection that no unit has back.
-fn close_left<D: Disk>(
-    it: Remains<D::File>,
-    names: &mut Names,
-    disk: &mut D,
-) -> Result<(), Lost>
+fn close_left<D: Disk>(it: Remains<D::File>, names: &mut Names, disk: &mut D) -> Result<(), Lost>
     requires names { D.tells disk.old → AreInUse names.old (D.held disk.old).in_use }
     ensures names { D.tells disk.old → AreInUse names.new (D.held disk.new).in_use }
     ensures none { OnOk result ((disk.new ≡ disk.old) × (names.new ≡ names.old)) }
