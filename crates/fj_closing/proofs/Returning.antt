@@ -202,7 +202,7 @@ pub each_closed : {X T : Type 0} → (f : X → Connected) (desks : List Desk) (
     → (AreSeated desks (map f (drop 1 units)) → OnOk b (new ≡ all_left desks (map f (drop 1 units)) mid))
     → OnOk r (new ≡ all_left desks (map f units) old)
 each_closed f desks [] unit old mid new a b r is long item seats first others = absurd (omega (arith, long))
-each_closed f desks (u ∷ us) unit old mid new a b r is long item seats first then =
+each_closed f desks (u ∷ us) unit old mid new a b r is long item seats first others =
     let at = some_in (slice_get desks (f u).slot) seats.0 in
     subst (λ z. OnOk z (new ≡ all_left desks (map f (u ∷ us)) old)) (sym is)
     (both_ok a b (first at.0 (ap (λ x. slice_get desks (f x).slot) item ∙ at.1)) (others seats.1)
