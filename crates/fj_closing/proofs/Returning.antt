@@ -1,5 +1,6 @@
 -- Files that go back to the disk, and names that are taken off.
-use Rattle.std.proofs.Common.{◌≡◌, ◌≢◌, ◌⊎◌, ℕ, zero, suc, ◌+◌, ◌≤◌, Bool, true, false, not, cond, List, [], ◌∷◌, ◌++◌, length, map, drop, get_or, set, filter, Some, None, Option, IsSome, IfSome, slice_get, Result, Ok, Err, OnOk, OnErr, if◌then◌else◌, inl, inr, refl, sym, ap, ◌∙◌, subst, arith}
+use Rattle.std.proofs.Common.{◌≡◌, ◌≢◌, ◌⊎◌, ℕ, zero, suc, ◌+◌, ◌-◌, ◌≤◌, Bool, true, false, not, cond, List, [], ◌∷◌, ◌++◌, length, map, take, drop, get_or, set, filter, Some, None, Option, IsSome, IfSome, slice_get, Result, Ok, Err, OnOk, OnErr, if◌then◌else◌, inl, inr, refl, sym, ap, ◌∙◌, subst, arith}
+use Rattle.std.proofs.lemmas.List.{take_all}
 use Rattle.std.specs.List.{list_any}
 use Rattle.std.specs.Str.{bytes_eq}
 use Rattle.fj_items.specs.declared.lost.Lost.{Lost}
@@ -199,11 +200,13 @@ some_in (Some x) e = (x, refl)
 pub each_closed : {X T : Type 0} → (f : X → Connected) (desks : List Desk) (units : List X) (unit : X) (old mid new : Files) (a b r : Result T Lost)
     → r ≡ after a b → 1 ≤ length units → unit ≡ get_or units 0 unit → AreSeated desks (map f units)
     → ((d : Desk) → slice_get desks (f unit).slot ≡ Some d → OnOk a (mid ≡ left_by d.bay.connection old))
-    → (AreSeated desks (map f (drop 1 units)) → OnOk b (new ≡ all_left desks (map f (drop 1 units)) mid))
+    → (AreSeated desks (map f (take (length units - 1) (drop 1 units))) → OnOk b (new ≡ all_left desks (map f (take (length units - 1) (drop 1 units))) mid))
     → OnOk r (new ≡ all_left desks (map f units) old)
 each_closed f desks [] unit old mid new a b r is long item seats first others = absurd (omega (arith, long))
 each_closed f desks (u ∷ us) unit old mid new a b r is long item seats first others =
     let at = some_in (slice_get desks (f u).slot) seats.0 in
+    let same : take (length (u ∷ us) - 1) (drop 1 (u ∷ us)) ≡ us = take_all (length (u ∷ us) - 1) us (omega arith) in
+    let behind = subst (λ zs. AreSeated desks (map f zs) → OnOk b (new ≡ all_left desks (map f zs) mid)) same others in
     subst (λ z. OnOk z (new ≡ all_left desks (map f (u ∷ us)) old)) (sym is)
-    (both_ok a b (first at.0 (ap (λ x. slice_get desks (f x).slot) item ∙ at.1)) (others seats.1)
+    (both_ok a b (first at.0 (ap (λ x. slice_get desks (f x).slot) item ∙ at.1)) (behind seats.1)
     (λ p q. q ∙ ap (all_left desks (map f us)) (p ∙ ap (λ o. left_by (connection_at o) old) (sym at.1))))
