@@ -1,5 +1,5 @@
 // What remains of slots whose jobs were performed.
-ghost use Rattle.std.specs.Prelude.{◌≡◌, ◌+◌, ◌≤◌, [], true, List, length, is_some, vec_len, vec_capacity, IfOk};
+ghost use Rattle.std.specs.Prelude.{◌≡◌, ◌+◌, ◌≤◌, [], true, List, length, is_some, option_map, vec_len, vec_capacity, IfOk};
 ghost use Rattle.fj_world.specs.Alone.{AllHome};
 ghost use Rattle.fj_bay.specs.Meaning.{bay_meaning};
 ghost use Rattle.fj_desk.specs.Both.{Both};
@@ -11,7 +11,7 @@ use crate::serving::served;
 use fj_bay::Bay;
 use fj_connect::Connection;
 use fj_outside::{FileStore, Stop};
-use fj_slot::Slot;
+use fj_slot::{Halt, Slot};
 use fj_world::Slots;
 use std::alloc::{AllocError, Global};
 
@@ -22,13 +22,23 @@ pub struct Remains<F: FileStore> {
     pub stop: Option<Stop>,
 }
 
+/// What stopped a slot.
+fn stop_of(halt: Option<Halt>) -> Option<Stop>
+    ensures { result ≡ option_map (λ h. h.stop) halt }
+{
+    match halt {
+        Some(halt) => Some(halt.stop),
+        None => None,
+    }
+}
+
 /// Performs the jobs that are left of a slot, and takes it apart.
 fn remains_of<F: FileStore>(slot: Slot<Bay<F>>) -> Remains<F>
     requires home { is_some slot.home ≡ true }
     ensures { IsWhatRemains (bay_meaning F.told F.bytes F.count) slot result }
 {
     let slot = served(slot);
-    let stop = slot.halted().map(|halt| halt.stop);
+    let stop = stop_of(slot.halted());
     let bay = slot.retire();
     Remains {
         connection: bay.into_connection(),
