@@ -19,9 +19,13 @@ pub fn task_of(form: Form) -> Task
     ensures { result ≡ task_of form }
 {
     match form {
-        Form::Run { .. } | Form::Alone { .. } => Task::Execute,
+        Form::Run {
+            workers: 0,
+            trace: false,
+        }
+        | Form::Alone { trace: false } => Task::Execute,
         Form::Check => Task::Check,
-        Form::Gen { .. } | Form::Wrong => Task::Refuse,
+        Form::Run { .. } | Form::Alone { .. } | Form::Gen { .. } | Form::Wrong => Task::Refuse,
     }
 }
 

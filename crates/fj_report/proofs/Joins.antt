@@ -2,7 +2,8 @@
 use Rattle.std.proofs.Common.{◌≡◌, ℕ, ℤ, List, [], ◌++◌, append_assoc, append-nil, ◌∙◌, ap, refl}
 use Rattle.std.specs.Prelude.{codes}
 use Rattle.std.specs.Fmt.{decimal, signed_decimal}
-use Rattle.fj_report.specs.Lines.{trace_text}
+use Rattle.fj_report.specs.declared.summary.Summary.{Summary}
+use Rattle.fj_report.specs.Lines.{trace_text, summary_text}
 
 pub three : (a b c : List ℕ) → a ++ (b ++ (c ++ [])) ≡ a ++ b ++ c
 three a b c = simp (append_assoc, append-nil)
@@ -22,3 +23,19 @@ pub traced : (old line unit tag code : List ℕ) (s : ℕ) (u : ℤ) (t : ℕ) (
 unfolding trace_text
 traced old line unit tag code s u t k a b c d =
     ap (λ xs. old ++ xs) (nine (codes "~ ") line (codes " ") unit (codes " ") tag (codes " ") code (codes "\n") ∙ rw (a, b, c, d) refl)
+
+fifteen : (a b c d e f g h i j k l m n o : List ℕ) → a ++ (b ++ (c ++ (d ++ (e ++ (f ++ (g ++ (h ++ (i ++ (j ++ (k ++ (l ++ (m ++ (n ++ (o ++ []))))))))))))))
+    ≡ a ++ b ++ c ++ d ++ e ++ f ++ g ++ h ++ i ++ j ++ k ++ l ++ m ++ n ++ o
+fifteen a b c d e f g h i j k l m n o = simp (append_assoc, append-nil)
+
+-- the line of a summary from its numbers
+pub summed : (old : List ℕ) (summary : Summary) {seed count statements tells conditions bytes sum : List ℕ} → seed ≡ decimal summary.seed → count ≡ decimal summary.count
+    → statements ≡ decimal summary.statements → tells ≡ decimal summary.tells → conditions ≡ decimal summary.conditions → bytes ≡ decimal summary.bytes
+    → sum ≡ decimal summary.sum
+    → old ++ (codes "= gen seed " ++ (seed ++ (codes " count " ++ (count ++ (codes ": " ++ (statements ++ (codes " statements, " ++ (tells ++ (codes " tells, " ++ (conditions
+    ++ (codes " conditions, " ++ (bytes ++ (codes " bytes, sum " ++ (sum ++ (codes "\n" ++ []))))))))))))))) ≡ old ++ summary_text summary
+unfolding summary_text
+summed old summary {seed} {count} {statements} {tells} {conditions} {bytes} {sum} a b c d e f g =
+    ap (λ xs. old ++ xs)
+    (fifteen (codes "= gen seed ") seed (codes " count ") count (codes ": ") statements (codes " statements, ") tells (codes " tells, ") conditions (codes " conditions, ") bytes
+    (codes " bytes, sum ") sum (codes "\n") ∙ rw (a, b, c, d, e, f, g) refl)

@@ -9,6 +9,8 @@ use Rattle.fj_value.specs.declared.condition.Rule.TheVariants.{P1, P2, P3, P4, P
 use Rattle.fj_statement.specs.declared.reason.Reason.{Reason}
 use Rattle.fj_statement.specs.declared.reason.Reason.TheVariants.{TextTooLong, LineTooLong, Syntax, Format, Meaning, TooMany, NoEnd, NotBuilt}
 use Rattle.fj_report.specs.declared.status.Status.{Status}
+use Rattle.fj_report.specs.declared.summary.Summary.{Summary}
+use Rattle.fj_report.specs.declared.trace.Tell.{Tell}
 use Rattle.fj_report.specs.declared.status.Status.TheVariants.{Ended, ErrorStop, Prohibited, DeckRefused, Usage, ReadFault, WriteFault, DiskFault, Memory}
 
 -- the words of a reason
@@ -56,6 +58,20 @@ check_text count = codes "= deck of " ++ decimal count ++ codes " statements\n"
 -- the line of a transfer that was told: the line of the statement that tells it, its unit, identifier and condition
 unfoldable pub trace_text : ℕ → ℤ → ℕ → ℤ → List ℕ
 trace_text stmt unit identifier code = codes "~ " ++ decimal stmt ++ codes " " ++ signed_decimal unit ++ codes " " ++ decimal identifier ++ codes " " ++ signed_decimal code ++ codes "\n"
+
+-- the line of a transfer that was told, and those of all in order
+abbrev pub told_text : Tell → List ℕ
+told_text tell = trace_text tell.stmt tell.unit tell.tag.0 tell.code
+
+abbrev pub trace_lines : List Tell → List ℕ
+trace_lines tells = flat_map told_text tells
+
+-- the line of a deck that was made and carried out to its end
+unfoldable pub summary_text : Summary → List ℕ
+summary_text summary =
+    codes "= gen seed " ++ decimal summary.seed ++ codes " count " ++ decimal summary.count ++ codes ": " ++ decimal summary.statements
+    ++ codes " statements, " ++ decimal summary.tells ++ codes " tells, " ++ decimal summary.conditions ++ codes " conditions, "
+    ++ decimal summary.bytes ++ codes " bytes, sum " ++ decimal summary.sum ++ codes "\n"
 
 abbrev pub hexadecimal : ℕ → List ℕ
 hexadecimal c = digit_glyph true (c / 16) ∷ digit_glyph true (c % 16) ∷ []

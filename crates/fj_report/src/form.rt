@@ -1,8 +1,10 @@
 // The words behind the program's name.
-ghost use Rattle.std.specs.Prelude.{◌≡◌, IfOk, string_bytes};
+ghost use Rattle.std.specs.Prelude.{◌≡◌, ◌∷◌, IfOk, string_bytes};
 ghost use Rattle.std.specs.Prelude.{map as list_map};
-ghost use Rattle.fj_report.specs.Words.{form_of};
+ghost use Rattle.fj_report.specs.Words.{form_of, run_form, alone_form, check_form, gen_form};
 
+use crate::command::{alone_command, check_command, gen_command, run_command};
+use crate::given::{given, has_flag, number_behind};
 use std::alloc::{AllocError, Global};
 
 /// What the words ask for.
@@ -20,22 +22,89 @@ pub enum Form {
     Wrong,
 }
 
-/// The form of the words. Today there are `alone`, `check` and `run --workers 0`, and no memory is taken.
-pub fn read_words(_alloc: Global, words: &[String]) -> Result<Form, AllocError>
+/// The most workers that words ask for.
+const MOST_WORKERS: u32 = 64;
+/// The greatest seed.
+const GREATEST_SEED: u32 = 2_147_483_647;
+/// The most transfers of a deck that is made.
+const MOST_TRANSFERS: u32 = 20_000;
+
+/// The form of the words behind `run`.
+fn run_form(alloc: Global, words: &[String]) -> Result<Form, AllocError>
+    ensures { IfOk result (λ form. form ≡ run_form (list_map string_bytes words.now)) }
+{
+    let Some(given) = given(run_command(alloc)?, words)? else {
+        return Ok(Form::Wrong);
+    };
+    let Some(workers) = number_behind(&given, "workers", MOST_WORKERS) else {
+        return Ok(Form::Wrong);
+    };
+    let trace = has_flag(&given, "trace");
+    Ok(Form::Run { workers, trace })
+}
+
+/// The form of the words behind `alone`.
+fn alone_form(alloc: Global, words: &[String]) -> Result<Form, AllocError>
+    ensures { IfOk result (λ form. form ≡ alone_form (list_map string_bytes words.now)) }
+{
+    let Some(given) = given(alone_command(alloc)?, words)? else {
+        return Ok(Form::Wrong);
+    };
+    let trace = has_flag(&given, "trace");
+    Ok(Form::Alone { trace })
+}
+
+/// The form of the words behind `check`.
+fn check_form(alloc: Global, words: &[String]) -> Result<Form, AllocError>
+    ensures { IfOk result (λ form. form ≡ check_form (list_map string_bytes words.now)) }
+{
+    match given(check_command(alloc), words)? {
+        Some(_) => Ok(Form::Check),
+        None => Ok(Form::Wrong),
+    }
+}
+
+/// The form of the words behind `gen`.
+fn gen_form(alloc: Global, words: &[String]) -> Result<Form, AllocError>
+    ensures { IfOk result (λ form. form ≡ gen_form (list_map string_bytes words.now)) }
+{
+    let Some(given) = given(gen_command(alloc)?, words)? else {
+        return Ok(Form::Wrong);
+    };
+    let Some(seed) = number_behind(&given, "seed", GREATEST_SEED) else {
+        return Ok(Form::Wrong);
+    };
+    let Some(count) = number_behind(&given, "count", MOST_TRANSFERS) else {
+        return Ok(Form::Wrong);
+    };
+    let text = has_flag(&given, "text");
+    Ok(Form::Gen { seed, count, text })
+}
+
+/// The form of the words where the first names a command.
+fn form_behind(alloc: Global, name: &str, words: &[String]) -> Result<Form, AllocError>
+    ensures { IfOk result (λ form. form ≡ form_of (name.now ∷ list_map string_bytes words.now)) }
+{
+    if name == "run" {
+        run_form(alloc, words)
+    } else if name == "alone" {
+        alone_form(alloc, words)
+    } else if name == "check" {
+        check_form(alloc, words)
+    } else if name == "gen" {
+        gen_form(alloc, words)
+    } else {
+        Ok(Form::Wrong)
+    }
+}
+
+/// The form of the words: the first names a command, which takes the others as `clap` reads them.
+#[tactic(auto, unfolding(crate::specs::Words::form_of))]
+pub fn read_words(alloc: Global, words: &[String]) -> Result<Form, AllocError>
     ensures { IfOk result (λ form. form ≡ form_of (list_map string_bytes words.now)) }
 {
-    Ok(match words {
-        [word] if word.as_str() == "alone" => Form::Alone { trace: false },
-        [word] if word.as_str() == "check" => Form::Check,
-        [command, option, workers]
-            if command.as_str() == "run"
-                && option.as_str() == "--workers"
-                && workers.as_str() == "0" => {
-            Form::Run {
-                workers: 0,
-                trace: false,
-            }
-        }
-        _ => Form::Wrong,
-    })
+    match words {
+        [] => Ok(Form::Wrong),
+        [name, words @ ..] => form_behind(alloc, name.as_str(), words),
+    }
 }

@@ -1,35 +1,13 @@
-// The forms of words, and each line of the report once.
+// Each line of the report once.
 use crate::{
-    Form, Status, check_line, read_words, status_line, trace_line, usage_line, variable_line,
+    Status, Summary, Tell, check_line, status_line, summary_line, trace_line, trace_lines,
+    usage_line, variable_line,
 };
 use fj_statement::Reason;
 use fj_value::{Rule, Tag, Text, Value};
-use std::alloc::{AllocError, Global};
 use std::test::Fail;
 
-static WORDS: [(&str, Form); 15] = [
-    ("alone", Form::Alone { trace: false }),
-    ("check", Form::Check),
-    (
-        "run --workers 0",
-        Form::Run {
-            workers: 0,
-            trace: false,
-        },
-    ),
-    ("", Form::Wrong),
-    ("ALONE", Form::Wrong),
-    ("alone alone", Form::Wrong),
-    ("alone --trace", Form::Wrong),
-    ("alone --workers 0", Form::Wrong),
-    ("check --trace", Form::Wrong),
-    ("run", Form::Wrong),
-    ("run --workers", Form::Wrong),
-    ("run --workers 4", Form::Wrong),
-    ("run --workers=0", Form::Wrong),
-    ("run --workers 00", Form::Wrong),
-    ("gen --seed 0 --count 0", Form::Wrong),
-];
+mod words;
 
 static STATUSES: [(Status, &[u8]); 19] = [
     (Status::Ended, b"= ended\n"),
@@ -143,25 +121,6 @@ static CHARACTERS: [(&[u8], &[u8]); 8] = [
     (b"\x7f\x80\xab\xff", b"C = '\\7F\\80\\AB\\FF'\n"),
 ];
 
-/// Whether the words, which single blanks part, are of the form.
-fn has_form(alloc: Global, text: &str, form: Form) -> Result<bool, AllocError> {
-    let mut words = Vec::new(alloc);
-    if !text.is_empty() {
-        for word in text.split(' ') {
-            words.push(String::from_str(alloc, word)?)?;
-        }
-    }
-    Ok(read_words(alloc, &words)? == form)
-}
-
-#[test]
-fn forms(rt: HostRuntime) -> Result<(), Fail> {
-    for (text, form) in WORDS.iter() {
-        assert!(rt; has_form(rt.alloc(), text, *form)?, "{text}");
-    }
-    Ok(())
-}
-
 #[test]
 fn answers(rt: HostRuntime) -> Result<(), Fail> {
     let mut out = Text::new(rt.alloc());
@@ -200,5 +159,42 @@ fn variables(rt: HostRuntime) -> Result<(), Fail> {
         variable_line(b"C", 0, Some(&value), &mut out)?;
         assert_eq!(rt; out.bytes(), *line);
     }
+    Ok(())
+}
+
+#[test]
+fn traces(rt: HostRuntime) -> Result<(), Fail> {
+    let told = |stmt, tag, code| Tell {
+        stmt,
+        unit: 10,
+        tag: Tag(tag),
+        code,
+    };
+    let mut out = Text::new(rt.alloc());
+    let tells = [told(7, 1, 0), told(8, 2, 0), told(8, 3, -1), told(8, 4, -1)];
+    trace_lines(&tells, &mut out)?;
+    assert_eq!(rt;
+        out.bytes(),
+        b"~ 7 10 1 0\n~ 8 10 2 0\n~ 8 10 3 -1\n~ 8 10 4 -1\n".as_slice()
+    );
+    Ok(())
+}
+
+#[test]
+fn summaries(rt: HostRuntime) -> Result<(), Fail> {
+    let summary = Summary {
+        seed: 1,
+        count: 20_000,
+        statements: 50_003,
+        tells: 20_000,
+        conditions: 0,
+        bytes: 140_000,
+        sum: 5_231_001,
+    };
+    let mut out = Text::new(rt.alloc());
+    summary_line(&summary, &mut out)?;
+    let line =
+        b"= gen seed 1 count 20000: 50003 statements, 20000 tells, 0 conditions, 140000 bytes, sum 5231001\n";
+    assert_eq!(rt; out.bytes(), line.as_slice());
     Ok(())
 }
