@@ -1,4 +1,3 @@
-use Rattle.std.proofs.Common.{sym, ◌∙◌}
 use Rattle.clap.specs.Words.{app_of, found_of, rows_of}
 use Rattle.fj_report.proofs.GivenLemmas.{run_wrong, run_without, run_is, not_given, is_given}
 use Rattle.fj_report.proofs.form.run_form.Goals as goal

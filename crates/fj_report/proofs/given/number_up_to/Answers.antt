@@ -1,4 +1,4 @@
-use Rattle.std.proofs.Common.{◌≡◌, ℕ, List, Option, Some, None, sym, ap, subst, ◌∙◌, arith}
+use Rattle.std.proofs.Common.{ap, ◌∙◌, arith}
 use Rattle.fj_report.specs.Words.{number_up_to}
 use Rattle.fj_report.proofs.GivenLemmas.{too_long, no_number, number_above, number_within}
 use Rattle.fj_report.proofs.given.number_up_to.Goals as goal
