@@ -1,32 +1,50 @@
 -- What a run answers, prints and leaves.
-use Rattle.std.specs.Prelude.{◌≡◌, ◌⊎◌, ℕ, ◌+◌, List, [], ◌∷◌, ◌++◌, length, take, drop, min, Some, Result, Ok, Err}
+use Rattle.std.specs.Prelude.{◌≡◌, ◌⊎◌, ℕ, pos, ◌+◌, ◌==◌, List, [], ◌∷◌, ◌++◌, length, map, min, Bool, Option, Some, None, Result, Ok, Err, if◌then◌else◌}
+use Rattle.std.specs.List.{flat_map}
+use Rattle.std.specs.FinMap as map
+use Rattle.fj_value.specs.Condition.{code_of}
 use Rattle.fj_value.specs.declared.value.Value.{Value}
-use Rattle.fj_outside.specs.Holdings.{Files}
+use Rattle.fj_outside.specs.Holdings.{Files as Held}
 use Rattle.fj_statement.specs.declared.deck.Variable.{Variable}
-use Rattle.fj_statement.specs.declared.deck.Deck.{Deck as WholeDeck}
+use Rattle.fj_statement.specs.declared.deck.Deck.{Deck}
 use Rattle.fj_statement.specs.declared.reason.Reason.{Reason}
-use Rattle.fj_statement.specs.declared.reason.Reason.TheVariants.{NotBuilt}
 use Rattle.fj_deck.specs.Deck.{IsDeck, IsRefused}
-use Rattle.fj_built.specs.declared.deck.Deck.{Deck}
-use Rattle.fj_built.specs.Built.{built_of}
-use Rattle.fj_run.specs.Plain.{Execution, places_of, plain_execution}
-use Rattle.fj_run.specs.declared.ending.Ending.{Ending}
-use Rattle.fj_run.specs.declared.ending.Ending.TheVariants as ending
-use Rattle.fj_report.specs.Lines.{usage_text, status_text, check_text, variable_text}
+use Rattle.fj_store.specs.Variables.{Variables}
+use Rattle.fj_plain.specs.State.{Files, Output, Tell}
+use Rattle.fj_plain.specs.Statement.{Result as Left, Ending, ended, error_stop, prohibition, plain_execution}
+use Rattle.fj_report.specs.Lines.{usage_text, status_text, check_text, variable_text, trace_text}
 use Rattle.fj_report.specs.declared.status.Status.{Status}
 use Rattle.fj_report.specs.declared.status.Status.TheVariants.{Ended, ErrorStop, Prohibited, DeckRefused, Usage}
 use Rattle.fj_job.specs.declared.task.Task.{Task}
 use Rattle.fj_job.specs.declared.task.Task.TheVariants.{Refuse, Check, Execute}
 
+-- an answer, the bytes for the sink, and by name the files that are left
 pub record Reply : Type 0 where
   pub status : Status
   pub output : List ℕ
   pub files : Files
 
-abbrev pub status_of : ℕ → Ending → Status
-status_of line ending.Ended = Ended
-status_of line (ending.ErrorStop code) = ErrorStop line code
-status_of line (ending.Prohibited rule) = Prohibited line rule
+-- the files of a disk by name
+abbrev pub files_in : Held → Files
+files_in held = λ name. map.get held name
+
+-- ---- the report
+
+abbrev pub status_of : Ending → Status
+status_of ended = Ended
+status_of (error_stop line code) = ErrorStop line code
+status_of (prohibition line rule) = Prohibited line rule
+
+-- a record of unit `*` that is open at the end gets its line feed
+abbrev pub open_feed : Output → List ℕ
+open_feed output = if output.begun == 0 then [] else 10 ∷ []
+
+abbrev pub told_line : Tell → List ℕ
+told_line t = trace_text t.line (pos t.unit) t.id (code_of t.condition)
+
+-- the transfers in the order in which they were told, where they are asked for
+abbrev pub trace_of : Bool → List Tell → List ℕ
+trace_of trace tells = if trace then flat_map told_line tells else []
 
 -- the lines of a variable's places: a scalar's has no index, and those of an array's elements begin with the first
 abbrev pub place_lines : List ℕ → ℕ → List Value → List ℕ
@@ -36,32 +54,28 @@ place_lines name index (value ∷ values) = variable_text name index (Some value
 abbrev pub first_index : Variable → ℕ
 first_index variable = min variable.count 1
 
--- the lines of the variables in the order of their declarations, over the values of all places
-abbrev pub variable_lines : List Variable → List Value → List ℕ
-variable_lines [] values = []
-variable_lines (variable ∷ variables) values =
-    place_lines variable.name (first_index variable) (take (places_of variable) values) ++ variable_lines variables (drop (places_of variable) values)
+-- the lines of the variables in the order of their declarations
+abbrev pub variable_lines : List Variable → Variables → List ℕ
+variable_lines (variable ∷ variables) (values ∷ more) = place_lines variable.name (first_index variable) values ++ variable_lines variables more
+variable_lines _ _ = []
 
--- how a deck ended, and its variables
-abbrev pub report_text : Deck → ℕ → Ending → List Value → List ℕ
-report_text deck line ending values = status_text (status_of line ending) ++ variable_lines deck.variables values
+-- what unit `*` got, the trace, how the deck ended, and its variables
+abbrev pub report_of : Deck → Bool → Left → Ending → List ℕ
+report_of deck trace r e = r.output.text ++ (open_feed r.output ++ (trace_of trace r.tells ++ (status_text (status_of e) ++ variable_lines deck.variables r.vars)))
 
--- what it writes on unit `*`, and then its report
-abbrev pub reply_of : Deck → Execution → Reply
-reply_of deck e = record { status = status_of e.line e.ending; output = e.output ++ report_text deck e.line e.ending e.state.values; files = e.state.files }
+-- ---- replies
 
--- to a deck that is carried out
-abbrev pub run_reply : Deck → Files → Reply
-run_reply deck files = reply_of deck (plain_execution deck files)
+-- to a deck that is carried out: what executing it one statement after another gives
+pub record IsRunReply (deck : Deck) (trace : Bool) (files : Files) (reply : Reply) : Type 0 where
+  pub ending : Ending
+  pub ends : (plain_execution deck.variables deck.statements files).ending ≡ Some ending
+  pub status : reply.status ≡ status_of ending
+  pub output : reply.output ≡ report_of deck trace (plain_execution deck.variables deck.statements files) ending
+  pub files_left : reply.files ≡ (plain_execution deck.variables deck.statements files).files
 
 -- to what is refused at a line
 abbrev pub refusal_reply : ℕ → Reason → Files → Reply
 refusal_reply line reason files = record { status = DeckRefused line reason; output = status_text (DeckRefused line reason); files = files }
-
--- to a deck that is built, or is not at a line
-abbrev pub built_reply : Result Deck ℕ → Files → Reply
-built_reply (Ok deck) files = run_reply deck files
-built_reply (Err line) files = refusal_reply line NotBuilt files
 
 -- to words that are no form
 abbrev pub usage_reply : Files → Reply
@@ -69,16 +83,16 @@ usage_reply files = record { status = Usage; output = usage_text; files = files 
 
 -- a deck, or a line and the reason for which it is refused
 abbrev pub Reading : Type 0
-Reading = Result WholeDeck (ℕ × Reason)
+Reading = Result Deck (ℕ × Reason)
 
 abbrev pub IsReading : List ℕ → Reading → Type 0
 IsReading text (Ok deck) = IsDeck text deck
 IsReading text (Err refusal) = IsRefused text refusal.0 refusal.1
 
 -- to a text that is carried out
-abbrev pub executed : Reading → Files → Reply
-executed (Ok deck) files = built_reply (built_of deck) files
-executed (Err refusal) files = refusal_reply refusal.0 refusal.1 files
+abbrev pub IsExecuted : Reading → Bool → Files → Reply → Type 0
+IsExecuted (Ok deck) trace files reply = IsRunReply deck trace files reply
+IsExecuted (Err refusal) trace files reply = reply ≡ refusal_reply refusal.0 refusal.1 files
 
 -- to a text that is read alone
 abbrev pub checked : Reading → Files → Reply
@@ -89,18 +103,13 @@ checked (Err refusal) files = refusal_reply refusal.0 refusal.1 files
 abbrev pub IsReplyTo : Task → List ℕ → Files → Reply → Type 0
 IsReplyTo Refuse text files reply = reply ≡ usage_reply files
 IsReplyTo Check text files reply = (reading : Reading) × IsReading text reading × (reply ≡ checked reading files)
-IsReplyTo Execute text files reply = (reading : Reading) × IsReading text reading × (reply ≡ executed reading files)
+IsReplyTo (Execute workers trace) text files reply = (reading : Reading) × IsReading text reading × IsExecuted reading trace files reply
 
 -- there is one reply at most
 abbrev pub OneReply : Type 0
 OneReply = (task : Task) (text : List ℕ) (files : Files) (reply other : Reply) → IsReplyTo task text files reply → IsReplyTo task text files other → reply ≡ other
 
--- the text is refused at a line; where it is carried out, so is a deck that is not built
+-- the text is refused at a line
 abbrev pub IsRefusal : Task → List ℕ → ℕ → Reason → Type 0
 IsRefusal Refuse text line reason = ⊥
-IsRefusal Check text line reason = IsRefused text line reason
-IsRefusal Execute text line reason = IsRefused text line reason ⊎ ((deck : WholeDeck) × IsDeck text deck × (built_of deck ≡ Err line) × (reason ≡ NotBuilt))
-
--- the text is this deck of today's forms
-abbrev pub IsBuiltText : List ℕ → Deck → Type 0
-IsBuiltText text small = (deck : WholeDeck) × IsDeck text deck × (built_of deck ≡ Ok small)
+IsRefusal _ text line reason = IsRefused text line reason

@@ -11,21 +11,18 @@ pub enum Task {
     Refuse,
     /// It is read.
     Check,
-    /// It is carried out.
-    Execute,
+    /// It is carried out, with so many workers beside; with a line for each transfer that was told, where `trace` holds.
+    Execute { workers: u32, trace: bool },
 }
 
 pub fn task_of(form: Form) -> Task
     ensures { result ≡ task_of form }
 {
     match form {
-        Form::Run {
-            workers: 0,
-            trace: false,
-        }
-        | Form::Alone { trace: false } => Task::Execute,
+        Form::Run { workers, trace } => Task::Execute { workers, trace },
+        Form::Alone { trace } => Task::Execute { workers: 0, trace },
         Form::Check => Task::Check,
-        Form::Run { .. } | Form::Alone { .. } | Form::Gen { .. } | Form::Wrong => Task::Refuse,
+        Form::Gen { .. } | Form::Wrong => Task::Refuse,
     }
 }
 
