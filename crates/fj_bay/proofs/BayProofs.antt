@@ -51,10 +51,10 @@ set_in bay (detach place) cause none e = absurd (by bay.connection e)
     by (Some c) e = let no : ◌≡◌ {A = Option Condition} None (Some cause) = sym none ∙ e in cc
 set_in bay (move t) cause none e = by bay.connection refl e
   where
-    on : (c : Connection) (h : Option Condition) → bay.connection ≡ Some c → h ≡ None → (moved_so t h (unless_halted h c t.spec.input t.moved.cells (transfer_by t.control c t.spec t.moved))).engine.halt ≡ Some cause
-        → ((moved_so t h (unless_halted h c t.spec.input t.moved.cells (transfer_by t.control c t.spec t.moved))).answer ≡ done cause) × IsHalting cause
+    on : (c : Connection) (h : Option Condition) → bay.connection ≡ Some c → h ≡ None → (moved_so t h (unless_halted h c t.spec.input t.moved.cells (transfer_by (λ n. t.control) c t.spec t.moved))).engine.halt ≡ Some cause
+        → ((moved_so t h (unless_halted h c t.spec.input t.moved.cells (transfer_by (λ n. t.control) c t.spec t.moved))).answer ≡ done cause) × IsHalting cause
     on c (Some x) is n e = cc
-    on c None is n e = let two = set_by (transfer_by t.control c t.spec t.moved).condition cause e in (ap done two.0, two.1)
+    on c None is n e = let two = set_by (transfer_by (λ n. t.control) c t.spec t.moved).condition cause e in (ap done two.0, two.1)
 
     by : (o : Option Connection) → bay.connection ≡ o → (moved_in bay o t).engine.halt ≡ Some cause → ((c : Connection) × (s : Moving) × (o ≡ Some c) × (move t ≡ move s) × ((moved_in bay o t).answer ≡ done cause) × IsHalting cause)
     by None is e = absurd (no (sym none ∙ e))
@@ -90,7 +90,7 @@ halt_is bay c t cause None n is full e h = by bay.connection bay.halt full is e
     by None g f is e = cc
     by (Some d) (Some x) f is e = cc
     by (Some d) None f is e =
-        let same : (transfer_by t.control d t.spec t.moved).condition ≡ cause = cc in
+        let same : (transfer_by (λ n. t.control) d t.spec t.moved).condition ≡ cause = cc in
         subst (λ k. halt_behind None k ≡ Some cause) (sym same) (sets cause h)
 
 pub halts_by_transfers : HaltsByTransfers
@@ -115,7 +115,7 @@ stays bay (move t) cause is other = by bay.connection
   where
     by : (o : Option Connection) → (moved_in bay o t).engine.halt ≡ Some cause
     by None = is
-    by (Some c) = subst (λ h. (moved_so t h (unless_halted h c t.spec.input t.moved.cells (transfer_by t.control c t.spec t.moved))).engine.halt ≡ Some cause) (sym is) refl
+    by (Some c) = subst (λ h. (moved_so t h (unless_halted h c t.spec.input t.moved.cells (transfer_by (λ n. t.control) c t.spec t.moved))).engine.halt ≡ Some cause) (sym is) refl
 stays bay (go how) cause is other = by bay.connection
   where
     by : (o : Option Connection) → (gone bay o how).engine.halt ≡ Some cause
@@ -195,11 +195,11 @@ skips_in_halts = (skips, skipped_in)
 pub transfers_else : TransfersElse
 unfolding serve
 transfers_else bay c t full none =
-    subst (λ o. let s = moved_in bay o t in (s.engine.connection ≡ Some (transfer_by t.control c t.spec t.moved).connection) × (s.answer ≡ done (transfer_by t.control c t.spec t.moved).condition)
-    × (s.job ≡ move (record t { moved = record t.moved { cells = (transfer_by t.control c t.spec t.moved).cells }; count = (transfer_by t.control c t.spec t.moved).count })))
+    subst (λ o. let s = moved_in bay o t in (s.engine.connection ≡ Some (transfer_by (λ n. t.control) c t.spec t.moved).connection) × (s.answer ≡ done (transfer_by (λ n. t.control) c t.spec t.moved).condition)
+    × (s.job ≡ move (record t { moved = record t.moved { cells = (transfer_by (λ n. t.control) c t.spec t.moved).cells }; count = (transfer_by (λ n. t.control) c t.spec t.moved).count })))
     (sym full)
-    (subst (λ h. let s = moved_so t h (unless_halted h c t.spec.input t.moved.cells (transfer_by t.control c t.spec t.moved)) in (s.engine.connection ≡ Some (transfer_by t.control c t.spec t.moved).connection) × (s.answer ≡ done (transfer_by t.control c t.spec t.moved).condition)
-    × (s.job ≡ move (record t { moved = record t.moved { cells = (transfer_by t.control c t.spec t.moved).cells }; count = (transfer_by t.control c t.spec t.moved).count })))
+    (subst (λ h. let s = moved_so t h (unless_halted h c t.spec.input t.moved.cells (transfer_by (λ n. t.control) c t.spec t.moved)) in (s.engine.connection ≡ Some (transfer_by (λ n. t.control) c t.spec t.moved).connection) × (s.answer ≡ done (transfer_by (λ n. t.control) c t.spec t.moved).condition)
+    × (s.job ≡ move (record t { moved = record t.moved { cells = (transfer_by (λ n. t.control) c t.spec t.moved).cells }; count = (transfer_by (λ n. t.control) c t.spec t.moved).count })))
     (sym none) (refl, refl, refl))
 
 -- ---- the other jobs
@@ -285,10 +285,10 @@ unfolding serve
 keeps_its_connection bay c (attach brought) full in_ = kept_so bay c c (attach brought) (ap (λ o. (attached (record bay { connection = o }) o brought).engine.connection) full) (kept_same c)
 keeps_its_connection bay c (detach place) full in_ = absurd (in_ place refl)
 keeps_its_connection bay c (move t) full in_ =
-    kept_so bay c (unless_halted bay.halt c t.spec.input t.moved.cells (transfer_by t.control c t.spec t.moved)).connection (move t) (ap (λ o. (moved_in bay o t).engine.connection) full) (by bay.halt)
+    kept_so bay c (unless_halted bay.halt c t.spec.input t.moved.cells (transfer_by (λ n. t.control) c t.spec t.moved)).connection (move t) (ap (λ o. (moved_in bay o t).engine.connection) full) (by bay.halt)
   where
-    by : (h : Option Condition) → Kept c (unless_halted h c t.spec.input t.moved.cells (transfer_by t.control c t.spec t.moved)).connection
-    by None = transfer_kept t.control c t.spec t.moved
+    by : (h : Option Condition) → Kept c (unless_halted h c t.spec.input t.moved.cells (transfer_by (λ n. t.control) c t.spec t.moved)).connection
+    by None = transfer_kept (λ n. t.control) c t.spec t.moved
     by (Some cause) = kept_same c
 keeps_its_connection bay c (go how) full in_ = kept_so bay c (moved c how).0 (go how) (ap (λ o. (gone bay o how).engine.connection) full) (moved_kept c how)
 keeps_its_connection bay c (change edit) full in_ = record {

@@ -32,7 +32,7 @@ use Rattle.fj_connect.specs.declared.spot.Positioning.TheVariants.{Backspace, Re
 use Rattle.fj_transfer.specs.declared.transfer.TransferSpec.{TransferSpec}
 use Rattle.fj_transfer.specs.declared.transfer.Layout.{Layout}
 use Rattle.fj_transfer.specs.declared.transfer.Layout.TheVariants.{Unformatted, Explicit, Listed, Group}
-use Rattle.fj_transfer.specs.AtHand.{AtHand, behind, line_at, numbered, next_record, first_record}
+use Rattle.fj_transfer.specs.AtHand.{AtHand, behind, line_at, numbered, record_numbered, next_record, first_record}
 use Rattle.fj_transfer.specs.Change.{changed}
 use Rattle.fj_transfer.specs.Input.{Progress, Ended, width_for, characters_for, without_padding, stopped, with_field, field_read, with_record, carried_out, left_at, explicit_input}
 use Rattle.fj_transfer.specs.Printing.{Printed, printed, open_count}
@@ -76,26 +76,36 @@ behind_kept old hand k = by (same_access hand.connection.modes.access Direct)
 abbrev HandKept : Connection → Result AtHand Condition → Type 0
 HandKept old r = IfOk r (λ hand. Kept old hand.connection)
 
-next_kept : (old c : Connection) → Kept old c → HandKept old (next_record c)
-next_kept old c k = by (same_access c.modes.access Direct) (piece c.bytes c.modes.recl c.spot.next_number)
+direct_kept : (old c : Connection) → Kept old c → HandKept old (record_numbered c c.spot.next_number)
+direct_kept old c k = by (piece c.bytes c.modes.recl c.spot.next_number)
   where
-    line : (a b : Bool) → HandKept old (if a then Err EndOfFile else (if b then Err (Error 15) else Ok (record { connection = record c { spot = record { at = c.spot.at + 0; start = c.spot.at; within = Reading; after_end = false; next_number = c.spot.next_number } }; text = rest_of_record c })))
-    line true b = tt
-    line false true = tt
-    line false false = record { named = k.named; modes = k.modes }
+    by : (o : Option (List ℕ)) → HandKept old (numbered c c.spot.next_number o)
+    by None = tt
+    by (Some text) = record { named = k.named; modes = k.modes }
 
-    by : (b : Bool) (o : Option (List ℕ)) → HandKept old (if b then numbered c c.spot.next_number o else line_at c)
-    by true None = tt
-    by true (Some text) = record { named = k.named; modes = k.modes }
-    by false o = line (length (bytes_behind c) == 0) (nat_lt c.modes.recl (length (rest_of_record c)))
+line_kept : (old c : Connection) → Kept old c → HandKept old (line_at c)
+line_kept old c k = by (length (bytes_behind c) == 0) (nat_lt c.modes.recl (length (rest_of_record c)))
+  where
+    by : (a b : Bool) → HandKept old (if a then Err EndOfFile else (if b then Err (Error 15) else Ok (record { connection = record c { spot = record { at = c.spot.at + 0; start = c.spot.at; within = Reading; after_end = false; next_number = c.spot.next_number } }; text = rest_of_record c })))
+    by true b = tt
+    by false true = tt
+    by false false = record { named = k.named; modes = k.modes }
+
+next_kept : (old c : Connection) → Kept old c → HandKept old (next_record c)
+next_kept old c k = by (same_access c.modes.access Direct)
+  where
+    by : (b : Bool) → HandKept old (if b then record_numbered c c.spot.next_number else line_at c)
+    by true = direct_kept old c k
+    by false = line_kept old c k
 
 first_kept : (old c : Connection) → Kept old c → HandKept old (first_record c)
-first_kept old c k = by (is_reading c.spot.within) (nat_lt c.modes.recl (begun c + length (rest_of_record c)))
+first_kept old c k = by (same_access c.modes.access Direct) (is_reading c.spot.within) (nat_lt c.modes.recl (begun c + length (rest_of_record c)))
   where
-    by : (b long : Bool) → HandKept old (if b then (if long then Err (Error 15) else Ok (record { connection = c; text = rest_of_record c })) else next_record c)
-    by true true = tt
-    by true false = k
-    by false long = next_kept old c k
+    by : (direct b long : Bool) → HandKept old (if direct then record_numbered c c.spot.next_number else (if b then (if long then Err (Error 15) else Ok (record { connection = c; text = rest_of_record c })) else line_at c))
+    by true b long = direct_kept old c k
+    by false true true = tt
+    by false true false = k
+    by false false long = line_kept old c k
 
 -- ---- input under an explicit format
 

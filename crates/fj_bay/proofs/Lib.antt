@@ -1,3 +1,5 @@
 pub mod Keeping
 pub mod Differences
 pub mod BayProofs
+pub mod Controlled
+pub mod Performed

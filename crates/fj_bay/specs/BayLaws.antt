@@ -47,7 +47,7 @@ SkipsInHalts =
 -- without a halt a transfer comes to what READ and WRITE come to on the connection
 abbrev pub TransfersElse : Type 0
 TransfersElse = (bay : Bay) (c : Connection) (t : Moving) → bay.connection ≡ Some c → bay.halt ≡ None →
-    let d = transfer_by t.control c t.spec t.moved in
+    let d = transfer_by (λ n. t.control) c t.spec t.moved in
     ((serve bay (move t)).engine.connection ≡ Some d.connection) × ((serve bay (move t)).answer ≡ done d.condition)
     × ((serve bay (move t)).job ≡ move (with_done t d))
 

@@ -62,7 +62,7 @@ transfer input v = record {
     pos = None;
     edit = record { blank_zero = None; comma = None; delim = None; pad = None; plus = None };
   };
-  control = λ n. gives (step.edit (edit.Chars None)) ∷ control.done ∷ [];
+  control = gives (step.edit (edit.Chars None)) ∷ control.done ∷ [];
   moved = record { cells = one_item v; order = 0 ∷ [] };
   size = None;
   count = None;

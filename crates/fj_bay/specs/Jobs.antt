@@ -1,21 +1,26 @@
 -- What a bay may be given to do, and what it answers.
-use Rattle.std.specs.Prelude.{ℕ, List, length, Option}
+use Rattle.std.specs.Prelude.{ℕ, Bool, List, length, Option, if◌then◌else◌}
 use Rattle.fj_value.specs.declared.condition.Condition.{Condition}
 use Rattle.fj_value.specs.declared.edit.EditModes.{EditModes}
 use Rattle.fj_list.specs.declared.moved.Moved.{Moved}
+use Rattle.fj_list.specs.Items.{items_of}
 use Rattle.fj_control.specs.Steps.{Given}
 use Rattle.fj_connect.specs.Connection.{Connection}
 use Rattle.fj_connect.specs.declared.spot.Positioning.{Positioning}
 use Rattle.fj_connect.specs.declared.spot.Spot.{Spot}
 use Rattle.fj_transfer.specs.declared.transfer.TransferSpec.{TransferSpec}
 
+-- for how many items a format gives its control: for those of an input, or for those of an output that have values
+abbrev pub items_for : Bool → Moved → ℕ
+items_for input moved = if input then length moved.order else length (items_of moved)
+
 -- A READ or WRITE: of which statement it is, and under which identifier it is pending, which is 0 where it is not; what it says,
--- what its format gives for so many items, and its items; the cell of SIZE=, and what SIZE= gets.
+-- what its format gives for its items, and these; the cell of SIZE=, and what SIZE= gets.
 pub record Moving : Type 0 where
   pub stmt : ℕ
   pub tag : ℕ
   pub spec : TransferSpec
-  pub control : ℕ → List Given
+  pub control : List Given
   pub moved : Moved
   pub size : Option Moved
   pub count : Option ℕ

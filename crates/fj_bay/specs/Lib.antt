@@ -5,3 +5,5 @@ pub mod Serving
 pub mod Spoilt
 pub mod BayLaws
 pub mod Cases
+pub mod Plain
+pub mod Meaning

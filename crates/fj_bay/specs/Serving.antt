@@ -41,7 +41,7 @@ moved_so t halt d =
 -- a transfer is carried out, or skipped in a halt
 abbrev pub moved_in : Bay → Option Connection → Moving → Served Bay Job Answer
 moved_in bay None t = answered bay (move t) (Error 1)
-moved_in bay (Some c) t = moved_so t bay.halt (unless_halted bay.halt c t.spec.input t.moved.cells (transfer_by t.control c t.spec t.moved))
+moved_in bay (Some c) t = moved_so t bay.halt (unless_halted bay.halt c t.spec.input t.moved.cells (transfer_by (λ n. t.control) c t.spec t.moved))
 
 abbrev pub gone : Bay → Option Connection → Positioning → Served Bay Job Answer
 gone bay None how = answered bay (go how) (Error 1)

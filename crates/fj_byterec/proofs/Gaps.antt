@@ -1,7 +1,7 @@
 -- The records of a gap.
-use Rattle.std.proofs.Common.{◌≡◌, ℕ, ◌+◌, ◌-◌, ◌*◌, ◌<◌, ◌≤◌, Bool, true, false, cond, leb, List, [], ◌++◌, None, Some, length, take, drop, replicate, min, refl, sym, ap, ◌∙◌, inl, inr, arith, append_assoc}
+use Rattle.std.proofs.Common.{◌≡◌, ℕ, ◌+◌, ◌-◌, ◌*◌, ◌<◌, ◌≤◌, Bool, true, false, cond, leb, List, [], ◌++◌, None, Some, length, take, drop, replicate, refl, sym, ap, ◌∙◌, inl, inr, arith, append_assoc}
 use Rattle.std.proofs.lemmas.Bool.{cases_lt, leb-false}
-use Rattle.std.proofs.lemmas.List.{take-append-le, drop-append-le, drop_all, length-append, length-take-le, length-drop, length-replicate, take-replicate, drop-replicate}
+use Rattle.std.proofs.lemmas.List.{drop-append-le, drop_all, length-append, length-take-le, length-drop, length-replicate, take-replicate, drop-replicate}
 use Rattle.std.proofs.Math.Nat.{mul-le-mul_left}
 use Rattle.std.proofs.Math.Seq.{take-append-add, drop-append-add}
 use Rattle.fj_byterec.specs.Pieces.{record_start, piece, filled_to, with_record}

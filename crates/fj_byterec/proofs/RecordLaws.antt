@@ -22,7 +22,7 @@ next_piece due front piece behind place is long =
 abbrev pub gap : List ℕ → ℕ → ℕ → List ℕ
 gap old start fill = replicate (start - min start (length old)) fill
 
-before_record : (old : List ℕ) (start fill : ℕ) → take start (filled_to old start fill) ≡ take (min start (length old)) old ++ gap old start fill
+pub before_record : (old : List ℕ) (start fill : ℕ) → take start (filled_to old start fill) ≡ take (min start (length old)) old ++ gap old start fill
 before_record old start fill =
     elim (cases_lt (length old) start) [
       | inl past ↦
@@ -38,7 +38,7 @@ before_record old start fill =
           ∙ sym (ap (λ n. take n old ++ replicate (start - n) fill) low ∙ ap (λ n. take start old ++ replicate n fill) none ∙ append-nil (take start old))
     ]
 
-behind_record : (old : List ℕ) (start fill end : ℕ) → start ≤ end → drop end (filled_to old start fill) ≡ drop end old
+pub behind_record : (old : List ℕ) (start fill end : ℕ) → start ≤ end → drop end (filled_to old start fill) ≡ drop end old
 behind_record old start fill end above =
     elim (cases_lt (length old) start) [
       | inl past ↦

@@ -1,2 +1,3 @@
 pub mod PieceLaws
 pub mod Pieces
+pub mod Runs

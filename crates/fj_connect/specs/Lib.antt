@@ -8,3 +8,4 @@ pub mod Positions
 pub mod PositionLaws
 pub mod EndingLaws
 pub mod TransferLaws
+pub mod DirectRuns

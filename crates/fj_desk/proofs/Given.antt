@@ -14,8 +14,9 @@ use Rattle.fj_modes.specs.declared.unit.UnitRef.TheVariants as unit
 use Rattle.fj_control.specs.Steps.{Given}
 use Rattle.fj_transfer.specs.Transfer.{Done, transfer_by}
 use Rattle.fj_bay.specs.Halt.{halts}
-use Rattle.fj_bay.specs.Jobs.{Moving, detach, move, look, resume, done}
+use Rattle.fj_bay.specs.Jobs.{items_for, Moving, detach, move, look, resume, done}
 use Rattle.fj_bay.specs.Serving.{serve, with_done}
+use Rattle.fj_bay.proofs.Controlled.{control_same}
 use Rattle.fj_statement.specs.declared.deck.Variable.{Variable}
 use Rattle.fj_statement.specs.declared.statement.Transfer.{Transfer}
 use Rattle.fj_store.specs.Variables.{Variables}
@@ -68,8 +69,9 @@ module _ (control : ℕ → List Given) (variables : List Variable) (line : ℕ)
   now_given p s t number u at ties e none after = (
     (job_same p s t ties 0, (u, here p.core.units s.units p.desks number u at e, refl)),
     subst (λ o. Both (IsGiven p.core.units after) (given (carry p.desks u.slot (move mv)) (desk.carried_out variables p.core t (moved_by variables s t) u o)) (resume_behind at.it.number (by_vars s.vars).condition)) (sym outcome_is)
-        (subst (λ v. Both (IsGiven p.core.units after) (given (carry p.desks u.slot (move mv)) (desk.carried_out variables p.core t (moved_by variables s t) u (move (with_done mv (by_vars p.core.vars)), done (by_vars p.core.vars).condition))) (resume_behind at.it.number (by_vars v).condition)) ties.same.vars
-        (behind_given p.core.units after u at.it.number (carry p.desks u.slot (move mv)) (core_then (by_vars p.core.vars)) (by_vars p.core.vars).condition (here p.core.units s.units p.desks number u at e))),
+        (subst (λ x. Both (IsGiven p.core.units after) (given (carry p.desks u.slot (move mv)) (desk.carried_out variables p.core t (moved_by variables s t) u (move (with_done mv d), done d.condition))) (resume_behind at.it.number x.condition))
+        (control_same control (moved_by variables s t) at.it.connection (spec_in variables p.core.vars t (moved_by variables s t).cells) ∙ ap by_vars ties.same.vars)
+        (behind_given p.core.units after u at.it.number (carry p.desks u.slot (move mv)) (core_then d) d.condition (here p.core.units s.units p.desks number u at e))),
   )
     where
       mv : Moving
@@ -78,13 +80,16 @@ module _ (control : ℕ → List Given) (variables : List Variable) (line : ℕ)
       by_vars : Variables → Done
       by_vars v = transfer_by control at.it.connection (spec_in variables v t (moved_by variables s t).cells) (moved_by variables s t)
 
+      d : Done
+      d = transfer_by (λ n. control (items_for t.input (moved_by variables s t))) at.it.connection (spec_in variables p.core.vars t (moved_by variables s t).cells) (moved_by variables s t)
+
       core_then : Done → Core
       core_then d = record (p.core) { vars = with_cells variables t d.cells d.count (without_values variables t (moved_by variables s t) p.core.vars) }
 
       there : bay_at (slice_get p.desks u.slot) ≡ Some (record { connection = Some at.it.connection; halt = None })
       there = at.seen.bay ∙ ap (λ h. Some (record { connection = Some at.it.connection; halt = h })) none
 
-      outcome_is : outcome p.desks u.slot (move mv) ≡ (move (with_done mv (by_vars p.core.vars)), done (by_vars p.core.vars).condition)
+      outcome_is : outcome p.desks u.slot (move mv) ≡ (move (with_done mv d), done d.condition)
       outcome_is = (serves_at p.desks u.slot (move mv) (record { connection = Some at.it.connection; halt = None }) there).outcome_is
 
   fit_given : (p : Desked) (s : State) (t : Transfer) (number : ℕ) (u : Connected) (at : At p.desks s.units number u) → Tied p s → connected_at p.core.units number ≡ Some u

@@ -1,6 +1,6 @@
 -- Units with their slots, and connected units.
 use Rattle.std.proofs.Common.{◌≡◌, ℕ, not, List, [], ◌∷◌, map, Some, None, slice_get, refl, sym, ap, ◌∙◌, subst, inl, inr, ◌||◌}
-use Rattle.std.specs.Prelude.{◌==◌, ◌&&◌, if◌then◌else◌}
+use Rattle.std.specs.Prelude.{◌==◌, ◌&&◌, if◌then◌else◌, Option, IsSome}
 use Rattle.std.specs.List.{list_any}
 use Rattle.std.specs.Str.{bytes_eq}
 use Rattle.std.proofs.lemmas.Bool.{eq-eqb, ne_eqb}
@@ -75,6 +75,16 @@ slot_differs (x ∷ us) number u k d e q =
       | inl a ↦ let z : Some x ≡ Some u = ap (λ b. if b then Some x else connected_at us number) (sym a.0) ∙ e in let same : x ≡ u = cc in d.0 (ap (λ (y : Connected). y.slot) same ∙ q)
       | inr a ↦ slot_differs us number u k d.1 (ap (λ b. if b then Some x else connected_at us number) (sym a.0) ∙ e) q
     ]
+
+-- each unit has a desk
+pub seated : (desks : List Desk) (us : List Connected) (vs : List plain.Unit) → Seen desks us vs → Each (λ (u : Connected). IsSome (slice_get desks u.slot)) us
+seated desks [] vs b = tt
+seated desks (u ∷ us) [] b = absurd b
+seated desks (u ∷ us) (v ∷ vs) b = (by (slice_get desks u.slot) b.0.bay, seated desks us vs b.1)
+  where
+    by : (o : Option Desk) → bay_at o ≡ Some (record { connection = Some v.connection; halt = v.halt }) → IsSome o
+    by None e = cc
+    by (Some d) e = refl
 
 -- ---- other desks
 

@@ -10,8 +10,9 @@ use Rattle.fj_connect.specs.Connection.{Connection}
 use Rattle.fj_transfer.specs.Transfer.{Done, transfer_by}
 use Rattle.fj_bay.specs.Bay.{Bay}
 use Rattle.fj_bay.specs.Halt.{halts, halt_behind, unless_halted}
-use Rattle.fj_bay.specs.Jobs.{Moving, move, resume}
+use Rattle.fj_bay.specs.Jobs.{items_for, Moving, move, resume}
 use Rattle.fj_bay.specs.Serving.{serve, answer_in, with_done}
+use Rattle.fj_bay.proofs.Controlled.{control_same}
 use Rattle.fj_bay.proofs.Keeping.{Kept, kept_same, transfer_kept}
 use Rattle.fj_statement.specs.declared.deck.Variable.{Variable}
 use Rattle.fj_statement.specs.declared.statement.Transfer.{Transfer}
@@ -34,14 +35,26 @@ use Rattle.fj_desk.proofs.Seen.{At, at_unit, not_at_unit}
 use Rattle.fj_desk.proofs.Tied.{Tied, ActTied, Free, bay_of, unit_moves, with_vars, with_output, each_found}
 
 module _ (control : ℕ → List Given) (variables : List Variable) (line : ℕ) where
-  -- what a transfer comes to on the connection of a unit
-  abbrev done_on : Variables → Transfer → Moved → plain.Unit → Done
-  done_on vars t moved v = unless_halted v.halt v.connection t.input moved.cells (transfer_by control v.connection (spec_in variables vars t moved.cells) moved)
+  -- what a transfer comes to on a connection, and by a job, which has what the format gives for its items
+  abbrev transferred : Variables → Transfer → Moved → Connection → Done
+  transferred vars t moved c = transfer_by control c (spec_in variables vars t moved.cells) moved
 
-  done_kept : (vars : Variables) (t : Transfer) (moved : Moved) (c : Connection) (h : Option Condition)
-      → Kept c (unless_halted h c t.input moved.cells (transfer_by control c (spec_in variables vars t moved.cells) moved)).connection
-  done_kept vars t moved c None = transfer_kept control c (spec_in variables vars t moved.cells) moved
-  done_kept vars t moved c (Some cause) = kept_same c
+  abbrev by_job : Variables → Transfer → Moved → Connection → Done
+  by_job vars t moved c = transfer_by (λ n. control (items_for t.input moved)) c (spec_in variables vars t moved.cells) moved
+
+  job_same : (old new : Variables) (t : Transfer) (moved : Moved) (c : Connection) → old ≡ new → by_job old t moved c ≡ transferred new t moved c
+  job_same old new t moved c e = control_same control moved c (spec_in variables old t moved.cells) ∙ ap (λ v. transferred v t moved c) e
+
+  job_kept : (vars : Variables) (t : Transfer) (moved : Moved) (c : Connection) → Kept c (by_job vars t moved c).connection
+  job_kept vars t moved c = transfer_kept (λ n. control (items_for t.input moved)) c (spec_in variables vars t moved.cells) moved
+
+  halted_kept : (vars : Variables) (t : Transfer) (moved : Moved) (c : Connection) (h : Option Condition) → Kept c (unless_halted h c t.input moved.cells (by_job vars t moved c)).connection
+  halted_kept vars t moved c None = job_kept vars t moved c
+  halted_kept vars t moved c (Some cause) = kept_same c
+
+  -- on that of a unit
+  abbrev done_on : Transfer → Moved → plain.Unit → Done → Done
+  done_on t moved v d = unless_halted v.halt v.connection t.input moved.cells d
 
   abbrev moving : ℕ → Variables → Transfer → Moved → Moving
   moving tag vars t moved = moving_of control variables line tag vars t moved
@@ -57,7 +70,7 @@ module _ (control : ℕ → List Given) (variables : List Variable) (line : ℕ)
   later_tied : (p : Desked) (s : State) (t : Transfer) (moved : Moved) (number : ℕ) (u : Connected) (at : At p.desks s.units number u)
       → Tied p s → connected_at p.core.units number ≡ Some u
       → ActTied (acted p.desks (gives u.slot (move (moving p.core.next p.core.vars t moved)) (with_items_out variables p.core t moved) (λ n. finishes (with_pending variables p.core t moved u n) Fine)))
-      (plainly.made_pending variables s t moved at.it (transfer_by control at.it.connection (spec_in variables s.vars t moved.cells) moved))
+      (plainly.made_pending variables s t moved at.it (transferred s.vars t moved at.it.connection))
   unfolding serve
   later_tied p s t moved number u at ties e = (
     refl,
@@ -97,16 +110,16 @@ module _ (control : ℕ → List Given) (variables : List Variable) (line : ℕ)
       job = serves_at p.desks u.slot (move mv) (bay_of at.it) at.seen.bay
 
       d : Done
-      d = done_on p.core.vars t moved at.it
+      d = done_on t moved at.it (by_job p.core.vars t moved at.it.connection)
 
       plain_d : Done
-      plain_d = done_on s.vars t moved at.it
+      plain_d = done_on t moved at.it (transferred s.vars t moved at.it.connection)
 
       same_d : d ≡ plain_d
-      same_d = ap (λ v. done_on v t moved at.it) ties.same.vars
+      same_d = ap (done_on t moved at.it) (job_same p.core.vars s.vars t moved at.it.connection ties.same.vars)
 
       kept : Kept at.it.connection d.connection
-      kept = done_kept p.core.vars t moved at.it.connection at.it.halt
+      kept = halted_kept p.core.vars t moved at.it.connection at.it.halt
 
       moves : Tied (record { core = p.core; desks = behind }) (record s { units = with_unit (record (at.it) { connection = plain_d.connection; halt = halt_behind at.it.halt plain_d.condition }) s.units })
       moves =
@@ -116,7 +129,7 @@ module _ (control : ℕ → List Given) (variables : List Variable) (line : ℕ)
       entry : entry_of behind (pending_of variables p.core t u number_of_job) ≡ plainly.entry_of variables s t at.it plain_d
       entry =
           ap (entry_with (pending_of variables p.core t u number_of_job)) job.logged
-          ∙ entry_is (pending_of variables p.core t u number_of_job) mv at.it.halt at.it.connection (transfer_by control at.it.connection (spec_in variables p.core.vars t moved.cells) moved)
+          ∙ entry_is (pending_of variables p.core t u number_of_job) mv at.it.halt at.it.connection (by_job p.core.vars t moved at.it.connection)
           ∙ ap (λ x. record { id = p.core.next; unit = u.number; input = t.input; places = held_places variables t; cells = if t.input then x.cells else []; size = t.size; count = x.count; condition = x.condition }) same_d
           ∙ ap (λ n. record { id = n; unit = u.number; input = t.input; places = held_places variables t; cells = if t.input then plain_d.cells else []; size = t.size; count = plain_d.count; condition = plain_d.condition }) ties.same.next
           ∙ ap (λ n. record { id = s.next; unit = n; input = t.input; places = held_places variables t; cells = if t.input then plain_d.cells else []; size = t.size; count = plain_d.count; condition = plain_d.condition }) (at.own_number ∙ sym at.number_is)
@@ -126,7 +139,7 @@ module _ (control : ℕ → List Given) (variables : List Variable) (line : ℕ)
   now_tied : (p : Desked) (s : State) (t : Transfer) (moved : Moved) (number : ℕ) (u : Connected) (at : At p.desks s.units number u)
       → Tied p s → connected_at p.core.units number ≡ Some u → at.it.halt ≡ None
       → ActTied (acted p.desks (awaits u.slot (move (moving 0 p.core.vars t moved)) (with_items_out variables p.core t moved) (carried_out variables p.core t moved u)))
-      (plainly.carried_out variables s t moved at.it (transfer_by control at.it.connection (spec_in variables s.vars t moved.cells) moved))
+      (plainly.carried_out variables s t moved at.it (transferred s.vars t moved at.it.connection))
   unfolding serve
   now_tied p s t moved number u at ties e none =
       subst (λ o. ActTied (acted behind (carried_out variables p.core t moved u o)) meant) (sym outcome_is)
@@ -139,13 +152,13 @@ module _ (control : ℕ → List Given) (variables : List Variable) (line : ℕ)
       behind = carry p.desks u.slot (move mv)
 
       d : Done
-      d = transfer_by control at.it.connection (spec_in variables p.core.vars t moved.cells) moved
+      d = by_job p.core.vars t moved at.it.connection
 
       plain_d : Done
-      plain_d = transfer_by control at.it.connection (spec_in variables s.vars t moved.cells) moved
+      plain_d = transferred s.vars t moved at.it.connection
 
       same_d : d ≡ plain_d
-      same_d = ap (λ v. transfer_by control at.it.connection (spec_in variables v t moved.cells) moved) ties.same.vars
+      same_d = job_same p.core.vars s.vars t moved at.it.connection ties.same.vars
 
       meant_by : Done → State × Condition
       meant_by x = plainly.carried_out variables s t moved at.it x
@@ -166,7 +179,7 @@ module _ (control : ℕ → List Given) (variables : List Variable) (line : ℕ)
       outcome_is = job.outcome_is
 
       kept : Kept at.it.connection d.connection
-      kept = transfer_kept control at.it.connection (spec_in variables p.core.vars t moved.cells) moved
+      kept = job_kept p.core.vars t moved at.it.connection
 
       values : Variables → Variables
       values v = with_cells variables t d.cells d.count (without_values variables t moved v)
@@ -205,8 +218,8 @@ module _ (control : ℕ → List Given) (variables : List Variable) (line : ℕ)
       → ActTied (acted p.desks (if b
       then gives u.slot (move (moving p.core.next p.core.vars t moved)) (with_items_out variables p.core t moved) (λ n. finishes (with_pending variables p.core t moved u n) Fine)
       else awaits u.slot (move (moving 0 p.core.vars t moved)) (with_items_out variables p.core t moved) (carried_out variables p.core t moved u)))
-      (if b then plainly.made_pending variables s t moved at.it (transfer_by control at.it.connection (spec_in variables s.vars t moved.cells) moved)
-      else plainly.carried_out variables s t moved at.it (transfer_by control at.it.connection (spec_in variables s.vars t moved.cells) moved))
+      (if b then plainly.made_pending variables s t moved at.it (transferred s.vars t moved at.it.connection)
+      else plainly.carried_out variables s t moved at.it (transferred s.vars t moved at.it.connection))
   fit_tied p s t moved number u at ties e free true q = later_tied p s t moved number u at ties e
   fit_tied p s t moved number u at ties e free false q =
       now_tied p s t moved number u at ties e (each_found (λ v. v.number ≡ number → v.halt ≡ None) s.units number at.it (free q) at.found_is at.number_is)

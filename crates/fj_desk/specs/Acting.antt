@@ -25,7 +25,7 @@ use Rattle.fj_statement.specs.declared.statement.Statement.{Statement}
 use Rattle.fj_statement.specs.declared.statement.Statement.TheVariants as statement
 use Rattle.fj_statement.specs.declared.statement.Transfer.{Transfer}
 use Rattle.fj_bay.specs.Halt.{halts}
-use Rattle.fj_bay.specs.Jobs.{Moving, Looked, Job, attach, detach, move, go, change, flush, look, resume}
+use Rattle.fj_bay.specs.Jobs.{items_for, Moving, Looked, Job, attach, detach, move, go, change, flush, look, resume}
 use Rattle.fj_store.specs.Variables.{Variables, given_back, moved_of}
 use Rattle.fj_plain.specs.Items.{cell_at, operand_places, value_of}
 use Rattle.fj_plain.specs.Needs.{number_of, number_given, unit_about}
@@ -46,7 +46,7 @@ moving_of control variables line tag vars t moved = record {
   stmt = line;
   tag = tag;
   spec = spec_in variables vars t moved.cells;
-  control = control;
+  control = control (items_for t.input moved);
   moved = moved;
   size = option_map (λ place. moved_of (cell_at variables vars place ∷ [])) t.size;
   count = None;

@@ -76,6 +76,7 @@ fn read_items<R: Records>(
         (items_read comma (condition_of (R.ending records.old)) order.now cells.old true scan.old.count scan.old.form
         (constant_of scan.old.form scan.old) (ahead scan.old (R.to_come records.old)))
         cells.new (R.to_come records.new)) }
+    ensures source { R.source records.new ≡ R.source records.old }
     ensures later { R.count records.old ≤ R.count records.new }
     ensures failed { result ≡ Err Stop.Failed → Rose (R.count records.old) (R.count records.new) }
 {
@@ -109,6 +110,7 @@ pub fn read_list<R: Records>(
         (list_input modes.comma (R.to_come records.old) (condition_of (R.ending records.old))
         moved.old.cells moved.old.order)
         moved.new.cells (R.to_come records.new)) }
+    ensures source { R.source records.new ≡ R.source records.old }
     ensures later { R.count records.old ≤ R.count records.new }
     ensures failed { result ≡ Err Stop.Failed → Rose (R.count records.old) (R.count records.new) }
 {

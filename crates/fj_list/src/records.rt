@@ -36,6 +36,9 @@ pub trait Records {
     /// Its count of faults.
     ghost count: { Self → ℕ };
 
+    /// The name of the reference that it reads through, where it holds one. It reads through no other.
+    ghost source: { Self → ℕ } = { λ _. 0 };
+
     /// Replaces a text by the characters of the next record. After any other answer nothing is said of the text.
     fn next(&mut self, into: &mut Text) -> Result<More, Stop>
         ensures telling { tells self.old ↔ tells self.new }
@@ -45,6 +48,7 @@ pub trait Records {
         ensures refused { IfOk result (λ more. more ≢ More.Refused Condition.Fine) }
         ensures fewer { result ≡ Ok More.Record → bound self.new < bound self.old }
         ensures bounded { bound self.new ≤ bound self.old }
+        ensures source { source self.new ≡ source self.old }
         ensures later { count self.old ≤ count self.new }
         ensures failed { result ≡ Err Stop.Failed → Rose (count self.old) (count self.new) };
 
@@ -60,6 +64,7 @@ pub fn next_line<R: Records>(records: &mut R, line: &mut Text) -> Result<Option<
         (R.to_come records.old) (condition_of (R.ending records.old)) line.new (R.to_come records.new)) }
     ensures same { R.tells records.old → IfOk result (λ _. R.ending records.new ≡ R.ending records.old) }
     ensures fewer { result ≡ Ok None → R.bound records.new < R.bound records.old }
+    ensures source { R.source records.new ≡ R.source records.old }
     ensures later { R.count records.old ≤ R.count records.new }
     ensures failed { result ≡ Err Stop.Failed → Rose (R.count records.old) (R.count records.new) }
 {

@@ -24,6 +24,7 @@ pub fn advance<R: Records>(records: &mut R, scan: &mut Scan) -> Result<Option<Co
         (condition_of (R.ending records.old)) (R.to_come records.new)) }
     ensures same { R.tells records.old → IfOk result (λ _. R.ending records.new ≡ R.ending records.old) }
     ensures fewer { result ≡ Ok None → R.bound records.new < R.bound records.old }
+    ensures source { R.source records.new ≡ R.source records.old }
     ensures later { R.count records.old ≤ R.count records.new }
     ensures failed { result ≡ Err Stop.Failed → Rose (R.count records.old) (R.count records.new) }
 {
@@ -44,6 +45,7 @@ pub fn skip<R: Records>(records: &mut R, scan: &mut Scan) -> Result<Option<Condi
         (ahead scan.new (R.to_come records.new))
         (condition_of (R.ending records.old)) (R.to_come records.new)) }
     ensures same { R.tells records.old → IfOk result (λ _. R.ending records.new ≡ R.ending records.old) }
+    ensures source { R.source records.new ≡ R.source records.old }
     ensures later { R.count records.old ≤ R.count records.new }
     ensures failed { result ≡ Err Stop.Failed → Rose (R.count records.old) (R.count records.new) }
 {
@@ -75,6 +77,7 @@ fn reach_value<R: Records>(
         (ahead scan.new (R.to_come records.new))
         (condition_of (R.ending records.old)) (R.to_come records.new)) }
     ensures same { R.tells records.old → IfOk result (λ _. R.ending records.new ≡ R.ending records.old) }
+    ensures source { R.source records.new ≡ R.source records.old }
     ensures later { R.count records.old ≤ R.count records.new }
     ensures failed { result ≡ Err Stop.Failed → Rose (R.count records.old) (R.count records.new) }
 {
@@ -104,6 +107,7 @@ fn read_delimited<R: Records>(
         scan.new.characters (ahead scan.new (R.to_come records.new))
         (condition_of (R.ending records.old)) (R.to_come records.new)) }
     ensures same { R.tells records.old → IfOk result (λ _. R.ending records.new ≡ R.ending records.old) }
+    ensures source { R.source records.new ≡ R.source records.old }
     ensures later { R.count records.old ≤ R.count records.new }
     ensures failed { result ≡ Err Stop.Failed → Rose (R.count records.old) (R.count records.new) }
 {
@@ -133,6 +137,7 @@ pub fn split_value<R: Records>(
         (value_at comma (condition_of (R.ending records.old)) (ahead scan.old (R.to_come records.old)))
         scan.new (R.to_come records.new)) }
     ensures same { R.tells records.old → IfOk result (λ _. R.ending records.new ≡ R.ending records.old) }
+    ensures source { R.source records.new ≡ R.source records.old }
     ensures later { R.count records.old ≤ R.count records.new }
     ensures failed { result ≡ Err Stop.Failed → Rose (R.count records.old) (R.count records.new) }
 {
@@ -168,6 +173,7 @@ pub fn supply<R: Records>(
         (supplied scan.old.count scan.old.form (constant_of scan.old.form scan.old) ahead_old
         (split comma (condition_of (R.ending records.old)) first ahead_old)) scan.new (R.to_come records.new)) }
     ensures same { R.tells records.old → IfOk result (λ _. R.ending records.new ≡ R.ending records.old) }
+    ensures source { R.source records.new ≡ R.source records.old }
     ensures later { R.count records.old ≤ R.count records.new }
     ensures failed { result ≡ Err Stop.Failed → Rose (R.count records.old) (R.count records.new) }
 {

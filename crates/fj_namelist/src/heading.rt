@@ -71,6 +71,7 @@ pub fn find_heading<R: Records>(
         (condition_of (R.ending records.old)) (R.to_come records.new)) }
     ensures within { IfOk result (λ found. IsIn found line.new) }
     ensures same { R.tells records.old → IfOk result (λ _. R.ending records.new ≡ R.ending records.old) }
+    ensures source { R.source records.new ≡ R.source records.old }
     ensures later { R.count records.old ≤ R.count records.new }
     ensures failed { result ≡ Err Stop.Failed → Rose (R.count records.old) (R.count records.new) }
 {

@@ -195,6 +195,7 @@ fn read_tokens<R: Records>(
         let group = lines_lexed comma (condition_of (R.ending records.old)) (State.Between true)
         (drop start line.old ∷ R.to_come records.old) in
         OnOk result ((tokens.new ≡ tokens.old ++ group.tokens) × (R.to_come records.new ≡ group.left)) }
+    ensures source { R.source records.new ≡ R.source records.old }
     ensures later { R.count records.old ≤ R.count records.new }
     ensures failed { result ≡ Err Stop.Failed → Rose (R.count records.old) (R.count records.new) }
 {
@@ -235,6 +236,7 @@ pub fn read_group<R: Records>(
         (group_input modes.comma (R.to_come records.old) (condition_of (R.ending records.old))
         group.now members.now moved.old.cells)
         moved.new.cells (R.to_come records.new)) }
+    ensures source { R.source records.new ≡ R.source records.old }
     ensures later { R.count records.old ≤ R.count records.new }
     ensures failed { result ≡ Err Stop.Failed → Rose (R.count records.old) (R.count records.new) }
 {

@@ -6,9 +6,7 @@ use Rattle.fj_value.specs.DigitLaws.{numeral-step, numeral-zero}
 use Rattle.fj_value.specs.Digits.{numeral, twos_complement}
 use Rattle.fj_value.specs.declared.edit.Edit.{Edit}
 use Rattle.fj_value.specs.declared.edit.Edit.TheVariants as edit
-use Rattle.fj_value.specs.declared.kind.Kind.{Kind}
 use Rattle.fj_value.specs.declared.kind.Kind.TheVariants.{Int4, Chars}
-use Rattle.fj_value.specs.declared.value.Value.{Value}
 use Rattle.fj_value.specs.declared.value.Value.TheVariants as value
 use Rattle.fj_value.specs.declared.edit.Delim.TheVariants.{Plain}
 use Rattle.fj_value.specs.declared.edit.EditModes.{EditModes}

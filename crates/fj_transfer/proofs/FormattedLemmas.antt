@@ -1,6 +1,5 @@
 -- Formatted output put into a file.
-use Rattle.std.proofs.Common.{◌≡◌, ℕ, ◌+◌, ◌≤◌, ◌<◌, ◌==◌, Bool, true, false, cond, List, [], ◌++◌, length, take, Option, Some, None, Result, Ok, Err, refl, sym, ap, subst, ◌∙◌, arith}
-use Rattle.std.specs.Prelude.{if◌then◌else◌}
+use Rattle.std.proofs.Common.{◌≡◌, ℕ, ◌+◌, ◌≤◌, ◌<◌, ◌==◌, Bool, true, false, cond, List, ◌++◌, length, take, Option, Some, None, Result, Ok, Err, refl, sym, ap, subst, ◌∙◌, arith}
 use Rattle.std.proofs.lemmas.List.{length-append, length-take}
 use Rattle.fj_value.specs.declared.value.Cell.{Cell}
 use Rattle.fj_value.specs.declared.condition.Condition.{Condition}
@@ -14,7 +13,7 @@ use Rattle.fj_connect.specs.Linked.{Linked, connection_of}
 use Rattle.fj_transfer.specs.Places.{spot_at, at_place}
 use Rattle.fj_transfer.specs.Printing.{Printed, printed_by, open_count}
 use Rattle.fj_transfer.specs.Writing.{Prints}
-use Rattle.fj_transfer.specs.Transfer.{Done, told_with, output_done, text_written, lines_written}
+use Rattle.fj_transfer.specs.Transfer.{Done, told_with, text_written, lines_written}
 use Rattle.fj_transfer.proofs.UnformattedLemmas.{within}
 
 -- the same file in another state of its own

@@ -6,4 +6,10 @@ pub mod FormattedLemmas
 pub mod TransferProofs
 pub mod FieldLemmas
 pub mod ReaderLemmas
+pub mod AheadLemmas
 pub mod Cases
+pub mod PieceLemmas
+pub mod NumberedLemmas
+pub mod GroupLemmas
+pub mod PutLemmas
+pub mod FillLemmas

@@ -1,15 +1,12 @@
 -- What actions print, as records and the one that stays open.
-use Rattle.std.proofs.Common.{◌≡◌, ◌≢◌, ℕ, ◌+◌, ◌-◌, ◌<◌, ◌≤◌, ◌==◌, Bool, true, false, cond, List, [], ◌∷◌, ◌++◌, length, take, drop, Option, Some, None, Result, Ok, Err, refl, sym, ap, subst, ◌∙◌, arith, append_assoc, length-append}
-use Rattle.std.specs.Prelude.{if◌then◌else◌, OnOk}
+use Rattle.std.proofs.Common.{◌≡◌, ℕ, ◌+◌, ◌-◌, ◌<◌, ◌≤◌, ◌==◌, cond, List, [], ◌∷◌, ◌++◌, length, take, drop, Option, Some, None, Result, Ok, refl, sym, ap, subst, ◌∙◌, arith, append_assoc, length-append}
 use Rattle.std.proofs.lemmas.Bool.{eq-eqb, ne_eqb}
 use Rattle.std.proofs.lemmas.List.{append-nil, take-append-drop, drop-append-le, length-drop, length-take}
 use Rattle.fj_value.specs.declared.condition.Condition.{Condition}
 use Rattle.fj_line.specs.declared.page.Page.{Page}
-use Rattle.fj_line.specs.declared.unwritten.Unwritten.{Unwritten}
-use Rattle.fj_line.specs.declared.unwritten.Unwritten.TheVariants.{Met, Memory}
 use Rattle.fj_line.specs.Line.{LineState, empty_line, written, moved}
 use Rattle.fj_line.specs.Actions.{Action, put, move, end_record, meet, AtHand, behind, condition_in, unless, carried_out, first_record, text_at}
-use Rattle.fj_line.specs.Page.{at_hand, IsIn, Keeps, Carries}
+use Rattle.fj_line.specs.Page.{at_hand, IsIn, Keeps}
 use Rattle.fj_line.specs.Records.{texts_from, texts_of}
 use Rattle.fj_list.specs.ListText.{text_of}
 use Rattle.fj_transfer.specs.Printing.{Printed, printed_of, printed_by, if_fine, open_count}
@@ -34,7 +31,7 @@ more_printed text line actions =
     let P : List (List ℕ) → Type 0 = λ l. printed_of (text ∷ l) ≡ behind_record text (printed_of l) in
     subst P (sym some.1.1) refl
 
-went_well : (condition : Option Condition) (more : Result AtHand Condition) (last : AtHand) → unless condition more ≡ Ok last → more ≡ Ok last
+pub went_well : (condition : Option Condition) (more : Result AtHand Condition) (last : AtHand) → unless condition more ≡ Ok last → more ≡ Ok last
 went_well (Some condition) more last e = cc
 went_well None more last e = e
 

@@ -1,5 +1,5 @@
 -- Format control of an input, step by step.
-use Rattle.std.proofs.Common.{◌≡◌, ◌≢◌, ℕ, zero, suc, ◌+◌, ◌-◌, ◌<◌, ◌≤◌, Bool, true, false, ltb, List, [], ◌∷◌, length, drop, Option, Some, None, Result, Ok, Err, refl, sym, ap, subst, ◌∙◌, arith, length-drop}
+use Rattle.std.proofs.Common.{◌≡◌, ◌≢◌, ℕ, zero, suc, ◌-◌, ◌<◌, Bool, false, ltb, List, [], ◌∷◌, length, drop, Option, Some, None, Result, Ok, Err, refl, sym, ap, subst, ◌∙◌, arith, length-drop}
 use Rattle.std.specs.Prelude.{if◌then◌else◌, IfOk}
 use Rattle.fj_value.specs.declared.condition.Condition.{Condition}
 use Rattle.fj_value.specs.declared.condition.Condition.TheVariants.{Fine, EndOfRecord}
@@ -11,7 +11,7 @@ use Rattle.fj_transfer.specs.Places.{at_place}
 use Rattle.fj_transfer.specs.Transfer.{Done, Ways, input_done, explicit_ended}
 use Rattle.fj_control.specs.declared.step.Step.{Step}
 use Rattle.fj_control.specs.declared.step.Step.TheVariants as told
-use Rattle.std.proofs.lemmas.Bool.{lt-ltb, le-ltb, cases_lt}
+use Rattle.std.proofs.lemmas.Bool.{lt-ltb, le-ltb}
 use Rattle.fj_control.specs.Steps.{Given, gives, done, no_data}
 use Rattle.fj_control.specs.Walk.{Walk, GivesWhatIsDue, due, given, is_left, is_end, items_behind}
 use Rattle.fj_transfer.specs.Input.{Progress, Ended, carried_out}

@@ -1,16 +1,14 @@
 -- What holds of transfers.
-use Rattle.std.proofs.Common.{◌≡◌, ◌≢◌, ℕ, ◌+◌, ◌-◌, ◌<◌, ◌≤◌, ◌==◌, Bool, true, false, cond, List, [], ◌∷◌, ◌++◌, length, take, drop, map, Option, Some, None, Result, Ok, Err, refl, sym, ap, subst, ◌∙◌, arith, append_assoc}
-use Rattle.std.specs.Prelude.{nat_lt, if◌then◌else◌}
+use Rattle.std.proofs.Common.{◌≡◌, ℕ, ◌+◌, ◌-◌, ◌<◌, ◌≤◌, ◌==◌, Bool, true, false, cond, List, [], ◌∷◌, ◌++◌, length, take, drop, map, Option, Some, None, Result, Ok, Err, refl, sym, ap, subst, ◌∙◌, arith, append_assoc}
+use Rattle.std.specs.Prelude.{nat_lt}
 use Rattle.std.proofs.lemmas.Bool.{ltb-false, ne_eqb}
 use Rattle.std.proofs.lemmas.Grind.{common_steps}
 use Rattle.std.proofs.lemmas.List.{append-nil, take_at, drop_at, length-append, length-take}
 use Rattle.fj_outside.proofs.ByteLaws.{placed}
-use Rattle.fj_value.specs.declared.kind.Kind.{Kind}
 use Rattle.fj_value.specs.declared.value.Cell.{Cell}
 use Rattle.fj_value.specs.declared.value.Value.{Value}
 use Rattle.fj_value.specs.declared.condition.Condition.{Condition}
 use Rattle.fj_value.specs.declared.condition.Condition.TheVariants.{Fine, EndOfFile, EndOfRecord, Error}
-use Rattle.fj_value.specs.Kind.{IsOfKind}
 use Rattle.fj_modes.specs.declared.specifiers.Access.{Access}
 use Rattle.fj_modes.specs.declared.specifiers.Access.TheVariants.{Sequential, Direct, Stream}
 use Rattle.fj_modes.specs.Words.{same_access}
@@ -19,7 +17,7 @@ use Rattle.fj_unfrec.specs.Stored.{stored, stored_width, value_of, ComeBack}
 use Rattle.fj_unfrec.proofs.FrameLemmas.{frame_found}
 use Rattle.fj_byterec.proofs.Apart.{written_there, other_there}
 use Rattle.fj_list.specs.declared.moved.Moved.{Moved}
-use Rattle.fj_list.specs.ListInput.{Outcome, kind_at, with_value}
+use Rattle.fj_list.specs.ListInput.{kind_at, with_value}
 use Rattle.fj_list.specs.Moved.{value_at}
 use Rattle.fj_list.specs.ReadAgain.{with_values}
 use Rattle.fj_control.specs.Steps.{Given}
@@ -32,10 +30,10 @@ use Rattle.fj_value.specs.declared.edit.EditModes.{EditModes}
 use Rattle.fj_transfer.specs.AtHand.{AtHand}
 use Rattle.fj_transfer.specs.Change.{changed}
 use Rattle.fj_transfer.specs.Printing.{Printed, printed}
-use Rattle.fj_transfer.specs.Transfer.{Done, Ways, told_with, in_error, input_done, output_done, with_undefined, widths, bytes_of, body_of, bytes_needed, values_from, body_read, frame_read, sequential_read, piece_read, direct_read, bytes_read, stream_read, unformatted_read, explicit_ended, explicit_read, records_read, read_by, sequential_written, direct_written, stream_written, unformatted_written, pieces_written, text_written, lines_written, records_written, written_by, from_place, if_fit, transfer_by, unfit, begins_at}
+use Rattle.fj_transfer.specs.Transfer.{Done, Ways, told_with, in_error, input_done, output_done, with_undefined, widths, bytes_of, body_of, bytes_needed, values_from, body_read, frame_read, sequential_read, piece_read, bytes_read, unformatted_read, explicit_read, read_by, sequential_written, direct_written, unformatted_written, pieces_written, lines_written, records_written, written_by, from_place, if_fit, transfer_by, unfit, begins_at}
 use Rattle.fj_transfer.specs.TransferLaws.{DirectRecordsStandApart, StreamOutputKeepsTheOthers, AreOfTheirKinds, UnformattedRecordsComeBack, ErrorsLeaveTheConnection}
-use Rattle.fj_transfer.proofs.StoredLemmas.{kind_kept, widths_kept, widths_of_cons}
-use Rattle.fj_transfer.proofs.UnformattedLemmas.{not_too_long, framed_long, read_whole_frame, body_taken}
+use Rattle.fj_transfer.proofs.StoredLemmas.{kind_kept, widths_of_cons}
+use Rattle.fj_transfer.proofs.UnformattedLemmas.{framed_long, read_whole_frame, body_taken}
 
 -- ---- an error leaves the connection
 

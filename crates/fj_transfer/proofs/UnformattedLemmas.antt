@@ -1,11 +1,9 @@
 -- Unformatted transfers, answer by answer.
-use Rattle.std.proofs.Common.{◌≡◌, ◌≢◌, ℕ, ◌+◌, ◌-◌, ◌*◌, ◌<◌, ◌≤◌, ◌==◌, Bool, true, false, cond, List, [], ◌++◌, length, take, drop, replicate, max, Option, Some, None, refl, sym, ap, subst, ◌∙◌, arith}
-use Rattle.std.proofs.lemmas.Bool.{lt-ltb, le-ltb, le-leb, lt-leb, leb-true, leb-false, eq-eqb, eqb-true}
-use Rattle.std.proofs.lemmas.List.{append-nil, length-append, length-take, length-drop, length-replicate}
-use Rattle.std.proofs.lemmas.Option.{none-some, same_Some}
+use Rattle.std.proofs.Common.{◌≡◌, ℕ, ◌+◌, ◌-◌, ◌*◌, ◌<◌, ◌≤◌, ◌==◌, Bool, true, false, cond, List, [], ◌++◌, length, take, drop, replicate, max, Option, Some, None, refl, sym, ap, subst, ◌∙◌, arith}
+use Rattle.std.proofs.lemmas.Bool.{lt-ltb, le-ltb, lt-leb, leb-true, leb-false}
+use Rattle.std.proofs.lemmas.List.{append-nil, length-append, length-take, length-replicate}
 use Rattle.std.proofs.Math.Nat.{mul-le-mul_left}
-use Rattle.std.specs.Prelude.{nat_le, nat_lt, if◌then◌else◌, IfSome}
-use Rattle.fj_outside.specs.Bytes.{written}
+use Rattle.std.specs.Prelude.{nat_le, nat_lt, IfSome}
 use Rattle.fj_outside.proofs.ByteLaws.{length-written}
 use Rattle.fj_value.specs.declared.condition.Condition.TheVariants.{Fine, EndOfFile, Error}
 use Rattle.fj_value.specs.declared.value.Cell.{Cell}
@@ -17,7 +15,7 @@ use Rattle.fj_unfrec.proofs.FrameLemmas.{parts_of}
 use Rattle.fj_byterec.specs.Pieces.{record_start, piece, filled_to, with_record, bytes_from}
 use Rattle.fj_byterec.proofs.RecordLaws.{record_end, record_long}
 use Rattle.fj_list.specs.declared.moved.Moved.{Moved}
-use Rattle.fj_connect.specs.Connection.{Connection, bytes_behind, between, at_number, past_end, with_frame, with_direct, with_bytes}
+use Rattle.fj_connect.specs.Connection.{Connection, bytes_behind, between, past_end, with_frame, with_direct, with_bytes}
 use Rattle.fj_transfer.specs.Transfer.{Done, told_with, in_error, output_done, with_undefined, values_from, bytes_needed, body_read, frame_read, sequential_read, piece_read, direct_read, bytes_read, stream_read, sequential_written, direct_written, stream_written}
 
 -- ---- output

@@ -40,6 +40,7 @@ abbrev pub rest_at : Connection → Result AtHand Condition
 rest_at c = if nat_lt c.modes.recl (begun c + length (rest_of_record c)) then Err (Error 15)
     else Ok (record { connection = c; text = rest_of_record c })
 
--- the record that a statement begins in: the one at hand, of which some characters were read, or the next one
+-- the record that a statement begins in: the direct record that is due; else the one at hand, of which some characters were read,
+-- or the next one
 abbrev pub first_record : Connection → Result AtHand Condition
-first_record c = if is_reading c.spot.within then rest_at c else next_record c
+first_record c = if same_access c.modes.access Direct then record_numbered c c.spot.next_number else (if is_reading c.spot.within then rest_at c else line_at c)

@@ -8,4 +8,5 @@ pub mod Printing
 pub mod Places
 pub mod Transfer
 pub mod Reader
+pub mod Ahead
 pub mod TransferLaws

@@ -1,4 +1,4 @@
--- Where a transfer of sequential or stream access begins: at the position, or at the place that POS= names.
+-- Where a transfer begins: at the position, or at the place that POS= or REC= names.
 use Rattle.std.specs.Prelude.{ℕ, ◌≤◌, List, [], Option, Some, None}
 use Rattle.fj_connect.specs.Connection.{Connection, between, missing_feed}
 use Rattle.fj_connect.specs.Spot.{spot_between}
@@ -21,3 +21,7 @@ feed_at (Some place) c = []
 abbrev pub IsPlace : Option ℕ → ℕ → Type 0
 IsPlace None size = Unit {0}
 IsPlace (Some place) size = place ≤ size
+
+-- direct access begins with the record of a number
+abbrev pub before_number : Connection → ℕ → Connection
+before_number c number = record c { spot = record c.spot { next_number = number } }

@@ -37,11 +37,10 @@ actions_by (Explicit f) control modes advance moved = map action_of (paired mode
 actions_by Listed control modes advance moved = list_actions modes (values_in (items_of moved))
 actions_by (Group name members) control modes advance moved = record_actions (group_written modes name members moved.cells)
 
--- the layout is an explicit format or list-directed
+-- the layout is formatted
 abbrev pub IsRecords : Layout → Type 0
-IsRecords (Explicit f) = Unit {0}
-IsRecords Listed = Unit {0}
-IsRecords _ = ⊥
+IsRecords Unformatted = ⊥
+IsRecords _ = Unit {0}
 
 -- the texts of actions: those of the records that end, and the last one
 abbrev pub printed_of : List (List ℕ) → Printed

@@ -1,7 +1,6 @@
 -- A reader of input under an explicit format, as the definition has it.
 use Rattle.std.specs.Prelude.{◌≡◌, ◌↔◌, ℕ, ◌+◌, ◌-◌, ◌*◌, ◌<◌, ◌≤◌, ◌^◌, Bool, true, false, List, length, drop, All, Option, Some, None, Result, Ok, Err, if◌then◌else◌, nat_lt}
 use Rattle.fj_value.specs.declared.value.Cell.{Cell}
-use Rattle.fj_value.specs.declared.value.Value.{Value}
 use Rattle.fj_value.specs.declared.condition.Condition.{Condition}
 use Rattle.fj_value.specs.declared.condition.Condition.TheVariants.{Fine, Error}
 use Rattle.fj_modes.specs.declared.specifiers.Access.{Access}

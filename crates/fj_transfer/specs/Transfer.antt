@@ -164,12 +164,19 @@ abbrev pub behind_them : ℕ → List (List ℕ) → Condition
 behind_them limit [] = EndOfFile
 behind_them limit (line ∷ more) = if nat_lt limit (length line) then Error 15 else behind_them limit more
 
+-- the rest of the record at hand is too long with what was read of it
+abbrev pub rest_exceeds : Connection → Bool
+rest_exceeds c = nat_lt c.modes.recl (begun c + length (rest_of_record c))
+
 abbrev pub records_to_come : Connection → List (List ℕ)
-records_to_come c = if is_reading c.spot.within then rest_of_record c ∷ up_to_excess c.modes.recl (lines (bytes_behind (past_record c)))
+records_to_come c =
+    if is_reading c.spot.within then (if rest_exceeds c then [] else rest_of_record c ∷ up_to_excess c.modes.recl (lines (bytes_behind (past_record c))))
     else up_to_excess c.modes.recl (lines (bytes_behind c))
 
 abbrev pub condition_to_come : Connection → Condition
-condition_to_come c = behind_them c.modes.recl (lines (bytes_behind (if is_reading c.spot.within then past_record c else c)))
+condition_to_come c =
+    if is_reading c.spot.within then (if rest_exceeds c then Error 15 else behind_them c.modes.recl (lines (bytes_behind (past_record c))))
+    else behind_them c.modes.recl (lines (bytes_behind c))
 
 -- so many records further
 abbrev pub past_records : List (List ℕ) → Connection → Connection

@@ -1,11 +1,14 @@
 -- What a writer has still to do.
-use Rattle.std.specs.Prelude.{ℕ, ◌≡◌, List, [], ◌∷◌, ◌++◌, map, length, Result, Ok, Err, IfNone}
+use Rattle.std.specs.Prelude.{ℕ, ◌≡◌, ◌<◌, ◌≤◌, List, [], ◌∷◌, ◌++◌, map, length, Result, Ok, Err, IfNone}
 use Rattle.fj_value.specs.declared.condition.Condition.{Condition}
 use Rattle.fj_control.specs.Steps.{Given}
 use Rattle.fj_control.specs.Paired.{paired}
+use Rattle.fj_byterec.specs.Runs.{run_of}
 use Rattle.fj_line.specs.declared.unwritten.Unwritten.{Unwritten}
 use Rattle.fj_line.specs.declared.unwritten.Unwritten.TheVariants.{Met, Memory}
 use Rattle.fj_line.specs.Actions.{Action, AtHand, carried_out}
+use Rattle.fj_line.specs.Page.{at_hand}
+use Rattle.fj_line.specs.Records.{texts_from}
 use Rattle.fj_list.specs.Items.{Output, items_left, with_next}
 use Rattle.fj_list.specs.ListText.{text_of}
 use Rattle.fj_transfer.specs.declared.writer.Writer.{Writer}
@@ -23,6 +26,10 @@ IsReady w = IfNone w.item (items_left w.items ≡ [])
 abbrev pub actions_left : Writer → List Given → List Action
 actions_left w due = map action_of (paired w.modes due (items_of_writer w))
 
+-- the texts of the records that it has still to write where these steps are due, from the one at hand on
+abbrev pub texts_left : List ℕ → Writer → List Given → List (List ℕ)
+texts_left text w due = texts_from (at_hand w.page text).line (actions_left w due)
+
 -- Of these actions the call carried out the first and left the others, or it met the first condition.
 abbrev pub CarriesFirst : AtHand → List Action → Result (Unit {0}) Unwritten → AtHand → List Action → Type 0
 CarriesFirst old all (Ok u) new rest = carried_out old all ≡ carried_out new rest
@@ -38,3 +45,23 @@ Prints begun (Ok p) old (Err (Memory error)) new = new ≡ old
 Prints begun (Err condition) old (Ok count) new = ⊥
 Prints begun (Err condition) old (Err (Met met)) new = (met ≡ condition) × (new ≡ old)
 Prints begun (Err condition) old (Err (Memory error)) new = new ≡ old
+
+-- A call appends the records that are printed, each filled up to its size, or it meets the condition. Nothing is said after
+-- want of memory.
+abbrev pub Fills : ℕ → Result Printed Condition → List ℕ → Result (Unit {0}) Unwritten → List ℕ → Type 0
+Fills recl (Ok p) old (Ok u) new = new ≡ old ++ run_of recl 32 p.records
+Fills recl (Ok p) old (Err (Met met)) new = ⊥
+Fills recl (Err condition) old (Ok u) new = ⊥
+Fills recl (Err condition) old (Err (Met met)) new = met ≡ condition
+Fills recl printed old (Err (Memory error)) new = Unit {0}
+
+-- no text is longer than this
+abbrev pub AreShort : ℕ → List (List ℕ) → Type 0
+AreShort limit [] = Unit {0}
+AreShort limit (text ∷ texts) = (length text ≤ limit) × AreShort limit texts
+
+-- bytes that are records of this size, at least one, none longer before it was filled up
+pub record HasPieces (recl : ℕ) (records : List (List ℕ)) (run : List ℕ) : Type 0 where
+  pub made : run ≡ run_of recl 32 records
+  pub some : 0 < length records
+  pub short : AreShort recl records

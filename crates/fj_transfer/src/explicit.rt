@@ -28,7 +28,7 @@ use fj_value::{Condition, Text};
 use std::alloc::{AllocError, Global};
 
 /// Ends the record that output left open, where there is one.
-fn end_open<F: FileStore>(connection: &mut Connection<F>) -> Result<(), Stop>
+pub fn end_open<F: FileStore>(connection: &mut Connection<F>) -> Result<(), Stop>
     ensures telling { F.tells connection.old.file ↔ F.tells connection.new.file }
     ensures ended { F.tells connection.old.file → OnOk result (connection_of F.bytes connection.new ≡ ended (connection_of F.bytes connection.old)) }
     ensures stopped { F.tells connection.old.file → OnErr result (KeepsUpToChange (F.bytes connection.old.file)
@@ -74,7 +74,7 @@ fn at_end<F: FileStore>(connection: &mut Connection<F>, cells: &mut Cells) -> Re
 }
 
 /// Goes behind the record at hand.
-fn go_behind<F: FileStore>(connection: &mut Connection<F>, next: u64) -> Result<(), Stop>
+pub fn go_behind<F: FileStore>(connection: &mut Connection<F>, next: u64) -> Result<(), Stop>
     requires { next ≤ size_ended connection.old.spot (F.size connection.old.file) }
     ensures telling { F.tells connection.old.file ↔ F.tells connection.new.file }
     ensures behind { F.tells connection.old.file → OnOk result (connection_of F.bytes connection.new ≡ between (ended (connection_of F.bytes connection.old)) next) }

@@ -1,10 +1,12 @@
 // Formatted output of sequential and stream access (ISO/IEC 1539-1:2004, 9.5.3): records as the last of the file.
-ghost use Rattle.std.specs.Prelude.{◌≡◌, ◌≢◌, ◌+◌, ◌≤◌, ◌++◌, ◌||◌, ◌↔◌, true, not, length, IfOk, OnOk, OnErr, List, ℕ};
+ghost use Rattle.std.specs.Prelude.{◌≡◌, ◌≢◌, ◌+◌, ◌≤◌, ◌++◌, ◌||◌, ◌↔◌, true, not, length, IfOk, OnOk, OnErr, All, List, ℕ};
 ghost use Rattle.fj_value.specs.declared.value.Cell.{Cell};
 ghost use Rattle.fj_outside.specs.Faults.{Rose};
 ghost use Rattle.fj_span.specs.Change.{KeepsUpToChange};
 ghost use Rattle.fj_connect.specs.Connection.{begun};
 ghost use Rattle.fj_connect.specs.Linked.{connection_of};
+ghost use Rattle.fj_namelist.specs.GroupText.{IsWithin};
+ghost use Rattle.fj_transfer.specs.Moving.{members_of};
 ghost use Rattle.fj_transfer.specs.Places.{spot_at, at_place, feed_at, IsPlace};
 ghost use Rattle.fj_transfer.specs.Printing.{IsRecords, actions_by, control_of, printed_by};
 ghost use Rattle.fj_transfer.specs.Transfer.{told_with, is_explicit, text_written, lines_written};
@@ -44,7 +46,7 @@ fn position<F: FileStore>(connection: &Connection<F>, place: Option<u64>) -> u64
 }
 
 /// How many characters the record has that a transfer begins in.
-fn begun_at<F: FileStore>(connection: &Connection<F>, place: Option<u64>) -> u32
+pub fn begun_at<F: FileStore>(connection: &Connection<F>, place: Option<u64>) -> u32
     ensures begun { result ≡ begun (at_place place (connection_of F.bytes connection.now)) }
     ensures within { result ≤ (spot_at place connection.now.spot).at }
 {
@@ -150,6 +152,7 @@ pub fn write_lines<F: FileStore>(
     requires access { connection.old.modes.access ≢ Access.Direct }
     requires place { IsPlace place (F.size connection.old.file) }
     requires records { IsRecords layout.now }
+    requires grouped { All (IsWithin (length moved.now.cells)) (members_of layout.now) }
     ensures telling { F.tells connection.old.file ↔ F.tells connection.new.file }
     ensures written { F.tells connection.old.file → let old = connection_of F.bytes connection.old in let c = at_place place old in
         IfOk result (λ condition. told_with (connection_of F.bytes connection.new) moved.now.cells condition

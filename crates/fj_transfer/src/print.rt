@@ -1,21 +1,24 @@
 // The records of a formatted output.
-ghost use Rattle.std.specs.Prelude.{◌≡◌, ◌+◌, ◌-◌, ◌==◌, ◌≤◌, length, take, if◌then◌else◌, IfOk, IfErr, OnOk, OnErr, Ok};
+ghost use Rattle.std.specs.Prelude.{◌≡◌, ◌+◌, ◌-◌, ◌==◌, ◌≤◌, length, take, if◌then◌else◌, IfOk, IfErr, OnOk, OnErr, Ok, All};
 ghost use Rattle.fj_value.specs.declared.condition.Condition.TheVariants.{Fine};
 ghost use Rattle.fj_line.specs.Actions.{Appends, first_record, output};
 ghost use Rattle.fj_line.specs.Page.{at_hand, IsIn, IsAtEnd, Keeps, Carries, told_by};
 ghost use Rattle.fj_list.specs.Items.{items_of, items_left, values_in};
 ghost use Rattle.fj_list.specs.Listing.{list_actions};
+ghost use Rattle.fj_namelist.specs.GroupText.{group_written, IsWithin};
 ghost use Rattle.fj_transfer.specs.Change.{changed};
 ghost use Rattle.fj_transfer.specs.Explicit.{explicit_actions};
-ghost use Rattle.fj_transfer.specs.Printing.{IsRecords, actions_by, control_of, printed_by};
+ghost use Rattle.fj_transfer.specs.Moving.{members_of};
+ghost use Rattle.fj_transfer.specs.Printing.{IsRecords, record_actions, actions_by, control_of, printed_by};
 ghost use Rattle.fj_transfer.specs.Writing.{Prints};
 
+use crate::group::put_group;
 use crate::transfer::{Layout, Transfer};
 use crate::writer::Writer;
 use fj_format::Format;
 use fj_line::{Page, Unwritten};
-use fj_list::{Moved, OutputItems, put_list};
-use fj_value::{Condition, EditModes, Text};
+use fj_list::{GroupMember, Moved, OutputItems, put_list};
+use fj_value::{Cell, Condition, EditModes, Text};
 use std::alloc::{AllocError, Global};
 
 /// Writes items under an explicit format on a record that begins.
@@ -102,13 +105,32 @@ fn print_listed(
     finished(written, end, out)
 }
 
+/// The output of a namelist group, likewise.
+fn print_group(
+    modes: EditModes,
+    name: &[u8],
+    members: &[GroupMember],
+    cells: &[Cell],
+    recl: u32,
+    begun: u32,
+    out: &mut Text,
+) -> Result<Condition, AllocError>
+    requires { All (IsWithin (length cells.now)) members.now }
+    ensures records { IfOk result (λ condition. Appends
+        (output (first_record recl begun) (record_actions (group_written modes name.now members.now cells.now))) out.old condition out.new) }
+    ensures err { OnErr result (out.new ≡ out.old) }
+{
+    let end = out.len();
+    let mut page = Page::new(out, recl, begun);
+    let written = put_group(&mut page, out, modes, name, members, cells);
+    finished(written, end, out)
+}
+
 /// The formatted output of one statement behind so many characters of an open record: its records, each with a line feed
 /// behind it (ISO/IEC 1539-1:2004, 9.5.3, 10.1 and 10.9.2). Under an explicit format and ADVANCE='NO' the last one stays
 /// open. A condition leaves the output as it was: 11 where the part of the format that is used again has no data descriptor
 /// for the items that are left, 12 where a descriptor is not for its item, 15 where a text takes a record past `recl`, 26
 /// where the records pass 16,777,216 bytes. Of several the first from the left to the right counts, and 15 before 26.
-///
-/// The layout is an explicit format or list-directed. Namelist output comes next.
 pub fn print_records(
     _alloc: Global,
     job: &Transfer,
@@ -130,7 +152,16 @@ pub fn print_records(
             print_explicit(format, job.spec.advance, modes, items, recl, begun, out)
         }
         Layout::Listed => print_listed(modes, items, recl, begun, out),
-        Layout::Unformatted | Layout::Group(..) => unreachable!(),
+        Layout::Group(name, members) => print_group(
+            modes,
+            name.bytes(),
+            members.as_slice(),
+            job.moved.cells.as_slice(),
+            recl,
+            begun,
+            out,
+        ),
+        Layout::Unformatted => unreachable!(),
     }
 }
 
@@ -144,6 +175,7 @@ fn write_layout(
     moved: &Moved,
 ) -> Result<(), Unwritten>
     requires records { IsRecords layout.now }
+    requires grouped { All (IsWithin (length moved.now.cells)) (members_of layout.now) }
     requires within { IsIn page.old text.old }
     requires end { IsAtEnd page.old text.old }
     requires at { page.old.at ≡ 0 }
@@ -155,7 +187,15 @@ fn write_layout(
     match layout {
         Layout::Explicit(format) => write_explicit(page, text, modes, format, advance, items),
         Layout::Listed => put_list(page, text, modes, items),
-        Layout::Unformatted | Layout::Group(..) => unreachable!(),
+        Layout::Group(name, members) => put_group(
+            page,
+            text,
+            modes,
+            name.bytes(),
+            members.as_slice(),
+            moved.cells.as_slice(),
+        ),
+        Layout::Unformatted => unreachable!(),
     }
 }
 
@@ -186,7 +226,8 @@ pub fn print_onto(
     begun: u32,
     out: &mut Text,
 ) -> Result<u64, Unwritten>
-    requires { IsRecords layout.now }
+    requires records { IsRecords layout.now }
+    requires grouped { All (IsWithin (length moved.now.cells)) (members_of layout.now) }
     ensures { Prints begun (printed_by recl begun (actions_by layout.now (control_of layout.now) modes advance moved.now)) out.old result out.new }
 {
     let end = out.len();

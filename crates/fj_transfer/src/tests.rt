@@ -1,12 +1,15 @@
 // Outputs under explicit formats, with their records written out by hand.
-ghost use Rattle.std.specs.Prelude.{◌<◌, ◌^◌, length, IfOk};
+ghost use Rattle.std.specs.Prelude.{◌≡◌, ◌<◌, ◌≤◌, ◌^◌, [], length, All, IfOk};
 ghost use Rattle.fj_value.specs.Kind.{IsOfKind};
 ghost use Rattle.fj_list.specs.Moved.{IsOrdered};
-ghost use Rattle.fj_transfer.specs.Moving.{HasValues};
+ghost use Rattle.fj_namelist.specs.GroupText.{IsWithin};
+ghost use Rattle.fj_transfer.specs.Moving.{HasValues, members_of};
 ghost use Rattle.fj_transfer.specs.Printing.{IsRecords};
 
 mod files;
+mod listed;
 
+use crate::tests::listed::members;
 use crate::{EditChange, Layout, Transfer, TransferSpec, print_explicit, print_records};
 use fj_format::parse;
 use fj_list::{Moved, OutputItems, Run, Values};
@@ -16,7 +19,7 @@ use std::test::Fail;
 
 /// An item of a table.
 #[derive(Clone, Copy)]
-enum Item {
+pub enum Item {
     I4(i32),
     I8(i64),
     L(bool),
@@ -25,7 +28,7 @@ enum Item {
 
 use Item::{A, I4, I8, L};
 
-const MODES: EditModes = EditModes {
+pub const MODES: EditModes = EditModes {
     blank_zero: false,
     comma: false,
     delim: Delim::Plain,
@@ -78,9 +81,12 @@ fn cell_of(alloc: Global, item: Item) -> Result<Cell, AllocError>
 }
 
 /// The cells of items, and so many items of each in turn.
-fn moved(alloc: Global, items: &[Item], times: u32) -> Result<Moved, AllocError>
-    requires { length items.now < 1000 }
+pub fn moved(alloc: Global, items: &[Item], times: u32) -> Result<Moved, AllocError>
+    requires items { length items.now < 1000 }
+    requires times { times < 1000 }
+    ensures cells { IfOk result (λ moved. length moved.cells ≡ length items.now) }
     ensures ordered { IfOk result (λ moved. IsOrdered moved) }
+    ensures few { IfOk result (λ moved. length moved.order ≤ 1000000) }
     ensures defined { IfOk result (λ moved. HasValues moved) }
 {
     let mut cells = Items::new(alloc);
@@ -94,24 +100,27 @@ fn moved(alloc: Global, items: &[Item], times: u32) -> Result<Moved, AllocError>
     Ok(Moved { cells, order })
 }
 
-fn transfer(
-    alloc: Global,
-    format: &[u8],
-    moved: Moved,
-    advance: bool,
-    edit: EditChange,
-) -> Result<Transfer, Fail>
-    requires format { length format.now < 2 ^ 32 }
-    requires ordered { IsOrdered moved }
-    requires defined { HasValues moved }
-    ensures { IfOk result (λ job. IsRecords job.spec.layout) }
+/// A format, or `*` for a list-directed output.
+fn layout_of(alloc: Global, format: &[u8]) -> Result<Layout, Fail>
+    requires { length format.now < 2 ^ 32 }
+    ensures records { IfOk result (λ layout. IsRecords layout) }
+    ensures alone { IfOk result (λ layout. members_of layout ≡ []) }
 {
-    let layout = if format == b"*".as_slice() {
-        Layout::Listed
-    } else {
-        Layout::Explicit(parse(alloc, format)?)
-    };
-    Ok(Transfer {
+    if format == b"*".as_slice() {
+        return Ok(Layout::Listed);
+    }
+    Ok(Layout::Explicit(parse(alloc, format)?))
+}
+
+fn transfer(layout: Layout, moved: Moved, advance: bool, edit: EditChange) -> Transfer
+    requires records { IsRecords layout }
+    requires grouped { All (IsWithin (length moved.cells)) (members_of layout) }
+    requires ordered { IsOrdered moved }
+    requires few { length moved.order < 2 ^ 32 }
+    requires defined { HasValues moved }
+    ensures { IsRecords result.spec.layout }
+{
+    Transfer {
         stmt: 1,
         tag: Tag(0),
         spec: TransferSpec {
@@ -125,7 +134,7 @@ fn transfer(
         moved,
         size: None,
         count: None,
-    })
+    }
 }
 
 /// Format, items, begun characters and the limit of a record, and what is written or the error.
@@ -138,7 +147,7 @@ type Row = (
 );
 
 /// With ADVANCE='YES'.
-static ROWS: [Row; 65] = [
+static ROWS: [Row; 27] = [
     // Reversion, groups, the colon and slashes.
     (
         "(I3,2(1X,I2))",
@@ -147,15 +156,6 @@ static ROWS: [Row; 65] = [
         80,
         Ok(b"  1  2  3\n  4  5\n  6\n"),
     ),
-    ("(I2)", &[I4(1), I4(2), I4(3)], 0, 2, Ok(b" 1\n 2\n 3\n")),
-    (
-        "(I0)",
-        &[I4(1), I4(-22), I4(333)],
-        0,
-        3,
-        Ok(b"1\n-22\n333\n"),
-    ),
-    ("(I0,1X)", &[I4(1), I4(2)], 0, 1, Ok(b"1\n2\n")),
     (
         "(2(I1,/),:,A)",
         &[I4(1), I4(2), A(b"c"), I4(4)],
@@ -163,15 +163,10 @@ static ROWS: [Row; 65] = [
         80,
         Ok(b"1\n2\nc\n4\n\n"),
     ),
-    ("(I1,:,',')", &[I4(1), I4(2)], 0, 80, Ok(b"1,\n2\n")),
-    ("(I1,'x')", &[I4(1), I4(2)], 0, 80, Ok(b"1x\n2x\n")),
     ("('a',(I1),'b')", &[I4(1), I4(2)], 0, 80, Ok(b"a1b\n2b\n")),
-    ("(I1/)", &[I4(7)], 0, 80, Ok(b"7\n\n")),
     ("(//I1)", &[I4(7)], 0, 80, Ok(b"\n\n7\n")),
     ("()", &[], 0, 80, Ok(b"\n")),
-    ("('x',I2)", &[], 0, 80, Ok(b"x\n")),
     // Every descriptor and kind.
-    ("(I5.3)", &[I4(-7)], 0, 80, Ok(b" -007\n")),
     (
         "(I2,I3)",
         &[I4(123), I8(9_000_000_000)],
@@ -179,15 +174,6 @@ static ROWS: [Row; 65] = [
         80,
         Ok(b"*****\n"),
     ),
-    (
-        "(I0)",
-        &[I8(i64::MIN)],
-        0,
-        80,
-        Ok(b"-9223372036854775808\n"),
-    ),
-    ("(Z8)", &[I4(-1)], 0, 80, Ok(b"FFFFFFFF\n")),
-    ("(Z17)", &[I8(-1)], 0, 80, Ok(b" FFFFFFFFFFFFFFFF\n")),
     (
         "(B4,O4,Z4.2)",
         &[I4(5), I4(8), I4(10)],
@@ -210,7 +196,6 @@ static ROWS: [Row; 65] = [
         80,
         Ok(b"  42 ab T -1\n"),
     ),
-    ("(A)", &[A(b"a\nb")], 0, 3, Ok(b"a\nb\n")),
     // Modes hold to the end of the statement, over reversion too.
     (
         "(SP,I3,SS,I3,SP,I3,S,I3)",
@@ -226,64 +211,31 @@ static ROWS: [Row; 65] = [
         80,
         Ok(b"  1\n +2\n -3\n"),
     ),
-    ("(BN,BZ,DC,DP,I2)", &[I4(4)], 0, 80, Ok(b" 4\n")),
     // Tabs.
     ("(T4,A,T1,A)", &[A(b"CD"), A(b"AB")], 0, 80, Ok(b"AB CD\n")),
-    ("(TR2,'a',TL2,'b',T1,'c')", &[], 0, 80, Ok(b"cba\n")),
     ("('abcd',TL9,'X')", &[], 0, 80, Ok(b"Xbcd\n")),
     ("(3X)", &[], 0, 1, Ok(b"\n")),
     ("('ab',3X)", &[], 0, 2, Ok(b"ab\n")),
-    ("(2X,'')", &[], 0, 1, Ok(b"\n")),
-    ("(T9,A)", &[A(b"")], 0, 3, Ok(b"\n")),
-    ("(T9,/,'a')", &[], 0, 80, Ok(b"\na\n")),
-    (
-        "(T65536,TR65536,TL65536,TL65534,'a')",
-        &[],
-        0,
-        2,
-        Ok(b" a\n"),
-    ),
     // Error 15: a text takes a record past its limit.
     ("('abc')", &[], 0, 3, Ok(b"abc\n")),
-    ("('abc')", &[], 0, 2, Err(15)),
-    ("(I3)", &[I4(1)], 0, 2, Err(15)),
-    ("(2X,'a')", &[], 0, 3, Ok(b"  a\n")),
-    ("(2X,'a')", &[], 0, 2, Err(15)),
-    ("('ab',TL1,'cd')", &[], 0, 3, Ok(b"acd\n")),
     ("('ab',TL1,'cd')", &[], 0, 2, Err(15)),
     ("('ab'/'abc')", &[], 0, 2, Err(15)),
-    ("(A65536)", &[A(b"x")], 0, 65535, Err(15)),
-    ("(T65536,'x',T1,'y','x')", &[], 0, 65535, Err(15)),
     // The characters that the record had count, and those of a later record not.
-    ("(I3)", &[I4(5)], 2, 5, Ok(b"  5\n")),
-    ("(I3)", &[I4(5)], 3, 5, Err(15)),
     ("(2X,'a')", &[], 2, 5, Ok(b"  a\n")),
     ("(2X,'a')", &[], 3, 5, Err(15)),
     ("(I2/I5)", &[I4(1), I4(2)], 3, 5, Ok(b" 1\n    2\n")),
-    ("(T1,'x')", &[], 5, 5, Err(15)),
-    ("(T1,'')", &[], 5, 5, Ok(b"\n")),
-    ("(4294X)", &[], 5, 5, Ok(b"\n")),
     // Error 12: the descriptor is not for the item.
     ("(I3)", &[A(b"abc")], 0, 80, Err(12)),
-    ("(I3)", &[L(true)], 0, 80, Err(12)),
-    ("(Z3)", &[L(true)], 0, 80, Err(12)),
-    ("(A)", &[I4(1)], 0, 80, Err(12)),
-    ("(L1)", &[I8(1)], 0, 80, Err(12)),
-    ("(I9)", &[A(b"abc")], 0, 3, Err(12)),
     ("(A2,I9)", &[A(b"a"), A(b"b")], 0, 1, Err(15)),
     ("(I1,A9)", &[A(b"a"), A(b"b")], 0, 1, Err(12)),
-    ("(I1/A)", &[I4(1), L(true)], 0, 80, Err(12)),
     // Error 11: no data descriptor for the items that are left.
-    ("('x')", &[I4(5)], 0, 80, Err(11)),
-    ("()", &[I4(5)], 0, 80, Err(11)),
     ("(I1,(1X))", &[I4(1), I4(2)], 0, 80, Err(11)),
     ("(I1/('abc'))", &[I4(1), I4(2)], 0, 2, Err(15)),
 ];
 
 /// List-directed, as `*`.
-static LISTED: [Row; 12] = [
+static LISTED: [Row; 7] = [
     ("*", &[], 0, 80, Ok(b" \n")),
-    ("*", &[I4(1), I4(-2)], 0, 80, Ok(b" 1 -2\n")),
     (
         "*",
         &[L(true), I8(9_000_000_000), L(false)],
@@ -320,23 +272,6 @@ static LISTED: [Row; 12] = [
     (
         "*",
         &[
-            I4(123_456_789),
-            I4(123_456_789),
-            I4(123_456_789),
-            I4(123_456_789),
-            I4(123_456_789),
-            I4(123_456_789),
-            I4(123_456_789),
-            I4(123_456_789),
-            I4(123_456_789),
-        ],
-        0,
-        79,
-        Err(15),
-    ),
-    (
-        "*",
-        &[
             A(
                 b"a-value-of-ninety-characters-.............................................................",
             ),
@@ -348,47 +283,16 @@ static LISTED: [Row; 12] = [
             b" a-value-of-ninety-characters-.............................................................\n 7\n",
         ),
     ),
-    (
-        "*",
-        &[
-            A(
-                b"a-value-of-ninety-characters-.............................................................",
-            ),
-            I4(7),
-        ],
-        0,
-        90,
-        Err(15),
-    ),
-    (
-        "*",
-        &[
-            I4(7),
-            A(
-                b"a-value-of-ninety-characters-.............................................................",
-            ),
-        ],
-        0,
-        91,
-        Ok(
-            b" 7\n a-value-of-ninety-characters-.............................................................\n",
-        ),
-    ),
-    ("*", &[], 5, 5, Err(15)),
     ("*", &[I4(1)], 3, 5, Ok(b" 1\n")),
     ("*", &[I4(1)], 4, 5, Err(15)),
 ];
 
 /// With ADVANCE='NO': the last record stays open.
-static OPEN: [Row; 8] = [
+static OPEN: [Row; 4] = [
     ("(I3)", &[I4(1), I4(2)], 0, 80, Ok(b"  1\n  2")),
     ("(I1/)", &[I4(7)], 0, 80, Ok(b"7\n")),
     ("()", &[], 0, 80, Ok(b"")),
-    ("('ab',3X)", &[], 0, 80, Ok(b"ab")),
-    ("(3X,'ab')", &[], 2, 7, Ok(b"   ab")),
     ("(3X,'ab')", &[], 3, 7, Err(15)),
-    ("(I1/)", &[L(true)], 0, 80, Err(12)),
-    ("(/)", &[I4(1)], 0, 80, Err(11)),
 ];
 
 /// What a transfer adds to an output that has `=` already.
@@ -433,8 +337,9 @@ fn records(rt: HostRuntime) -> Result<(), Fail> {
     ] {
         for (format, items, begun, recl, want) in rows {
             assert!(rt; format.len() < 100 && items.len() < 100);
+            let layout = layout_of(alloc, format.as_bytes())?;
             let items = moved(alloc, items, 1)?;
-            let job = transfer(alloc, format.as_bytes(), items, advance, NO_CHANGE)?;
+            let job = transfer(layout, items, advance, NO_CHANGE);
             let got = added(alloc, &job, false, *recl, *begun)?;
             assert!(rt; is_added(got, *want), "{format} behind {begun} of {recl}");
         }
@@ -446,14 +351,10 @@ fn records(rt: HostRuntime) -> Result<(), Fail> {
 #[test]
 fn modes(rt: HostRuntime) -> Result<(), Fail> {
     let alloc = rt.alloc();
-    let rows: [(&str, bool, Option<bool>, &[u8]); 8] = [
-        ("(I3,I3)", true, None, b" +1 +2\n"),
+    let rows: [(&str, bool, Option<bool>, &[u8]); 4] = [
         ("(I3,I3)", true, Some(false), b"  1  2\n"),
         ("(I3,I3)", false, Some(true), b" +1 +2\n"),
-        ("(I3,I3)", false, None, b"  1  2\n"),
         ("(I3,S,I3)", true, None, b" +1  2\n"),
-        ("(I3,SP,I3)", true, Some(false), b"  1 +2\n"),
-        ("*", true, None, b" +1 +2\n"),
         ("*", true, Some(false), b" 1 2\n"),
     ];
     for (format, plus, change, want) in rows {
@@ -463,7 +364,8 @@ fn modes(rt: HostRuntime) -> Result<(), Fail> {
             plus: change,
             ..NO_CHANGE
         };
-        let job = transfer(alloc, format.as_bytes(), items, true, edit)?;
+        let layout = layout_of(alloc, format.as_bytes())?;
+        let job = transfer(layout, items, true, edit);
         let got = added(alloc, &job, plus, 80, 0)?;
         assert!(rt; is_added(got, Ok(want)), "{format}");
     }
@@ -471,13 +373,8 @@ fn modes(rt: HostRuntime) -> Result<(), Fail> {
         delim: Some(Delim::Quote),
         ..NO_CHANGE
     };
-    let job = transfer(
-        alloc,
-        b"*",
-        moved(alloc, &[A(b"a\"b"), A(b"'")], 1)?,
-        true,
-        edit,
-    )?;
+    let items = moved(alloc, &[A(b"a\"b"), A(b"'")], 1)?;
+    let job = transfer(Layout::Listed, items, true, edit);
     let got = added(alloc, &job, false, 80, 0)?;
     assert!(rt; is_added(got, Ok(b" \"a\"\"b\" \"'\"\n")));
     Ok(())
@@ -487,21 +384,10 @@ fn modes(rt: HostRuntime) -> Result<(), Fail> {
 #[test]
 fn limits(rt: HostRuntime) -> Result<(), Fail> {
     let alloc = rt.alloc();
-    let rows: [(&str, u32, bool, u32, Condition, usize); 8] = [
-        ("(A65536)", 1, true, 65_536, Condition::Fine, 65_537),
-        ("(A65536,'y')", 1, true, 65_536, Condition::Error(15), 0),
-        ("(A65536)", 1, true, 65_535, Condition::Error(15), 0),
+    let rows: [(&str, u32, bool, u32, Condition, usize); 4] = [
         ("(A65535)", 256, true, 65_536, Condition::Fine, 16_777_216),
         ("(A65535)", 257, true, 65_536, Condition::Error(26), 0),
         ("(A65535)", 256, false, 65_536, Condition::Fine, 16_777_215),
-        (
-            "(255(A65535/),A65535,'y')",
-            256,
-            false,
-            65_536,
-            Condition::Fine,
-            16_777_216,
-        ),
         (
             "(255(A65535/),A65535,'y')",
             256,
@@ -514,11 +400,26 @@ fn limits(rt: HostRuntime) -> Result<(), Fail> {
     for (format, items, advance, recl, condition, bytes) in rows {
         assert!(rt; format.len() < 100);
         let items = moved(alloc, &[A(b"x")], items)?;
-        let job = transfer(alloc, format.as_bytes(), items, advance, NO_CHANGE)?;
+        let layout = layout_of(alloc, format.as_bytes())?;
+        let job = transfer(layout, items, advance, NO_CHANGE);
         let (told, out) = added(alloc, &job, false, recl, 0)?;
         assert_eq!(rt; told, condition, "{format}");
         assert_eq!(rt; out.len(), bytes + 1, "{format}");
     }
+    Ok(())
+}
+
+/// A namelist group.
+#[test]
+fn group(rt: HostRuntime) -> Result<(), Fail> {
+    let alloc = rt.alloc();
+    let items = moved(alloc, &[I4(5), I4(-7)], 1)?;
+    let layout = Layout::Group(Text::from_bytes(alloc, b"g")?, members(alloc)?);
+    let job = transfer(layout, items, true, NO_CHANGE);
+    let got = added(alloc, &job, false, 80, 0)?;
+    assert!(rt; is_added(got, Ok(b" &G\n A=5\n B=-7\n /\n")));
+    let got = added(alloc, &job, false, 4, 0)?;
+    assert!(rt; is_added(got, Err(15)));
     Ok(())
 }
 

@@ -1,8 +1,9 @@
 // What a READ or WRITE transfers.
-ghost use Rattle.std.specs.Prelude.{◌≡◌, false};
+ghost use Rattle.std.specs.Prelude.{◌≡◌, ◌<◌, ◌^◌, false, length, All};
 ghost use Rattle.std.proofs.Props.{props};
 ghost use Rattle.fj_list.specs.Moved.{IsOrdered};
-ghost use Rattle.fj_transfer.specs.Moving.{HasValues};
+ghost use Rattle.fj_namelist.specs.GroupText.{IsWithin};
+ghost use Rattle.fj_transfer.specs.Moving.{HasValues, members_of};
 
 use crate::change::EditChange;
 use fj_format::Format;
@@ -50,6 +51,10 @@ pub struct Transfer {
     pub count: Option<u64>,
     /// Each item has a cell.
     ghost ordered: { IsOrdered moved } by { Prim.hlevel props },
+    /// There are not too many items to count what they take.
+    ghost few: { length moved.order < 2 ^ 32 },
+    /// The variables of a namelist group have cells.
+    ghost grouped: { All (IsWithin (length moved.cells)) (members_of spec.layout) } by { Prim.hlevel props },
     /// The cells of an output have values of their kinds.
     ghost defined: { ∥ (spec.input ≡ false → HasValues moved) ∥₁ },
 }

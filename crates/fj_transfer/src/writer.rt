@@ -6,7 +6,7 @@ ghost use Rattle.fj_line.specs.Actions.{move, behind};
 ghost use Rattle.fj_control.specs.Steps.{Given, gives, no_data};
 ghost use Rattle.fj_control.specs.Walk.{given, due, items_behind};
 ghost use Rattle.fj_transfer.specs.Explicit.{item_put, explicit_actions};
-ghost use Rattle.fj_transfer.specs.Writing.{items_of_writer, IsReady, actions_left, CarriesFirst};
+ghost use Rattle.fj_transfer.specs.Writing.{items_of_writer, IsReady, actions_left, texts_left, CarriesFirst};
 
 use fj_control::{Cursor, Move, Step, modes_behind};
 use fj_edit_out::field;
@@ -78,6 +78,7 @@ impl<'a> Writer<'a> {
         requires ready { IsReady self.old }
         ensures done { (more : List Given) → CarriesFirst (at_hand self.old.page text.old)
             (actions_left self.old (gives (elementary.edit edit) ∷ more)) result (at_hand self.new.page text.new) (actions_left self.new more) }
+        ensures texts { (more : List Given) → OnOk result (texts_left text.old self.old (gives (elementary.edit edit) ∷ more) ≡ texts_left text.new self.new more) }
         ensures left { OnOk result (length (items_of_writer self.new) ≡ items_behind (gives (elementary.edit edit)) (length (items_of_writer self.old))) }
         ensures within { OnOk result (IsIn self.new.page text.new) }
         ensures ready { OnOk result (IsReady self.new) }
@@ -111,11 +112,15 @@ impl<'a> Writer<'a> {
     }
 
     /// Carries out a step of format control.
-    fn carry_out(&mut self, text: &mut Text, step: Step) -> Result<(), Unwritten>
+    pub fn carry_out(&mut self, text: &mut Text, step: Step) -> Result<(), Unwritten>
         requires within { IsIn self.old.page text.old }
         requires ready { IsReady self.old }
         ensures done { (more : List Given) → CarriesFirst (at_hand self.old.page text.old)
             (actions_left self.old (given step.entry ∷ more)) result (at_hand self.new.page text.new) (actions_left self.new more) }
+        ensures texts { given step.entry ≢ gives elementary.slash → (more : List Given) → OnOk result
+            (texts_left text.old self.old (given step.entry ∷ more) ≡ texts_left text.new self.new more) }
+        ensures ended { given step.entry ≡ gives elementary.slash → (more : List Given) → OnOk result
+            (texts_left text.old self.old (gives elementary.slash ∷ more) ≡ (at_hand self.old.page text.old).line.text ∷ texts_left text.new self.new more) }
         ensures left { OnOk result (length (items_of_writer self.new) ≡ items_behind (given step.entry) (length (items_of_writer self.old))) }
         ensures some { OnOk result (given step.entry ≢ no_data) }
         ensures within { OnOk result (IsIn self.new.page text.new) }

@@ -5,11 +5,12 @@ use Rattle.fj_slot.specs.Serving.{Meaning}
 use Rattle.fj_bay.specs.Bay.{Bay}
 use Rattle.fj_bay.specs.Jobs.{Job, Answer}
 use Rattle.fj_plain.specs.State.{State, start}
-use Rattle.fj_plain.specs.Statement.{Stated, Ending, executed, step, cut}
+use Rattle.fj_plain.specs.Statement.{Stated, Ending, Ran, executed, step, cut}
 use Rattle.fj_plain.proofs.Sound.{Sound, sound_start}
 use Rattle.fj_plain.proofs.Reached.{sound_step}
 use Rattle.fj_desk.specs.Doing.{Desked}
-use Rattle.fj_desk.specs.Desking.{over_desks, desk_step, fresh, desk_result}
+use Rattle.fj_desk.specs.Desking.{DesksRan, over_desks, desk_step, fresh}
+use Rattle.fj_desk.specs.Forgetting.{Forgets}
 use Rattle.fj_desk.proofs.Forgetting.{start_tied, results_same}
 use Rattle.fj_desk.proofs.SoundStates.{sound_caused, slots_forgotten}
 use Rattle.fj_desk.proofs.Steps.{step_tied}
@@ -21,15 +22,22 @@ use Rattle.fj_turns.proofs.Finishing.{executes_decks}
 
 pub leaves_result : {E J A S : Type 0} (m : Meaning E J A Bay Job Answer) (s : Shows S) → LeavesResult m s
 leaves_result m s variables deck files script rack run alone going is =
-    let ran = over_desks variables deck (fresh variables files) in
     let came = executes_decks m s variables deck files script rack run alone going is in
-    record {
-      desks = ran.desked.desks;
-      held = came.desks;
-      result = ap (λ core. desk_result (record { desked = record { core = core; desks = ran.desked.desks }; ending = run.ending })) came.core
-          ∙ ap (λ e. desk_result (record { desked = ran.desked; ending = e })) came.ending
-          ∙ results_same ran (executed variables deck (start variables files)) (slots_forgotten variables deck files);
-    }
+    record { desks = ran.desked.desks; held = came.desks; same = same came.core came.ending; result = results_same ended meant (same came.core came.ending) }
+  where
+    ran : DesksRan
+    ran = over_desks variables deck (fresh variables files)
+
+    meant : Ran
+    meant = executed variables deck (start variables files)
+
+    ended : DesksRan
+    ended = record { desked = record { core = run.core; desks = ran.desked.desks }; ending = run.ending }
+
+    same : run.core ≡ ran.desked.core → run.ending ≡ ran.ending → Forgets ended meant
+    same core ending =
+        subst (λ c. Forgets (record { desked = record { core = c; desks = ran.desked.desks }; ending = run.ending }) meant) (sym core)
+        (subst (λ e. Forgets (record { desked = ran.desked; ending = e }) meant) (sym ending) (slots_forgotten variables deck files))
 
 -- a cut over desks, and that of what the deck means
 record CutTied (variables : List Variable) (deck : List Stated) (index : ℕ) (s : State) (statement : Stated) (before : Desked) : Type 0 where

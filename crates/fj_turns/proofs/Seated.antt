@@ -1,9 +1,9 @@
 -- Units whose slots and numbers differ.
-use Rattle.std.proofs.Common.{◌≡◌, ◌⊎◌, ℕ, zero, suc, ◌+◌, ◌<◌, ◌≤◌, Bool, true, false, not, List, [], ◌∷◌, ◌++◌, map, length, Option, Some, None, refl, sym, ap, ◌∙◌, subst, inl, inr, arith}
+use Rattle.std.proofs.Common.{◌≡◌, ℕ, ◌<◌, ◌≤◌, Bool, true, false, List, [], ◌∷◌, map, length, Some, refl, sym, ap, ◌∙◌, subst, inl, inr, arith}
 use Rattle.std.specs.Prelude.{nat_lt, if◌then◌else◌, filter, ◌==◌}
 use Rattle.std.proofs.lemmas.Bool.{eq-eqb, ne_eqb, ltb-true}
 use Rattle.std.proofs.lemmas.Bool.Decides.{eqb_tells}
-use Rattle.fj_desk.specs.Core.{Connected, connected_at, with_connected, inserted, without_connected}
+use Rattle.fj_desk.specs.Core.{Connected, connected_at, with_connected, inserted}
 use Rattle.fj_desk.specs.Desks.{most_slots}
 use Rattle.fj_desk.proofs.Apart.{Each, each_filter, each_append, each_imp, each_both, each_map, Differs, Apart, apart_filter, apart_append, apart_map}
 use Rattle.fj_desk.proofs.Counting.{no_longer}

@@ -1,9 +1,8 @@
 -- What the runner keeps, whatever answers are given back to it.
-use Rattle.std.proofs.Common.{◌≡◌, ◌⊎◌, ℕ, zero, suc, ◌+◌, ◌-◌, ◌*◌, ◌<◌, ◌≤◌, Bool, true, false, not, List, [], ◌∷◌, ◌++◌, map, length, Option, Some, None, is_some, slice_get, set, get_or, refl, sym, ap, ◌∙◌, subst, inl, inr, ◌&&◌, arith}
+use Rattle.std.proofs.Common.{◌≡◌, ◌⊎◌, ℕ, zero, suc, ◌+◌, ◌-◌, ◌*◌, ◌<◌, ◌≤◌, Bool, true, false, not, List, [], ◌∷◌, ◌++◌, map, length, Option, Some, None, get_or, refl, sym, ap, ◌∙◌, subst, inl, inr, ◌&&◌, arith}
 use Rattle.std.specs.Prelude.{if◌then◌else◌, filter, ◌==◌}
 use Rattle.std.proofs.lemmas.Bool.{eq-eqb}
 use Rattle.std.proofs.lemmas.Bool.Decides.{eqb_tells}
-use Rattle.fj_value.specs.declared.condition.Condition.{Condition}
 use Rattle.fj_value.specs.declared.condition.Rule.{Rule}
 use Rattle.fj_world.specs.declared.ask.Ask.{Ask}
 use Rattle.fj_world.specs.declared.ask.Ask.TheVariants.{Submit, Settle, Finished}
@@ -11,15 +10,15 @@ use Rattle.fj_bay.specs.Jobs.{Job}
 use Rattle.fj_plain.specs.State.{Entry}
 use Rattle.fj_plain.specs.Statement.{Stated, Ending}
 use Rattle.fj_plain.specs.Telling.{tells_id}
-use Rattle.fj_desk.specs.Core.{Core, Pending, Connected}
+use Rattle.fj_desk.specs.Core.{Core, Pending}
 use Rattle.fj_desk.specs.Desks.{Outcome, most_slots}
 use Rattle.fj_desk.specs.Doing.{Doing, finishes, gives, awaits}
 use Rattle.fj_desk.specs.Desking.{told_core}
 use Rattle.fj_desk.proofs.Apart.{Each, each_filter, each_append, each_imp, each_map, filter_map}
 use Rattle.fj_turns.specs.Run.{Held, Stage, Start, Waiting, Acting, Awaiting, Run}
-use Rattle.fj_turns.specs.Turns.{Turn, Pauses, Passes, Stops, matched, with_core, unsettled, bump, submits, settles, doing_told, with_iostat, turn_finish, turn_act, finish_by, with_tells, turn_tell, wait_by, waited_now, turn_wait, start_by, turn_start, rule_of, turn, is_at, with_answer, stage_told, told_of}
+use Rattle.fj_turns.specs.Turns.{Turn, Pauses, Passes, Stops, matched, with_core, unsettled, bump, settles, doing_told, with_iostat, turn_finish, turn_act, finish_by, with_tells, wait_by, waited_now, start_by, rule_of, turn, is_at, stage_told, told_of}
 use Rattle.fj_turns.specs.Few.{most_jobs}
-use Rattle.fj_turns.proofs.Slots.{and_true, get_set_here, get_set_other, length_set}
+use Rattle.fj_turns.proofs.Slots.{get_set_here, get_set_other, length_set}
 use Rattle.fj_turns.proofs.Counts.{left_over, left_sent, left_told, some_inside}
 use Rattle.fj_turns.proofs.Seated.{Seated}
 use Rattle.fj_turns.proofs.FewJobs.{Fair, told_fair}

@@ -1,5 +1,5 @@
 -- How many jobs a statement gives.
-use Rattle.std.specs.Prelude.{◌≡◌, ℕ, zero, suc, ◌*◌, List, Option, Some}
+use Rattle.std.specs.Prelude.{◌≡◌, ℕ, zero, suc, ◌*◌, List, Some}
 use Rattle.fj_statement.specs.declared.deck.Variable.{Variable}
 use Rattle.fj_plain.specs.State.{Files}
 use Rattle.fj_plain.specs.Statement.{Stated}

@@ -7,20 +7,23 @@ use Rattle.fj_world.specs.Rack.{Rack}
 use Rattle.fj_bay.specs.Bay.{Bay}
 use Rattle.fj_bay.specs.Jobs.{Job, Answer}
 use Rattle.fj_plain.specs.State.{State, Files, start}
-use Rattle.fj_plain.specs.Statement.{Stated, execution, cut}
+use Rattle.fj_plain.specs.Statement.{Stated, executed, execution, cut}
 use Rattle.fj_desk.specs.Desks.{Desk}
 use Rattle.fj_desk.specs.Doing.{Desked}
 use Rattle.fj_desk.specs.Desking.{fresh, desk_result}
-use Rattle.fj_desk.specs.Forgetting.{Same}
+use Rattle.fj_desk.specs.Forgetting.{Same, Forgets}
 use Rattle.fj_turns.specs.Run.{Run}
 use Rattle.fj_turns.specs.Serving.{over_bays, Shows, run_conduct, begins}
 use Rattle.fj_turns.specs.Inside.{cut_desks}
 use Rattle.fj_turns.specs.Executing.{HoldsDesks}
 
--- the ending, output, tells and variables are the runner's, and the files are those of the runner and of the slots' connections
+-- With the desks that the slots hold, the runner is what the deck came to: the same ending, and the same state, so each connected unit
+-- has its connection at its slot. The ending, output, tells and variables that are left are the runner's, and the files are those of the
+-- runner and of the slots' connections.
 pub record Leaves {E J A : Type 0} (m : Meaning E J A Bay Job Answer) (variables : List Variable) (deck : List Stated) (files : Files) (run : Run) (rack : Rack E J A) : Type 0 where
   pub desks : List Desk
   pub held : HoldsDesks m rack desks
+  pub same : Forgets (record { desked = record { core = run.core; desks = desks }; ending = run.ending }) (executed variables deck (start variables files))
   pub result : desk_result (record { desked = record { core = run.core; desks = desks }; ending = run.ending }) ≡ execution variables deck files
 
 module _ {E J A S : Type 0} (m : Meaning E J A Bay Job Answer) (s : Shows S) where

@@ -1,18 +1,19 @@
 // Records of direct access.
-ghost use Rattle.std.specs.Prelude.{◌≡◌, ◌+◌, ◌*◌, ◌<◌, ◌≤◌, ◌↔◌, length, max, IfOk, IsTrue, OnOk, OnErr, List, ℕ, Some, None, if◌then◌else◌};
+ghost use Rattle.std.specs.Prelude.{◌≡◌, ◌+◌, ◌*◌, ◌<◌, ◌≤◌, ◌^◌, ◌↔◌, length, max, IfOk, IsTrue, OnOk, OnErr, List, ℕ, Some, None, if◌then◌else◌};
 ghost use Rattle.fj_outside.specs.Faults.{Rose};
 ghost use Rattle.fj_span.specs.Change.{KeepsUpToChange};
 ghost use Rattle.fj_byterec.specs.Pieces.{piece};
 ghost use Rattle.fj_modes.specs.Limits.{longest_file};
 
 use crate::connection::Connection;
-use fj_byterec::{read_direct, write_direct};
+use fj_byterec::{read_direct, write_direct, write_run};
 use fj_modes::Access;
 use fj_outside::{FileStore, Stop};
 use fj_value::Text;
 
 impl<F: FileStore> Connection<F> {
     ghost use Rattle.fj_connect.specs.Connection.{with_direct};
+    ghost use Rattle.fj_connect.specs.DirectRuns.{with_direct_run};
     ghost use Rattle.fj_connect.specs.Linked.{connection_of};
 
     /// Reads the direct record of a number; false is told where there is none. The connection stays as it is. `into`
@@ -59,6 +60,36 @@ impl<F: FileStore> Connection<F> {
         self.looked = None;
         write_direct(&mut self.file, self.modes.recl, number, text, fill)?;
         self.spot.next_number = number + 1;
+        Ok(())
+    }
+
+    /// Puts the bytes of whole direct records from a place on, of which the last has this number. The gap before them is
+    /// filled up with a byte. After a `Stop` nothing is said of the next record's number.
+    pub fn put_direct_run(
+        &mut self,
+        start: u64,
+        run: &[u8],
+        last: u64,
+        fill: u8,
+    ) -> Result<(), Stop>
+        requires access { self.old.modes.access ≡ Access.Direct }
+        requires limit { start + length run.now ≤ longest_file }
+        requires last { last < 2 ^ 63 }
+        ensures telling { F.tells self.old.file ↔ F.tells self.new.file }
+        ensures put { F.tells self.old.file → OnOk result
+            (connection_of F.bytes self.new ≡ with_direct_run (connection_of F.bytes self.old) start run.now last fill) }
+        ensures stopped { F.tells self.old.file → OnErr result (KeepsUpToChange (F.bytes self.old.file)
+            (with_direct_run (connection_of F.bytes self.old) start run.now last fill).bytes (F.bytes self.new.file)) }
+
+        // Told or not.
+        ensures modes { self.new.modes ≡ self.old.modes }
+        ensures name { self.new.name ≡ self.old.name }
+        ensures later { F.count self.old.file ≤ F.count self.new.file }
+        ensures failed { result ≡ Err Stop.Failed → Rose (F.count self.old.file) (F.count self.new.file) }
+    {
+        self.looked = None;
+        write_run(&mut self.file, start, run, fill)?;
+        self.spot.next_number = last + 1;
         Ok(())
     }
 }

@@ -1,18 +1,19 @@
 // Transfers on files in memory, with the bytes of the files written out by hand.
-ghost use Rattle.std.specs.Prelude.{◌≡◌, ◌↔◌, IfOk};
+ghost use Rattle.std.specs.Prelude.{◌≡◌, ◌↔◌, ◌<◌, ◌^◌, length, All, IfOk};
 ghost use Rattle.std.specs.FinSet as set;
 ghost use Rattle.fj_list.specs.Moved.{IsOrdered};
 ghost use Rattle.fj_outside.specs.Holdings.{IsInUse};
-ghost use Rattle.fj_transfer.specs.Moving.{HasValues};
+ghost use Rattle.fj_namelist.specs.GroupText.{IsWithin};
+ghost use Rattle.fj_transfer.specs.Moving.{HasValues, members_of};
 ghost use Rattle.fj_transfer.specs.Printing.{IsRecords};
 
 use crate::tests::{A, I4, I8, Item, L, MODES, moved};
 use crate::{
-    Layout, body_of, read_direct, read_sequential, read_stream, write_direct, write_lines,
-    write_sequential, write_stream,
+    Layout, body_of, read_direct, read_numbered, read_sequential, read_stream, write_direct,
+    write_lines, write_numbered, write_sequential, write_stream,
 };
 use fj_connect::{Connection, OpenFault, open_file};
-use fj_format::parse;
+use fj_format::{Format, parse};
 use fj_list::Moved;
 use fj_modes::{Access, FileName, FileStatus, OpenSpec, settle_open};
 use fj_outside::{Disk, FileStore, MemoryDisk, Stop};
@@ -20,13 +21,13 @@ use fj_value::{Condition, Value};
 use std::alloc::{AllocError, Global};
 use std::test::Fail;
 
-const NAME: &str = "fort.10";
+pub const NAME: &str = "fort.10";
 
 /// A row that asks for what its access does not have.
-const NOT_DONE: Condition = Condition::Error(99);
+pub const NOT_DONE: Condition = Condition::Error(99);
 
 /// An OPEN statement; records have at most six bytes.
-fn statement(access: Access, formatted: bool) -> OpenSpec {
+pub fn statement(access: Access, formatted: bool) -> OpenSpec {
     let mut spec = OpenSpec::default();
     spec.status = Some(FileStatus::Old);
     spec.access = Some(access);
@@ -39,7 +40,7 @@ fn statement(access: Access, formatted: bool) -> OpenSpec {
 
 /// Connects to the file of unit 10, on a disk of which no file is out.
 #[tactic(auto, using(fj_outside::proofs::HoldingLaws::free_of_empty))]
-fn connect<D: Disk>(
+pub fn connect<D: Disk>(
     alloc: Global,
     disk: &mut D,
     spec: &OpenSpec,
@@ -57,7 +58,7 @@ fn connect<D: Disk>(
 
 /// A disk that holds that file with these bytes.
 #[tactic(auto, using(fj_outside::proofs::HoldingLaws::free_of_empty))]
-fn disk_of(alloc: Global, bytes: &[u8]) -> Result<MemoryDisk, AllocError>
+pub fn disk_of(alloc: Global, bytes: &[u8]) -> Result<MemoryDisk, AllocError>
     ensures { IfOk result (λ disk. disk.in_use ≡ set.empty) }
 {
     let mut disk = MemoryDisk::new(alloc);
@@ -144,7 +145,7 @@ fn read_from<D: Disk>(
 }
 
 /// Whether a value is that of an item; no item stands for no value.
-fn is_value(value: &Value, item: Option<Item>) -> bool {
+pub fn is_value(value: &Value, item: Option<Item>) -> bool {
     match (value, item) {
         (Value::Undefined, None) => true,
         (Value::Int(n), Some(I4(m))) => *n == i64::from(m),
@@ -171,18 +172,8 @@ type Written = (
 use Access::{Direct, Sequential, Stream};
 use Condition::{EndOfFile, Error, Fine};
 
-static WRITES: [Written; 11] = [
+static WRITES: [Written; 7] = [
     // A frame is the last record; the one that stood there and those behind it are gone.
-    (
-        Sequential,
-        b"",
-        0,
-        &[I4(5)],
-        Fine,
-        b"\x04\0\0\0\x05\0\0\0\x04\0\0\0",
-        12,
-        1,
-    ),
     (
         Sequential,
         b"\x01\0\0\0a\x01\0\0\0\x01\0\0\0b\x01\0\0\0",
@@ -193,7 +184,6 @@ static WRITES: [Written; 11] = [
         19,
         1,
     ),
-    (Sequential, b"abc", 1, &[], Fine, b"a\0\0\0\0\0\0\0\0", 9, 1),
     (Sequential, b"abc", 1, &[I8(1)], Error(15), b"abc", 1, 1),
     // A direct record is filled up with zeros, and so is the gap before it.
     (
@@ -219,16 +209,6 @@ static WRITES: [Written; 11] = [
     (
         Direct,
         b"AAAAAA",
-        1,
-        &[A(b"abcdefg")],
-        Error(15),
-        b"AAAAAA",
-        0,
-        1,
-    ),
-    (
-        Direct,
-        b"AAAAAA",
         44_739_243,
         &[],
         Error(25),
@@ -248,7 +228,6 @@ static WRITES: [Written; 11] = [
         7,
         1,
     ),
-    (Stream, b"abc", 1, &[], Fine, b"abc", 1, 1),
 ];
 
 #[test]
@@ -280,8 +259,7 @@ type Read = (
 
 const FRAMES: &[u8] = b"\x04\0\0\0\x05\0\0\0\x04\0\0\0\x03\0\0\0abc\x03\0\0\0";
 
-static READS: [Read; 10] = [
-    (Sequential, FRAMES, 0, &[I4(0)], Fine, &[Some(I4(5))], 12, 1),
+static READS: [Read; 8] = [
     // What the items do not need of a record is skipped; more than it has is an error, as is a frame that is not whole.
     (
         Sequential,
@@ -334,7 +312,6 @@ static READS: [Read; 10] = [
         0,
         1,
     ),
-    (Direct, b"AAAAAA", 1, &[I8(0)], Error(19), &[None], 0, 1),
     (
         Stream,
         b"ab\x02\0\0\0c",
@@ -375,12 +352,20 @@ fn put<F: FileStore>(
     advance: bool,
     items: &Moved,
 ) -> Result<Condition, Stop>
-    requires { IsRecords layout.now }
+    requires records { IsRecords layout.now }
+    requires grouped { All (IsWithin (length items.now.cells)) (members_of layout.now) }
     ensures { c.new.name ≡ c.old.name }
 {
+    if c.modes().access == Access::Direct {
+        return match (place, layout) {
+            (Some(number), Layout::Explicit(format)) if number > 0 => {
+                write_numbered(alloc, c, number, format, MODES, items)
+            }
+            _ => Ok(NOT_DONE),
+        };
+    }
     let size = c.file_len();
-    let formatted = c.modes().formatted && c.modes().access != Access::Direct;
-    if !formatted {
+    if !c.modes().formatted {
         return Ok(NOT_DONE);
     }
     match place {
@@ -402,6 +387,7 @@ fn put_from<D: Disk>(
 ) -> Result<(Condition, u64), OpenFault>
     requires home { D.tells disk.old → (D.held disk.old).in_use ≡ set.empty }
     requires records { IsRecords layout.now }
+    requires grouped { All (IsWithin (length items.now.cells)) (members_of layout.now) }
 {
     let mut c = connect(alloc, disk, &statement(access, true))?;
     if at <= c.file_len() {
@@ -428,7 +414,7 @@ type Put = (
     u64,
 );
 
-static PUTS: [Put; 9] = [
+static PUTS: [Put; 10] = [
     // The record is the last of the file; a line feed that is missing before it is written.
     (
         Sequential,
@@ -466,18 +452,6 @@ static PUTS: [Put; 9] = [
         b"ab",
         2,
     ),
-    (
-        Sequential,
-        b"a\nb\n",
-        2,
-        None,
-        "(A,/)",
-        false,
-        &[A(b"xy")],
-        Fine,
-        b"a\nxy\n",
-        5,
-    ),
     // Errors leave the file and the position.
     (
         Sequential,
@@ -489,18 +463,6 @@ static PUTS: [Put; 9] = [
         &[A(b"abcdefg")],
         Error(15),
         b"a\nb\n",
-        2,
-    ),
-    (
-        Sequential,
-        b"ab",
-        2,
-        None,
-        "(A,I1)",
-        true,
-        &[A(b"x"), A(b"y")],
-        Error(12),
-        b"ab",
         2,
     ),
     // POS= begins a record and writes no line feed before it.
@@ -540,6 +502,43 @@ static PUTS: [Put; 9] = [
         b"abc",
         3,
     ),
+    // Records of direct access are filled up with blanks, and those behind them stay.
+    (
+        Direct,
+        b"AAAAAABBBBBBCCCCCC",
+        0,
+        Some(2),
+        "(A)",
+        true,
+        &[A(b"xy")],
+        Fine,
+        b"AAAAAAxy    CCCCCC",
+        0,
+    ),
+    (
+        Direct,
+        b"",
+        0,
+        Some(1),
+        "(I1/I1)",
+        true,
+        &[I4(1), I4(2)],
+        Fine,
+        b"1     2     ",
+        0,
+    ),
+    (
+        Direct,
+        b"AAAAAA",
+        0,
+        Some(1),
+        "(I1/A)",
+        true,
+        &[I4(1), A(b"abcdefg")],
+        Error(15),
+        b"AAAAAA",
+        0,
+    ),
 ];
 
 #[test]
@@ -556,6 +555,78 @@ fn formatted_output(rt: HostRuntime) -> Result<(), Fail> {
         )?;
         assert_eq!(rt; came, (condition, position), "{format}");
         assert!(rt; disk.bytes_of(NAME) == Some(after), "{format}");
+    }
+    Ok(())
+}
+
+/// Reads items from the record of a number on.
+fn get_from<D: Disk>(
+    alloc: Global,
+    disk: &mut D,
+    number: u64,
+    format: &Format,
+    items: &mut Moved,
+) -> Result<Condition, OpenFault>
+    requires home { D.tells disk.old → (D.held disk.old).in_use ≡ set.empty }
+    requires ordered { IsOrdered items.old }
+    requires few { length items.old.order < 2 ^ 32 }
+{
+    let mut c = connect(alloc, disk, &statement(Direct, true))?;
+    let direct = c.modes().access == Direct && number > 0 && number < 100;
+    let performed = if direct {
+        read_numbered(alloc, &mut c, number, format, MODES, items).map(|p| p.condition)
+    } else {
+        Ok(NOT_DONE)
+    };
+    c.close_file(disk, true).map_err(Stop::from)?;
+    Ok(performed?)
+}
+
+/// The file of records of six characters, the number of the first record, the format, items with other values, and the
+/// condition and the items then.
+type Got = (
+    &'static [u8],
+    u64,
+    &'static str,
+    &'static [Item],
+    Condition,
+    &'static [Option<Item>],
+);
+
+static GETS: [Got; 3] = [
+    (
+        b"AAAAAA1 2   34    ",
+        2,
+        "(I1,1X,I1/I2)",
+        &[I4(0), I4(0), I4(0)],
+        Fine,
+        &[Some(I4(1)), Some(I4(2)), Some(I4(34))],
+    ),
+    // There has to be a record for a slash too.
+    (
+        b"1 2   ",
+        1,
+        "(I1/I1)",
+        &[I4(0), I4(0)],
+        Error(17),
+        &[None, None],
+    ),
+    (b"1 2   ", 2, "(I1)", &[I4(0)], Error(17), &[None]),
+];
+
+#[test]
+fn direct_input_under_a_format(rt: HostRuntime) -> Result<(), Fail> {
+    let alloc = rt.alloc();
+    for (bytes, number, format, items, condition, after) in GETS {
+        assert!(rt; items.len() < 1000 && format.len() < 100);
+        let mut items = moved(alloc, items, 1)?;
+        let mut disk = disk_of(alloc, bytes)?;
+        let format = parse(alloc, format.as_bytes())?;
+        let came = get_from(alloc, &mut disk, number, &format, &mut items)?;
+        assert_eq!(rt; came, condition);
+        for (cell, item) in items.cells.as_slice().iter().zip(after) {
+            assert!(rt; is_value(&cell.value, *item));
+        }
     }
     Ok(())
 }

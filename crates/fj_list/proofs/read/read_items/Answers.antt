@@ -84,6 +84,7 @@ loop-at-preserved g c =
           ∙ sym (outcome_on (wanted ending) after left cells c.serve.new.cells at next (subst Q (ap condition_of (kept.same t)) h) (rw c.in_default-2.is at c.in_ok-condition-2.ensures.served))
           ∙ sym step ∙ kept.contents t;
       same = search rules;
+      source = search rules;
       later = search rules;
     }
 

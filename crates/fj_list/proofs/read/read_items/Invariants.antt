@@ -14,5 +14,6 @@ invariant-loop-at g l = record {
       ≡ items_read l.comma (condition_of (g.R.Records.ending l.fn.records)) l.order l.fn.cells true l.fn.scan.count l.fn.scan.form
       (constant_of l.fn.scan.form l.fn.scan) (ahead l.fn.scan (g.R.Records.to_come l.fn.records));
   same : g.R.Records.tells l.fn.records → g.R.Records.ending l.records ≡ g.R.Records.ending l.fn.records;
+  source : g.R.Records.source l.records ≡ g.R.Records.source l.fn.records;
   later : g.R.Records.count l.fn.records ≤ g.R.Records.count l.records;
 }

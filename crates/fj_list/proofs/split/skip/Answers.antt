@@ -41,5 +41,6 @@ lines-preserved g c =
           (sym c.is_some.ensures ∙ c.if-is_some.false) (c.in_ok-end.ensures.contents (kept.telling.0 t)))
           ∙ sym (skip_passes before.line before.at to_come past) ∙ kept.contents t;
       same = search rules;
+      source = search rules;
       later = search rules;
     }

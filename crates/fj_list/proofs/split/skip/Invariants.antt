@@ -9,6 +9,7 @@ invariant-lines g l = record {
   telling : g.R.Records.tells l.fn.records ↔ g.R.Records.tells l.records;
   contents : g.R.Records.tells l.fn.records → skipped (ahead l.scan (g.R.Records.to_come l.records)) ≡ skipped (ahead l.fn.scan (g.R.Records.to_come l.fn.records));
   same : g.R.Records.tells l.fn.records → g.R.Records.ending l.records ≡ g.R.Records.ending l.fn.records;
+  source : g.R.Records.source l.records ≡ g.R.Records.source l.fn.records;
   later : g.R.Records.count l.fn.records ≤ g.R.Records.count l.records;
 }
 

@@ -7,6 +7,7 @@ invariant-lines g l = record {
   telling : g.R.Records.tells l.fn.records ↔ g.R.Records.tells l.records;
   contents : g.R.Records.tells l.fn.records → heading l.group (g.R.Records.to_come l.records) ≡ heading l.fn.group (g.R.Records.to_come l.fn.records);
   same : g.R.Records.tells l.fn.records → g.R.Records.ending l.records ≡ g.R.Records.ending l.fn.records;
+  source : g.R.Records.source l.records ≡ g.R.Records.source l.fn.records;
   later : g.R.Records.count l.fn.records ≤ g.R.Records.count l.records;
 }
 

@@ -1,4 +1,4 @@
-use Rattle.std.proofs.Common.{◌≡◌, Some, ap, ◌∙◌}
+use Rattle.std.proofs.Common.{Some, ap, ◌∙◌}
 use Rattle.fj_connect.specs.Connection.{Connection, past_end}
 use Rattle.fj_connect.specs.Linked.{connection_of}
 use Rattle.fj_connect.specs.Positions.{ended}

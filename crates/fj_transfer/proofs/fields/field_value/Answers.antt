@@ -1,4 +1,4 @@
-use Rattle.std.proofs.Common.{List, ℕ, subst, Result}
+use Rattle.std.proofs.Common.{subst, Result}
 use Rattle.std.specs.Prelude.{IfOk}
 use Rattle.fj_value.specs.declared.value.Value.{Value}
 use Rattle.fj_value.specs.declared.condition.Condition.{Condition}

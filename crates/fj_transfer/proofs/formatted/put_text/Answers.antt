@@ -1,4 +1,4 @@
-use Rattle.std.proofs.Common.{◌≡◌, ◌<◌, ◌≤◌, ◌+◌, length, ap, sym, subst, ◌∙◌, arith, List, ℕ}
+use Rattle.std.proofs.Common.{◌<◌, ◌≤◌, ◌+◌, length, ap, subst, arith}
 use Rattle.fj_span.specs.Change.{KeepsUpToChange}
 use Rattle.fj_span.proofs.ChangeLaws.{on_any_err}
 use Rattle.fj_connect.specs.Connection.{Connection, with_records, with_open_record}

@@ -1,4 +1,4 @@
-use Rattle.std.proofs.Common.{◌≡◌, ◌||◌, Bool, not, length, ap, sym, subst, ◌∙◌, List, ℕ}
+use Rattle.std.proofs.Common.{◌≡◌, ◌||◌, Bool, not, ap, sym, subst, ◌∙◌, List, ℕ}
 use Rattle.std.specs.Prelude.{IfOk, OnErr}
 use Rattle.fj_span.specs.Change.{KeepsUpToChange}
 use Rattle.fj_connect.specs.Connection.{Connection, begun}

@@ -1,4 +1,3 @@
-use Rattle.std.proofs.Common.{◌≡◌, length}
 use Rattle.fj_line.specs.Page.{at_hand}
 use Rattle.fj_transfer.specs.Printing.{actions_by, control_of}
 use Rattle.fj_transfer.proofs.PrintedLemmas.{prints_fine}

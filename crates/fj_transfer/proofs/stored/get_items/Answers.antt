@@ -1,4 +1,4 @@
-use Rattle.std.proofs.Common.{◌≡◌, ◌<◌, ◌+◌, List, length, get_or, drop, take, ap, sym, ◌∙◌, arith}
+use Rattle.std.proofs.Common.{◌+◌, List, get_or, drop, take, ap, sym, ◌∙◌, arith}
 use Rattle.fj_value.specs.declared.value.Cell.{Cell}
 use Rattle.fj_unfrec.specs.Stored.{value_of}
 use Rattle.fj_list.specs.ListInput.{kind_at, with_value}

@@ -1,4 +1,4 @@
-use Rattle.std.proofs.Common.{◌≡◌, ◌<◌, ◌+◌, List, length, ap, sym, ◌∙◌, arith, add-one}
+use Rattle.std.proofs.Common.{◌≡◌, ◌<◌, List, length, ap, sym, ◌∙◌, arith, add-one}
 use Rattle.fj_value.specs.declared.value.Cell.{Cell}
 use Rattle.fj_value.specs.declared.value.Value.TheVariants.{Undefined}
 use Rattle.fj_list.specs.ListInput.{with_value}

@@ -1,4 +1,4 @@
-use Rattle.std.proofs.Common.{◌≡◌, ◌<◌, ◌≤◌, ◌*◌, length, max, ap, sym, ◌∙◌, arith}
+use Rattle.std.proofs.Common.{◌≡◌, ◌<◌, ◌≤◌, ◌*◌, length, max, arith}
 use Rattle.fj_connect.specs.Linked.{connection_of}
 use Rattle.fj_transfer.proofs.UnformattedLemmas.{direct_past, far}
 use Rattle.fj_transfer.proofs.unformatted.write_direct.Goals as goal

@@ -1,5 +1,4 @@
-use Rattle.std.proofs.Common.{◌≡◌, ◌≢◌, ltb, length}
-use Rattle.fj_control.specs.Steps.{done}
+use Rattle.std.proofs.Common.{ltb, length}
 use Rattle.fj_control.specs.Walk.{given}
 use Rattle.fj_connect.specs.Linked.{connection_of}
 use Rattle.fj_connect.specs.Positions.{ended}

@@ -1,4 +1,4 @@
-use Rattle.std.proofs.Common.{[], ◌∷◌, length, sym, ap, refl}
+use Rattle.std.proofs.Common.{[], ◌∷◌, length, sym, ap}
 use Rattle.std.proofs.lemmas.Result.{err_from_is_err_and}
 use Rattle.fj_line.specs.Actions.{end_record}
 use Rattle.fj_line.specs.Page.{at_hand}
