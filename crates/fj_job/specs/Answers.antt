@@ -1,5 +1,5 @@
 -- What a run tells: its answer, what the sink took, what the disk is left with, and the cause of each fault.
-use Rattle.std.specs.Prelude.{◌≡◌, ◌⊎◌, ℕ, List, ◌++◌}
+use Rattle.std.specs.Prelude.{◌≡◌, ◌⊎◌, ◌↔◌, ◌≤◌, ℕ, List, ◌++◌}
 use Rattle.fj_outside.specs.Holdings.{Files as Held}
 use Rattle.fj_statement.specs.declared.reason.Reason.{Reason}
 use Rattle.fj_statement.specs.declared.deck.Deck.{Deck}
@@ -23,6 +23,13 @@ abbrev pub IsLost : Status → Type 0
 IsLost WriteFault = Unit {0}
 IsLost Memory = Unit {0}
 IsLost _ = ⊥
+
+-- an answer that a deck may come to which is carried out
+abbrev pub IsOfRun : Status → Type 0
+IsOfRun (DeckRefused line reason) = ⊥
+IsOfRun Usage = ⊥
+IsOfRun ReadFault = ⊥
+IsOfRun _ = Unit {0}
 
 -- an answer that no statement comes before
 abbrev pub LeavesDisk : Status → Type 0
@@ -55,6 +62,10 @@ abbrev pub HasDeck : Task → List ℕ → Type 0
 HasDeck Refuse text = ⊥
 HasDeck _ text = (deck : Deck) × IsDeck text deck
 
+-- the text is a deck
+abbrev pub IsSomeDeck : List ℕ → Type 0
+IsSomeDeck text = (deck : Deck) × IsDeck text deck
+
 -- the answer and the files that are left are those of a reply, and its output was taken
 pub record Replied (task : Task) (text : List ℕ) (files : Held) (status : Status) (left : Held) (Taken : List ℕ → Type 0) : Type 0 where
   pub reply : Reply
@@ -80,3 +91,19 @@ pub record Told (task : Task) (status : Status) (SourceTells SinkTells DiskTells
   pub cause : HasCause SourceRose SinkRose DiskRose status
   -- Where no count rises the answer is that of a reply, or memory was wanting.
   pub fine : (SourceRose → ⊥) → (SinkRose → ⊥) → (DiskRose → ⊥) → (status ≡ Memory) ⊎ IsAnswer status
+
+-- Source, sink and disk go on telling what they hold, or not, and their counts of faults do not fall.
+pub record GoesOn (Tells Tells' : Type 0) (count count' : ℕ) : Type 0 where
+  pub telling : Tells ↔ Tells'
+  pub later : count ≤ count'
+
+-- What stays as it was.
+pub record Keeps {R W D : Type 0} (task : Task) (status : Status) (SourceTells : Type 0) (text : List ℕ) (deck deck' : R) (out out' : W) (disk disk' : D) : Type 0 where
+  -- Words that are no form leave the source and the disk, and CHECK leaves the disk.
+  pub words : task ≡ Refuse → (deck' ≡ deck) × (disk' ≡ disk)
+  pub check : task ≡ Check → disk' ≡ disk
+  -- Where no deck is carried out the disk is as it was.
+  pub answer : LeavesDisk status → disk' ≡ disk
+  pub changed : SourceTells → (disk' ≡ disk) ⊎ IsSomeDeck text
+  -- A fault of the source leaves the sink.
+  pub untold : status ≡ ReadFault → out' ≡ out

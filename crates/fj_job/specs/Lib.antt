@@ -2,3 +2,5 @@ pub mod Taken
 pub mod Task
 pub mod Reply
 pub mod Answers
+pub mod Carrying
+pub mod Concluding

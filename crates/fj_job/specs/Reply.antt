@@ -1,16 +1,16 @@
 -- What a run answers, prints and leaves.
-use Rattle.std.specs.Prelude.{◌≡◌, ◌⊎◌, ℕ, pos, ◌+◌, ◌==◌, List, [], ◌∷◌, ◌++◌, length, map, min, Bool, Option, Some, None, Result, Ok, Err, if◌then◌else◌}
+use Rattle.std.specs.Prelude.{◌≡◌, ◌⊎◌, ℕ, zero, suc, pos, ◌+◌, ◌==◌, List, [], ◌∷◌, ◌++◌, length, min, Bool, Some, Result, Ok, Err, if◌then◌else◌}
 use Rattle.std.specs.List.{flat_map}
 use Rattle.std.specs.FinMap as map
 use Rattle.fj_value.specs.Condition.{code_of}
-use Rattle.fj_value.specs.declared.value.Value.{Value}
+use Rattle.fj_value.specs.declared.place.Place.{Place}
 use Rattle.fj_outside.specs.Holdings.{Files as Held}
 use Rattle.fj_statement.specs.declared.deck.Variable.{Variable}
 use Rattle.fj_statement.specs.declared.deck.Deck.{Deck}
 use Rattle.fj_statement.specs.declared.reason.Reason.{Reason}
 use Rattle.fj_deck.specs.Deck.{IsDeck, IsRefused}
-use Rattle.fj_store.specs.Variables.{Variables}
-use Rattle.fj_plain.specs.State.{Files, Output, Tell}
+use Rattle.fj_store.specs.Variables.{Variables, value_at}
+use Rattle.fj_plain.specs.State.{Files, Output, Tell, elements}
 use Rattle.fj_plain.specs.Statement.{Result as Left, Ending, ended, error_stop, prohibition, plain_execution}
 use Rattle.fj_report.specs.Lines.{usage_text, status_text, check_text, variable_text, trace_text}
 use Rattle.fj_report.specs.declared.status.Status.{Status}
@@ -46,18 +46,25 @@ told_line t = trace_text t.line (pos t.unit) t.id (code_of t.condition)
 abbrev pub trace_of : Bool → List Tell → List ℕ
 trace_of trace tells = if trace then flat_map told_line tells else []
 
--- the lines of a variable's places: a scalar's has no index, and those of an array's elements begin with the first
-abbrev pub place_lines : List ℕ → ℕ → List Value → List ℕ
-place_lines name index [] = []
-place_lines name index (value ∷ values) = variable_text name index (Some value) ++ place_lines name (index + 1) values
+-- the index that is shown of a place: a scalar has none
+abbrev pub shown_at : Variable → ℕ → ℕ
+shown_at variable index = min variable.count index
 
-abbrev pub first_index : Variable → ℕ
-first_index variable = min variable.count 1
+abbrev pub place_line : Variables → Variable → Place → List ℕ
+place_line vars variable place = variable_text variable.name (shown_at variable place.index) (Some (value_at vars place))
 
--- the lines of the variables in the order of their declarations
+-- the lines of so many places of a variable, from an index on
+abbrev pub place_lines : Variables → Variable → ℕ → ℕ → ℕ → List ℕ
+place_lines vars variable var index zero = []
+place_lines vars variable var index (suc n) = place_line vars variable (record { var = var; index = index }) ++ place_lines vars variable var (index + 1) n
+
+-- the lines of variables in the order of their declarations, from a number on
+abbrev pub lines_from : Variables → ℕ → List Variable → List ℕ
+lines_from vars var [] = []
+lines_from vars var (variable ∷ more) = place_lines vars variable var 1 (elements variable) ++ lines_from vars (var + 1) more
+
 abbrev pub variable_lines : List Variable → Variables → List ℕ
-variable_lines (variable ∷ variables) (values ∷ more) = place_lines variable.name (first_index variable) values ++ variable_lines variables more
-variable_lines _ _ = []
+variable_lines variables vars = lines_from vars 0 variables
 
 -- what unit `*` got, the trace, how the deck ended, and its variables
 abbrev pub report_of : Deck → Bool → Left → Ending → List ℕ

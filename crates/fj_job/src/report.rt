@@ -1,20 +1,25 @@
-// The report of a run: the line feed of an open record, the trace, how the deck ended, and its variables.
-ghost use Rattle.std.specs.Prelude.{◌≡◌, ◌≤◌, ◌+◌, ◌++◌, length, drop, map, IfOk, OnOk};
+// The report of a run: the trace, how the deck ended, and its variables.
+ghost use Rattle.std.specs.Prelude.{◌≡◌, ◌≤◌, ◌<◌, ◌++◌, length, min, max, IfOk, OnOk, unwrap_or};
+ghost use Rattle.std.specs.Option.{option_copied};
 ghost use Rattle.fj_store.specs.Storage.{values_of};
+ghost use Rattle.fj_store.specs.Variables.{value_at};
 ghost use Rattle.fj_report.specs.Lines.{status_text, check_text};
+ghost use Rattle.fj_plain.specs.State.{elements};
 ghost use Rattle.fj_pending.specs.Plain.{tells_of};
 ghost use Rattle.fj_runner.specs.Machine.{ending_of};
-ghost use Rattle.fj_job.specs.Reply.{status_of, open_feed, trace_of, variable_lines};
+ghost use Rattle.fj_job.specs.Reply.{status_of, trace_of, shown_at, place_line, place_lines, variable_lines};
+ghost use Rattle.fj_job.specs.Concluding.{run_text};
 
-use fj_items::Output;
+use fj_acts::Core;
 use fj_pending::Tell;
 use fj_report::{Status, check_line, status_line, trace_line, variable_line};
 use fj_runner::Ending;
 use fj_statement::Variable;
 use fj_store::Store;
-use fj_value::{Place, Tag, Text};
+use fj_value::{Place, Tag, Text, Value};
 use std::alloc::{AllocError, Global};
 
+/// The answer of a deck that ended.
 pub fn status_of(ending: Ending) -> Status
     ensures { result ≡ status_of (ending_of ending) }
 {
@@ -40,5 +45,118 @@ pub fn check_report(alloc: Global, count: usize) -> Result<Text, AllocError>
 {
     let mut text = Text::new(alloc);
     check_line(count, &mut text)?;
+    Ok(text)
+}
+
+/// Adds the lines of the transfers that were told, where they are asked for.
+fn push_trace(text: &mut Text, trace: bool, tells: &[Tell]) -> Result<(), AllocError>
+    ensures { OnOk result (text.new ≡ text.old ++ trace_of trace (tells_of tells.now)) }
+{
+    if !trace {
+        return Ok(());
+    }
+    'adding: for tell in tells {
+        let code = tell.condition.code();
+        trace_line(tell.line, i64::from(tell.unit), Tag(tell.id), code, text)?;
+    }
+    Ok(())
+}
+
+/// Adds the line of a place.
+fn push_place(
+    text: &mut Text,
+    store: &Store,
+    variable: &Variable,
+    place: Place,
+) -> Result<(), AllocError>
+    ensures { OnOk result (text.new ≡ text.old ++ place_line (values_of store.now) variable.now place) }
+{
+    let undefined = Value::Undefined;
+    let value = match store.read(place) {
+        Some(value) => value,
+        None => &undefined,
+    };
+    let index = variable.count.min(place.index);
+    variable_line(variable.name.bytes(), index, Some(value), text)
+}
+
+fn elements(variable: &Variable) -> u32
+    ensures { result ≡ elements variable.now }
+{
+    if variable.count == 0 {
+        1
+    } else {
+        variable.count
+    }
+}
+
+/// Adds the lines of the places of a variable.
+fn push_places(
+    text: &mut Text,
+    store: &Store,
+    variable: &Variable,
+    var: u32,
+) -> Result<(), AllocError>
+    ensures { OnOk result (text.new ≡ text.old ++ place_lines (values_of store.now) variable.now var 1 (elements variable.now)) }
+{
+    let mut left = u64::from(elements(variable));
+    let mut index = 1;
+    'adding: while left > 0 {
+        let place = Place {
+            var,
+            index: index as u32,
+        };
+        push_place(text, store, variable, place)?;
+        index += 1;
+        left -= 1;
+    }
+    Ok(())
+}
+
+/// Adds the lines of the variables.
+fn push_variables(
+    text: &mut Text,
+    store: &Store,
+    variables: &[Variable],
+) -> Result<(), AllocError>
+    requires { length variables.now ≤ 4096 }
+    ensures { OnOk result (text.new ≡ text.old ++ variable_lines variables.now (values_of store.now)) }
+{
+    let mut at = 0;
+    'adding: while at < variables.len() {
+        push_places(text, store, &variables[at], at as u32)?;
+        at += 1;
+    }
+    Ok(())
+}
+
+/// The lines of a run behind its output: the transfers that were told, how the deck ended, and its variables.
+pub fn run_report(
+    alloc: Global,
+    variables: &[Variable],
+    trace: bool,
+    ending: Ending,
+    core: &Core,
+) -> Result<Text, AllocError>
+    requires { length variables.now ≤ 4096 }
+    ensures { IfOk result (λ text. text ≡ run_text variables.now trace (ending_of ending) core.now) }
+{
+    let mut text = Text::new(alloc);
+    push_trace(&mut text, trace, core.tells.as_slice())?;
+    status_line(&status_of(ending), &mut text)?;
+    push_variables(&mut text, &core.store, variables)?;
+    Ok(text)
+}
+
+/// The lines of a run that a fault of the disk cut at a line.
+pub fn fault_report(
+    alloc: Global,
+    trace: bool,
+    line: u32,
+    core: &Core,
+) -> Result<Text, AllocError> {
+    let mut text = Text::new(alloc);
+    push_trace(&mut text, trace, core.tells.as_slice())?;
+    status_line(&Status::DiskFault { stmt: line }, &mut text)?;
     Ok(text)
 }

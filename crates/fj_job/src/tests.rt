@@ -9,7 +9,7 @@ use std::alloc::{AllocError, Global};
 use std::test::Fail;
 
 /// The words, a deck, the answer, the output, and what the file G holds behind the run. Before it, it holds ` 12` and `x`.
-static ROWS: [(&str, &[u8], Status, &[u8], &[u8]); 25] = [
+static ROWS: [(&str, &[u8], Status, &[u8], &[u8]); 24] = [
     ("alone", b"END\n", Status::Ended, b"= ended\n", b" 12\nx\n"),
     (
         "run --workers 0",
@@ -152,16 +152,6 @@ static ROWS: [(&str, &[u8], Status, &[u8], &[u8]); 25] = [
         b" 12\nx\n",
     ),
     (
-        "alone",
-        b"WRITE(*,*) 1\nEND\n",
-        Status::DeckRefused {
-            line: 1,
-            reason: Reason::NotBuilt,
-        },
-        b"= refused at 1: not built\n",
-        b" 12\nx\n",
-    ),
-    (
         "check",
         b"integer a ! x\na=5\nend\n",
         Status::Ended,
@@ -256,7 +246,7 @@ static LINES: [&[u8]; 6] = [
 
 /// What stands in place of the line of that number, and the line and the reason for which the deck is then refused, as the sink
 /// is told.
-static WRONG: [(usize, &[u8], u32, Reason, &[u8]); 19] = [
+static WRONG: [(usize, &[u8], u32, Reason, &[u8]); 17] = [
     (
         1,
         b"INTEGER 1K",
@@ -343,25 +333,11 @@ static WRONG: [(usize, &[u8], u32, Reason, &[u8]); 19] = [
         b"= refused at 4: meaning\n",
     ),
     (
-        4,
-        b"WRITE(10,*) K",
-        4,
-        Reason::NotBuilt,
-        b"= refused at 4: not built\n",
-    ),
-    (
         5,
         b"CLOSE(10",
         5,
         Reason::Syntax,
         b"= refused at 5: syntax\n",
-    ),
-    (
-        5,
-        b"REWIND 10",
-        5,
-        Reason::NotBuilt,
-        b"= refused at 5: not built\n",
     ),
     (6, b"END K", 6, Reason::Syntax, b"= refused at 6: syntax\n"),
     (
