@@ -1,3 +1,4 @@
 pub mod ReplyLaws
 pub mod Telling
 pub mod Leading
+pub mod Executed

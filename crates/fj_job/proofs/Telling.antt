@@ -1,11 +1,13 @@
 -- What a run tells, by what the words ask for.
 use Rattle.std.proofs.Common.{◌≡◌, ◌⊎◌, inl, inr, ℕ, List, ◌++◌, refl, sym, subst}
 use Rattle.fj_outside.specs.Holdings.{Files}
+use Rattle.fj_statement.specs.declared.reason.Reason.{Reason}
+use Rattle.fj_plain.specs.Statement.{Ending, ended, error_stop, prohibition}
 use Rattle.fj_report.specs.Lines.{usage_text}
 use Rattle.fj_report.specs.declared.status.Status.{Status}
 use Rattle.fj_report.specs.declared.status.Status.TheVariants.{Ended, ErrorStop, Prohibited, DeckRefused, Usage, ReadFault, WriteFault, DiskFault, Memory}
-use Rattle.fj_job.specs.Answers.{IsAnswer, IsLost, HasCause, Told, Keeps}
-use Rattle.fj_job.specs.Reply.{usage_reply, files_in}
+use Rattle.fj_job.specs.Answers.{IsAnswer, IsLost, IsOfRun, LeavesDisk, HasCause, IfRefused, Told, Keeps}
+use Rattle.fj_job.specs.Reply.{usage_reply, files_in, status_of}
 use Rattle.fj_job.specs.declared.task.Task.{Task}
 use Rattle.fj_job.specs.declared.task.Task.TheVariants.{Refuse, Check, Execute}
 
@@ -116,3 +118,67 @@ IsNoReadFault _ = Unit {0}
 
 pub no_read : (status : Status) (W D P : Type 0) → HasCause ⊥ W D status → status ≡ ReadFault → P
 no_read status W D P c e = absurd (subst (λ (x : Status). HasCause ⊥ W D x) e c)
+
+-- ---- answers of a deck that is carried out
+
+pub run_leaves : (status : Status) (P : Type 0) → IsOfRun status → LeavesDisk status → P
+run_leaves Ended P r l = absurd l
+run_leaves (ErrorStop stmt code) P r l = absurd l
+run_leaves (Prohibited stmt rule) P r l = absurd l
+run_leaves (DeckRefused line reason) P r l = absurd r
+run_leaves Usage P r l = absurd r
+run_leaves ReadFault P r l = absurd r
+run_leaves WriteFault P r l = absurd l
+run_leaves (DiskFault stmt) P r l = absurd l
+run_leaves Memory P r l = absurd l
+
+pub run_is_not_refused : (status : Status) (P : ℕ → Reason → Type 0) → IsOfRun status → IfRefused status P
+run_is_not_refused Ended P r = tt
+run_is_not_refused (ErrorStop stmt code) P r = tt
+run_is_not_refused (Prohibited stmt rule) P r = tt
+run_is_not_refused (DeckRefused line reason) P r = absurd r
+run_is_not_refused Usage P r = tt
+run_is_not_refused ReadFault P r = tt
+run_is_not_refused WriteFault P r = tt
+run_is_not_refused (DiskFault stmt) P r = tt
+run_is_not_refused Memory P r = tt
+
+pub run_is_no_usage : (status : Status) → IsOfRun status → status ≡ Usage → ⊥
+run_is_no_usage status r e = subst (λ (x : Status). IsOfRun x) e r
+
+-- an answer that was lost is one of a run
+pub lost_of_run : (status : Status) → IsLost status → IsOfRun status
+lost_of_run Ended l = absurd l
+lost_of_run (ErrorStop stmt code) l = absurd l
+lost_of_run (Prohibited stmt rule) l = absurd l
+lost_of_run (DeckRefused line reason) l = absurd l
+lost_of_run Usage l = absurd l
+lost_of_run ReadFault l = absurd l
+lost_of_run WriteFault l = tt
+lost_of_run (DiskFault stmt) l = absurd l
+lost_of_run Memory l = tt
+
+pub ending_of_run : (e : Ending) → IsOfRun (status_of e)
+ending_of_run ended = tt
+ending_of_run (error_stop line code) = tt
+ending_of_run (prohibition line rule) = tt
+
+pub lost_is_no_answer : (status : Status) (P : Type 0) → IsLost status → IsAnswer status → P
+lost_is_no_answer Ended P l a = absurd l
+lost_is_no_answer (ErrorStop stmt code) P l a = absurd l
+lost_is_no_answer (Prohibited stmt rule) P l a = absurd l
+lost_is_no_answer (DeckRefused line reason) P l a = absurd l
+lost_is_no_answer Usage P l a = absurd l
+lost_is_no_answer ReadFault P l a = absurd l
+lost_is_no_answer WriteFault P l a = absurd a
+lost_is_no_answer (DiskFault stmt) P l a = absurd l
+lost_is_no_answer Memory P l a = absurd a
+
+-- an answer that was told or lost, where it is an answer
+pub answered : (status told : Status) (P : Type 0) → (status ≡ told) ⊎ IsLost status → IsAnswer status → (status ≡ told → P) → P
+answered status told P (inl e) a f = f e
+answered status told P (inr l) a f = lost_is_no_answer status P l a
+
+pub of_run : (status told : Status) → IsOfRun told → (status ≡ told) ⊎ IsLost status → IsOfRun status
+of_run status told r (inl e) = subst (λ (x : Status). IsOfRun x) (sym e) r
+of_run status told r (inr l) = lost_of_run status l
