@@ -50,7 +50,7 @@ first_on a b c one two s = two (subst (λ (o : Option Lost). IsSome o) (sym (one
 
 cause_on : (P Q : Type 0) (a b c : ℕ) → a ≤ b → b ≤ c → (P → Q ⊎ Rose a b) → P ⊎ Rose b c → Q ⊎ Rose a c
 cause_on P Q a b c l k one (inr rose) = inr (rose_earlier a b c l rose)
-cause_on P Q a b c l k one (inl p) = elim one p [ inl q ↦ inl q | inr rose ↦ inr (rose_later a b c rose k) ]
+cause_on P Q a b c l k one (inl p) = elim (one p) [ inl q ↦ inl q | inr rose ↦ inr (rose_later a b c rose k) ]
 
 module _ {W D F : Type 0} {ghosts : Ghosts F} (tells_out : W → Type 0) (taken : W → List ℕ) (count_out : W → ℕ) (tells : D → Type 0) (count : D → ℕ) where
   pub leaves_same : (w : W) (d : D) (m : Machine F ghosts) → Leaves tells_out taken count_out tells count w d m w d m

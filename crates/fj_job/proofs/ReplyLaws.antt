@@ -36,8 +36,8 @@ one_run : (deck : Deck) (trace : Bool) (files : Files) (reply other : Reply) →
 one_run deck trace files reply other a b =
     let same : a.ending ≡ b.ending = ap (λ o. unwrap_or o a.ending) (sym a.ends ∙ b.ends) in
     reply_same _ _ _ _ _ _ (a.status ∙ ap status_of same ∙ sym b.status)
-        (a.output ∙ ap (λ (e : Ending). report_of deck trace (plain_execution deck.variables deck.statements files) e) same ∙ sym b.output)
-        (a.files_left ∙ sym b.files_left)
+    (a.output ∙ ap (λ (e : Ending). report_of deck trace (plain_execution deck.variables deck.statements files) e) same ∙ sym b.output)
+    (a.files_left ∙ sym b.files_left)
 
 one_executed : (trace : Bool) (files : Files) (reading : Reading) (reply other : Reply) → IsExecuted reading trace files reply → IsExecuted reading trace files other → reply ≡ other
 one_executed trace files (Ok deck) reply other a b = one_run deck trace files reply other a b

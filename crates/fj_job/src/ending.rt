@@ -33,7 +33,7 @@ use std::alloc::Global;
 
 /// Want of memory, else what was lost first.
 fn first_lost(lost: Option<Lost>, closed: Result<(), Lost>) -> Option<Lost>
-    ensures none { IfNone result ((lost ≡ None) × (closed ≡ Ok ())) }
+    ensures none { IfNone result ((lost ≡ None) × (closed ≡ Ok tt)) }
     ensures sink { result ≡ Some Lost.Sink → (lost ≡ Some Lost.Sink) ⊎ (closed ≡ Err Lost.Sink) }
     ensures disk { result ≡ Some Lost.Disk → (lost ≡ Some Lost.Disk) ⊎ (closed ≡ Err Lost.Disk) }
 {
@@ -85,7 +85,13 @@ fn tell_run<W: Sink>(
 }
 
 /// Reports a fault of the disk at a statement.
-fn tell_fault<W: Sink>(alloc: Global, line: u32, trace: bool, core: &mut Core, out: &mut W) -> Status
+fn tell_fault<W: Sink>(
+    alloc: Global,
+    line: u32,
+    trace: bool,
+    core: &mut Core,
+    out: &mut W,
+) -> Status
     ensures status { (result ≡ Status.DiskFault line) ⊎ IsLost result }
     ensures cause { (result ≡ Status.WriteFault) → Rose (W.count out.old) (W.count out.new) }
     ensures telling { W.tells out.old ↔ W.tells out.new }
@@ -101,7 +107,13 @@ fn tell_fault<W: Sink>(alloc: Global, line: u32, trace: bool, core: &mut Core, o
 }
 
 /// Reports what a runner left, or what was lost first.
-fn report<W: Sink>(alloc: Global, lost: Option<Lost>, trace: bool, left: Left, out: &mut W) -> Status
+fn report<W: Sink>(
+    alloc: Global,
+    lost: Option<Lost>,
+    trace: bool,
+    left: Left,
+    out: &mut W,
+) -> Status
     requires { length left.deck.variables ≤ 4096 }
     ensures told { IsAnswer result → HasEnded trace left lost result (W.tells out.old) (W.taken out.old) (W.taken out.new) }
     ensures of_run { IsOfRun result }
@@ -124,7 +136,14 @@ fn report<W: Sink>(alloc: Global, lost: Option<Lost>, trace: bool, left: Left, o
             let Some(ending) = left.ending else {
                 return Status::Memory;
             };
-            tell_run(alloc, left.deck.variables.as_slice(), trace, ending, &mut left.core, out)
+            tell_run(
+                alloc,
+                left.deck.variables.as_slice(),
+                trace,
+                ending,
+                &mut left.core,
+                out,
+            )
         }
     }
 }

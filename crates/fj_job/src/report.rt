@@ -114,11 +114,7 @@ fn push_places(
 }
 
 /// Adds the lines of the variables.
-fn push_variables(
-    text: &mut Text,
-    store: &Store,
-    variables: &[Variable],
-) -> Result<(), AllocError>
+fn push_variables(text: &mut Text, store: &Store, variables: &[Variable]) -> Result<(), AllocError>
     requires { length variables.now ≤ 4096 }
     ensures { OnOk result (text.new ≡ text.old ++ variable_lines variables.now (values_of store.now)) }
 {

@@ -9,5 +9,5 @@ invariant-adding l =
     record {
       fits : l.index + l.left ≤ 4294967296;
       lines : l.text ++ place_lines (values_of l.store) l.variable l.var l.index l.left
-        ≡ l.fn.text ++ place_lines (values_of l.fn.store) l.fn.variable l.fn.var 1 (elements l.fn.variable);
+          ≡ l.fn.text ++ place_lines (values_of l.fn.store) l.fn.variable l.fn.var 1 (elements l.fn.variable);
     }
