@@ -1,5 +1,6 @@
 // The report of a run: the trace, how the deck ended, and its variables.
 ghost use Rattle.std.specs.Prelude.{◌≡◌, ◌≤◌, ◌<◌, ◌++◌, length, min, max, IfOk, OnOk, unwrap_or};
+ghost use Rattle.std.specs.List.{flat_map};
 ghost use Rattle.std.specs.Option.{option_copied};
 ghost use Rattle.fj_store.specs.Storage.{values_of};
 ghost use Rattle.fj_store.specs.Variables.{value_at};
@@ -7,7 +8,7 @@ ghost use Rattle.fj_report.specs.Lines.{status_text, check_text};
 ghost use Rattle.fj_plain.specs.State.{elements};
 ghost use Rattle.fj_pending.specs.Plain.{tells_of};
 ghost use Rattle.fj_runner.specs.Machine.{ending_of};
-ghost use Rattle.fj_job.specs.Reply.{status_of, trace_of, shown_at, place_line, place_lines, variable_lines};
+ghost use Rattle.fj_job.specs.Reply.{status_of, told_line, trace_of, shown_at, place_line, place_lines, variable_lines};
 ghost use Rattle.fj_job.specs.Concluding.{run_text};
 
 use fj_acts::Core;
@@ -48,18 +49,26 @@ pub fn check_report(alloc: Global, count: usize) -> Result<Text, AllocError>
     Ok(text)
 }
 
-/// Adds the lines of the transfers that were told, where they are asked for.
-fn push_trace(text: &mut Text, trace: bool, tells: &[Tell]) -> Result<(), AllocError>
-    ensures { OnOk result (text.new ≡ text.old ++ trace_of trace (tells_of tells.now)) }
+/// Adds the lines of transfers that were told.
+fn push_tells(text: &mut Text, tells: &[Tell]) -> Result<(), AllocError>
+    ensures { OnOk result (text.new ≡ text.old ++ flat_map told_line (tells_of tells.now)) }
 {
-    if !trace {
-        return Ok(());
-    }
     'adding: for tell in tells {
         let code = tell.condition.code();
         trace_line(tell.line, i64::from(tell.unit), Tag(tell.id), code, text)?;
     }
     Ok(())
+}
+
+/// The same where they are asked for.
+fn push_trace(text: &mut Text, trace: bool, tells: &[Tell]) -> Result<(), AllocError>
+    ensures { OnOk result (text.new ≡ text.old ++ trace_of trace (tells_of tells.now)) }
+{
+    if trace {
+        push_tells(text, tells)
+    } else {
+        Ok(())
+    }
 }
 
 /// Adds the line of a place.
