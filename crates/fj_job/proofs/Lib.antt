@@ -2,3 +2,4 @@ pub mod ReplyLaws
 pub mod Telling
 pub mod Leading
 pub mod Executed
+pub mod Fresh

@@ -1,5 +1,5 @@
 -- A deck that is carried out on its slots.
-use Rattle.std.specs.Prelude.{◌≡◌, ◌×◌, ◌^◌, ◌<◌, ℕ, Bool, false, List, [], replicate, length, All, Option, Some, None, IsSome, is_some, true}
+use Rattle.std.specs.Prelude.{◌≡◌, ◌^◌, ◌<◌, ℕ, Bool, false, List, [], replicate, length, All, Option, Some, None, IsSome, is_some, true}
 use Rattle.fj_statement.specs.declared.deck.Deck.{Deck}
 use Rattle.fj_slot.specs.Ledger.{Ledger}
 use Rattle.fj_slot.specs.Serving.{Meaning}
