@@ -4,6 +4,7 @@ use Rattle.std.specs.Prelude.{is_some, if◌then◌else◌}
 use Rattle.std.proofs.lemmas.List.{length-append, length-take}
 use Rattle.fj_value.specs.declared.condition.Condition.{Condition}
 use Rattle.fj_value.specs.declared.condition.Condition.TheVariants.{Fine, Error}
+use Rattle.fj_format.specs.declared.item.FormatItem.{FormatItem}
 use Rattle.fj_modes.specs.declared.modes.Modes.{Modes}
 use Rattle.fj_modes.specs.declared.specifiers.Access.{Access}
 use Rattle.fj_modes.specs.declared.specifiers.Access.TheVariants.{Sequential, Direct, Stream}
@@ -11,9 +12,12 @@ use Rattle.fj_modes.specs.Words.{same_access}
 use Rattle.fj_connect.specs.Connection.{Connection, with_records}
 use Rattle.fj_connect.specs.Positions.{ended}
 use Rattle.fj_connect.specs.Spot.{is_writing, IsPlaced, size_ended}
+use Rattle.fj_transfer.specs.Places.{at_place}
 use Rattle.fj_transfer.specs.Transfer.{is_formatted, is_explicit, differ, needs_sequence, is_unfit, is_forbidden, unfit}
+use Rattle.fj_transfer.specs.declared.transfer.Layout.{Layout}
+use Rattle.fj_transfer.specs.declared.transfer.Layout.TheVariants.{Unformatted, Explicit}
 use Rattle.fj_transfer.specs.declared.transfer.TransferSpec.{TransferSpec}
-use Rattle.fj_perform.specs.Front.{started}
+use Rattle.fj_perform.specs.Front.{started, place_of, IsStart}
 use Rattle.fj_perform.specs.declared.start.Start.{Start}
 use Rattle.fj_perform.specs.declared.start.Start.TheVariants as start
 
@@ -76,3 +80,20 @@ ended_modes c = by (is_writing c.spot.within)
 
 pub not_open : (c : Connection) → is_writing c.spot.within ≡ false → ended c ≡ c
 not_open c e = ap (λ b. if b then with_records c (10 ∷ []) else c) e
+
+and_left : (a b : Bool) → (a && b) ≡ false → b ≡ true → a ≡ false
+and_left true b e h = cc
+and_left false b e h = refl
+
+-- list-directed and namelist transfers are not of direct access
+pub in_sequence : (modes : Modes) (spec : TransferSpec) → unfit modes spec ≡ Fine → needs_sequence spec.layout (is_explicit spec.layout && not spec.advance) ≡ true → same_access modes.access Direct ≡ false
+in_sequence modes spec fit needs =
+    and_left (same_access modes.access Direct) (needs_sequence spec.layout (is_explicit spec.layout && not spec.advance)) (is_fit modes spec fit).direct needs
+
+-- there a byte or the position begins them
+pub begins_there : (start : Start) (access : Access) (size : ℕ) (c : Connection) → IsStart access size start → same_access access Direct ≡ false → at_place (place_of start) c ≡ started start c
+begins_there start.Here access size c is sequence = refl
+begins_there (start.Byte place) access size c is sequence = refl
+begins_there (start.Record number) access size c is sequence =
+    let h : true ≡ false = sym (ap (λ (a : Access). same_access a Direct) is.0) ∙ sequence in
+    cc

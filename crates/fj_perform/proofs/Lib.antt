@@ -1,2 +1,5 @@
+pub mod Cases
+pub mod Carried
+pub mod Defined
 pub mod Fitting
 pub mod Starting

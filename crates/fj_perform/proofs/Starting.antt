@@ -12,7 +12,8 @@ use Rattle.fj_connect.specs.Spot.{is_writing, IsPlaced, size_ended}
 use Rattle.fj_connect.specs.declared.spot.Within.{Within}
 use Rattle.fj_connect.specs.declared.spot.Within.TheVariants.{Outside, Reading, Writing}
 use Rattle.fj_transfer.specs.Places.{before_number}
-use Rattle.fj_transfer.specs.Transfer.{at_byte, at_record}
+use Rattle.fj_transfer.specs.Transfer.{at_byte, at_record, placed, begins_at}
+use Rattle.fj_transfer.specs.declared.transfer.TransferSpec.{TransferSpec}
 use Rattle.fj_perform.specs.Front.{counted, started, starts, follows, byte_within}
 use Rattle.fj_perform.specs.declared.start.Start.{Start}
 use Rattle.fj_perform.specs.declared.start.Start.TheVariants as start
@@ -34,7 +35,7 @@ after_same c size true placed = by (is_writing c.spot.within) refl c.spot.after_
     by false e a f = refl
     by true e false f = sym f
     by true e true f =
-        let h : true ≡ false = sym e ∙ ap is_writing (placed.at_end f).1.1 in
+        let h : true ≡ false = sym e ∙ ap is_writing (placed.at_end f).2 in
         cc
 
 -- how long the file is where an input begins
@@ -45,22 +46,10 @@ size_follows c size true placed is = by (is_writing c.spot.within) refl
     by : (b : Bool) → is_writing c.spot.within ≡ b → length (ended_by b c).bytes ≡ (if b then size + 1 else size)
     by false e = sym is
     by true e =
-        let at : c.spot.at ≡ size = (placed.record_open (is_open c.spot.within e)).1.1.0 in
+        let at : c.spot.at ≡ size = (placed.record_open (is_open c.spot.within e)).2 in
         omega (arith, at, length-append (take c.spot.at c.bytes) (10 ∷ []), length-take c.spot.at c.bytes)
 
--- REC= and POS= as numbers that count from 1
-abbrev by_number : Option ℕ → Result Start Condition
-by_number None = Err (Error 21)
-by_number (Some n) = Ok (start.Record n)
-
-pub record_starts : (n : ℤ) (c : Connection) → starts c (by_number (counted n)) ≡ at_record c n
-record_starts (negsuc n) c = refl
-record_starts (pos n) c = by (n == 0)
-  where
-    by : (b : Bool) → starts c (by_number (if b then None else Some n)) ≡ (if b then Err (Error 21) else Ok (before_number c n))
-    by true = refl
-    by false = refl
-
+-- POS= as a number that counts from 1
 pub byte_starts : (n : ℤ) (c : Connection) (size : ℕ) → length c.bytes ≡ size → starts c (byte_within size (counted n)) ≡ at_byte c n
 byte_starts (negsuc n) c size is = refl
 byte_starts (pos n) c size is = by (n == 0) ∙ ap (λ s. if (n == 0) || ltb (s + 1) n then Err (Error 21) else Ok (between c (n - 1))) (sym is)
@@ -78,3 +67,12 @@ byte_starts (pos n) c size is = by (n == 0) ∙ ap (λ s. if (n == 0) || ltb (s 
     by : (b : Bool) → starts c (byte_within size (if b then None else Some n)) ≡ (if b || ltb (size + 1) n then Err (Error 21) else Ok (between c (n - 1)))
     by true = refl
     by false = tests (leb n (size + 1)) ∙ ap (λ t. if t then Err (Error 21) else Ok (between c (n - 1))) turned
+
+-- POS= where an input or output begins with it
+pub begins_with_byte : (spec : TransferSpec) (old : Connection) (size : ℕ) (n : ℤ) → IsPlaced old.modes size old.spot → size ≡ length old.bytes → old.spot.after_end ≡ false → spec.rec ≡ None → spec.pos ≡ Some n
+    → starts (follows spec.input old) (byte_within (if spec.input then size_ended old.spot size else size) (counted n)) ≡ begins_at spec (follows spec.input old)
+begins_with_byte spec old size n there is before without named =
+    byte_starts n (follows spec.input old) (if spec.input then size_ended old.spot size else size) (size_follows old size spec.input there is)
+    ∙ ap (λ (r : Option ℤ). placed (follows spec.input old) r (Some n)) (sym without)
+    ∙ ap (λ (p : Option ℤ). placed (follows spec.input old) spec.rec p) (sym named)
+    ∙ ap (λ (b : Bool). if b then Err (Error 20) else placed (follows spec.input old) spec.rec spec.pos) (sym (after_same old size spec.input there ∙ before))

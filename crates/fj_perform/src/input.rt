@@ -19,8 +19,8 @@ ghost use Rattle.fj_transfer.specs.Reader.{done_with};
 ghost use Rattle.fj_transfer.specs.Transfer.{told_with, unfit, explicit_read, unformatted_read, read_by};
 ghost use Rattle.fj_perform.specs.Front.{started, place_of, IsStart};
 
-use crate::start::Start;
-use fj_connect::{Connection, Within};
+use crate::start::{Start, is_open};
+use fj_connect::Connection;
 use fj_format::Format;
 use fj_list::Moved;
 use fj_modes::Access;
@@ -136,7 +136,11 @@ fn read_explicit<F: FileStore>(
             modes,
             moved,
         ),
-        Start::Record(number) => read_numbered(alloc, connection, number, format, modes, moved),
+        Start::Record(number) => {
+            let open = is_open(connection);
+            prove!(!open);
+            read_numbered(alloc, connection, number, format, modes, moved)
+        }
     }
 }
 
@@ -183,7 +187,7 @@ pub fn read_from<F: FileStore>(
     let modes = spec.edit.change(connection.modes().edit);
     match &spec.layout {
         Layout::Unformatted => {
-            let open = connection.spot().within == Within::Writing;
+            let open = is_open(connection);
             prove!(!open);
             let condition = read_unformatted(alloc, connection, start, moved)?;
             Ok(Performed {

@@ -1,10 +1,10 @@
 // Where a transfer begins, and what does not go together with its connection (ISO/IEC 1539-1:2004, 9.5.1).
-ghost use Rattle.std.specs.Prelude.{◌≡◌, ◌<◌, ◌≤◌, ◌^◌, ◌&&◌, not, is_some, if◌then◌else◌, IfOk, IfSome};
+ghost use Rattle.std.specs.Prelude.{◌≡◌, ◌<◌, ◌≤◌, ◌^◌, ◌&&◌, false, not, length, is_some, if◌then◌else◌, IfOk, IfSome};
 ghost use Rattle.fj_modes.specs.Words.{same_access};
 ghost use Rattle.fj_modes.specs.declared.specifiers.Access.TheVariants.{Direct, Stream};
 ghost use Rattle.fj_value.specs.declared.condition.Condition.TheVariants.{Fine};
 ghost use Rattle.fj_connect.specs.Linked.{connection_of};
-ghost use Rattle.fj_connect.specs.Spot.{size_ended};
+ghost use Rattle.fj_connect.specs.Spot.{is_writing, size_ended};
 ghost use Rattle.fj_transfer.specs.Transfer.{is_formatted, is_explicit, differ, is_unfit, is_forbidden, unfit, begins_at};
 ghost use Rattle.fj_perform.specs.Front.{counted, byte_within, starts, follows, IsStart, IsNamed};
 
@@ -124,13 +124,26 @@ fn at_byte(byte: i64, size: u64) -> Result<Start, Condition>
     }
 }
 
+/// Whether output left a record open, which is so in formatted files alone, and never in direct access.
+pub fn is_open<F: FileStore>(connection: &Connection<F>) -> bool
+    ensures value { result ≡ is_writing connection.now.spot.within }
+    ensures formatted { connection.now.modes.formatted ≡ false → result ≡ false }
+    ensures sequence { connection.now.modes.access ≡ Direct → result ≡ false }
+{
+    match connection.spot().within {
+        Within::Writing => true,
+        Within::Outside | Within::Reading => false,
+    }
+}
+
 /// How long the file is once the record is ended that output left open, where an input follows.
 fn size_for<F: FileStore>(connection: &Connection<F>, input: bool) -> u64
     ensures size { result ≡ (if input then size_ended connection.now.spot (F.size connection.now.file) else F.size connection.now.file) }
     ensures near { result ≤ 268435457 }
+    ensures bytes { F.tells connection.now.file → F.size connection.now.file ≡ length (F.bytes connection.now.file) }
 {
     let size = connection.file_len();
-    if input && connection.spot().within == Within::Writing {
+    if input && is_open(connection) {
         return size + 1;
     }
     size

@@ -119,8 +119,9 @@ pub fn perform<F: FileStore>(
     ensures later { F.count connection.old.file ≤ F.count connection.new.file }
     ensures failed { result ≡ Err Stop.Failed → Rose (F.count connection.old.file) (F.count connection.new.file) }
 {
-    match unfit(connection.modes(), &job.spec) {
+    let condition = unfit(connection.modes(), &job.spec);
+    match condition {
         Condition::Fine => perform_fit(alloc, connection, job),
-        condition => Ok(refuse(job, condition)),
+        _ => Ok(refuse(job, condition)),
     }
 }
