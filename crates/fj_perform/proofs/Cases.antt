@@ -1,25 +1,20 @@
 -- A transfer by its layout and by where it begins.
-use Rattle.std.proofs.Common.{◌≡◌, ℕ, Bool, true, false, not, ◌||◌, List, [], Option, Result, refl, sym, ap, ◌∙◌}
+use Rattle.std.proofs.Common.{◌≡◌, ℕ, Bool, false, List, [], Result, refl, sym, ap, ◌∙◌}
 use Rattle.std.specs.Prelude.{is_some, if◌then◌else◌}
 use Rattle.fj_value.specs.declared.condition.Condition.{Condition}
 use Rattle.fj_value.specs.declared.edit.EditModes.{EditModes}
 use Rattle.fj_value.specs.declared.value.Cell.{Cell}
-use Rattle.fj_modes.specs.declared.modes.Modes.{Modes}
 use Rattle.fj_modes.specs.declared.specifiers.Access.TheVariants.{Direct}
 use Rattle.fj_modes.specs.Words.{same_access}
 use Rattle.fj_list.specs.declared.moved.GroupMember.{GroupMember}
 use Rattle.fj_list.specs.declared.moved.Moved.{Moved}
 use Rattle.fj_control.specs.Steps.{Given}
 use Rattle.fj_connect.specs.Connection.{Connection, begun, missing_feed}
-use Rattle.fj_connect.specs.Positions.{ended}
 use Rattle.fj_transfer.specs.Printing.{Printed, printed, control_of, IsRecords}
-use Rattle.fj_transfer.specs.Transfer.{Done, is_explicit, ends_record, read_by, written_by, unformatted_read, unformatted_written, records_written, pieces_written, lines_written}
+use Rattle.fj_transfer.specs.Transfer.{ends_record, read_by, written_by, records_written, pieces_written, lines_written}
 use Rattle.fj_transfer.specs.declared.transfer.Layout.{Layout}
 use Rattle.fj_transfer.specs.declared.transfer.Layout.TheVariants.{Unformatted, Explicit, Listed, Group}
 use Rattle.fj_transfer.specs.declared.transfer.TransferSpec.{TransferSpec}
-use Rattle.fj_perform.specs.Front.{started}
-use Rattle.fj_perform.specs.declared.start.Start.{Start}
-use Rattle.fj_perform.proofs.Fitting.{started_modes}
 
 -- formatted output is its records
 written_records : (layout : Layout) (control : ℕ → List Given) (old c : Connection) (spec : TransferSpec) (modes : EditModes) (moved : Moved) → IsRecords layout → written_by layout control old c spec modes moved ≡ records_written old c spec moved.cells (printed c.modes.recl (begun c) spec control modes moved)

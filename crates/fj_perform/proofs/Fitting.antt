@@ -1,21 +1,16 @@
 -- What holds of a transfer that goes together with its connection, and where it begins.
-use Rattle.std.proofs.Common.{◌≡◌, ◌≢◌, ℕ, zero, suc, ◌+◌, ◌-◌, ◌<◌, ◌≤◌, Bool, true, false, cond, not, ◌&&◌, ◌||◌, List, [], ◌∷◌, ◌++◌, length, take, Option, Some, None, Result, Ok, Err, refl, sym, ap, subst, ◌∙◌, arith}
+use Rattle.std.proofs.Common.{◌≡◌, ℕ, Bool, true, false, cond, not, ◌&&◌, ◌||◌, [], ◌∷◌, refl, sym, ap, ◌∙◌}
 use Rattle.std.specs.Prelude.{is_some, if◌then◌else◌}
-use Rattle.std.proofs.lemmas.List.{length-append, length-take}
-use Rattle.fj_value.specs.declared.condition.Condition.{Condition}
 use Rattle.fj_value.specs.declared.condition.Condition.TheVariants.{Fine, Error}
-use Rattle.fj_format.specs.declared.item.FormatItem.{FormatItem}
 use Rattle.fj_modes.specs.declared.modes.Modes.{Modes}
 use Rattle.fj_modes.specs.declared.specifiers.Access.{Access}
 use Rattle.fj_modes.specs.declared.specifiers.Access.TheVariants.{Sequential, Direct, Stream}
 use Rattle.fj_modes.specs.Words.{same_access}
 use Rattle.fj_connect.specs.Connection.{Connection, with_records}
 use Rattle.fj_connect.specs.Positions.{ended}
-use Rattle.fj_connect.specs.Spot.{is_writing, IsPlaced, size_ended}
+use Rattle.fj_connect.specs.Spot.{is_writing}
 use Rattle.fj_transfer.specs.Places.{at_place}
 use Rattle.fj_transfer.specs.Transfer.{is_formatted, is_explicit, differ, needs_sequence, is_unfit, is_forbidden, unfit}
-use Rattle.fj_transfer.specs.declared.transfer.Layout.{Layout}
-use Rattle.fj_transfer.specs.declared.transfer.Layout.TheVariants.{Unformatted, Explicit}
 use Rattle.fj_transfer.specs.declared.transfer.TransferSpec.{TransferSpec}
 use Rattle.fj_perform.specs.Front.{started, place_of, IsStart}
 use Rattle.fj_perform.specs.declared.start.Start.{Start}

@@ -1,21 +1,16 @@
 -- Where a transfer begins.
-use Rattle.std.proofs.Common.{◌≡◌, ◌≢◌, ℕ, zero, suc, ◌+◌, ◌-◌, ◌<◌, ◌≤◌, ◌==◌, Bool, true, false, cond, not, ◌&&◌, ◌||◌, ltb, leb, List, [], ◌∷◌, ◌++◌, length, take, Option, Some, None, Result, Ok, Err, refl, sym, ap, subst, ◌∙◌, arith, inl, inr}
+use Rattle.std.proofs.Common.{◌≡◌, ℕ, ◌+◌, ◌-◌, ◌==◌, Bool, true, false, not, ◌||◌, ltb, leb, [], ◌∷◌, length, take, Option, Some, None, Ok, Err, refl, sym, ap, ◌∙◌, arith, inl, inr}
 use Rattle.std.specs.Prelude.{ℤ, pos, negsuc, if◌then◌else◌}
 use Rattle.std.proofs.lemmas.Bool.{cases_lt, lt-ltb, le-ltb, le-leb, lt-leb}
 use Rattle.std.proofs.lemmas.List.{length-append, length-take}
-use Rattle.fj_value.specs.declared.condition.Condition.{Condition}
 use Rattle.fj_value.specs.declared.condition.Condition.TheVariants.{Error}
-use Rattle.fj_modes.specs.declared.modes.Modes.{Modes}
 use Rattle.fj_connect.specs.Connection.{Connection, between, with_records}
-use Rattle.fj_connect.specs.Positions.{ended}
 use Rattle.fj_connect.specs.Spot.{is_writing, IsPlaced, size_ended}
 use Rattle.fj_connect.specs.declared.spot.Within.{Within}
 use Rattle.fj_connect.specs.declared.spot.Within.TheVariants.{Outside, Reading, Writing}
-use Rattle.fj_transfer.specs.Places.{before_number}
-use Rattle.fj_transfer.specs.Transfer.{at_byte, at_record, placed, begins_at}
+use Rattle.fj_transfer.specs.Transfer.{at_byte, placed, begins_at}
 use Rattle.fj_transfer.specs.declared.transfer.TransferSpec.{TransferSpec}
-use Rattle.fj_perform.specs.Front.{counted, started, starts, follows, byte_within}
-use Rattle.fj_perform.specs.declared.start.Start.{Start}
+use Rattle.fj_perform.specs.Front.{counted, starts, follows, byte_within}
 use Rattle.fj_perform.specs.declared.start.Start.TheVariants as start
 
 is_open : (w : Within) → is_writing w ≡ true → w ≡ Writing

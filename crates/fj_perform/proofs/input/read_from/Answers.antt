@@ -1,14 +1,11 @@
-use Rattle.std.proofs.Common.{◌≡◌, false, true, ap, refl, sym, subst, ◌∙◌, ◌&&◌, not}
+use Rattle.std.proofs.Common.{◌≡◌, false, ap, refl, subst, ◌∙◌, ◌&&◌, not}
 use Rattle.std.specs.Prelude.{IfOk, OnErr, Option, ℕ}
-use Rattle.fj_value.specs.declared.edit.EditModes.{EditModes}
 use Rattle.fj_span.specs.Change.{KeepsUpToChange}
 use Rattle.fj_modes.specs.declared.modes.Modes.{Modes}
 use Rattle.fj_modes.specs.declared.specifiers.Access.TheVariants.{Direct}
 use Rattle.fj_modes.specs.Words.{same_access}
-use Rattle.fj_connect.specs.Connection.{Connection}
 use Rattle.fj_connect.specs.Linked.{connection_of}
 use Rattle.fj_connect.specs.Positions.{ended}
-use Rattle.fj_connect.specs.Spot.{size_ended}
 use Rattle.fj_transfer.specs.Change.{changed}
 use Rattle.fj_transfer.specs.Places.{at_place}
 use Rattle.fj_transfer.specs.Reader.{done_with}
