@@ -37,8 +37,8 @@ returns-in_default g c =
     record {
       telling = (λ t. t, λ t. t);
       done = λ t. ap (λ (k : Condition). comes_to (connection_of g.F.FileStore.bytes c.args.connection.now) c.refuse.new.job k) c.refuse.ensures.same
-      ∙ c.refuse.ensures.done old
-      ∙ transfer_unfit (control_of job.spec.layout) old job.spec job.moved c.unfit-condition.result c.in_default.not-Fine (sym same);
+          ∙ c.refuse.ensures.done old
+          ∙ transfer_unfit (control_of job.spec.layout) old job.spec job.moved c.unfit-condition.result c.in_default.not-Fine (sym same);
       stopped = λ t. tt;
       statement = c.refuse.ensures.statement;
       modes = refl;
