@@ -4,6 +4,8 @@
 mod input;
 mod output;
 mod start;
+#[cfg(test)]
+mod tests;
 mod whole;
 
 pub use whole::perform;

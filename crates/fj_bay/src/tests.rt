@@ -1,0 +1,208 @@
+// Jobs on a bay that is empty, that has a connection, and that is halted.
+ghost use Rattle.std.specs.Prelude.{◌≡◌, IfOk};
+ghost use Rattle.std.specs.FinSet as set;
+ghost use Rattle.fj_outside.specs.FailingDisk.{disk_held};
+
+use crate::Answer::{Done, Skipped};
+use crate::{Answer, Bay, Job};
+use fj_connect::{Connection, OpenFault, Positioning, open_file};
+use fj_format::parse;
+use fj_list::Moved;
+use fj_modes::{FileName, FileStatus, OpenSpec, settle_open};
+use fj_outside::{FailingDisk, FailingFile, FileStore, MemoryDisk, Stop};
+use fj_slot::Engine;
+use fj_transfer::{EditChange, Layout, Transfer, TransferSpec};
+use fj_value::Condition::{EndOfFile, Error, Fine};
+use fj_value::{Delim, EditModes, Items, Tag};
+use std::alloc::{AllocError, Global};
+use std::test::Fail;
+
+fn sent<T: Send + Drop>(_: T) {}
+
+/// A bay, its jobs and its answers go to another thread where the file does.
+fn bays_are_sent<F: FileStore + Send>(bay: Bay<F>, job: Job<F>, answer: Answer) {
+    sent(bay);
+    sent(job);
+    sent(answer);
+}
+
+/// What a row does.
+#[derive(Clone, Copy)]
+enum Step {
+    Attach,
+    Detach,
+    Read,
+    Go(Positioning),
+    Change,
+    Flush,
+    Look,
+    Resume,
+}
+
+const NAME: &str = "fort.10";
+
+const MODES: EditModes = EditModes {
+    blank_zero: true,
+    comma: false,
+    delim: Delim::Plain,
+    pad: true,
+    plus: false,
+};
+
+/// A disk with a file of unit 10 that holds `a` and a line feed, of which one call fails, if any.
+fn disk_of(alloc: Global, fails: u64) -> Result<FailingDisk, AllocError>
+    ensures { IfOk result (λ disk. (disk_held disk).in_use ≡ set.empty) }
+{
+    let mut inner = MemoryDisk::new(alloc);
+    inner.add_file(NAME, b"a\n")?;
+    let mut disk = FailingDisk::new(alloc, inner, &[])?;
+    disk.fail_file(NAME, &[fails])?;
+    Ok(disk)
+}
+
+#[tactic(auto, using(fj_outside::proofs::HoldingLaws::free_of_empty))]
+fn connection(alloc: Global, fails: u64) -> Result<Connection<FailingFile>, OpenFault> {
+    let mut disk = disk_of(alloc, fails)?;
+    let mut spec = OpenSpec::default();
+    spec.status = Some(FileStatus::Old);
+    let name = FileName::by_default(alloc, 10)?;
+    match settle_open(&spec) {
+        Ok(modes) => open_file(alloc, &mut disk, &name, &spec, modes),
+        Err(condition) => Err(OpenFault::Refused(condition)),
+    }
+}
+
+/// READ (10, '()') with no items, which passes over a record.
+fn read(alloc: Global) -> Result<Transfer, OpenFault> {
+    let Ok(format) = parse(alloc, b"()") else {
+        return Err(OpenFault::Refused(Error(11)));
+    };
+    Ok(Transfer {
+        stmt: 1,
+        tag: Tag(0),
+        spec: TransferSpec {
+            input: true,
+            layout: Layout::Explicit(format),
+            advance: true,
+            rec: None,
+            pos: None,
+            edit: EditChange {
+                blank_zero: None,
+                comma: None,
+                delim: None,
+                pad: None,
+                plus: None,
+            },
+        },
+        moved: Moved {
+            cells: Items::new(alloc),
+            order: Items::new(alloc),
+        },
+        size: None,
+        count: None,
+    })
+}
+
+fn job_of(alloc: Global, step: Step) -> Result<Job<FailingFile>, OpenFault> {
+    match step {
+        Step::Attach => Ok(Job::Attach(Some(connection(alloc, 0)?))),
+        Step::Detach => Ok(Job::Detach(None)),
+        Step::Read => Ok(Job::Move(read(alloc)?)),
+        Step::Go(how) => Ok(Job::Go(how)),
+        Step::Change => Ok(Job::Change(MODES)),
+        Step::Flush => Ok(Job::Flush),
+        Step::Look => Ok(Job::Look(None)),
+        Step::Resume => Ok(Job::Resume),
+    }
+}
+
+/// Whether the job has a connection, or where it was looked at.
+fn brings(job: &Job<FailingFile>) -> Option<u64> {
+    match job {
+        Job::Attach(Some(_)) | Job::Detach(Some(_)) => Some(0),
+        Job::Look(Some(look)) => Some(look.spot.at),
+        _ => None,
+    }
+}
+
+use Step::{Attach, Change, Detach, Flush, Go, Look as LookAt, Read, Resume};
+
+// Each job in turn, its answer, and what it brings back: the place that was looked at, or 0 for a connection.
+static EMPTY: [(Step, Answer, Option<u64>); 8] = [
+    (Detach, Done(Fine), None),
+    (Read, Done(Error(1)), None),
+    (Go(Positioning::Rewind), Done(Error(1)), None),
+    (Change, Done(Error(1)), None),
+    (Flush, Done(Fine), None),
+    (LookAt, Done(Error(1)), None),
+    (Resume, Done(Fine), None),
+    (Attach, Done(Fine), None),
+];
+
+static FULL: [(Step, Answer, Option<u64>); 19] = [
+    (Attach, Done(Fine), None),
+    (Attach, Done(Error(7)), Some(0)),
+    (LookAt, Done(Fine), Some(0)),
+    (Read, Done(Fine), None),
+    (Change, Done(Fine), None),
+    (Flush, Done(Fine), None),
+    (Read, Done(EndOfFile), None),
+    (LookAt, Done(Fine), Some(2)),
+    (Read, Skipped(EndOfFile), None),
+    (Go(Positioning::Rewind), Done(Fine), None),
+    (Attach, Done(Error(7)), Some(0)),
+    (Change, Done(Fine), None),
+    (Flush, Done(Fine), None),
+    (Read, Skipped(EndOfFile), None),
+    (LookAt, Done(Fine), Some(0)),
+    (Resume, Done(Fine), None),
+    (Read, Done(Fine), None),
+    (LookAt, Done(Fine), Some(2)),
+    (Detach, Done(Fine), Some(0)),
+];
+
+/// The number of the first row that comes to something else.
+fn differs(
+    alloc: Global,
+    rows: &[(Step, Answer, Option<u64>)],
+) -> Result<Option<usize>, OpenFault> {
+    let mut bay = Bay::empty(alloc);
+    for (number, (step, answer, brought)) in rows.iter().enumerate() {
+        let mut job = job_of(alloc, *step)?;
+        let got = bay.perform(&mut job)?;
+        if got != *answer || brings(&job) != *brought {
+            return Ok(Some(number));
+        }
+    }
+    Ok(None)
+}
+
+#[test]
+fn jobs_on_empty_full_and_halted_bays(rt: HostRuntime) -> Result<(), Fail> {
+    assert_eq!(rt; differs(rt.alloc(), &EMPTY), Ok(None));
+    assert_eq!(rt; differs(rt.alloc(), &FULL), Ok(None));
+    Ok(())
+}
+
+/// Whether the job meets the failure of the first call on the file, how many faults the bay has then, and whether it still
+/// has its connection.
+fn stops(alloc: Global, step: Step) -> Result<(bool, u64, bool), OpenFault> {
+    let mut bay = Bay::empty(alloc);
+    let mut first = Job::Attach(Some(connection(alloc, 1)?));
+    bay.perform(&mut first)?;
+    let mut job = job_of(alloc, step)?;
+    let failed = bay.perform(&mut job) == Err(Stop::Failed);
+    let faults = bay.faults();
+    Ok((failed, faults, bay.into_connection().is_some()))
+}
+
+#[test]
+fn stops_keep_the_connection(rt: HostRuntime) -> Result<(), Fail> {
+    for step in [Read, Go(Positioning::Endfile)] {
+        assert_eq!(rt; stops(rt.alloc(), step), Ok((true, 1, true)));
+    }
+    for step in [LookAt, Flush, Change, Resume, Attach] {
+        assert_eq!(rt; stops(rt.alloc(), step), Ok((false, 0, true)));
+    }
+    Ok(())
+}
