@@ -72,18 +72,23 @@ fn connection(alloc: Global, fails: u64) -> Result<Connection<FailingFile>, Open
     }
 }
 
-/// READ (10, '()') with no items, which passes over a record.
-fn read(alloc: Global) -> Result<Transfer, OpenFault> {
-    let Ok(format) = parse(alloc, b"()") else {
+/// A READ or WRITE of no items.
+fn transfer(
+    alloc: Global,
+    input: bool,
+    advance: bool,
+    format: &'static [u8],
+) -> Result<Transfer, OpenFault> {
+    let Ok(format) = parse(alloc, &format[..format.len().min(100)]) else {
         return Err(OpenFault::Refused(Error(11)));
     };
     Ok(Transfer {
         stmt: 1,
         tag: Tag(0),
         spec: TransferSpec {
-            input: true,
+            input,
             layout: Layout::Explicit(format),
-            advance: true,
+            advance,
             rec: None,
             pos: None,
             edit: EditChange {
@@ -107,7 +112,8 @@ fn job_of(alloc: Global, step: Step) -> Result<Job<FailingFile>, OpenFault> {
     match step {
         Step::Attach => Ok(Job::Attach(Some(connection(alloc, 0)?))),
         Step::Detach => Ok(Job::Detach(None)),
-        Step::Read => Ok(Job::Move(read(alloc)?)),
+        // It passes over a record.
+        Step::Read => Ok(Job::Move(transfer(alloc, true, true, b"()")?)),
         Step::Go(how) => Ok(Job::Go(how)),
         Step::Change => Ok(Job::Change(MODES)),
         Step::Flush => Ok(Job::Flush),
@@ -204,5 +210,37 @@ fn stops_keep_the_connection(rt: HostRuntime) -> Result<(), Fail> {
     for step in [LookAt, Flush, Change, Resume, Attach] {
         assert_eq!(rt; stops(rt.alloc(), step), Ok((false, 0, true)));
     }
+    Ok(())
+}
+
+/// A record is left open, and the connection goes out, where a call on the file fails: whether the first job was carried out and the
+/// second met the failure; how many faults the bay has then, and whether it still has its connection.
+fn leaves_open(alloc: Global, fails: u64) -> Result<(bool, u64, bool), OpenFault> {
+    let mut bay = Bay::empty(alloc);
+    let mut first = Job::Attach(Some(connection(alloc, fails)?));
+    bay.perform(&mut first)?;
+    let mut open = Job::Move(transfer(alloc, false, false, b"('b')")?);
+    let begun = bay.perform(&mut open) == Ok(Done(Fine));
+    let mut last = Job::Detach(None);
+    let stopped = bay.perform(&mut last) == Err(Stop::Failed);
+    let faults = bay.faults();
+    Ok((begun && stopped, faults, bay.into_connection().is_some()))
+}
+
+#[test]
+fn a_stop_keeps_the_connection_of_an_open_record(rt: HostRuntime) -> Result<(), Fail> {
+    let mut met = 0;
+    for fails in [1, 2, 3, 4] {
+        let (stopped, faults, has_connection) = match leaves_open(rt.alloc(), fails) {
+            Ok(found) => found,
+            Err(_) => (false, 0, false),
+        };
+        if stopped {
+            met += 1;
+            assert_eq!(rt; (faults, has_connection), (1, true));
+        }
+    }
+    // One call ends the record.
+    assert_eq!(rt; met, 1);
     Ok(())
 }
