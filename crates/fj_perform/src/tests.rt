@@ -12,7 +12,7 @@ use fj_connect::{Connection, OpenFault, open_file};
 use fj_format::parse;
 use fj_list::{GroupMember, Moved};
 use fj_modes::{Access, Action, FileName, FileStatus, OpenSpec, settle_open};
-use fj_outside::{Disk, MemoryDisk, Stop};
+use fj_outside::{Disk, FileStore, MemoryDisk, Stop};
 use fj_transfer::{EditChange, Layout, Members, Transfer, TransferSpec};
 use fj_value::{Cell, Condition, Items, Kind, Place, Tag, Text, Value};
 use std::alloc::{AllocError, Global};
@@ -169,23 +169,38 @@ fn transfer(alloc: Global, said: Said, access: Access) -> Result<Transfer, Fail>
     })
 }
 
-/// Carries out a statement so many times, and answers the condition and the position of the last.
+/// Carries out a statement once, and so many times more, and answers the last condition.
+fn perform_again<F: FileStore>(
+    alloc: Global,
+    c: &mut Connection<F>,
+    more: u32,
+    job: &mut Transfer,
+) -> Result<Condition, Stop>
+    ensures { c.new.name ≡ c.old.name }
+{
+    let condition = perform(alloc, c, job);
+    if more == 0 {
+        return condition;
+    }
+    perform_again(alloc, c, more - 1, job)
+}
+
+/// Carries out a statement once, and so many times more, and answers the condition and the position of the last.
 fn carried_out<D: Disk>(
     alloc: Global,
     disk: &mut D,
     spec: &OpenSpec,
-    times: u32,
+    more: u32,
     job: &mut Transfer,
 ) -> Result<(Condition, u64), OpenFault>
     requires { D.tells disk.old → (D.held disk.old).in_use ≡ set.empty }
 {
     let mut c = connect(alloc, disk, spec)?;
-    let mut condition = Ok(Condition::Fine);
-    for _ in 0..times {
-        condition = perform(alloc, &mut c, job);
-    }
+    let condition = perform_again(alloc, &mut c, more, job);
     let spot = c.spot();
-    c.close_file(disk, true).map_err(Stop::from)?;
+    if c.close_file(disk, true).is_err() {
+        return Err(OpenFault::Stop(Stop::Failed));
+    }
     Ok((condition?, spot.at))
 }
 
@@ -209,7 +224,7 @@ use Verb::{BareInput, Input, OpenInput, OpenOutput, Output};
 
 const A: Form = Format(b"(A)");
 
-/// Access, FORM='FORMATTED', ACTION=, the file and the statement with how often it is carried out; and the condition, what
+/// Access, FORM='FORMATTED', ACTION=, the file and the statement with how often it is carried out once more; and the condition, what
 /// SIZE= gets, the file, the position and the item then.
 type Row = (
     (Access, bool, Action, &'static [u8]),
@@ -222,186 +237,186 @@ static ROWS: [Row; 30] = [
     // Each layout by access and direction.
     (
         (Sequential, true, ReadWrite, b"old\n"),
-        ((Output, A, None, b"ab"), 1),
+        ((Output, A, None, b"ab"), 0),
         (Fine, None),
         (b"ab\n", 3, Some(b"ab")),
     ),
     (
         (Sequential, true, ReadWrite, b""),
-        ((Output, Listed, None, b"ab"), 1),
+        ((Output, Listed, None, b"ab"), 0),
         (Fine, None),
         (b" ab\n", 4, Some(b"ab")),
     ),
     (
         (Sequential, false, ReadWrite, b""),
-        ((Output, Stored, None, b"ab"), 1),
+        ((Output, Stored, None, b"ab"), 0),
         (Fine, None),
         (b"\x02\0\0\0ab\x02\0\0\0", 10, Some(b"ab")),
     ),
     (
         (Sequential, true, ReadWrite, b""),
-        ((OpenOutput, A, None, b"ab"), 2),
+        ((OpenOutput, A, None, b"ab"), 1),
         (Fine, None),
         (b"abab", 4, Some(b"ab")),
     ),
     (
         (Sequential, true, ReadWrite, b"abc\nde\n"),
-        ((Input, A, None, b"__"), 1),
+        ((Input, A, None, b"__"), 0),
         (Fine, Some(2)),
         (b"abc\nde\n", 4, Some(b"ab")),
     ),
     (
         (Sequential, true, ReadWrite, b"abc\nde\n"),
-        ((OpenInput, A, None, b"__"), 1),
+        ((OpenInput, A, None, b"__"), 0),
         (Fine, Some(2)),
         (b"abc\nde\n", 2, Some(b"ab")),
     ),
     (
         (Sequential, true, ReadWrite, b"ab cd\n"),
-        ((Input, Listed, None, b"__"), 1),
+        ((Input, Listed, None, b"__"), 0),
         (Fine, None),
         (b"ab cd\n", 6, Some(b"ab")),
     ),
     (
         (Sequential, false, ReadWrite, b"\x03\0\0\0abc\x03\0\0\0"),
-        ((Input, Stored, None, b"__"), 1),
+        ((Input, Stored, None, b"__"), 0),
         (Fine, None),
         (b"\x03\0\0\0abc\x03\0\0\0", 11, Some(b"ab")),
     ),
     (
         (Stream, true, ReadWrite, b"&G A='ab' /\n"),
-        ((Input, Group, None, b"__"), 1),
+        ((Input, Group, None, b"__"), 0),
         (Fine, None),
         (b"&G A='ab' /\n", 12, Some(b"ab")),
     ),
     (
         (Direct, true, ReadWrite, b"AAAAAA"),
-        ((Output, A, Some(2), b"xy"), 1),
+        ((Output, A, Some(2), b"xy"), 0),
         (Fine, None),
         (b"AAAAAAxy    ", 0, Some(b"xy")),
     ),
     (
         (Direct, true, ReadWrite, b"AAAAAABBBBBB"),
-        ((Input, A, Some(2), b"__"), 1),
+        ((Input, A, Some(2), b"__"), 0),
         (Fine, Some(2)),
         (b"AAAAAABBBBBB", 0, Some(b"BB")),
     ),
     (
         (Direct, false, ReadWrite, b"AAAAAABBBBBB"),
-        ((Input, Stored, Some(2), b"__"), 1),
+        ((Input, Stored, Some(2), b"__"), 0),
         (Fine, None),
         (b"AAAAAABBBBBB", 0, Some(b"BB")),
     ),
     // POS= before, at and behind the end.
     (
         (Stream, false, ReadWrite, b"abcdef"),
-        ((Output, Stored, Some(3), b"XY"), 1),
+        ((Output, Stored, Some(3), b"XY"), 0),
         (Fine, None),
         (b"abXYef", 4, Some(b"XY")),
     ),
     (
         (Stream, true, ReadWrite, b"ab\ncd\n"),
-        ((Output, A, Some(1), b"x"), 1),
+        ((Output, A, Some(1), b"x"), 0),
         (Fine, None),
         (b"x\n", 2, Some(b"x")),
     ),
     (
         (Stream, false, ReadWrite, b"abc"),
-        ((Output, Stored, Some(4), b"X"), 1),
+        ((Output, Stored, Some(4), b"X"), 0),
         (Fine, None),
         (b"abcX", 4, Some(b"X")),
     ),
     (
         (Stream, false, ReadWrite, b"abc"),
-        ((Output, Stored, Some(5), b"X"), 1),
+        ((Output, Stored, Some(5), b"X"), 0),
         (Error(21), None),
         (b"abc", 0, Some(b"X")),
     ),
     (
         (Stream, false, ReadWrite, b"abc"),
-        ((Input, Stored, Some(0), b"_"), 1),
+        ((Input, Stored, Some(0), b"_"), 0),
         (Error(21), None),
         (b"abc", 0, None),
     ),
     (
         (Stream, false, ReadWrite, b"abc"),
-        ((Input, Stored, Some(3), b"_"), 1),
+        ((Input, Stored, Some(3), b"_"), 0),
         (Fine, None),
         (b"abc", 3, Some(b"c")),
     ),
     // SIZE= does not count what was padded, nor does it get anything at an error.
     (
         (Sequential, true, ReadWrite, b"a\n"),
-        ((OpenInput, A, None, b"___"), 1),
+        ((OpenInput, A, None, b"___"), 0),
         (EndOfRecord, Some(1)),
         (b"a\n", 2, Some(b"a  ")),
     ),
     (
         (Sequential, true, ReadWrite, b"a\n"),
-        ((Input, A, None, b"___"), 1),
+        ((Input, A, None, b"___"), 0),
         (Fine, Some(1)),
         (b"a\n", 2, Some(b"a  ")),
     ),
     (
         (Sequential, true, ReadWrite, b"a\n"),
-        ((BareInput, A, None, b"___"), 1),
+        ((BareInput, A, None, b"___"), 0),
         (Error(30), None),
         (b"a\n", 0, None),
     ),
     // The end of the file, and what is behind it.
     (
         (Sequential, true, ReadWrite, b"a\n"),
-        ((Input, A, None, b"_"), 2),
+        ((Input, A, None, b"_"), 1),
         (EndOfFile, None),
         (b"a\n", 2, None),
     ),
     (
         (Sequential, true, ReadWrite, b"a\n"),
-        ((Input, A, None, b"_"), 3),
+        ((Input, A, None, b"_"), 2),
         (Error(20), None),
         (b"a\n", 2, None),
     ),
     // What does not go together with the connection comes before what ACTION= does not allow.
     (
         (Sequential, true, Action::Read, b"a\n"),
-        ((Output, Stored, None, b"x"), 1),
+        ((Output, Stored, None, b"x"), 0),
         (Error(16), None),
         (b"a\n", 0, Some(b"x")),
     ),
     (
         (Sequential, true, Action::Read, b"a\n"),
-        ((Output, A, None, b"x"), 1),
+        ((Output, A, None, b"x"), 0),
         (Error(10), None),
         (b"a\n", 0, Some(b"x")),
     ),
     (
         (Sequential, true, Action::Write, b"a\n"),
-        ((Input, A, None, b"x"), 1),
+        ((Input, A, None, b"x"), 0),
         (Error(10), None),
         (b"a\n", 0, None),
     ),
     (
         (Sequential, true, ReadWrite, b"a\n"),
-        ((Input, A, Some(1), b"x"), 1),
+        ((Input, A, Some(1), b"x"), 0),
         (Error(16), None),
         (b"a\n", 0, None),
     ),
     // No such record, one that is too long, and one behind the limit of the file.
     (
         (Direct, true, ReadWrite, b"AAAAAA"),
-        ((Input, A, Some(2), b"__"), 1),
+        ((Input, A, Some(2), b"__"), 0),
         (Error(17), None),
         (b"AAAAAA", 0, None),
     ),
     (
         (Sequential, true, ReadWrite, b"a\n"),
-        ((Output, A, None, b"1234567"), 1),
+        ((Output, A, None, b"1234567"), 0),
         (Error(15), None),
         (b"a\n", 0, Some(b"1234567")),
     ),
     (
         (Direct, false, ReadWrite, b"AAAAAA"),
-        ((Output, Stored, Some(44_739_243), b"x"), 1),
+        ((Output, Stored, Some(44_739_243), b"x"), 0),
         (Error(25), None),
         (b"AAAAAA", 0, Some(b"x")),
     ),
@@ -412,14 +427,14 @@ fn statements(rt: HostRuntime) -> Result<(), Fail> {
     let alloc = rt.alloc();
     for (
         (access, formatted, action, before),
-        (said, times),
+        (said, more),
         (condition, count),
         (after, at, item),
     ) in ROWS {
         let mut disk = disk_of(alloc, before)?;
         let mut job = transfer(alloc, said, access)?;
         let spec = statement(access, formatted, action);
-        let came = carried_out(alloc, &mut disk, &spec, times, &mut job)?;
+        let came = carried_out(alloc, &mut disk, &spec, more, &mut job)?;
         assert_eq!(rt; came, (condition, at));
         assert_eq!(rt; job.count, count);
         assert!(rt; is_text(&job.moved, item));
