@@ -82,7 +82,7 @@ fine_by b (Err c) old count new h = absurd h
 all_one : (e : Bool) (o : Output) (p : Printed) → printed_to e o (Ok p) ≡ (closing e (grown o (text_of p.records ++ p.«open») (open_count o.begun p)), Fine)
 all_one e o p = ap (λ t. (let z : Output = record { text = t; begun = open_count o.begun p; is_open = not e } in z, Fine)) (append_assoc o.text (text_of p.records) p.«open»)
 
-abbrev seen : Bool → List ℕ → List ℕ → Output
+abbrev pub seen : Bool → List ℕ → List ℕ → Output
 seen is_open flat kept = record { text = flat ++ kept; begun = length kept; is_open = is_open }
 
 -- where it was fine
@@ -115,14 +115,23 @@ went e w R o mid flat kept kept' begun count view after same h =
     let M : Output → Type 0 = λ m. Went e (R (length kept)) (seen w flat kept) m count in
     subst Q view (subst M after (went_at e w (R (length kept)) flat kept kept' count (subst P same h)))
 
-pub went_over : (e : Bool) (r : Result Printed Condition) (o mid new : Output) (count : ℕ) (taken taken' : List ℕ) → Went e r o mid count → o.begun ≤ length o.text → new ≡ record mid { begun = count }
+pub went_over : (e : Bool) (r : Result Printed Condition) (o mid new : Output) (count : ℕ) (taken taken' : List ℕ) → Went e r o mid count → o.begun ≤ length o.text → new ≡ closing e (record mid { begun = count })
     → taken' ≡ taken ++ ended_part mid count → HandsOver taken taken' o new
 went_over e r o mid new count taken taken' w low put gave =
     let part : List ℕ = ended_part (grown o w.x (o.begun + length w.x)) count in (
       part,
-      ap whole_records (put ∙ ap (λ (m : Output). let z : Output = record m { begun = count } in z) w.mid_is) ∙ whole_is o w.x count low w.few,
+      ap whole_records (put ∙ ap (λ (m : Output). let z : Output = record m { begun = count } in closing e z) w.mid_is) ∙ whole_is o w.x count low w.few,
       gave ∙ ap (λ m. taken ++ ended_part m count) w.mid_is,
     )
+
+-- what is left of it, by the parts
+pub left_is : (e b : Bool) (mid handed new : Output) (count : ℕ) → handed ≡ record mid { begun = count } → b ≡ e → new ≡ record handed { is_open = not b } → new ≡ closing e (record mid { begun = count })
+left_is e b mid handed new count h same n = n ∙ ap (λ (x : Bool). let z : Output = record handed { is_open = not x } in z) same ∙ ap (λ (m : Output). closing e m) h
+
+pub went_printed : (e : Bool) (r : Result Printed Condition) (o mid new : Output) (count : ℕ) → Went e r o mid count → new ≡ closing e (record mid { begun = count })
+    → (let d : Output × Condition = (new, Fine) in d) ≡ printed_to e o r
+went_printed e r o mid new count w put =
+    ap (λ (z : Output). (let d : Output × Condition = (z, Fine) in d)) (put ∙ ap (λ (m : Output). let z : Output = record m { begun = count } in closing e z) w.mid_is) ∙ sym w.due
 
 pub went_front : (e : Bool) (r : Result Printed Condition) (o mid : Output) (count : ℕ) (taken taken' : List ℕ) → Went e r o mid count → o.begun ≤ length o.text → TakesFront taken taken' (ended_part mid count)
     → HandsFront taken taken' o (printed_to e o r).0
@@ -171,7 +180,7 @@ pub on_err : {A E : Type 0} → (r : Result A E) (X : Type 0) → X → OnErr r 
 on_err (Ok a) X x = tt
 on_err (Err e) X x = x
 
-abbrev flat_of : Inside → List ℕ
+abbrev pub flat_of : Inside → List ℕ
 flat_of i = flat_map (λ piece. piece.value) i.handed.items
 
 pub kept_low : (i : Inside) (o : Output) → output_of i ≡ o → o.begun ≤ length o.text

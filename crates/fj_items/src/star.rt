@@ -111,6 +111,13 @@ impl Output {
         Ok(())
     }
 
+    /// The last record has ended, or it stays open.
+    fn leave(&mut self, ends: bool)
+        ensures { self.new ≡ record self.old { is_open = not ends } }
+    {
+        self.is_open = !ends;
+    }
+
     /// What a layout prints behind the open record. The records that end are handed on.
     fn print<W: Sink>(
         &mut self,
@@ -147,7 +154,7 @@ impl Output {
         ) {
             Ok(count) => {
                 self.hand_on(alloc, out, count as usize)?;
-                self.is_open = !ends_record(layout, advance);
+                self.leave(ends_record(layout, advance));
                 Ok(Condition::Fine)
             }
             Err(Unwritten::Met(condition)) => Ok(condition),
