@@ -14,7 +14,7 @@ use Rattle.fj_statement.specs.declared.statement.Statement.TheVariants.{Transfer
 use Rattle.fj_store.specs.Variables.{Variables}
 use Rattle.fj_transfer.specs.Change.{changed}
 use Rattle.fj_transfer.specs.Printing.{Printed, open_count, actions_by, printed_by}
-use Rattle.fj_transfer.specs.Transfer.{is_formatted}
+use Rattle.fj_transfer.specs.Transfer.{is_formatted, ends_record}
 use Rattle.fj_transfer.specs.Writing.{Prints}
 use Rattle.fj_plain.specs.State.{Output}
 use Rattle.fj_plain.specs.Statement.{control_by}
@@ -46,7 +46,11 @@ part_is t x b count low few =
     ∙ sym (ap (λ n. take k t ++ take j (drop n (t ++ x))) front)
 
 abbrev grown : Output → List ℕ → ℕ → Output
-grown o x count = record { text = o.text ++ x; begun = count }
+grown o x count = record { text = o.text ++ x; begun = count; is_open = o.is_open }
+
+-- its last record then ends, or stays open
+abbrev closing : Bool → Output → Output
+closing ends o = record o { is_open = not ends }
 
 whole_is : (o : Output) (x : List ℕ) (count : ℕ) → o.begun ≤ length o.text → count ≤ o.begun + length x
     → whole_records (grown o x count) ≡ whole_records o ++ ended_part (grown o x (o.begun + length x)) count
@@ -75,54 +79,63 @@ fine_by b (Ok p) old count new h = (p, refl, h.0, h.1)
 fine_by b (Err c) old count new h = absurd h
 
 -- what is added, as one
-all_one : (o : Output) (p : Printed) → printed_to o (Ok p) ≡ (grown o (text_of p.records ++ p.«open») (open_count o.begun p), Fine)
-all_one o p = ap (λ t. (let z : Output = record { text = t; begun = open_count o.begun p } in z, Fine)) (append_assoc o.text (text_of p.records) p.«open»)
+all_one : (e : Bool) (o : Output) (p : Printed) → printed_to e o (Ok p) ≡ (closing e (grown o (text_of p.records ++ p.«open») (open_count o.begun p)), Fine)
+all_one e o p = ap (λ t. (let z : Output = record { text = t; begun = open_count o.begun p; is_open = not e } in z, Fine)) (append_assoc o.text (text_of p.records) p.«open»)
 
-abbrev seen : List ℕ → List ℕ → Output
-seen flat kept = record { text = flat ++ kept; begun = length kept }
+abbrev pub seen : Bool → List ℕ → List ℕ → Output
+seen is_open flat kept = record { text = flat ++ kept; begun = length kept; is_open = is_open }
 
 -- where it was fine
-pub record Went (r : Result Printed Condition) (o mid : Output) (count : ℕ) : Type 0 where
+pub record Went (e : Bool) (r : Result Printed Condition) (o mid : Output) (count : ℕ) : Type 0 where
   x : List ℕ
   mid_is : mid ≡ grown o x (o.begun + length x)
   few : count ≤ o.begun + length x
-  due : printed_to o r ≡ (grown o x count, Fine)
+  due : printed_to e o r ≡ (closing e (grown o x count), Fine)
 
-went_at : (r : Result Printed Condition) (flat kept kept' : List ℕ) (count : ℕ) → Prints (length kept) r kept (Ok count) kept' → Went r (seen flat kept) (seen flat kept') count
-went_at r flat kept kept' count h =
+went_at : (e w : Bool) (r : Result Printed Condition) (flat kept kept' : List ℕ) (count : ℕ) → Prints (length kept) r kept (Ok count) kept' → Went e r (seen w flat kept) (seen w flat kept') count
+went_at e w r flat kept kept' count h =
     let f : Printing r (length kept) kept count kept' = fine_by (length kept) r kept count kept' h in
     let p : Printed = f.0 in
     let x : List ℕ = text_of p.records ++ p.«open» in
     record {
       x = x;
       mid_is =
-          ap (seen flat) f.3
-          ∙ ap (λ t. let z : Output = record { text = t; begun = length (kept ++ x) } in z) (sym (append_assoc flat kept x))
-          ∙ ap (λ n. let z : Output = record { text = (flat ++ kept) ++ x; begun = n } in z) (length-append kept x);
-      few = let low = count_low (length kept) p in let e : count ≡ open_count (length kept) p = f.2 in omega (arith, low, e);
-      due = ap (printed_to (seen flat kept)) f.1 ∙ all_one (seen flat kept) p ∙ ap (λ n. (grown (seen flat kept) x n, Fine)) (sym f.2);
+          ap (seen w flat) f.3
+          ∙ ap (λ t. let z : Output = record { text = t; begun = length (kept ++ x); is_open = w } in z) (sym (append_assoc flat kept x))
+          ∙ ap (λ n. let z : Output = record { text = (flat ++ kept) ++ x; begun = n; is_open = w } in z) (length-append kept x);
+      few = let low = count_low (length kept) p in let same : count ≡ open_count (length kept) p = f.2 in omega (arith, low, same);
+      due = ap (printed_to e (seen w flat kept)) f.1 ∙ all_one e (seen w flat kept) p ∙ ap (λ n. (closing e (grown (seen w flat kept) x n), Fine)) (sym f.2);
     }
 
-pub went : (R : ℕ → Result Printed Condition) (o mid : Output) (flat kept kept' : List ℕ) (begun count : ℕ) → seen flat kept ≡ o → seen flat kept' ≡ mid → begun ≡ length kept → Prints begun (R begun) kept (Ok count) kept'
-    → Went (R o.begun) o mid count
-went R o mid flat kept kept' begun count view after same h =
+pub went : (e w : Bool) (R : ℕ → Result Printed Condition) (o mid : Output) (flat kept kept' : List ℕ) (begun count : ℕ) → seen w flat kept ≡ o → seen w flat kept' ≡ mid → begun ≡ length kept → Prints begun (R begun) kept (Ok count) kept'
+    → Went e (R o.begun) o mid count
+went e w R o mid flat kept kept' begun count view after same h =
     let P : ℕ → Type 0 = λ b. Prints b (R b) kept (Ok count) kept' in
-    let Q : Output → Type 0 = λ z. Went (R z.begun) z mid count in
-    let M : Output → Type 0 = λ m. Went (R (length kept)) (seen flat kept) m count in
-    subst Q view (subst M after (went_at (R (length kept)) flat kept kept' count (subst P same h)))
+    let Q : Output → Type 0 = λ z. Went e (R z.begun) z mid count in
+    let M : Output → Type 0 = λ m. Went e (R (length kept)) (seen w flat kept) m count in
+    subst Q view (subst M after (went_at e w (R (length kept)) flat kept kept' count (subst P same h)))
 
-pub went_over : (r : Result Printed Condition) (o mid new : Output) (count : ℕ) (taken taken' : List ℕ) → Went r o mid count → o.begun ≤ length o.text → new ≡ record mid { begun = count }
+pub went_over : (e : Bool) (r : Result Printed Condition) (o mid new : Output) (count : ℕ) (taken taken' : List ℕ) → Went e r o mid count → o.begun ≤ length o.text → new ≡ closing e (record mid { begun = count })
     → taken' ≡ taken ++ ended_part mid count → HandsOver taken taken' o new
-went_over r o mid new count taken taken' w low put gave =
+went_over e r o mid new count taken taken' w low put gave =
     let part : List ℕ = ended_part (grown o w.x (o.begun + length w.x)) count in (
       part,
-      ap whole_records (put ∙ ap (λ (m : Output). let z : Output = record m { begun = count } in z) w.mid_is) ∙ whole_is o w.x count low w.few,
+      ap whole_records (put ∙ ap (λ (m : Output). let z : Output = record m { begun = count } in closing e z) w.mid_is) ∙ whole_is o w.x count low w.few,
       gave ∙ ap (λ m. taken ++ ended_part m count) w.mid_is,
     )
 
-pub went_front : (r : Result Printed Condition) (o mid : Output) (count : ℕ) (taken taken' : List ℕ) → Went r o mid count → o.begun ≤ length o.text → TakesFront taken taken' (ended_part mid count)
-    → HandsFront taken taken' o (printed_to o r).0
-went_front r o mid count taken taken' w low front = (
+-- what is left of it, by the parts
+pub left_is : (e b : Bool) (mid handed new : Output) (count : ℕ) → handed ≡ record mid { begun = count } → b ≡ e → new ≡ record handed { is_open = not b } → new ≡ closing e (record mid { begun = count })
+left_is e b mid handed new count h same n = n ∙ ap (λ (x : Bool). let z : Output = record handed { is_open = not x } in z) same ∙ ap (λ (m : Output). closing e m) h
+
+pub went_printed : (e : Bool) (r : Result Printed Condition) (o mid new : Output) (count : ℕ) → Went e r o mid count → new ≡ closing e (record mid { begun = count })
+    → (let d : Output × Condition = (new, Fine) in d) ≡ printed_to e o r
+went_printed e r o mid new count w put =
+    ap (λ (z : Output). (let d : Output × Condition = (z, Fine) in d)) (put ∙ ap (λ (m : Output). let z : Output = record m { begun = count } in closing e z) w.mid_is) ∙ sym w.due
+
+pub went_front : (e : Bool) (r : Result Printed Condition) (o mid : Output) (count : ℕ) (taken taken' : List ℕ) → Went e r o mid count → o.begun ≤ length o.text → TakesFront taken taken' (ended_part mid count)
+    → HandsFront taken taken' o (printed_to e o r).0
+went_front e r o mid count taken taken' w low front = (
   front.0,
   front.1,
   ap (λ d. whole_records d.0) w.due ∙ whole_is o w.x count low w.few ∙ ap (λ m. whole_records o ++ ended_part m count) (sym w.mid_is) ∙ ap (λ ys. whole_records o ++ ys) front.2,
@@ -134,24 +147,24 @@ went_front r o mid count taken taken' w low front = (
 abbrev Grows : Output → Output → Type 0
 Grows old due = (rest : List ℕ) × (whole_records due ≡ whole_records old ++ rest)
 
-grows : (r : Result Printed Condition) (o : Output) → o.begun ≤ length o.text → Grows o (printed_to o r).0
-grows (Err c) o low = ([], sym (append-nil (whole_records o)))
-grows (Ok p) o low =
+grows : (e : Bool) (r : Result Printed Condition) (o : Output) → o.begun ≤ length o.text → Grows o (printed_to e o r).0
+grows e (Err c) o low = ([], sym (append-nil (whole_records o)))
+grows e (Ok p) o low =
     let x : List ℕ = text_of p.records ++ p.«open» in
-    (ended_part (grown o x (o.begun + length x)) (open_count o.begun p), ap (λ d. whole_records d.0) (all_one o p) ∙ whole_is o x (open_count o.begun p) low (count_low o.begun p))
+    (ended_part (grown o x (o.begun + length x)) (open_count o.begun p), ap (λ d. whole_records d.0) (all_one e o p) ∙ whole_is o x (open_count o.begun p) low (count_low o.begun p))
 
 none_of : (o due : Output) (taken taken' : List ℕ) → Grows o due → taken' ≡ taken → HandsFront taken taken' o due
 none_of o due taken taken' g same = ([], g.0, g.1, same ∙ sym (append-nil taken))
 
-pub none_taken : (r : Result Printed Condition) (o : Output) (taken taken' : List ℕ) → o.begun ≤ length o.text → taken' ≡ taken → HandsFront taken taken' o (printed_to o r).0
-none_taken r o taken taken' low same = none_of o (printed_to o r).0 taken taken' (grows r o low) same
+pub none_taken : (e : Bool) (r : Result Printed Condition) (o : Output) (taken taken' : List ℕ) → o.begun ≤ length o.text → taken' ≡ taken → HandsFront taken taken' o (printed_to e o r).0
+none_taken e r o taken taken' low same = none_of o (printed_to e o r).0 taken taken' (grows e r o low) same
 
 -- ---- the statement
 
-by_tests : (a b : Bool) (r : Result Printed Condition) (o : Output) → o.begun ≤ length o.text → Grows o (cond a (o, Error 2) (cond b (o, Error 16) (printed_to o r))).0
-by_tests true b r o low = ([], sym (append-nil (whole_records o)))
-by_tests false true r o low = ([], sym (append-nil (whole_records o)))
-by_tests false false r o low = grows r o low
+by_tests : (a b e : Bool) (r : Result Printed Condition) (o : Output) → o.begun ≤ length o.text → Grows o (cond a (o, Error 2) (cond b (o, Error 16) (printed_to e o r))).0
+by_tests true b e r o low = ([], sym (append-nil (whole_records o)))
+by_tests false true e r o low = ([], sym (append-nil (whole_records o)))
+by_tests false false e r o low = grows e r o low
 
 pub nothing_printed : (variables : List Variable) (vars : Variables) (t : Stated) (o : Output) (taken taken' : List ℕ) → o.begun ≤ length o.text → taken' ≡ taken
     → HandsFront taken taken' o (printed_on variables vars t o).0
@@ -159,7 +172,7 @@ nothing_printed variables vars t o taken taken' low same =
     let moved : Moved = moved_in variables vars t in
     let spec = spec_in variables vars t moved.cells in
     none_of o (printed_on variables vars t o).0 taken taken'
-    (by_tests (is_asynchronous t) (not (is_formatted spec.layout)) (printed_by 65536 o.begun (actions_by spec.layout (control_by (Transfer t)) (changed spec.edit usual_edit) spec.advance moved)) o low) same
+    (by_tests (is_asynchronous t) (not (is_formatted spec.layout)) (ends_record spec) (printed_by 65536 o.begun (actions_by spec.layout (control_by (Transfer t)) (changed spec.edit usual_edit) spec.advance moved)) o low) same
 
 -- ---- of what the program keeps
 
@@ -167,7 +180,7 @@ pub on_err : {A E : Type 0} → (r : Result A E) (X : Type 0) → X → OnErr r 
 on_err (Ok a) X x = tt
 on_err (Err e) X x = x
 
-abbrev flat_of : Inside → List ℕ
+abbrev pub flat_of : Inside → List ℕ
 flat_of i = flat_map (λ piece. piece.value) i.handed.items
 
 pub kept_low : (i : Inside) (o : Output) → output_of i ≡ o → o.begun ≤ length o.text
@@ -177,6 +190,6 @@ kept_low i o view =
     let low : length i.«open» ≤ length (flat_of i ++ i.«open») = omega (arith, long) in
     subst P view low
 
-pub went_on : (R : ℕ → Result Printed Condition) (o : Output) (i : Inside) (kept : List ℕ) (begun count : ℕ) → output_of i ≡ o → begun ≡ length i.«open» → Prints begun (R begun) i.«open» (Ok count) kept
-    → Went (R o.begun) o (seen (flat_of i) kept) count
-went_on R o i kept begun count view same h = went R o (seen (flat_of i) kept) (flat_of i) i.«open» kept begun count view refl same h
+pub went_on : (e : Bool) (R : ℕ → Result Printed Condition) (o : Output) (i : Inside) (kept : List ℕ) (begun count : ℕ) → output_of i ≡ o → begun ≡ length i.«open» → Prints begun (R begun) i.«open» (Ok count) kept
+    → Went e (R o.begun) o (seen i.is_open (flat_of i) kept) count
+went_on e R o i kept begun count view same h = went e i.is_open R o (seen i.is_open (flat_of i) kept) (flat_of i) i.«open» kept begun count view refl same h

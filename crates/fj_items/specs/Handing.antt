@@ -1,5 +1,5 @@
 -- The output on unit `*`, and what of it a sink took.
-use Rattle.std.specs.Prelude.{◌≡◌, ℕ, ◌-◌, ◌==◌, List, [], ◌∷◌, ◌++◌, length, take, drop, if◌then◌else◌}
+use Rattle.std.specs.Prelude.{◌≡◌, ℕ, ◌-◌, List, [], ◌∷◌, ◌++◌, length, take, drop, if◌then◌else◌}
 use Rattle.fj_value.specs.declared.condition.Condition.{Condition}
 use Rattle.fj_statement.specs.declared.deck.Variable.{Variable}
 use Rattle.fj_statement.specs.declared.statement.Transfer.{Transfer as Stated}
@@ -15,7 +15,7 @@ whole_records o = take (length o.text - o.begun) o.text
 
 -- the record that is open, if there is one, with its line feed
 abbrev pub open_record : Output → List ℕ
-open_record o = if o.begun == 0 then [] else drop (length o.text - o.begun) o.text ++ 10 ∷ []
+open_record o = if o.is_open then drop (length o.text - o.begun) o.text ++ 10 ∷ [] else []
 
 -- the characters of the record that is open that are in front of so many
 abbrev pub ended_part : Output → ℕ → List ℕ

@@ -1,10 +1,11 @@
 // The output on unit `*`: its records go to a sink as they end.
-ghost use Rattle.std.specs.Prelude.{◌≡◌, ◌≤◌, ◌++◌, [], ◌↔◌, Err, IfOk, OnOk, OnErr, All, length};
+ghost use Rattle.std.specs.Prelude.{◌≡◌, ◌≤◌, ◌++◌, ◌||◌, [], ◌↔◌, not, false, Err, IfOk, OnOk, OnErr, All, length};
 ghost use Rattle.fj_outside.specs.Faults.{Rose};
 ghost use Rattle.fj_store.specs.Storage.{values_of};
 ghost use Rattle.fj_namelist.specs.GroupText.{IsWithin};
 ghost use Rattle.fj_plain.specs.Transfers.{printed_to};
 ghost use Rattle.fj_transfer.specs.Moving.{members_of};
+ghost use Rattle.fj_transfer.specs.Transfer.{is_explicit};
 ghost use Rattle.fj_transfer.specs.Printing.{IsRecords, actions_by, control_of, printed_by};
 ghost use Rattle.fj_items.specs.Handing.{open_record, ended_part, printed_on, IsPrinted, HandsOver, HandsFront, TakesFront};
 ghost use Rattle.fj_items.specs.Kinds.{kinds_of};
@@ -29,11 +30,20 @@ use std::snapshot::Snapshot;
 /// The longest record of `*`, in characters.
 const STAR_LIMIT: u32 = 65536;
 
+/// Whether the last record ends, which ADVANCE='NO' leaves open.
+fn ends_record(layout: &Layout, advance: bool) -> bool
+    ensures { result ≡ (advance || not (is_explicit layout.now)) }
+{
+    advance || !matches!(layout, Layout::Explicit(_))
+}
+
 /// What was written on unit `*`. The records that ended were handed on; the characters of the one that is open are kept.
 #[derive(Drop)]
 pub struct Output {
     handed: Vec<Snapshot<Text>>,
     open: Text,
+    /// A record is open. It may have no character.
+    is_open: bool,
 }
 
 impl Model for Output {
@@ -48,11 +58,12 @@ impl Model for Output {
 impl Output {
     /// Nothing was written.
     pub fn new(alloc: Global) -> Output
-        ensures { result ≡ record { text = []; begun = 0 } }
+        ensures { result ≡ record { text = []; begun = 0; is_open = false } }
     {
         Output {
             handed: Vec::new(alloc),
             open: Text::new(alloc),
+            is_open: false,
         }
     }
 
@@ -64,7 +75,7 @@ impl Output {
         ensures later { W.count out.old ≤ W.count out.new }
         ensures failed { result ≡ Err Lost.Sink → Rose (W.count out.old) (W.count out.new) }
     {
-        if self.open.is_empty() {
+        if !self.is_open {
             return Ok(());
         }
         self.open.push_all(b"\n")?;
@@ -100,6 +111,13 @@ impl Output {
         Ok(())
     }
 
+    /// The last record has ended, or it stays open.
+    fn leave(&mut self, ends: bool)
+        ensures { self.new ≡ record self.old { is_open = not ends } }
+    {
+        self.is_open = !ends;
+    }
+
     /// What a layout prints behind the open record. The records that end are handed on.
     fn print<W: Sink>(
         &mut self,
@@ -113,11 +131,11 @@ impl Output {
         requires records { IsRecords layout.now }
         requires grouped { All (IsWithin (length moved.now.cells)) (members_of layout.now) }
         ensures printed { IfOk result (λ condition. (self.new, condition)
-            ≡ printed_to self.old (printed_by 65536 self.old.begun (actions_by layout.now (control_of layout.now) modes advance moved.now))) }
+            ≡ printed_to (advance || not (is_explicit layout.now)) self.old (printed_by 65536 self.old.begun (actions_by layout.now (control_of layout.now) modes advance moved.now))) }
         ensures telling { W.tells out.old ↔ W.tells out.new }
         ensures taken { W.tells out.old → OnOk result (HandsOver (W.taken out.old) (W.taken out.new) self.old self.new) }
         ensures front { W.tells out.old → OnErr result (HandsFront (W.taken out.old) (W.taken out.new) self.old
-            (printed_to self.old (printed_by 65536 self.old.begun (actions_by layout.now (control_of layout.now) modes advance moved.now))).0) }
+            (printed_to (advance || not (is_explicit layout.now)) self.old (printed_by 65536 self.old.begun (actions_by layout.now (control_of layout.now) modes advance moved.now))).0) }
         ensures later { W.count out.old ≤ W.count out.new }
         ensures failed { result ≡ Err Lost.Sink → Rose (W.count out.old) (W.count out.new) }
     {
@@ -136,6 +154,7 @@ impl Output {
         ) {
             Ok(count) => {
                 self.hand_on(alloc, out, count as usize)?;
+                self.leave(ends_record(layout, advance));
                 Ok(Condition::Fine)
             }
             Err(Unwritten::Met(condition)) => Ok(condition),

@@ -13,7 +13,7 @@ use Rattle.fj_modes.specs.Modes.{usual_edit}
 use Rattle.fj_control.specs.Steps.{Given}
 use Rattle.fj_transfer.specs.Change.{changed}
 use Rattle.fj_transfer.specs.Printing.{printed}
-use Rattle.fj_transfer.specs.Transfer.{Done, transfer_by, is_formatted}
+use Rattle.fj_transfer.specs.Transfer.{Done, transfer_by, is_formatted, ends_record}
 use Rattle.fj_statement.specs.declared.deck.Variable.{Variable}
 use Rattle.fj_statement.specs.declared.deck.Lined.{Lined}
 use Rattle.fj_statement.specs.declared.statement.Transfer.{Transfer}
@@ -77,7 +77,7 @@ module _ (control : ℕ → List Given) (variables : List Variable) (s : State) 
   ref_out : (ref : UnitRef) → Out s (fits variables s t (unit_at s (number_of ref))) (transfer_at control variables s t (moved_by variables s t) ref).0
   ref_out unit.Star = star (is_asynchronous t) later
     where
-      star : (b : Bool) → b ≡ true → Out s false (record s { output = (if b then (s.output, Error 2) else (if not (is_formatted (spec_of variables s t (moved_by variables s t).cells).layout) then (s.output, Error 16) else printed_to s.output (printed star_limit s.output.begun (spec_of variables s t (moved_by variables s t).cells) control (changed (spec_of variables s t (moved_by variables s t).cells).edit usual_edit) (moved_by variables s t)))).0 })
+      star : (b : Bool) → b ≡ true → Out s false (record s { output = (if b then (s.output, Error 2) else (if not (is_formatted (spec_of variables s t (moved_by variables s t).cells).layout) then (s.output, Error 16) else printed_to (ends_record (spec_of variables s t (moved_by variables s t).cells)) s.output (printed star_limit s.output.begun (spec_of variables s t (moved_by variables s t).cells) control (changed (spec_of variables s t (moved_by variables s t).cells).edit usual_edit) (moved_by variables s t)))).0 })
       star true k = unchanged
       star false k = no k
   ref_out (unit.Number n) = unit_out (found s.units n)

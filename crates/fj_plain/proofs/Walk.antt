@@ -26,7 +26,7 @@ use Rattle.fj_control.specs.Steps.{Given}
 use Rattle.fj_transfer.specs.Change.{changed}
 use Rattle.fj_transfer.specs.declared.transfer.TransferSpec.{TransferSpec}
 use Rattle.fj_transfer.specs.Printing.{Printed, printed}
-use Rattle.fj_transfer.specs.Transfer.{Done, transfer_by, is_formatted}
+use Rattle.fj_transfer.specs.Transfer.{Done, transfer_by, is_formatted, ends_record}
 use Rattle.fj_statement.specs.declared.deck.Variable.{Variable}
 use Rattle.fj_statement.specs.declared.statement.Transfer.{Transfer}
 use Rattle.fj_statement.specs.declared.statement.Statement.{Statement}
@@ -213,17 +213,17 @@ module _ (control : ℕ → List Given) (variables : List Variable) (what : Stat
       by EndOfRecord = refused_walk t (moved_by variables s t) EndOfRecord
       by (Error code) = refused_walk t (moved_by variables s t) (Error code)
 
-  printed_walk : (result : Result Printed Condition) → P (record s { output = (printed_to s.output result).0 })
-  printed_walk (Err condition) = w.same
-  printed_walk (Ok p) = w.prints (printed_to s.output (Ok p)).0
+  printed_walk : (ends : Bool) (result : Result Printed Condition) → P (record s { output = (printed_to ends s.output result).0 })
+  printed_walk ends (Err condition) = w.same
+  printed_walk ends (Ok p) = w.prints (printed_to ends s.output (Ok p)).0
 
   star_walk : (t : Transfer) (moved : Moved) (spec : TransferSpec) → P (on_star control s t moved spec).0
   star_walk t moved spec = by (is_asynchronous t) (not (is_formatted spec.layout))
     where
-      by : (later unfit : Bool) → P (record s { output = (if later then (s.output, Error 2) else (if unfit then (s.output, Error 16) else printed_to s.output (printed star_limit s.output.begun spec control (changed spec.edit usual_edit) moved))).0 })
+      by : (later unfit : Bool) → P (record s { output = (if later then (s.output, Error 2) else (if unfit then (s.output, Error 16) else printed_to (ends_record spec) s.output (printed star_limit s.output.begun spec control (changed spec.edit usual_edit) moved))).0 })
       by true unfit = w.same
       by false true = w.same
-      by false false = printed_walk (printed star_limit s.output.begun spec control (changed spec.edit usual_edit) moved)
+      by false false = printed_walk (ends_record spec) (printed star_limit s.output.begun spec control (changed spec.edit usual_edit) moved)
 
   transfer_walk : (t : Transfer) (ref : UnitRef) → what ≡ statement.Transfer t → P (transfer_at control variables s t (moved_by variables s t) ref).0
   transfer_walk t unit.Star is = star_walk t (moved_by variables s t) (spec_of variables s t (moved_by variables s t).cells)

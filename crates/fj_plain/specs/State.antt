@@ -44,10 +44,11 @@ pub record Unit : Type 0 where
   pub connection : Connection
   pub halt : Option Condition
 
--- what was written on unit `*`: all characters, and how many of them the record has that is still open
+-- what was written on unit `*`: all characters, how many of them are of the record that is open, and whether one is, which may have no character
 pub record Output : Type 0 where
   pub text : List ℕ
   pub begun : ℕ
+  pub is_open : Bool
 
 -- a transfer that was told: at which line, of which unit, under which identifier, and its condition
 pub record Tell : Type 0 where
@@ -122,7 +123,7 @@ start variables files = record {
   book = [];
   units = [];
   files = files;
-  output = record { text = []; begun = 0 };
+  output = record { text = []; begun = 0; is_open = false };
   next = 1;
   tells = [];
 }

@@ -1,5 +1,5 @@
 -- READ and WRITE (ISO/IEC 1539-1:2004, 9.5): what the statement itself tells, and a transfer carried out or made pending.
-use Rattle.std.specs.Prelude.{ℕ, ℤ, pos, ◌+◌, ◌==◌, ◌&&◌, ◌++◌, not, unwrap_or, is_some, true, List, [], ◌∷◌, length, map, slice_get, Option, Some, None, option_map, if◌then◌else◌, Result, Ok, Err}
+use Rattle.std.specs.Prelude.{ℕ, ℤ, pos, ◌+◌, ◌==◌, ◌&&◌, ◌++◌, not, Bool, unwrap_or, is_some, true, List, [], ◌∷◌, length, map, slice_get, Option, Some, None, option_map, if◌then◌else◌, Result, Ok, Err}
 use Rattle.std.specs.List.{flat_map, position_or_len}
 use Rattle.fj_value.specs.declared.condition.Condition.{Condition}
 use Rattle.fj_value.specs.declared.condition.Condition.TheVariants.{Fine, Error}
@@ -27,7 +27,7 @@ use Rattle.fj_plain.specs.Telling.{is_asynchronous, with_size}
 use Rattle.fj_transfer.specs.Printing.{Printed, printed}
 use Rattle.fj_plain.specs.State.{State, Unit, Entry, Output, found, with_unit, elements}
 use Rattle.fj_control.specs.Steps.{Given}
-use Rattle.fj_transfer.specs.Transfer.{Done, transfer_by, is_formatted, unfitness}
+use Rattle.fj_transfer.specs.Transfer.{Done, transfer_by, is_formatted, ends_record, unfitness}
 pub use Rattle.fj_bay.specs.Halt.{halt_behind, unless_halted}
 
 -- ---- the statement as a transfer
@@ -159,22 +159,24 @@ on_unit control variables s t moved (Some u) = unless_refused control variables 
 abbrev pub star_limit : ℕ
 star_limit = 65536
 
-abbrev pub with_printed : Output → Printed → Output
-with_printed output p = record {
+-- more was printed; the last record then ends, or stays open
+abbrev pub with_printed : Bool → Output → Printed → Output
+with_printed ends output p = record {
   text = output.text ++ text_of p.records ++ p.«open»;
   begun = (if length p.records == 0 then output.begun else 0) + length p.«open»;
+  is_open = not ends;
 }
 
 -- the output then, or the condition
-abbrev pub printed_to : Output → Result Printed Condition → Output × Condition
-printed_to output (Err condition) = (output, condition)
-printed_to output (Ok p) = (with_printed output p, Fine)
+abbrev pub printed_to : Bool → Output → Result Printed Condition → Output × Condition
+printed_to ends output (Err condition) = (output, condition)
+printed_to ends output (Ok p) = (with_printed ends output p, Fine)
 
 abbrev pub star_printed : (ℕ → List Given) → Output → Transfer → Moved → TransferSpec → Output × Condition
 star_printed control output t moved spec =
     if is_asynchronous t then (output, Error 2)
     else (if not (is_formatted spec.layout) then (output, Error 16)
-    else printed_to output (printed star_limit output.begun spec control (changed spec.edit usual_edit) moved))
+    else printed_to (ends_record spec) output (printed star_limit output.begun spec control (changed spec.edit usual_edit) moved))
 
 abbrev pub on_star : (ℕ → List Given) → State → Transfer → Moved → TransferSpec → State × Condition
 on_star control s t moved spec = let p = star_printed control s.output t moved spec in (record s { output = p.0 }, p.1)
