@@ -1,5 +1,5 @@
 -- What holds of submitters that are as they were, but for their hands.
-use Rattle.std.proofs.Common.{Bool, ◌≡◌, ◌⊎◌, ℕ, ◌+◌, ◌<◌, ◌≤◌, List, [], length, Option, Some, slice_get, refl, sym, ap, ◌∙◌, subst, inl, inr, arith}
+use Rattle.std.proofs.Common.{Bool, ◌≡◌, ℕ, List, Option, sym, ap, ◌∙◌, inl, inr, arith}
 use Rattle.fj_slot.specs.Serving.{Meaning}
 use Rattle.fj_slot.specs.Ledger.{Ledger}
 use Rattle.fj_world.specs.declared.ask.Ask.{Ask}
@@ -12,7 +12,7 @@ use Rattle.fj_queue.specs.Knows.{knows}
 use Rattle.fj_crew.specs.Seats.{Paired}
 use Rattle.std.proofs.lemmas.Option.{slice_get_within}
 use Rattle.fj_world.proofs.Places.{slice_get_in, same_some}
-use Rattle.fj_crew.specs.Fits.{SeatsSame, AllAnswered, SomeTold, Begun, CrewFits, CrewGoes}
+use Rattle.fj_crew.specs.Fits.{AllAnswered, SomeTold, Begun, CrewGoes}
 use Rattle.fj_crew.specs.Plan.{Opened}
 use Rattle.fj_crew.specs.Team.{HandsAre, SeatsLike, CanServe, HasServed}
 

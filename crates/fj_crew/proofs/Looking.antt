@@ -1,5 +1,5 @@
 -- What is read at a place.
-use Rattle.std.proofs.Common.{◌≡◌, ◌≢◌, true, is_some, ℕ, zero, suc, ◌+◌, ◌<◌, List, [], ◌∷◌, ◌++◌, length, Option, Some, None, get_or, slice_get, Result, Ok, Err, IfOk, IfErr, OnOk, OnErr, refl, sym, ap, ◌∙◌, subst, arith}
+use Rattle.std.proofs.Common.{◌≡◌, ◌≢◌, true, is_some, ℕ, zero, suc, ◌+◌, List, [], ◌∷◌, ◌++◌, length, Option, Some, None, get_or, slice_get, Result, Ok, Err, IfOk, IfErr, OnOk, OnErr, refl, ◌∙◌}
 use Rattle.fj_slot.specs.declared.stop.Halt.{Halt}
 use Rattle.fj_slot.specs.declared.told.Refused.{Refused}
 use Rattle.fj_queue.specs.Cell.{stop_code}

@@ -1,18 +1,17 @@
 -- The plans: the slots are sound for them, and what is closed fits the script served alone.
-use Rattle.std.proofs.Common.{◌≢◌, ◌≡◌, ◌⊎◌, ℕ, zero, suc, ◌+◌, ◌-◌, ◌*◌, ◌%◌, ◌<◌, ◌≤◌, Bool, true, false, List, [], ◌∷◌, ◌++◌, length, map, take, Option, Some, None, is_some, slice_get, option_map, refl, sym, ap, ◌∙◌, subst, inl, inr, arith}
-use Rattle.std.proofs.lemmas.List.{length-append, take-append-le}
+use Rattle.std.proofs.Common.{◌≡◌, ◌⊎◌, ℕ, zero, suc, ◌+◌, ◌-◌, Bool, true, false, List, [], ◌∷◌, ◌++◌, length, map, take, Option, Some, None, is_some, slice_get, option_map, refl, sym, ap, ◌∙◌, subst, inl, inr, arith}
+use Rattle.std.proofs.lemmas.List.{length-append}
 use Rattle.std.proofs.lemmas.Bool.{cases_lt}
 use Rattle.std.proofs.lemmas.Option.{slice_get_within}
 use Rattle.fj_slot.specs.Serving.{Meaning}
 use Rattle.fj_slot.specs.Ledger.{Ledger}
 use Rattle.fj_slot.specs.Sound.{IsCounted, IsSound, IsSoundFor}
 use Rattle.fj_slot.proofs.Sound.{length_mapped}
-use Rattle.fj_world.specs.declared.ask.Ask.{Ask}
 use Rattle.fj_world.specs.declared.ask.Ask.TheVariants.{Finished}
 use Rattle.fj_world.specs.Conduct.{Conduct}
 use Rattle.fj_world.specs.Rack.{Rack}
 use Rattle.fj_world.specs.Plain.{Plain, PlainSlot, asked_next, after}
-use Rattle.fj_world.specs.Fits.{SlotFits, SlotsFit, Fits}
+use Rattle.fj_world.specs.Fits.{SlotFits, SlotsFit}
 use Rattle.fj_world.specs.Alone.{ServedAlone}
 use Rattle.fj_world.proofs.Places.{slice_get_in, same_some}
 use Rattle.fj_queue.specs.declared.view.View.{View}
@@ -21,10 +20,10 @@ use Rattle.fj_queue.specs.declared.seats.SubmitterOf.{SubmitterOf}
 use Rattle.fj_queue.specs.Knows.{knows}
 use Rattle.fj_queue.specs.Cell.{IsFor}
 use Rattle.fj_queue.specs.Tokens.{Begins, IsLast}
-use Rattle.fj_crew.specs.Fits.{SeatFits, NoJobs, SeatsSame, AllAnswered, Planned, Begun, CrewFits, CrewGoes}
+use Rattle.fj_crew.specs.Fits.{NoJobs, SeatsSame, AllAnswered, Planned, Begun, CrewGoes}
 use Rattle.fj_crew.specs.Plan.{with_both, told_jobs, told_slot, told_slots, AllSound, begun, agenda_with, jobs_in, plan_at, Opened, Shut, NoHands}
 use Rattle.fj_crew.proofs.Looking.{code_halts}
-use Rattle.fj_crew.proofs.Growing.{Grown, Grows, grows_after, grows_later}
+use Rattle.fj_crew.proofs.Growing.{grows_after, grows_later}
 use Rattle.fj_crew.proofs.Opening.{get_behind, in_front}
 
 pub both_there : {X Y Z : Type 0} → (f : X → Y → Z) (o : Option X) (p : Option Y) (z : Z) → with_both f o p ≡ Some z → (x : X) × (y : Y) × (o ≡ Some x) × (p ≡ Some y) × (f x y ≡ z)

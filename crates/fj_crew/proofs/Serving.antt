@@ -1,5 +1,5 @@
 -- Each turn of a script that is served over queues.
-use Rattle.std.proofs.Common.{◌≡◌, ◌≢◌, ◌⊎◌, ℕ, zero, suc, ◌+◌, ◌-◌, ◌<◌, ◌≤◌, ◌^◌, Bool, true, false, cond, eqb, List, [], ◌∷◌, ◌++◌, length, Option, Some, None, slice_get, set, Result, Ok, Err, refl, sym, ap, ◌∙◌, subst, inl, inr, arith}
+use Rattle.std.proofs.Common.{◌≡◌, ◌≢◌, ◌⊎◌, ℕ, suc, ◌+◌, ◌-◌, ◌<◌, ◌≤◌, ◌^◌, Bool, true, false, cond, List, [], ◌∷◌, ◌++◌, length, Some, slice_get, set, Result, Ok, Err, refl, sym, ap, ◌∙◌, subst, inl, inr, arith}
 use Rattle.std.proofs.lemmas.List.{length-set, length-append}
 use Rattle.std.proofs.lemmas.Bool.{eq-eqb, ne_eqb}
 use Rattle.std.proofs.lemmas.Option.{slice_get_within}
@@ -9,25 +9,22 @@ use Rattle.fj_slot.specs.declared.told.Told.TheVariants.{Done, Stopped}
 use Rattle.fj_slot.specs.Serving.{Meaning}
 use Rattle.fj_slot.specs.Sound.{outcome}
 use Rattle.fj_world.specs.declared.ask.Ask.{Ask}
-use Rattle.fj_world.specs.declared.ask.Ask.TheVariants.{Submit, Settle, Finished}
-use Rattle.fj_world.specs.Conduct.{Conduct, Asks, Takes, Tells, IsAsk, Due, Idle, Submitting, Settling, owed_after_submit, owed_after_settle}
+use Rattle.fj_world.specs.declared.ask.Ask.TheVariants.{Submit, Settle}
+use Rattle.fj_world.specs.Conduct.{Conduct, Asks, Takes, Tells, IsAsk, Submitting, Settling, owed_after_submit, owed_after_settle}
 use Rattle.fj_world.specs.Plain.{Plain, PlainSlot, asked_next, submitted_to, settled_from, told_from, served, next, after}
 use Rattle.fj_world.proofs.Places.{slice_get_set, set_same, slice_get_in, same_some}
 use Rattle.fj_world.proofs.Fitting.{ask_submit, ask_settle, not_over}
 use Rattle.fj_world.proofs.Runs.{after_next}
 use Rattle.fj_queue.specs.declared.view.View.{View}
-use Rattle.fj_queue.specs.declared.view.Agenda.{Agenda}
 use Rattle.fj_queue.specs.declared.seats.SubmitterOf.{SubmitterOf}
 use Rattle.fj_queue.specs.Knows.{knows}
-use Rattle.fj_outside.specs.declared.errors.Stop.{Stop}
 use Rattle.fj_queue.proofs.Counts.{code_some}
-use Rattle.fj_queue.specs.Cell.{IsNext, code_of}
+use Rattle.fj_queue.specs.Cell.{IsNext}
 use Rattle.fj_queue.specs.Answers.{IsStop, KnowsStop}
-use Rattle.fj_queue.specs.Tokens.{Numbers, Keeps}
 use Rattle.fj_crew.specs.Seats.{SeatAt, Sends, Submits, Settles}
 use Rattle.fj_crew.specs.Fits.{SeatFits, NoJobs, SeatsSame, OwesAsSaid, FewJobs, AllAnswered, SomeTold, Planned, Begun, CrewFits, CrewGoes}
 use Rattle.fj_crew.proofs.Looking.{get_at_end}
-use Rattle.fj_crew.proofs.Growing.{Grown, Grows, grows_after, grows_later, outcome_before}
+use Rattle.fj_crew.proofs.Growing.{grows_later, outcome_before}
 
 module _ {C G P T : Type 0} where
   -- submitters that fit, one of them changed on both sides

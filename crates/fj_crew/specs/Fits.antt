@@ -1,8 +1,8 @@
 -- When submitters fit a script served alone, and the plans of their queues.
-use Rattle.std.specs.Prelude.{◌≡◌, ◌≢◌, ℕ, ◌+◌, ◌<◌, ◌≤◌, ◌^◌, Bool, true, false, List, length, Option, Some, None, slice_get}
+use Rattle.std.specs.Prelude.{◌≡◌, ◌≢◌, ℕ, ◌+◌, ◌<◌, ◌≤◌, ◌^◌, Bool, true, false, List, length, Some, None, slice_get}
 use Rattle.fj_slot.specs.Serving.{Meaning}
 use Rattle.fj_world.specs.declared.ask.Ask.{Ask}
-use Rattle.fj_world.specs.declared.ask.Ask.TheVariants.{Settle, Finished}
+use Rattle.fj_world.specs.declared.ask.Ask.TheVariants.{Settle}
 use Rattle.fj_world.specs.Conduct.{Conduct, IsAsk}
 use Rattle.fj_world.specs.Plain.{Plain, PlainSlot, asked_next, after}
 use Rattle.fj_queue.specs.declared.view.View.{View}

@@ -1,5 +1,5 @@
 -- What the steps on queues change of their submitters.
-use Rattle.std.specs.Prelude.{◌≡◌, ℕ, ◌+◌, List, length, Option, Some, Result, Ok, Err, slice_get, slice_set}
+use Rattle.std.specs.Prelude.{◌≡◌, ℕ, ◌+◌, List, length, Some, Result, Ok, Err, slice_get, slice_set}
 use Rattle.fj_slot.specs.declared.told.Told.{Told}
 use Rattle.fj_slot.specs.declared.told.Refused.{Refused}
 use Rattle.fj_slot.specs.Serving.{Meaning}

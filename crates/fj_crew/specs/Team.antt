@@ -5,7 +5,6 @@ use Rattle.fj_world.specs.declared.ask.Ask.TheVariants.{Finished}
 use Rattle.fj_world.specs.Conduct.{Conduct, Idle}
 use Rattle.fj_world.specs.Leading.{LeadsTo}
 use Rattle.fj_world.specs.Plain.{asked_next}
-use Rattle.fj_queue.specs.declared.view.View.{View}
 use Rattle.fj_queue.specs.declared.seats.SubmitterOf.{SubmitterOf}
 use Rattle.fj_queue.specs.declared.seats.QueueOf.{QueueOf}
 use Rattle.fj_queue.specs.declared.seats.HandOf.{HandOf}

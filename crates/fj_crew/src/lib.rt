@@ -7,9 +7,11 @@ mod queues;
 mod seats;
 mod serve;
 mod signals;
+mod with_workers;
 mod workers;
 
 pub use crew::{CrewLost, run_crew};
+pub use with_workers::serve_with;
 
 #[cfg(test)]
 mod tests;

@@ -1,8 +1,6 @@
-use Rattle.std.proofs.Common.{◌≡◌, ℕ, ◌+◌, ◌<◌, ◌≤◌, ◌^◌, List, [], length, Option, Some, slice_get, refl, sym, ap, ◌∙◌, subst, arith, rules, ◌⊎◌, inl, inr}
-use Rattle.std.proofs.lemmas.Grind.{common_steps}
+use Rattle.std.proofs.Common.{◌≡◌, ℕ, length, Option, refl, sym, ap, ◌∙◌, subst, arith, rules}
 use borrow.Author.Rules.{rules, lives}
 use Rattle.fj_world.specs.Plain.{asked_next}
-use Rattle.fj_queue.specs.Knows.{knows}
 use Rattle.fj_crew.specs.Plan.{Opened, Shut, plan_at}
 use Rattle.fj_crew.proofs.Looking.{on_ok, on_err}
 use Rattle.fj_crew.proofs.Liking.{opened_like}

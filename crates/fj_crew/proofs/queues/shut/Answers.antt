@@ -1,8 +1,8 @@
-use Rattle.std.proofs.Common.{suc, List, ◌≡◌, ◌+◌, ◌-◌, ◌<◌, ◌≤◌, [], ◌∷◌, ◌++◌, length, Some, option_to_list, slice_get, refl, sym, ap, ◌∙◌, subst, arith, rules}
+use Rattle.std.proofs.Common.{suc, List, ◌≡◌, ◌≤◌, [], ◌∷◌, ◌++◌, length, option_to_list, slice_get, refl, sym, ap, ◌∙◌, subst, arith, rules}
 use Rattle.std.proofs.lemmas.Grind.{common_steps}
 use Rattle.std.proofs.lemmas.List.{append-nil}
 use Rattle.fj_crew.specs.Seats.{Paired}
-use Rattle.fj_crew.specs.Plan.{Shut, NoHands}
+use Rattle.fj_crew.specs.Plan.{Shut}
 use Rattle.fj_crew.proofs.Opening.{paired_less, shut_none, shut_more}
 use Rattle.fj_crew.proofs.queues.shut.Goals as goal
 

@@ -1,4 +1,4 @@
-use Rattle.std.proofs.Common.{◌≡◌, ◌+◌, refl, ap, subst}
+use Rattle.std.proofs.Common.{◌+◌, refl, subst}
 use Rattle.fj_queue.specs.Knows.{knows}
 use Rattle.fj_queue.specs.Answers as answers
 use Rattle.fj_queue.specs.Tokens.{Numbers}

@@ -1,12 +1,11 @@
-use Rattle.std.proofs.Common.{◌≡◌, ℕ, ◌+◌, ◌<◌, ◌≤◌, ◌^◌, true, false, length, Some, slice_get, set, refl, sym, ap, ◌∙◌, subst, arith}
+use Rattle.std.proofs.Common.{◌≡◌, length, sym, ap, ◌∙◌, subst, arith}
 use Rattle.std.proofs.lemmas.List.{length-set}
 use Rattle.std.proofs.lemmas.Bool.{false_from_ne_true}
 use Rattle.fj_world.proofs.Leads.{led_once, led_twice}
-use Rattle.fj_world.specs.declared.ask.Ask.TheVariants.{Submit, Settle, Finished}
+use Rattle.fj_world.specs.declared.ask.Ask.TheVariants.{Submit, Settle}
 use Rattle.fj_world.specs.Conduct.{KeepsTo, IsDueAsk}
 use Rattle.fj_world.specs.Plain.{asked_next}
 use Rattle.fj_queue.specs.Knows.{knows}
-use Rattle.fj_crew.specs.Fits.{CrewGoes}
 use Rattle.fj_world.proofs.Places.{slice_get_in}
 use Rattle.fj_crew.proofs.Serving.{same_set, same_itself, submit_goes, settle_goes, sent_at_most, kept_by, first_goes, few_on, submit_owes, settle_owes, submit_answers, settle_answers, submit_told, settle_told, is_next}
 use Rattle.fj_crew.proofs.serve.serve.Goals as goal

@@ -1,0 +1,3 @@
+pub mod Performing
+pub mod Desking
+pub mod Returning

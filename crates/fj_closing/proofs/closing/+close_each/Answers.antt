@@ -1,0 +1,16 @@
+use Rattle.fj_units.specs.Files.{files_of}
+use Rattle.fj_units.specs.Units.{connected_of}
+use Rattle.fj_closing.proofs.Returning.{each_closed, either_lacks}
+use Rattle.fj_closing.proofs.closing.+close_each.Goals as goal
+
+pub returns-clause-files : goal.returns-clause-files
+returns-clause-files g t c = λ tells was desks b are seats.
+    each_closed connected_of desks c.args.units.now c.unit-item.result (files_of (g.D.Disk.held c.args.disk.now)) (files_of (g.D.Disk.held c.close_unit-first.new.disk)) (files_of (g.D.Disk.held c.close_each-then.new.disk))
+    c.close_unit-first.result c.close_each-then.result c.after.result c.after.ensures c.in-len1-up.len_at_least c.unit-item.is seats
+    (λ d e. c.close_unit-first.ensures.files tells was desks d b are e)
+    (λ s. c.close_each-then.ensures.files (c.close_unit-first.ensures.telling.0 tells) was desks (c.close_unit-first.ensures.kept was b) are s)
+
+pub returns-clause-memory : goal.returns-clause-memory
+returns-clause-memory g t c = λ was b.
+    either_lacks c.close_unit-first.result c.close_each-then.result c.after.result c.after.ensures
+    (c.close_unit-first.ensures.memory was b) (c.close_each-then.ensures.memory was (c.close_unit-first.ensures.kept was b))

@@ -1,0 +1,12 @@
+use Rattle.fj_closing.proofs.finishing.finish.Goals as goal
+
+pub returns-clause-files : goal.returns-clause-files
+returns-clause-files g c = λ tells desks holds seats. c.close_units.ensures.files tells desks (c.what_remains-all.ensures.desks desks holds) seats
+
+pub returns-clause-remains : goal.returns-clause-remains
+returns-clause-remains g c = record {
+  all = c.what_remains-all.result.items;
+  each = c.what_remains-all.ensures.each;
+  back = c.close_units.ensures.back;
+  memory = c.close_units.ensures.memory;
+}

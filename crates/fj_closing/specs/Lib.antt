@@ -1,0 +1,4 @@
+pub mod Serving
+pub mod Remains
+pub mod Losing
+pub mod Closing

@@ -1,0 +1,240 @@
+// Connections are closed: open records are ended, and the files go back to the disk.
+ghost use Rattle.std.specs.Prelude.{◌≡◌, ◌≢◌, ◌↔◌, ◌≤◌, true, false, not, List, map, Some, None, Err, IfErr, IfSome, OnOk, OnErr, slice_get};
+ghost use Rattle.fj_outside.specs.Faults.{Rose};
+ghost use Rattle.fj_connect.specs.Linked.{connection_of};
+ghost use Rattle.fj_connect.specs.Positions.{ended};
+ghost use Rattle.fj_plain.specs.State.{left};
+ghost use Rattle.fj_desk.specs.Both.{Both};
+ghost use Rattle.fj_desk.specs.Desks.{Desk};
+ghost use Rattle.fj_desk.specs.Desking.{all_left, left_by};
+ghost use Rattle.fj_units.specs.Names.{stands, left_of, AreInUse};
+ghost use Rattle.fj_units.specs.Files.{files_of};
+ghost use Rattle.fj_units.specs.Units.{connected_of};
+ghost use Rattle.fj_closing.specs.Losing.{is_memory, may_want};
+ghost use Rattle.fj_closing.specs.Remains.{AreOfDesks};
+ghost use Rattle.fj_closing.specs.Closing.{Lessens, IsBack, AreBack, IsKept, returned, names_left, AreSeated, may_lack, SomeMayLack};
+ghost use Rattle.fj_closing.specs.declared.remains.Remains.{Remains as Remaining};
+
+use crate::losing::{after, lost_by};
+use crate::remains::Remains;
+use fj_connect::Connection;
+use fj_items::Lost;
+use fj_outside::{Disk, Failed, FileStore, Stop};
+use fj_units::{Connected, Names, Units};
+
+/// Ends the open record of a connection, unless its slot stopped.
+fn end_open<F: FileStore>(connection: &mut Connection<F>, stop: Option<Stop>) -> Result<(), Stop>
+    ensures telling { F.tells connection.old.file ↔ F.tells connection.new.file }
+    ensures ended { F.told connection.old.file ≡ true → OnOk result
+        (connection_of F.bytes connection.new ≡ ended (connection_of F.bytes connection.old)) }
+    ensures running { OnOk result (stop ≡ None) }
+    ensures stopped { IfErr result (λ e. IfSome stop (λ s. e ≡ s)) }
+    ensures name { connection.new.name ≡ connection.old.name }
+{
+    if let Some(stop) = stop {
+        return Err(stop);
+    }
+    connection.end_record()
+}
+
+/// Gives the file of a connection back, and takes its name off.
+fn give_back<D: Disk>(
+    connection: Connection<D::File>,
+    keep: bool,
+    names: &mut Names,
+    disk: &mut D,
+) -> Result<(), Failed>
+    requires names { D.tells disk.old → AreInUse names.old (D.held disk.old).in_use }
+    requires out { stands names.old connection.name ≡ true }
+    ensures names { D.tells disk.old → AreInUse names.new (D.held disk.new).in_use }
+    ensures off { names.new ≡ left_of names.old connection.name }
+    ensures files { D.tells disk.old → OnOk result
+        (files_of (D.held disk.new) ≡ returned connection.name (D.File.bytes connection.file) keep (files_of (D.held disk.old))) }
+    ensures telling { D.tells disk.old ↔ D.tells disk.new }
+    ensures later { D.count disk.old ≤ D.count disk.new }
+    ensures hurt { D.File.count connection.file ≢ 0 → Rose (D.count disk.old) (D.count disk.new) }
+    ensures failed { OnErr result (Rose (D.count disk.old) (D.count disk.new)) }
+{
+    names.remove(connection.name());
+    connection.close_file(disk, keep)
+}
+
+/// Ends the open record of a connection, unless its slot stopped, and gives its file back. A file whose name is not known to be
+/// out is not given back.
+fn close<D: Disk>(
+    connection: Connection<D::File>,
+    stop: Option<Stop>,
+    keep: bool,
+    names: &mut Names,
+    disk: &mut D,
+) -> Result<(), Lost>
+    requires names { D.tells disk.old → AreInUse names.old (D.held disk.old).in_use }
+    ensures names { D.tells disk.old → AreInUse names.new (D.held disk.new).in_use }
+    ensures files { D.tells disk.old → D.File.told connection.file ≡ true → OnOk result
+        (files_of (D.held disk.new) ≡ left (connection_of D.File.bytes connection) keep (files_of (D.held disk.old))) }
+
+    // Told or not.
+    ensures telling { D.tells disk.old ↔ D.tells disk.new }
+    ensures later { D.count disk.old ≤ D.count disk.new }
+    ensures disk { result ≡ Err Lost.Disk → Rose (D.count disk.old) (D.count disk.new) }
+    ensures sink { result ≢ Err Lost.Sink }
+    ensures running { OnOk result (stop ≡ None) }
+    ensures memory { is_memory result ≡ true → may_want stop ≡ true }
+    ensures off { OnOk result (names.new ≡ left_of names.old connection.name) }
+    ensures back { stands names.new connection.name ≡ false }
+    ensures lessens { Lessens names.old names.new }
+{
+    if !names.holds(connection.name()) {
+        return Err(Lost::Unfit);
+    }
+    let mut connection = connection;
+    let ended = end_open(&mut connection, stop);
+    let hurt = connection.faults() > 0;
+    let given = give_back(connection, keep, names, disk);
+    lost_by(ended, hurt, given)
+}
+
+/// Closes the connection of a unit. A scratch file is removed.
+fn close_unit<D: Disk>(
+    unit: &Connected,
+    all: &mut Vec<Remains<D::File>>,
+    names: &mut Names,
+    disk: &mut D,
+) -> Result<(), Lost>
+    requires names { D.tells disk.old → AreInUse names.old (D.held disk.old).in_use }
+    ensures names { D.tells disk.old → AreInUse names.new (D.held disk.new).in_use }
+    ensures files { D.tells disk.old → (was : List (Remaining D.File)) (desks : List Desk) (d : Desk) → Both (IsKept names.old) was all.old.items
+        → AreOfDesks D.File.told D.File.bytes was desks → slice_get desks unit.now.slot ≡ Some d
+        → OnOk result (files_of (D.held disk.new) ≡ left_by d.bay.connection (files_of (D.held disk.old))) }
+
+    // Told or not.
+    ensures telling { D.tells disk.old ↔ D.tells disk.new }
+    ensures later { D.count disk.old ≤ D.count disk.new }
+    ensures disk { result ≡ Err Lost.Disk → Rose (D.count disk.old) (D.count disk.new) }
+    ensures sink { result ≢ Err Lost.Sink }
+    ensures off { OnOk result (names.new ≡ left_of names.old unit.now.name) }
+    ensures kept { (was : List (Remaining D.File)) → Both (IsKept names.old) was all.old.items → Both (IsKept names.new) was all.new.items }
+    ensures memory { (was : List (Remaining D.File)) → Both (IsKept names.old) was all.old.items → is_memory result ≡ true → SomeMayLack was }
+{
+    let at = unit.slot as usize;
+    if at >= all.len() {
+        return Err(Lost::Unfit);
+    }
+    let it = &mut all[at];
+    let stop = it.stop;
+    let Some(connection) = it.connection.take() else {
+        return Err(Lost::Unfit);
+    };
+    let due = connection.name().as_str() == unit.name.as_str();
+    let keep = !connection.modes().scratch;
+    let closed = close(connection, stop, keep, names, disk);
+    if due {
+        closed
+    } else {
+        after(closed, Err(Lost::Unfit))
+    }
+}
+
+/// Closes the connections of units, one after another.
+fn close_each<D: Disk>(
+    units: &[Connected],
+    all: &mut Vec<Remains<D::File>>,
+    names: &mut Names,
+    disk: &mut D,
+) -> Result<(), Lost>
+    requires names { D.tells disk.old → AreInUse names.old (D.held disk.old).in_use }
+    ensures names { D.tells disk.old → AreInUse names.new (D.held disk.new).in_use }
+    ensures files { D.tells disk.old → (was : List (Remaining D.File)) (desks : List Desk) → Both (IsKept names.old) was all.old.items
+        → AreOfDesks D.File.told D.File.bytes was desks → AreSeated desks (map connected_of units.now)
+        → OnOk result (files_of (D.held disk.new) ≡ all_left desks (map connected_of units.now) (files_of (D.held disk.old))) }
+
+    // Told or not.
+    ensures telling { D.tells disk.old ↔ D.tells disk.new }
+    ensures later { D.count disk.old ≤ D.count disk.new }
+    ensures disk { result ≡ Err Lost.Disk → Rose (D.count disk.old) (D.count disk.new) }
+    ensures sink { result ≢ Err Lost.Sink }
+    ensures off { OnOk result (names.new ≡ names_left (map connected_of units.now) names.old) }
+    ensures kept { (was : List (Remaining D.File)) → Both (IsKept names.old) was all.old.items → Both (IsKept names.new) was all.new.items }
+    ensures memory { (was : List (Remaining D.File)) → Both (IsKept names.old) was all.old.items → is_memory result ≡ true → SomeMayLack was }
+{
+    let [unit, more @ ..] = units else {
+        return Ok(());
+    };
+    let first = close_unit(unit, all, names, disk);
+    let then = close_each(more, all, names, disk);
+    after(first, then)
+}
+
+/// Gives a connection that no unit has back.
+fn close_left<D: Disk>(it: Remains<D::File>, names: &mut Names, disk: &mut D) -> Result<(), Lost>
+    requires names { D.tells disk.old → AreInUse names.old (D.held disk.old).in_use }
+    ensures names { D.tells disk.old → AreInUse names.new (D.held disk.new).in_use }
+    ensures none { OnOk result ((disk.new ≡ disk.old) × (names.new ≡ names.old)) }
+    ensures telling { D.tells disk.old ↔ D.tells disk.new }
+    ensures later { D.count disk.old ≤ D.count disk.new }
+    ensures disk { result ≡ Err Lost.Disk → Rose (D.count disk.old) (D.count disk.new) }
+    ensures sink { result ≢ Err Lost.Sink }
+    ensures back { IsBack names.new it }
+    ensures memory { is_memory result ≡ true → may_lack it ≡ true }
+    ensures lessens { Lessens names.old names.new }
+{
+    let Remains { connection, stop } = it;
+    let Some(connection) = connection else {
+        return Ok(());
+    };
+    let closed = close(connection, stop, true, names, disk);
+    after(closed, Err(Lost::Unfit))
+}
+
+/// Gives the connections that no unit has back.
+fn close_rest<D: Disk>(
+    all: &mut Vec<Remains<D::File>>,
+    names: &mut Names,
+    disk: &mut D,
+) -> Result<(), Lost>
+    requires names { D.tells disk.old → AreInUse names.old (D.held disk.old).in_use }
+    ensures names { D.tells disk.old → AreInUse names.new (D.held disk.new).in_use }
+    ensures none { OnOk result ((disk.new ≡ disk.old) × (names.new ≡ names.old)) }
+    ensures telling { D.tells disk.old ↔ D.tells disk.new }
+    ensures later { D.count disk.old ≤ D.count disk.new }
+    ensures disk { result ≡ Err Lost.Disk → Rose (D.count disk.old) (D.count disk.new) }
+    ensures sink { result ≢ Err Lost.Sink }
+    ensures back { AreBack names.new all.old.items }
+    ensures memory { is_memory result ≡ true → SomeMayLack all.old.items }
+    ensures lessens { Lessens names.old names.new }
+{
+    let Some(it) = all.pop() else {
+        return Ok(());
+    };
+    let first = close_rest(all, names, disk);
+    let then = close_left(it, names, disk);
+    after(first, then)
+}
+
+/// Closes what remains of slots: the connections of units, in ascending order of these, and then those that no unit has. A loss
+/// does not keep the others from being closed: want of memory is answered, else the first loss.
+pub fn close_units<D: Disk>(
+    units: &Units,
+    all: Vec<Remains<D::File>>,
+    names: &mut Names,
+    disk: &mut D,
+) -> Result<(), Lost>
+    requires names { D.tells disk.old → AreInUse names.old (D.held disk.old).in_use }
+    ensures names { D.tells disk.old → AreInUse names.new (D.held disk.new).in_use }
+    ensures files { D.tells disk.old → (desks : List Desk) → AreOfDesks D.File.told D.File.bytes all.items desks → AreSeated desks units.now
+        → OnOk result (files_of (D.held disk.new) ≡ all_left desks units.now (files_of (D.held disk.old))) }
+
+    // Told or not.
+    ensures telling { D.tells disk.old ↔ D.tells disk.new }
+    ensures later { D.count disk.old ≤ D.count disk.new }
+    ensures disk { result ≡ Err Lost.Disk → Rose (D.count disk.old) (D.count disk.new) }
+    ensures sink { result ≢ Err Lost.Sink }
+    ensures off { OnOk result (names.new ≡ names_left units.now names.old) }
+    ensures back { AreBack names.new all.items }
+    ensures memory { is_memory result ≡ true → SomeMayLack all.items }
+{
+    let mut all = all;
+    let first = close_each(units.as_slice(), &mut all, names, disk);
+    let then = close_rest(&mut all, names, disk);
+    after(first, then)
+}

@@ -1,0 +1,49 @@
+// A run is brought to its end on its slots and its disk.
+ghost use Rattle.std.specs.Prelude.{◌≡◌, ◌≢◌, ◌↔◌, ◌≤◌, [], List, length, vec_capacity, Err, OnOk};
+ghost use Rattle.fj_outside.specs.Faults.{Rose};
+ghost use Rattle.fj_world.specs.Alone.{AllHome};
+ghost use Rattle.fj_bay.specs.Meaning.{bay_meaning};
+ghost use Rattle.fj_desk.specs.Desks.{Desk};
+ghost use Rattle.fj_desk.specs.Desking.{all_left};
+ghost use Rattle.fj_turns.specs.Executing.{HoldsDesks};
+ghost use Rattle.fj_units.specs.Names.{AreInUse};
+ghost use Rattle.fj_units.specs.Files.{files_of};
+ghost use Rattle.fj_closing.specs.Closing.{names_left, AreSeated, IsFinished};
+
+use crate::closing::close_units;
+use crate::remains::{Remains, what_remains};
+use fj_bay::Bay;
+use fj_items::Lost;
+use fj_outside::Disk;
+use fj_units::{Names, Units};
+use fj_world::Slots;
+
+/// Performs the jobs that are left, as far as their slots have not stopped, ends open records, and gives the files of the
+/// connections back. It takes no memory of its own, since there is room for what remains of the slots; so each of these files
+/// goes back, whatever is lost.
+pub fn finish<D: Disk>(
+    units: &Units,
+    slots: Slots<Bay<D::File>>,
+    room: Vec<Remains<D::File>>,
+    names: &mut Names,
+    disk: &mut D,
+) -> Result<(), Lost>
+    requires home { AllHome slots }
+    requires empty { room.items ≡ [] }
+    requires room { length slots.slots ≤ vec_capacity room }
+    requires names { D.tells disk.old → AreInUse names.old (D.held disk.old).in_use }
+    ensures names { D.tells disk.old → AreInUse names.new (D.held disk.new).in_use }
+    ensures files { D.tells disk.old → (desks : List Desk) → HoldsDesks (bay_meaning D.File.told D.File.bytes D.File.count) slots desks → AreSeated desks units.now
+        → OnOk result (files_of (D.held disk.new) ≡ all_left desks units.now (files_of (D.held disk.old))) }
+
+    // Told or not.
+    ensures telling { D.tells disk.old ↔ D.tells disk.new }
+    ensures later { D.count disk.old ≤ D.count disk.new }
+    ensures disk { result ≡ Err Lost.Disk → Rose (D.count disk.old) (D.count disk.new) }
+    ensures sink { result ≢ Err Lost.Sink }
+    ensures off { OnOk result (names.new ≡ names_left units.now names.old) }
+    ensures remains { IsFinished (bay_meaning D.File.told D.File.bytes D.File.count) slots names.new result }
+{
+    let all = what_remains(slots, room);
+    close_units(units, all, names, disk)
+}

@@ -1,0 +1,16 @@
+//! What becomes of slots and of files when a deck has ended or a run was given up: the jobs that are left are performed, open
+//! records are ended, and the files go back to the disk.
+#![tactic(auto)]
+
+mod closing;
+mod finishing;
+mod losing;
+mod remains;
+mod serving;
+#[cfg(test)]
+mod tests;
+
+pub use closing::close_units;
+pub use finishing::finish;
+pub use remains::{Remains, room_for, what_remains};
+pub use serving::served;
