@@ -50,6 +50,7 @@ const MODES: EditModes = EditModes {
 };
 
 /// A disk with a file of unit 10 that holds `a` and a line feed, of which one call fails, if any.
+#[tactic(auto, using(fj_outside::proofs::HoldingLaws::free_of_empty))]
 fn disk_of(alloc: Global, fails: u64) -> Result<FailingDisk, AllocError>
     ensures { IfOk result (λ disk. (disk_held disk).in_use ≡ set.empty) }
 {
