@@ -1,4 +1,4 @@
-//! The runner of a deck: what it holds between two asks, statement by statement, and what it asks of slots of bays.
+//! The runner of a deck: what it holds between two asks, statement by statement, and a script over slots of bays.
 #![tactic(auto)]
 
 mod answering;
@@ -10,6 +10,7 @@ mod hand;
 mod left;
 mod machine;
 mod making;
+mod script;
 mod serving;
 mod stage;
 mod state;
@@ -21,3 +22,4 @@ mod turns;
 pub use ending::Ending;
 pub use left::Left;
 pub use machine::Machine;
+pub use script::Runner;
