@@ -1,2 +1,8 @@
 pub mod ReplyLaws
-pub mod Telling
+pub mod ToldLaws
+pub mod Leading
+pub mod Executed
+pub mod Fresh
+pub mod Closed
+pub mod Settling
+pub mod MadeReplies

@@ -3,11 +3,11 @@ ghost use Rattle.std.specs.Prelude.{◌≡◌, ◌⊎◌, ◌≤◌, ◌++◌, �
 ghost use Rattle.std.specs.FinSet as set;
 ghost use Rattle.fj_outside.specs.Faults.{Rose};
 ghost use Rattle.fj_outside.specs.Holdings.{Files};
-ghost use Rattle.fj_built.specs.declared.deck.Deck.{Deck};
-ghost use Rattle.fj_job.specs.Answers.{IsAnswer, LeavesDisk, HasCause, IfEnded, IfRefused, IfDiskFault, HasDeck, HasStatementOn, HasOutputBefore, IsMet, Replied, Told, TakesFault, TakesReply};
-ghost use Rattle.fj_job.specs.Reply.{IsRefusal, IsBuiltText};
+ghost use Rattle.fj_job.specs.Answers.{IsAnswer, LeavesDisk, HasCause, IfEnded, IfRefused, HasDeck, IsSomeDeck, GoesOn, Keeps, Replied, Told};
+ghost use Rattle.fj_job.specs.Reply.{IsRefusal};
 ghost use Rattle.fj_job.specs.Task.{asked, asked_alone};
 
+use crate::made::make;
 use crate::streams::read_text;
 use crate::task::{Task, alone_task, task_of};
 use crate::text::{check_text, refuse_words, run_text};
@@ -22,14 +22,10 @@ fn check_source<R: Source, W: Sink>(alloc: Global, deck: &mut R, out: &mut W) ->
     ensures replied { (files : Files) → IsAnswer result → R.tells deck.old → Replied Task.Check (R.left deck.old) files result files
         (λ output. W.tells out.old → W.taken out.new ≡ W.taken out.old ++ output) }
     ensures no_usage { result ≡ Status.Usage → ⊥ }
-    ensures no_disk { IfDiskFault result (λ _. ⊥) }
     ensures ended { R.tells deck.old → IfEnded result (HasDeck Task.Check (R.left deck.old)) }
     ensures refused { R.tells deck.old → IfRefused result (IsRefusal Task.Check (R.left deck.old)) }
     ensures untold { result ≡ Status.ReadFault → out.new ≡ out.old }
-    ensures prefix { R.tells deck.old → W.tells out.old → (files : Files) →
-        TakesReply Task.Check (R.left deck.old) files (W.taken out.old) (W.taken out.new) (λ _ _. ⊥) }
     ensures cause { HasCause (Rose (R.count deck.old) (R.count deck.new)) (Rose (W.count out.old) (W.count out.new)) ⊥ result }
-    ensures fine { (Rose (R.count deck.old) (R.count deck.new) → ⊥) → (Rose (W.count out.old) (W.count out.new) → ⊥) → (result ≡ Status.Memory) ⊎ IsAnswer result }
     ensures deck_telling { R.tells deck.old ↔ R.tells deck.new }
     ensures out_telling { W.tells out.old ↔ W.tells out.new }
     ensures deck_later { R.count deck.old ≤ R.count deck.new }
@@ -45,32 +41,25 @@ fn check_source<R: Source, W: Sink>(alloc: Global, deck: &mut R, out: &mut W) ->
 /// Reads a source, and carries out its text.
 fn run_source<R: Source, W: Sink, D: Disk>(
     alloc: Global,
+    workers: u32,
+    trace: bool,
     deck: &mut R,
     out: &mut W,
     disk: &mut D,
 ) -> Status
     requires { D.tells disk.old → (D.held disk.old).in_use ≡ set.empty }
     ensures replied { IsAnswer result → R.tells deck.old → D.tells disk.old →
-        Replied Task.Execute (R.left deck.old) (D.held disk.old).files result (D.held disk.new).files
+        Replied (Task.Execute workers trace) (R.left deck.old) (D.held disk.old).files result (D.held disk.new).files
         (λ output. W.tells out.old → W.taken out.new ≡ W.taken out.old ++ output) }
     ensures no_usage { result ≡ Status.Usage → ⊥ }
-    ensures ended { R.tells deck.old → IfEnded result (HasDeck Task.Execute (R.left deck.old)) }
-    ensures refused { R.tells deck.old → IfRefused result (IsRefusal Task.Execute (R.left deck.old)) }
-    ensures changed { R.tells deck.old → (disk.new ≡ disk.old) ⊎ ((small : Deck) × IsBuiltText (R.left deck.old) small) }
+    ensures ended { R.tells deck.old → IfEnded result (HasDeck (Task.Execute workers trace) (R.left deck.old)) }
+    ensures refused { R.tells deck.old → IfRefused result (IsRefusal (Task.Execute workers trace) (R.left deck.old)) }
+    ensures changed { R.tells deck.old → (disk.new ≡ disk.old) ⊎ IsSomeDeck (R.left deck.old) }
     ensures kept_by_answer { LeavesDisk result → disk.new ≡ disk.old }
     ensures untold { result ≡ Status.ReadFault → out.new ≡ out.old }
-    ensures prefix { R.tells deck.old → W.tells out.old → D.tells disk.old →
-        TakesReply Task.Execute (R.left deck.old) (D.held disk.old).files (W.taken out.old) (W.taken out.new)
-        (λ stmt before. HasOutputBefore (R.left deck.old) (D.held disk.old).files stmt before × Rose (D.count disk.old) (D.count disk.new)) }
-    ensures fault_line { R.tells deck.old → W.tells out.old → D.tells disk.old → IfDiskFault result
-        (TakesFault (W.taken out.old) (W.taken out.new) (HasOutputBefore (R.left deck.old) (D.held disk.old).files)) }
     ensures cause { HasCause (Rose (R.count deck.old) (R.count deck.new)) (Rose (W.count out.old) (W.count out.new))
         (Rose (D.count disk.old) (D.count disk.new)) result }
-    ensures touching { R.tells deck.old → IfDiskFault result (HasStatementOn (R.left deck.old)) }
-    ensures met { D.tells disk.old → IfDiskFault result (λ _. IsMet (Rose (D.refusals disk.old) (D.refusals disk.new)) (D.held disk.new)) }
-    ensures fine { (Rose (R.count deck.old) (R.count deck.new) → ⊥) → (Rose (W.count out.old) (W.count out.new) → ⊥)
-        → (Rose (D.count disk.old) (D.count disk.new) → ⊥) → (result ≡ Status.Memory) ⊎ IsAnswer result }
-    ensures in_use { D.tells disk.old → (D.held disk.new).in_use ≡ set.empty }
+    ensures in_use { D.tells disk.old → (result ≡ Status.Memory) ⊎ ((D.held disk.new).in_use ≡ set.empty) }
     ensures deck_telling { R.tells deck.old ↔ R.tells deck.new }
     ensures out_telling { W.tells out.old ↔ W.tells out.new }
     ensures disk_telling { D.tells disk.old ↔ D.tells disk.new }
@@ -79,7 +68,7 @@ fn run_source<R: Source, W: Sink, D: Disk>(
     ensures disk_later { D.count disk.old ≤ D.count disk.new }
 {
     match read_text(alloc, deck) {
-        Ok(text) => run_text(alloc, &text, out, disk),
+        Ok(text) => run_text(alloc, &text, workers, trace, out, disk),
         Err(Stop::Failed) => Status::ReadFault,
         Err(Stop::Memory(_)) => Status::Memory,
     }
@@ -94,39 +83,24 @@ fn reply<R: Source, W: Sink, D: Disk>(
     disk: &mut D,
 ) -> Status
     requires { D.tells disk.old → (D.held disk.old).in_use ≡ set.empty }
-
-    // What is answered, taken and left.
     ensures told { Told task result (R.tells deck.old) (W.tells out.old) (D.tells disk.old) (R.left deck.old)
         (D.held disk.old).files (D.held disk.new).files (W.taken out.old) (W.taken out.new)
         (Rose (R.count deck.old) (R.count deck.new)) (Rose (W.count out.old) (W.count out.new)) (Rose (D.count disk.old) (D.count disk.new)) }
-    ensures met { D.tells disk.old → IfDiskFault result (λ _. IsMet (Rose (D.refusals disk.old) (D.refusals disk.new)) (D.held disk.new)) }
-
-    // Where no deck is carried out, the disk is as it was.
-    ensures kept_by_words { task ≡ Task.Refuse → disk.new ≡ disk.old }
-    ensures kept_by_check { task ≡ Task.Check → disk.new ≡ disk.old }
-    ensures changed { R.tells deck.old → (disk.new ≡ disk.old) ⊎ ((small : Deck) × IsBuiltText (R.left deck.old) small) }
-    ensures kept_by_answer { LeavesDisk result → disk.new ≡ disk.old }
-
-    // Words that are no form leave the source, and a fault of the source leaves the sink.
-    ensures unread { task ≡ Task.Refuse → deck.new ≡ deck.old }
-    ensures untold { result ≡ Status.ReadFault → out.new ≡ out.old }
-
-    ensures in_use { D.tells disk.old → (D.held disk.new).in_use ≡ set.empty }
-    ensures deck_telling { R.tells deck.old ↔ R.tells deck.new }
-    ensures out_telling { W.tells out.old ↔ W.tells out.new }
-    ensures disk_telling { D.tells disk.old ↔ D.tells disk.new }
-    ensures deck_later { R.count deck.old ≤ R.count deck.new }
-    ensures out_later { W.count out.old ≤ W.count out.new }
-    ensures disk_later { D.count disk.old ≤ D.count disk.new }
+    ensures keeps { Keeps task result (R.tells deck.old) (R.left deck.old) deck.old deck.new out.old out.new disk.old disk.new }
+    ensures in_use { D.tells disk.old → (result ≡ Status.Memory) ⊎ ((D.held disk.new).in_use ≡ set.empty) }
+    ensures deck_goes_on { GoesOn (R.tells deck.old) (R.tells deck.new) (R.count deck.old) (R.count deck.new) }
+    ensures out_goes_on { GoesOn (W.tells out.old) (W.tells out.new) (W.count out.old) (W.count out.new) }
+    ensures disk_goes_on { GoesOn (D.tells disk.old) (D.tells disk.new) (D.count disk.old) (D.count disk.new) }
 {
     match task {
         Task::Refuse => refuse_words(out),
         Task::Check => check_source(alloc, deck, out),
-        Task::Execute => run_source(alloc, deck, out, disk),
+        Task::Execute { workers, trace } => run_source(alloc, workers, trace, deck, out, disk),
+        Task::Generate { seed, count, text } => make(alloc, seed, count, text, out),
     }
 }
 
-/// Runs or checks a deck on one thread. `stmt` of a fault is the line of the statement that met it.
+/// Runs or checks a deck on one thread. `stmt` of a fault is the line of the statement at hand.
 pub fn alone_job<R: Source, W: Sink, D: Disk>(
     alloc: Global,
     words: &[String],
@@ -135,30 +109,14 @@ pub fn alone_job<R: Source, W: Sink, D: Disk>(
     disk: &mut D,
 ) -> Status
     requires { D.tells disk.old → (D.held disk.old).in_use ≡ set.empty }
-
-    // What is answered, taken and left.
     ensures told { Told (asked_alone words.now) result (R.tells deck.old) (W.tells out.old) (D.tells disk.old) (R.left deck.old)
         (D.held disk.old).files (D.held disk.new).files (W.taken out.old) (W.taken out.new)
         (Rose (R.count deck.old) (R.count deck.new)) (Rose (W.count out.old) (W.count out.new)) (Rose (D.count disk.old) (D.count disk.new)) }
-    ensures met { D.tells disk.old → IfDiskFault result (λ _. IsMet (Rose (D.refusals disk.old) (D.refusals disk.new)) (D.held disk.new)) }
-
-    // Where no deck is carried out, the disk is as it was.
-    ensures kept_by_words { asked_alone words.now ≡ Task.Refuse → disk.new ≡ disk.old }
-    ensures kept_by_check { asked_alone words.now ≡ Task.Check → disk.new ≡ disk.old }
-    ensures changed { R.tells deck.old → (disk.new ≡ disk.old) ⊎ ((small : Deck) × IsBuiltText (R.left deck.old) small) }
-    ensures kept_by_answer { LeavesDisk result → disk.new ≡ disk.old }
-
-    // Words that are no form leave the source, and a fault of the source leaves the sink.
-    ensures unread { asked_alone words.now ≡ Task.Refuse → deck.new ≡ deck.old }
-    ensures untold { result ≡ Status.ReadFault → out.new ≡ out.old }
-
-    ensures in_use { D.tells disk.old → (D.held disk.new).in_use ≡ set.empty }
-    ensures deck_telling { R.tells deck.old ↔ R.tells deck.new }
-    ensures out_telling { W.tells out.old ↔ W.tells out.new }
-    ensures disk_telling { D.tells disk.old ↔ D.tells disk.new }
-    ensures deck_later { R.count deck.old ≤ R.count deck.new }
-    ensures out_later { W.count out.old ≤ W.count out.new }
-    ensures disk_later { D.count disk.old ≤ D.count disk.new }
+    ensures keeps { Keeps (asked_alone words.now) result (R.tells deck.old) (R.left deck.old) deck.old deck.new out.old out.new disk.old disk.new }
+    ensures in_use { D.tells disk.old → (result ≡ Status.Memory) ⊎ ((D.held disk.new).in_use ≡ set.empty) }
+    ensures deck_goes_on { GoesOn (R.tells deck.old) (R.tells deck.new) (R.count deck.old) (R.count deck.new) }
+    ensures out_goes_on { GoesOn (W.tells out.old) (W.tells out.new) (W.count out.old) (W.count out.new) }
+    ensures disk_goes_on { GoesOn (D.tells disk.old) (D.tells disk.new) (D.count disk.old) (D.count disk.new) }
 {
     match read_words(alloc, words) {
         Ok(form) => reply(alloc, alone_task(form), deck, out, disk),
@@ -166,7 +124,8 @@ pub fn alone_job<R: Source, W: Sink, D: Disk>(
     }
 }
 
-/// Runs a deck with workers, or does what `alone_job` does. Today there are no workers, and no thread is started.
+/// Runs a deck with workers, or does what `alone_job` does. Today a deck is carried out on the calling thread alone, whatever
+/// number of workers is asked for.
 pub fn run_job<Rt: Threads + Wait + Sync, R: Source, W: Sink + Send, D: Disk + Send>(
     _rt: &Rt,
     alloc: Global,
@@ -176,30 +135,14 @@ pub fn run_job<Rt: Threads + Wait + Sync, R: Source, W: Sink + Send, D: Disk + S
     disk: &mut D,
 ) -> Status
     requires { D.tells disk.old → (D.held disk.old).in_use ≡ set.empty }
-
-    // What is answered, taken and left.
     ensures told { Told (asked words.now) result (R.tells deck.old) (W.tells out.old) (D.tells disk.old) (R.left deck.old)
         (D.held disk.old).files (D.held disk.new).files (W.taken out.old) (W.taken out.new)
         (Rose (R.count deck.old) (R.count deck.new)) (Rose (W.count out.old) (W.count out.new)) (Rose (D.count disk.old) (D.count disk.new)) }
-    ensures met { D.tells disk.old → IfDiskFault result (λ _. IsMet (Rose (D.refusals disk.old) (D.refusals disk.new)) (D.held disk.new)) }
-
-    // Where no deck is carried out, the disk is as it was.
-    ensures kept_by_words { asked words.now ≡ Task.Refuse → disk.new ≡ disk.old }
-    ensures kept_by_check { asked words.now ≡ Task.Check → disk.new ≡ disk.old }
-    ensures changed { R.tells deck.old → (disk.new ≡ disk.old) ⊎ ((small : Deck) × IsBuiltText (R.left deck.old) small) }
-    ensures kept_by_answer { LeavesDisk result → disk.new ≡ disk.old }
-
-    // Words that are no form leave the source, and a fault of the source leaves the sink.
-    ensures unread { asked words.now ≡ Task.Refuse → deck.new ≡ deck.old }
-    ensures untold { result ≡ Status.ReadFault → out.new ≡ out.old }
-
-    ensures in_use { D.tells disk.old → (D.held disk.new).in_use ≡ set.empty }
-    ensures deck_telling { R.tells deck.old ↔ R.tells deck.new }
-    ensures out_telling { W.tells out.old ↔ W.tells out.new }
-    ensures disk_telling { D.tells disk.old ↔ D.tells disk.new }
-    ensures deck_later { R.count deck.old ≤ R.count deck.new }
-    ensures out_later { W.count out.old ≤ W.count out.new }
-    ensures disk_later { D.count disk.old ≤ D.count disk.new }
+    ensures keeps { Keeps (asked words.now) result (R.tells deck.old) (R.left deck.old) deck.old deck.new out.old out.new disk.old disk.new }
+    ensures in_use { D.tells disk.old → (result ≡ Status.Memory) ⊎ ((D.held disk.new).in_use ≡ set.empty) }
+    ensures deck_goes_on { GoesOn (R.tells deck.old) (R.tells deck.new) (R.count deck.old) (R.count deck.new) }
+    ensures out_goes_on { GoesOn (W.tells out.old) (W.tells out.new) (W.count out.old) (W.count out.new) }
+    ensures disk_goes_on { GoesOn (D.tells disk.old) (D.tells disk.new) (D.count disk.old) (D.count disk.new) }
 {
     match read_words(alloc, words) {
         Ok(form) => reply(alloc, task_of(form), deck, out, disk),

@@ -1,6 +1,6 @@
 use Rattle.fj_job.specs.Taken.{IsReadOf}
 use Rattle.fj_job.specs.declared.task.Task.TheVariants.{Check}
-use Rattle.fj_job.proofs.ReplyLaws.{replied_whole, taken_whole, refused_whole, ended_whole}
+use Rattle.fj_job.proofs.ReplyLaws.{replied_whole, refused_whole, ended_whole}
 use Rattle.fj_job.proofs.job.check_source.Given
 use Rattle.fj_job.proofs.job.check_source.Goals as goal
 
@@ -13,9 +13,6 @@ returns-in-Ok-clause-replied g c = λ files a t. replied_whole Check _ _ files _
 
 pub returns-in-Ok-clause-refused : goal.returns-in-Ok-clause-refused
 returns-in-Ok-clause-refused g c = λ t. refused_whole Check _ _ c.check_text.result (read g c t) c.check_text.ensures.refused
-
-pub returns-in-Ok-clause-prefix : goal.returns-in-Ok-clause-prefix
-returns-in-Ok-clause-prefix g c = λ t u files. taken_whole Check _ _ files _ _ _ _ (read g c t) (λ n o f. f) (c.check_text.ensures.prefix u files)
 
 pub returns-in-Ok-clause-ended : goal.returns-in-Ok-clause-ended
 returns-in-Ok-clause-ended g c = λ t. ended_whole Check _ _ c.check_text.result (read g c t) c.check_text.ensures.ended

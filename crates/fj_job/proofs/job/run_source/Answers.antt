@@ -1,6 +1,6 @@
 use Rattle.fj_job.specs.Taken.{IsReadOf}
 use Rattle.fj_job.specs.declared.task.Task.TheVariants.{Execute}
-use Rattle.fj_job.proofs.ReplyLaws.{replied_whole, taken_whole, refused_whole, changed_whole, touching_whole, before_whole, fault_whole, ended_whole}
+use Rattle.fj_job.proofs.ReplyLaws.{replied_whole, refused_whole, changed_whole, ended_whole}
 use Rattle.fj_job.proofs.job.run_source.Given
 use Rattle.fj_job.proofs.job.run_source.Goals as goal
 
@@ -9,22 +9,13 @@ read : (g : Given.Over) (c : goal.After-drop-text g) → g.R.Source.tells c.args
 read g c t = rw c.deref.ensures.value (c.in-Ok.ensures.text t)
 
 pub returns-in-Ok-clause-replied : goal.returns-in-Ok-clause-replied
-returns-in-Ok-clause-replied g c = λ a t u. replied_whole Execute _ _ _ _ _ _ (read g c t) (c.run_text.ensures.replied a u)
+returns-in-Ok-clause-replied g c = λ a t u. replied_whole (Execute c.args.workers c.args.trace) _ _ _ _ _ _ (read g c t) (c.run_text.ensures.replied a u)
 
 pub returns-in-Ok-clause-refused : goal.returns-in-Ok-clause-refused
-returns-in-Ok-clause-refused g c = λ t. refused_whole Execute _ _ c.run_text.result (read g c t) c.run_text.ensures.refused
+returns-in-Ok-clause-refused g c = λ t. refused_whole (Execute c.args.workers c.args.trace) _ _ c.run_text.result (read g c t) c.run_text.ensures.refused
 
 pub returns-in-Ok-clause-changed : goal.returns-in-Ok-clause-changed
 returns-in-Ok-clause-changed g c = λ t. changed_whole _ _ _ (read g c t) c.run_text.ensures.changed
 
-pub returns-in-Ok-clause-touching : goal.returns-in-Ok-clause-touching
-returns-in-Ok-clause-touching g c = λ t. touching_whole _ _ c.run_text.result (read g c t) c.run_text.ensures.touching
-
-pub returns-in-Ok-clause-prefix : goal.returns-in-Ok-clause-prefix
-returns-in-Ok-clause-prefix g c = λ t u v. taken_whole Execute _ _ _ _ _ _ _ (read g c t) (λ n o f. (before_whole _ _ _ n o (read g c t) f.0, f.1)) (c.run_text.ensures.prefix u v)
-
-pub returns-in-Ok-clause-fault_line : goal.returns-in-Ok-clause-fault_line
-returns-in-Ok-clause-fault_line g c = λ t u v. fault_whole _ _ _ _ _ c.run_text.result (read g c t) (c.run_text.ensures.fault_line u v)
-
 pub returns-in-Ok-clause-ended : goal.returns-in-Ok-clause-ended
-returns-in-Ok-clause-ended g c = λ t. ended_whole Execute _ _ c.run_text.result (read g c t) c.run_text.ensures.ended
+returns-in-Ok-clause-ended g c = λ t. ended_whole (Execute c.args.workers c.args.trace) _ _ c.run_text.result (read g c t) c.run_text.ensures.ended

@@ -1,0 +1,154 @@
+-- How a statement goes on, and what a connection leaves that is closed.
+use Rattle.std.proofs.Common.{◌≡◌, ℕ, Bool, true, false, not, ◌&&◌, ◌||◌, List, [], ◌∷◌, Option, Some, None, refl, sym, ap, subst, ◌∙◌}
+use Rattle.std.specs.Prelude.{if◌then◌else◌, option_map}
+use Rattle.std.specs.Str.{bytes_eq}
+use Rattle.std.specs.FinSet as set
+use Rattle.std.proofs.lemmas.Slice.Eq.{bytes_eq-Decides}
+use Rattle.fj_value.specs.declared.condition.Condition.TheVariants.{Fine}
+use Rattle.fj_modes.specs.declared.specifiers.OpenSpec.{OpenSpec}
+use Rattle.fj_modes.specs.declared.unit.UnitRef.{UnitRef}
+use Rattle.fj_value.specs.declared.place.Place.{Place}
+use Rattle.fj_outside.specs.Holdings as disk
+use Rattle.fj_outside.specs.Holdings.{Holdings, IsFree}
+use Rattle.fj_connect.specs.Connection.{Connection}
+use Rattle.fj_connect.specs.Linked.{Linked, connection_of}
+use Rattle.fj_statement.specs.declared.deck.Variable.{Variable}
+use Rattle.fj_statement.specs.declared.statement.Statement.{Statement}
+use Rattle.fj_statement.specs.declared.statement.Statement.TheVariants as statement
+use Rattle.fj_statement.specs.declared.statement.Transfer.{Transfer}
+use Rattle.fj_transfer.specs.declared.transfer.Transfer.{Transfer as Moving}
+use Rattle.fj_connect.specs.declared.spot.Look.{Look}
+use Rattle.fj_bay.specs.Jobs.{Job as Task, Answer, detach, look, move}
+use Rattle.fj_bay.specs.Plain.{looked_of, moving_of, task_of, told_of}
+use Rattle.fj_bay.specs.declared.job.Job.{Job}
+use Rattle.fj_bay.specs.declared.job.Job.TheVariants as job
+use Rattle.fj_plain.specs.State.{Files, with_file, without_file}
+use Rattle.fj_plain.specs.Statement.{Stated}
+use Rattle.fj_desk.specs.Core.{Core, Connected, connected_at, without_connected}
+use Rattle.fj_desk.specs.Desks.{Outcome}
+use Rattle.fj_desk.specs.Doing.{finishes}
+use Rattle.fj_desk.specs.Acting.{left}
+use Rattle.fj_units.specs.Files.{files_of}
+use Rattle.fj_units.specs.Names.{AreInUse, left_of, stands}
+use Rattle.fj_units.proofs.Files.{files-given, files-gone, names-given, names-gone}
+use Rattle.fj_acts.specs.Doing.{AsksToOpen, carries, closed, entered, next_of, pends}
+use Rattle.fj_acts.specs.declared.doing.Given.{Given}
+use Rattle.fj_acts.specs.declared.doing.Given.TheVariants as given
+use Rattle.fj_acts.specs.Steps.{is_due}
+use Rattle.fj_acts.proofs.ClosingLemmas.{found_number}
+
+-- ---- the file of a connection is back
+
+-- what the disk holds then
+abbrev pub given_back : Bool → Holdings → List ℕ → List ℕ → Bool → Holdings
+given_back keep h name bytes sound = if keep then disk.given h name bytes sound else disk.without (disk.given h name bytes sound) name
+
+back_in_use : (keep : Bool) (names : List (List ℕ)) (h : Holdings) (name bytes : List ℕ) (sound : Bool) → AreInUse names h.in_use → AreInUse (left_of names name) (given_back keep h name bytes sound).in_use
+back_in_use true names h name bytes sound are = names-given names h name bytes sound are
+back_in_use false names h name bytes sound are = names-gone names h name bytes sound are
+
+pub names_closed : (keep : Bool) (names fewer : List (List ℕ)) (h new : Holdings) (name bytes : List ℕ) (sound : Bool) → fewer ≡ left_of names name → new ≡ given_back keep h name bytes sound
+    → AreInUse names h.in_use → AreInUse fewer new.in_use
+names_closed keep names fewer h new name bytes sound is_fewer is_new are q =
+    ap (λ (s : Holdings). set.contains s.in_use q) is_new ∙ back_in_use keep names h name bytes sound are q ∙ ap (λ l. stands l q) (sym is_fewer)
+
+gone_by : (o : List ℕ) (os : List (List ℕ)) (name : List ℕ) (b : Bool) → bytes_eq o name ≡ b → stands (left_of os name) name ≡ false → stands (if not b then o ∷ left_of os name else left_of os name) name ≡ false
+gone_by o os name true e rest = rest
+gone_by o os name false e rest = ap (λ x. x || stands (left_of os name) name) e ∙ rest
+
+left_gone : (names : List (List ℕ)) (name : List ℕ) → stands (left_of names name) name ≡ false
+left_gone [] name = refl
+left_gone (o ∷ os) name = gone_by o os name (bytes_eq o name) refl (left_gone os name)
+
+pub name_freed : (keep : Bool) (names fewer : List (List ℕ)) (h new : Holdings) (name bytes : List ℕ) (sound : Bool) → fewer ≡ left_of names name → new ≡ given_back keep h name bytes sound
+    → AreInUse names h.in_use → IsFree new name
+name_freed keep names fewer h new name bytes sound is_fewer is_new are =
+    ap not (names_closed keep names fewer h new name bytes sound is_fewer is_new are name ∙ ap (λ l. stands l name) is_fewer ∙ left_gone names name)
+
+-- ---- the connection of a unit is closed
+
+both : (a b : Bool) → (a && b) ≡ true → (a ≡ true) × (b ≡ true)
+both true b e = (refl, e)
+both false b e = absurd (let bad : ⊥ = cc in bad)
+
+pub due_stands : (found : Option Connected) (names : List (List ℕ)) (name : List ℕ) → is_due found names name ≡ true → stands names name ≡ true
+due_stands None names name e = absurd (let bad : ⊥ = cc in bad)
+due_stands (Some u) names name e = (both (bytes_eq u.name name) (stands names name) e).1
+
+files_back : (keep : Bool) (h : Holdings) (name bytes : List ℕ) (sound : Bool) → files_of (given_back keep h name bytes sound) ≡ (if keep then with_file name bytes (files_of h) else without_file name (files_of h))
+files_back true h name bytes sound = files-given h name bytes sound
+files_back false h name bytes sound = files-gone h name bytes sound
+
+told_is : {F : Type 0} (told : F → Bool) (bytes : F → List ℕ) (conn : Linked F) (c : Connection) (b : Bool) → told conn.file ≡ b → told_of told bytes conn ≡ Some c → connection_of bytes conn ≡ c
+told_is told bytes conn c true t e = let same : Some (connection_of bytes conn) ≡ Some c = sym (ap (λ b. if b then Some (connection_of bytes conn) else None) t) ∙ e in cc
+told_is told bytes conn c false t e = absurd (let none : None ≡ Some c = sym (ap (λ b. if b then Some (connection_of bytes conn) else None) t) ∙ e in let bad : ⊥ = cc in bad)
+
+pub disconnects_is : {F : Type 0} (told : F → Bool) (bytes : F → List ℕ) (core : Core) (h new : Holdings) (number : ℕ) (names : List (List ℕ)) (conn : Linked F) (c : Connection) (sound keep : Bool) (answer : Answer) (found : Option Connected)
+    → connected_at core.units number ≡ found → is_due found names conn.name ≡ true → told_of told bytes conn ≡ Some c → core.files ≡ files_of h → new ≡ given_back keep h conn.name (bytes conn.file) sound
+    → record core { units = without_connected number core.units; files = files_of new } ≡ closed core (connected_at core.units number) keep (detach (Some c), answer)
+disconnects_is told bytes core h new number names conn c sound keep answer None found due is_told home is_new = absurd (let bad : ⊥ = cc in bad)
+disconnects_is told bytes core h new number names conn c sound keep answer (Some u) found due is_told home is_new =
+    let name : u.name ≡ conn.name = (bytes_eq-Decides u.name conn.name).0 (both (bytes_eq u.name conn.name) (stands names conn.name) due).0 in
+    let same : connection_of bytes conn ≡ c = told_is told bytes conn c (told conn.file) refl is_told in
+    let files : files_of new ≡ left u.name (Some c) keep core.files =
+    ap (λ (x : Holdings). files_of x) is_new
+    ∙ files_back keep h conn.name (bytes conn.file) sound
+    ∙ ap (λ (f : Files). if keep then with_file conn.name (bytes conn.file) f else without_file conn.name f) (sym home)
+    ∙ ap (λ n. if keep then with_file n (bytes conn.file) core.files else without_file n core.files) (sym name)
+    ∙ ap (λ (x : Connection). left u.name (Some x) keep core.files) same in
+    ap (λ (f : Files). let new : Core = record core { units = without_connected number core.units; files = f } in new) files
+    ∙ ap (λ n. let new : Core = record core { units = without_connected n core.units; files = left u.name (Some c) keep core.files } in new) (sym (found_number core.units number u found))
+    ∙ ap (λ o. closed core o keep (detach (Some c), answer)) (sym found)
+
+-- ---- kinds of statements
+
+pub asks_to_open : (what : Statement) (unit : UnitRef) (spec : OpenSpec) (iostat : Option Place) → what ≡ statement.OpenUnit unit spec iostat → AsksToOpen what spec
+asks_to_open what unit spec iostat e = subst (λ (s : Statement). AsksToOpen s spec) (sym e) refl
+
+pub carries_nothing : (variables : List Variable) (core : Core) (what : Statement) (slot : ℕ) (o : Outcome) → ((t : Transfer) → what ≡ statement.Transfer t → ⊥) → carries variables core what slot o ≡ finishes core Fine
+carries_nothing variables core (statement.OpenUnit unit spec iostat) slot o never = refl
+carries_nothing variables core (statement.Assign to from) slot o never = refl
+carries_nothing variables core (statement.CloseUnit unit keep iostat) slot o never = refl
+carries_nothing variables core (statement.WaitFor unit id iostat) slot o never = refl
+carries_nothing variables core (statement.Move how unit iostat) slot o never = refl
+carries_nothing variables core (statement.Inquire subject asked id iostat) slot o never = refl
+carries_nothing variables core (statement.Transfer t) slot o never = absurd (never t refl)
+carries_nothing variables core statement.End slot o never = refl
+
+pends_by : (variables : List Variable) (core : Core) (what : Statement) (unit slot number : ℕ) → ((t : Transfer) → what ≡ statement.Transfer t → ⊥) → pends variables core what unit slot number ≡ finishes core Fine
+pends_by variables core (statement.OpenUnit u spec iostat) unit slot number never = refl
+pends_by variables core (statement.Assign to from) unit slot number never = refl
+pends_by variables core (statement.CloseUnit u keep iostat) unit slot number never = refl
+pends_by variables core (statement.WaitFor u id iostat) unit slot number never = refl
+pends_by variables core (statement.Move how u iostat) unit slot number never = refl
+pends_by variables core (statement.Inquire subject asked id iostat) unit slot number never = refl
+pends_by variables core (statement.Transfer t) unit slot number never = absurd (never t refl)
+pends_by variables core statement.End unit slot number never = refl
+
+pub pends_nothing : (variables : List Variable) (st : Stated) (core new : Core) (next : Given) (unit slot number : ℕ)
+    → next ≡ given.Pends unit slot → ((t : Transfer) → st.0.what ≡ statement.Transfer t → ⊥) → new ≡ core → next_of variables st core next number ≡ finishes new Fine
+pends_nothing variables st core new next unit slot number is never same =
+    ap (λ n. next_of variables st core n number) is ∙ pends_by variables core st.0.what unit slot number never ∙ ap (λ (c : Core). finishes c Fine) (sym same)
+
+pub pends_is : (variables : List Variable) (st : Stated) (core new : Core) (next : Given) (unit slot number : ℕ) (t : Transfer)
+    → next ≡ given.Pends unit slot → st.0.what ≡ statement.Transfer t → new ≡ entered variables core t unit slot number → next_of variables st core next number ≡ finishes new Fine
+pends_is variables st core new next unit slot number t is what is_new =
+    ap (λ n. next_of variables st core n number) is
+    ∙ ap (λ (w : Statement). pends variables core w unit slot number) what
+    ∙ ap (λ (c : Core). finishes c Fine) (sym is_new)
+
+-- ---- jobs that came back
+
+pub moved_is : {F : Type 0} (told : F → Bool) (bytes : F → List ℕ) (it : Job F) (m : Moving) (task : Task) → it ≡ job.Move m → task_of told bytes it ≡ Some task → move (moving_of m) ≡ task
+moved_is told bytes it m task is is_task = let same : Some (move (moving_of m)) ≡ Some task = sym (ap (task_of told bytes) is) ∙ is_task in cc
+
+pub looked_is : {F : Type 0} (told : F → Bool) (bytes : F → List ℕ) (it : Job F) (l : Option Look) (task : Task) → it ≡ job.Look l → task_of told bytes it ≡ Some task → look (option_map looked_of l) ≡ task
+looked_is told bytes it l task is is_task = let same : Some (look (option_map looked_of l)) ≡ Some task = sym (ap (task_of told bytes) is) ∙ is_task in cc
+
+detached_by : (o : Option Connection) (task : Task) → option_map detach (option_map Some o) ≡ Some task → (c : Connection) × (o ≡ Some c) × (detach (Some c) ≡ task)
+detached_by None task e = absurd (let bad : ⊥ = cc in bad)
+detached_by (Some c) task e = (c, refl, cc)
+
+pub detached_is : {F : Type 0} (told : F → Bool) (bytes : F → List ℕ) (it : Job F) (conn : Linked F) (task : Task) → it ≡ job.Detach (Some conn) → task_of told bytes it ≡ Some task
+    → (c : Connection) × (told_of told bytes conn ≡ Some c) × (detach (Some c) ≡ task)
+detached_is told bytes it conn task is is_task = detached_by (told_of told bytes conn) task (sym (ap (task_of told bytes) is) ∙ is_task)

@@ -1,0 +1,119 @@
+use Rattle.std.proofs.Common.{Option, refl, ap, subst, ◌∙◌}
+use Rattle.fj_statement.specs.declared.statement.Operand.{Operand}
+use Rattle.fj_statement.specs.declared.statement.Statement.{Statement}
+use Rattle.fj_statement.specs.declared.statement.Statement.TheVariants as statement
+use Rattle.fj_plain.specs.State.{Files}
+use Rattle.fj_plain.specs.Statement.{Stated, control_by}
+use Rattle.fj_desk.specs.Acting.{own}
+use Rattle.fj_desk.specs.Core.{Core}
+use Rattle.fj_desk.specs.Doing.{Doing as PlainDoing}
+use Rattle.fj_units.specs.Files.{files_of}
+use Rattle.fj_acts.specs.Doing.{IsDoing}
+use Rattle.fj_acts.specs.State.{core_of}
+use Rattle.fj_acts.proofs.BeginningLemmas.{asks_about, own_is, assign_front, open_front, inquire_front, takes_as}
+use Rattle.fj_acts.proofs.OpeningLemmas.{meant}
+use Rattle.fj_acts.proofs.StateLemmas.{keeps_answers}
+use Rattle.fj_acts.proofs.StepLemmas.{asks_to_open}
+use Rattle.fj_acts.proofs.beginning.own.Goals as goal
+
+pub returns-in_err-map_err-in-Assign-clause-front : goal.returns-in_err-map_err-in-Assign-clause-front
+returns-in_err-map_err-in-Assign-clause-front g c = λ tells.
+    assign_front c.from_residual.result (g.W.Sink.taken c.args.out.now) c.args.variables.now c.args.lined.now.line (core_of (files_of (g.D.Disk.held c.args.disk.now)) c.args.core.now) c.args.lined.now.what
+    c.in-Assign.to c.in-Assign.from c.in-Assign.is
+
+pub returns-in_err-map_err-in-Assign-clause-pending : goal.returns-in_err-map_err-in-Assign-clause-pending
+returns-in_err-map_err-in-Assign-clause-pending g c = keeps_answers c.args.core.now (record c.args.core.now { store = c.assign.new.store }) refl
+
+pub returns-in_ok-map_err-in-Assign-clause-pending : goal.returns-in_ok-map_err-in-Assign-clause-pending
+returns-in_ok-map_err-in-Assign-clause-pending g c = keeps_answers c.args.core.now (record c.args.core.now { store = c.assign.new.store }) refl
+
+pub returns-in-OpenUnit-clause-doing : goal.returns-in-OpenUnit-clause-doing
+returns-in-OpenUnit-clause-doing g c = λ tells.
+    let core : Core = core_of (files_of (g.D.Disk.held c.args.disk.now)) c.args.core.now in
+    let what : Statement = c.args.lined.now.what in
+    let st : Stated = (c.args.lined.now, control_by what) in
+    meant g.D.File.FileStore.told g.D.File.FileStore.bytes c.args.variables.now st _ c.open.result _ _
+    (own_is c.args.variables.now c.args.lined.now.line core what (statement.OpenUnit c.in-OpenUnit.unit c.in-OpenUnit.spec c.in-OpenUnit.iostat) c.in-OpenUnit.is)
+    (c.open.ensures.doing tells c.args.variables.now st (asks_to_open what c.in-OpenUnit.unit c.in-OpenUnit.spec c.in-OpenUnit.iostat c.in-OpenUnit.is))
+
+pub returns-in-OpenUnit-clause-front : goal.returns-in-OpenUnit-clause-front
+returns-in-OpenUnit-clause-front g c = λ tells.
+    open_front c.open.result (g.W.Sink.taken c.args.out.now) c.args.variables.now c.args.lined.now.line (core_of (files_of (g.D.Disk.held c.args.disk.now)) c.args.core.now) c.args.lined.now.what
+    c.in-OpenUnit.unit c.in-OpenUnit.spec c.in-OpenUnit.iostat c.in-OpenUnit.is
+
+pub returns-in-OpenUnit-clause-pending : goal.returns-in-OpenUnit-clause-pending
+returns-in-OpenUnit-clause-pending g c = keeps_answers c.args.core.now c.open.new.core c.open.ensures.pending
+
+pub returns-in-CloseUnit-clause-doing : goal.returns-in-CloseUnit-clause-doing
+returns-in-CloseUnit-clause-doing g c = λ tells.
+    let files : Files = files_of (g.D.Disk.held c.args.disk.now) in
+    let core : Core = core_of files c.args.core.now in
+    let what : Statement = c.args.lined.now.what in
+    let st : Stated = (c.args.lined.now, control_by what) in
+    subst (λ (d : PlainDoing). IsDoing g.D.File.FileStore.told g.D.File.FileStore.bytes c.args.variables.now st core c.close.result d)
+    (own_is c.args.variables.now c.args.lined.now.line core what (statement.CloseUnit c.in-CloseUnit.unit c.in-CloseUnit.keep c.in-CloseUnit.iostat) c.in-CloseUnit.is)
+    (c.close.ensures c.args.variables.now st files)
+
+pub returns-in-CloseUnit-clause-pending : goal.returns-in-CloseUnit-clause-pending
+returns-in-CloseUnit-clause-pending g c = keeps_answers c.args.core.now c.args.core.now refl
+
+pub returns-in-WaitFor-clause-pending : goal.returns-in-WaitFor-clause-pending
+returns-in-WaitFor-clause-pending g c = keeps_answers c.args.core.now c.args.core.now refl
+
+pub returns-in-Move-clause-doing : goal.returns-in-Move-clause-doing
+returns-in-Move-clause-doing g c = λ tells.
+    let files : Files = files_of (g.D.Disk.held c.args.disk.now) in
+    let core : Core = core_of files c.args.core.now in
+    let what : Statement = c.args.lined.now.what in
+    let st : Stated = (c.args.lined.now, control_by what) in
+    subst (λ (d : PlainDoing). IsDoing g.D.File.FileStore.told g.D.File.FileStore.bytes c.args.variables.now st core c.motion.result d)
+    (own_is c.args.variables.now c.args.lined.now.line core what (statement.Move c.in-Move.how c.in-Move.unit c.in-Move.iostat) c.in-Move.is)
+    (c.motion.ensures c.args.variables.now st files)
+
+pub returns-in-Move-clause-pending : goal.returns-in-Move-clause-pending
+returns-in-Move-clause-pending g c = keeps_answers c.args.core.now c.args.core.now refl
+
+pub returns-in-Inquire-clause-doing : goal.returns-in-Inquire-clause-doing
+returns-in-Inquire-clause-doing g c = λ tells.
+    let core : Core = core_of (files_of (g.D.Disk.held c.args.disk.now)) c.args.core.now in
+    let what : Statement = c.args.lined.now.what in
+    let st : Stated = (c.args.lined.now, control_by what) in
+    meant g.D.File.FileStore.told g.D.File.FileStore.bytes c.args.variables.now st _ c.inquire.result _ _
+    (ap (λ (id : Option Operand). own (control_by what) c.args.variables.now c.args.lined.now.line core (statement.Inquire c.in-Inquire.about c.in-Inquire.asked id c.in-Inquire.iostat)) c.as_ref.ensures.value
+    ∙ own_is c.args.variables.now c.args.lined.now.line core what (statement.Inquire c.in-Inquire.about c.in-Inquire.asked c.in-Inquire.id c.in-Inquire.iostat) c.in-Inquire.is)
+    (c.inquire.ensures.doing tells st (asks_about what c.in-Inquire.about c.in-Inquire.asked c.in-Inquire.id _ c.in-Inquire.iostat c.in-Inquire.is c.as_ref.ensures.value))
+
+pub returns-in-Inquire-clause-front : goal.returns-in-Inquire-clause-front
+returns-in-Inquire-clause-front g c = λ tells.
+    inquire_front c.inquire.result (g.W.Sink.taken c.args.out.now) c.args.variables.now c.args.lined.now.line (core_of (files_of (g.D.Disk.held c.args.disk.now)) c.args.core.now) c.args.lined.now.what
+    c.in-Inquire.about c.in-Inquire.asked c.in-Inquire.id c.in-Inquire.iostat c.in-Inquire.is
+
+pub returns-in-Transfer-clause-doing : goal.returns-in-Transfer-clause-doing
+returns-in-Transfer-clause-doing g c = λ tells.
+    let files : Files = files_of (g.D.Disk.held c.args.disk.now) in
+    let core : Core = core_of files c.args.core.now in
+    let what : Statement = c.args.lined.now.what in
+    let st : Stated = (c.args.lined.now, control_by what) in
+    meant g.D.File.FileStore.told g.D.File.FileStore.bytes c.args.variables.now st _ c.read_or_write.result _ _
+    (own_is c.args.variables.now c.args.lined.now.line core what (statement.Transfer c.in-Transfer.t) c.in-Transfer.is)
+    (c.read_or_write.ensures.doing st files c.in-Transfer.is)
+
+pub returns-in-Transfer-clause-front : goal.returns-in-Transfer-clause-front
+returns-in-Transfer-clause-front g c = λ tells.
+    let files : Files = files_of (g.D.Disk.held c.args.disk.now) in
+    takes_as c.read_or_write.result (g.W.Sink.taken c.args.out.now) (g.W.Sink.taken c.read_or_write.new.out) c.args.core.now.output _ _
+    (own_is c.args.variables.now c.args.lined.now.line (core_of files c.args.core.now) c.args.lined.now.what (statement.Transfer c.in-Transfer.t) c.in-Transfer.is)
+    (c.read_or_write.ensures.front tells files)
+
+pub returns-in-End-clause-doing : goal.returns-in-End-clause-doing
+returns-in-End-clause-doing g c = λ tells.
+    let files : Files = files_of (g.D.Disk.held c.args.disk.now) in
+    let core : Core = core_of files c.args.core.now in
+    let what : Statement = c.args.lined.now.what in
+    let st : Stated = (c.args.lined.now, control_by what) in
+    subst (λ (d : PlainDoing). IsDoing g.D.File.FileStore.told g.D.File.FileStore.bytes c.args.variables.now st core c.close_all.result d)
+    (own_is c.args.variables.now c.args.lined.now.line core what statement.End c.in-End.is)
+    (c.close_all.ensures c.args.variables.now st files)
+
+pub returns-in-End-clause-pending : goal.returns-in-End-clause-pending
+returns-in-End-clause-pending g c = keeps_answers c.args.core.now c.args.core.now refl

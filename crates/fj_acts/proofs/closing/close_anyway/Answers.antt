@@ -1,0 +1,18 @@
+use Rattle.std.proofs.Common.{◌≡◌, not, true, ap, sym, ◌∙◌}
+use Rattle.std.specs.Prelude.{◌&&◌, unwrap_or}
+use Rattle.fj_desk.specs.Acting.{keeps}
+use Rattle.fj_plain.specs.Needs.{number_of}
+use Rattle.fj_units.specs.Units.{connected_of}
+use Rattle.fj_acts.specs.State.{core_of}
+use Rattle.fj_acts.proofs.ClosingLemmas.{close_anyway_is}
+use Rattle.fj_acts.proofs.closing.close_anyway.Goals as goal
+use Rattle.fj_acts.proofs.closing.close_anyway.Goals.{then-not-unit, else-not-unit}
+
+pub returns-after-not-unit : goal.returns-after-not-unit
+returns-after-not-unit g c = λ variables st files.
+    let kept : c.if-not-unit.closing ≡ (keeps (connected_of c.in-Some.unit.now) && unwrap_or c.args.keep true) = elim c.if-not-unit.branch [
+      | then-not-unit w ↦ w.closing-is ∙ w.unwrap_or.ensures ∙ sym (ap (λ s. not s && unwrap_or c.args.keep true) w.if-not-unit.true)
+      | else-not-unit w ↦ w.closing-is ∙ ap not w.if-not-unit.false ∙ sym (ap (λ s. not s && unwrap_or c.args.keep true) w.if-not-unit.false)
+    ] in
+    close_anyway_is g.F.FileStore.told g.F.FileStore.bytes variables st (core_of files c.args.core.now) c.args.keep (number_of c.args.unit) (connected_of c.in-Some.unit.now) c.if-not-unit.closing c.args.condition c.closing.result
+    c.in-Some.ensures kept c.closing.ensures

@@ -1,0 +1,60 @@
+use Rattle.std.proofs.Common.{ℕ, List, Option, None}
+use Rattle.std.specs.Prelude.{ℤ}
+use Rattle.std.specs.Option.{option_copied}
+use Rattle.fj_store.specs.Storage.{values_of}
+use Rattle.fj_plain.specs.Needs.{unit_about, number_given}
+use Rattle.fj_plain.specs.State.{Files}
+use Rattle.fj_plain.specs.Statement.{about_other, file_asked}
+use Rattle.fj_desk.specs.Core.{Connected as PlainConnected, unit_named}
+use Rattle.fj_desk.specs.Acting.{answers, inquires, unit_at}
+use Rattle.fj_units.specs.Files.{files_of}
+use Rattle.fj_units.specs.Units.{connected_of}
+use Rattle.fj_acts.specs.Doing.{looks_at}
+use Rattle.fj_acts.specs.State.{core_of}
+use Rattle.fj_acts.proofs.TransferLemmas.{ok_same}
+use Rattle.fj_acts.proofs.InquiryLemmas.{inquires_none, inquires_unknown, inquires_later, inquires_at_once}
+use Rattle.fj_acts.proofs.inquiring.inquire.Goals as goal
+
+pub returns-in_default-clause-doing : goal.returns-in_default-clause-doing
+returns-in_default-clause-doing g c = λ tells st asks.
+    let old = c.args.core.now in
+    let asked = c.args.asked.now in
+    let files : Files = files_of (g.D.Disk.held c.args.disk.now) in
+    let o : Option ℕ = unit_about (unit_named old.units) c.args.subject.now in
+    let file : Option (List ℕ) = file_asked c.args.subject.now in
+    let id : Option ℤ = number_given (values_of old.store) (option_copied c.args.id) in
+    ok_same g.D.File.FileStore.told g.D.File.FileStore.bytes c.args.variables.now st (core_of (files_of (g.D.Disk.held c.answer_other.new.disk)) c.answer_other.new.core) c.answer_other.result
+    (answers (core_of files old) (about_other files file) asked) (inquires (core_of files old) o file asked id (unit_at (core_of files old) o))
+    (inquires_none (core_of files old) o file asked id c.in_default.ensures) (c.answer_other.ensures.doing tells st)
+
+pub returns-in_default-find-clause-doing : goal.returns-in_default-find-clause-doing
+returns-in_default-find-clause-doing g c = λ tells st asks.
+    let old = c.args.core.now in
+    let asked = c.args.asked.now in
+    let files : Files = files_of (g.D.Disk.held c.args.disk.now) in
+    let o : Option ℕ = unit_about (unit_named old.units) c.args.subject.now in
+    let file : Option (List ℕ) = file_asked c.args.subject.now in
+    let id : Option ℤ = number_given (values_of old.store) (option_copied c.args.id) in
+    ok_same g.D.File.FileStore.told g.D.File.FileStore.bytes c.args.variables.now st (core_of (files_of (g.D.Disk.held c.answer_other-in_default-find.new.disk)) c.answer_other-in_default-find.new.core)
+    c.answer_other-in_default-find.result (answers (core_of files old) (about_other files file) asked) (inquires (core_of files old) o file asked id (unit_at (core_of files old) o))
+    (inquires_unknown (core_of files old) o c.in-Some.number file asked id c.in-Some.ensures c.in_default-find.ensures) (c.answer_other-in_default-find.ensures.doing tells st)
+
+pub returns-then-needs_look-clause-doing : goal.returns-then-needs_look-clause-doing
+returns-then-needs_look-clause-doing g c = λ tells st asks.
+    let files : Files = files_of (g.D.Disk.held c.args.disk.now) in
+    let u : PlainConnected = connected_of c.in-Some-find.unit.now in
+    inquires_later g.D.File.FileStore.told g.D.File.FileStore.bytes c.args.variables.now st (core_of files c.args.core.now) c.in-Some.number u c.args.subject.now c.args.asked.now (option_copied c.args.id)
+    c.in-Some.ensures c.in-Some-find.ensures c.if-needs_look.ensures asks
+
+pub returns-clause-doing : goal.returns-clause-doing
+returns-clause-doing g c = λ tells st asks.
+    let old = c.args.core.now in
+    let asked = c.args.asked.now in
+    let files : Files = files_of (g.D.Disk.held c.args.disk.now) in
+    let o : Option ℕ = unit_about (unit_named old.units) c.args.subject.now in
+    let file : Option (List ℕ) = file_asked c.args.subject.now in
+    let id : Option ℤ = number_given (values_of old.store) (option_copied c.args.id) in
+    let u : PlainConnected = connected_of c.in-Some-find.unit.now in
+    ok_same g.D.File.FileStore.told g.D.File.FileStore.bytes c.args.variables.now st (core_of files c.answer_look.new.core) c.answer_look.result
+    (looks_at (core_of files old) o file asked id (unit_at (core_of files old) o) None) (inquires (core_of files old) o file asked id (unit_at (core_of files old) o))
+    (inquires_at_once (core_of files old) o c.in-Some.number u file asked id c.in-Some.ensures c.in-Some-find.ensures c.if-needs_look.ensures) (c.answer_look.ensures.doing st files)

@@ -1,0 +1,36 @@
+use Rattle.std.proofs.Common.{ap, ◌∙◌}
+use Rattle.fj_connect.specs.Linked.{connection_of}
+use Rattle.fj_connect.specs.Opening.{opened_file}
+use Rattle.fj_outside.specs.Holdings.{Holdings}
+use Rattle.fj_units.specs.Files.{files_of}
+use Rattle.fj_units.proofs.Files.{files-out_of}
+use Rattle.fj_acts.specs.State.{core_of}
+use Rattle.fj_acts.proofs.OpeningLemmas.{opened_is, names_taken, names_back, refusal_of, stop_of}
+use Rattle.fj_acts.proofs.opening.attach.Goals as goal
+
+pub returns-in-Ok-clause-doing : goal.returns-in-Ok-clause-doing
+returns-in-Ok-clause-doing g c = λ tells variables st.
+    let held : Holdings = g.D.Disk.held c.args.disk.now in
+    let f = c.in-Ok.ensures.opened tells in
+    c.attaching.ensures f.0 variables st (core_of (files_of held) c.args.core.now) (files_of (g.D.Disk.held c.open_file.new.disk))
+    (opened_file (files_of held c.args.name) c.args.name c.args.spec.now c.args.modes)
+    c.in-Ok.ensures.connected.1
+    (opened_is held.files (g.D.Disk.held c.open_file.new.disk).files (opened_file (files_of held c.args.name) c.args.name c.args.spec.now c.args.modes) (connection_of g.D.File.FileStore.bytes c.in-Ok.connection) f.1)
+    (ap (λ (h : Holdings). files_of h) f.2 ∙ files-out_of held c.args.name)
+
+pub returns-in-Ok-clause-names : goal.returns-in-Ok-clause-names
+returns-in-Ok-clause-names g c = λ tells.
+    let held : Holdings = g.D.Disk.held c.args.disk.now in
+    names_taken c.args.core.now.names c.add.new.self held (g.D.Disk.held c.open_file.new.disk) c.args.name c.in_ok-add.ensures.ok (c.in-Ok.ensures.opened tells).2 (c.requires.names tells)
+
+pub returns-in-Refused-clause-names : goal.returns-in-Refused-clause-names
+returns-in-Refused-clause-names g c = λ tells.
+    let held : Holdings = g.D.Disk.held c.args.disk.now in
+    names_back c.args.core.now.names c.add.new.self c.remove.new.self held (g.D.Disk.held c.open_file.new.disk) c.args.name c.holds.result c.if-holds.false c.holds.ensures c.in_ok-add.ensures.ok c.remove.ensures
+    (refusal_of _ c.in-Err.fault c.in-Refused.condition c.in-Refused.is (c.in-Err.ensures.refused tells)).1.in_use (c.requires.names tells)
+
+pub returns-clause-names : goal.returns-clause-names
+returns-clause-names g c = λ tells.
+    let held : Holdings = g.D.Disk.held c.args.disk.now in
+    names_back c.args.core.now.names c.add.new.self c.remove.new.self held (g.D.Disk.held c.open_file.new.disk) c.args.name c.holds.result c.if-holds.false c.holds.ensures c.in_ok-add.ensures.ok c.remove.ensures
+    (stop_of _ c.in-Err.fault c.in-Stop.stop c.in-Stop.is (c.in-Err.ensures.stopped tells)).in_use (c.requires.names tells)

@@ -1,0 +1,12 @@
+use Rattle.std.proofs.Common.{sym, ◌∙◌}
+use Rattle.fj_units.specs.Files.{files_of}
+use Rattle.fj_acts.specs.State.{core_of}
+use Rattle.fj_acts.proofs.OpeningLemmas.{connects_is, meant}
+use Rattle.fj_acts.proofs.opening.connect.Goals as goal
+
+pub returns-in_ok-name-in-Some-clause-doing : goal.returns-in_ok-name-in-Some-clause-doing
+returns-in_ok-name-in-Some-clause-doing g c = λ tells variables st.
+    meant g.D.File.FileStore.told g.D.File.FileStore.bytes variables st _ c.attach.result _ _
+    (connects_is (core_of (files_of (g.D.Disk.held c.args.disk.now)) c.args.core.now) c.args.number c.in-Some.slot c.in_ok-name-in-Some.name c.args.spec.now c.args.modes
+    (sym c.free_slot.ensures ∙ c.in-Some.is) c.in_ok-name-in-Some.ensures)
+    (c.attach.ensures.doing tells variables st)

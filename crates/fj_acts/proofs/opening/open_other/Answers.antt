@@ -1,0 +1,24 @@
+use Rattle.std.proofs.Common.{sym, ◌∙◌, ◌≡◌, Some, None}
+use Rattle.fj_modes.specs.Modes.{settled}
+use Rattle.fj_desk.specs.Core.{Connected as PlainConnected, connected_at}
+use Rattle.fj_units.specs.Files.{files_of}
+use Rattle.fj_units.specs.Units.{connected_of}
+use Rattle.fj_acts.specs.State.{core_of}
+use Rattle.fj_acts.proofs.OpeningLemmas.{opens_behind, opens_new, meant}
+use Rattle.fj_acts.proofs.opening.open_other.Goals as goal
+
+pub returns-in-Some-clause-doing : goal.returns-in-Some-clause-doing
+returns-in-Some-clause-doing g c = λ tells variables st asks.
+    let u : PlainConnected = connected_of c.in-Some.unit.now in
+    let found : connected_at c.args.core.now.units c.args.number ≡ Some u = sym c.in-Some.ensures in
+    opens_behind g.D.File.FileStore.told g.D.File.FileStore.bytes variables st (core_of (files_of (g.D.Disk.held c.args.disk.now)) c.args.core.now)
+    c.args.number c.in_ok-name.name c.args.spec.now c.in-Ok.modes (connected_at c.args.core.now.units c.args.number) u (settled c.args.spec.now) c.closing.result
+    asks found found (sym c.settle_open.ensures.settled ∙ c.in-Ok.is) (sym c.settle_open.ensures.settled ∙ c.in-Ok.is) c.in_ok-name.ensures (sym c.is_taken.ensures ∙ c.if-is_taken.false) c.closing.ensures
+
+pub returns-clause-doing : goal.returns-clause-doing
+returns-clause-doing g c = λ tells variables st asks.
+    let found : connected_at c.args.core.now.units c.args.number ≡ None = sym c.in_default.ensures in
+    meant g.D.File.FileStore.told g.D.File.FileStore.bytes variables st _ c.connect.result _ _
+    (opens_new (core_of (files_of (g.D.Disk.held c.args.disk.now)) c.args.core.now) c.args.number c.in_ok-name.name c.args.spec.now c.in-Ok.modes (connected_at c.args.core.now.units c.args.number) (settled c.args.spec.now) found
+    (sym c.settle_open.ensures.settled ∙ c.in-Ok.is) c.in_ok-name.ensures (sym c.is_taken.ensures ∙ c.if-is_taken.false))
+    (c.connect.ensures.doing tells variables st)

@@ -1,0 +1,73 @@
+use Rattle.std.proofs.Common.{◌≡◌, ℕ, Some, refl, sym, ap, ◌∙◌}
+use Rattle.fj_bay.specs.Jobs.{Job as Task, Answer}
+use Rattle.fj_bay.specs.Plain.{reply_of}
+use Rattle.fj_bay.specs.declared.job.Job.TheVariants as job
+use Rattle.fj_statement.specs.declared.statement.Statement.{Statement}
+use Rattle.fj_plain.specs.State.{Files}
+use Rattle.fj_plain.specs.Statement.{Stated, control_by}
+use Rattle.fj_desk.specs.Core.{Core, connected_at}
+use Rattle.fj_units.specs.Files.{files_of}
+use Rattle.fj_acts.specs.Doing.{carries, closed, goes_on, looks, then_of}
+use Rattle.fj_acts.specs.State.{core_of}
+use Rattle.fj_acts.specs.declared.doing.Then.{Then}
+use Rattle.fj_acts.proofs.OpeningLemmas.{meant}
+use Rattle.fj_acts.proofs.StateLemmas.{keeps_answers}
+use Rattle.fj_acts.proofs.StepLemmas.{detached_is, looked_is, moved_is}
+use Rattle.fj_acts.proofs.steps.answered.Goals as goal
+
+pub returns-in_err-insert-in-Attaches-Attach-None-clause-pending : goal.returns-in_err-insert-in-Attaches-Attach-None-clause-pending
+returns-in_err-insert-in-Attaches-Attach-None-clause-pending g c = keeps_answers c.args.core.now (record c.args.core.now { units = c.insert.new.self }) refl
+
+pub returns-in-Carries-Move-clause-doing : goal.returns-in-Carries-Move-clause-doing
+returns-in-Carries-Move-clause-doing g c = λ tells task is.
+    let files : Files = files_of (g.D.Disk.held c.args.disk.now) in
+    let core : Core = core_of files c.args.core.now in
+    let what : Statement = c.args.lined.now.what in
+    let st : Stated = (c.args.lined.now, control_by what) in
+    let reply : Answer = reply_of c.args.answer in
+    meant g.D.File.FileStore.told g.D.File.FileStore.bytes c.args.variables.now st _ c.carried.result _ _
+    (ap (λ (t : Task). carries c.args.variables.now core what c.in-Carries-Move.slot (t, reply)) (moved_is g.D.File.FileStore.told g.D.File.FileStore.bytes c.args.job c.in-Carries-Move.moved task c.in-Carries-Move.is-1 is)
+    ∙ ap (λ (t : Then). then_of c.args.variables.now st core t (task, reply)) (sym c.in-Carries-Move.is-0))
+    (c.carried.ensures.doing files reply (sym c.condition_in-condition.ensures))
+
+pub returns-in-Closes-Detach-Some-clause-doing : goal.returns-in-Closes-Detach-Some-clause-doing
+returns-in-Closes-Detach-Some-clause-doing g c = λ tells task is.
+    let files : Files = files_of (g.D.Disk.held c.args.disk.now) in
+    let core : Core = core_of files c.args.core.now in
+    let what : Statement = c.args.lined.now.what in
+    let st : Stated = (c.args.lined.now, control_by what) in
+    let reply : Answer = reply_of c.args.answer in
+    let number : ℕ = c.in-Closes-Detach-Some.number in
+    let has : c.args.job ≡ job.Detach (Some c.in-Closes-Detach-Some.connection) = cc in
+    let out = detached_is g.D.File.FileStore.told g.D.File.FileStore.bytes c.args.job c.in-Closes-Detach-Some.connection task has is in
+    meant g.D.File.FileStore.told g.D.File.FileStore.bytes c.args.variables.now st _ c.closed.result _ _
+    (ap (λ (t : Task). goes_on what (closed core (connected_at core.units number) c.in-Closes-Detach-Some.keep (t, reply)) c.in-Closes-Detach-Some.after) out.2
+    ∙ ap (λ (t : Then). then_of c.args.variables.now st core t (task, reply)) (sym c.in-Closes-Detach-Some.is-0))
+    (c.closed.ensures.doing tells out.0 reply out.1)
+
+pub returns-in-Closes-Detach-Some-clause-pending : goal.returns-in-Closes-Detach-Some-clause-pending
+returns-in-Closes-Detach-Some-clause-pending g c = keeps_answers c.args.core.now c.closed.new.core c.closed.ensures.pending
+
+pub returns-in_ok-insert-in-Attaches-Attach-None-clause-pending : goal.returns-in_ok-insert-in-Attaches-Attach-None-clause-pending
+returns-in_ok-insert-in-Attaches-Attach-None-clause-pending g c = keeps_answers c.args.core.now (record c.args.core.now { units = c.insert.new.self }) refl
+
+pub returns-in-Looks-Look-clause-doing : goal.returns-in-Looks-Look-clause-doing
+returns-in-Looks-Look-clause-doing g c = λ tells task is.
+    let files : Files = files_of (g.D.Disk.held c.args.disk.now) in
+    let core : Core = core_of files c.args.core.now in
+    let what : Statement = c.args.lined.now.what in
+    let st : Stated = (c.args.lined.now, control_by what) in
+    let reply : Answer = reply_of c.args.answer in
+    meant g.D.File.FileStore.told g.D.File.FileStore.bytes c.args.variables.now st _ c.looked.result _ _
+    (ap (λ (t : Task). looks core what (t, reply)) (looked_is g.D.File.FileStore.told g.D.File.FileStore.bytes c.args.job c.in-Looks-Look.look task c.in-Looks-Look.is-1 is)
+    ∙ ap (λ (t : Then). then_of c.args.variables.now st core t (task, reply)) (sym c.in-Looks-Look.is-0))
+    (c.looked.ensures.doing files reply)
+
+pub returns-in-Changes-Change-clause-pending : goal.returns-in-Changes-Change-clause-pending
+returns-in-Changes-Change-clause-pending g c = keeps_answers c.args.core.now (record c.args.core.now { units = c.set_modes.new.self }) refl
+
+pub returns-in-Finishes-Go-clause-pending : goal.returns-in-Finishes-Go-clause-pending
+returns-in-Finishes-Go-clause-pending g c = keeps_answers c.args.core.now c.args.core.now refl
+
+pub returns-in_default-clause-pending : goal.returns-in_default-clause-pending
+returns-in_default-clause-pending g c = keeps_answers c.args.core.now c.give_up.new.core c.give_up.ensures.pending

@@ -1,0 +1,33 @@
+use Rattle.std.proofs.Common.{sym, ap, subst, ◌∙◌}
+use Rattle.fj_statement.specs.declared.statement.Statement.{Statement}
+use Rattle.fj_plain.specs.State.{Files}
+use Rattle.fj_plain.specs.Statement.{Stated, control_by}
+use Rattle.fj_desk.specs.Core.{Core}
+use Rattle.fj_units.specs.Files.{files_of}
+use Rattle.fj_acts.specs.Doing.{IsDoing, goes_on}
+use Rattle.fj_acts.specs.State.{core_of}
+use Rattle.fj_acts.specs.declared.doing.After.{After}
+use Rattle.fj_acts.proofs.ClosingLemmas.{connects_is}
+use Rattle.fj_acts.proofs.OpeningLemmas.{meant}
+use Rattle.fj_acts.proofs.StepLemmas.{asks_to_open}
+use Rattle.fj_acts.proofs.steps.go_on.Goals as goal
+
+pub returns-in-ClosesAll-clause-doing : goal.returns-in-ClosesAll-clause-doing
+returns-in-ClosesAll-clause-doing g c = λ tells.
+    let files : Files = files_of (g.D.Disk.held c.args.disk.now) in
+    let core : Core = core_of files c.args.core.now in
+    let what : Statement = c.args.lined.now.what in
+    let st : Stated = (c.args.lined.now, control_by what) in
+    subst (λ (a : After). IsDoing g.D.File.FileStore.told g.D.File.FileStore.bytes c.args.variables.now st core c.close_all.result (goes_on what core a)) (sym c.in-ClosesAll.is)
+    (c.close_all.ensures c.args.variables.now st files)
+
+pub returns-in-Ok-clause-doing : goal.returns-in-Ok-clause-doing
+returns-in-Ok-clause-doing g c = λ tells.
+    let files : Files = files_of (g.D.Disk.held c.args.disk.now) in
+    let core : Core = core_of files c.args.core.now in
+    let what : Statement = c.args.lined.now.what in
+    let st : Stated = (c.args.lined.now, control_by what) in
+    meant g.D.File.FileStore.told g.D.File.FileStore.bytes c.args.variables.now st _ c.connect.result _ _
+    (sym (connects_is what c.in-Connects.number c.in-OpenUnit.spec c.in-Ok.modes core (asks_to_open what c.in-OpenUnit.unit c.in-OpenUnit.spec c.in-OpenUnit.iostat c.in-OpenUnit.is) (sym c.settle_open.ensures.settled ∙ c.in-Ok.is))
+    ∙ ap (goes_on what core) (sym c.in-Connects.is))
+    (c.connect.ensures.doing tells c.args.variables.now st)

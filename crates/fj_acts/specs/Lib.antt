@@ -1,0 +1,6 @@
+pub mod State
+pub mod Doing
+pub mod Answers
+pub mod Steps
+pub mod Places
+pub mod Holding

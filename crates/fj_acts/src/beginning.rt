@@ -1,0 +1,184 @@
+// What a statement does once the transfers that it waits for are told.
+ghost use Rattle.std.specs.Prelude.{◌≡◌, ◌↔◌, ◌≤◌, ◌≢◌, List, Some, IfOk, OnOk, OnErr, Err};
+ghost use Rattle.fj_outside.specs.Faults.{Rose};
+ghost use Rattle.fj_plain.specs.Statement.{Stated, control_by};
+ghost use Rattle.fj_desk.specs.Acting.{doing, own, instead, moves, job_of, unit_at};
+ghost use Rattle.fj_bay.specs.Plain.{task_of};
+ghost use Rattle.fj_statement.specs.declared.deck.Variable.{Variable};
+ghost use Rattle.fj_plain.specs.Needs.{number_of};
+ghost use Rattle.fj_plain.specs.State.{Files};
+ghost use Rattle.fj_items.specs.Kinds.{kinds_of};
+ghost use Rattle.fj_items.specs.Handing.{HandsOver, HandsFront};
+ghost use Rattle.fj_units.specs.Names.{AreInUse};
+ghost use Rattle.fj_acts.specs.State.{KeepsAnswers, core_of, core_at};
+ghost use Rattle.fj_units.specs.Files.{files_of};
+ghost use Rattle.fj_acts.specs.Doing.{IsDoing};
+
+use crate::closing::{close, close_all, close_anyway};
+use crate::doing::{Doing, Then};
+use crate::inquiring::inquire;
+use crate::lost::lost_by_items;
+use crate::opening::open;
+use crate::state::Core;
+use crate::transfers::{read_or_write, refuse};
+use fj_bay::Job;
+use fj_connect::Positioning;
+use fj_items::{Lost, assign};
+use fj_modes::{Motion, UnitRef};
+use fj_outside::{Disk, FileStore, Sink};
+use fj_statement::{Lined, Statement, Variables};
+use fj_value::Condition;
+use std::alloc::Global;
+
+/// The job of a statement that moves a connection, or flushes it.
+fn job_of<F: FileStore>(how: Motion) -> Job<F>
+    ensures { task_of F.told F.bytes result ≡ Some (job_of how) }
+{
+    match how {
+        Motion::Flush => Job::Flush,
+        Motion::Backspace => Job::Go(Positioning::Backspace),
+        Motion::Rewind => Job::Go(Positioning::Rewind),
+        Motion::Endfile => Job::Go(Positioning::Endfile),
+    }
+}
+
+/// BACKSPACE, REWIND, ENDFILE and FLUSH (9.7, 9.8): 1 where the unit is not connected.
+fn motion<F: FileStore>(how: Motion, unit: UnitRef, core: &Core) -> Doing<F>
+    ensures { (variables : List Variable) (st : Stated) (files : Files) → IsDoing F.told F.bytes variables st (core_of files core.now) result
+        (moves (core_of files core.now) how (unit_at (core_of files core.now) (number_of unit))) }
+{
+    match core.units.at(unit) {
+        Some(unit) => Doing::Awaits {
+            slot: unit.slot,
+            job: job_of(how),
+            then: Then::Finishes,
+        },
+        None => Doing::Finishes(Condition::Error(1)),
+    }
+}
+
+/// The statement's own action.
+fn own<W: Sink, D: Disk>(
+    alloc: Global,
+    variables: &Variables,
+    lined: &Lined,
+    core: &mut Core,
+    disk: &mut D,
+    out: &mut W,
+) -> Result<Doing<D::File>, Lost>
+    requires kinds { core.old.store.kinds ≡ kinds_of variables.now }
+    requires names { D.tells disk.old → AreInUse core.old.names (D.held disk.old).in_use }
+    ensures doing { D.tells disk.old → IfOk result (λ next. IsDoing D.File.told D.File.bytes variables.now (lined.now, control_by lined.now.what)
+        (core_of (files_of (D.held disk.new)) core.new) next
+        (own (control_by lined.now.what) variables.now lined.now.line (core_of (files_of (D.held disk.old)) core.old) lined.now.what)) }
+    ensures names { D.tells disk.old → AreInUse core.new.names (D.held disk.new).in_use }
+    ensures kinds { core.new.store.kinds ≡ core.old.store.kinds }
+    ensures telling { D.tells disk.old ↔ D.tells disk.new }
+    ensures later { D.count disk.old ≤ D.count disk.new }
+    ensures failed { result ≡ Err Lost.Disk → Rose (D.count disk.old) (D.count disk.new) }
+    ensures telling_out { W.tells out.old ↔ W.tells out.new }
+    ensures output { W.tells out.old → OnOk result (HandsOver (W.taken out.old) (W.taken out.new) core.old.output core.new.output) }
+    ensures front { W.tells out.old → OnErr result (HandsFront (W.taken out.old) (W.taken out.new) core.old.output
+        (core_at (own (control_by lined.now.what) variables.now lined.now.line (core_of (files_of (D.held disk.old)) core.old) lined.now.what)).output) }
+    ensures later_out { W.count out.old ≤ W.count out.new }
+    ensures failed_out { result ≡ Err Lost.Sink → Rose (W.count out.old) (W.count out.new) }
+    ensures pending { KeepsAnswers core.old core.new }
+{
+    let fine = Condition::Fine;
+    match &lined.what {
+        Statement::Assign { to, from } => {
+            assign(alloc, variables, &mut core.store, to, from).map_err(lost_by_items)?;
+            Ok(Doing::Finishes(fine))
+        }
+        Statement::OpenUnit {
+            unit,
+            spec,
+            iostat: _,
+        } => open(alloc, *unit, spec, core, disk),
+        Statement::CloseUnit {
+            unit,
+            keep,
+            iostat: _,
+        } => Ok(close(*unit, *keep, core)),
+        Statement::WaitFor {
+            unit: _,
+            id: _,
+            iostat: _,
+        } => Ok(Doing::Finishes(fine)),
+        Statement::Move {
+            how,
+            unit,
+            iostat: _,
+        } => Ok(motion(*how, *unit, core)),
+        Statement::Inquire {
+            about,
+            asked,
+            id,
+            iostat: _,
+        } => { inquire(alloc, variables, about, asked, id.as_ref(), core, disk) }
+        Statement::Transfer(t) => read_or_write(alloc, variables, lined.line, t, core, out),
+        Statement::End => Ok(close_all(fine, core)),
+    }
+}
+
+/// What is done in its place where a condition was told.
+fn instead<F: FileStore>(
+    variables: &Variables,
+    lined: &Lined,
+    condition: Condition,
+    core: &mut Core,
+) -> Result<Doing<F>, Lost>
+    requires { core.old.store.kinds ≡ kinds_of variables.now }
+    ensures doing { (files : Files) → IfOk result (λ next. IsDoing F.told F.bytes variables.now (lined.now, control_by lined.now.what)
+        (core_of files core.new) next (instead variables.now (core_of files core.old) lined.now.what condition)) }
+    ensures kinds { core.new.store.kinds ≡ core.old.store.kinds }
+    ensures names { core.new.names ≡ core.old.names }
+    ensures output { core.new.output ≡ core.old.output }
+    ensures causes { (result ≢ Err Lost.Disk) × (result ≢ Err Lost.Sink) }
+    ensures pending { KeepsAnswers core.old core.new }
+{
+    match &lined.what {
+        Statement::CloseUnit {
+            unit,
+            keep,
+            iostat: _,
+        } => { Ok(close_anyway(*unit, *keep, condition, core)) }
+        Statement::Transfer(t) => refuse(variables, t, condition, core),
+        Statement::End => Ok(close_all(condition, core)),
+        _ => Ok(Doing::Finishes(condition)),
+    }
+}
+
+/// What the statement of a line does first where that condition was told: its own action where it is fine.
+pub fn begin<W: Sink, D: Disk>(
+    alloc: Global,
+    variables: &Variables,
+    lined: &Lined,
+    condition: Condition,
+    core: &mut Core,
+    disk: &mut D,
+    out: &mut W,
+) -> Result<Doing<D::File>, Lost>
+    requires kinds { core.old.store.kinds ≡ kinds_of variables.now }
+    requires names { D.tells disk.old → AreInUse core.old.names (D.held disk.old).in_use }
+    ensures doing { D.tells disk.old → IfOk result (λ next. IsDoing D.File.told D.File.bytes variables.now (lined.now, control_by lined.now.what)
+        (core_of (files_of (D.held disk.new)) core.new) next
+        (doing (control_by lined.now.what) variables.now lined.now.line (core_of (files_of (D.held disk.old)) core.old) lined.now.what condition)) }
+    ensures names { D.tells disk.old → AreInUse core.new.names (D.held disk.new).in_use }
+    ensures kinds { core.new.store.kinds ≡ core.old.store.kinds }
+    ensures telling { D.tells disk.old ↔ D.tells disk.new }
+    ensures later { D.count disk.old ≤ D.count disk.new }
+    ensures failed { result ≡ Err Lost.Disk → Rose (D.count disk.old) (D.count disk.new) }
+    ensures telling_out { W.tells out.old ↔ W.tells out.new }
+    ensures output { W.tells out.old → OnOk result (HandsOver (W.taken out.old) (W.taken out.new) core.old.output core.new.output) }
+    ensures front { W.tells out.old → OnErr result (HandsFront (W.taken out.old) (W.taken out.new) core.old.output
+        (core_at (doing (control_by lined.now.what) variables.now lined.now.line (core_of (files_of (D.held disk.old)) core.old) lined.now.what condition)).output) }
+    ensures later_out { W.count out.old ≤ W.count out.new }
+    ensures failed_out { result ≡ Err Lost.Sink → Rose (W.count out.old) (W.count out.new) }
+    ensures pending { KeepsAnswers core.old core.new }
+{
+    match condition {
+        Condition::Fine => own(alloc, variables, lined, core, disk, out),
+        _ => instead(variables, lined, condition, core),
+    }
+}

@@ -1,0 +1,84 @@
+// CLOSE, and END, which closes all units (ISO/IEC 1539-1:2004, 9.4.6).
+ghost use Rattle.std.specs.Prelude.{◌≡◌, ℕ, List, None, Some};
+ghost use Rattle.std.specs.Option.{option_copied, option_map};
+ghost use Rattle.fj_statement.specs.declared.deck.Variable.{Variable};
+ghost use Rattle.fj_bay.specs.declared.job.Job.TheVariants as job;
+ghost use Rattle.fj_plain.specs.Needs.{number_of};
+ghost use Rattle.fj_plain.specs.State.{Files};
+ghost use Rattle.fj_plain.specs.Statement.{Stated};
+ghost use Rattle.fj_desk.specs.Acting.{all_closed, closes, closes_anyway, unit_at};
+ghost use Rattle.fj_acts.specs.State.{core_of};
+ghost use Rattle.fj_acts.specs.Doing.{IsDoing};
+
+use crate::doing::{After, Doing, Then};
+use crate::state::Core;
+use fj_bay::Job;
+use fj_modes::UnitRef;
+use fj_outside::FileStore;
+use fj_units::Connected;
+use fj_value::Condition;
+
+/// The connection of a unit goes out, and its file is kept or removed.
+pub(crate) fn closing<F: FileStore>(unit: &Connected, keep: bool, after: After) -> Doing<F>
+    ensures { result ≡ Doing.Awaits unit.now.slot (job.Detach None) (Then.Closes unit.now.number keep after) }
+{
+    Doing::Awaits {
+        slot: unit.slot,
+        job: Job::Detach(None),
+        then: Then::Closes {
+            number: unit.number,
+            keep,
+            after,
+        },
+    }
+}
+
+/// CLOSE: a scratch file cannot be kept (4).
+pub(crate) fn close<F: FileStore>(unit: UnitRef, keep: Option<bool>, core: &Core) -> Doing<F>
+    ensures { (variables : List Variable) (st : Stated) (files : Files) → IsDoing F.told F.bytes variables st (core_of files core.now) result
+        (closes (core_of files core.now) keep (unit_at (core_of files core.now) (number_of unit))) }
+{
+    let Some(unit) = core.units.at(unit) else {
+        return Doing::Finishes(Condition::Fine);
+    };
+    let scratch = unit.modes.scratch;
+    if keep.unwrap_or(false) && scratch {
+        return Doing::Finishes(Condition::Error(4));
+    }
+    closing(
+        unit,
+        keep.unwrap_or(!scratch),
+        After::Finishes(Condition::Fine),
+    )
+}
+
+/// CLOSE where a condition was told: a scratch file is removed all the same.
+pub(crate) fn close_anyway<F: FileStore>(
+    unit: UnitRef,
+    keep: Option<bool>,
+    condition: Condition,
+    core: &Core,
+) -> Doing<F>
+    ensures { (variables : List Variable) (st : Stated) (files : Files) → IsDoing F.told F.bytes variables st (core_of files core.now) result
+        (closes_anyway (core_of files core.now) keep condition (unit_at (core_of files core.now) (number_of unit))) }
+{
+    match core.units.at(unit) {
+        Some(unit) => closing(
+            unit,
+            !unit.modes.scratch && keep.unwrap_or(true),
+            After::Finishes(condition),
+        ),
+        None => Doing::Finishes(condition),
+    }
+}
+
+/// END closes unit after unit, in ascending order of their numbers.
+pub(crate) fn close_all<F: FileStore>(condition: Condition, core: &Core) -> Doing<F>
+    ensures { (variables : List Variable) (st : Stated) (files : Files) → IsDoing F.told F.bytes variables st (core_of files core.now) result
+        (all_closed core.now.units (core_of files core.now) condition) }
+{
+    match core.units.first() {
+        Some(unit) => closing(unit, !unit.modes.scratch, After::ClosesAll(condition)),
+        None => Doing::Finishes(condition),
+    }
+}

@@ -1,0 +1,314 @@
+// INQUIRE (ISO/IEC 1539-1:2004, 9.9).
+ghost use Rattle.std.specs.Prelude.{◌≡◌, ◌≢◌, ◌↔◌, ◌≤◌, ℕ, List, Some, pos, is_some, IfOk, OnOk, Err};
+ghost use Rattle.std.specs.Option.{option_map, option_copied, option_and_then};
+ghost use Rattle.std.specs.List.{list_any};
+ghost use Rattle.fj_outside.specs.Faults.{Rose};
+ghost use Rattle.fj_modes.specs.declared.asked.Wanted.{Wanted};
+ghost use Rattle.fj_store.specs.Storage.{values_of};
+ghost use Rattle.fj_store.specs.Variables.{given_back};
+ghost use Rattle.fj_bay.specs.Plain.{looked_of};
+ghost use Rattle.fj_inquire.specs.Inquiring as told;
+ghost use Rattle.fj_inquire.specs.Inquiring.{About as Told};
+ghost use Rattle.fj_plain.specs.Inquiring.{About, inquired};
+ghost use Rattle.fj_plain.specs.Needs.{unit_about, number_given};
+ghost use Rattle.fj_plain.specs.State.{Files};
+ghost use Rattle.fj_plain.specs.Statement.{Stated, file_asked, has_pending, about_other};
+ghost use Rattle.fj_desk.specs.Core.{Core as PlainCore, connected_at, unit_named, pending_holders};
+ghost use Rattle.fj_desk.specs.Acting.{answers, asks_connection, inquires, unit_at};
+ghost use Rattle.fj_items.specs.Kinds.{kinds_of};
+ghost use Rattle.fj_pending.specs.Plain.{holders};
+ghost use Rattle.fj_acts.specs.Answers.{AnswersAlike, is_meant};
+ghost use Rattle.fj_units.specs.Names.{AreInUse};
+ghost use Rattle.fj_acts.specs.State.{KeepsAnswers, core_of};
+ghost use Rattle.fj_units.specs.Files.{files_of};
+ghost use Rattle.fj_acts.specs.Doing.{IsDoing, AsksAbout, looks_at};
+
+use crate::doing::{Doing, Then};
+use crate::state::Core;
+use crate::suited::are_suited;
+use fj_bay::Job;
+use fj_connect::Look;
+use fj_inquire::{Connected, inquire_file, inquire_unit};
+use fj_items::{Lost, number_given};
+use fj_list::{Cells, Moved};
+use fj_modes::{Asked, FileName, Question, Subject, UnitRef};
+use fj_outside::{Disk, FileStore};
+use fj_pending::{Held, Pendings};
+use fj_statement::{Operand, Variables};
+use fj_store::Store;
+use fj_units::{Connected as Unit, Names, Units};
+use fj_value::{Condition, Items};
+use std::alloc::{AllocError, Global};
+use std::collections::VecDeque;
+
+/// The number of the unit that is asked about, or that the file is connected to.
+fn unit_about(units: &Units, subject: &Subject) -> Option<u32>
+    ensures { result ≡ unit_about (unit_named units.now) subject.now }
+{
+    match subject {
+        Subject::Unit(UnitRef::Star) => None,
+        Subject::Unit(UnitRef::Number(number)) => Some(*number),
+        Subject::File(name) => units.named(name),
+    }
+}
+
+/// Whether a question is one that only the connection answers.
+fn asks_connection(what: Question) -> bool
+    ensures { result ≡ asks_connection what }
+{
+    match what {
+        Question::Nextrec | Question::Pos | Question::Size => true,
+        _ => false,
+    }
+}
+
+/// Whether an INQUIRE asks what only the connection knows.
+fn needs_look(asked: &Asked) -> bool
+    ensures { result ≡ list_any (λ (w : Wanted). asks_connection w.what) asked.now }
+{
+    for wanted in asked.as_slice() {
+        if asks_connection(wanted.what) {
+            return true;
+        }
+    }
+    false
+}
+
+/// Whether a pending transfer is on the unit and, where an identifier is given, has that.
+fn is_meant(held: &Held, number: u32, id: Option<i64>) -> bool
+    ensures { result ≡ is_meant number id held.now }
+{
+    match id {
+        None => held.unit == number,
+        Some(id) => held.unit == number && i64::from(held.tag.0) == id,
+    }
+}
+
+/// Whether one of them is.
+fn any_is_meant(helds: &VecDeque<Held>, number: u32, id: Option<i64>) -> bool
+    ensures { result ≡ list_any (is_meant number id) helds.now.items }
+{
+    for at in 0..helds.len() {
+        if is_meant(&helds[at], number, id) {
+            return true;
+        }
+    }
+    false
+}
+
+/// Whether a transfer is pending on the unit, or the one of that identifier.
+#[tactic(auto, using(crate::proofs::InquiryLemmas::meant_is))]
+fn has_pending(pending: &Pendings, number: u32, id: Option<i64>) -> bool
+    ensures { result ≡ has_pending (holders pending.now) (Some number) id }
+{
+    any_is_meant(pending.entries(), number, id)
+}
+
+/// Gives the variables their answers. `Unfit`: a variable is not of the kind of its answers; then nothing is answered.
+fn give_answers(
+    alloc: Global,
+    variables: &Variables,
+    asked: &Asked,
+    cells: Cells,
+    store: &mut Store,
+) -> Result<(), Lost>
+    requires { store.old.kinds ≡ kinds_of variables.now }
+    ensures vars { (about : Told) (plain : About) → cells ≡ told.inquired about asked.now → AnswersAlike about plain →
+        OnOk result (values_of store.new ≡ given_back (inquired plain asked.now) (values_of store.old)) }
+    ensures kinds { store.new.kinds ≡ store.old.kinds }
+    ensures causes { (result ≢ Err Lost.Disk) × (result ≢ Err Lost.Sink) }
+{
+    if !are_suited(variables, asked) {
+        return Err(Lost::Unfit);
+    }
+    store.give_back(Moved {
+        cells,
+        order: Items::new(alloc),
+    });
+    Ok(())
+}
+
+/// The variables get their answers, and the statement ends.
+#[tactic(auto, using(crate::proofs::StateLemmas::answers_kept))]
+fn answer<F: FileStore>(
+    alloc: Global,
+    variables: &Variables,
+    asked: &Asked,
+    cells: Cells,
+    core: &mut Core,
+) -> Result<Doing<F>, Lost>
+    requires { core.old.store.kinds ≡ kinds_of variables.now }
+    ensures doing { (about : Told) (plain : About) (st : Stated) (files : Files) → cells ≡ told.inquired about asked.now → AnswersAlike about plain →
+        IfOk result (λ next. IsDoing F.told F.bytes variables.now st (core_of files core.new) next (answers (core_of files core.old) plain asked.now)) }
+    ensures kinds { core.new.store.kinds ≡ core.old.store.kinds }
+    ensures names { core.new.names ≡ core.old.names }
+    ensures output { core.new.output ≡ core.old.output }
+    ensures causes { (result ≢ Err Lost.Disk) × (result ≢ Err Lost.Sink) }
+    ensures pending { KeepsAnswers core.old core.new }
+{
+    give_answers(alloc, variables, asked, cells, &mut core.store)?;
+    Ok(Doing::Finishes(Condition::Fine))
+}
+
+/// Whether there is a file of a name that is at home. `Unfit`: the file of that name is out.
+fn is_there<D: Disk>(name: &FileName, names: &Names, disk: &mut D) -> Result<bool, Lost>
+    requires { D.tells disk.old → AreInUse names.now (D.held disk.old).in_use }
+    ensures there { D.tells disk.old → IfOk result (λ there. there ≡ is_some (files_of (D.held disk.old) name.now)) }
+    ensures held { D.tells disk.old → D.held disk.new ≡ D.held disk.old }
+    ensures telling { D.tells disk.old ↔ D.tells disk.new }
+    ensures later { D.count disk.old ≤ D.count disk.new }
+    ensures failed { result ≡ Err Lost.Disk → Rose (D.count disk.old) (D.count disk.new) }
+    ensures sink { result ≢ Err Lost.Sink }
+{
+    if names.holds(name) {
+        return Err(Lost::Unfit);
+    }
+    match disk.exists(name.as_str()) {
+        Ok(there) => Ok(there),
+        Err(_) => Err(Lost::Disk),
+    }
+}
+
+/// The answers about a unit or file that is not connected.
+#[tactic(auto, using(crate::proofs::StateLemmas::answers_kept))]
+fn answer_other<D: Disk>(
+    alloc: Global,
+    variables: &Variables,
+    subject: &Subject,
+    asked: &Asked,
+    core: &mut Core,
+    disk: &mut D,
+) -> Result<Doing<D::File>, Lost>
+    requires kinds { core.old.store.kinds ≡ kinds_of variables.now }
+    requires names { D.tells disk.old → AreInUse core.old.names (D.held disk.old).in_use }
+    ensures doing { D.tells disk.old → (st : Stated) → IfOk result (λ next. IsDoing D.File.told D.File.bytes variables.now st
+        (core_of (files_of (D.held disk.new)) core.new) next
+        (answers (core_of (files_of (D.held disk.old)) core.old) (about_other (files_of (D.held disk.old)) (file_asked subject.now)) asked.now)) }
+    ensures held { D.tells disk.old → D.held disk.new ≡ D.held disk.old }
+    ensures kinds { core.new.store.kinds ≡ core.old.store.kinds }
+    ensures names { core.new.names ≡ core.old.names }
+    ensures output { core.new.output ≡ core.old.output }
+    ensures telling { D.tells disk.old ↔ D.tells disk.new }
+    ensures later { D.count disk.old ≤ D.count disk.new }
+    ensures failed { result ≡ Err Lost.Disk → Rose (D.count disk.old) (D.count disk.new) }
+    ensures sink { result ≢ Err Lost.Sink }
+    ensures pending { KeepsAnswers core.old core.new }
+{
+    let mut cells = Items::new(alloc);
+    match subject {
+        Subject::Unit(_) => {
+            inquire_unit(alloc, 0, None, None, false, asked, &mut cells)?;
+            answer(alloc, variables, asked, cells, core)
+        }
+        Subject::File(name) => {
+            let there = is_there(name, &core.names, disk)?;
+            inquire_file(alloc, name, there, None, None, false, asked, &mut cells)?;
+            answer(alloc, variables, asked, cells, core)
+        }
+    }
+}
+
+/// What a connected unit tells of itself.
+fn told_of(
+    alloc: Global,
+    number: u32,
+    unit: &Unit,
+    look: Option<Look>,
+    pending: bool,
+    asked: &Asked,
+) -> Result<Cells, AllocError>
+    ensures { IfOk result (λ cells. cells
+        ≡ told.inquired (told.connection (pos number) (record { modes = unit.now.modes; name = unit.now.name }) look pending) asked.now) }
+{
+    let connected = Connected {
+        modes: unit.modes,
+        name: unit.name.try_clone()?,
+    };
+    let mut cells = Items::new(alloc);
+    inquire_unit(
+        alloc,
+        i64::from(number),
+        Some(&connected),
+        look,
+        pending,
+        asked,
+        &mut cells,
+    )?;
+    Ok(cells)
+}
+
+/// The answers about a connected unit, with a look at its connection where one is needed.
+#[tactic(auto, using(crate::proofs::StateLemmas::answers_kept))]
+pub(crate) fn answer_look<F: FileStore>(
+    alloc: Global,
+    variables: &Variables,
+    subject: &Subject,
+    asked: &Asked,
+    id: Option<&Operand>,
+    look: Option<Look>,
+    core: &mut Core,
+) -> Result<Doing<F>, Lost>
+    requires kinds { core.old.store.kinds ≡ kinds_of variables.now }
+    ensures doing { (st : Stated) (files : Files) → IfOk result (λ next. IsDoing F.told F.bytes variables.now st (core_of files core.new) next
+        (looks_at (core_of files core.old) (unit_about (unit_named core.old.units) subject.now) (file_asked subject.now) asked.now
+        (number_given (values_of core.old.store) (option_copied id.entry)) (unit_at (core_of files core.old) (unit_about (unit_named core.old.units) subject.now)) (option_map looked_of look))) }
+    ensures kinds { core.new.store.kinds ≡ core.old.store.kinds }
+    ensures names { core.new.names ≡ core.old.names }
+    ensures output { core.new.output ≡ core.old.output }
+    ensures causes { (result ≢ Err Lost.Disk) × (result ≢ Err Lost.Sink) }
+    ensures pending { KeepsAnswers core.old core.new }
+{
+    let Some(number) = unit_about(&core.units, subject) else {
+        return Ok(Doing::Finishes(Condition::Fine));
+    };
+    let Some(unit) = core.units.find(number) else {
+        return Ok(Doing::Finishes(Condition::Fine));
+    };
+    let id = number_given(&core.store, id);
+    let pending = has_pending(&core.pending, number, id);
+    let cells = told_of(alloc, number, unit, look, pending, asked)?;
+    answer(alloc, variables, asked, cells, core)
+}
+
+/// INQUIRE: of a connected unit with a look at its connection, where it asks what only that knows.
+#[tactic(auto, using(crate::proofs::StateLemmas::answers_kept))]
+pub(crate) fn inquire<D: Disk>(
+    alloc: Global,
+    variables: &Variables,
+    subject: &Subject,
+    asked: &Asked,
+    id: Option<&Operand>,
+    core: &mut Core,
+    disk: &mut D,
+) -> Result<Doing<D::File>, Lost>
+    requires kinds { core.old.store.kinds ≡ kinds_of variables.now }
+    requires names { D.tells disk.old → AreInUse core.old.names (D.held disk.old).in_use }
+    ensures doing { D.tells disk.old → (st : Stated) → AsksAbout st.0.what subject.now asked.now (option_copied id.entry) → IfOk result (λ next. IsDoing D.File.told D.File.bytes variables.now st
+        (core_of (files_of (D.held disk.new)) core.new) next
+        (inquires (core_of (files_of (D.held disk.old)) core.old) (unit_about (unit_named core.old.units) subject.now) (file_asked subject.now) asked.now
+        (number_given (values_of core.old.store) (option_copied id.entry)) (unit_at (core_of (files_of (D.held disk.old)) core.old) (unit_about (unit_named core.old.units) subject.now)))) }
+    ensures held { D.tells disk.old → D.held disk.new ≡ D.held disk.old }
+    ensures kinds { core.new.store.kinds ≡ core.old.store.kinds }
+    ensures names { core.new.names ≡ core.old.names }
+    ensures output { core.new.output ≡ core.old.output }
+    ensures telling { D.tells disk.old ↔ D.tells disk.new }
+    ensures later { D.count disk.old ≤ D.count disk.new }
+    ensures failed { result ≡ Err Lost.Disk → Rose (D.count disk.old) (D.count disk.new) }
+    ensures sink { result ≢ Err Lost.Sink }
+    ensures pending { KeepsAnswers core.old core.new }
+{
+    let Some(number) = unit_about(&core.units, subject) else {
+        return answer_other(alloc, variables, subject, asked, core, disk);
+    };
+    let Some(unit) = core.units.find(number) else {
+        return answer_other(alloc, variables, subject, asked, core, disk);
+    };
+    if needs_look(asked) {
+        return Ok(Doing::Awaits {
+            slot: unit.slot,
+            job: Job::Look(None),
+            then: Then::Looks,
+        });
+    }
+    answer_look(alloc, variables, subject, asked, id, None, core)
+}

@@ -1,0 +1,23 @@
+//! What each kind of statement does itself, once the transfers that it waits for are told: what it gives to slots, and how it goes
+//! on from there.
+#![tactic(auto)]
+
+mod beginning;
+mod closing;
+mod doing;
+mod file_names;
+mod inquiring;
+mod lost;
+mod opening;
+mod places;
+mod state;
+mod steps;
+mod suited;
+#[cfg(test)]
+mod tests;
+mod transfers;
+
+pub use beginning::begin;
+pub use doing::{After, Doing, Given, Then};
+pub use state::Core;
+pub use steps::{answered, given};

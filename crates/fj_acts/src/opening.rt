@@ -1,0 +1,218 @@
+// OPEN (ISO/IEC 1539-1:2004, 9.4.5).
+ghost use Rattle.std.specs.Prelude.{◌≡◌, ◌≢◌, ◌↔◌, ◌≤◌, ◌<◌, ℕ, List, Some, IfOk, Result, Ok, Err};
+ghost use Rattle.std.specs.Option.{option_map, option_copied};
+ghost use Rattle.fj_outside.specs.Faults.{Rose};
+ghost use Rattle.fj_modes.specs.Modes.{settled};
+ghost use Rattle.fj_modes.specs.Modes as mode;
+ghost use Rattle.fj_statement.specs.declared.deck.Variable.{Variable};
+ghost use Rattle.fj_plain.specs.Needs.{number_of};
+ghost use Rattle.fj_plain.specs.State.{Files, without_file};
+ghost use Rattle.fj_plain.specs.Statement.{Stated};
+ghost use Rattle.fj_plain.specs.Connecting.{file_due};
+ghost use Rattle.fj_desk.specs.Core.{Core as PlainCore, connected_at};
+ghost use Rattle.fj_desk.specs.Acting.{attaches, connects, opens, opens_with, changes, if_numbered};
+ghost use Rattle.fj_connect.specs.Connection.{Connection as PlainConnection};
+ghost use Rattle.fj_connect.specs.Linked.{connection_of};
+ghost use Rattle.fj_connect.specs.Opening.{opened_file};
+ghost use Rattle.fj_value.specs.declared.condition.Condition.{Condition};
+ghost use Rattle.fj_units.specs.Names.{AreInUse};
+ghost use Rattle.fj_acts.specs.State.{core_of};
+ghost use Rattle.fj_units.specs.Files.{files_of};
+ghost use Rattle.fj_units.specs.Units.{connected_of};
+ghost use Rattle.fj_acts.specs.Doing.{IsDoing, AsksToOpen};
+ghost use Rattle.fj_acts.specs.declared.state.Core.{Core};
+
+use crate::closing::closing;
+use crate::doing::{After, Doing, Then};
+use crate::file_names::{file_due, keeps_name};
+use crate::lost::lost_by_stop;
+use crate::state::Core;
+use fj_bay::Job;
+use fj_connect::{Connection, OpenFault, open_file};
+use fj_items::Lost;
+use fj_modes::{FileName, Modes, OpenSpec, UnitRef, settle_open};
+use fj_outside::{Disk, FileStore};
+use fj_units::Connected;
+use fj_value::Condition;
+use std::alloc::Global;
+
+/// A new connection, whose file is out, goes to a slot.
+fn attaching<F: FileStore>(
+    number: u32,
+    slot: u32,
+    name: FileName,
+    connection: Connection<F>,
+) -> Doing<F>
+    ensures { F.tells connection.file → (variables : List Variable) (st : Stated) (core : PlainCore) (files : Files) (opened : Result PlainConnection Condition) →
+        connection.name ≡ name → opened ≡ Ok (connection_of F.bytes connection) → files ≡ without_file name core.files →
+        IsDoing F.told F.bytes variables st (record core { files = files }) result (attaches core number slot opened) }
+{
+    let modes = *connection.modes();
+    Doing::Awaits {
+        slot,
+        job: Job::Attach(Some(connection)),
+        then: Then::Attaches(Connected {
+            number,
+            slot,
+            name,
+            modes,
+        }),
+    }
+}
+
+/// Connects to the file of a name that is not out.
+fn attach<D: Disk>(
+    alloc: Global,
+    number: u32,
+    slot: u32,
+    name: FileName,
+    spec: &OpenSpec,
+    modes: Modes,
+    core: &mut Core,
+    disk: &mut D,
+) -> Result<Doing<D::File>, Lost>
+    requires names { D.tells disk.old → AreInUse core.old.names (D.held disk.old).in_use }
+    requires modes { settled spec.now ≡ Ok modes }
+    ensures doing { D.tells disk.old → (variables : List Variable) (st : Stated) → IfOk result (λ next. IsDoing D.File.told D.File.bytes variables st
+        (core_of (files_of (D.held disk.new)) core.new) next
+        (attaches (core_of (files_of (D.held disk.old)) core.old) number slot (opened_file (files_of (D.held disk.old) name) name spec.now modes))) }
+    ensures names { D.tells disk.old → AreInUse core.new.names (D.held disk.new).in_use }
+    ensures store { core.new.store ≡ core.old.store }
+    ensures output { core.new.output ≡ core.old.output }
+    ensures telling { D.tells disk.old ↔ D.tells disk.new }
+    ensures later { D.count disk.old ≤ D.count disk.new }
+    ensures failed { result ≡ Err Lost.Disk → Rose (D.count disk.old) (D.count disk.new) }
+    ensures sink { result ≢ Err Lost.Sink }
+    ensures pending { core.new.pending ≡ core.old.pending }
+{
+    if core.names.holds(&name) {
+        return Err(Lost::Unfit);
+    }
+    core.names.add(&name)?;
+    match open_file(alloc, disk, &name, spec, modes) {
+        Ok(connection) => Ok(attaching(number, slot, name, connection)),
+        Err(fault) => {
+            core.names.remove(&name);
+            match fault {
+                OpenFault::Refused(condition) => Ok(Doing::Finishes(condition)),
+                OpenFault::Stop(stop) => Err(lost_by_stop(stop)),
+            }
+        }
+    }
+}
+
+/// A new connection at the lowest free slot; there is none (9).
+pub(crate) fn connect<D: Disk>(
+    alloc: Global,
+    number: u32,
+    spec: &OpenSpec,
+    modes: Modes,
+    core: &mut Core,
+    disk: &mut D,
+) -> Result<Doing<D::File>, Lost>
+    requires names { D.tells disk.old → AreInUse core.old.names (D.held disk.old).in_use }
+    requires modes { settled spec.now ≡ Ok modes }
+    ensures doing { D.tells disk.old → (variables : List Variable) (st : Stated) → IfOk result (λ next. IsDoing D.File.told D.File.bytes variables st
+        (core_of (files_of (D.held disk.new)) core.new) next (connects number spec.now modes (core_of (files_of (D.held disk.old)) core.old))) }
+    ensures names { D.tells disk.old → AreInUse core.new.names (D.held disk.new).in_use }
+    ensures store { core.new.store ≡ core.old.store }
+    ensures output { core.new.output ≡ core.old.output }
+    ensures telling { D.tells disk.old ↔ D.tells disk.new }
+    ensures later { D.count disk.old ≤ D.count disk.new }
+    ensures failed { result ≡ Err Lost.Disk → Rose (D.count disk.old) (D.count disk.new) }
+    ensures sink { result ≢ Err Lost.Sink }
+    ensures pending { core.new.pending ≡ core.old.pending }
+{
+    match core.units.free_slot() {
+        Some(slot) => {
+            let name = file_due(alloc, spec, number)?;
+            attach(alloc, number, slot, name, spec, modes, core, disk)
+        }
+        None => Ok(Doing::Finishes(Condition::Error(9))),
+    }
+}
+
+/// The modes that may differ change, or nothing does (8).
+fn change<F: FileStore>(number: u32, unit: &Connected, spec: &OpenSpec) -> Doing<F>
+    ensures { (variables : List Variable) (st : Stated) (files : Files) (core : Core) → connected_at core.units number ≡ Some (connected_of unit.now) →
+        IsDoing F.told F.bytes variables st (core_of files core) result (changes (core_of files core) (connected_of unit.now) (mode.changed unit.now.modes spec.now)) }
+{
+    let mut modes = unit.modes;
+    match modes.change(spec) {
+        Ok(()) => Doing::Awaits {
+            slot: unit.slot,
+            job: Job::Change(modes.edit),
+            then: Then::Changes { number, modes },
+        },
+        Err(condition) => Doing::Finishes(condition),
+    }
+}
+
+/// Another file than the one that the unit has: 3, then 7, and only then is the old file closed.
+fn open_other<D: Disk>(
+    alloc: Global,
+    number: u32,
+    spec: &OpenSpec,
+    core: &mut Core,
+    disk: &mut D,
+) -> Result<Doing<D::File>, Lost>
+    requires { D.tells disk.old → AreInUse core.old.names (D.held disk.old).in_use }
+    ensures doing { D.tells disk.old → (variables : List Variable) (st : Stated) → AsksToOpen st.0.what spec.now → IfOk result (λ next. IsDoing D.File.told D.File.bytes variables st
+        (core_of (files_of (D.held disk.new)) core.new) next
+        (opens_with (core_of (files_of (D.held disk.old)) core.old) number spec.now (connected_at core.old.units number) (settled spec.now))) }
+    ensures names { D.tells disk.old → AreInUse core.new.names (D.held disk.new).in_use }
+    ensures store { core.new.store ≡ core.old.store }
+    ensures output { core.new.output ≡ core.old.output }
+    ensures telling { D.tells disk.old ↔ D.tells disk.new }
+    ensures later { D.count disk.old ≤ D.count disk.new }
+    ensures failed { result ≡ Err Lost.Disk → Rose (D.count disk.old) (D.count disk.new) }
+    ensures sink { result ≢ Err Lost.Sink }
+    ensures pending { core.new.pending ≡ core.old.pending }
+{
+    let modes = match settle_open(spec) {
+        Ok(modes) => modes,
+        Err(condition) => return Ok(Doing::Finishes(condition)),
+    };
+    let name = file_due(alloc, spec, number)?;
+    if core.units.is_taken(number, &name) {
+        return Ok(Doing::Finishes(Condition::Error(7)));
+    }
+    if let Some(unit) = core.units.find(number) {
+        let keep = !unit.modes.scratch;
+        return Ok(closing(unit, keep, After::Connects { number }));
+    }
+    connect(alloc, number, spec, modes, core, disk)
+}
+
+/// OPEN: of the same file other modes, else another file.
+pub(crate) fn open<D: Disk>(
+    alloc: Global,
+    unit: UnitRef,
+    spec: &OpenSpec,
+    core: &mut Core,
+    disk: &mut D,
+) -> Result<Doing<D::File>, Lost>
+    requires { D.tells disk.old → AreInUse core.old.names (D.held disk.old).in_use }
+    ensures doing { D.tells disk.old → (variables : List Variable) (st : Stated) → AsksToOpen st.0.what spec.now → IfOk result (λ next. IsDoing D.File.told D.File.bytes variables st
+        (core_of (files_of (D.held disk.new)) core.new) next
+        (if_numbered (core_of (files_of (D.held disk.old)) core.old) (number_of unit)
+        (λ n. opens (core_of (files_of (D.held disk.old)) core.old) n spec.now (connected_at core.old.units n)))) }
+    ensures names { D.tells disk.old → AreInUse core.new.names (D.held disk.new).in_use }
+    ensures store { core.new.store ≡ core.old.store }
+    ensures output { core.new.output ≡ core.old.output }
+    ensures telling { D.tells disk.old ↔ D.tells disk.new }
+    ensures later { D.count disk.old ≤ D.count disk.new }
+    ensures failed { result ≡ Err Lost.Disk → Rose (D.count disk.old) (D.count disk.new) }
+    ensures sink { result ≢ Err Lost.Sink }
+    ensures pending { core.new.pending ≡ core.old.pending }
+{
+    let UnitRef::Number(number) = unit else {
+        return Ok(Doing::Finishes(Condition::Error(1)));
+    };
+    if let Some(unit) = core.units.find(number) {
+        if keeps_name(&unit.name, spec) {
+            return Ok(change(number, unit, spec));
+        }
+    }
+    open_other(alloc, number, spec, core, disk)
+}

@@ -1,0 +1,20 @@
+// What a run holds above its connections.
+use fj_items::Output;
+use fj_pending::{Pendings, Tell};
+use fj_store::Store;
+use fj_units::{Names, Units};
+use fj_value::Items;
+
+/// What a run holds above its connections.
+#[derive(Drop)]
+pub struct Core {
+    pub store: Store,
+    pub pending: Pendings,
+    pub units: Units,
+    pub output: Output,
+    /// The next identifier.
+    pub next: u32,
+    pub tells: Items<Tell>,
+    /// The names whose files are out of the disk.
+    pub names: Names,
+}

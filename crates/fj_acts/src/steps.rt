@@ -1,0 +1,323 @@
+// How a statement goes on from a job that it gave.
+ghost use Rattle.std.specs.Prelude.{◌≡◌, ◌≢◌, ◌↔◌, ◌≤◌, Some, IfOk, IfSome, Err};
+ghost use Rattle.std.specs.Option.{option_map};
+ghost use Rattle.fj_outside.specs.Faults.{Rose};
+ghost use Rattle.fj_outside.specs.Holdings.{IsFree};
+ghost use Rattle.fj_bay.specs.Jobs.{Job as Task, Answer as PlainAnswer};
+ghost use Rattle.fj_bay.specs.Jobs as job;
+ghost use Rattle.fj_bay.specs.Plain.{told_of, task_of, reply_of, looked_of, moving_of};
+ghost use Rattle.fj_connect.specs.Connection.{Connection as PlainConnection};
+ghost use Rattle.fj_plain.specs.State.{Files};
+ghost use Rattle.fj_plain.specs.Statement.{control_by};
+ghost use Rattle.fj_desk.specs.Core.{connected_at};
+ghost use Rattle.fj_desk.specs.Desks.{condition_in};
+ghost use Rattle.fj_items.specs.Kinds.{kinds_of};
+ghost use Rattle.fj_units.specs.Names.{AreInUse};
+ghost use Rattle.fj_acts.specs.State.{KeepsAnswers, core_of};
+ghost use Rattle.fj_units.specs.Files.{files_of};
+ghost use Rattle.fj_acts.specs.Steps.{held_in, is_due};
+ghost use Rattle.fj_acts.specs.Doing.{IsDoing, next_of, then_of, goes_on, closed, carries, looks};
+
+use crate::closing::close_all;
+use crate::doing::{After, Doing, Given, Then};
+use crate::inquiring::answer_look;
+use crate::opening::connect;
+use crate::state::Core;
+use crate::transfers::{carry, enter};
+use fj_bay::{Answer, Job};
+use fj_connect::{Connection, Look};
+use fj_items::Lost;
+use fj_modes::settle_open;
+use fj_outside::{Disk, FileStore};
+use fj_statement::{Lined, Statement, Variables};
+use fj_transfer::Transfer as Moving;
+use fj_value::Condition;
+use std::alloc::Global;
+
+/// How the statement of a line goes on once it has the number of the job that it gave.
+pub fn given<F: FileStore>(
+    alloc: Global,
+    variables: &Variables,
+    lined: &Lined,
+    next: Given,
+    number: u64,
+    core: &mut Core,
+) -> Result<Doing<F>, Lost>
+    requires { core.old.store.kinds ≡ kinds_of variables.now }
+    ensures doing { (files : Files) → IfOk result (λ goes. IsDoing F.told F.bytes variables.now (lined.now, control_by lined.now.what)
+        (core_of files core.new) goes (next_of variables.now (lined.now, control_by lined.now.what) (core_of files core.old) next number)) }
+    ensures names { core.new.names ≡ core.old.names }
+    ensures output { core.new.output ≡ core.old.output }
+    ensures kinds { core.new.store.kinds ≡ core.old.store.kinds }
+    ensures causes { (result ≢ Err Lost.Disk) × (result ≢ Err Lost.Sink) }
+    ensures pending { KeepsAnswers core.old core.new }
+{
+    match next {
+        Given::Finishes(condition) => Ok(Doing::Finishes(condition)),
+        Given::Pends { unit, slot } => {
+            if let Statement::Transfer(t) = &lined.what {
+                enter(alloc, variables, t, unit, slot, number, core)?;
+            }
+            Ok(Doing::Finishes(Condition::Fine))
+        }
+    }
+}
+
+/// The connection that a job has, if it has one.
+fn connection_in<F: FileStore>(job: Job<F>) -> Option<Connection<F>>
+    ensures { result ≡ held_in job }
+{
+    match job {
+        Job::Attach(brought) => brought,
+        Job::Detach(place) => place,
+        _ => None,
+    }
+}
+
+/// Gives the file of a connection back where its name is out, without what is due.
+fn give_back<D: Disk>(connection: Connection<D::File>, core: &mut Core, disk: &mut D) -> Lost
+    requires names { D.tells disk.old → AreInUse core.old.names (D.held disk.old).in_use }
+    ensures names { D.tells disk.old → AreInUse core.new.names (D.held disk.new).in_use }
+    ensures back { D.tells disk.old → IsFree (D.held disk.new) connection.name }
+    ensures store { core.new.store ≡ core.old.store }
+    ensures output { core.new.output ≡ core.old.output }
+    ensures telling { D.tells disk.old ↔ D.tells disk.new }
+    ensures later { D.count disk.old ≤ D.count disk.new }
+    ensures failed { result ≡ Lost.Disk → Rose (D.count disk.old) (D.count disk.new) }
+    ensures sink { result ≢ Lost.Sink }
+    ensures pending { core.new.pending ≡ core.old.pending }
+{
+    if !core.names.holds(connection.name()) {
+        return Lost::Unfit;
+    }
+    let keep = !connection.modes().scratch;
+    core.names.remove(connection.name());
+    match connection.close_file(disk, keep) {
+        Ok(()) => Lost::Unfit,
+        Err(_) => Lost::Disk,
+    }
+}
+
+/// What came back is not what is due: a connection that it has gives its file back.
+fn give_up<D: Disk>(job: Job<D::File>, core: &mut Core, disk: &mut D) -> Lost
+    requires names { D.tells disk.old → AreInUse core.old.names (D.held disk.old).in_use }
+    ensures names { D.tells disk.old → AreInUse core.new.names (D.held disk.new).in_use }
+    ensures back { D.tells disk.old → IfSome (held_in job) (λ connection. IsFree (D.held disk.new) connection.name) }
+    ensures store { core.new.store ≡ core.old.store }
+    ensures output { core.new.output ≡ core.old.output }
+    ensures telling { D.tells disk.old ↔ D.tells disk.new }
+    ensures later { D.count disk.old ≤ D.count disk.new }
+    ensures failed { result ≡ Lost.Disk → Rose (D.count disk.old) (D.count disk.new) }
+    ensures sink { result ≢ Lost.Sink }
+    ensures pending { core.new.pending ≡ core.old.pending }
+{
+    match connection_in(job) {
+        Some(connection) => give_back(connection, core, disk),
+        None => Lost::Unfit,
+    }
+}
+
+/// How a statement goes on once a connection is closed.
+fn go_on<D: Disk>(
+    alloc: Global,
+    variables: &Variables,
+    lined: &Lined,
+    after: After,
+    core: &mut Core,
+    disk: &mut D,
+) -> Result<Doing<D::File>, Lost>
+    requires names { D.tells disk.old → AreInUse core.old.names (D.held disk.old).in_use }
+    ensures doing { D.tells disk.old → IfOk result (λ goes. IsDoing D.File.told D.File.bytes variables.now (lined.now, control_by lined.now.what)
+        (core_of (files_of (D.held disk.new)) core.new) goes (goes_on lined.now.what (core_of (files_of (D.held disk.old)) core.old) after)) }
+    ensures names { D.tells disk.old → AreInUse core.new.names (D.held disk.new).in_use }
+    ensures store { core.new.store ≡ core.old.store }
+    ensures output { core.new.output ≡ core.old.output }
+    ensures telling { D.tells disk.old ↔ D.tells disk.new }
+    ensures later { D.count disk.old ≤ D.count disk.new }
+    ensures failed { result ≡ Err Lost.Disk → Rose (D.count disk.old) (D.count disk.new) }
+    ensures sink { result ≢ Err Lost.Sink }
+    ensures pending { core.new.pending ≡ core.old.pending }
+{
+    let number = match after {
+        After::Finishes(condition) => return Ok(Doing::Finishes(condition)),
+        After::ClosesAll(condition) => return Ok(close_all(condition, core)),
+        After::Connects { number } => number,
+    };
+    let Statement::OpenUnit {
+        unit: _,
+        spec,
+        iostat: _,
+    } = &lined.what
+    else {
+        return Ok(Doing::Finishes(Condition::Fine));
+    };
+    match settle_open(spec) {
+        Ok(modes) => connect(alloc, number, spec, modes, core, disk),
+        Err(condition) => Ok(Doing::Finishes(condition)),
+    }
+}
+
+/// Whether a connection is that of the unit of a number, and its file out.
+fn is_due<F: FileStore>(connection: &Connection<F>, number: u32, core: &Core) -> bool
+    ensures { result ≡ is_due (connected_at core.now.units number) core.now.names connection.now.name }
+{
+    match core.units.find(number) {
+        Some(unit) => {
+            unit.name.as_str() == connection.name().as_str() && core.names.holds(connection.name())
+        }
+        None => false,
+    }
+}
+
+/// The connection of a unit is closed, and the statement goes on.
+fn closed<D: Disk>(
+    alloc: Global,
+    variables: &Variables,
+    lined: &Lined,
+    number: u32,
+    keep: bool,
+    after: After,
+    connection: Connection<D::File>,
+    core: &mut Core,
+    disk: &mut D,
+) -> Result<Doing<D::File>, Lost>
+    requires names { D.tells disk.old → AreInUse core.old.names (D.held disk.old).in_use }
+    ensures doing { D.tells disk.old → (c : PlainConnection) (answer : PlainAnswer) → told_of D.File.told D.File.bytes connection ≡ Some c →
+        IfOk result (λ goes. IsDoing D.File.told D.File.bytes variables.now (lined.now, control_by lined.now.what)
+        (core_of (files_of (D.held disk.new)) core.new) goes
+        (goes_on lined.now.what (closed (core_of (files_of (D.held disk.old)) core.old) (connected_at core.old.units number) keep (job.detach (Some c), answer)) after)) }
+    ensures names { D.tells disk.old → AreInUse core.new.names (D.held disk.new).in_use }
+    ensures store { core.new.store ≡ core.old.store }
+    ensures output { core.new.output ≡ core.old.output }
+    ensures telling { D.tells disk.old ↔ D.tells disk.new }
+    ensures later { D.count disk.old ≤ D.count disk.new }
+    ensures failed { result ≡ Err Lost.Disk → Rose (D.count disk.old) (D.count disk.new) }
+    ensures sink { result ≢ Err Lost.Sink }
+    ensures pending { core.new.pending ≡ core.old.pending }
+{
+    if !is_due(&connection, number, core) {
+        return Err(give_back(connection, core, disk));
+    }
+    core.names.remove(connection.name());
+    core.units.remove(number);
+    match connection.close_file(disk, keep) {
+        Ok(()) => go_on(alloc, variables, lined, after, core, disk),
+        Err(_) => Err(Lost::Disk),
+    }
+}
+
+/// INQUIRE has its look at the connection.
+fn looked<F: FileStore>(
+    alloc: Global,
+    variables: &Variables,
+    lined: &Lined,
+    look: Option<Look>,
+    core: &mut Core,
+) -> Result<Doing<F>, Lost>
+    requires { core.old.store.kinds ≡ kinds_of variables.now }
+    ensures doing { (files : Files) (answer : PlainAnswer) → IfOk result (λ goes. IsDoing F.told F.bytes variables.now (lined.now, control_by lined.now.what)
+        (core_of files core.new) goes (looks (core_of files core.old) lined.now.what (job.look (option_map looked_of look), answer))) }
+    ensures names { core.new.names ≡ core.old.names }
+    ensures output { core.new.output ≡ core.old.output }
+    ensures kinds { core.new.store.kinds ≡ core.old.store.kinds }
+    ensures causes { (result ≢ Err Lost.Disk) × (result ≢ Err Lost.Sink) }
+    ensures pending { KeepsAnswers core.old core.new }
+{
+    match &lined.what {
+        Statement::Inquire {
+            about,
+            asked,
+            id,
+            iostat: _,
+        } => { answer_look(alloc, variables, about, asked, id.as_ref(), look, core) }
+        _ => Ok(Doing::Finishes(Condition::Fine)),
+    }
+}
+
+/// The items of a transfer come back.
+fn carried<F: FileStore>(
+    variables: &Variables,
+    lined: &Lined,
+    slot: u32,
+    moved: Moving,
+    condition: Condition,
+    core: &mut Core,
+) -> Result<Doing<F>, Lost>
+    requires { core.old.store.kinds ≡ kinds_of variables.now }
+    ensures doing { (files : Files) (answer : PlainAnswer) → condition_in answer ≡ condition → IfOk result (λ goes. IsDoing F.told F.bytes variables.now (lined.now, control_by lined.now.what)
+        (core_of files core.new) goes (carries variables.now (core_of files core.old) lined.now.what slot (job.move (moving_of moved), answer))) }
+    ensures names { core.new.names ≡ core.old.names }
+    ensures output { core.new.output ≡ core.old.output }
+    ensures kinds { core.new.store.kinds ≡ core.old.store.kinds }
+    ensures causes { (result ≢ Err Lost.Disk) × (result ≢ Err Lost.Sink) }
+    ensures pending { KeepsAnswers core.old core.new }
+{
+    match &lined.what {
+        Statement::Transfer(t) => carry(variables, t, slot, moved, condition, core),
+        _ => Ok(Doing::Finishes(Condition::Fine)),
+    }
+}
+
+/// The condition that an answer tells.
+fn condition_in(answer: Answer) -> Condition
+    ensures { result ≡ condition_in (reply_of answer) }
+{
+    match answer {
+        Answer::Done(condition) | Answer::Skipped(condition) => condition,
+    }
+}
+
+/// How the statement of a line goes on once its job came back with an answer.
+pub fn answered<D: Disk>(
+    alloc: Global,
+    variables: &Variables,
+    lined: &Lined,
+    then: Then,
+    job: Job<D::File>,
+    answer: Answer,
+    core: &mut Core,
+    disk: &mut D,
+) -> Result<Doing<D::File>, Lost>
+    requires kinds { core.old.store.kinds ≡ kinds_of variables.now }
+    requires names { D.tells disk.old → AreInUse core.old.names (D.held disk.old).in_use }
+    ensures doing { D.tells disk.old → (task : Task) → task_of D.File.told D.File.bytes job ≡ Some task →
+        IfOk result (λ goes. IsDoing D.File.told D.File.bytes variables.now (lined.now, control_by lined.now.what)
+        (core_of (files_of (D.held disk.new)) core.new) goes
+        (then_of variables.now (lined.now, control_by lined.now.what) (core_of (files_of (D.held disk.old)) core.old) then (task, reply_of answer))) }
+    ensures names { D.tells disk.old → AreInUse core.new.names (D.held disk.new).in_use }
+    ensures output { core.new.output ≡ core.old.output }
+    ensures kinds { core.new.store.kinds ≡ core.old.store.kinds }
+    ensures telling { D.tells disk.old ↔ D.tells disk.new }
+    ensures later { D.count disk.old ≤ D.count disk.new }
+    ensures failed { result ≡ Err Lost.Disk → Rose (D.count disk.old) (D.count disk.new) }
+    ensures sink { result ≢ Err Lost.Sink }
+    ensures pending { KeepsAnswers core.old core.new }
+{
+    let condition = condition_in(answer);
+    match (then, job) {
+        (Then::Carries { slot }, Job::Move(moved)) => {
+            carried(variables, lined, slot, moved, condition, core)
+        }
+        (
+            Then::Closes {
+                number,
+                keep,
+                after,
+            },
+            Job::Detach(Some(connection)),
+        ) => closed(
+            alloc, variables, lined, number, keep, after, connection, core, disk,
+        ),
+        (Then::Attaches(unit), Job::Attach(None)) => {
+            core.units.insert(unit)?;
+            Ok(Doing::Finishes(condition))
+        }
+        (Then::Looks, Job::Look(look)) => looked(alloc, variables, lined, look, core),
+        (Then::Changes { number, modes }, Job::Change(_)) => {
+            core.units.set_modes(number, modes);
+            Ok(Doing::Finishes(condition))
+        }
+        (Then::Finishes, Job::Go(_) | Job::Flush) => Ok(Doing::Finishes(condition)),
+        (_, job) => Err(give_up(job, core, disk)),
+    }
+}

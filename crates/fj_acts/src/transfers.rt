@@ -1,0 +1,255 @@
+// READ and WRITE (ISO/IEC 1539-1:2004, 9.5).
+ghost use Rattle.std.specs.Prelude.{◌≡◌, ◌≢◌, ◌↔◌, ◌≤◌, ◌++◌, [], ◌∷◌, ℕ, List, Some, IfOk, OnOk, OnErr, Err};
+ghost use Rattle.std.specs.Option.{option_map, option_copied};
+ghost use Rattle.fj_outside.specs.Faults.{Rose};
+ghost use Rattle.fj_statement.specs.declared.statement.Statement.TheVariants as statement;
+ghost use Rattle.fj_store.specs.Storage.{values_of};
+ghost use Rattle.fj_bay.specs.Jobs.{Job as Task, move};
+ghost use Rattle.fj_bay.specs.Plain.{moving_of as task_of};
+ghost use Rattle.fj_plain.specs.State.{Files};
+ghost use Rattle.fj_plain.specs.Statement.{Stated, control_by};
+ghost use Rattle.fj_plain.specs.Transfers.{moved_in, with_cells};
+ghost use Rattle.fj_desk.specs.Core.{Connected as PlainConnected, connected_at};
+ghost use Rattle.fj_desk.specs.Acting.{refused, transferred, on_unit, transfer_at, with_items_out};
+ghost use Rattle.fj_items.specs.Kinds.{kinds_of};
+ghost use Rattle.fj_items.specs.Handing.{HandsOver, HandsFront};
+ghost use Rattle.fj_pending.specs.Plain.{held};
+ghost use Rattle.fj_acts.specs.Holding.{pending_under, unanswered};
+ghost use Rattle.fj_acts.specs.State.{KeepsAnswers, core_of, core_at};
+ghost use Rattle.fj_acts.specs.Doing.{IsDoing, entered, ends_behind};
+
+use crate::doing::{Doing, Given, Then};
+use crate::lost::{lost_by_entry, lost_by_items};
+use crate::places::distinct_places;
+use crate::state::Core;
+use fj_bay::Job;
+use fj_items::{Lost, give_cells, moving, refusal, set_number, undefine, write_star};
+use fj_modes::UnitRef;
+use fj_outside::{FileStore, Sink};
+use fj_pending::{Held, Pendings, runs_held};
+use fj_statement::{Transfer, Variables};
+use fj_transfer::Transfer as Moving;
+use fj_value::{Condition, Tag};
+use std::alloc::{AllocError, Global};
+
+/// A transfer that is not carried out: the items of an input have no value.
+#[tactic(auto, using(crate::proofs::StateLemmas::answers_kept))]
+pub(crate) fn refuse<F: FileStore>(
+    variables: &Variables,
+    t: &Transfer,
+    condition: Condition,
+    core: &mut Core,
+) -> Result<Doing<F>, Lost>
+    requires { core.old.store.kinds ≡ kinds_of variables.now }
+    ensures doing { (st : Stated) (files : Files) → IfOk result (λ next. IsDoing F.told F.bytes variables.now st (core_of files core.new) next
+        (refused variables.now (core_of files core.old) t.now (moved_in variables.now (values_of core.old.store) t.now) condition)) }
+    ensures kinds { core.new.store.kinds ≡ core.old.store.kinds }
+    ensures names { core.new.names ≡ core.old.names }
+    ensures output { core.new.output ≡ core.old.output }
+    ensures causes { (result ≢ Err Lost.Disk) × (result ≢ Err Lost.Sink) }
+    ensures pending { KeepsAnswers core.old core.new }
+{
+    undefine(variables, &mut core.store, t).map_err(lost_by_items)?;
+    Ok(Doing::Finishes(condition))
+}
+
+/// A transfer on a connected unit: asynchronous, or carried out before the statement goes on.
+#[tactic(auto, using(crate::proofs::StateLemmas::answers_kept))]
+fn transfer<F: FileStore>(
+    alloc: Global,
+    variables: &Variables,
+    line: u32,
+    t: &Transfer,
+    unit: u32,
+    slot: u32,
+    core: &mut Core,
+) -> Result<Doing<F>, Lost>
+    requires { core.old.store.kinds ≡ kinds_of variables.now }
+    ensures doing { (u : PlainConnected) (st : Stated) (files : Files) → u.number ≡ unit → u.slot ≡ slot → st.0.what ≡ statement.Transfer t.now →
+        IfOk result (λ next. IsDoing F.told F.bytes variables.now st (core_of files core.new) next
+        (transferred (control_by (statement.Transfer t.now)) variables.now line (core_of files core.old) t.now (moved_in variables.now (values_of core.old.store) t.now) u)) }
+    ensures kinds { core.new.store.kinds ≡ core.old.store.kinds }
+    ensures names { core.new.names ≡ core.old.names }
+    ensures output { core.new.output ≡ core.old.output }
+    ensures causes { (result ≢ Err Lost.Disk) × (result ≢ Err Lost.Sink) }
+    ensures pending { KeepsAnswers core.old core.new }
+{
+    if t.asynchronous.unwrap_or(false) {
+        let tag = Tag(core.next);
+        let job = moving(alloc, variables, &mut core.store, line, tag, t).map_err(lost_by_items)?;
+        return Ok(Doing::Gives {
+            slot,
+            job: Job::Move(job),
+            next: Given::Pends { unit, slot },
+        });
+    }
+    let job = moving(alloc, variables, &mut core.store, line, Tag(0), t).map_err(lost_by_items)?;
+    Ok(Doing::Awaits {
+        slot,
+        job: Job::Move(job),
+        then: Then::Carries { slot },
+    })
+}
+
+/// A transfer on the unit of a number: 1 where it is not connected, and what the statement itself tells.
+#[tactic(auto, using(crate::proofs::StateLemmas::answers_kept))]
+fn transfer_on<F: FileStore>(
+    alloc: Global,
+    variables: &Variables,
+    line: u32,
+    t: &Transfer,
+    number: u32,
+    core: &mut Core,
+) -> Result<Doing<F>, Lost>
+    requires { core.old.store.kinds ≡ kinds_of variables.now }
+    ensures doing { (st : Stated) (files : Files) → st.0.what ≡ statement.Transfer t.now →
+        IfOk result (λ next. IsDoing F.told F.bytes variables.now st (core_of files core.new) next
+        (on_unit (control_by (statement.Transfer t.now)) variables.now line (core_of files core.old) t.now (moved_in variables.now (values_of core.old.store) t.now)
+        (connected_at core.old.units number))) }
+    ensures kinds { core.new.store.kinds ≡ core.old.store.kinds }
+    ensures names { core.new.names ≡ core.old.names }
+    ensures output { core.new.output ≡ core.old.output }
+    ensures causes { (result ≢ Err Lost.Disk) × (result ≢ Err Lost.Sink) }
+    ensures pending { KeepsAnswers core.old core.new }
+{
+    let Some(unit) = core.units.find(number) else {
+        return refuse(variables, t, Condition::Error(1), core);
+    };
+    let slot = unit.slot;
+    match refusal(&unit.modes, t) {
+        Condition::Fine => transfer(alloc, variables, line, t, number, slot, core),
+        condition => refuse(variables, t, condition, core),
+    }
+}
+
+/// READ or WRITE, on `*` or a unit.
+#[tactic(auto, using(crate::proofs::StateLemmas::answers_kept))]
+pub(crate) fn read_or_write<F: FileStore, W: Sink>(
+    alloc: Global,
+    variables: &Variables,
+    line: u32,
+    t: &Transfer,
+    core: &mut Core,
+    out: &mut W,
+) -> Result<Doing<F>, Lost>
+    requires { core.old.store.kinds ≡ kinds_of variables.now }
+    ensures doing { (st : Stated) (files : Files) → st.0.what ≡ statement.Transfer t.now →
+        IfOk result (λ next. IsDoing F.told F.bytes variables.now st (core_of files core.new) next
+        (transfer_at (control_by (statement.Transfer t.now)) variables.now line (core_of files core.old) t.now (moved_in variables.now (values_of core.old.store) t.now) t.now.unit)) }
+    ensures kinds { core.new.store.kinds ≡ core.old.store.kinds }
+    ensures names { core.new.names ≡ core.old.names }
+    ensures disk { result ≢ Err Lost.Disk }
+    ensures telling { W.tells out.old ↔ W.tells out.new }
+    ensures output { W.tells out.old → OnOk result (HandsOver (W.taken out.old) (W.taken out.new) core.old.output core.new.output) }
+    ensures front { W.tells out.old → (files : Files) → OnErr result (HandsFront (W.taken out.old) (W.taken out.new) core.old.output
+        (core_at (transfer_at (control_by (statement.Transfer t.now)) variables.now line (core_of files core.old) t.now (moved_in variables.now (values_of core.old.store) t.now) t.now.unit)).output) }
+    ensures later { W.count out.old ≤ W.count out.new }
+    ensures failed { result ≡ Err Lost.Sink → Rose (W.count out.old) (W.count out.new) }
+    ensures pending { KeepsAnswers core.old core.new }
+{
+    match t.unit {
+        UnitRef::Star => {
+            let store = &mut core.store;
+            let output = &mut core.output;
+            match write_star(alloc, variables, store, output, out, t) {
+                Ok(condition) => Ok(Doing::Finishes(condition)),
+                Err(Lost::Disk) => Err(Lost::Unfit),
+                Err(lost) => Err(lost),
+            }
+        }
+        UnitRef::Number(number) => transfer_on(alloc, variables, line, t, number, core),
+    }
+}
+
+/// A transfer is pending under an identifier, with no answer yet. Where it is not entered nothing changes.
+fn hold(
+    alloc: Global,
+    variables: &Variables,
+    t: &Transfer,
+    tag: Tag,
+    unit: u32,
+    slot: u32,
+    number: u64,
+    pending: &mut Pendings,
+) -> Result<(), Lost>
+    ensures ok { OnOk result (held pending.new ≡ held pending.old ++ unanswered (pending_under variables.now tag.0 t.now unit slot number) ∷ []) }
+    ensures err { OnErr result (pending.new ≡ pending.old) }
+    ensures causes { (result ≢ Err Lost.Disk) × (result ≢ Err Lost.Sink) }
+{
+    let runs = runs_held(alloc, variables.as_slice(), t)?;
+    let places = distinct_places(alloc, runs.as_slice())?;
+    let held = Held {
+        tag,
+        unit,
+        input: t.input,
+        runs,
+        size: t.size,
+        slot,
+        number,
+        answer: None,
+    };
+    match pending.enter(held, places) {
+        Ok(()) => Ok(()),
+        Err(lost) => Err(lost_by_entry(lost)),
+    }
+}
+
+/// An asynchronous transfer is pending under the next identifier, which ID= gets.
+#[tactic(auto, using(crate::proofs::StateLemmas::answers_kept))]
+pub(crate) fn enter(
+    alloc: Global,
+    variables: &Variables,
+    t: &Transfer,
+    unit: u32,
+    slot: u32,
+    number: u64,
+    core: &mut Core,
+) -> Result<(), Lost>
+    requires { core.old.store.kinds ≡ kinds_of variables.now }
+    ensures entered { (files : Files) → OnOk result (core_of files core.new ≡ entered variables.now (core_of files core.old) t.now unit slot number) }
+    ensures kinds { core.new.store.kinds ≡ core.old.store.kinds }
+    ensures names { core.new.names ≡ core.old.names }
+    ensures output { core.new.output ≡ core.old.output }
+    ensures causes { (result ≢ Err Lost.Disk) × (result ≢ Err Lost.Sink) }
+    ensures pending { KeepsAnswers core.old core.new }
+{
+    let tag = Tag(core.next);
+    let Some(next) = core.next.checked_add(1) else {
+        return Err(Lost::Unfit);
+    };
+    set_number(variables, &mut core.store, t.id, i64::from(tag.0)).map_err(lost_by_items)?;
+    let pending = &mut core.pending;
+    hold(alloc, variables, t, tag, unit, slot, number, pending)?;
+    core.next = next;
+    Ok(())
+}
+
+/// A transfer came back: its items have their values, and a halt that it set ends.
+#[tactic(auto, using(crate::proofs::StateLemmas::answers_kept))]
+pub(crate) fn carry<F: FileStore>(
+    variables: &Variables,
+    t: &Transfer,
+    slot: u32,
+    job: Moving,
+    condition: Condition,
+    core: &mut Core,
+) -> Result<Doing<F>, Lost>
+    requires { core.old.store.kinds ≡ kinds_of variables.now }
+    ensures doing { (st : Stated) (files : Files) → IfOk result (λ next. IsDoing F.told F.bytes variables.now st (core_of files core.new) next
+        (ends_behind slot (record (core_of files core.old) { vars = with_cells variables.now t.now job.moved.cells job.count (values_of core.old.store) }) condition)) }
+    ensures kinds { core.new.store.kinds ≡ core.old.store.kinds }
+    ensures names { core.new.names ≡ core.old.names }
+    ensures output { core.new.output ≡ core.old.output }
+    ensures causes { (result ≢ Err Lost.Disk) × (result ≢ Err Lost.Sink) }
+    ensures pending { KeepsAnswers core.old core.new }
+{
+    give_cells(variables, &mut core.store, t.input, t.size, job).map_err(lost_by_items)?;
+    match condition {
+        Condition::EndOfFile | Condition::Error(_) => Ok(Doing::Gives {
+            slot,
+            job: Job::Resume,
+            next: Given::Finishes(condition),
+        }),
+        Condition::Fine | Condition::EndOfRecord => Ok(Doing::Finishes(condition)),
+    }
+}

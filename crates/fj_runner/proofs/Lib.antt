@@ -1,0 +1,10 @@
+pub mod Runs
+pub mod Stepping
+pub mod Passed
+pub mod NextAsks
+pub mod Going
+pub mod Lists
+pub mod Pauses
+pub mod Made
+pub mod Beginnings
+pub mod Answered

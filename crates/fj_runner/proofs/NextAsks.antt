@@ -1,0 +1,113 @@
+-- What is asked next, by what a turn comes to.
+use Rattle.std.proofs.Common.{◌≡◌, ℕ, zero, suc, ◌+◌, Bool, true, false, List, [], ◌∷◌, drop, length, ◌<◌, get_or, slice_get, Option, Some, None, is_some, unwrap_or, if◌then◌else◌, arith, refl, sym, ap, ◌∙◌, subst}
+use Rattle.std.specs.Option.{option_map}
+use Rattle.fj_outside.specs.declared.outside.FileStore.{Ghosts}
+use Rattle.fj_statement.specs.declared.deck.Lined.{Lined}
+use Rattle.fj_world.specs.declared.ask.Ask.{Ask}
+use Rattle.fj_world.specs.declared.ask.Ask.TheVariants.{Finished}
+use Rattle.fj_bay.specs.declared.job.Job.{Job}
+use Rattle.fj_plain.specs.State.{Files}
+use Rattle.fj_plain.specs.Statement.{Stated, stated, control_by, Ending}
+use Rattle.fj_turns.specs.Run.{Run, Stage, Start}
+use Rattle.fj_turns.specs.Turns.{Turn, Pauses, Passes, Stops, Asked, turn, turn_start, goes, by_turn, asked, asked_on}
+use Rattle.fj_acts.specs.State.{core_of}
+use Rattle.fj_runner.specs.declared.ending.Ending.{Ending as CodeEnding}
+use Rattle.fj_runner.specs.Machine.{ending_of, stage_of, run_in, run_at, run_of, rest_of, stage_at}
+use Rattle.fj_runner.specs.Turned.{IsTask, Pausing, IsAsked}
+use Rattle.fj_runner.specs.declared.stage.Stage.TheVariants as stage
+use Rattle.fj_runner.specs.declared.machine.Machine.{Machine}
+use Rattle.fj_runner.proofs.Runs.{goes_with}
+
+pub some_same : {X : Type 0} (x y : X) → Some x ≡ Some y → x ≡ y
+some_same x y e = ap (λ o. unwrap_or o x) e
+
+-- ---- the statement at hand
+
+pub at_hand_is : (sts : List Lined) (at : ℕ) (l : Lined) → slice_get sts at ≡ Some l → drop at (stated sts) ≡ (l, control_by l.what) ∷ drop (at + 1) (stated sts)
+at_hand_is [] at l e = cc
+at_hand_is (x ∷ xs) zero l e = ap (λ (y : Lined). (y, control_by y.what) ∷ stated xs) (some_same x l e)
+at_hand_is (x ∷ xs) (suc n) l e =
+    let one : suc (n + 1) ≡ suc n + 1 = omega arith in at_hand_is xs n l e ∙ ap (λ k. (l, control_by l.what) ∷ drop k (stated (x ∷ xs))) one
+
+pub none_at_hand : (sts : List Lined) (at : ℕ) → slice_get sts at ≡ None → drop at (stated sts) ≡ []
+none_at_hand [] zero e = refl
+none_at_hand [] (suc n) e = refl
+none_at_hand (x ∷ xs) zero e = cc
+none_at_hand (x ∷ xs) (suc n) e = none_at_hand xs n e
+
+found_at : (xs : List Lined) (n : ℕ) (x : Lined) → n < length xs → x ≡ get_or xs n x → slice_get xs n ≡ Some x
+found_at [] n x h e = absurd (omega (arith, h))
+found_at (y ∷ ys) zero x h e = ap Some (sym e)
+found_at (y ∷ ys) (suc n) x h e = let low : n < length ys = omega (arith, h) in found_at ys n x low e
+
+pub read_at_hand : (sts xs : List Lined) (at : ℕ) (l : Lined) → xs ≡ sts → at < length sts → l ≡ get_or xs at l → drop at (stated sts) ≡ (l, control_by l.what) ∷ drop (at + 1) (stated sts)
+read_at_hand sts xs at l same low e = at_hand_is sts at l (found_at sts at l low (subst (λ (ys : List Lined). l ≡ get_or ys at l) same e))
+
+-- ---- one turn
+
+same_turn : (more : List Stated) (t : Turn) → (elim t as (λ _. Asked) [
+  | Pauses ask run ↦ record { ask = ask; run = run }
+  | Passes run ↦ goes more run
+  | Stops run ↦ record { ask = Finished; run = run }
+]) ≡ by_turn more t
+same_turn more (Pauses ask run) = refl
+same_turn more (Passes run) = refl
+same_turn more (Stops run) = refl
+
+pub goes_turn : (st : Stated) (more : List Stated) (r : Run) → goes (st ∷ more) r ≡ by_turn more (turn_start st (record r { rest = st ∷ more }))
+goes_turn st more r = same_turn more (turn_start st (record r { rest = st ∷ more }))
+
+pub asked_turn : (st : Stated) (more : List Stated) (r : Run) → r.ending ≡ None → r.rest ≡ st ∷ more → asked r ≡ by_turn more (turn st r.stage r)
+asked_turn st more r e h = ap (λ (o : Option Ending). if is_some o then record { ask = Finished; run = r } else asked_on r.rest r) e ∙ ap (λ rest. asked_on rest r) h
+
+pub asked_none : (r : Run) → r.ending ≡ None → r.rest ≡ [] → asked r ≡ record { ask = Finished; run = r }
+asked_none r e h = ap (λ (o : Option Ending). if is_some o then record { ask = Finished; run = r } else asked_on r.rest r) e ∙ ap (λ rest. asked_on rest r) h
+
+pub asked_ended : (r : Run) → is_some r.ending ≡ true → asked r ≡ record { ask = Finished; run = r }
+asked_ended r e = ap (λ b. if b then record { ask = Finished; run = r } else asked_on r.rest r) e
+
+pub not_ended : (o : Option CodeEnding) → is_some o ≡ false → option_map ending_of o ≡ None
+not_ended None e = refl
+not_ended (Some it) e = cc
+
+-- the statement at hand goes on from its stage
+pub asked_at : {F : Type 0} {ghosts : Ghosts F} → (files : Files) (m : Machine F ghosts) (x : Stage) (st : Stated) (more : List Stated) (r : Run) → run_at files m x ≡ r → option_map ending_of m.state.ending ≡ None → rest_of m ≡ st ∷ more
+    → asked r ≡ by_turn more (turn st x (run_in m.deck.variables (st ∷ more) files m.state x))
+asked_at files m x st more r e none h =
+    ap asked (sym e) ∙ asked_turn st more (run_at files m x) none h ∙ ap (λ (rest : List Stated). by_turn more (turn st x (run_in m.deck.variables rest files m.state x))) h
+
+pub goes_at : {F : Type 0} {ghosts : Ghosts F} → (files : Files) (m : Machine F ghosts) (st : Stated) (more : List Stated) → rest_of m ≡ st ∷ more
+    → goes (rest_of m) (run_at files m Start) ≡ by_turn more (turn_start st (run_in m.deck.variables (st ∷ more) files m.state Start))
+goes_at files m st more h = ap (λ (rest : List Stated). goes rest (run_at files m Start)) h ∙ goes_turn st more (run_at files m Start)
+
+pub run_known : {X Y : Type 0} (f : X → Y) (o : Option X) (r : Y) → option_map f o ≡ Some r → (x : X) × (o ≡ Some x) × (f x ≡ r)
+run_known f None r e = cc
+run_known f (Some x) r e = (x, refl, some_same (f x) r e)
+
+-- ---- what it comes to
+
+module _ {F : Type 0} {ghosts : Ghosts F} (told : F → Bool) (bytes : F → List ℕ) (files : Files) (m : Machine F ghosts) (more : List Stated) (t : Turn) where
+  pub pausing_asks : (ask : Ask (Job F)) → Pausing told bytes m.deck.variables (rest_of m) files m.state ask t → IsAsked told bytes files m ask (by_turn more t)
+  pausing_asks ask p = subst (λ t. IsAsked told bytes files m ask (by_turn more t)) (sym p.comes) (record { run = ap (option_map (run_at files m)) p.stands; asks = p.asks })
+
+  at_start : m.state.stage ≡ stage.Start → run_of told bytes files m ≡ Some (run_at files m Start)
+  at_start h = ap (λ st. option_map (run_at files m) (stage_of told bytes m.deck.variables (rest_of m) (core_of files m.state.core) st)) h
+
+  pub stops_asks : m.state.stage ≡ stage.Start → t ≡ Stops (run_at files m Start) → IsAsked told bytes files m Finished (by_turn more t)
+  stops_asks h e = subst (λ t. IsAsked told bytes files m Finished (by_turn more t)) (sym e) (record { run = at_start h; asks = tt })
+
+  pub passes_goes : t ≡ Passes (run_at files m Start) → by_turn more t ≡ goes more (run_in m.deck.variables more files m.state Start)
+  passes_goes e = ap (by_turn more) e ∙ goes_with more (rest_of m) (run_in m.deck.variables more files m.state Start)
+
+module _ {F : Type 0} {ghosts : Ghosts F} (told : F → Bool) (bytes : F → List ℕ) (files : Files) (m : Machine F ghosts) where
+  -- nothing is at hand
+  pub ends_asked : m.state.stage ≡ stage.Start → rest_of m ≡ [] → IsAsked told bytes files m Finished (goes (rest_of m) (run_at files m Start))
+  ends_asked h e = record {
+    run = ap (λ st. option_map (run_at files m) (stage_of told bytes m.deck.variables (rest_of m) (core_of files m.state.core) st)) h
+        ∙ ap Some (emptied (rest_of m) (run_at files m Start) e refl);
+    asks = subst (λ rest. IsTask told bytes (goes rest (run_at files m Start)).ask Finished) (sym e) tt;
+  }
+    where
+    emptied : (rest : List Stated) (r : Run) → rest ≡ [] → r.rest ≡ rest → r ≡ (goes rest r).run
+    emptied [] r e h = ap (λ rest. record r { rest = rest }) h
+    emptied (st ∷ rest) r e h = cc

@@ -1,0 +1,76 @@
+-- Runs as plain data: a core with another book, the end of a statement, and transfers that are told.
+use Rattle.std.proofs.Common.{◌≡◌, ℕ, ◌++◌, Bool, true, false, cond, not, List, [], ◌∷◌, map, filter, Option, Some, None, refl, sym, ap, ◌∙◌, subst}
+use Rattle.std.proofs.lemmas.List.{append-nil}
+use Rattle.std.specs.Option.{option_map}
+use Rattle.fj_outside.specs.declared.outside.FileStore.{Ghosts}
+use Rattle.fj_value.specs.Condition.{code_of}
+use Rattle.fj_value.specs.declared.condition.Condition.{Condition}
+use Rattle.fj_statement.specs.declared.deck.Variable.{Variable}
+use Rattle.fj_store.specs.Storage.{values_of}
+use Rattle.fj_store.specs.Variables.{Variables}
+use Rattle.fj_items.specs.Handing.{HandsOver, whole_records}
+use Rattle.fj_plain.specs.State.{Files, Entry, Output, Tell}
+use Rattle.fj_plain.specs.Statement.{Stated, Ending, ends, iostat_of}
+use Rattle.fj_plain.specs.Telling.{tells_id, tell_of, with_inputs}
+use Rattle.fj_plain.specs.Transfers.{with_number}
+use Rattle.fj_desk.specs.Core.{Core, Pending}
+use Rattle.fj_desk.specs.Desking.{told_core}
+use Rattle.fj_turns.specs.Run.{Run, Held, Stage, Start}
+use Rattle.fj_turns.specs.Turns.{Turn, Passes, Stops, matched, with_core, finish_by, turn_finish, goes}
+use Rattle.fj_pending.specs.Plain.{held, held_of, pending_of, tells_of}
+use Rattle.fj_pending.specs.declared.held.Held as code
+use Rattle.fj_acts.specs.State.{core_of}
+use Rattle.fj_acts.specs.declared.state.Core as code_core
+use Rattle.fj_runner.specs.Machine.{run_in}
+use Rattle.fj_runner.specs.Taking.{TakesMore}
+use Rattle.fj_runner.specs.declared.state.State.{State}
+
+-- ---- the book
+
+pub matched_same : (hs : List Held) → matched (map (λ (h : Held). h.pending) hs) hs ≡ hs
+matched_same [] = refl
+matched_same (h ∷ hs) = ap (λ t. h ∷ t) (matched_same hs)
+
+pub pendings_are : (hs : List code.Held) → map (λ (h : Held). h.pending) (held hs) ≡ map pending_of hs
+pendings_are [] = refl
+pendings_are (h ∷ hs) = ap (λ t. pending_of h ∷ t) (pendings_are hs)
+
+told_by : (b : Bool) (h : Held) (xs : List Held) (ys : List Pending) → map (λ (h : Held). h.pending) xs ≡ ys
+    → map (λ (h : Held). h.pending) (cond b (h ∷ xs) xs) ≡ cond b (h.pending ∷ ys) ys
+told_by true h xs ys e = ap (λ t. h.pending ∷ t) e
+told_by false h xs ys e = e
+
+pub told_book : (told : List Entry) (hs : List Held)
+    → map (λ (h : Held). h.pending) (filter (λ (h : Held). not (tells_id told h.pending.id)) hs) ≡ filter (λ (e : Pending). not (tells_id told e.id)) (map (λ (h : Held). h.pending) hs)
+told_book told [] = refl
+told_book told (h ∷ hs) = told_by (not (tells_id told h.pending.id)) h _ _ (told_book told hs)
+
+-- ---- the end of a statement
+
+module _ {F : Type 0} {ghosts : Ghosts F} (variables : List Variable) (rest : List Stated) (files : Files) (s : State F ghosts) (stage : Stage) (core : Core) (book : List Held)
+    (e : held s.core.pending ≡ matched (map (λ (h : Held). h.pending) (held s.core.pending)) book) where
+  pub with_core_is : with_core (core_of files s.core) (record (run_in variables rest files s stage) { core = core; book = book }) ≡ run_in variables rest files s stage
+  with_core_is = ap (λ b. record (run_in variables rest files s stage) { book = b }) (sym e)
+
+  pub finish_is : (st : Stated) (condition : Condition) (vars : Variables) → vars ≡ with_number variables (iostat_of st.0.what) (code_of condition) (values_of s.core.store)
+      → turn_finish st (core_of files s.core) condition (record (run_in variables rest files s stage) { core = core; book = book })
+      ≡ finish_by (ends st.0.line st.0.what condition) (record (run_in variables rest files s stage) { core = record (core_of files s.core) { vars = vars } })
+  finish_is st condition vars v = ap (λ b. finish_by (ends st.0.line st.0.what condition) (record (run_in variables rest files s stage) {
+    core = record (core_of files s.core) { vars = with_number variables (iostat_of st.0.what) (code_of condition) (values_of s.core.store) };
+    book = b
+  })) (sym e) ∙ ap (λ vs. finish_by (ends st.0.line st.0.what condition) (record (run_in variables rest files s stage) { core = record (core_of files s.core) { vars = vs } })) (sym v)
+
+-- ---- statements one after another
+
+-- what is at hand then is set anew
+pub goes_with : (rest other : List Stated) (r : Run) → goes rest (record r { rest = other }) ≡ goes rest r
+goes_with [] other r = refl
+goes_with (st ∷ rest) other r = refl
+
+-- ---- the output
+
+pub hands_none : (taken taken' : List ℕ) (old new : Output) → taken' ≡ taken → new ≡ old → HandsOver taken taken' old new
+hands_none taken taken' old new t o = ([], ap whole_records o ∙ sym (append-nil (whole_records old)), t ∙ sym (append-nil taken))
+
+pub takes_none : (taken taken' : List ℕ) → taken' ≡ taken → TakesMore taken taken'
+takes_none taken taken' t = ([], t ∙ sym (append-nil taken))

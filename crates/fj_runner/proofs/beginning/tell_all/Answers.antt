@@ -1,0 +1,16 @@
+use Rattle.std.proofs.Common.{ap, ◌∙◌}
+use Rattle.fj_statement.specs.declared.deck.Variable.{Variable}
+use Rattle.std.proofs.Common.{List}
+use Rattle.fj_plain.specs.Telling.{with_inputs}
+use Rattle.fj_store.specs.Storage.{values_of}
+use Rattle.fj_pending.specs.Plain.{entries}
+use Rattle.fj_pending.specs.Waits.{waited_of}
+use Rattle.fj_runner.proofs.Beginnings.{told_core_is}
+use Rattle.fj_runner.proofs.beginning.tell_all.Goals as goal
+
+pub returns-in-Ok-clause-core : goal.returns-in-Ok-clause-core
+returns-in-Ok-clause-core c = λ files.
+    let old = c.args.core.now in
+    let told = waited_of c.args.whose (entries old.pending) in
+    told_core_is files c.args.variables.now c.args.line told old c.tell-told.new.store c.tell-told.new.self c.tell-told.new.tells
+    (c.in-Ok.ensures.values ∙ ap (λ (vs : List Variable). with_inputs vs told (values_of old.store)) c.as_slice.ensures) c.in-Ok.ensures.left c.in-Ok.ensures.tells

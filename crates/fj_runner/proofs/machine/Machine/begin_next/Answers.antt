@@ -1,0 +1,42 @@
+use Rattle.std.proofs.Common.{◌≡◌, ◌+◌, List, ◌∷◌, drop, IfSome, IfNone, sym, subst}
+use Rattle.fj_plain.specs.State.{Files}
+use Rattle.fj_plain.specs.Statement.{Stated, stated, control_by}
+use Rattle.fj_units.specs.Files.{files_of}
+use Rattle.fj_turns.specs.Run.{Run, Start}
+use Rattle.fj_turns.specs.Turns.{Turn, turn_start, goes, Asked}
+use Rattle.fj_runner.specs.Machine.{rest_of, run_in, run_at}
+use Rattle.fj_runner.specs.Turned.{IsTurn, IsAsked}
+use Rattle.fj_runner.specs.declared.stage.Stage.TheVariants as stage
+use Rattle.fj_runner.proofs.NextAsks.{read_at_hand, goes_at}
+use Rattle.fj_runner.proofs.machine.Machine.begin_next.Goals as goal
+
+pub returns-in-Ok-clause-asks : goal.returns-in-Ok-clause-asks
+returns-in-Ok-clause-asks g c = λ tells.
+    let told = g.F.FileStore.told in
+    let bytes = g.F.FileStore.bytes in
+    let m = c.args.self.now in
+    let files : Files = files_of (g.D.Disk.held c.args.disk.now) in
+    let lined = c.index-as_slice-self.result in
+    let st : Stated = (lined, control_by lined.what) in
+    let more : List Stated = drop (m.at + 1) (stated m.deck.statements) in
+    let after : Files = files_of (g.D.Disk.held c.start.new.disk) in
+    let h = read_at_hand m.deck.statements c.as_slice.result.now m.at lined c.as_slice.ensures c.requires.at c.index-as_slice-self.is in
+    let t : Turn = turn_start st (run_in m.deck.variables (st ∷ more) files m.state Start) in
+    let it = subst (λ (rest : List Stated). IsTurn told bytes m.deck.variables rest after c.start.new.self c.in-Ok.turned t) (sym h) (c.in-Ok.ensures.turn tells more Start) in
+    subst (λ (a : Asked). IfSome c.asked_by.result (λ ask. IsAsked told bytes after c.asked_by.new.self ask a)) (sym (goes_at files m st more h)) (c.asked_by.ensures.asks after t it)
+
+pub returns-in-Ok-clause-passes : goal.returns-in-Ok-clause-passes
+returns-in-Ok-clause-passes g c = λ tells.
+    let told = g.F.FileStore.told in
+    let bytes = g.F.FileStore.bytes in
+    let m = c.args.self.now in
+    let files : Files = files_of (g.D.Disk.held c.args.disk.now) in
+    let lined = c.index-as_slice-self.result in
+    let st : Stated = (lined, control_by lined.what) in
+    let more : List Stated = drop (m.at + 1) (stated m.deck.statements) in
+    let after : Files = files_of (g.D.Disk.held c.start.new.disk) in
+    let h = read_at_hand m.deck.statements c.as_slice.result.now m.at lined c.as_slice.ensures c.requires.at c.index-as_slice-self.is in
+    let t : Turn = turn_start st (run_in m.deck.variables (st ∷ more) files m.state Start) in
+    let it = subst (λ (rest : List Stated). IsTurn told bytes m.deck.variables rest after c.start.new.self c.in-Ok.turned t) (sym h) (c.in-Ok.ensures.turn tells more Start) in
+    let new = c.asked_by.new.self in
+    subst (λ (a : Asked). IfNone c.asked_by.result ((new.state.stage ≡ stage.Start) × (a ≡ goes (rest_of new) (run_at after new Start)))) (sym (goes_at files m st more h)) (c.asked_by.ensures.passes after t it)

@@ -1,0 +1,42 @@
+use Rattle.std.proofs.Common.{◌≡◌, ◌∷◌, IfOk, refl, sym, subst}
+use Rattle.fj_plain.specs.Statement.{Stated, control_by}
+use Rattle.fj_turns.specs.Run.{Run, Acting, Awaiting}
+use Rattle.fj_turns.specs.Turns.{turn_act}
+use Rattle.fj_acts.specs.Doing.{IsDoing, next_of, then_of}
+use Rattle.fj_acts.specs.State.{core_of}
+use Rattle.fj_runner.specs.Machine.{run_in}
+use Rattle.fj_runner.specs.Turned.{IsTurn}
+use Rattle.fj_runner.proofs.Pauses.{acts_gives, acts_awaits}
+use Rattle.fj_runner.proofs.state.State.act.Goals as goal
+
+pub returns-in-Gives-clause-turn : goal.returns-in-Gives-clause-turn
+returns-in-Gives-clause-turn g c = λ more files core book stage plain e d.
+    let told = g.F.FileStore.told in
+    let bytes = g.F.FileStore.bytes in
+    let s = c.args.self.now in
+    let st : Stated = (c.args.lined.now, control_by c.args.lined.now.what) in
+    let it = subst (λ x. IsDoing told bytes c.args.variables.now st (core_of files s.core) x plain) c.in-Gives.is d in
+    subst (λ t'. IfOk c.submit.result (λ t. IsTurn told bytes c.args.variables.now (st ∷ more) files c.submit.new.self t t'))
+    (sym (acts_gives c.args.variables.now st more files s stage core book e c.in-Gives.slot it.task c.in-Gives.next c.number_at-number.result plain c.number_at-number.ensures it.gives))
+    (c.submit.ensures.turn c.args.variables.now (st ∷ more) files it.task stage (Acting (next_of c.args.variables.now st (core_of files s.core) c.in-Gives.next c.number_at-number.result)) it.is refl)
+
+pub returns-in-Awaits-clause-turn : goal.returns-in-Awaits-clause-turn
+returns-in-Awaits-clause-turn g c = λ more files core book stage plain e d.
+    let told = g.F.FileStore.told in
+    let bytes = g.F.FileStore.bytes in
+    let s = c.args.self.now in
+    let st : Stated = (c.args.lined.now, control_by c.args.lined.now.what) in
+    let it = subst (λ x. IsDoing told bytes c.args.variables.now st (core_of files s.core) x plain) c.in-Awaits.is d in
+    subst (λ t'. IfOk c.submit-in-Awaits.result (λ t. IsTurn told bytes c.args.variables.now (st ∷ more) files c.submit-in-Awaits.new.self t t'))
+    (sym (acts_awaits c.args.variables.now st more files s stage core book e c.in-Awaits.slot it.task c.in-Awaits.then c.number_at-number-in-Awaits.result plain c.number_at-number-in-Awaits.ensures it.gives))
+    (c.submit-in-Awaits.ensures.turn c.args.variables.now (st ∷ more) files it.task stage (Awaiting c.in-Awaits.slot c.number_at-number-in-Awaits.result (then_of c.args.variables.now st (core_of files s.core) c.in-Awaits.then)) it.is refl)
+
+pub returns-in-Finishes-clause-turn : goal.returns-in-Finishes-clause-turn
+returns-in-Finishes-clause-turn g c = λ more files core book stage plain e d.
+    let told = g.F.FileStore.told in
+    let bytes = g.F.FileStore.bytes in
+    let s = c.args.self.now in
+    let st : Stated = (c.args.lined.now, control_by c.args.lined.now.what) in
+    let run : Run = record (run_in c.args.variables.now (st ∷ more) files s stage) { core = core; book = book } in
+    let it = subst (λ x. IsDoing told bytes c.args.variables.now st (core_of files s.core) x plain) c.in-Finishes.is d in
+    subst (λ p. IfOk c.finish.result (λ t. IsTurn told bytes c.args.variables.now (st ∷ more) files c.finish.new.self t (turn_act st p run))) (sym it) (c.finish.ensures.turn more files core book stage e)

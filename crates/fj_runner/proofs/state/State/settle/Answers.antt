@@ -1,0 +1,11 @@
+use Rattle.std.proofs.Common.{◌≡◌, Some, refl, sym, subst}
+use Rattle.fj_acts.specs.State.{core_of}
+use Rattle.fj_runner.specs.Machine.{run_in, stage_of}
+use Rattle.fj_runner.proofs.Pauses.{settle_pauses}
+use Rattle.fj_runner.proofs.state.State.settle.Goals as goal
+
+pub returns-clause-turn : goal.returns-clause-turn
+returns-clause-turn g c = λ variables rest files before after s.
+    let old = c.args.self.now in
+    settle_pauses g.F.FileStore.told g.F.FileStore.bytes variables rest files _ (run_in variables rest files old before) c.args.slot after
+    (subst (λ x. stage_of g.F.FileStore.told g.F.FileStore.bytes variables rest (core_of files old.core) x ≡ Some after) (sym c.put_stage.ensures) s) refl

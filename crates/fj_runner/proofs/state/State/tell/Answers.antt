@@ -1,0 +1,32 @@
+use Rattle.std.proofs.Common.{◌≡◌, List, ◌∷◌, IfOk, ap, ◌∙◌, subst}
+use Rattle.fj_plain.specs.State.{Files, Entry}
+use Rattle.fj_plain.specs.Statement.{Stated, control_by}
+use Rattle.fj_desk.specs.Core.{Core, Connected}
+use Rattle.fj_turns.specs.Run.{Run}
+use Rattle.fj_turns.specs.Turns.{halted_slots}
+use Rattle.fj_pending.specs.Plain.{held, entries}
+use Rattle.fj_pending.specs.Waits.{waited_of}
+use Rattle.fj_acts.specs.State.{core_of}
+use Rattle.fj_units.specs.Files.{files_of}
+use Rattle.fj_runner.specs.Machine.{run_in}
+use Rattle.fj_runner.specs.Turned.{IsTurn}
+use Rattle.fj_runner.proofs.Beginnings.{told_run, tells_turn}
+use Rattle.fj_runner.proofs.state.State.tell.Goals as goal
+
+pub returns-in-Ok-tell_all-clause-turn : goal.returns-in-Ok-tell_all-clause-turn
+returns-in-Ok-tell_all-clause-turn g c = λ tells more stage.
+    let told = g.F.FileStore.told in
+    let bytes = g.F.FileStore.bytes in
+    let s = c.args.self.now in
+    let variables = c.args.variables.now in
+    let st : Stated = (c.args.lined.now, control_by c.args.lined.now.what) in
+    let files : Files = files_of (g.D.Disk.held c.args.disk.now) in
+    let run : Run = run_in variables (st ∷ more) files s stage in
+    let es : List Entry = waited_of c.args.whose (entries s.core.pending) in
+    let new = c.tell_all.new.core in
+    let left : Run = record run { core = core_of files new; book = held new.pending } in
+    subst (λ t'. IfOk c.resume.result (λ t. IsTurn told bytes variables (st ∷ more) (files_of (g.D.Disk.held c.resume.new.disk)) c.resume.new.self t t'))
+    (tells_turn st es run left c.in-Ok.slots c.in-Ok-tell_all.condition
+    (told_run st es run (core_of files new) (held new.pending) (c.in-Ok-tell_all.ensures.core files) c.in-Ok-tell_all.ensures.left)
+    (c.in-Ok.ensures ∙ ap (λ (us : List Connected). halted_slots es us) c.as_slice-units.ensures) c.in-Ok-tell_all.ensures.condition)
+    (c.resume.ensures.turn tells more stage)

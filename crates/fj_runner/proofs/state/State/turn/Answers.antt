@@ -1,0 +1,134 @@
+use Rattle.std.proofs.Common.{◌≡◌, List, ◌∷◌, drop, Ok, Some, IfOk, refl, sym, ◌∙◌, subst}
+use Rattle.fj_bay.specs.Plain.{task_of, reply_of}
+use Rattle.fj_plain.specs.State.{Files}
+use Rattle.fj_plain.specs.Statement.{Stated, control_by}
+use Rattle.fj_desk.specs.Acting.{doing}
+use Rattle.fj_desk.specs.Core.{Core}
+use Rattle.fj_desk.specs.Doing.{Doing}
+use Rattle.fj_turns.specs.Run.{Run, Start, Waiting, Acting, Awaiting}
+use Rattle.fj_turns.specs.Turns.{turn, ends_halts}
+use Rattle.fj_pending.specs.Plain.{held}
+use Rattle.fj_acts.specs.Doing.{next_of, then_of}
+use Rattle.fj_acts.specs.State.{core_of}
+use Rattle.fj_units.specs.Files.{files_of}
+use Rattle.fj_runner.specs.Machine.{run_in, stage_of}
+use Rattle.fj_runner.specs.Turned.{IsTurn}
+use Rattle.fj_runner.proofs.NextAsks.{some_same, run_known}
+use Rattle.fj_runner.proofs.Stepping.{kept_steps, ok_keeps, disk_steps, then_steps}
+use Rattle.fj_runner.proofs.state.State.turn.Goals as goal
+
+pub returns-in-Start-clause-turn : goal.returns-in-Start-clause-turn
+returns-in-Start-clause-turn g c = λ tells more stage e.
+    let told = g.F.FileStore.told in
+    let bytes = g.F.FileStore.bytes in
+    let s = c.args.self.now in
+    let variables = c.args.variables.now in
+    let st : Stated = (c.args.lined.now, control_by c.args.lined.now.what) in
+    let files : Files = files_of (g.D.Disk.held c.args.disk.now) in
+    let run : Run = run_in variables (st ∷ more) files s stage in
+    let core : Core = core_of files s.core in
+    let known = subst (λ x. stage_of told bytes variables (st ∷ more) core x ≡ Some stage) (sym c.replace.ensures.value ∙ c.in-Start.is) e in
+    subst (λ x. IfOk c.start.result (λ t. IsTurn told bytes variables (st ∷ more) (files_of (g.D.Disk.held c.start.new.disk)) c.start.new.self t (turn st x run))) (some_same Start stage known)
+    (c.start.ensures.turn tells more stage)
+
+pub returns-in-Waiting-clause-turn : goal.returns-in-Waiting-clause-turn
+returns-in-Waiting-clause-turn g c = λ tells more stage e.
+    let told = g.F.FileStore.told in
+    let bytes = g.F.FileStore.bytes in
+    let s = c.args.self.now in
+    let variables = c.args.variables.now in
+    let st : Stated = (c.args.lined.now, control_by c.args.lined.now.what) in
+    let files : Files = files_of (g.D.Disk.held c.args.disk.now) in
+    let run : Run = run_in variables (st ∷ more) files s stage in
+    let core : Core = core_of files s.core in
+    let known = subst (λ x. stage_of told bytes variables (st ∷ more) core x ≡ Some stage) (sym c.replace.ensures.value ∙ c.in-Waiting.is) e in
+    subst (λ x. IfOk c.wait.result (λ t. IsTurn told bytes variables (st ∷ more) (files_of (g.D.Disk.held c.wait.new.disk)) c.wait.new.self t (turn st x run))) (some_same Waiting stage known)
+    (c.wait.ensures.turn tells more stage)
+
+pub returns-in-Resuming-clause-turn : goal.returns-in-Resuming-clause-turn
+returns-in-Resuming-clause-turn g c = λ tells more stage e.
+    let told = g.F.FileStore.told in
+    let bytes = g.F.FileStore.bytes in
+    let s = c.args.self.now in
+    let variables = c.args.variables.now in
+    let st : Stated = (c.args.lined.now, control_by c.args.lined.now.what) in
+    let files : Files = files_of (g.D.Disk.held c.args.disk.now) in
+    let run : Run = run_in variables (st ∷ more) files s stage in
+    let core : Core = core_of files s.core in
+    let known = subst (λ x. stage_of told bytes variables (st ∷ more) core x ≡ Some stage) (sym c.replace.ensures.value ∙ c.in-Resuming.is) e in
+    subst (λ x. IfOk c.resume.result (λ t. IsTurn told bytes variables (st ∷ more) (files_of (g.D.Disk.held c.resume.new.disk)) c.resume.new.self t (turn st x run))) (some_same _ stage known)
+    (c.resume.ensures.turn tells more stage)
+
+pub returns-in-Ok-clause-turn : goal.returns-in-Ok-clause-turn
+returns-in-Ok-clause-turn g c = λ tells more stage e.
+    let told = g.F.FileStore.told in
+    let bytes = g.F.FileStore.bytes in
+    let s = c.args.self.now in
+    let variables = c.args.variables.now in
+    let st : Stated = (c.args.lined.now, control_by c.args.lined.now.what) in
+    let files : Files = files_of (g.D.Disk.held c.args.disk.now) in
+    let run : Run = run_in variables (st ∷ more) files s stage in
+    let core : Core = core_of files s.core in
+    let known = subst (λ x. stage_of told bytes variables (st ∷ more) core x ≡ Some stage) (sym c.replace.ensures.value ∙ c.in-Going.is) e in
+    let does : Doing = next_of variables st core c.in-Going.next c.in-Going.number in
+    subst (λ x. IfOk c.act.result (λ t. IsTurn told bytes variables (st ∷ more) files c.act.new.self t (turn st x run))) (some_same (Acting does) stage known)
+    (c.act.ensures.turn more files core (held s.core.pending) stage does c.given.ensures.pending (c.in-Ok.ensures.doing files))
+
+pub returns-in-Ok-clause-steps : goal.returns-in-Ok-clause-steps
+returns-in-Ok-clause-steps g c =
+    kept_steps c.args.out.now c.args.disk.now c.args.self.now.core c.act.new.self.core c.act.result (record {
+      kinds = c.act.ensures.keeps.kinds ∙ c.given.ensures.kinds;
+      names = c.act.ensures.keeps.names ∙ c.given.ensures.names;
+      output = c.act.ensures.keeps.output ∙ c.given.ensures.output;
+      disk = c.act.ensures.keeps.disk;
+      sink = c.act.ensures.keeps.sink;
+    })
+
+pub returns-in-Awaiting-clause-turn : goal.returns-in-Awaiting-clause-turn
+returns-in-Awaiting-clause-turn g c = λ tells more stage e.
+    let told = g.F.FileStore.told in
+    let bytes = g.F.FileStore.bytes in
+    let s = c.args.self.now in
+    let variables = c.args.variables.now in
+    let st : Stated = (c.args.lined.now, control_by c.args.lined.now.what) in
+    let files : Files = files_of (g.D.Disk.held c.args.disk.now) in
+    let run : Run = run_in variables (st ∷ more) files s stage in
+    let core : Core = core_of files s.core in
+    let known = subst (λ x. stage_of told bytes variables (st ∷ more) core x ≡ Some stage) (sym c.replace.ensures.value ∙ c.in-Awaiting.is) e in
+    let next = then_of variables st core c.in-Awaiting.then in
+    subst (λ x. IsTurn told bytes variables (st ∷ more) files c.settle.new.self c.settle.result (turn st x run)) (some_same (Awaiting c.in-Awaiting.slot c.in-Awaiting.number next) stage known)
+    (c.settle.ensures.turn variables (st ∷ more) files stage (Awaiting c.in-Awaiting.slot c.in-Awaiting.number next) refl)
+
+pub returns-in-Awaiting-clause-steps : goal.returns-in-Awaiting-clause-steps
+returns-in-Awaiting-clause-steps g c =
+    kept_steps c.args.out.now c.args.disk.now c.args.self.now.core c.settle.new.self.core (Ok c.settle.result) (ok_keeps c.args.self.now.core c.settle.new.self.core c.settle.result c.settle.ensures.core)
+
+pub returns-in-Ok-doing-clause-turn : goal.returns-in-Ok-doing-clause-turn
+returns-in-Ok-doing-clause-turn g c = λ tells more stage e.
+    let told = g.F.FileStore.told in
+    let bytes = g.F.FileStore.bytes in
+    let s = c.args.self.now in
+    let variables = c.args.variables.now in
+    let st : Stated = (c.args.lined.now, control_by c.args.lined.now.what) in
+    let files : Files = files_of (g.D.Disk.held c.args.disk.now) in
+    let run : Run = run_in variables (st ∷ more) files s stage in
+    let core : Core = core_of files s.core in
+    let known = subst (λ x. stage_of told bytes variables (st ∷ more) core x ≡ Some stage) (sym c.replace.ensures.value ∙ c.in-Answered.is) e in
+    let after : Files = files_of (g.D.Disk.held c.answered-doing.new.disk) in
+    let k = run_known (λ task. Acting (then_of variables st core c.in-Answered.then (task, reply_of c.in-Answered.answer))) (task_of told bytes c.in-Answered.job) stage known in
+    let does : Doing = then_of variables st core c.in-Answered.then (k.0, reply_of c.in-Answered.answer) in
+    subst (λ x. IfOk c.act-in-Ok-doing.result (λ t. IsTurn told bytes variables (st ∷ more) after c.act-in-Ok-doing.new.self t (turn st x run))) k.2
+    (c.act-in-Ok-doing.ensures.turn more after core (held s.core.pending) stage does c.answered-doing.ensures.pending (c.in-Ok-doing.ensures.doing tells k.0 k.1))
+
+pub returns-in-Ok-doing-clause-steps : goal.returns-in-Ok-doing-clause-steps
+returns-in-Ok-doing-clause-steps g c =
+    let s = c.args.self.now in
+    let out = c.args.out.now in
+    let disk = c.args.disk.now in
+    let half = c.answered-doing.new.core in
+    let after = c.answered-doing.new.disk in
+    let new = c.act-in-Ok-doing.new.self.core in
+    let told = c.answered-doing.ensures in
+    then_steps out out out disk after after s.core half new c.in-Ok-doing.doing c.act-in-Ok-doing.result
+    (disk_steps out disk after s.core half c.in-Ok-doing.doing told.kinds told.names told.output told.telling told.later)
+    (kept_steps out after half new c.act-in-Ok-doing.result c.act-in-Ok-doing.ensures.keeps)

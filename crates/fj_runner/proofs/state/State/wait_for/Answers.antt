@@ -1,0 +1,44 @@
+use Rattle.std.proofs.Common.{◌≡◌, List, ◌∷◌, Ok, IfOk, refl, sym, subst}
+use Rattle.fj_plain.specs.State.{Files, Entry}
+use Rattle.fj_plain.specs.Statement.{Stated, control_by}
+use Rattle.fj_turns.specs.Run.{Run, Waiting}
+use Rattle.fj_pending.specs.Plain.{held, entries}
+use Rattle.fj_pending.specs.Waits.{waited_of}
+use Rattle.fj_units.specs.Files.{files_of}
+use Rattle.fj_runner.specs.Machine.{run_in}
+use Rattle.fj_runner.specs.Turned.{IsTurn}
+use Rattle.fj_runner.proofs.Beginnings.{none_of, waits_more, waits_none}
+use Rattle.fj_runner.proofs.Stepping.{kept_steps, ok_keeps}
+use Rattle.fj_runner.proofs.state.State.wait_for.Goals as goal
+
+pub returns-in-Some-clause-turn : goal.returns-in-Some-clause-turn
+returns-in-Some-clause-turn g c = λ tells more stage.
+    let told = g.F.FileStore.told in
+    let bytes = g.F.FileStore.bytes in
+    let s = c.args.self.now in
+    let variables = c.args.variables.now in
+    let st : Stated = (c.args.lined.now, control_by c.args.lined.now.what) in
+    let files : Files = files_of (g.D.Disk.held c.args.disk.now) in
+    let run : Run = run_in variables (st ∷ more) files s stage in
+    let es : List Entry = waited_of c.args.whose (entries s.core.pending) in
+    subst (λ t'. IsTurn told bytes variables (st ∷ more) files c.settle.new.self c.settle.result t')
+    (sym (waits_more st run es c.in-Some.slot (sym (c.requires.whose (entries s.core.pending))) (sym (c.in-Some.ensures.slot (none_of _ c.requires.from)))))
+    (c.settle.ensures.turn variables (st ∷ more) files stage Waiting refl)
+
+pub returns-in-Some-clause-steps : goal.returns-in-Some-clause-steps
+returns-in-Some-clause-steps g c =
+    kept_steps c.args.out.now c.args.disk.now c.args.self.now.core c.settle.new.self.core (Ok c.settle.result) (ok_keeps c.args.self.now.core c.settle.new.self.core c.settle.result c.settle.ensures.core)
+
+pub returns-in-None-clause-turn : goal.returns-in-None-clause-turn
+returns-in-None-clause-turn g c = λ tells more stage.
+    let told = g.F.FileStore.told in
+    let bytes = g.F.FileStore.bytes in
+    let s = c.args.self.now in
+    let variables = c.args.variables.now in
+    let st : Stated = (c.args.lined.now, control_by c.args.lined.now.what) in
+    let files : Files = files_of (g.D.Disk.held c.args.disk.now) in
+    let run : Run = run_in variables (st ∷ more) files s stage in
+    let es : List Entry = waited_of c.args.whose (entries s.core.pending) in
+    subst (λ t'. IfOk c.tell.result (λ t. IsTurn told bytes variables (st ∷ more) (files_of (g.D.Disk.held c.tell.new.disk)) c.tell.new.self t t'))
+    (sym (waits_none st run es (sym (c.requires.whose (entries s.core.pending))) (sym (c.in-None.ensures.slot (none_of _ c.requires.from)))))
+    (c.tell.ensures.turn tells more stage)

@@ -1,0 +1,40 @@
+-- What one call of a runner leaves of its disk, its sink and its machine.
+use Rattle.std.specs.Prelude.{◌≡◌, ◌⊎◌, ◌↔◌, ℕ, ◌≤◌, List, Some, None, IsSome}
+use Rattle.fj_outside.specs.Faults.{Rose}
+use Rattle.fj_outside.specs.declared.outside.FileStore.{Ghosts}
+use Rattle.fj_items.specs.Handing.{HandsOver}
+use Rattle.fj_items.specs.declared.lost.Lost.TheVariants.{Disk, Sink}
+use Rattle.fj_runner.specs.Taking.{TakesMore}
+use Rattle.fj_runner.specs.declared.machine.Machine.{Machine}
+
+pub record Leaves {W D F : Type 0} {ghosts : Ghosts F} (tells_out : W → Type 0) (taken : W → List ℕ) (count_out : W → ℕ) (tells : D → Type 0) (count : D → ℕ)
+    (out : W) (disk : D) (m : Machine F ghosts) (out' : W) (disk' : D) (m' : Machine F ghosts) : Type 0 where
+  pub telling : tells disk ↔ tells disk'
+  pub later : count disk ≤ count disk'
+  pub telling_out : tells_out out ↔ tells_out out'
+  pub later_out : count_out out ≤ count_out out'
+  -- the sink took the records that ended, where nothing is lost; and else it took more behind what it had
+  pub output : tells_out out → m'.tally.lost ≡ None → HandsOver (taken out) (taken out') m.state.core.output m'.state.core.output
+  pub front : tells_out out → TakesMore (taken out) (taken out')
+  -- a fault of the outside has its cause
+  pub disk : m'.tally.lost ≡ Some Disk → (m.tally.lost ≡ Some Disk) ⊎ Rose (count disk) (count disk')
+  pub sink : m'.tally.lost ≡ Some Sink → (m.tally.lost ≡ Some Sink) ⊎ Rose (count_out out) (count_out out')
+  -- what was lost first stays
+  pub first : IsSome m.tally.lost → m'.tally.lost ≡ m.tally.lost
+  pub deck : m'.deck ≡ m.deck
+
+-- a call that touches neither disk nor sink
+pub record Rests {F : Type 0} {ghosts : Ghosts F} (m m' : Machine F ghosts) : Type 0 where
+  pub names : m'.state.core.names ≡ m.state.core.names
+  pub output : m'.state.core.output ≡ m.state.core.output
+  pub disk : m'.tally.lost ≡ Some Disk → m.tally.lost ≡ Some Disk
+  pub sink : m'.tally.lost ≡ Some Sink → m.tally.lost ≡ Some Sink
+  pub first : IsSome m.tally.lost → m'.tally.lost ≡ m.tally.lost
+  pub deck : m'.deck ≡ m.deck
+
+-- one call of a runner, whose sink, disk and machine go by these names: they are the same ones
+pub record Leads {N : Type 0} (out disk machine out' disk' machine' : N) (leaves : Type 0) : Type 0 where
+  pub same_out : out' ≡ out
+  pub same_disk : disk' ≡ disk
+  pub same_machine : machine' ≡ machine
+  pub leaves : leaves

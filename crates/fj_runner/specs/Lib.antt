@@ -1,0 +1,11 @@
+pub mod Passing
+pub mod Machine
+pub mod Answering
+pub mod Turned
+pub mod Taking
+pub mod Stepping
+pub mod Tallying
+pub mod Admitting
+pub mod Refused
+pub mod Leaving
+pub mod Making

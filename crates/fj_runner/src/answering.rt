@@ -1,0 +1,116 @@
+// What is done with an answer.
+ghost use Rattle.std.specs.Prelude.{◌≡◌, List, Some, OnOk, OnErr};
+ghost use Rattle.fj_statement.specs.declared.deck.Variable.{Variable};
+ghost use Rattle.fj_bay.specs.Jobs.{Job as Task};
+ghost use Rattle.fj_bay.specs.Plain.{task_of, reply_of};
+ghost use Rattle.fj_plain.specs.State.{Files};
+ghost use Rattle.fj_plain.specs.Statement.{Stated};
+ghost use Rattle.fj_turns.specs.Run.{Stage as PlainStage};
+ghost use Rattle.fj_turns.specs.Turns.{told_of};
+ghost use Rattle.fj_acts.specs.State.{core_of};
+ghost use Rattle.fj_runner.specs.Answering.{IsAnswered, with_own};
+ghost use Rattle.fj_runner.specs.Machine.{run_in, stage_of};
+ghost use Rattle.fj_runner.specs.Passing.{awaits};
+ghost use Rattle.fj_runner.specs.Turned.{Stands};
+
+use crate::stage::Stage;
+use crate::state::State;
+use fj_bay::{Answer, Job};
+use fj_items::Lost;
+use fj_outside::FileStore;
+use fj_pending::{Pendings, Told};
+use std::mem;
+
+/// Whether the statement at hand waits for the job of that slot and number.
+fn awaits<F: FileStore>(stage: &Stage<F>, slot: u32, number: u64) -> bool
+    ensures { result ≡ awaits slot number stage.now }
+{
+    match stage {
+        Stage::Awaiting {
+            slot: own,
+            number: last,
+            then: _,
+        } => *own == slot && *last == number,
+        _ => false,
+    }
+}
+
+/// Keeps the answer of a pending transfer.
+fn keep<F: FileStore>(
+    pending: &mut Pendings,
+    slot: u32,
+    number: u64,
+    job: Job<F>,
+    answer: Answer,
+) -> Result<(), Lost>
+    ensures told { OnOk result (IsAnswered F.told F.bytes slot number job answer pending.old pending.new) }
+    ensures none { OnErr result (pending.new ≡ pending.old) }
+{
+    let Job::Move(transfer) = job else {
+        return Err(Lost::Unfit);
+    };
+    match pending.answer(slot, number, Told { transfer, answer }) {
+        Ok(()) => Ok(()),
+        Err(_) => Err(Lost::Unfit),
+    }
+}
+
+/// The stage once the job of that slot and number came back: the answer of the statement's own job is taken, and that of another one
+/// is let go.
+fn own<F: FileStore>(
+    stage: Stage<F>,
+    slot: u32,
+    number: u64,
+    job: Job<F>,
+    answer: Answer,
+) -> Stage<F>
+    ensures { result ≡ with_own slot number job answer stage }
+{
+    match stage {
+        Stage::Awaiting {
+            slot: own,
+            number: last,
+            then,
+        } => {
+            if own == slot && last == number {
+                return Stage::Answered { then, job, answer };
+            }
+            Stage::Awaiting {
+                slot: own,
+                number: last,
+                then,
+            }
+        }
+        stage => stage,
+    }
+}
+
+impl<F: FileStore> State<F> {
+    /// Takes the answer of the first job of the slot that it waits for which was not told.
+    pub(crate) fn answer(&mut self, job: Job<F>, answer: Answer) -> Result<(), Lost>
+        ensures told { (variables : List Variable) (rest : List Stated) (files : Files) (task : Task) (stage : PlainStage)
+            → task_of F.told F.bytes job ≡ Some task
+            → stage_of F.told F.bytes variables rest (core_of files self.old.core) self.old.stage ≡ Some stage
+            → OnOk result (Stands F.told F.bytes variables rest files self.new (told_of (run_in variables rest files self.old stage) (task, reply_of answer))) }
+        ensures kept { self.new.core ≡ record (self.old.core) { pending = self.new.core.pending } }
+    {
+        let at = self.due as usize;
+        if at >= self.told.len() {
+            return Err(Lost::Unfit);
+        }
+        let number = self.told[at];
+        let Some(further) = number.checked_add(1) else {
+            return Err(Lost::Unfit);
+        };
+        self.told[at] = further;
+        if self.core.pending.has(self.due, number) {
+            if awaits(&self.stage, self.due, number) {
+                return Err(Lost::Unfit);
+            }
+            return keep(&mut self.core.pending, self.due, number, job, answer);
+        }
+        let stage = mem::replace(&mut self.stage, Stage::Start);
+        self.stage = own(stage, self.due, number, job, answer);
+        Ok(())
+    }
+}

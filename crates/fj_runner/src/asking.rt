@@ -1,0 +1,148 @@
+// What a deck asks next.
+ghost use Rattle.std.specs.Prelude.{◌≡◌, ◌+◌, ◌<◌, length, Some, IfOk, IfSome, IfNone, drop};
+ghost use Rattle.fj_plain.specs.State.{Files};
+ghost use Rattle.fj_plain.specs.Statement.{stated};
+ghost use Rattle.fj_turns.specs.Run.{Run, Start};
+ghost use Rattle.fj_turns.specs.Turns.{Turn, asked, by_turn, goes};
+ghost use Rattle.fj_units.specs.Names.{AreInUse};
+ghost use Rattle.fj_units.specs.Files.{files_of};
+ghost use Rattle.fj_runner.specs.Machine.{rest_of, run_at, run_of};
+ghost use Rattle.fj_runner.specs.Turned.{IsTurn, IsAsked};
+ghost use Rattle.fj_runner.specs.Stepping.{Steps};
+
+use crate::machine::Machine;
+use crate::stage::Stage;
+use crate::turned::Turned;
+use fj_bay::Job;
+use fj_items::Lost;
+use fj_outside::{Disk, FileStore, Sink};
+use fj_world::Ask;
+use std::alloc::Global;
+
+impl<F: FileStore> Machine<F> {
+    /// What a turn asks; none where the next statement is at hand.
+    fn asked_by(&mut self, turned: Turned<F>) -> Option<Ask<Job<F>>>
+        requires { self.old.at < length self.old.deck.statements }
+        ensures asks { (files : Files) (t : Turn) → IsTurn F.told F.bytes self.old.deck.variables (rest_of self.old) files self.old.state turned t
+            → IfSome result (λ ask. IsAsked F.told F.bytes files self.new ask (by_turn (drop (self.old.at + 1) (stated self.old.deck.statements)) t)) }
+        ensures passes { (files : Files) (t : Turn) → IsTurn F.told F.bytes self.old.deck.variables (rest_of self.old) files self.old.state turned t
+            → IfNone result ((self.new.state.stage ≡ Stage.Start) × (by_turn (drop (self.old.at + 1) (stated self.old.deck.statements)) t
+                ≡ goes (rest_of self.new) (run_at files self.new Start))) }
+        ensures at { IfNone result (self.new.at ≡ self.old.at + 1) }
+        ensures deck { self.new.deck ≡ self.old.deck }
+        ensures state { self.new.state ≡ self.old.state }
+        ensures tally { self.new.tally ≡ self.old.tally }
+        ensures kept { self.new.kept ≡ self.old.kept }
+    {
+        match turned {
+            Turned::Pauses(ask) => Some(ask),
+            Turned::Passes => {
+                let _count = self.deck.statements.len();
+                self.at += 1;
+                None
+            }
+            Turned::Stops => Some(Ask::Finished),
+        }
+    }
+
+    /// Begins the statement at hand.
+    fn begin_next<W: Sink, D: Disk<File = F>>(
+        &mut self,
+        alloc: Global,
+        disk: &mut D,
+        out: &mut W,
+    ) -> Result<Option<Ask<Job<F>>>, Lost>
+        requires names { D.tells disk.old → AreInUse self.old.state.core.names (D.held disk.old).in_use }
+        requires at { self.old.at < length self.old.deck.statements }
+        ensures asks { D.tells disk.old → IfOk result (λ o. IfSome o (λ ask. IsAsked F.told F.bytes (files_of (D.held disk.new)) self.new ask
+            (goes (rest_of self.old) (run_at (files_of (D.held disk.old)) self.old Start)))) }
+        ensures passes { D.tells disk.old → IfOk result (λ o. IfNone o ((self.new.state.stage ≡ Stage.Start)
+            × (goes (rest_of self.old) (run_at (files_of (D.held disk.old)) self.old Start) ≡ goes (rest_of self.new) (run_at (files_of (D.held disk.new)) self.new Start)))) }
+        ensures at { IfOk result (λ o. IfNone o (self.new.at ≡ self.old.at + 1)) }
+        ensures steps { Steps W.tells W.taken W.count D.tells D.held D.count out.old disk.old self.old.state.core result out.new disk.new self.new.state.core }
+        ensures deck { self.new.deck ≡ self.old.deck }
+        ensures tally { self.new.tally ≡ self.old.tally }
+        ensures kept { self.new.kept ≡ self.old.kept }
+    {
+        let lined = &self.deck.statements.as_slice()[self.at];
+        match self.state.start(alloc, &self.deck.variables, lined, disk, out) {
+            Ok(turned) => Ok(self.asked_by(turned)),
+            Err(lost) => Err(lost),
+        }
+    }
+
+    /// Carries out statements from the one at hand on until one asks.
+    fn go<W: Sink, D: Disk<File = F>>(
+        &mut self,
+        alloc: Global,
+        disk: &mut D,
+        out: &mut W,
+    ) -> Result<Ask<Job<F>>, Lost>
+        requires names { D.tells disk.old → AreInUse self.old.state.core.names (D.held disk.old).in_use }
+        ensures asks { D.tells disk.old → self.old.state.stage ≡ Stage.Start → IfOk result (λ ask. IsAsked F.told F.bytes (files_of (D.held disk.new)) self.new ask
+            (goes (rest_of self.old) (run_at (files_of (D.held disk.old)) self.old Start))) }
+        ensures steps { Steps W.tells W.taken W.count D.tells D.held D.count out.old disk.old self.old.state.core result out.new disk.new self.new.state.core }
+        ensures deck { self.new.deck ≡ self.old.deck }
+        ensures tally { self.new.tally ≡ self.old.tally }
+        ensures kept { self.new.kept ≡ self.old.kept }
+    {
+        while self.at < self.deck.statements.len() {
+            let asked = match self.begin_next(alloc, disk, out) {
+                Ok(asked) => asked,
+                Err(lost) => return Err(lost),
+            };
+            if let Some(ask) = asked {
+                return Ok(ask);
+            }
+        }
+        Ok(Ask::Finished)
+    }
+
+    /// What a turn comes to: its ask, or that of the statements behind it.
+    fn ask_or_go<W: Sink, D: Disk<File = F>>(
+        &mut self,
+        turned: Turned<F>,
+        alloc: Global,
+        disk: &mut D,
+        out: &mut W,
+    ) -> Result<Ask<Job<F>>, Lost>
+        requires names { D.tells disk.old → AreInUse self.old.state.core.names (D.held disk.old).in_use }
+        requires at { self.old.at < length self.old.deck.statements }
+        ensures asks { D.tells disk.old → (t : Turn) → IsTurn F.told F.bytes self.old.deck.variables (rest_of self.old) (files_of (D.held disk.old)) self.old.state turned t
+            → IfOk result (λ ask. IsAsked F.told F.bytes (files_of (D.held disk.new)) self.new ask (by_turn (drop (self.old.at + 1) (stated self.old.deck.statements)) t)) }
+        ensures steps { Steps W.tells W.taken W.count D.tells D.held D.count out.old disk.old self.old.state.core result out.new disk.new self.new.state.core }
+        ensures deck { self.new.deck ≡ self.old.deck }
+        ensures tally { self.new.tally ≡ self.old.tally }
+        ensures kept { self.new.kept ≡ self.old.kept }
+    {
+        match self.asked_by(turned) {
+            Some(ask) => Ok(ask),
+            None => self.go(alloc, disk, out),
+        }
+    }
+
+    /// What the deck asks next.
+    pub(crate) fn next_ask<W: Sink, D: Disk<File = F>>(
+        &mut self,
+        alloc: Global,
+        disk: &mut D,
+        out: &mut W,
+    ) -> Result<Ask<Job<F>>, Lost>
+        requires names { D.tells disk.old → AreInUse self.old.state.core.names (D.held disk.old).in_use }
+        ensures asks { D.tells disk.old → (r : Run) → run_of F.told F.bytes (files_of (D.held disk.old)) self.old ≡ Some r
+            → IfOk result (λ ask. IsAsked F.told F.bytes (files_of (D.held disk.new)) self.new ask (asked r)) }
+        ensures steps { Steps W.tells W.taken W.count D.tells D.held D.count out.old disk.old self.old.state.core result out.new disk.new self.new.state.core }
+        ensures deck { self.new.deck ≡ self.old.deck }
+        ensures tally { self.new.tally ≡ self.old.tally }
+        ensures kept { self.new.kept ≡ self.old.kept }
+    {
+        if self.state.ending.is_some() || self.at >= self.deck.statements.len() {
+            return Ok(Ask::Finished);
+        }
+        let lined = &self.deck.statements.as_slice()[self.at];
+        match self.state.turn(alloc, &self.deck.variables, lined, disk, out) {
+            Ok(turned) => self.ask_or_go(turned, alloc, disk, out),
+            Err(lost) => Err(lost),
+        }
+    }
+}

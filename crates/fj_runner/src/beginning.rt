@@ -1,0 +1,224 @@
+// How a statement begins: prohibitions, then the transfers that it waits for are settled and told.
+ghost use Rattle.std.specs.Prelude.{◌≡◌, List, ◌∷◌, not, filter, true, Some, IfOk, OnOk};
+ghost use Rattle.fj_items.specs.Kinds.{kinds_of};
+ghost use Rattle.fj_store.specs.Storage.{values_of};
+ghost use Rattle.fj_plain.specs.State.{Entry, Files};
+ghost use Rattle.fj_statement.specs.declared.deck.Variable.{Variable};
+ghost use Rattle.fj_plain.specs.Statement.{Stated, control_by};
+ghost use Rattle.fj_plain.specs.Telling.{waited_in, condition_of, tells_id};
+ghost use Rattle.fj_desk.specs.Core.{unit_named};
+ghost use Rattle.fj_desk.specs.Desking.{told_core};
+ghost use Rattle.fj_turns.specs.Run.{Stage as PlainStage};
+ghost use Rattle.fj_turns.specs.Turns.{settles, turn_tell, turn_wait, turn_start};
+ghost use Rattle.fj_pending.specs.Asks.{IsUnitAsked};
+ghost use Rattle.fj_pending.specs.Plain.{held, entries};
+ghost use Rattle.fj_pending.specs.Waits.{waited_of};
+ghost use Rattle.fj_units.specs.Names.{AreInUse};
+ghost use Rattle.fj_acts.specs.State.{core_of};
+ghost use Rattle.fj_units.specs.Files.{files_of};
+ghost use Rattle.fj_runner.specs.Machine.{run_in, stage_of};
+ghost use Rattle.fj_runner.specs.Passing.{are_passed, is_passed};
+ghost use Rattle.fj_runner.specs.Turned.{IsTurn};
+ghost use Rattle.fj_runner.specs.Stepping.{Keeps, Steps};
+
+use crate::ending::Ending;
+use crate::halted::halted_slots;
+use crate::stage::{Stage, put_stage};
+use crate::state::State;
+use crate::turned::Turned;
+use fj_acts::Core;
+use fj_units::Units;
+use fj_items::Lost;
+use fj_modes::Subject;
+use fj_outside::{Disk, FileStore, Sink};
+use fj_pending::{Whose, check, waits_for};
+use fj_statement::{Lined, Statement, Variables};
+use fj_value::Condition;
+use fj_world::Ask;
+use std::alloc::Global;
+
+/// The unit that the file of an INQUIRE is connected to.
+fn unit_asked(units: &Units, statement: &Statement) -> Option<u32>
+    ensures { IsUnitAsked result (unit_named units.now) statement.now }
+{
+    match statement {
+        Statement::Inquire {
+            about: Subject::File(name),
+            asked: _,
+            id: _,
+            iostat: _,
+        } => units.named(name),
+        _ => None,
+    }
+}
+
+/// Tells transfers at a line: their inputs are defined, and they are pending no more.
+fn tell_all(
+    alloc: Global,
+    variables: &Variables,
+    line: u32,
+    whose: Whose,
+    core: &mut Core,
+) -> Result<Condition, Lost>
+    requires { core.old.store.kinds ≡ kinds_of variables.now }
+    ensures condition { IfOk result (λ condition. condition ≡ condition_of (waited_of whose (entries core.old.pending))) }
+    ensures core { (files : Files) → OnOk result (core_of files core.new ≡ told_core variables.now line (waited_of whose (entries core.old.pending)) (core_of files core.old)) }
+    ensures left { OnOk result (held core.new.pending ≡ filter (λ h. not (tells_id (waited_of whose (entries core.old.pending)) h.pending.id)) (held core.old.pending)) }
+    ensures keeps { Keeps core.old result core.new }
+{
+    let told = core.pending.tell(
+        alloc,
+        whose,
+        line,
+        variables.as_slice(),
+        &mut core.store,
+        &mut core.tells,
+    );
+    match told {
+        Ok(condition) => Ok(condition),
+        Err(fj_pending::Lost::Memory(error)) => Err(Lost::Memory(error)),
+        Err(fj_pending::Lost::Unfit) => Err(Lost::Unfit),
+    }
+}
+
+impl<F: FileStore> State<F> {
+    /// Tells the transfers that the statement waits for, and goes on.
+    fn tell<W: Sink, D: Disk<File = F>>(
+        &mut self,
+        alloc: Global,
+        variables: &Variables,
+        lined: &Lined,
+        whose: Whose,
+        disk: &mut D,
+        out: &mut W,
+    ) -> Result<Turned<F>, Lost>
+        requires kinds { self.old.core.store.kinds ≡ kinds_of variables.now }
+        requires names { D.tells disk.old → AreInUse self.old.core.names (D.held disk.old).in_use }
+        ensures turn { D.tells disk.old → (more : List Stated) (stage : PlainStage)
+            → IfOk result (λ t. IsTurn F.told F.bytes variables.now ((lined.now, control_by lined.now.what) ∷ more) (files_of (D.held disk.new)) self.new t
+                (turn_tell (lined.now, control_by lined.now.what) (waited_of whose (entries self.old.core.pending))
+                    (run_in variables.now ((lined.now, control_by lined.now.what) ∷ more) (files_of (D.held disk.old)) self.old stage))) }
+        ensures steps { Steps W.tells W.taken W.count D.tells D.held D.count out.old disk.old self.old.core result out.new disk.new self.new.core }
+    {
+        put_stage(&mut self.stage, Stage::Start);
+        let units = self.core.units.as_slice();
+        let slots = match halted_slots(alloc, &self.core.pending, whose, units) {
+            Ok(slots) => slots,
+            Err(error) => return Err(Lost::Memory(error)),
+        };
+        match tell_all(alloc, variables, lined.line, whose, &mut self.core) {
+            Ok(condition) => {
+                self.resume(alloc, variables, lined, slots, 0, condition, disk, out)
+            }
+            Err(lost) => Err(lost),
+        }
+    }
+
+    /// Waits for the next answer of a slot.
+    pub(crate) fn settle(&mut self, slot: u32, stage: Stage<F>) -> Turned<F>
+        requires { is_passed self.old.core.pending stage ≡ true }
+        ensures turn { (variables : List Variable) (rest : List Stated) (files : Files) (before after : PlainStage)
+            → stage_of F.told F.bytes variables rest (core_of files self.old.core) stage ≡ Some after
+            → IsTurn F.told F.bytes variables rest files self.new result (settles slot after (run_in variables rest files self.old before)) }
+        ensures core { self.new.core ≡ self.old.core }
+    {
+        put_stage(&mut self.stage, stage);
+        self.due = slot;
+        Turned::Pauses(Ask::Settle { slot })
+    }
+
+    /// Waits for the answers of these transfers, from a place of them on; where all have theirs, tells them.
+    fn wait_for<W: Sink, D: Disk<File = F>>(
+        &mut self,
+        alloc: Global,
+        variables: &Variables,
+        lined: &Lined,
+        whose: Whose,
+        from: usize,
+        disk: &mut D,
+        out: &mut W,
+    ) -> Result<Turned<F>, Lost>
+        requires kinds { self.old.core.store.kinds ≡ kinds_of variables.now }
+        requires names { D.tells disk.old → AreInUse self.old.core.names (D.held disk.old).in_use }
+        requires whose { (es : List Entry) → waited_of whose es ≡ waited_in es (values_of self.old.core.store) lined.now.what }
+        requires from { are_passed self.old.core.pending whose from ≡ true }
+        ensures turn { D.tells disk.old → (more : List Stated) (stage : PlainStage)
+            → IfOk result (λ t. IsTurn F.told F.bytes variables.now ((lined.now, control_by lined.now.what) ∷ more) (files_of (D.held disk.new)) self.new t
+                (turn_wait (lined.now, control_by lined.now.what)
+                    (run_in variables.now ((lined.now, control_by lined.now.what) ∷ more) (files_of (D.held disk.old)) self.old stage))) }
+        ensures steps { Steps W.tells W.taken W.count D.tells D.held D.count out.old disk.old self.old.core result out.new disk.new self.new.core }
+    {
+        match self.core.pending.next_unsettled(whose, from) {
+            Some((from, slot)) => Ok(self.settle(slot, Stage::Waiting { whose, from })),
+            None => self.tell(alloc, variables, lined, whose, disk, out),
+        }
+    }
+
+    /// Waits for the answers of the transfers that the statement tells. Of those the ones before a place are known to have theirs.
+    pub(crate) fn wait<W: Sink, D: Disk<File = F>>(
+        &mut self,
+        alloc: Global,
+        variables: &Variables,
+        lined: &Lined,
+        known: Whose,
+        from: usize,
+        disk: &mut D,
+        out: &mut W,
+    ) -> Result<Turned<F>, Lost>
+        requires kinds { self.old.core.store.kinds ≡ kinds_of variables.now }
+        requires names { D.tells disk.old → AreInUse self.old.core.names (D.held disk.old).in_use }
+        requires passed { are_passed self.old.core.pending known from ≡ true }
+        ensures turn { D.tells disk.old → (more : List Stated) (stage : PlainStage)
+            → IfOk result (λ t. IsTurn F.told F.bytes variables.now ((lined.now, control_by lined.now.what) ∷ more) (files_of (D.held disk.new)) self.new t
+                (turn_wait (lined.now, control_by lined.now.what)
+                    (run_in variables.now ((lined.now, control_by lined.now.what) ∷ more) (files_of (D.held disk.old)) self.old stage))) }
+        ensures steps { Steps W.tells W.taken W.count D.tells D.held D.count out.old disk.old self.old.core result out.new disk.new self.new.core }
+    {
+        let whose = waits_for(&lined.what, &self.core.store);
+        let from = if whose == known { from } else { 0 };
+        self.wait_for(alloc, variables, lined, whose, from, disk, out)
+    }
+
+    /// Begins the statement: a prohibition that it breaks stops the deck.
+    pub(crate) fn start<W: Sink, D: Disk<File = F>>(
+        &mut self,
+        alloc: Global,
+        variables: &Variables,
+        lined: &Lined,
+        disk: &mut D,
+        out: &mut W,
+    ) -> Result<Turned<F>, Lost>
+        requires kinds { self.old.core.store.kinds ≡ kinds_of variables.now }
+        requires names { D.tells disk.old → AreInUse self.old.core.names (D.held disk.old).in_use }
+        ensures turn { D.tells disk.old → (more : List Stated) (stage : PlainStage)
+            → IfOk result (λ t. IsTurn F.told F.bytes variables.now ((lined.now, control_by lined.now.what) ∷ more) (files_of (D.held disk.new)) self.new t
+                (turn_start (lined.now, control_by lined.now.what)
+                    (run_in variables.now ((lined.now, control_by lined.now.what) ∷ more) (files_of (D.held disk.old)) self.old stage))) }
+        ensures steps { Steps W.tells W.taken W.count D.tells D.held D.count out.old disk.old self.old.core result out.new disk.new self.new.core }
+    {
+        let named = unit_asked(&self.core.units, &lined.what);
+        let broken = check(
+            alloc,
+            variables.as_slice(),
+            &self.core.store,
+            &self.core.pending,
+            named,
+            &lined.what,
+        );
+        let broken = match broken {
+            Ok(broken) => broken,
+            Err(error) => return Err(Lost::Memory(error)),
+        };
+        match broken {
+            None => self.wait(alloc, variables, lined, Whose::None, 0, disk, out),
+            Some(rule) => {
+                put_stage(&mut self.stage, Stage::Start);
+                self.ending = Some(Ending::Prohibited {
+                    line: lined.line,
+                    rule,
+                });
+                Ok(Turned::Stops)
+            }
+        }
+    }
+}

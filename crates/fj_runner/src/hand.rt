@@ -1,0 +1,8 @@
+// The ask at hand.
+/// The ask that is not answered.
+#[derive(Clone, Copy, Debug, PartialEq, Eq)]
+pub(crate) enum Hand {
+    Idle,
+    Submitting(u32),
+    Settling(u32),
+}

@@ -1,0 +1,116 @@
+// A runner that has not begun.
+ghost use Rattle.std.specs.Prelude.{◌≡◌, ◌*◌, ◌^◌, [], min, length, map, replicate, false, Some, None, IfOk};
+ghost use Rattle.fj_items.specs.Kinds.{kinds_of};
+ghost use Rattle.fj_desk.specs.Desking.{fresh};
+ghost use Rattle.fj_acts.specs.State.{core_of};
+ghost use Rattle.fj_plain.specs.State.{Files};
+ghost use Rattle.fj_plain.specs.Statement.{stated};
+ghost use Rattle.fj_turns.specs.Serving.{first_run};
+ghost use Rattle.fj_runner.specs.Machine.{run_of};
+ghost use Rattle.fj_runner.specs.Making.{shape_of};
+ghost use Rattle.fj_runner.specs.declared.hand.Hand.TheVariants.{Idle};
+
+use crate::hand::Hand;
+use crate::machine::Machine;
+use crate::stage::Stage;
+use crate::state::State;
+use crate::tally::Tally;
+use fj_acts::Core;
+use fj_units::{Names, Units};
+use fj_items::Output;
+use fj_outside::FileStore;
+use fj_pending::Pendings;
+use fj_statement::{Deck, Variable};
+use fj_store::Store;
+use fj_value::{Items, Kind};
+use std::alloc::{AllocError, Global};
+
+/// How many slots there are.
+const MOST_SLOTS: usize = 16;
+
+/// The shapes of variables.
+fn shapes(alloc: Global, variables: &[Variable]) -> Result<Vec<(Kind, u32)>, AllocError>
+    ensures { IfOk result (λ shapes. shapes.items ≡ map shape_of variables.now) }
+{
+    let mut shapes = Vec::new(alloc);
+    for at in 0..variables.len() {
+        let variable = &variables[at];
+        let count = if variable.count == 0 {
+            1
+        } else {
+            variable.count
+        };
+        shapes.push((variable.kind, count))?;
+    }
+    Ok(shapes)
+}
+
+/// What a deck with these variables begins with.
+fn first_core(alloc: Global, variables: &[Variable]) -> Result<Core, AllocError>
+    ensures core { IfOk result (λ core. (files : Files) → core_of files core ≡ (fresh variables.now files).core) }
+    ensures kinds { IfOk result (λ core. core.store.kinds ≡ kinds_of variables.now) }
+    ensures pending { IfOk result (λ core. core.pending ≡ []) }
+    ensures names { IfOk result (λ core. core.names ≡ []) }
+{
+    let shapes = shapes(alloc, variables)?;
+    Ok(Core {
+        store: Store::new(alloc, &shapes)?,
+        pending: Pendings::new(alloc, &shapes)?,
+        units: Units::new(alloc),
+        output: Output::new(alloc),
+        next: 1,
+        tells: Items::new(alloc),
+        names: Names::new(alloc),
+    })
+}
+
+/// So many asks may come at most of so many statements; a number that no run reaches, where there are very many.
+fn most_asks(statements: usize) -> u64
+    ensures { result ≡ min (256 * statements) (2 ^ 62) }
+{
+    (statements as u64).saturating_mul(256).min(1 << 62)
+}
+
+/// Nothing was asked.
+fn first_tally(alloc: Global, statements: usize) -> Result<Tally, AllocError>
+    ensures { IfOk result (λ tally. (tally.hand ≡ Idle) × (tally.over ≡ false) × (tally.stopped ≡ false) × (tally.lost ≡ None)
+        × (tally.left ≡ min (256 * statements) (2 ^ 62)) × (tally.owed.items ≡ replicate 16 0)) }
+{
+    Ok(Tally {
+        hand: Hand::Idle,
+        left: most_asks(statements),
+        owed: vec![in alloc; 0; MOST_SLOTS]?,
+        over: false,
+        stopped: false,
+        lost: None,
+    })
+}
+
+impl<F: FileStore> Machine<F> {
+    /// A runner of the deck that has not begun.
+    pub fn new(alloc: Global, deck: Deck) -> Result<Machine<F>, AllocError>
+        ensures run { IfOk result (λ m. (files : Files) → run_of F.told F.bytes files m ≡ Some (first_run deck.variables (stated deck.statements) files)) }
+        ensures tally { IfOk result (λ m. (m.tally.hand ≡ Idle) × (m.tally.over ≡ false) × (m.tally.stopped ≡ false) × (m.tally.lost ≡ None)
+            × (m.tally.left ≡ min (256 * length deck.statements) (2 ^ 62)) × (m.tally.owed.items ≡ replicate 16 0)) }
+        ensures names { IfOk result (λ m. m.state.core.names ≡ []) }
+        ensures deck { IfOk result (λ m. m.deck ≡ deck) }
+        ensures kept { IfOk result (λ m. m.kept ≡ None) }
+    {
+        let core = first_core(alloc, deck.variables.as_slice())?;
+        let tally = first_tally(alloc, deck.statements.len())?;
+        Ok(Machine {
+            deck,
+            state: State {
+                core,
+                sent: vec![in alloc; 0; MOST_SLOTS]?,
+                told: vec![in alloc; 0; MOST_SLOTS]?,
+                stage: Stage::Start,
+                due: 0,
+                ending: None,
+            },
+            at: 0,
+            tally,
+            kept: None,
+        })
+    }
+}

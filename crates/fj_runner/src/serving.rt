@@ -1,0 +1,177 @@
+// Asks that are made and answered.
+ghost use Rattle.std.specs.Prelude.{◌≡◌, ◌⊎◌, ◌<◌, ℕ, true, false, OnErr, OnOk, Some, None};
+ghost use Rattle.fj_bay.specs.Jobs.{Job as Task, Answer as Reply};
+ghost use Rattle.fj_bay.specs.Meaning.{bay_meaning};
+ghost use Rattle.fj_bay.specs.Plain.{task_of, reply_of};
+ghost use Rattle.fj_plain.specs.State.{Files};
+ghost use Rattle.fj_desk.specs.Desks.{Outcome};
+ghost use Rattle.fj_turns.specs.Run.{Run};
+ghost use Rattle.fj_turns.specs.Turns.{asked, told_of};
+ghost use Rattle.fj_units.specs.Names.{AreInUse};
+ghost use Rattle.fj_units.specs.Files.{files_of};
+ghost use Rattle.fj_world.specs.Conduct.{IsSubmitting, IsSettling, IsAnswer, is_done, owed_after_settle, owed_after_took};
+ghost use Rattle.fj_runner.specs.Admitting.{IsDue, IsAdmitted};
+ghost use Rattle.fj_runner.specs.Leaving.{Leaves, Rests};
+ghost use Rattle.fj_runner.specs.Machine.{run_of};
+ghost use Rattle.fj_runner.specs.Refused.{brought};
+ghost use Rattle.fj_runner.specs.Tallying.{due_of, first_lost, owed_at};
+ghost use Rattle.fj_runner.specs.Turned.{IsAsked};
+ghost use Rattle.fj_runner.specs.declared.hand.Hand.TheVariants.{Idle};
+
+use crate::machine::Machine;
+use fj_bay::{Answer, Bay, Job};
+use fj_items::Lost;
+use fj_outside::{Disk, FileStore, Sink};
+use fj_slot::{Refused, Told};
+use fj_world::Ask;
+use std::alloc::Global;
+
+impl<F: FileStore> Machine<F> {
+    /// Keeps the connection of a job that was refused.
+    fn keep(&mut self, job: Job<F>)
+        requires over { self.old.tally.over ≡ true }
+        requires none { self.old.kept ≡ None }
+        ensures kept { self.new.kept ≡ brought job }
+        ensures state { self.new.state ≡ self.old.state }
+        ensures at { self.new.at ≡ self.old.at }
+        ensures tally { self.new.tally ≡ self.old.tally }
+        ensures deck { self.new.deck ≡ self.old.deck }
+    {
+        if let Job::Attach(brought) = job {
+            self.kept = brought;
+        }
+    }
+
+    /// Gives up, where an ask may not be asked.
+    fn refuse(&mut self, ask: Ask<Job<F>>)
+        requires idle { self.old.tally.hand ≡ Idle }
+        requires none { self.old.kept ≡ None }
+        ensures due { IsDue self.old.tally (Ask.Finished {Job F}) self.new.tally }
+        ensures over { self.new.tally.over ≡ true }
+        ensures lost { self.new.tally.lost ≡ first_lost self.old.tally.lost Lost.Unfit }
+        ensures state { self.new.state ≡ self.old.state }
+        ensures at { self.new.at ≡ self.old.at }
+        ensures deck { self.new.deck ≡ self.old.deck }
+    {
+        self.tally.lose(Lost::Unfit);
+        if let Ask::Submit { slot: _, job } = ask {
+            self.keep(job);
+        }
+    }
+
+    /// Asks, where that may be asked; else it is given up.
+    fn admit(&mut self, ask: Ask<Job<F>>) -> Ask<Job<F>>
+        requires idle { self.old.tally.hand ≡ Idle }
+        requires going { self.old.tally.over ≡ false }
+        ensures due { IsDue self.old.tally result self.new.tally }
+        ensures admitted { IsAdmitted self.old.tally ask result self.new.tally }
+        ensures state { self.new.state ≡ self.old.state }
+        ensures at { self.new.at ≡ self.old.at }
+        ensures deck { self.new.deck ≡ self.old.deck }
+    {
+        let may = match &ask {
+            Ask::Submit { slot, job: _ } => self.tally.may_submit(*slot),
+            Ask::Settle { slot } => self.tally.may_settle(*slot),
+            Ask::Finished => true,
+        };
+        if may {
+            return ask;
+        }
+        self.refuse(ask);
+        Ask::Finished
+    }
+
+    /// Asks what the deck asks next, unless it is over.
+    pub(crate) fn ask<W: Sink, D: Disk<File = F>>(
+        &mut self,
+        alloc: Global,
+        disk: &mut D,
+        out: &mut W,
+    ) -> Ask<Job<F>>
+        requires idle { self.old.tally.hand ≡ Idle }
+        requires names { D.tells disk.old → AreInUse self.old.state.core.names (D.held disk.old).in_use }
+        ensures due { IsDue self.old.tally result self.new.tally }
+        ensures rests { self.old.tally.over ≡ true → (self.new ≡ self.old) × (disk.new ≡ disk.old) }
+        ensures asks { D.tells disk.old → (r : Run) → run_of F.told F.bytes (files_of (D.held disk.old)) self.old ≡ Some r → self.new.tally.over ≡ false
+            → IsAsked F.told F.bytes (files_of (D.held disk.new)) self.new result (asked r) }
+        ensures names { D.tells disk.old → AreInUse self.new.state.core.names (D.held disk.new).in_use }
+        ensures leaves { Leaves W.tells W.taken W.count D.tells D.count out.old disk.old self.old out.new disk.new self.new }
+    {
+        if self.tally.over {
+            return Ask::Finished;
+        }
+        match self.next_ask(alloc, disk, out) {
+            Ok(ask) => self.admit(ask),
+            Err(lost) => {
+                self.tally.lose(lost);
+                Ask::Finished
+            }
+        }
+    }
+
+    /// Its job was submitted, or refused.
+    pub(crate) fn take_number(&mut self, number: Result<u64, Refused<Job<F>>>)
+        requires { IsSubmitting (due_of self.old.tally.hand) }
+        ensures hand { self.new.tally.hand ≡ Idle }
+        ensures left { self.new.tally.left < self.old.tally.left }
+        ensures owed { (slot : ℕ) → owed_at self.new.tally.owed.items slot ≡ owed_after_took (due_of self.old.tally.hand) number (owed_at self.old.tally.owed.items) slot }
+        ensures over { self.old.tally.over ≡ true → self.new.tally.over ≡ true }
+        ensures refused { OnErr number (self.new.tally.over ≡ true) }
+        ensures stopped { self.new.tally.stopped ≡ self.old.tally.stopped }
+        ensures state { self.new.state ≡ self.old.state }
+        ensures at { self.new.at ≡ self.old.at }
+        ensures rests { Rests self.old self.new }
+    {
+        match number {
+            Ok(_) => self.tally.submitted(),
+            Err(refused) => {
+                let Refused { job, error } = refused;
+                self.tally.refused(Lost::Memory(error));
+                self.keep(job);
+            }
+        }
+    }
+
+    /// Takes the answer that it waited for; where it is not due, it is given up.
+    fn take_answer(&mut self, job: Job<F>, answer: Answer)
+        requires { self.old.tally.hand ≡ Idle }
+        ensures told { (files : Files) (r : Run) (task : Task) → run_of F.told F.bytes files self.old ≡ Some r → task_of F.told F.bytes job ≡ Some task
+            → self.new.tally.over ≡ false → run_of F.told F.bytes files self.new ≡ Some (told_of r (task, reply_of answer)) }
+        ensures hand { self.new.tally.hand ≡ Idle }
+        ensures left { self.new.tally.left ≡ self.old.tally.left }
+        ensures owed { self.new.tally.owed ≡ self.old.tally.owed }
+        ensures over { self.old.tally.over ≡ true → self.new.tally.over ≡ true }
+        ensures stopped { self.new.tally.stopped ≡ self.old.tally.stopped }
+        ensures rests { Rests self.old self.new }
+    {
+        match self.state.answer(job, answer) {
+            Ok(()) => {}
+            Err(_) => self.tally.lose(Lost::Unfit),
+        }
+    }
+
+    /// Hears what became of the job that it waited for.
+    pub(crate) fn hear(&mut self, told: Told<Bay<F>>)
+        requires { IsSettling (due_of self.old.tally.hand) }
+        ensures hand { self.new.tally.hand ≡ Idle }
+        ensures left { self.new.tally.left < self.old.tally.left }
+        ensures owed { (slot : ℕ) → owed_at self.new.tally.owed.items slot ≡ owed_after_settle (due_of self.old.tally.hand) (owed_at self.old.tally.owed.items) slot }
+        ensures over { self.old.tally.over ≡ true → self.new.tally.over ≡ true }
+        ensures halts { is_done told ≡ false → (self.new.tally.over ≡ true) × (self.new.tally.stopped ≡ true) }
+        ensures stops { self.new.tally.stopped ≡ true → (is_done told ≡ false) × (self.new.state ≡ self.old.state) × (self.new.at ≡ self.old.at) }
+        ensures told { (files : Files) (r : Run) (reply : Outcome) → run_of F.told F.bytes files self.old ≡ Some r → self.new.tally.over ≡ false
+            → IsAnswer (bay_meaning F.told F.bytes F.count) told reply → run_of F.told F.bytes files self.new ≡ Some (told_of r reply) }
+        ensures rests { Rests self.old self.new }
+    {
+        self.tally.settled();
+        match told {
+            Told::Done { job, answer } => self.take_answer(job, answer),
+            Told::Stopped {
+                job: _,
+                stop: _,
+                before: _,
+                after: _,
+            } => self.tally.stop(),
+        }
+    }
+}

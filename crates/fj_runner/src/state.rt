@@ -1,0 +1,21 @@
+// What a deck came to, and where the statement at hand is.
+ghost use Rattle.std.specs.Prelude.{◌≡◌, true};
+ghost use Rattle.fj_runner.specs.Passing.{is_passed};
+
+use crate::ending::Ending;
+use crate::stage::Stage;
+use fj_acts::Core;
+use fj_outside::FileStore;
+
+/// What a deck came to, the stage of the statement at hand, and by slot how many jobs were given and how many of them were told.
+#[derive(Drop)]
+pub(crate) struct State<F: FileStore> {
+    pub(crate) core: Core,
+    pub(crate) sent: Vec<u64>,
+    pub(crate) told: Vec<u64>,
+    pub(crate) stage: Stage<F>,
+    /// The slot of the last Settle.
+    pub(crate) due: u32,
+    pub(crate) ending: Option<Ending>,
+    ghost passed: { is_passed core.pending stage ≡ true },
+}

@@ -1,0 +1,80 @@
+// A statement goes on from its stage.
+ghost use Rattle.std.specs.Prelude.{◌≡◌, List, ◌∷◌, Some, IfOk};
+ghost use Rattle.fj_items.specs.Kinds.{kinds_of};
+ghost use Rattle.fj_plain.specs.Statement.{Stated, control_by};
+ghost use Rattle.fj_turns.specs.Run.{Stage as PlainStage};
+ghost use Rattle.fj_turns.specs.Turns as turns;
+ghost use Rattle.fj_units.specs.Names.{AreInUse};
+ghost use Rattle.fj_acts.specs.State.{core_of};
+ghost use Rattle.fj_units.specs.Files.{files_of};
+ghost use Rattle.fj_runner.specs.Machine.{run_in, stage_of};
+ghost use Rattle.fj_runner.specs.Turned.{IsTurn};
+ghost use Rattle.fj_runner.specs.Stepping.{Steps};
+
+use crate::stage::Stage;
+use crate::state::State;
+use crate::turned::Turned;
+use fj_acts::{answered, given};
+use fj_items::Lost;
+use fj_outside::{Disk, FileStore, Sink};
+use fj_statement::{Lined, Variables};
+use std::alloc::Global;
+use std::mem;
+
+impl<F: FileStore> State<F> {
+    /// Goes on with the statement at hand from its stage.
+    pub(crate) fn turn<W: Sink, D: Disk<File = F>>(
+        &mut self,
+        alloc: Global,
+        variables: &Variables,
+        lined: &Lined,
+        disk: &mut D,
+        out: &mut W,
+    ) -> Result<Turned<F>, Lost>
+        requires kinds { self.old.core.store.kinds ≡ kinds_of variables.now }
+        requires names { D.tells disk.old → AreInUse self.old.core.names (D.held disk.old).in_use }
+        ensures turn { D.tells disk.old → (more : List Stated) (stage : PlainStage)
+            → stage_of F.told F.bytes variables.now ((lined.now, control_by lined.now.what) ∷ more) (core_of (files_of (D.held disk.old)) self.old.core) self.old.stage ≡ Some stage
+            → IfOk result (λ t. IsTurn F.told F.bytes variables.now ((lined.now, control_by lined.now.what) ∷ more) (files_of (D.held disk.new)) self.new t
+                (turns.turn (lined.now, control_by lined.now.what) stage
+                    (run_in variables.now ((lined.now, control_by lined.now.what) ∷ more) (files_of (D.held disk.old)) self.old stage))) }
+        ensures steps { Steps W.tells W.taken W.count D.tells D.held D.count out.old disk.old self.old.core result out.new disk.new self.new.core }
+    {
+        match mem::replace(&mut self.stage, Stage::Start) {
+            Stage::Start => self.start(alloc, variables, lined, disk, out),
+            Stage::Waiting { whose, from } => {
+                self.wait(alloc, variables, lined, whose, from, disk, out)
+            }
+            Stage::Resuming {
+                slots,
+                next,
+                condition,
+            } => self.resume(alloc, variables, lined, slots, next, condition, disk, out),
+            Stage::Going { next, number } => {
+                match given(alloc, variables, lined, next, number, &mut self.core) {
+                    Ok(doing) => self.act(variables, lined, doing),
+                    Err(lost) => Err(lost),
+                }
+            }
+            Stage::Awaiting { slot, number, then } => {
+                Ok(self.settle(slot, Stage::Awaiting { slot, number, then }))
+            }
+            Stage::Answered { then, job, answer } => {
+                let doing = answered(
+                    alloc,
+                    variables,
+                    lined,
+                    then,
+                    job,
+                    answer,
+                    &mut self.core,
+                    disk,
+                );
+                match doing {
+                    Ok(doing) => self.act(variables, lined, doing),
+                    Err(lost) => Err(lost),
+                }
+            }
+        }
+    }
+}

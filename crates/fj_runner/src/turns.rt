@@ -1,0 +1,170 @@
+// The turns of a statement once its transfers are told: each comes to an ask, passes on to the next statement, or stops at an ending.
+ghost use Rattle.std.specs.Prelude.{◌≡◌, ◌≢◌, List, ◌∷◌, true, Some, Err, IfOk, drop, map, get_or};
+ghost use Rattle.fj_statement.specs.declared.deck.Variable.{Variable};
+ghost use Rattle.fj_items.specs.Kinds.{kinds_of};
+ghost use Rattle.fj_bay.specs.Jobs.{Job as Task};
+ghost use Rattle.fj_bay.specs.Plain.{task_of};
+ghost use Rattle.fj_plain.specs.State.{Files};
+ghost use Rattle.fj_plain.specs.Statement.{Stated, control_by};
+ghost use Rattle.fj_desk.specs.Core.{Core as PlainCore};
+ghost use Rattle.fj_desk.specs.Doing.{Doing as PlainDoing};
+ghost use Rattle.fj_desk.specs.Acting.{doing};
+ghost use Rattle.fj_turns.specs.Run.{Stage as PlainStage, Held};
+ghost use Rattle.fj_turns.specs.Turns.{submits, turn_finish, turn_act, matched, ends_halts};
+ghost use Rattle.fj_pending.specs.Plain.{held};
+ghost use Rattle.fj_acts.specs.Doing.{IsDoing};
+ghost use Rattle.fj_units.specs.Names.{AreInUse};
+ghost use Rattle.fj_acts.specs.State.{core_of};
+ghost use Rattle.fj_units.specs.Files.{files_of};
+ghost use Rattle.fj_runner.specs.Machine.{run_in, stage_of};
+ghost use Rattle.fj_runner.specs.Passing.{is_passed};
+ghost use Rattle.fj_runner.specs.Turned.{IsTurn};
+ghost use Rattle.fj_runner.specs.Stepping.{Keeps, Steps};
+
+use crate::ending::{ended_by, iostat_of};
+use crate::stage::{Stage, put_stage};
+use crate::state::State;
+use crate::turned::Turned;
+use fj_acts::{Doing, begin};
+use fj_bay::Job;
+use fj_items::{Lost, set_number};
+use fj_outside::{Disk, FileStore, Sink};
+use fj_statement::{Lined, Variables};
+use fj_value::{Condition, Items};
+use fj_world::Ask;
+use std::alloc::Global;
+
+impl<F: FileStore> State<F> {
+    /// Gives a job to a slot, and counts it.
+    pub(crate) fn submit(
+        &mut self,
+        slot: u32,
+        job: Job<F>,
+        stage: Stage<F>,
+    ) -> Result<Turned<F>, Lost>
+        requires { is_passed self.old.core.pending stage ≡ true }
+        ensures turn { (variables : List Variable) (rest : List Stated) (files : Files) (task : Task) (before after : PlainStage) → task_of F.told F.bytes job ≡ Some task
+            → stage_of F.told F.bytes variables rest (core_of files self.old.core) stage ≡ Some after
+            → IfOk result (λ t. IsTurn F.told F.bytes variables rest files self.new t (submits slot task after (run_in variables rest files self.old before))) }
+        ensures core { self.new.core ≡ self.old.core }
+        ensures causes { (result ≢ Err Lost.Disk) × (result ≢ Err Lost.Sink) }
+    {
+        let at = slot as usize;
+        if at >= self.sent.len() {
+            return Err(Lost::Unfit);
+        }
+        let Some(further) = self.sent[at].checked_add(1) else {
+            return Err(Lost::Unfit);
+        };
+        self.sent[at] = further;
+        put_stage(&mut self.stage, stage);
+        Ok(Turned::Pauses(Ask::Submit { slot, job }))
+    }
+
+    /// The number that the next job of a slot gets.
+    fn number_at(&self, slot: u32) -> u64
+        ensures { result ≡ get_or self.now.sent.items slot 0 }
+    {
+        match self.sent.get(slot as usize) {
+            Some(count) => *count,
+            None => 0,
+        }
+    }
+
+    /// Sets IOSTAT=, and ends the statement.
+    fn finish(
+        &mut self,
+        variables: &Variables,
+        lined: &Lined,
+        condition: Condition,
+    ) -> Result<Turned<F>, Lost>
+        requires { self.old.core.store.kinds ≡ kinds_of variables.now }
+        ensures turn { (more : List Stated) (files : Files) (core : PlainCore) (book : List Held) (stage : PlainStage)
+            → held self.old.core.pending ≡ matched (map (λ (h : Held). h.pending) (held self.old.core.pending)) book
+            → IfOk result (λ t. IsTurn F.told F.bytes variables.now ((lined.now, control_by lined.now.what) ∷ more) files self.new t
+                (turn_finish (lined.now, control_by lined.now.what) (core_of files self.old.core) condition
+                    (record (run_in variables.now ((lined.now, control_by lined.now.what) ∷ more) files self.old stage) { core = core; book = book }))) }
+        ensures keeps { Keeps self.old.core result self.new.core }
+    {
+        put_stage(&mut self.stage, Stage::Start);
+        let iostat = iostat_of(&lined.what);
+        let code = i64::from(condition.code());
+        if set_number(variables, &mut self.core.store, iostat, code).is_err() {
+            return Err(Lost::Unfit);
+        }
+        match ended_by(lined.line, &lined.what, condition) {
+            None => Ok(Turned::Passes),
+            Some(ending) => {
+                self.ending = Some(ending);
+                Ok(Turned::Stops)
+            }
+        }
+    }
+
+    /// Does what the statement does next.
+    pub(crate) fn act(
+        &mut self,
+        variables: &Variables,
+        lined: &Lined,
+        doing: Doing<F>,
+    ) -> Result<Turned<F>, Lost>
+        requires { self.old.core.store.kinds ≡ kinds_of variables.now }
+        ensures turn { (more : List Stated) (files : Files) (core : PlainCore) (book : List Held) (stage : PlainStage) (plain : PlainDoing)
+            → held self.old.core.pending ≡ matched (map (λ (h : Held). h.pending) (held self.old.core.pending)) book
+            → IsDoing F.told F.bytes variables.now (lined.now, control_by lined.now.what) (core_of files self.old.core) doing plain
+            → IfOk result (λ t. IsTurn F.told F.bytes variables.now ((lined.now, control_by lined.now.what) ∷ more) files self.new t
+                (turn_act (lined.now, control_by lined.now.what) plain
+                    (record (run_in variables.now ((lined.now, control_by lined.now.what) ∷ more) files self.old stage) { core = core; book = book }))) }
+        ensures keeps { Keeps self.old.core result self.new.core }
+    {
+        match doing {
+            Doing::Finishes(condition) => self.finish(variables, lined, condition),
+            Doing::Gives { slot, job, next } => {
+                let number = self.number_at(slot);
+                self.submit(slot, job, Stage::Going { next, number })
+            }
+            Doing::Awaits { slot, job, then } => {
+                let number = self.number_at(slot);
+                self.submit(slot, job, Stage::Awaiting { slot, number, then })
+            }
+        }
+    }
+
+    /// Ends the halts at these slots from a place on, one after another, and then does what is the statement's own.
+    pub(crate) fn resume<W: Sink, D: Disk<File = F>>(
+        &mut self,
+        alloc: Global,
+        variables: &Variables,
+        lined: &Lined,
+        slots: Items<u32>,
+        next: usize,
+        condition: Condition,
+        disk: &mut D,
+        out: &mut W,
+    ) -> Result<Turned<F>, Lost>
+        requires kinds { self.old.core.store.kinds ≡ kinds_of variables.now }
+        requires names { D.tells disk.old → AreInUse self.old.core.names (D.held disk.old).in_use }
+        ensures turn { D.tells disk.old → (more : List Stated) (stage : PlainStage)
+            → IfOk result (λ t. IsTurn F.told F.bytes variables.now ((lined.now, control_by lined.now.what) ∷ more) (files_of (D.held disk.new)) self.new t
+                (turn_act (lined.now, control_by lined.now.what)
+                    (ends_halts (drop next slots) (core_of (files_of (D.held disk.old)) self.old.core)
+                        (doing (control_by lined.now.what) variables.now lined.now.line (core_of (files_of (D.held disk.old)) self.old.core) lined.now.what condition))
+                    (run_in variables.now ((lined.now, control_by lined.now.what) ∷ more) (files_of (D.held disk.old)) self.old stage))) }
+        ensures steps { Steps W.tells W.taken W.count D.tells D.held D.count out.old disk.old self.old.core result out.new disk.new self.new.core }
+    {
+        if let Some(slot) = slots.get(next) {
+            let slot = *slot;
+            let stage = Stage::Resuming {
+                slots,
+                next: next + 1,
+                condition,
+            };
+            return self.submit(slot, Job::Resume, stage);
+        }
+        put_stage(&mut self.stage, Stage::Start);
+        match begin(alloc, variables, lined, condition, &mut self.core, disk, out) {
+            Ok(doing) => self.act(variables, lined, doing),
+            Err(lost) => Err(lost),
+        }
+    }
+}
