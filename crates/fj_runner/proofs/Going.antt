@@ -1,5 +1,5 @@
 -- Statements that are carried out one after another, none of which asks.
-use Rattle.std.proofs.Common.{◌≡◌, ℕ, List, Result, Ok, refl, sym, ap, ◌∙◌}
+use Rattle.std.proofs.Common.{◌≡◌, ℕ, List, Option, Some, None, IfNone, refl, sym, ap, ◌∙◌}
 use Rattle.fj_outside.specs.Holdings.{Holdings}
 use Rattle.fj_outside.specs.declared.outside.FileStore.{Ghosts}
 use Rattle.fj_turns.specs.Run.{Start}
@@ -14,7 +14,7 @@ use Rattle.fj_runner.proofs.Stepping.{went, kept_steps, ok_keeps, then_steps, ok
 module _ {W D F : Type 0} {ghosts : Ghosts F} (tells_out : W → Type 0) (taken : W → List ℕ) (count_out : W → ℕ) (tells : D → Type 0) (held : D → Holdings) (count : D → ℕ) where
   -- what is asked from here on is what was to be asked
   pub record GoesOn (out : W) (disk : D) (m : Machine F ghosts) (out' : W) (disk' : D) (m' : Machine F ghosts) : Type 0 where
-    pub steps : Steps tells_out taken count_out tells held count out disk m.state.core (went tt) out' disk' m'.state.core
+    pub steps : Steps tells_out taken count_out tells held count out disk m.state.core (went (tt {0})) out' disk' m'.state.core
     pub goes : tells disk → m.state.stage ≡ stage.Start
         → (m'.state.stage ≡ stage.Start) × (goes (rest_of m) (run_at (files_of (held disk)) m Start) ≡ goes (rest_of m') (run_at (files_of (held disk')) m' Start))
     pub deck : m'.deck ≡ m.deck
@@ -23,7 +23,7 @@ module _ {W D F : Type 0} {ghosts : Ghosts F} (tells_out : W → Type 0) (taken 
 
   pub goes_none : (out : W) (disk : D) (m : Machine F ghosts) → GoesOn out disk m out disk m
   goes_none out disk m = record {
-    steps = kept_steps out disk m.state.core m.state.core (went tt) (ok_keeps m.state.core m.state.core tt refl);
+    steps = kept_steps out disk m.state.core m.state.core (went (tt {0})) (ok_keeps m.state.core m.state.core (tt {0}) refl);
     goes = λ t h. (h, refl);
     deck = refl;
     tally = refl;
@@ -35,10 +35,14 @@ module _ {W D F : Type 0} {ghosts : Ghosts F} (tells_out : W → Type 0) (taken 
       → (tells between → (m'.state.stage ≡ stage.Start) × (goes (rest_of half) (run_at (files_of (held between)) half Start) ≡ goes (rest_of m') (run_at (files_of (held disk')) m' Start)))
       → m'.deck ≡ half.deck → m'.tally ≡ half.tally → m'.kept ≡ half.kept → GoesOn out disk m out' disk' m'
   goes_more out mid out' disk between disk' m half m' x a b next deck tally kept = record {
-    steps = then_steps out mid out' disk between disk' m.state.core half.state.core m'.state.core tt (went tt) a.steps
-        (ok_steps mid out' between disk' half.state.core m'.state.core (went x) x tt refl b);
+    steps = then_steps out mid out' disk between disk' m.state.core half.state.core m'.state.core (tt {0}) (went (tt {0})) a.steps
+        (ok_steps mid out' between disk' half.state.core m'.state.core (went x) x (tt {0}) refl b);
     goes = λ t h. let k = next (a.steps.telling.0 t) in (k.0, (a.goes t h).1 ∙ k.1);
     deck = deck ∙ a.deck;
     tally = tally ∙ a.tally;
     kept = kept ∙ a.kept;
   }
+
+pub none_has : {X : Type 0} → (o : Option X) (P : Type 0) → o ≡ None → IfNone o P → P
+none_has None P e p = p
+none_has (Some x) P e p = cc

@@ -1,8 +1,10 @@
 pub mod Runs
 pub mod Stepping
 pub mod Passed
+pub mod Tallies
 pub mod NextAsks
 pub mod Going
+pub mod Scripting
 pub mod Lists
 pub mod Pauses
 pub mod Made

@@ -13,8 +13,10 @@ use Rattle.fj_turns.specs.Turns.{Turn, Pauses, Passes, Stops, Asked, turn, turn_
 use Rattle.fj_acts.specs.State.{core_of}
 use Rattle.fj_runner.specs.declared.ending.Ending.{Ending as CodeEnding}
 use Rattle.fj_runner.specs.Machine.{ending_of, stage_of, run_in, run_at, run_of, rest_of, stage_at}
-use Rattle.fj_runner.specs.Turned.{IsTask, Pausing, IsAsked}
+use Rattle.fj_runner.specs.Turned.{IsTask, Pausing, Stands, IsAsked}
 use Rattle.fj_runner.specs.declared.stage.Stage.TheVariants as stage
+use Rattle.fj_statement.specs.declared.deck.Variable.{Variable}
+use Rattle.fj_runner.specs.declared.state.State.{State}
 use Rattle.fj_runner.specs.declared.machine.Machine.{Machine}
 use Rattle.fj_runner.proofs.Runs.{goes_with}
 
@@ -111,3 +113,8 @@ module _ {F : Type 0} {ghosts : Ghosts F} (told : F → Bool) (bytes : F → Lis
     emptied : (rest : List Stated) (r : Run) → rest ≡ [] → r.rest ≡ rest → r ≡ (goes rest r).run
     emptied [] r e h = ap (λ rest. record r { rest = rest }) h
     emptied (st ∷ rest) r e h = cc
+
+-- a state that is that run
+pub stands_run : {F : Type 0} {ghosts : Ghosts F} → (told : F → Bool) (bytes : F → List ℕ) (variables : List Variable) (rest : List Stated) (files : Files) (s : State F ghosts) (r : Run)
+    → Stands told bytes variables rest files s r → option_map (run_in variables rest files s) (stage_of told bytes variables rest (core_of files s.core) s.stage) ≡ Some r
+stands_run told bytes variables rest files s r stands = ap (option_map (run_in variables rest files s)) stands.stage ∙ ap Some stands.run

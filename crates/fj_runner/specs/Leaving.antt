@@ -17,8 +17,8 @@ pub record Leaves {W D F : Type 0} {ghosts : Ghosts F} (tells_out : W → Type 0
   pub output : tells_out out → m'.tally.lost ≡ None → HandsOver (taken out) (taken out') m.state.core.output m'.state.core.output
   pub front : tells_out out → TakesMore (taken out) (taken out')
   -- a fault of the outside has its cause
-  pub disk : m'.tally.lost ≡ Some Disk → (m.tally.lost ≡ Some Disk) ⊎ Rose (count disk) (count disk')
-  pub sink : m'.tally.lost ≡ Some Sink → (m.tally.lost ≡ Some Sink) ⊎ Rose (count_out out) (count_out out')
+  pub of_disk : m'.tally.lost ≡ Some Disk → (m.tally.lost ≡ Some Disk) ⊎ Rose (count disk) (count disk')
+  pub of_sink : m'.tally.lost ≡ Some Sink → (m.tally.lost ≡ Some Sink) ⊎ Rose (count_out out) (count_out out')
   -- what was lost first stays
   pub first : IsSome m.tally.lost → m'.tally.lost ≡ m.tally.lost
   pub deck : m'.deck ≡ m.deck
@@ -27,14 +27,14 @@ pub record Leaves {W D F : Type 0} {ghosts : Ghosts F} (tells_out : W → Type 0
 pub record Rests {F : Type 0} {ghosts : Ghosts F} (m m' : Machine F ghosts) : Type 0 where
   pub names : m'.state.core.names ≡ m.state.core.names
   pub output : m'.state.core.output ≡ m.state.core.output
-  pub disk : m'.tally.lost ≡ Some Disk → m.tally.lost ≡ Some Disk
-  pub sink : m'.tally.lost ≡ Some Sink → m.tally.lost ≡ Some Sink
+  pub of_disk : m'.tally.lost ≡ Some Disk → m.tally.lost ≡ Some Disk
+  pub of_sink : m'.tally.lost ≡ Some Sink → m.tally.lost ≡ Some Sink
   pub first : IsSome m.tally.lost → m'.tally.lost ≡ m.tally.lost
   pub deck : m'.deck ≡ m.deck
 
 -- one call of a runner, whose sink, disk and machine go by these names: they are the same ones
-pub record Leads {N : Type 0} (out disk machine out' disk' machine' : N) (leaves : Type 0) : Type 0 where
+pub record Leads {N : Type 0} (out disk machine out' disk' machine' : N) (left_so : Type 0) : Type 0 where
   pub same_out : out' ≡ out
   pub same_disk : disk' ≡ disk
   pub same_machine : machine' ≡ machine
-  pub leaves : leaves
+  pub leaves : left_so

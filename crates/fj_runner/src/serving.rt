@@ -43,10 +43,11 @@ impl<F: FileStore> Machine<F> {
     }
 
     /// Gives up, where an ask may not be asked.
-    fn refuse(&mut self, ask: Ask<Job<F>>)
+    fn refuse(&mut self, ask: Ask<Job<F>>) -> Ask<Job<F>>
         requires idle { self.old.tally.hand ≡ Idle }
         requires none { self.old.kept ≡ None }
-        ensures due { IsDue self.old.tally (Ask.Finished {Job F}) self.new.tally }
+        ensures due { IsDue self.old.tally result self.new.tally }
+        ensures finished { result ≡ Ask.Finished }
         ensures over { self.new.tally.over ≡ true }
         ensures lost { self.new.tally.lost ≡ first_lost self.old.tally.lost Lost.Unfit }
         ensures state { self.new.state ≡ self.old.state }
@@ -57,6 +58,7 @@ impl<F: FileStore> Machine<F> {
         if let Ask::Submit { slot: _, job } = ask {
             self.keep(job);
         }
+        Ask::Finished
     }
 
     /// Asks, where that may be asked; else it is given up.
@@ -77,8 +79,7 @@ impl<F: FileStore> Machine<F> {
         if may {
             return ask;
         }
-        self.refuse(ask);
-        Ask::Finished
+        self.refuse(ask)
     }
 
     /// Asks what the deck asks next, unless it is over.

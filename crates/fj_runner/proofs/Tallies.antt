@@ -1,0 +1,20 @@
+-- The ask at hand, and whether it is over.
+use Rattle.std.proofs.Common.{◌≡◌, ℕ, Bool, true, false, List, refl}
+use Rattle.fj_world.specs.Conduct.{IsSubmitting, IsSettling}
+use Rattle.fj_runner.specs.Tallying.{due_of, MaySubmit, MaySettle}
+use Rattle.fj_runner.specs.declared.hand.Hand.{Hand}
+use Rattle.fj_runner.specs.declared.hand.Hand.TheVariants.{Idle, Submitting, Settling}
+
+pub settling_runs : (hand : Hand) (over : Bool) (left : ℕ) (owed : List ℕ) → MaySettle hand over left owed → IsSettling (due_of hand) → over ≡ false
+settling_runs Idle over left owed may s = absurd s
+settling_runs (Submitting slot) over left owed may s = absurd s
+settling_runs (Settling slot) over left owed may s = (may slot refl).0
+
+pub submitting_runs : (hand : Hand) (over : Bool) (left : ℕ) → MaySubmit hand over left → IsSubmitting (due_of hand) → over ≡ false
+submitting_runs Idle over left may s = absurd s
+submitting_runs (Submitting slot) over left may s = (may slot refl).0
+submitting_runs (Settling slot) over left may s = absurd s
+
+pub not_both : (b : Bool) → b ≡ true → b ≡ false → ⊥
+not_both true t f = cc
+not_both false t f = cc
