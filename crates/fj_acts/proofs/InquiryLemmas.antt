@@ -409,6 +409,10 @@ answered_is variables s new cells asked about p kinds suits is alike back =
     back_is variables s new cells kinds (subst (λ cs. All (CellFits variables) cs) (sym is) (cells_fit variables about asked suits)) back
     ∙ ap (λ cs. given_back cs (values_of s)) (is ∙ cells_same variables about p asked alike suits)
 
+-- they come behind none
+pub alone : (out old due : List Cell) → out ≡ old ++ due → old ≡ [] → out ≡ due
+alone out old due is none = is ∙ ap (λ cells. cells ++ due) none
+
 -- ---- pending transfers
 
 meant_of_unit : (hs : List Held) (n : ℕ) → list_any (is_meant n None) hs ≡ has_pending (holders hs) (Some n) None

@@ -1,18 +1,22 @@
 -- Places of runs, each once.
-use Rattle.std.proofs.Common.{◌≡◌, ℕ, zero, suc, ◌+◌, ◌-◌, ◌<◌, ◌≤◌, length, take, get_or, Result, Ok, Err, IfOk, ◌||◌, ◌&&◌, not, inl, inr, Bool, true, false, List, [], ◌∷◌, ◌++◌, refl, sym, ap, subst, append_assoc, ◌∙◌, arith}
-use Rattle.std.specs.Prelude.{◌==◌, if◌then◌else◌, filter}
-use Rattle.std.specs.List.{list_any, flat_map}
-use Rattle.std.proofs.lemmas.List.Folds.{list_any-append}
+use Rattle.std.proofs.Common.{◌≡◌, ℕ, zero, suc, ◌+◌, ◌-◌, ◌<◌, ◌≤◌, ◌⊎◌, max, length, take, get_or, All, Result, Ok, Err, IfOk, ◌||◌, ◌&&◌, inl, inr, Bool, true, false, List, [], ◌∷◌, ◌++◌, refl, sym, ap, subst, append_assoc, append-nil, ◌∙◌, arith}
+use Rattle.std.specs.Prelude.{◌==◌, min, nat_lt, if◌then◌else◌}
+use Rattle.std.specs.List.{list_any, flat_map, sum_by}
+use Rattle.std.specs.List.Sorted.{IsNonDecreasingBy, IsPermutation}
+use Rattle.std.specs.declared.alloc.AllocError.{AllocError}
+use Rattle.std.proofs.lemmas.Bool.{eq-eqb, ne_eqb, eqb-true, lt-ltb}
 use Rattle.std.proofs.lemmas.Grind.{flat_map-append}
+use Rattle.std.proofs.lemmas.List.{take_more, get_or-take, get_or_default, length-take}
+use Rattle.std.proofs.lemmas.List.Elements.{All-head, All-tail}
+use Rattle.std.proofs.lemmas.List.Folds.{list_any-append}
+use Rattle.std.proofs.lemmas.List.Sorted.{sum_by-IsPermutation}
+use Rattle.std.proofs.lemmas.List.Sums.{sum_by-cons}
 use Rattle.fj_value.specs.declared.place.Place.{Place}
 use Rattle.fj_store.specs.declared.run.Run.{Run}
 use Rattle.fj_store.specs.Places.{same_place, is_among, has_twice, counted_from, places_of, places_in}
-use Rattle.std.specs.declared.alloc.AllocError.{AllocError}
-use Rattle.std.proofs.lemmas.List.{take_more}
 use Rattle.fj_store.proofs.StoreLemmas.{whole}
 use Rattle.fj_store.proofs.TableLemmas.{places_tell}
-use Rattle.fj_acts.specs.Places.{apart_from}
-use Rattle.std.proofs.lemmas.Bool.{eq-eqb, ne_eqb}
+use Rattle.fj_acts.specs.Places.{key_of, reached_at}
 
 clash : true ≡ false → ⊥
 clash e = cc
@@ -39,39 +43,6 @@ or_false : (a : Bool) → (a || false) ≡ a
 or_false true = refl
 or_false false = refl
 
-absorbs : (o r : Bool) → (o || (not o && r)) ≡ (o || r)
-absorbs true r = refl
-absorbs false r = refl
-
--- ---- places that others do not have
-
-apart_more : (others : List Place) (q : Place) (rest places : List Place) (p : Place) (b : Bool) (d : Bool) → same_place p q ≡ d → (d ≡ true → is_among others p ≡ b)
-    → is_among rest p ≡ (not (is_among others p) && is_among places p)
-    → is_among (if not b then q ∷ rest else rest) p ≡ (not (is_among others p) && (same_place p q || is_among places p))
-apart_more others q rest places p true true f same left =
-    left ∙ ap (λ o. not o && is_among places p) (same refl) ∙ sym (ap (λ o. not o && (same_place p q || is_among places p)) (same refl))
-apart_more others q rest places p false true f same left =
-    ap (λ x. x || is_among rest p) f ∙ sym (ap (λ x. x || is_among places p) f) ∙ sym (ap (λ o. not o && (same_place p q || is_among places p)) (same refl))
-apart_more others q rest places p true false f same left = left ∙ sym (ap (λ x. not (is_among others p) && (x || is_among places p)) f)
-apart_more others q rest places p false false f same left =
-    ap (λ x. x || is_among rest p) f ∙ left ∙ sym (ap (λ x. not (is_among others p) && (x || is_among places p)) f)
-
-among_apart : (others places : List Place) (p : Place) → is_among (apart_from others places) p ≡ (not (is_among others p) && is_among places p)
-among_apart others [] p = sym (and_false (not (is_among others p)))
-among_apart others (q ∷ places) p =
-    apart_more others q (apart_from others places) places p (is_among others q) (same_place p q) refl (λ t. ap (is_among others) (place_is p q t)) (among_apart others places p)
-
-once_more : (b : Bool) (q : Place) (rest : List Place) → is_among rest q ≡ false → has_twice rest ≡ false → has_twice (if not b then q ∷ rest else rest) ≡ false
-once_more true q rest new once = once
-once_more false q rest new once = ap (λ x. x || has_twice rest) new ∙ once
-
-apart_once : (others places : List Place) → has_twice places ≡ false → has_twice (apart_from others places) ≡ false
-apart_once others [] e = refl
-apart_once others (q ∷ places) e =
-    let both : (is_among places q ≡ false) × (has_twice places ≡ false) = parts (is_among places q) (has_twice places) e in
-    once_more (is_among others q) q (apart_from others places)
-    (among_apart others places q ∙ ap (λ x. not (is_among others q) && x) both.0 ∙ and_false (not (is_among others q))) (apart_once others places both.1)
-
 joined_once : (xs ys : List Place) → has_twice xs ≡ false → has_twice ys ≡ false → ((p : Place) → is_among xs p ≡ true → is_among ys p ≡ false) → has_twice (xs ++ ys) ≡ false
 joined_once [] ys h k apart = k
 joined_once (x ∷ xs) ys h k apart =
@@ -82,17 +53,17 @@ joined_once (x ∷ xs) ys h k apart =
 
 -- ---- the places of a run
 
-before : (var m first n : ℕ) → m < first → is_among (counted_from var first n) (record { var = var; index = m }) ≡ false
-before var m first zero h = refl
-before var m first (suc n) h =
+lesser_out : (var m first n : ℕ) → m < first → is_among (counted_from var first n) (record { var = var; index = m }) ≡ false
+lesser_out var m first zero h = refl
+lesser_out var m first (suc n) h =
     ap (λ b. ((var == var) && b) || is_among (counted_from var (first + 1) n) (record { var = var; index = m })) (ne_eqb m first (λ e. omega arith))
     ∙ ap (λ b. b || is_among (counted_from var (first + 1) n) (record { var = var; index = m })) (and_false (var == var))
-    ∙ before var m (first + 1) n (omega arith)
+    ∙ lesser_out var m (first + 1) n (omega arith)
 
 counted_once : (var first n : ℕ) → has_twice (counted_from var first n) ≡ false
 counted_once var first zero = refl
 counted_once var first (suc n) =
-    ap (λ b. b || has_twice (counted_from var (first + 1) n)) (before var first (first + 1) n (omega arith)) ∙ counted_once var (first + 1) n
+    ap (λ b. b || has_twice (counted_from var (first + 1) n)) (lesser_out var first (first + 1) n (omega arith)) ∙ counted_once var (first + 1) n
 
 -- ---- the places of runs
 
@@ -104,59 +75,237 @@ pub record AreOnce (runs : List Run) (places : List Place) : Type 0 where
 pub once_none : AreOnce [] []
 once_none = record { once = refl; same = λ p. refl }
 
-pub once_run : (runs : List Run) (run : Run) (places : List Place) → AreOnce runs places → AreOnce (runs ++ run ∷ []) (places ++ apart_from (places_in runs) (places_of run))
-once_run runs run places h = record {
-  once = joined_once places (apart_from (places_in runs) (places_of run)) h.once (apart_once (places_in runs) (places_of run) (counted_once run.var run.first run.count))
-      (λ p e. among_apart (places_in runs) (places_of run) p ∙ ap (λ o. not o && is_among (places_of run) p) (sym (h.same p) ∙ e));
-  same = λ p.
-      list_any-append (same_place p) places (apart_from (places_in runs) (places_of run))
-      ∙ ap (λ b. b || is_among (apart_from (places_in runs) (places_of run)) p) (h.same p)
-      ∙ ap (λ b. is_among (places_in runs) p || b) (among_apart (places_in runs) (places_of run) p)
-      ∙ absorbs (is_among (places_in runs) p) (is_among (places_of run) p)
-      ∙ sym (ap (λ l. is_among l p) (flat_map-append places_of runs (run ∷ []))
-      ∙ list_any-append (same_place p) (places_in runs) (places_in (run ∷ []))
-      ∙ ap (λ b. is_among (places_in runs) p || b) (list_any-append (same_place p) (places_of run) [] ∙ or_false (is_among (places_of run) p)));
+-- ---- which places a run has
+
+abbrev HasAt : ℕ → ℕ → ℕ → Place → Type 0
+HasAt var first n p = (p.var ≡ var) × (first ≤ p.index) × (p.index < first + n)
+
+in_counted_by : (var first n : ℕ) (p : Place) (b : Bool) → same_place p (record { var = var; index = first }) ≡ b → (is_among (counted_from var (first + 1) n) p ≡ true → HasAt var (first + 1) n p)
+    → (b || is_among (counted_from var (first + 1) n) p) ≡ true → HasAt var first (suc n) p
+in_counted_by var first n p true e rest t =
+    let is : p ≡ record { var = var; index = first } = place_is p (record { var = var; index = first }) e in
+    let index : p.index ≡ first = ap (λ (q : Place). q.index) is in
+    (ap (λ (q : Place). q.var) is, omega arith, omega arith)
+in_counted_by var first n p false e rest t =
+    let there : HasAt var (first + 1) n p = rest t in (there.0, omega (arith, there.1), omega (arith, there.2))
+
+in_counted : (var first n : ℕ) (p : Place) → is_among (counted_from var first n) p ≡ true → HasAt var first n p
+in_counted var first zero p t = absurd (clash (sym t))
+in_counted var first (suc n) p t = in_counted_by var first n p (same_place p (record { var = var; index = first })) refl (in_counted var (first + 1) n p) t
+
+counted_in_by : (var first n : ℕ) (p : Place) (b : Bool) → (p.index == first) ≡ b → (first + 1 ≤ p.index → is_among (counted_from var (first + 1) n) p ≡ true) → first ≤ p.index
+    → (b || is_among (counted_from var (first + 1) n) p) ≡ true
+counted_in_by var first n p true e rest low = refl
+counted_in_by var first n p false e rest low =
+    let other : p.index ≡ first → ⊥ = λ q. clash (sym (eq-eqb p.index first q) ∙ e) in rest (omega (arith, other, low))
+
+counted_in : (var first n : ℕ) (p : Place) → p.var ≡ var → first ≤ p.index → p.index < first + n → is_among (counted_from var first n) p ≡ true
+counted_in var first zero p v low high = absurd (omega arith)
+counted_in var first (suc n) p v low high =
+    ap (λ b. (b && (p.index == first)) || is_among (counted_from var (first + 1) n) p) (eq-eqb p.var var v)
+    ∙ counted_in_by var first n p (p.index == first) refl (λ more. counted_in var (first + 1) n p v more (omega arith)) low
+
+agree : (a b : Bool) → (a ≡ true → b ≡ true) → (b ≡ true → a ≡ true) → a ≡ b
+agree true b f g = sym (f refl)
+agree false true f g = g refl
+agree false false f g = refl
+
+either : (a b : Bool) → (a || b) ≡ true → (a ≡ true) ⊎ (b ≡ true)
+either true b e = inl refl
+either false b e = inr e
+
+front_of : (a b : Bool) → a ≡ true → (a || b) ≡ true
+front_of a b e = ap (λ x. x || b) e
+
+back_of : (a b : Bool) → b ≡ true → (a || b) ≡ true
+back_of a b e = ap (λ x. a || x) e ∙ behind a
+
+not_true : (b : Bool) → (b ≡ true → ⊥) → b ≡ false
+not_true true f = absurd (f refl)
+not_true false f = refl
+
+before_or : (a b : ℕ) → (a < b) ⊎ (b ≤ a)
+before_or a zero = inr (omega arith)
+before_or zero (suc b) = inl (omega arith)
+before_or (suc a) (suc b) = elim (before_or a b) [ inl low ↦ inl (omega (arith, low)) | inr high ↦ inr (omega (arith, high)) ]
+
+-- one run more
+in_more : (runs : List Run) (r : Run) (p : Place) → is_among (places_in (runs ++ r ∷ [])) p ≡ (is_among (places_in runs) p || is_among (places_of r) p)
+in_more runs r p =
+    ap (λ l. is_among l p) (flat_map-append places_of runs (r ∷ []))
+    ∙ list_any-append (same_place p) (places_in runs) (places_in (r ∷ []))
+    ∙ ap (λ b. is_among (places_in runs) p || b) (list_any-append (same_place p) (places_of r) [] ∙ or_false (is_among (places_of r) p))
+
+-- ---- runs in order
+
+-- behind runs, all places of lesser variables are in front of a run; those of its own variable end somewhere, and all in front of
+-- that end, from its first on, are there
+pub record IsDue (runs : List Run) (r : Run) (front : ℕ) : Type 0 where
+  pub below : (p : Place) → is_among (places_in runs) p ≡ true → (p.var < r.var) ⊎ ((p.var ≡ r.var) × (p.index < front))
+  pub covered : (p : Place) → p.var ≡ r.var → r.first ≤ p.index → p.index < front → is_among (places_in runs) p ≡ true
+
+-- the places of the runs are there, each once; and what is due to a run that comes behind them
+pub record AreGathered (runs : List Run) (var end : ℕ) (places : List Place) : Type 0 where
+  pub once : AreOnce runs places
+  pub due : (s : Run) → s.first < 4294967296 → All (λ (r : Run). key_of r ≤ key_of s) runs → IsDue runs s (reached_at var end s)
+
+-- of a run those that are not in front of that end
+once_more : (runs : List Run) (r : Run) (front skipped : ℕ) (before after : List Place) → AreOnce runs before → IsDue runs r front → skipped ≡ min (front - r.first) r.count
+    → after ≡ before ++ counted_from r.var (r.first + skipped) (r.count - skipped) → AreOnce (runs ++ r ∷ []) after
+once_more runs r front skipped before after h due is more =
+    let tail : List Place = counted_from r.var (r.first + skipped) (r.count - skipped) in
+    subst (AreOnce (runs ++ r ∷ [])) (sym more) (record {
+      once = joined_once before tail h.once (counted_once r.var (r.first + skipped) (r.count - skipped)) (λ p e. not_true (is_among tail p) (λ t. apart p (sym (h.same p) ∙ e) t));
+      same = λ p.
+          list_any-append (same_place p) before tail ∙ ap (λ b. b || is_among tail p) (h.same p)
+          ∙ agree (is_among (places_in runs) p || is_among tail p) (is_among (places_in runs) p || is_among (places_of r) p) (to p) (from p)
+          ∙ sym (in_more runs r p);
+    })
+  where
+    rest : List Place
+    rest = counted_from r.var (r.first + skipped) (r.count - skipped)
+
+    apart : (p : Place) → is_among (places_in runs) p ≡ true → is_among rest p ≡ true → ⊥
+    apart p e t =
+        let there = in_counted r.var (r.first + skipped) (r.count - skipped) p t in
+        elim (due.below p e) [ inl lesser ↦ omega (arith, there.0, lesser) | inr same ↦ omega (arith, there.1, there.2, same.1) ]
+
+    to : (p : Place) → (is_among (places_in runs) p || is_among rest p) ≡ true → (is_among (places_in runs) p || is_among (places_of r) p) ≡ true
+    to p t = elim (either (is_among (places_in runs) p) (is_among rest p) t) [
+      | inl old ↦ front_of (is_among (places_in runs) p) (is_among (places_of r) p) old
+      | inr new ↦
+          let there = in_counted r.var (r.first + skipped) (r.count - skipped) p new in
+          back_of (is_among (places_in runs) p) (is_among (places_of r) p) (counted_in r.var r.first r.count p there.0 (omega (arith, there.1)) (omega (arith, there.1, there.2)))
+    ]
+
+    from : (p : Place) → (is_among (places_in runs) p || is_among (places_of r) p) ≡ true → (is_among (places_in runs) p || is_among rest p) ≡ true
+    from p t = elim (either (is_among (places_in runs) p) (is_among (places_of r) p) t) [
+      | inl old ↦ front_of (is_among (places_in runs) p) (is_among rest p) old
+      | inr new ↦
+          let there = in_counted r.var r.first r.count p new in
+          elim (before_or p.index (r.first + skipped)) [
+            | inl low ↦
+                front_of (is_among (places_in runs) p) (is_among rest p) (due.covered p there.0 there.1 (omega (arith, there.1, there.2, low)))
+            | inr high ↦
+                back_of (is_among (places_in runs) p) (is_among rest p) (counted_in r.var (r.first + skipped) (r.count - skipped) p there.0 high (omega (arith, there.1, there.2, high)))
+          ]
+    ]
+
+-- the next run
+
+due_next : (runs : List Run) (r s : Run) (front : ℕ) → IsDue runs r front → r.first < 4294967296 → s.first < 4294967296 → key_of r ≤ key_of s
+    → IsDue (runs ++ r ∷ []) s (reached_at r.var (max front (r.first + r.count)) s)
+due_next runs r s front due small other_small order = by (s.var == r.var) refl
+  where
+    end : ℕ
+    end = max front (r.first + r.count)
+
+    ends : (p : Place) → is_among (places_in (runs ++ r ∷ [])) p ≡ true → (p.var < r.var) ⊎ ((p.var ≡ r.var) × (p.index < end))
+    ends p t = elim (either (is_among (places_in runs) p) (is_among (places_of r) p) (sym (in_more runs r p) ∙ t)) [
+      | inl old ↦ elim (due.below p old) [ inl lesser ↦ inl lesser | inr same ↦ inr (same.0, omega (arith, same.1)) ]
+      | inr new ↦ let there = in_counted r.var r.first r.count p new in inr (there.0, omega (arith, there.2))
+    ]
+
+    by : (b : Bool) → (s.var == r.var) ≡ b → IsDue (runs ++ r ∷ []) s (if b then end else 0)
+    by true e =
+        let same : s.var ≡ r.var = eqb-true s.var r.var e in
+        record {
+          below = λ p t. elim (ends p t) [ inl lesser ↦ inl (omega (arith, lesser)) | inr at ↦ inr (at.0 ∙ sym same, at.1) ];
+          covered = λ p v low high.
+              elim (before_or p.index (r.first + r.count)) [
+                | inl here ↦
+                    in_more runs r p ∙ back_of (is_among (places_in runs) p) (is_among (places_of r) p) (counted_in r.var r.first r.count p (v ∙ same) (omega (arith, low)) here)
+                | inr past ↦
+                    in_more runs r p
+                    ∙ front_of (is_among (places_in runs) p) (is_among (places_of r) p) (due.covered p (v ∙ same) (omega (arith, low)) (omega (arith, high, past)))
+              ];
+        }
+    by false e =
+        let other : s.var ≡ r.var → ⊥ = λ q. clash (sym (eq-eqb s.var r.var q) ∙ e) in
+        let less : r.var < s.var = omega (arith, other) in
+        record {
+          below = λ p t. elim (ends p t) [ inl lesser ↦ inl (omega (arith, lesser, less)) | inr at ↦ inl (omega (arith, at.0, less)) ];
+          covered = λ p v low high. absurd (omega (arith, high));
+        }
+
+pub gathered_none : (var : ℕ) → AreGathered [] var 0 []
+gathered_none var = record {
+  once = once_none;
+  due = λ s small below. record {
+    below = λ p t. absurd (clash (sym t));
+    covered = λ p v low high. absurd (none p s (s.var == var) high);
+  };
 }
+  where
+    none : (p : Place) (s : Run) (b : Bool) → p.index < (if b then 0 else 0) → ⊥
+    none p s true high = omega (arith, high)
+    none p s false high = omega (arith, high)
+
+lesser_keys : (runs : List Run) (i : ℕ) (r : Run) → i < length runs → r ≡ get_or runs i r → IsNonDecreasingBy key_of runs → All (λ (x : Run). key_of x ≤ key_of r) (take i runs)
+lesser_keys runs i r low is ascends = λ k d h.
+    let front : k < i = omega (arith, length-take i runs, h) in
+    let at : get_or (take i runs) k d ≡ get_or runs k d = get_or-take i runs k d front in
+    let last : get_or runs i d ≡ r = get_or_default runs i d r low ∙ sym is in
+    let up : key_of (get_or runs k d) ≤ key_of (get_or runs i d) = ascends k i d (omega arith) low in
+    subst (λ (x : Run). key_of (get_or (take i runs) k d) ≤ key_of x) last (subst (λ (x : Run). key_of x ≤ key_of (get_or runs i d)) (sym at) up)
+
+last_all : (P : Run → Type 0) (xs : List Run) (x : Run) → All P (xs ++ x ∷ []) → P x
+last_all P [] x h = All-head P x [] h
+last_all P (y ∷ xs) x h = last_all P xs x (All-tail P y (xs ++ x ∷ []) h)
+
+pub gathered_more : (runs : List Run) (i : ℕ) (r : Run) (var end front skipped end' : ℕ) (before after : List Place) → i < length runs → r ≡ get_or runs i r → IsNonDecreasingBy key_of runs
+    → r.first < 4294967296 → front ≡ reached_at var end r → skipped ≡ min (front - r.first) r.count → after ≡ before ++ counted_from r.var (r.first + skipped) (r.count - skipped)
+    → end' ≡ max front (r.first + r.count) → AreGathered (take i runs) var end before → AreGathered (take (i + 1) runs) r.var end' after
+gathered_more runs i r var end front skipped end' before after low is ascends small front_is skipped_is more end_is h =
+    let due : IsDue (take i runs) r front = subst (IsDue (take i runs) r) (sym front_is) (h.due r small (lesser_keys runs i r low is ascends)) in
+    let all : take i runs ++ r ∷ [] ≡ take (i + 1) runs = ap (λ x. take i runs ++ x ∷ []) is ∙ sym (take_more runs i r low) in
+    subst (λ rs. AreGathered rs r.var end' after) all (record {
+      once = once_more (take i runs) r front skipped before after h.once due skipped_is more;
+      due = λ s other_small below.
+          subst (λ e. IsDue (take i runs ++ r ∷ []) s (reached_at r.var e s)) (sym end_is) (due_next (take i runs) r s front due small other_small (last_all (λ (x : Run). key_of x ≤ key_of s) (take i runs) r below));
+    })
+
+-- ---- the same places in another order
+
+abbrev weight : Place → Run → ℕ
+weight p r = if is_among (places_of r) p then 1 else 0
+
+weighs : (p : Place) (a : Bool) (n : ℕ) (rest : Bool) → rest ≡ nat_lt 0 n → (a || rest) ≡ nat_lt 0 ((if a then 1 else 0) + n)
+weighs p true n rest e = let more : 0 < 1 + n = omega arith in sym (lt-ltb 0 (1 + n) more)
+weighs p false n rest e = let same : n ≡ 0 + n = omega arith in e ∙ ap (λ m. nat_lt 0 m) same
+
+among_weight : (p : Place) (runs : List Run) → is_among (places_in runs) p ≡ nat_lt 0 (sum_by (weight p) runs)
+among_weight p [] = refl
+among_weight p (r ∷ runs) =
+    list_any-append (same_place p) (places_of r) (places_in runs) ∙ weighs p (is_among (places_of r) p) (sum_by (weight p) runs) (is_among (places_in runs) p) (among_weight p runs)
+    ∙ ap (λ n. nat_lt 0 n) (sym (sum_by-cons (weight p) r runs))
+
+moved_same : (runs others : List Run) (p : Place) → IsPermutation runs others → is_among (places_in others) p ≡ is_among (places_in runs) p
+moved_same runs others p moves = among_weight p others ∙ ap (λ n. nat_lt 0 n) (sum_by-IsPermutation (weight p) runs others moves) ∙ sym (among_weight p runs)
+
+pub gathered_all : (r : Result (List Place) AllocError) (runs ordered : List Run) (i var end : ℕ) (places given : List Place) → IsPermutation runs ordered → length ordered ≤ i
+    → AreGathered (take i ordered) var end places → given ≡ places → IfOk r (λ it. it ≡ given) → IfOk r (λ it. (p : Place) → is_among it p ≡ is_among (places_in runs) p)
+gathered_all (Ok it) runs ordered i var end places given moves past h e is =
+    λ p. ap (λ l. is_among l p) (is ∙ e) ∙ h.once.same p ∙ ap (λ rs. is_among (places_in rs) p) (whole ordered i past) ∙ moved_same runs ordered p moves
+gathered_all (Err x) runs ordered i var end places given moves past h e is = tt
 
 -- ---- the places of a run, one after another
 
-next_place : (var first n i : ℕ) (p : Place) → i < n → p.var ≡ var → p.index ≡ first + i → counted_from var (first + i) (n - i) ≡ p ∷ counted_from var (first + (i + 1)) (n - (i + 1))
-next_place var first n i p low var_is index_is =
+pub next_place : (var first n i : ℕ) (p : Place) (old new whole : List Place) → i < n → p.var ≡ var → p.index ≡ first + i → new ≡ old ++ p ∷ [] → old ++ counted_from var (first + i) (n - i) ≡ whole
+    → new ++ counted_from var (first + (i + 1)) (n - (i + 1)) ≡ whole
+next_place var first n i p old new whole low var_is index_is more so_far =
+    let rest : List Place = counted_from var (first + (i + 1)) (n - (i + 1)) in
     let left : n - i ≡ suc (n - (i + 1)) = omega arith in
-    let behind : first + i + 1 ≡ first + (i + 1) = omega arith in
-    ap (counted_from var (first + i)) left
-    ∙ ap (λ m. (let q : Place = record { var = var; index = first + i } in q) ∷ counted_from var m (n - (i + 1))) behind
-    ∙ sym (ap (λ v. (let q : Place = record { var = v; index = p.index } in q) ∷ counted_from var (first + (i + 1)) (n - (i + 1))) var_is
-    ∙ ap (λ m. (let q : Place = record { var = var; index = m } in q) ∷ counted_from var (first + (i + 1)) (n - (i + 1))) index_is)
-
-pub added : (others : List Place) (var first n i : ℕ) (p : Place) (before after whole : List Place) → i < n → p.var ≡ var → p.index ≡ first + i → is_among others p ≡ false → after ≡ before ++ p ∷ []
-    → before ++ apart_from others (counted_from var (first + i) (n - i)) ≡ whole → after ++ apart_from others (counted_from var (first + (i + 1)) (n - (i + 1))) ≡ whole
-added others var first n i p before after whole low var_is index_is new more so_far =
-    let rest : List Place = apart_from others (counted_from var (first + (i + 1)) (n - (i + 1))) in
+    let behind_it : first + i + 1 ≡ first + (i + 1) = omega arith in
     ap (λ l. l ++ rest) more
-    ∙ append_assoc before (p ∷ []) rest
-    ∙ sym (ap (λ b. before ++ (if not b then p ∷ rest else rest)) new)
-    ∙ sym (ap (λ l. before ++ apart_from others l) (next_place var first n i p low var_is index_is))
+    ∙ append_assoc old (p ∷ []) rest
+    ∙ ap (λ v. old ++ (let q : Place = record { var = v; index = p.index } in q) ∷ rest) var_is
+    ∙ ap (λ m. old ++ (let q : Place = record { var = var; index = m } in q) ∷ rest) index_is
+    ∙ sym (ap (λ m. old ++ (let q : Place = record { var = var; index = first + i } in q) ∷ counted_from var m (n - (i + 1))) behind_it)
+    ∙ sym (ap (λ m. old ++ counted_from var (first + i) m) left)
     ∙ so_far
 
-pub passed : (others : List Place) (var first n i : ℕ) (p : Place) (before whole : List Place) → i < n → p.var ≡ var → p.index ≡ first + i → is_among others p ≡ true
-    → before ++ apart_from others (counted_from var (first + i) (n - i)) ≡ whole → before ++ apart_from others (counted_from var (first + (i + 1)) (n - (i + 1))) ≡ whole
-passed others var first n i p before whole low var_is index_is old so_far =
-    let rest : List Place = apart_from others (counted_from var (first + (i + 1)) (n - (i + 1))) in
-    sym (ap (λ b. before ++ (if not b then p ∷ rest else rest)) old)
-    ∙ sym (ap (λ l. before ++ apart_from others l) (next_place var first n i p low var_is index_is))
-    ∙ so_far
-
--- ---- one run after another
-
-pub once_at : (runs : List Run) (i : ℕ) (run : Run) (before after : List Place) → i < length runs → run ≡ get_or runs i run → AreOnce (take i runs) before
-    → after ≡ before ++ apart_from (places_in (take i runs)) (places_of run) → AreOnce (take (i + 1) runs) after
-once_at runs i run before after low is so_far more =
-    let P : List Run → Type 0 = λ rs. AreOnce rs after in
-    let Q : List Place → Type 0 = λ ps. AreOnce (take i runs ++ run ∷ []) ps in
-    subst P (ap (λ r. take i runs ++ r ∷ []) is ∙ sym (take_more runs i run low)) (subst Q (sym more) (once_run (take i runs) run before so_far))
-
-pub ok_same : (r : Result (List Place) AllocError) (runs : List Run) (i : ℕ) (places given : List Place) → length runs ≤ i → AreOnce (take i runs) places → given ≡ places → IfOk r (λ it. it ≡ given)
-    → IfOk r (λ it. (p : Place) → is_among it p ≡ is_among (places_in runs) p)
-ok_same (Ok it) runs i places given past h e is = λ p. ap (λ l. is_among l p) (is ∙ e) ∙ h.same p ∙ ap (λ rs. is_among (places_in rs) p) (whole runs i past)
-ok_same (Err x) runs i places given past h e is = tt
+pub none_left : (var first n i : ℕ) (old whole : List Place) → n ≤ i → old ++ counted_from var (first + i) (n - i) ≡ whole → old ≡ whole
+none_left var first n i old whole past so_far =
+    let none : n - i ≡ 0 = omega arith in
+    sym (append-nil old) ∙ sym (ap (λ m. old ++ counted_from var (first + i) m) none) ∙ so_far

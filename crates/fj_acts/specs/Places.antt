@@ -1,7 +1,11 @@
--- Places that others do not have.
-use Rattle.std.specs.Prelude.{List, not, filter}
-use Rattle.fj_value.specs.declared.place.Place.{Place}
-use Rattle.fj_store.specs.Places.{is_among}
+-- Runs in order, and how far places of them go.
+use Rattle.std.specs.Prelude.{ℕ, ◌+◌, ◌*◌, ◌==◌, if◌then◌else◌}
+use Rattle.fj_store.specs.declared.run.Run.{Run}
 
-abbrev pub apart_from : List Place → List Place → List Place
-apart_from others places = filter (λ (p : Place). not (is_among others p)) places
+-- by its variable and its first element
+abbrev pub key_of : Run → ℕ
+key_of run = run.var * 4294967296 + run.first
+
+-- behind runs of lesser keys of which the last has that variable and its places end there: the end of places of the run's own variable
+abbrev pub reached_at : ℕ → ℕ → Run → ℕ
+reached_at var end run = if run.var == var then end else 0

@@ -1,9 +1,10 @@
 // INQUIRE (ISO/IEC 1539-1:2004, 9.9).
-ghost use Rattle.std.specs.Prelude.{◌≡◌, ◌≢◌, ◌↔◌, ◌≤◌, ℕ, List, Some, pos, is_some, IfOk, OnOk, Err};
+ghost use Rattle.std.specs.Prelude.{◌≡◌, ◌≢◌, ◌↔◌, ◌≤◌, ℕ, All, IsOk, List, Some, pos, is_some, IfOk, OnOk, Err};
 ghost use Rattle.std.specs.Option.{option_map, option_copied, option_and_then};
 ghost use Rattle.std.specs.List.{list_any};
 ghost use Rattle.fj_outside.specs.Faults.{Rose};
 ghost use Rattle.fj_modes.specs.declared.asked.Wanted.{Wanted};
+ghost use Rattle.fj_statement.specs.Sound.{IsAsked};
 ghost use Rattle.fj_store.specs.Storage.{values_of};
 ghost use Rattle.fj_store.specs.Variables.{given_back};
 ghost use Rattle.fj_bay.specs.Plain.{looked_of};
@@ -115,6 +116,7 @@ fn give_answers(
     requires { store.old.kinds ≡ kinds_of variables.now }
     ensures vars { (about : Told) (plain : About) → cells ≡ told.inquired about asked.now → AnswersAlike about plain →
         OnOk result (values_of store.new ≡ given_back (inquired plain asked.now) (values_of store.old)) }
+    ensures sound { All (IsAsked variables.now) asked.now → IsOk result }
     ensures kinds { store.new.kinds ≡ store.old.kinds }
     ensures causes { (result ≢ Err Lost.Disk) × (result ≢ Err Lost.Sink) }
 {

@@ -13,8 +13,6 @@ mod places;
 mod state;
 mod steps;
 mod suited;
-#[cfg(test)]
-mod tests;
 mod transfers;
 
 pub use beginning::begin;

@@ -1,51 +1,75 @@
 // The places that a pending transfer holds, each once.
-ghost use Rattle.std.specs.Prelude.{◌≡◌, ◌++◌, IfOk, OnOk};
+ghost use Rattle.std.specs.Prelude.{◌≡◌, ◌+◌, ◌-◌, ◌<◌, ◌++◌, min, IfOk, OnOk};
+ghost use Rattle.std.specs.List.Sorted.{IsNonDecreasingBy, IsPermutation};
 ghost use Rattle.fj_value.specs.declared.place.Place.{Place};
 ghost use Rattle.fj_book.specs.Cells.{cell_places};
-ghost use Rattle.fj_store.specs.Places.{is_among, places_in, places_of};
-ghost use Rattle.fj_acts.specs.Places.{apart_from};
+ghost use Rattle.fj_store.specs.Places.{counted_from, is_among, places_in};
+ghost use Rattle.fj_acts.specs.Places.{key_of, reached_at};
 
 use fj_book::Places;
 use fj_store::Run;
-use fj_value::{Cell, Kind, Place, Value};
+use fj_value::{Cell, Kind, Value};
 use std::alloc::{AllocError, Global};
 
-/// Whether a place is one of those of runs.
-fn is_in_runs(runs: &[Run], place: Place) -> bool
-    ensures { result ≡ is_among (places_in runs.now) place }
+/// Runs in the order of their variables and, of one variable, of their first elements.
+fn in_order(alloc: Global, runs: &[Run]) -> Result<Vec<Run>, AllocError>
+    ensures same { IfOk result (λ ordered. IsPermutation runs.now ordered.items) }
+    ensures ascending { IfOk result (λ ordered. IsNonDecreasingBy key_of ordered.items) }
 {
+    let mut ordered = Vec::new(alloc);
     for run in runs {
-        if run.holds(place) {
-            return true;
-        }
+        ordered.push(*run)?;
     }
-    false
+    ordered.sort_by_key(|run| u64::from(run.var) * 4294967296 + u64::from(run.first))?;
+    Ok(ordered)
 }
 
-/// Adds a cell for each place of a run that none of the others has.
-fn add_places(cells: &mut Vec<Cell>, others: &[Run], run: Run) -> Result<(), AllocError>
-    ensures { OnOk result (cell_places cells.new.items ≡ cell_places cells.old.items ++ apart_from (places_in others.now) (places_of run)) }
+/// The end in front of which all elements of a run are there, by the variable of the run before it and the end there.
+fn reached(run: Run, var: u32, end: u64) -> u64
+    ensures { result ≡ reached_at var end run }
 {
-    for at in 0..run.count {
+    if run.var == var { end } else { 0 }
+}
+
+/// How many of a run's elements stand in front of an end.
+fn skipped(run: Run, end: u64) -> u32
+    ensures count { result ≡ min (end - run.first) run.count }
+    ensures first { run.first < 4294967296 }
+{
+    let passed = end.saturating_sub(u64::from(run.first));
+    passed.min(u64::from(run.count)) as u32
+}
+
+/// Adds a cell for each place of a run but so many of the first.
+fn add_rest(cells: &mut Vec<Cell>, run: Run, skipped: u32) -> Result<(), AllocError>
+    ensures { OnOk result (cell_places cells.new.items ≡ cell_places cells.old.items ++ counted_from run.var (run.first + skipped) (run.count - skipped)) }
+{
+    for at in skipped..run.count {
         let place = run.place_at(at);
-        if !is_in_runs(others, place) {
-            cells.push(Cell {
-                place,
-                kind: Kind::Logical,
-                value: Value::Undefined,
-            })?;
-        }
+        cells.push(Cell {
+            place,
+            kind: Kind::Logical,
+            value: Value::Undefined,
+        })?;
     }
     Ok(())
 }
 
-/// The places of runs, each once.
+/// The places of runs, each once. It looks at each run and at each place once.
 pub(crate) fn distinct_places(alloc: Global, runs: &[Run]) -> Result<Places, AllocError>
     ensures { IfOk result (λ places. (p : Place) → is_among places p ≡ is_among (places_in runs.now) p) }
 {
+    let ordered = in_order(alloc, runs)?;
     let mut cells = Vec::new(alloc);
-    for at in 0..runs.len() {
-        add_places(&mut cells, &runs[..at], runs[at])?;
+    let mut var = 0;
+    let mut end = 0;
+    for at in 0..ordered.len() {
+        let run = ordered[at];
+        let front = reached(run, var, end);
+        let count = skipped(run, front);
+        add_rest(&mut cells, run, count)?;
+        var = run.var;
+        end = front.max(u64::from(run.first) + u64::from(run.count));
     }
     Places::of_cells(alloc, &cells)
 }

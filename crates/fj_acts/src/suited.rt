@@ -1,6 +1,6 @@
 // Which variables the answers of INQUIRE may go to (ISO/IEC 1539-1:2004, 9.9.1).
-ghost use Rattle.std.specs.Prelude.{All, IsTrue};
-ghost use Rattle.fj_statement.specs.Sound.{IsAnswerKind};
+ghost use Rattle.std.specs.Prelude.{◌↔◌, All, IsTrue};
+ghost use Rattle.fj_statement.specs.Sound.{IsAnswerKind, IsAsked};
 ghost use Rattle.fj_acts.specs.Answers.{IsSuited};
 
 use fj_modes::{Asked, Question, Wanted};
@@ -9,7 +9,7 @@ use fj_value::Kind;
 
 /// Whether the answers to a question are of a kind.
 fn is_answer_kind(what: Question, kind: Kind) -> bool
-    ensures { IsTrue result → IsAnswerKind what kind }
+    ensures { IsTrue result ↔ IsAnswerKind what kind }
 {
     match what {
         Question::Exist | Question::Opened | Question::Named | Question::Pending => {
@@ -33,7 +33,8 @@ fn is_answer_kind(what: Question, kind: Kind) -> bool
 
 /// Whether the variable of a question has the kind that stands beside it, and the answers are of that kind.
 fn is_suited(variables: &Variables, wanted: &Wanted) -> bool
-    ensures { IsTrue result → IsSuited variables.now wanted.now }
+    ensures suited { IsTrue result → IsSuited variables.now wanted.now }
+    ensures sound { IsAsked variables.now wanted.now → IsTrue result }
 {
     match variables.get(wanted.place.var as usize) {
         Some(variable) => {
@@ -43,9 +44,10 @@ fn is_suited(variables: &Variables, wanted: &Wanted) -> bool
     }
 }
 
-/// Whether that holds of all questions.
+/// Whether that holds of all questions, as in a sound deck.
 pub(crate) fn are_suited(variables: &Variables, asked: &Asked) -> bool
-    ensures { IsTrue result → All (IsSuited variables.now) asked.now }
+    ensures suited { IsTrue result → All (IsSuited variables.now) asked.now }
+    ensures sound { All (IsAsked variables.now) asked.now → IsTrue result }
 {
     for wanted in asked.as_slice() {
         if !is_suited(variables, wanted) {

@@ -60,7 +60,7 @@ pub record SomeMayLack {F : Type 0} (all : List (Remains F)) : Type 0 where
   pub lacks : may_lack it ≡ true
 
 -- What remains of slots was closed: no connection's name stays among those whose files are out, and want of memory is answered
--- only where one of them met it.
+-- only where one of them may have met it: in its slot, or in its file where its open record was ended.
 pub record IsFinished {F T : Type 0} (m : Meaning (Bay F) (Job F) Answer PlainBay PlainJob PlainAnswer) (rack : Rack (Bay F) (Job F) Answer) (names : List (List ℕ)) (result : Result T Lost) : Type 0 where
   pub all : List (Remains F)
   pub each : Both (IsWhatRemains m) rack.slots all

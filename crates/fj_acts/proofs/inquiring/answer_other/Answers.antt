@@ -1,7 +1,6 @@
-use Rattle.std.proofs.Common.{◌≡◌, ◌++◌, List, None, Some, sym, ap, ◌∙◌}
+use Rattle.std.proofs.Common.{◌≡◌, None, Some, sym, ap, ◌∙◌}
 use Rattle.fj_modes.specs.declared.asked.Subject.{Subject}
 use Rattle.fj_outside.specs.Holdings.{Holdings}
-use Rattle.fj_value.specs.declared.value.Cell.{Cell}
 use Rattle.fj_plain.specs.Inquiring.{About}
 use Rattle.fj_plain.specs.State.{Files}
 use Rattle.fj_plain.specs.Statement.{about_other, file_asked}
@@ -10,7 +9,7 @@ use Rattle.fj_inquire.specs.Inquiring as told
 use Rattle.fj_units.specs.Files.{files_of}
 use Rattle.fj_acts.specs.State.{core_of}
 use Rattle.fj_acts.proofs.TransferLemmas.{ok_same}
-use Rattle.fj_acts.proofs.InquiryLemmas.{unit_alike, file_alike}
+use Rattle.fj_acts.proofs.InquiryLemmas.{unit_alike, file_alike, alone}
 use Rattle.fj_acts.proofs.inquiring.answer_other.Goals as goal
 
 pub returns-in_ok-inquire_unit-in-Unit-clause-doing : goal.returns-in_ok-inquire_unit-in-Unit-clause-doing
@@ -18,7 +17,7 @@ returns-in_ok-inquire_unit-in-Unit-clause-doing g c = λ tells st.
     let old = c.args.core.now in
     let asked = c.args.asked.now in
     let files : Files = files_of (g.D.Disk.held c.args.disk.now) in
-    let cells : c.inquire_unit.new.out ≡ told.inquired told.unit asked = c.in_ok-inquire_unit-in-Unit.ensures ∙ ap (λ (l : List Cell). l ++ told.inquired told.unit asked) c.new-cells.ensures in
+    let cells : c.inquire_unit.new.out ≡ told.inquired told.unit asked = alone c.inquire_unit.new.out c.new-cells.result (told.inquired told.unit asked) c.in_ok-inquire_unit-in-Unit.ensures c.new-cells.ensures in
     ok_same g.D.File.FileStore.told g.D.File.FileStore.bytes c.args.variables.now st (core_of files c.answer.new.core) c.answer.result
     (answers (core_of files old) (about_other files None) asked) (answers (core_of files old) (about_other files (file_asked c.args.subject.now)) asked)
     (ap (λ (s : Subject). answers (core_of files old) (about_other files (file_asked s)) asked) c.in-Unit.is)
@@ -34,7 +33,7 @@ returns-in_ok-inquire_file-in-File-clause-doing g c = λ tells st.
     let name = c.in-File.name in
     let about : told.About = told.file name c.in_ok-there-in-File.there in
     let plain : About = about_other (files_of before) (Some name) in
-    let cells : c.inquire_file.new.out ≡ told.inquired about asked = c.in_ok-inquire_file-in-File.ensures ∙ ap (λ (l : List Cell). l ++ told.inquired about asked) c.new-cells.ensures in
+    let cells : c.inquire_file.new.out ≡ told.inquired about asked = alone c.inquire_file.new.out c.new-cells.result (told.inquired about asked) c.in_ok-inquire_file-in-File.ensures c.new-cells.ensures in
     ok_same g.D.File.FileStore.told g.D.File.FileStore.bytes c.args.variables.now st (core_of (files_of after) c.answer-in-File.new.core) c.answer-in-File.result
     (answers (core_of (files_of after) old) plain asked) (answers (core_of (files_of before) old) (about_other (files_of before) (file_asked c.args.subject.now)) asked)
     (ap (λ (s : Subject). answers (core_of (files_of before) old) (about_other (files_of before) (file_asked s)) asked) c.in-File.is

@@ -4,4 +4,4 @@ use Rattle.std.proofs.Common.{refl}
 
 pub returns-clause-vars : goal.returns-clause-vars
 returns-clause-vars c = λ about plain is alike.
-    answered_is c.args.variables.now c.args.store.now c.give_back.new.self c.args.cells c.args.asked.now about plain c.requires (c.if-not-are_suited.ensures refl) is alike c.give_back.ensures
+    answered_is c.args.variables.now c.args.store.now c.give_back.new.self c.args.cells c.args.asked.now about plain c.requires (c.if-not-are_suited.ensures.suited refl) is alike c.give_back.ensures
