@@ -2,6 +2,7 @@
 use Rattle.std.proofs.Common.{◌≡◌, ℕ, ◌+◌, ◌<◌, ◌≤◌, Bool, true, false, cond, List, drop, Option, Some, None, inl, arith, refl, sym, ap, subst, ◌∙◌}
 use Rattle.std.specs.Option.{option_map}
 use Rattle.std.specs.Prelude.{◌⊎◌}
+use Rattle.fj_outside.specs.Holdings.{Holdings}
 use Rattle.fj_outside.specs.declared.outside.FileStore.{Ghosts}
 use Rattle.fj_statement.specs.declared.deck.Deck.{Deck}
 use Rattle.fj_world.specs.Conduct as conduct
@@ -12,6 +13,7 @@ use Rattle.fj_bay.specs.Jobs.{Job as Task}
 use Rattle.fj_bay.specs.Meaning.{bay_meaning}
 use Rattle.fj_bay.specs.declared.job.Job.{Job}
 use Rattle.fj_plain.specs.State.{Files}
+use Rattle.fj_units.specs.Files.{files_of}
 use Rattle.fj_plain.specs.Statement.{Stated, stated}
 use Rattle.fj_turns.specs.Run.{Run}
 use Rattle.fj_turns.specs.Turns.{asked}
@@ -98,3 +100,12 @@ asked_told told bytes count files m false b' o r result e still go = cc
 asked_told told bytes count files m true b' o r result e still go =
     let a = go refl e in
     (ap (λ t. cond t (run_of told bytes files m) None) (still refl) ∙ a.run, asks_task told bytes count (asked r).ask result a.asks)
+
+-- a machine and a disk that are the same ones show the same run
+pub same_state : {D F : Type 0} {ghosts : Ghosts F} (told_disk : D → Bool) (held : D → Holdings) (told : F → Bool) (bytes : F → List ℕ) (d d' : D) (m m' : Machine F ghosts) → m' ≡ m → d' ≡ d
+    → cond (told_disk d') (run_of told bytes (files_of (held d')) m') None ≡ cond (told_disk d) (run_of told bytes (files_of (held d)) m) None
+same_state told_disk held told bytes d d' m m' f e =
+    ap (λ x. cond (told_disk x) (run_of told bytes (files_of (held x)) m') None) e ∙ ap (λ y. cond (told_disk d) (run_of told bytes (files_of (held d)) y) None) f
+
+pub at_most : (n m : ℕ) → n ≡ m → n ≤ m
+at_most n m e = omega arith

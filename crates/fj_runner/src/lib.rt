@@ -22,4 +22,4 @@ mod turns;
 pub use ending::Ending;
 pub use left::Left;
 pub use machine::Machine;
-pub use script::Runner;
+pub use script::{Conducts, Runner};
