@@ -1,5 +1,5 @@
 -- Statements that are carried out one after another, none of which asks.
-use Rattle.std.proofs.Common.{◌≡◌, ℕ, List, Option, Some, None, IfNone, refl, ◌∙◌}
+use Rattle.std.proofs.Common.{◌≡◌, ℕ, List, Option, Some, None, IfNone, refl, sym, ap, ◌∙◌}
 use Rattle.fj_outside.specs.Holdings.{Holdings}
 use Rattle.fj_outside.specs.declared.outside.FileStore.{Ghosts}
 use Rattle.fj_turns.specs.Run.{Start}

@@ -4,6 +4,9 @@ pub mod Passed
 pub mod Tallies
 pub mod NextAsks
 pub mod Going
+pub mod Scripting
+pub mod Conducting
+pub mod Reached
 pub mod Lists
 pub mod Pauses
 pub mod Made

@@ -12,7 +12,7 @@ use Rattle.fj_turns.specs.Run.{Run, Stage, Start}
 use Rattle.fj_turns.specs.Turns.{Turn, Pauses, Passes, Stops, Asked, turn, turn_start, goes, by_turn, asked, asked_on}
 use Rattle.fj_acts.specs.State.{core_of}
 use Rattle.fj_runner.specs.declared.ending.Ending.{Ending as CodeEnding}
-use Rattle.fj_runner.specs.Machine.{ending_of, stage_of, run_in, run_at, run_of, rest_of}
+use Rattle.fj_runner.specs.Machine.{ending_of, stage_of, run_in, run_at, run_of, rest_of, stage_at}
 use Rattle.fj_runner.specs.Turned.{IsTask, Pausing, Stands, IsAsked}
 use Rattle.fj_runner.specs.declared.stage.Stage.TheVariants as stage
 use Rattle.fj_statement.specs.declared.deck.Variable.{Variable}

@@ -1,11 +1,11 @@
 -- Steps of a statement, one after another.
-use Rattle.std.proofs.Common.{◌≡◌, ◌≢◌, ◌↔◌, ℕ, ◌≤◌, List, ◌++◌, Result, Ok, Err, OnOk, OnErr, refl, sym, ap, ◌∙◌, subst, arith, append_assoc}
+use Rattle.std.proofs.Common.{◌≡◌, ◌≢◌, ◌↔◌, ℕ, ◌+◌, ◌≤◌, List, [], ◌++◌, Result, Ok, Err, OnOk, OnErr, refl, sym, ap, ◌∙◌, subst, arith, append_assoc}
 use Rattle.fj_outside.specs.Faults.{Rose}
 use Rattle.fj_outside.specs.Holdings.{Holdings, Names}
 use Rattle.fj_plain.specs.State.{Output}
 use Rattle.fj_items.specs.Handing.{HandsOver, HandsFront, whole_records}
 use Rattle.fj_items.specs.declared.lost.Lost.{Lost}
-use Rattle.fj_items.specs.declared.lost.Lost.TheVariants.{Disk, Sink}
+use Rattle.fj_items.specs.declared.lost.Lost.TheVariants.{Memory, Disk, Sink, Unfit}
 use Rattle.fj_units.specs.Names.{AreInUse}
 use Rattle.fj_acts.specs.declared.state.Core.{Core}
 use Rattle.fj_runner.specs.Taking.{TakesMore}

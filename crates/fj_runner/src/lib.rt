@@ -1,15 +1,18 @@
-//! The runner of a deck: what it holds between two asks, statement by statement, and what it asks of slots of bays.
+//! The runner of a deck: what it holds between two asks, statement by statement, and a script over slots of bays.
 #![tactic(auto)]
 
 mod answering;
 mod asking;
 mod beginning;
+mod driving;
 mod ending;
 mod halted;
 mod hand;
 mod left;
 mod machine;
 mod making;
+mod reaching;
+mod script;
 mod serving;
 mod stage;
 mod state;
@@ -18,6 +21,8 @@ mod turned;
 mod turning;
 mod turns;
 
+pub use driving::serve;
 pub use ending::Ending;
 pub use left::Left;
 pub use machine::Machine;
+pub use script::{Conducts, Runner};

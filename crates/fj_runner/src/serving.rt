@@ -83,7 +83,7 @@ impl<F: FileStore> Machine<F> {
     }
 
     /// Asks what the deck asks next, unless it is over.
-    pub fn ask<W: Sink, D: Disk<File = F>>(
+    pub(crate) fn ask<W: Sink, D: Disk<File = F>>(
         &mut self,
         alloc: Global,
         disk: &mut D,
@@ -111,7 +111,7 @@ impl<F: FileStore> Machine<F> {
     }
 
     /// Its job was submitted, or refused.
-    pub fn take_number(&mut self, number: Result<u64, Refused<Job<F>>>)
+    pub(crate) fn take_number(&mut self, number: Result<u64, Refused<Job<F>>>)
         requires { IsSubmitting (due_of self.old.tally.hand) }
         ensures hand { self.new.tally.hand ≡ Idle }
         ensures left { self.new.tally.left < self.old.tally.left }
@@ -152,7 +152,7 @@ impl<F: FileStore> Machine<F> {
     }
 
     /// Hears what became of the job that it waited for.
-    pub fn hear(&mut self, told: Told<Bay<F>>)
+    pub(crate) fn hear(&mut self, told: Told<Bay<F>>)
         requires { IsSettling (due_of self.old.tally.hand) }
         ensures hand { self.new.tally.hand ≡ Idle }
         ensures left { self.new.tally.left < self.old.tally.left }

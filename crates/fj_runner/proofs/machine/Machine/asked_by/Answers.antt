@@ -1,4 +1,4 @@
-use Rattle.std.proofs.Common.{◌+◌, List, drop, subst}
+use Rattle.std.proofs.Common.{◌+◌, List, drop, subst, arith}
 use Rattle.fj_plain.specs.Statement.{Stated, stated}
 use Rattle.fj_runner.specs.Machine.{rest_of}
 use Rattle.fj_runner.specs.Turned.{IsTurn}

@@ -2,7 +2,7 @@ use Rattle.std.proofs.Common.{◌≡◌, ◌+◌, List, ◌∷◌, drop, IfSome,
 use Rattle.fj_plain.specs.State.{Files}
 use Rattle.fj_plain.specs.Statement.{Stated, stated, control_by}
 use Rattle.fj_units.specs.Files.{files_of}
-use Rattle.fj_turns.specs.Run.{Start}
+use Rattle.fj_turns.specs.Run.{Run, Start}
 use Rattle.fj_turns.specs.Turns.{Turn, turn_start, goes, Asked}
 use Rattle.fj_runner.specs.Machine.{rest_of, run_in, run_at}
 use Rattle.fj_runner.specs.Turned.{IsTurn, IsAsked}

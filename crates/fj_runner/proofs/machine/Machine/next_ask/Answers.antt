@@ -2,9 +2,10 @@ use Rattle.std.proofs.Common.{◌≡◌, ◌+◌, ◌<◌, List, ◌∷◌, drop
 use Rattle.fj_plain.specs.State.{Files}
 use Rattle.fj_plain.specs.Statement.{Stated, stated, control_by}
 use Rattle.fj_units.specs.Files.{files_of}
+use Rattle.fj_turns.specs.Run.{Run}
 use Rattle.fj_turns.specs.Turns.{Turn, turn, Asked}
 use Rattle.fj_acts.specs.State.{core_of}
-use Rattle.fj_runner.specs.Machine.{run_in, run_at, stage_at, stage_of}
+use Rattle.fj_runner.specs.Machine.{rest_of, run_in, run_at, stage_at, stage_of}
 use Rattle.fj_runner.specs.Turned.{IsTurn, IsAsked}
 use Rattle.fj_runner.proofs.NextAsks.{read_at_hand, asked_at, not_ended, run_known}
 use Rattle.fj_runner.proofs.Stepping.{then_steps}

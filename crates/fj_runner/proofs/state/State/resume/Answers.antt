@@ -1,11 +1,11 @@
-use Rattle.std.proofs.Common.{◌+◌, ◌∷◌, drop, IfOk, refl, sym, subst}
+use Rattle.std.proofs.Common.{◌≡◌, ◌+◌, List, [], ◌∷◌, drop, IfOk, refl, sym, subst}
 use Rattle.fj_bay.specs.Jobs.{resume}
 use Rattle.fj_plain.specs.State.{Files}
 use Rattle.fj_plain.specs.Statement.{Stated, control_by}
 use Rattle.fj_desk.specs.Acting.{doing}
 use Rattle.fj_desk.specs.Core.{Core}
 use Rattle.fj_desk.specs.Doing.{Doing}
-use Rattle.fj_turns.specs.Run.{Acting}
+use Rattle.fj_turns.specs.Run.{Run, Held, Acting}
 use Rattle.fj_turns.specs.Turns.{turn_act, ends_halts}
 use Rattle.fj_pending.specs.Plain.{held}
 use Rattle.fj_acts.specs.State.{core_of}

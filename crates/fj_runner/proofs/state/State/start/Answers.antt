@@ -1,4 +1,4 @@
-use Rattle.std.proofs.Common.{◌∷◌, Some, None, IfOk, sym, subst}
+use Rattle.std.proofs.Common.{◌≡◌, List, ◌∷◌, Some, None, IfOk, refl, sym, subst}
 use Rattle.fj_plain.specs.State.{Files}
 use Rattle.fj_plain.specs.Statement.{Stated, control_by}
 use Rattle.fj_turns.specs.Run.{Run}

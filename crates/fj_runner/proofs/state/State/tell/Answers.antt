@@ -1,7 +1,7 @@
-use Rattle.std.proofs.Common.{List, ◌∷◌, IfOk, ap, ◌∙◌, subst}
+use Rattle.std.proofs.Common.{◌≡◌, List, ◌∷◌, IfOk, ap, ◌∙◌, subst}
 use Rattle.fj_plain.specs.State.{Files, Entry}
 use Rattle.fj_plain.specs.Statement.{Stated, control_by}
-use Rattle.fj_desk.specs.Core.{Connected}
+use Rattle.fj_desk.specs.Core.{Core, Connected}
 use Rattle.fj_turns.specs.Run.{Run}
 use Rattle.fj_turns.specs.Turns.{halted_slots}
 use Rattle.fj_pending.specs.Plain.{held, entries}

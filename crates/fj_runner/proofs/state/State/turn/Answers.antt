@@ -1,11 +1,12 @@
-use Rattle.std.proofs.Common.{◌≡◌, ◌∷◌, Ok, Some, IfOk, refl, sym, ◌∙◌, subst}
+use Rattle.std.proofs.Common.{◌≡◌, List, ◌∷◌, drop, Ok, Some, IfOk, refl, sym, ◌∙◌, subst}
 use Rattle.fj_bay.specs.Plain.{task_of, reply_of}
 use Rattle.fj_plain.specs.State.{Files}
 use Rattle.fj_plain.specs.Statement.{Stated, control_by}
+use Rattle.fj_desk.specs.Acting.{doing}
 use Rattle.fj_desk.specs.Core.{Core}
 use Rattle.fj_desk.specs.Doing.{Doing}
 use Rattle.fj_turns.specs.Run.{Run, Start, Waiting, Acting, Awaiting}
-use Rattle.fj_turns.specs.Turns.{turn}
+use Rattle.fj_turns.specs.Turns.{turn, ends_halts}
 use Rattle.fj_pending.specs.Plain.{held}
 use Rattle.fj_acts.specs.Doing.{next_of, then_of}
 use Rattle.fj_acts.specs.State.{core_of}

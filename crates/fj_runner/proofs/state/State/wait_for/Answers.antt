@@ -1,8 +1,8 @@
-use Rattle.std.proofs.Common.{List, ◌∷◌, Ok, IfOk, refl, sym, subst}
+use Rattle.std.proofs.Common.{◌≡◌, List, ◌∷◌, Ok, IfOk, refl, sym, subst}
 use Rattle.fj_plain.specs.State.{Files, Entry}
 use Rattle.fj_plain.specs.Statement.{Stated, control_by}
 use Rattle.fj_turns.specs.Run.{Run, Waiting}
-use Rattle.fj_pending.specs.Plain.{entries}
+use Rattle.fj_pending.specs.Plain.{held, entries}
 use Rattle.fj_pending.specs.Waits.{waited_of}
 use Rattle.fj_units.specs.Files.{files_of}
 use Rattle.fj_runner.specs.Machine.{run_in}

@@ -1,0 +1,125 @@
+-- A runner after one call.
+use Rattle.std.proofs.Common.{◌≡◌, ℕ, ◌+◌, ◌<◌, ◌≤◌, Bool, true, false, cond, List, drop, Option, Some, None, inl, arith, refl, sym, ap, subst, ◌∙◌}
+use Rattle.std.specs.Option.{option_map}
+use Rattle.std.specs.Prelude.{◌⊎◌}
+use Rattle.fj_outside.specs.Holdings.{Holdings}
+use Rattle.fj_outside.specs.declared.outside.FileStore.{Ghosts}
+use Rattle.fj_statement.specs.declared.deck.Deck.{Deck}
+use Rattle.fj_world.specs.Conduct as conduct
+use Rattle.fj_world.specs.Conduct.{Conduct, IsDueAsk, KeepsTo, IsAsk}
+use Rattle.fj_world.specs.declared.ask.Ask.{Ask}
+use Rattle.fj_world.specs.declared.ask.Ask.TheVariants.{Submit, Settle, Finished}
+use Rattle.fj_bay.specs.Jobs.{Job as Task, Answer}
+use Rattle.fj_bay.specs.Meaning.{bay_meaning}
+use Rattle.fj_bay.specs.declared.job.Job.{Job}
+use Rattle.fj_plain.specs.State.{Files}
+use Rattle.fj_units.specs.Files.{files_of}
+use Rattle.fj_plain.specs.Statement.{Stated, stated}
+use Rattle.fj_turns.specs.Run.{Run}
+use Rattle.fj_turns.specs.Serving.{run_conduct}
+use Rattle.fj_turns.specs.Turns.{asked}
+use Rattle.fj_acts.specs.State.{core_of}
+use Rattle.fj_runner.specs.Leaving.{Leaves, Rests}
+use Rattle.fj_runner.specs.Machine.{run_in, run_of, stage_of}
+use Rattle.fj_runner.specs.Tallying.{due_of, owed_at, MaySubmit, MaySettle}
+use Rattle.fj_runner.specs.Turned.{IsTask, IsAsked}
+use Rattle.fj_runner.specs.declared.hand.Hand.{Hand}
+use Rattle.fj_runner.specs.declared.hand.Hand.TheVariants.{Idle, Submitting, Settling}
+use Rattle.fj_runner.specs.declared.state.State.{State}
+use Rattle.fj_runner.specs.declared.machine.Machine.{Machine}
+use Rattle.fj_runner.proofs.Runs.{hands_none, takes_none}
+
+abbrev run_by : {F : Type 0} {ghosts : Ghosts F} → (F → Bool) → (F → List ℕ) → Files → Deck → ℕ → State F ghosts → Option Run
+run_by told bytes files deck at s = option_map (run_in deck.variables (drop at (stated deck.statements)) files s) (stage_of told bytes deck.variables (drop at (stated deck.statements)) (core_of files s.core) s.stage)
+
+-- the run of a machine does not show its tally
+pub run_same : {F : Type 0} {ghosts : Ghosts F} → (told : F → Bool) (bytes : F → List ℕ) (files : Files) (m m' : Machine F ghosts) → m'.deck ≡ m.deck → m'.at ≡ m.at → m'.state ≡ m.state → run_of told bytes files m' ≡ run_of told bytes files m
+run_same told bytes files m m' d a s =
+    ap (λ (k : Deck). run_by told bytes files k m'.at m'.state) d ∙ ap (λ n. run_by told bytes files m.deck n m'.state) a ∙ ap (λ k. run_by told bytes files m.deck m.at k) s
+
+-- where a disk tells
+pub if_told : (b : Bool) (o o' : Option Run) (s s' : Run) → cond b o None ≡ Some s → (b ≡ true → o ≡ Some s → o' ≡ Some s') → cond b o' None ≡ Some s'
+if_told true o o' s s' e go = go refl e
+if_told false o o' s s' e go = cc
+
+-- a call that touches neither disk nor sink
+pub rests_leaves : {W D F : Type 0} {ghosts : Ghosts F} {tells_out : W → Type 0} {taken : W → List ℕ} {count_out : W → ℕ} {tells : D → Type 0} {count : D → ℕ} → (out : W) (disk : D) (m m' : Machine F ghosts)
+    → Rests m m' → Leaves tells_out taken count_out tells count out disk m out disk m'
+rests_leaves {taken = taken} out disk m m' r = record {
+  telling = (λ t. t, λ t. t);
+  later = omega arith;
+  telling_out = (λ t. t, λ t. t);
+  later_out = omega arith;
+  output = λ t none. hands_none (taken out) (taken out) m.state.core.output m'.state.core.output refl r.output;
+  front = λ t. takes_none (taken out) (taken out) refl;
+  of_disk = λ e. inl (r.of_disk e);
+  of_sink = λ e. inl (r.of_sink e);
+  first = r.first;
+  deck = r.deck;
+}
+
+-- ---- what is asked
+
+keeps_submit : (hand : Hand) (over : Bool) (left slot : ℕ) → due_of hand ≡ conduct.Submitting slot → MaySubmit hand over left → (slot < 16) × (0 < left)
+keeps_submit Idle over left slot e may = cc
+keeps_submit (Submitting own) over left slot e may =
+    let same : own ≡ slot = cc in subst (λ n. (n < 16) × (0 < left)) same ((may own refl).1, (may own refl).2)
+keeps_submit (Settling own) over left slot e may = cc
+
+keeps_settle : (hand : Hand) (over : Bool) (left : ℕ) (owed : List ℕ) (slot : ℕ) → due_of hand ≡ conduct.Settling slot → MaySettle hand over left owed → (slot < 16) × (0 < left) × (0 < owed_at owed slot)
+keeps_settle Idle over left owed slot e may = cc
+keeps_settle (Submitting own) over left owed slot e may = cc
+keeps_settle (Settling own) over left owed slot e may =
+    let same : own ≡ slot = cc in subst (λ n. (n < 16) × (0 < left) × (0 < owed_at owed n)) same ((may own refl).1, (may own refl).2, (may own refl).3)
+
+-- the numbers that an ask keeps to
+pub keeps_to : {S T R J : Type 0} → (c : Conduct S T R) (script : S) (hand : Hand) (over : Bool) (left : ℕ) (owed : List ℕ) (result : Ask J) → c.uses script ≡ 16 → c.left script ≡ left → ((slot : ℕ) → c.owed script slot ≡ owed_at owed slot)
+    → IsDueAsk (due_of hand) result → MaySubmit hand over left → MaySettle hand over left owed → KeepsTo c script result
+keeps_to c script hand over left owed (Submit slot job) u l o due submit settle =
+    let k = keeps_submit hand over left slot due submit in (subst (λ n. slot < n) (sym u) k.0, subst (λ n. 0 < n) (sym l) k.1)
+keeps_to c script hand over left owed (Settle slot) u l o due submit settle =
+    let k = keeps_settle hand over left owed slot due settle in (subst (λ n. slot < n) (sym u) k.0, subst (λ n. 0 < n) (sym l) k.1, subst (λ n. 0 < n) (sym (o slot)) k.2)
+keeps_to c script hand over left owed Finished u l o due submit settle = tt
+
+-- the ask over plain data is the same
+pub asks_task : {F : Type 0} → (told : F → Bool) (bytes : F → List ℕ) (count : F → ℕ) (a : Ask Task) (b : Ask (Job F)) → IsTask told bytes a b → IsAsk (bay_meaning told bytes count) a b
+asks_task told bytes count (Submit slot task) (Submit slot' job) t = t
+asks_task told bytes count (Submit slot task) (Settle slot') t = t
+asks_task told bytes count (Submit slot task) Finished t = t
+asks_task told bytes count (Settle slot) (Submit slot' job) t = t
+asks_task told bytes count (Settle slot) (Settle slot') t = t
+asks_task told bytes count (Settle slot) Finished t = t
+asks_task told bytes count Finished (Submit slot' job) t = t
+asks_task told bytes count Finished (Settle slot') t = t
+asks_task told bytes count Finished Finished t = tt
+
+-- where the disk tells, before and after
+pub asked_told : {F : Type 0} {ghosts : Ghosts F} → (told : F → Bool) (bytes : F → List ℕ) (count : F → ℕ) (files : Files) (m : Machine F ghosts) (b b' : Bool) (o : Option Run) (r : Run) (result : Ask (Job F)) → cond b o None ≡ Some r
+    → (b ≡ true → b' ≡ true) → (b ≡ true → o ≡ Some r → IsAsked told bytes files m result (asked r))
+    → (cond b' (run_of told bytes files m) None ≡ Some (asked r).run) × IsAsk (bay_meaning told bytes count) (asked r).ask result
+asked_told told bytes count files m false b' o r result e still go = cc
+asked_told told bytes count files m true b' o r result e still go =
+    let a = go refl e in
+    (ap (λ t. cond t (run_of told bytes files m) None) (still refl) ∙ a.run, asks_task told bytes count (asked r).ask result a.asks)
+
+-- a machine and a disk that are the same ones show the same run
+pub same_state : {D F : Type 0} {ghosts : Ghosts F} (told_disk : D → Bool) (held : D → Holdings) (told : F → Bool) (bytes : F → List ℕ) (d d' : D) (m m' : Machine F ghosts) → m' ≡ m → d' ≡ d
+    → cond (told_disk d') (run_of told bytes (files_of (held d')) m') None ≡ cond (told_disk d) (run_of told bytes (files_of (held d)) m) None
+same_state told_disk held told bytes d d' m m' f e =
+    ap (λ x. cond (told_disk x) (run_of told bytes (files_of (held x)) m') None) e ∙ ap (λ y. cond (told_disk d) (run_of told bytes (files_of (held d)) y) None) f
+
+pub at_most : (n m : ℕ) → n ≡ m → n ≤ m
+at_most n m e = omega arith
+
+-- the numbers of a script alone
+abbrev pub numbers : ℕ → List ℕ → Conduct ℕ Task Answer
+numbers left owed = run_conduct (record {
+  left = λ r. left;
+  uses = λ r. 16;
+  owed = λ r at. owed_at owed at;
+  due = λ r. conduct.Idle;
+  over = λ r. true;
+  stopped = λ r. true;
+  leads = λ old new. ℕ;
+  state = λ r. None;
+})
