@@ -10,10 +10,10 @@ ghost use Rattle.fj_job.specs.Carrying.{AreFresh, IsFresh, HasNotBegun, HasRun};
 
 use fj_bay::Bay;
 use fj_outside::{Disk, FileStore, Sink};
-use fj_runner::{Machine, Runner};
+use fj_runner::{Machine, Runner, serve};
 use fj_slot::Slot;
 use fj_statement::Deck;
-use fj_world::{Slots, run_alone};
+use fj_world::Slots;
 use std::alloc::{AllocError, Global};
 
 /// How many slots there are.
@@ -72,5 +72,5 @@ pub fn carry<W: Sink, D: Disk>(
         disk: &mut *disk,
         machine: &mut *machine,
     };
-    run_alone(&mut runner, slots);
+    serve(&mut runner, slots);
 }

@@ -5,6 +5,8 @@ pub mod Tallies
 pub mod NextAsks
 pub mod Going
 pub mod Scripting
+pub mod Conducting
+pub mod Reached
 pub mod Lists
 pub mod Pauses
 pub mod Made

@@ -9,3 +9,4 @@ pub mod Admitting
 pub mod Refused
 pub mod Leaving
 pub mod Making
+pub mod Reaching

@@ -4,12 +4,14 @@
 mod answering;
 mod asking;
 mod beginning;
+mod driving;
 mod ending;
 mod halted;
 mod hand;
 mod left;
 mod machine;
 mod making;
+mod reaching;
 mod script;
 mod serving;
 mod stage;
@@ -19,7 +21,8 @@ mod turned;
 mod turning;
 mod turns;
 
+pub use driving::serve;
 pub use ending::Ending;
 pub use left::Left;
 pub use machine::Machine;
-pub use script::Runner;
+pub use script::{Conducts, Runner};

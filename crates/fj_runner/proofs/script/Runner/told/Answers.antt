@@ -5,7 +5,7 @@ use Rattle.fj_units.specs.Files.{files_of}
 use Rattle.fj_runner.specs.Machine.{run_of}
 use Rattle.fj_runner.specs.Tallying.{due_of}
 use Rattle.fj_runner.proofs.Scripting.{run_same, if_told, rests_leaves}
-use Rattle.fj_runner.proofs.script.RunnerScript.told.Goals as goal
+use Rattle.fj_runner.proofs.script.Runner.told.Goals as goal
 
 pub returns : goal.returns
 returns g c =
