@@ -1,6 +1,6 @@
 -- What closes connections, as jobs and how the statement goes on.
-use Rattle.std.proofs.Common.{◌≡◌, ℕ, Bool, true, false, not, drop, inl, inr, ◌⊎◌, List, [], ◌∷◌, Option, Some, None, Result, Ok, refl, sym, ap, subst, ◌∙◌, arith}
-use Rattle.std.specs.Prelude.{◌==◌, ◌&&◌, unwrap_or, slice_get, option_and_then, if◌then◌else◌, filter}
+use Rattle.std.proofs.Common.{◌≡◌, ℕ, Bool, true, false, not, drop, inl, inr, ◌⊎◌, List, [], ◌∷◌, Option, Some, None, Ok, refl, sym, ap, subst, ◌∙◌}
+use Rattle.std.specs.Prelude.{◌==◌, ◌&&◌, unwrap_or, slice_get, option_and_then, if◌then◌else◌}
 use Rattle.std.proofs.Math.Path.{fun_ext}
 use Rattle.fj_value.specs.declared.condition.Condition.{Condition}
 use Rattle.fj_value.specs.declared.condition.Condition.TheVariants.{Fine, Error}
@@ -14,7 +14,6 @@ use Rattle.fj_bay.specs.Jobs.{detach}
 use Rattle.fj_bay.specs.declared.job.Job.TheVariants as job
 use Rattle.fj_plain.specs.Statement.{Stated}
 use Rattle.fj_desk.specs.Core.{Core, Connected, connected_at, without_connected}
-use Rattle.fj_desk.specs.Desks.{Outcome}
 use Rattle.fj_desk.specs.Doing.{Doing, finishes, awaits}
 use Rattle.fj_desk.specs.Acting.{detaches, disconnected, all_closed, closes, closes_anyway, unit_at, keeps, connects}
 use Rattle.fj_units.specs.Units.{AreApart, AreOthers}

@@ -1,6 +1,6 @@
 -- Answers of INQUIRE, as the program and as plain data have them.
-use Rattle.std.proofs.Common.{◌≡◌, ◌||◌, ◌&&◌, map, ℕ, ◌-◌, Bool, true, false, List, [], ◌∷◌, ◌++◌, length, take, replicate, Option, Some, None, All, refl, sym, ap, subst, length-append, ◌∙◌, arith}
-use Rattle.std.specs.Prelude.{ℤ, pos, ◌+◌, ◌==◌, not, codes, if◌then◌else◌, is_some, IsSome}
+use Rattle.std.proofs.Common.{◌≡◌, ◌||◌, ◌&&◌, map, ℕ, Bool, true, false, List, [], ◌∷◌, ◌++◌, length, Option, Some, None, All, refl, sym, ap, subst, length-append, ◌∙◌, arith}
+use Rattle.std.specs.Prelude.{ℤ, pos, ◌+◌, ◌==◌, codes, if◌then◌else◌, is_some, IsSome}
 use Rattle.std.specs.Option.{option_map, option_map_or}
 use Rattle.std.proofs.lemmas.Bool.{eq-eqb, false≢true}
 use Rattle.std.proofs.lemmas.List.{length-take, length-replicate}
@@ -12,11 +12,9 @@ use Rattle.fj_value.specs.declared.edit.Delim.TheVariants.{Plain, Apostrophe, Qu
 use Rattle.fj_value.specs.declared.kind.Kind.{Kind}
 use Rattle.fj_value.specs.declared.kind.Kind.TheVariants.{Int4, Int8, Logical, Chars}
 use Rattle.fj_value.specs.declared.value.Cell.{Cell}
-use Rattle.fj_value.specs.declared.value.Value.{Value}
 use Rattle.fj_value.specs.declared.value.Value.TheVariants as value
 use Rattle.fj_modes.specs.ModeWords as words
 use Rattle.fj_modes.specs.Words.{same_access}
-use Rattle.fj_modes.specs.declared.modes.Modes.{Modes}
 use Rattle.fj_modes.specs.declared.specifiers.Access.{Access}
 use Rattle.fj_modes.specs.declared.specifiers.Access.TheVariants.{Sequential, Direct, Stream}
 use Rattle.fj_modes.specs.declared.specifiers.Action.{Action}
@@ -30,7 +28,6 @@ use Rattle.fj_statement.specs.declared.deck.Variable.{Variable}
 use Rattle.fj_bay.specs.Jobs.{Looked}
 use Rattle.fj_bay.specs.Plain.{looked_of}
 use Rattle.fj_plain.specs.Inquiring as plain
-use Rattle.fj_plain.specs.Items.{kind_of}
 use Rattle.fj_plain.specs.State.{Files}
 use Rattle.fj_plain.specs.Statement.{Stated, about_other, about_connected, file_asked, has_pending}
 use Rattle.fj_inquire.specs.Inquiring as told

@@ -1,7 +1,7 @@
 -- Places of runs, each once.
 use Rattle.std.proofs.Common.{◌≡◌, ℕ, zero, suc, ◌+◌, ◌-◌, ◌<◌, ◌≤◌, ◌⊎◌, max, length, take, get_or, All, Result, Ok, Err, IfOk, ◌||◌, ◌&&◌, inl, inr, Bool, true, false, List, [], ◌∷◌, ◌++◌, refl, sym, ap, subst, append_assoc, append-nil, ◌∙◌, arith}
 use Rattle.std.specs.Prelude.{◌==◌, min, nat_lt, if◌then◌else◌}
-use Rattle.std.specs.List.{list_any, flat_map, sum_by}
+use Rattle.std.specs.List.{sum_by}
 use Rattle.std.specs.List.Sorted.{IsNonDecreasingBy, IsPermutation}
 use Rattle.std.specs.declared.alloc.AllocError.{AllocError}
 use Rattle.std.proofs.lemmas.Bool.{eq-eqb, ne_eqb, eqb-true, lt-ltb}

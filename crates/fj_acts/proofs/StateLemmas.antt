@@ -5,8 +5,8 @@ use Rattle.fj_statement.specs.declared.deck.Variable.{Variable}
 use Rattle.fj_statement.specs.declared.statement.Transfer.{Transfer}
 use Rattle.fj_store.specs.Variables.{Variables}
 use Rattle.fj_store.specs.Storage.{values_of}
-use Rattle.fj_plain.specs.State.{Files, Output, Tell}
-use Rattle.fj_plain.specs.Transfers.{with_number, held_places}
+use Rattle.fj_plain.specs.State.{Files, Output}
+use Rattle.fj_plain.specs.Transfers.{with_number}
 use Rattle.fj_desk.specs.Core.{Core as PlainCore, Connected, Pending}
 use Rattle.fj_turns.specs.Run.{Held as PlainHeld}
 use Rattle.fj_turns.specs.Turns.{matched}

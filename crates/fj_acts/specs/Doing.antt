@@ -7,7 +7,6 @@ use Rattle.fj_modes.specs.declared.modes.Modes.{Modes}
 use Rattle.fj_modes.specs.declared.specifiers.OpenSpec.{OpenSpec}
 use Rattle.fj_modes.specs.declared.asked.Wanted.{Wanted}
 use Rattle.fj_modes.specs.declared.asked.Subject.{Subject}
-use Rattle.fj_connect.specs.Connection.{Connection}
 use Rattle.fj_statement.specs.declared.deck.Variable.{Variable}
 use Rattle.fj_statement.specs.declared.statement.Operand.{Operand}
 use Rattle.fj_statement.specs.declared.statement.Statement.{Statement}
@@ -21,7 +20,7 @@ use Rattle.fj_plain.specs.Needs.{unit_about, number_given}
 use Rattle.fj_plain.specs.Statement.{Stated, file_asked}
 use Rattle.fj_plain.specs.Transfers.{with_cells, with_number, held_places}
 use Rattle.fj_desk.specs.Core.{Core, Connected, connected_at, unit_named, inserted}
-use Rattle.fj_desk.specs.Desks.{Outcome, cells_in, count_in, connection_in, look_in, condition_in}
+use Rattle.fj_desk.specs.Desks.{Outcome, cells_in, count_in, look_in, condition_in}
 use Rattle.fj_desk.specs.Doing.{Doing as PlainDoing, finishes, gives, awaits}
 use Rattle.fj_desk.specs.Acting.{disconnected, all_closed, connects, about_unit, answers, unit_at}
 use Rattle.fj_units.specs.Units.{connected_of, with_modes}

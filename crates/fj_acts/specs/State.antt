@@ -1,5 +1,5 @@
 -- What a run holds above its connections, as plain data.
-use Rattle.std.specs.Prelude.{ℕ, ◌≡◌, List, map, Option}
+use Rattle.std.specs.Prelude.{◌≡◌, map}
 use Rattle.fj_store.specs.Storage.{values_of}
 use Rattle.fj_plain.specs.State.{Files}
 use Rattle.fj_desk.specs.Core.{Core as PlainCore}

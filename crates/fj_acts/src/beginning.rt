@@ -80,6 +80,8 @@ fn own<W: Sink, D: Disk>(
     ensures output { W.tells out.old → OnOk result (HandsOver (W.taken out.old) (W.taken out.new) core.old.output core.new.output) }
     ensures front { W.tells out.old → OnErr result (HandsFront (W.taken out.old) (W.taken out.new) core.old.output
         (core_at (own (control_by lined.now.what) variables.now lined.now.line (core_of (files_of (D.held disk.old)) core.old) lined.now.what)).output) }
+    ensures tells { core.new.tells ≡ core.old.tells }
+    ensures still { result ≡ Err Lost.Disk → (out.new ≡ out.old) × (core.new.output ≡ core.old.output) }
     ensures later_out { W.count out.old ≤ W.count out.new }
     ensures failed_out { result ≡ Err Lost.Sink → Rose (W.count out.old) (W.count out.new) }
     ensures pending { KeepsAnswers core.old core.new }
@@ -134,6 +136,7 @@ fn instead<F: FileStore>(
     ensures kinds { core.new.store.kinds ≡ core.old.store.kinds }
     ensures names { core.new.names ≡ core.old.names }
     ensures output { core.new.output ≡ core.old.output }
+    ensures tells { core.new.tells ≡ core.old.tells }
     ensures causes { (result ≢ Err Lost.Disk) × (result ≢ Err Lost.Sink) }
     ensures pending { KeepsAnswers core.old core.new }
 {
@@ -173,6 +176,8 @@ pub fn begin<W: Sink, D: Disk>(
     ensures output { W.tells out.old → OnOk result (HandsOver (W.taken out.old) (W.taken out.new) core.old.output core.new.output) }
     ensures front { W.tells out.old → OnErr result (HandsFront (W.taken out.old) (W.taken out.new) core.old.output
         (core_at (doing (control_by lined.now.what) variables.now lined.now.line (core_of (files_of (D.held disk.old)) core.old) lined.now.what condition)).output) }
+    ensures tells { core.new.tells ≡ core.old.tells }
+    ensures still { result ≡ Err Lost.Disk → (out.new ≡ out.old) × (core.new.output ≡ core.old.output) }
     ensures later_out { W.count out.old ≤ W.count out.new }
     ensures failed_out { result ≡ Err Lost.Sink → Rose (W.count out.old) (W.count out.new) }
     ensures pending { KeepsAnswers core.old core.new }

@@ -145,6 +145,7 @@ fn answer<F: FileStore>(
     ensures kinds { core.new.store.kinds ≡ core.old.store.kinds }
     ensures names { core.new.names ≡ core.old.names }
     ensures output { core.new.output ≡ core.old.output }
+    ensures tells { core.new.tells ≡ core.old.tells }
     ensures causes { (result ≢ Err Lost.Disk) × (result ≢ Err Lost.Sink) }
     ensures pending { KeepsAnswers core.old core.new }
 {
@@ -190,6 +191,7 @@ fn answer_other<D: Disk>(
     ensures kinds { core.new.store.kinds ≡ core.old.store.kinds }
     ensures names { core.new.names ≡ core.old.names }
     ensures output { core.new.output ≡ core.old.output }
+    ensures tells { core.new.tells ≡ core.old.tells }
     ensures telling { D.tells disk.old ↔ D.tells disk.new }
     ensures later { D.count disk.old ≤ D.count disk.new }
     ensures failed { result ≡ Err Lost.Disk → Rose (D.count disk.old) (D.count disk.new) }
@@ -257,6 +259,7 @@ pub(crate) fn answer_look<F: FileStore>(
     ensures kinds { core.new.store.kinds ≡ core.old.store.kinds }
     ensures names { core.new.names ≡ core.old.names }
     ensures output { core.new.output ≡ core.old.output }
+    ensures tells { core.new.tells ≡ core.old.tells }
     ensures causes { (result ≢ Err Lost.Disk) × (result ≢ Err Lost.Sink) }
     ensures pending { KeepsAnswers core.old core.new }
 {
@@ -293,6 +296,7 @@ pub(crate) fn inquire<D: Disk>(
     ensures kinds { core.new.store.kinds ≡ core.old.store.kinds }
     ensures names { core.new.names ≡ core.old.names }
     ensures output { core.new.output ≡ core.old.output }
+    ensures tells { core.new.tells ≡ core.old.tells }
     ensures telling { D.tells disk.old ↔ D.tells disk.new }
     ensures later { D.count disk.old ≤ D.count disk.new }
     ensures failed { result ≡ Err Lost.Disk → Rose (D.count disk.old) (D.count disk.new) }

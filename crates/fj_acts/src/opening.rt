@@ -79,6 +79,7 @@ fn attach<D: Disk>(
     ensures names { D.tells disk.old → AreInUse core.new.names (D.held disk.new).in_use }
     ensures store { core.new.store ≡ core.old.store }
     ensures output { core.new.output ≡ core.old.output }
+    ensures tells { core.new.tells ≡ core.old.tells }
     ensures telling { D.tells disk.old ↔ D.tells disk.new }
     ensures later { D.count disk.old ≤ D.count disk.new }
     ensures failed { result ≡ Err Lost.Disk → Rose (D.count disk.old) (D.count disk.new) }
@@ -117,6 +118,7 @@ pub(crate) fn connect<D: Disk>(
     ensures names { D.tells disk.old → AreInUse core.new.names (D.held disk.new).in_use }
     ensures store { core.new.store ≡ core.old.store }
     ensures output { core.new.output ≡ core.old.output }
+    ensures tells { core.new.tells ≡ core.old.tells }
     ensures telling { D.tells disk.old ↔ D.tells disk.new }
     ensures later { D.count disk.old ≤ D.count disk.new }
     ensures failed { result ≡ Err Lost.Disk → Rose (D.count disk.old) (D.count disk.new) }
@@ -163,6 +165,7 @@ fn open_other<D: Disk>(
     ensures names { D.tells disk.old → AreInUse core.new.names (D.held disk.new).in_use }
     ensures store { core.new.store ≡ core.old.store }
     ensures output { core.new.output ≡ core.old.output }
+    ensures tells { core.new.tells ≡ core.old.tells }
     ensures telling { D.tells disk.old ↔ D.tells disk.new }
     ensures later { D.count disk.old ≤ D.count disk.new }
     ensures failed { result ≡ Err Lost.Disk → Rose (D.count disk.old) (D.count disk.new) }
@@ -200,6 +203,7 @@ pub(crate) fn open<D: Disk>(
     ensures names { D.tells disk.old → AreInUse core.new.names (D.held disk.new).in_use }
     ensures store { core.new.store ≡ core.old.store }
     ensures output { core.new.output ≡ core.old.output }
+    ensures tells { core.new.tells ≡ core.old.tells }
     ensures telling { D.tells disk.old ↔ D.tells disk.new }
     ensures later { D.count disk.old ≤ D.count disk.new }
     ensures failed { result ≡ Err Lost.Disk → Rose (D.count disk.old) (D.count disk.new) }

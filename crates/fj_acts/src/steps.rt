@@ -48,6 +48,7 @@ pub fn given<F: FileStore>(
         (core_of files core.new) goes (next_of variables.now (lined.now, control_by lined.now.what) (core_of files core.old) next number)) }
     ensures names { core.new.names ≡ core.old.names }
     ensures output { core.new.output ≡ core.old.output }
+    ensures tells { core.new.tells ≡ core.old.tells }
     ensures kinds { core.new.store.kinds ≡ core.old.store.kinds }
     ensures causes { (result ≢ Err Lost.Disk) × (result ≢ Err Lost.Sink) }
     ensures pending { KeepsAnswers core.old core.new }
@@ -81,6 +82,7 @@ fn give_back<D: Disk>(connection: Connection<D::File>, core: &mut Core, disk: &m
     ensures back { D.tells disk.old → IsFree (D.held disk.new) connection.name }
     ensures store { core.new.store ≡ core.old.store }
     ensures output { core.new.output ≡ core.old.output }
+    ensures tells { core.new.tells ≡ core.old.tells }
     ensures telling { D.tells disk.old ↔ D.tells disk.new }
     ensures later { D.count disk.old ≤ D.count disk.new }
     ensures failed { result ≡ Lost.Disk → Rose (D.count disk.old) (D.count disk.new) }
@@ -105,6 +107,7 @@ fn give_up<D: Disk>(job: Job<D::File>, core: &mut Core, disk: &mut D) -> Lost
     ensures back { D.tells disk.old → IfSome (held_in job) (λ connection. IsFree (D.held disk.new) connection.name) }
     ensures store { core.new.store ≡ core.old.store }
     ensures output { core.new.output ≡ core.old.output }
+    ensures tells { core.new.tells ≡ core.old.tells }
     ensures telling { D.tells disk.old ↔ D.tells disk.new }
     ensures later { D.count disk.old ≤ D.count disk.new }
     ensures failed { result ≡ Lost.Disk → Rose (D.count disk.old) (D.count disk.new) }
@@ -132,6 +135,7 @@ fn go_on<D: Disk>(
     ensures names { D.tells disk.old → AreInUse core.new.names (D.held disk.new).in_use }
     ensures store { core.new.store ≡ core.old.store }
     ensures output { core.new.output ≡ core.old.output }
+    ensures tells { core.new.tells ≡ core.old.tells }
     ensures telling { D.tells disk.old ↔ D.tells disk.new }
     ensures later { D.count disk.old ≤ D.count disk.new }
     ensures failed { result ≡ Err Lost.Disk → Rose (D.count disk.old) (D.count disk.new) }
@@ -189,6 +193,7 @@ fn closed<D: Disk>(
     ensures names { D.tells disk.old → AreInUse core.new.names (D.held disk.new).in_use }
     ensures store { core.new.store ≡ core.old.store }
     ensures output { core.new.output ≡ core.old.output }
+    ensures tells { core.new.tells ≡ core.old.tells }
     ensures telling { D.tells disk.old ↔ D.tells disk.new }
     ensures later { D.count disk.old ≤ D.count disk.new }
     ensures failed { result ≡ Err Lost.Disk → Rose (D.count disk.old) (D.count disk.new) }
@@ -219,6 +224,7 @@ fn looked<F: FileStore>(
         (core_of files core.new) goes (looks (core_of files core.old) lined.now.what (job.look (option_map looked_of look), answer))) }
     ensures names { core.new.names ≡ core.old.names }
     ensures output { core.new.output ≡ core.old.output }
+    ensures tells { core.new.tells ≡ core.old.tells }
     ensures kinds { core.new.store.kinds ≡ core.old.store.kinds }
     ensures causes { (result ≢ Err Lost.Disk) × (result ≢ Err Lost.Sink) }
     ensures pending { KeepsAnswers core.old core.new }
@@ -248,6 +254,7 @@ fn carried<F: FileStore>(
         (core_of files core.new) goes (carries variables.now (core_of files core.old) lined.now.what slot (job.move (moving_of moved), answer))) }
     ensures names { core.new.names ≡ core.old.names }
     ensures output { core.new.output ≡ core.old.output }
+    ensures tells { core.new.tells ≡ core.old.tells }
     ensures kinds { core.new.store.kinds ≡ core.old.store.kinds }
     ensures causes { (result ≢ Err Lost.Disk) × (result ≢ Err Lost.Sink) }
     ensures pending { KeepsAnswers core.old core.new }
@@ -286,6 +293,7 @@ pub fn answered<D: Disk>(
         (then_of variables.now (lined.now, control_by lined.now.what) (core_of (files_of (D.held disk.old)) core.old) then (task, reply_of answer))) }
     ensures names { D.tells disk.old → AreInUse core.new.names (D.held disk.new).in_use }
     ensures output { core.new.output ≡ core.old.output }
+    ensures tells { core.new.tells ≡ core.old.tells }
     ensures kinds { core.new.store.kinds ≡ core.old.store.kinds }
     ensures telling { D.tells disk.old ↔ D.tells disk.new }
     ensures later { D.count disk.old ≤ D.count disk.new }

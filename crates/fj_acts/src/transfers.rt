@@ -46,6 +46,7 @@ pub(crate) fn refuse<F: FileStore>(
     ensures kinds { core.new.store.kinds ≡ core.old.store.kinds }
     ensures names { core.new.names ≡ core.old.names }
     ensures output { core.new.output ≡ core.old.output }
+    ensures tells { core.new.tells ≡ core.old.tells }
     ensures causes { (result ≢ Err Lost.Disk) × (result ≢ Err Lost.Sink) }
     ensures pending { KeepsAnswers core.old core.new }
 {
@@ -71,6 +72,7 @@ fn transfer<F: FileStore>(
     ensures kinds { core.new.store.kinds ≡ core.old.store.kinds }
     ensures names { core.new.names ≡ core.old.names }
     ensures output { core.new.output ≡ core.old.output }
+    ensures tells { core.new.tells ≡ core.old.tells }
     ensures causes { (result ≢ Err Lost.Disk) × (result ≢ Err Lost.Sink) }
     ensures pending { KeepsAnswers core.old core.new }
 {
@@ -109,6 +111,7 @@ fn transfer_on<F: FileStore>(
     ensures kinds { core.new.store.kinds ≡ core.old.store.kinds }
     ensures names { core.new.names ≡ core.old.names }
     ensures output { core.new.output ≡ core.old.output }
+    ensures tells { core.new.tells ≡ core.old.tells }
     ensures causes { (result ≢ Err Lost.Disk) × (result ≢ Err Lost.Sink) }
     ensures pending { KeepsAnswers core.old core.new }
 {
@@ -143,6 +146,7 @@ pub(crate) fn read_or_write<F: FileStore, W: Sink>(
     ensures output { W.tells out.old → OnOk result (HandsOver (W.taken out.old) (W.taken out.new) core.old.output core.new.output) }
     ensures front { W.tells out.old → (files : Files) → OnErr result (HandsFront (W.taken out.old) (W.taken out.new) core.old.output
         (core_at (transfer_at (control_by (statement.Transfer t.now)) variables.now line (core_of files core.old) t.now (moved_in variables.now (values_of core.old.store) t.now) t.now.unit)).output) }
+    ensures tells { core.new.tells ≡ core.old.tells }
     ensures later { W.count out.old ≤ W.count out.new }
     ensures failed { result ≡ Err Lost.Sink → Rose (W.count out.old) (W.count out.new) }
     ensures pending { KeepsAnswers core.old core.new }
@@ -210,6 +214,7 @@ pub(crate) fn enter(
     ensures kinds { core.new.store.kinds ≡ core.old.store.kinds }
     ensures names { core.new.names ≡ core.old.names }
     ensures output { core.new.output ≡ core.old.output }
+    ensures tells { core.new.tells ≡ core.old.tells }
     ensures causes { (result ≢ Err Lost.Disk) × (result ≢ Err Lost.Sink) }
     ensures pending { KeepsAnswers core.old core.new }
 {
@@ -240,6 +245,7 @@ pub(crate) fn carry<F: FileStore>(
     ensures kinds { core.new.store.kinds ≡ core.old.store.kinds }
     ensures names { core.new.names ≡ core.old.names }
     ensures output { core.new.output ≡ core.old.output }
+    ensures tells { core.new.tells ≡ core.old.tells }
     ensures causes { (result ≢ Err Lost.Disk) × (result ≢ Err Lost.Sink) }
     ensures pending { KeepsAnswers core.old core.new }
 {

@@ -1,6 +1,7 @@
 pub mod Looking
 pub mod Growing
 pub mod Serving
+pub mod GivingUp
 pub mod WithWorkers
 pub mod Opening
 pub mod Hiring

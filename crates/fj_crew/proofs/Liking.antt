@@ -4,7 +4,7 @@ use Rattle.fj_slot.specs.Serving.{Meaning}
 use Rattle.fj_slot.specs.Ledger.{Ledger}
 use Rattle.fj_world.specs.declared.ask.Ask.{Ask}
 use Rattle.fj_world.specs.Conduct.{Conduct}
-use Rattle.fj_world.specs.Plain.{Plain}
+use Rattle.fj_world.specs.Plain.{Plain, PlainSlot}
 use Rattle.fj_queue.specs.declared.view.Agenda.{Agenda}
 use Rattle.fj_queue.specs.declared.seats.QueueOf.{QueueOf}
 use Rattle.fj_queue.specs.declared.seats.SubmitterOf.{SubmitterOf}
@@ -12,7 +12,7 @@ use Rattle.fj_queue.specs.Knows.{knows}
 use Rattle.fj_crew.specs.Seats.{Paired}
 use Rattle.std.proofs.lemmas.Option.{slice_get_within}
 use Rattle.fj_world.proofs.Places.{slice_get_in, same_some}
-use Rattle.fj_crew.specs.Fits.{AllAnswered, SomeTold, Begun, CrewGoes}
+use Rattle.fj_crew.specs.Fits.{AllAnswered, SomeTold, Begun, CrewGoes, CrewGaveUp}
 use Rattle.fj_crew.specs.Plan.{Opened}
 use Rattle.fj_crew.specs.Team.{HandsAre, SeatsLike, CanServe, HasServed}
 
@@ -98,6 +98,18 @@ module _ {S C G J A P T R : Type 0} (m : Meaning G J A P T R) (c : Conduct S T R
     };
   }
 
+  pub gave_up_like : (most : ℕ) (s : c.State) (qs : List (PlainSlot P T)) (first last : S) (old new : List (SubmitterOf C G T)) → SeatsLike old new
+      → CrewGaveUp m c most s qs first last old → CrewGaveUp m c most s qs first last new
+  gave_up_like most s qs first last old new like g = record {
+    asks = g.asks;
+    few = g.few;
+    call = g.call;
+    slots = record {
+      same = g.slots.same ∙ sym like.long;
+      sent = λ k q w eq e. let was = like.each k w e in was.2.numbers.sent_is ∙ g.slots.sent k q was.0 eq was.1;
+    };
+  }
+
 module _ {S C G J A P T R L : Type 0} (m : Meaning G J A P T R) (c : Conduct S T R) where
   -- hiring keeps what serving asks
   pub can_like : (queues : List (QueueOf C G T L)) (script : S) (old new : List (SubmitterOf C G T)) → SeatsLike old new → Paired queues new → CanServe m c queues script old → CanServe m c queues script new
@@ -133,4 +145,5 @@ module _ {S C G J A P T R L : Type 0} (m : Meaning G J A P T R) (c : Conduct S T
     stopped = λ was is. told_like d e folded (h.stopped was is);
     leads = h.leads;
     alone = λ begun. goes_like m c _ _ script' _ d e (answered_like a b hired) folded (h.alone (begun_like m c script a b hired begun));
+    gave_up = λ begun going over. gave_up_like m c _ _ _ script script' d e folded (h.gave_up (begun_like m c script a b hired begun) going over);
   }

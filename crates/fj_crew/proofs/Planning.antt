@@ -13,6 +13,8 @@ use Rattle.fj_world.specs.Rack.{Rack}
 use Rattle.fj_world.specs.Plain.{Plain, PlainSlot, asked_next, after}
 use Rattle.fj_world.specs.Fits.{SlotFits, SlotsFit}
 use Rattle.fj_world.specs.Alone.{ServedAlone}
+use Rattle.fj_world.specs.Losing.{WasLost}
+use Rattle.fj_world.proofs.Losing.{before_slots}
 use Rattle.fj_world.proofs.Places.{slice_get_in, same_some}
 use Rattle.fj_queue.specs.declared.view.View.{View}
 use Rattle.fj_queue.specs.declared.view.Agenda.{Agenda}
@@ -20,7 +22,7 @@ use Rattle.fj_queue.specs.declared.seats.SubmitterOf.{SubmitterOf}
 use Rattle.fj_queue.specs.Knows.{knows}
 use Rattle.fj_queue.specs.Cell.{IsFor}
 use Rattle.fj_queue.specs.Tokens.{Begins, IsLast}
-use Rattle.fj_crew.specs.Fits.{NoJobs, SeatsSame, AllAnswered, Planned, Begun, CrewGoes}
+use Rattle.fj_crew.specs.Fits.{NoJobs, SeatsSame, AllAnswered, Planned, Begun, CrewGoes, CrewGaveUp}
 use Rattle.fj_crew.specs.Plan.{with_both, told_jobs, told_slot, told_slots, AllSound, begun, agenda_with, jobs_in, plan_at, Opened, Shut, NoHands}
 use Rattle.fj_crew.proofs.Looking.{code_halts}
 use Rattle.fj_crew.proofs.Growing.{grows_after, grows_later}
@@ -246,6 +248,26 @@ module _ {S C G J A P T R : Type 0} (m : Meaning G J A P T R) (c : Conduct S T R
       nobody : {X : Type 0} → (k : ℕ) (x : X) → slice_get [] k ≡ Some x → ⊥
       nobody zero x e = cc
       nobody (suc k) x e = cc
+
+  -- the slots at the end are sound for the jobs that were submitted until the script was over
+  pub ends_lost : (s : c.State) (qs : List (PlainSlot P T)) (most : ℕ) (script new : S) (seats seats' : List (SubmitterOf C G T)) (closed : Rack G J A)
+      → Planned m c (asked_next m c s qs) most seats → SeatsSame seats seats' → CrewGaveUp m c most s qs script new seats' → Shut m [] seats' closed.slots → WasLost m c s qs script new closed
+  ends_lost s qs most script new seats seats' closed planned same g shut =
+      record {
+        asks = g.asks;
+        call = g.call;
+        slots = record {
+          same = g.slots.same ∙ sym (shut.same) ∙ sym (ap length shut.is);
+          each = λ k q l eq el.
+              let el' = ap (λ z. slice_get z k) (sym shut.is) ∙ el in
+              let x = slice_get_in seats' k (omega (arith, shut.same, slice_get_within shut.closed k l el')) in
+              let was = same.each k x.0 x.1 in
+              let later = (grows_later m c g.asks most (asked_next m c s qs) g.few).each k q (ap (λ z. slice_get z k) (before_slots m c g.asks s qs) ∙ eq) in
+              let plan = planned.plans k was.0 later.0 was.1 later.1 in
+              (closed_fits m true q plan.0 later.0.jobs later.2.more l (knows x.0) (shut.each k x.0 l x.1 el') (was.2 ∙ plan.1) plan.2 later.2.jobs (plan.3 ∙ ap (λ z. Some z) later.2.start)
+              (g.slots.sent k q x.0 eq x.1) (λ e. absurd (cc)) (λ e. absurd (cc))).sound;
+        };
+      }
 
 -- each slot has a plan with its starting engine
 abbrev pub NamesStarts : {G J A T : Type 0} → (ℕ → Option (Agenda G T)) → List (Ledger G J A) → Type 0

@@ -5,6 +5,7 @@ use Rattle.fj_world.specs.declared.ask.Ask.{Ask}
 use Rattle.fj_world.specs.declared.ask.Ask.TheVariants.{Settle}
 use Rattle.fj_world.specs.Conduct.{Conduct, IsAsk}
 use Rattle.fj_world.specs.Plain.{Plain, PlainSlot, asked_next, after}
+use Rattle.fj_world.specs.Losing.{before_ask, GaveUp}
 use Rattle.fj_queue.specs.declared.view.View.{View}
 use Rattle.fj_queue.specs.declared.view.Agenda.{Agenda}
 use Rattle.fj_queue.specs.declared.seats.SubmitterOf.{SubmitterOf}
@@ -14,6 +15,11 @@ use Rattle.fj_queue.specs.Knows.{knows}
 pub record SeatFits {G P T : Type 0} (over : Bool) (q : PlainSlot P T) (v : View G T) : Type 0 where
   pub sent : v.sent ≡ length q.jobs
   pub heard : over ≡ false → v.heard ≡ q.told
+
+-- each submitter has submitted as many jobs as the plain slot has
+pub record SeatsHold {C G P T : Type 0} (qs : List (PlainSlot P T)) (seats : List (SubmitterOf C G T)) : Type 0 where
+  pub same : length qs ≡ length seats
+  pub sent : (k : ℕ) (q : PlainSlot P T) (s : SubmitterOf C G T) → slice_get qs k ≡ Some q → slice_get seats k ≡ Some s → (knows s).sent ≡ length q.jobs
 
 module _ {C G T : Type 0} where
   -- no queue's plan has jobs
@@ -82,3 +88,10 @@ module _ {S C G J A P T R : Type 0} (m : Meaning G J A P T R) (c : Conduct S T R
     pub entries : ℕ
     pub few : entries + c.left script ≤ most
     pub fits : CrewFits was level (after m c entries p) script hand seats
+
+  -- The script is over since one call, for which it had asks enough, and the submitters have submitted the jobs until then.
+  pub record CrewGaveUp (most : ℕ) (s : c.State) (qs : List (PlainSlot P T)) (first last : S) (seats : List (SubmitterOf C G T)) : Type 0 where
+    pub asks : ℕ
+    pub few : asks ≤ most
+    pub call : GaveUp m c asks s qs first last
+    pub slots : SeatsHold (before_ask m c asks s qs).1 seats

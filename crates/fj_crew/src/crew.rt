@@ -6,6 +6,7 @@ ghost use Rattle.fj_world.specs.Rack.{At};
 ghost use Rattle.fj_world.specs.Plain.{PlainSlot, asked_next};
 ghost use Rattle.fj_world.specs.Fits.{SlotsFit};
 ghost use Rattle.fj_world.specs.Alone.{AllHome, OwesAsSaid, ServedAlone};
+ghost use Rattle.fj_world.specs.Losing.{WasLost};
 ghost use Rattle.fj_world.specs.Keeping.{AllCounted, SomeStopped};
 ghost use Rattle.fj_crew.specs.Plan.{AllSound, NumbersGoOn, SameNumbers};
 
@@ -59,6 +60,11 @@ where
     ensures stopped { IfOk result (λ it. S.conduct.stopped script.old ≡ false → S.conduct.stopped script.new ≡ true → SomeStopped it) }
     ensures alone { IfOk result (λ it. (s : S.conduct.State) (qs : List (PlainSlot S.Gear.State S.Gear.Task)) → S.conduct.state script.old ≡ Some s
         → S.conduct.stopped script.old ≡ false → SlotsFit S.Gear.meaning qs slots → ServedAlone S.Gear.meaning S.conduct (asked_next S.Gear.meaning S.conduct s qs) script.new it) }
+
+    // Where it is over, what it was before the call by which it was.
+    ensures gave_up { IfOk result (λ it. (s : S.conduct.State) (qs : List (PlainSlot S.Gear.State S.Gear.Task)) → S.conduct.state script.old ≡ Some s
+        → S.conduct.stopped script.old ≡ false → S.conduct.over script.old ≡ false → SlotsFit S.Gear.meaning qs slots → S.conduct.over script.new ≡ true
+        → WasLost S.Gear.meaning S.conduct s qs script.old script.new it) }
 
     // Nothing was asked.
     ensures lost { IfErr result (λ it. (script.new ≡ script.old) × AllHome it.slots × SameNumbers slots it.slots) }

@@ -5,7 +5,7 @@ ghost use Rattle.fj_world.specs.Leading.{LeadsTo};
 ghost use Rattle.fj_world.specs.declared.ask.Ask.TheVariants.{Finished};
 ghost use Rattle.fj_world.specs.Plain.{asked_next};
 ghost use Rattle.fj_crew.specs.Seats.{Paired};
-ghost use Rattle.fj_crew.specs.Fits.{NoJobs, SeatsSame, OwesAsSaid, FewJobs, AllAnswered, SomeTold, Begun, CrewGoes};
+ghost use Rattle.fj_crew.specs.Fits.{NoJobs, SeatsSame, OwesAsSaid, FewJobs, AllAnswered, SomeTold, Begun, CrewGoes, CrewGaveUp};
 
 use crate::seats::{settle_at, submit_at};
 use crate::signals::Signals;
@@ -37,6 +37,8 @@ pub(crate) fn serve<S: Script, R: Wait>(
     ensures leads { LeadsTo S.conduct.leads script.old script.new }
     ensures alone { (b : Begun S.Gear.meaning S.conduct script.old seats.old.items)
         → CrewGoes S.Gear.meaning S.conduct (S.conduct.stopped script.old) (AllAnswered seats.old.items) (asked_next S.Gear.meaning S.conduct b.state b.slots) (S.conduct.left script.old) script.new Finished seats.new.items }
+    ensures gave_up { (b : Begun S.Gear.meaning S.conduct script.old seats.old.items) → S.conduct.over script.old ≡ false → S.conduct.over script.new ≡ true
+        → CrewGaveUp S.Gear.meaning S.conduct (S.conduct.left script.old) b.state b.slots script.old script.new seats.new.items }
 {
     let mut hand = script.ask();
     loop {

@@ -6,6 +6,7 @@ ghost use Rattle.fj_world.specs.Rack.{At};
 ghost use Rattle.fj_world.specs.Plain.{PlainSlot, asked_next};
 ghost use Rattle.fj_world.specs.Fits.{SlotsFit};
 ghost use Rattle.fj_world.specs.Alone.{AllHome, OwesAsSaid, ServedAlone};
+ghost use Rattle.fj_world.specs.Losing.{WasLost};
 ghost use Rattle.fj_world.specs.Keeping.{AllCounted, SomeStopped};
 ghost use Rattle.fj_crew.specs.Plan.{AllSound, NumbersGoOn};
 
@@ -52,6 +53,11 @@ where
     ensures stopped { S.conduct.stopped script.old ≡ false → S.conduct.stopped script.new ≡ true → SomeStopped slots.new }
     ensures alone { (s : S.conduct.State) (qs : List (PlainSlot S.Gear.State S.Gear.Task)) → S.conduct.state script.old ≡ Some s
         → S.conduct.stopped script.old ≡ false → SlotsFit S.Gear.meaning qs slots.old → ServedAlone S.Gear.meaning S.conduct (asked_next S.Gear.meaning S.conduct s qs) script.new slots.new }
+
+    // Where it is over, what it was before the call by which it was.
+    ensures gave_up { (s : S.conduct.State) (qs : List (PlainSlot S.Gear.State S.Gear.Task)) → S.conduct.state script.old ≡ Some s
+        → S.conduct.stopped script.old ≡ false → S.conduct.over script.old ≡ false → SlotsFit S.Gear.meaning qs slots.old → S.conduct.over script.new ≡ true
+        → WasLost S.Gear.meaning S.conduct s qs script.old script.new slots.new }
 {
     if workers == 0 {
         run_alone(script, slots);

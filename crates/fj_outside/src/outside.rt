@@ -153,7 +153,7 @@ pub trait FileStore: Drop {
 
 /// Files by name. A file is at home, or is out and its name in use; then it exists too.
 pub trait Disk {
-    type File: FileStore + Send;
+    type File: FileStore;
 
     /// Whether it tells what it holds.
     ghost tells: { Self → Type 0 };

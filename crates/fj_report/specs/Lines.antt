@@ -7,7 +7,7 @@ use Rattle.fj_value.specs.declared.value.Value.TheVariants as value
 use Rattle.fj_value.specs.declared.condition.Rule.{Rule}
 use Rattle.fj_value.specs.declared.condition.Rule.TheVariants.{P1, P2, P3, P4, P5}
 use Rattle.fj_statement.specs.declared.reason.Reason.{Reason}
-use Rattle.fj_statement.specs.declared.reason.Reason.TheVariants.{TextTooLong, LineTooLong, Syntax, Format, Meaning, TooMany, NoEnd, NotBuilt}
+use Rattle.fj_statement.specs.declared.reason.Reason.TheVariants.{TextTooLong, LineTooLong, Syntax, Format, Meaning, TooMany, NoEnd}
 use Rattle.fj_report.specs.declared.status.Status.{Status}
 use Rattle.fj_report.specs.declared.summary.Summary.{Summary}
 use Rattle.fj_report.specs.declared.trace.Tell.{Tell}
@@ -22,7 +22,6 @@ reason_words (Format at) = codes "format at "
 reason_words Meaning = codes "meaning"
 reason_words TooMany = codes "too many"
 reason_words NoEnd = codes "no end"
-reason_words NotBuilt = codes "not built"
 
 -- the number behind them
 abbrev pub reason_number : Reason → List ℕ

@@ -47,7 +47,6 @@ fn reason_words(reason: Reason) -> &'static [u8]
         Reason::Meaning => b"meaning",
         Reason::TooMany => b"too many",
         Reason::NoEnd => b"no end",
-        Reason::NotBuilt => b"not built",
     }
 }
 

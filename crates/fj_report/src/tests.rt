@@ -9,7 +9,7 @@ use std::test::Fail;
 
 mod words;
 
-static STATUSES: [(Status, &[u8]); 19] = [
+static STATUSES: [(Status, &[u8]); 18] = [
     (Status::Ended, b"= ended\n"),
     (
         Status::ErrorStop { stmt: 7, code: 1 },
@@ -91,13 +91,6 @@ static STATUSES: [(Status, &[u8]); 19] = [
             reason: Reason::NoEnd,
         },
         b"= refused at 1: no end\n",
-    ),
-    (
-        Status::DeckRefused {
-            line: 1,
-            reason: Reason::NotBuilt,
-        },
-        b"= refused at 1: not built\n",
     ),
     (
         Status::Usage,

@@ -1,7 +1,6 @@
 -- A run that was told an answer.
-use Rattle.std.proofs.Common.{◌≡◌, ℕ, ◌==◌, ◌&&◌, Bool, true, false, cond, List, [], ◌∷◌, map, get_or, Option, Some, None, Result, Ok, Err, OnOk, OnErr, refl, sym, ap, ◌∙◌, subst}
+use Rattle.std.proofs.Common.{◌≡◌, ℕ, ◌==◌, ◌&&◌, Bool, true, false, cond, List, [], ◌∷◌, map, get_or, Option, Some, Result, Ok, Err, OnOk, OnErr, refl, sym, ap, ◌∙◌, subst}
 use Rattle.std.specs.Option.{option_map}
-use Rattle.std.specs.List.{list_any}
 use Rattle.fj_outside.specs.declared.outside.FileStore.{Ghosts}
 use Rattle.fj_statement.specs.declared.deck.Variable.{Variable}
 use Rattle.fj_bay.specs.Jobs.{Job as Task}
@@ -14,7 +13,7 @@ use Rattle.fj_desk.specs.Core.{Core, Pending}
 use Rattle.fj_desk.specs.Desks.{Outcome}
 use Rattle.fj_turns.specs.Run.{Run, Held, Start, Waiting, Acting, Awaiting}
 use Rattle.fj_turns.specs.Run.{Stage as PlainStage}
-use Rattle.fj_turns.specs.Turns.{told_of, stage_told, with_answer, bump, is_at}
+use Rattle.fj_turns.specs.Turns.{told_of, stage_told, with_answer, bump}
 use Rattle.fj_pending.specs.Plain.{held}
 use Rattle.fj_pending.specs.declared.held.Held as code_held
 use Rattle.fj_acts.specs.Doing.{then_of}

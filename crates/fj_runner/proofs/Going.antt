@@ -1,14 +1,16 @@
 -- Statements that are carried out one after another, none of which asks.
-use Rattle.std.proofs.Common.{◌≡◌, ℕ, List, Option, Some, None, IfNone, refl, sym, ap, ◌∙◌}
+use Rattle.std.proofs.Common.{◌≡◌, ℕ, ◌+◌, List, Option, Some, None, IfNone, refl, ◌∙◌}
 use Rattle.fj_outside.specs.Holdings.{Holdings}
 use Rattle.fj_outside.specs.declared.outside.FileStore.{Ghosts}
 use Rattle.fj_turns.specs.Run.{Start}
 use Rattle.fj_turns.specs.Turns.{goes}
+use Rattle.fj_turns.specs.Passing.{passes, passed_on}
 use Rattle.fj_units.specs.Files.{files_of}
 use Rattle.fj_runner.specs.Machine.{rest_of, run_at}
 use Rattle.fj_runner.specs.Stepping.{Steps}
 use Rattle.fj_runner.specs.declared.stage.Stage.TheVariants as stage
 use Rattle.fj_runner.specs.declared.machine.Machine.{Machine}
+use Rattle.fj_runner.proofs.GivingUp.{passes_both, passes_one}
 use Rattle.fj_runner.proofs.Stepping.{went, kept_steps, ok_keeps, then_steps, ok_steps}
 
 module _ {W D F : Type 0} {ghosts : Ghosts F} (tells_out : W → Type 0) (taken : W → List ℕ) (count_out : W → ℕ) (tells : D → Type 0) (held : D → Holdings) (count : D → ℕ) where
@@ -17,6 +19,7 @@ module _ {W D F : Type 0} {ghosts : Ghosts F} (tells_out : W → Type 0) (taken 
     pub steps : Steps tells_out taken count_out tells held count out disk m.state.core (went (tt {0})) out' disk' m'.state.core
     pub goes : tells disk → m.state.stage ≡ stage.Start
         → (m'.state.stage ≡ stage.Start) × (goes (rest_of m) (run_at (files_of (held disk)) m Start) ≡ goes (rest_of m') (run_at (files_of (held disk')) m' Start))
+    pub passed : tells disk → (count : ℕ) × (passes count (run_at (files_of (held disk)) m Start) ≡ Some (run_at (files_of (held disk')) m' Start))
     pub deck : m'.deck ≡ m.deck
     pub tally : m'.tally ≡ m.tally
     pub kept : m'.kept ≡ m.kept
@@ -25,6 +28,7 @@ module _ {W D F : Type 0} {ghosts : Ghosts F} (tells_out : W → Type 0) (taken 
   goes_none out disk m = record {
     steps = kept_steps out disk m.state.core m.state.core (went (tt {0})) (ok_keeps m.state.core m.state.core (tt {0}) refl);
     goes = λ t h. (h, refl);
+    passed = λ t. (0, refl);
     deck = refl;
     tally = refl;
     kept = refl;
@@ -33,11 +37,18 @@ module _ {W D F : Type 0} {ghosts : Ghosts F} (tells_out : W → Type 0) (taken 
   pub goes_more : {X : Type 0} → (out mid out' : W) (disk between disk' : D) (m half m' : Machine F ghosts) (x : X) → GoesOn out disk m mid between half
       → Steps tells_out taken count_out tells held count mid between half.state.core (went x) out' disk' m'.state.core
       → (tells between → (m'.state.stage ≡ stage.Start) × (goes (rest_of half) (run_at (files_of (held between)) half Start) ≡ goes (rest_of m') (run_at (files_of (held disk')) m' Start)))
+      → (tells between → passed_on (rest_of half) (run_at (files_of (held between)) half Start) ≡ Some (run_at (files_of (held disk')) m' Start))
       → m'.deck ≡ half.deck → m'.tally ≡ half.tally → m'.kept ≡ half.kept → GoesOn out disk m out' disk' m'
-  goes_more out mid out' disk between disk' m half m' x a b next deck tally kept = record {
+  goes_more out mid out' disk between disk' m half m' x a b next passed deck tally kept = record {
     steps = then_steps out mid out' disk between disk' m.state.core half.state.core m'.state.core (tt {0}) (went (tt {0})) a.steps
         (ok_steps mid out' between disk' half.state.core m'.state.core (went x) x (tt {0}) refl b);
     goes = λ t h. let k = next (a.steps.telling.0 t) in (k.0, (a.goes t h).1 ∙ k.1);
+    passed = λ t.
+        let p = a.passed t in
+        let first = run_at (files_of (held disk)) m Start in
+        let here = run_at (files_of (held between)) half Start in
+        let there = run_at (files_of (held disk')) m' Start in
+        (p.0 + 1, passes_both p.0 1 first here there p.1 (passes_one here there (passed (a.steps.telling.0 t))));
     deck = deck ∙ a.deck;
     tally = tally ∙ a.tally;
     kept = kept ∙ a.kept;

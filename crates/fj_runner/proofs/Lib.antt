@@ -5,10 +5,10 @@ pub mod Tallies
 pub mod NextAsks
 pub mod Going
 pub mod Scripting
-pub mod Conducting
-pub mod Reached
 pub mod Lists
 pub mod Pauses
 pub mod Made
 pub mod Beginnings
 pub mod Answered
+pub mod Failures
+pub mod GivingUp

@@ -1,5 +1,5 @@
 -- What is asked next, by what a turn comes to.
-use Rattle.std.proofs.Common.{◌≡◌, ℕ, zero, suc, ◌+◌, Bool, true, false, List, [], ◌∷◌, drop, length, ◌<◌, get_or, slice_get, Option, Some, None, is_some, unwrap_or, if◌then◌else◌, arith, refl, sym, ap, ◌∙◌, subst}
+use Rattle.std.proofs.Common.{◌≡◌, ℕ, zero, suc, ◌+◌, Bool, true, false, List, [], ◌∷◌, drop, length, ◌<◌, ◌≤◌, get_or, slice_get, Option, Some, None, is_some, unwrap_or, if◌then◌else◌, arith, refl, sym, ap, ◌∙◌, subst}
 use Rattle.std.specs.Option.{option_map}
 use Rattle.fj_outside.specs.declared.outside.FileStore.{Ghosts}
 use Rattle.fj_statement.specs.declared.deck.Lined.{Lined}
@@ -12,7 +12,7 @@ use Rattle.fj_turns.specs.Run.{Run, Stage, Start}
 use Rattle.fj_turns.specs.Turns.{Turn, Pauses, Passes, Stops, Asked, turn, turn_start, goes, by_turn, asked, asked_on}
 use Rattle.fj_acts.specs.State.{core_of}
 use Rattle.fj_runner.specs.declared.ending.Ending.{Ending as CodeEnding}
-use Rattle.fj_runner.specs.Machine.{ending_of, stage_of, run_in, run_at, run_of, rest_of, stage_at}
+use Rattle.fj_runner.specs.Machine.{ending_of, stage_of, run_in, run_at, run_of, rest_of}
 use Rattle.fj_runner.specs.Turned.{IsTask, Pausing, Stands, IsAsked}
 use Rattle.fj_runner.specs.declared.stage.Stage.TheVariants as stage
 use Rattle.fj_statement.specs.declared.deck.Variable.{Variable}
@@ -71,6 +71,31 @@ asked_ended r e = ap (λ b. if b then record { ask = Finished; run = r } else as
 pub not_ended : (o : Option CodeEnding) → is_some o ≡ false → option_map ending_of o ≡ None
 not_ended None e = refl
 not_ended (Some it) e = cc
+
+-- nothing is asked
+pub rests_asked : {F : Type 0} {ghosts : Ghosts F} → (told : F → Bool) (bytes : F → List ℕ) (files : Files) (m : Machine F ghosts) (r : Run) → run_of told bytes files m ≡ Some r → asked r ≡ record { ask = Finished; run = r }
+    → IsAsked told bytes files m Finished (asked r)
+rests_asked told bytes files m r known e = subst (λ a. IsAsked told bytes files m Finished a) (sym e) (record { run = known; asks = tt })
+
+some_ended : (o : Option CodeEnding) → is_some o ≡ true → is_some (option_map ending_of o) ≡ true
+some_ended None e = cc
+some_ended (Some it) e = refl
+
+-- it has ended
+pub ended_asked : {F : Type 0} {ghosts : Ghosts F} → (files : Files) (m : Machine F ghosts) (x : Stage) (r : Run) → run_at files m x ≡ r → is_some m.state.ending ≡ true → asked r ≡ record { ask = Finished; run = r }
+ended_asked files m x r e ended = asked_ended r (ap (λ (y : Run). is_some y.ending) (sym e) ∙ some_ended m.state.ending ended)
+
+none_behind : (sts : List Lined) (at : ℕ) → length sts ≤ at → drop at (stated sts) ≡ []
+none_behind [] zero h = refl
+none_behind [] (suc n) h = refl
+none_behind (x ∷ xs) zero h = absurd (omega (arith, h))
+none_behind (x ∷ xs) (suc n) h = let low : length xs ≤ n = omega (arith, h) in none_behind xs n low
+
+-- no statement is at hand
+pub done_asked : {F : Type 0} {ghosts : Ghosts F} → (files : Files) (m : Machine F ghosts) (x : Stage) (r : Run) → run_at files m x ≡ r → is_some m.state.ending ≡ false → length m.deck.statements ≤ m.at
+    → asked r ≡ record { ask = Finished; run = r }
+done_asked files m x r e going low =
+    asked_none r (ap (λ (y : Run). y.ending) (sym e) ∙ not_ended m.state.ending going) (ap (λ (y : Run). y.rest) (sym e) ∙ none_behind m.deck.statements m.at low)
 
 -- the statement at hand goes on from its stage
 pub asked_at : {F : Type 0} {ghosts : Ghosts F} → (files : Files) (m : Machine F ghosts) (x : Stage) (st : Stated) (more : List Stated) (r : Run) → run_at files m x ≡ r → option_map ending_of m.state.ending ≡ None → rest_of m ≡ st ∷ more

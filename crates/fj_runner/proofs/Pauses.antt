@@ -1,23 +1,18 @@
 -- What turns come to.
-use Rattle.std.proofs.Common.{◌≡◌, ℕ, ◌+◌, Bool, List, ◌∷◌, [], ◌++◌, map, filter, drop, not, get_or, Option, Some, None, refl, sym, ap, ◌∙◌, subst}
+use Rattle.std.proofs.Common.{◌≡◌, ℕ, ◌+◌, Bool, List, ◌∷◌, map, drop, get_or, Some, refl, sym, ap, ◌∙◌}
 use Rattle.fj_outside.specs.declared.outside.FileStore.{Ghosts}
 use Rattle.fj_statement.specs.declared.deck.Variable.{Variable}
-use Rattle.fj_value.specs.declared.condition.Condition.{Condition}
-use Rattle.fj_store.specs.Storage.{values_of}
 use Rattle.fj_world.specs.declared.ask.Ask.TheVariants.{Submit, Settle}
-use Rattle.fj_bay.specs.Jobs.{Job as Task, Answer as Reply, resume}
+use Rattle.fj_bay.specs.Jobs.{Job as Task, resume}
 use Rattle.fj_bay.specs.Plain.{task_of}
 use Rattle.fj_bay.specs.declared.job.Job.{Job}
-use Rattle.fj_plain.specs.State.{Files, Entry}
+use Rattle.fj_plain.specs.State.{Files}
 use Rattle.fj_plain.specs.Statement.{Stated}
-use Rattle.fj_plain.specs.Telling.{condition_of, tells_id, tell_of, with_inputs, waited_in}
-use Rattle.fj_desk.specs.Acting.{doing}
-use Rattle.fj_desk.specs.Core.{Core, Pending}
-use Rattle.fj_desk.specs.Desking.{told_core}
-use Rattle.fj_desk.specs.Doing.{Doing, finishes, gives, awaits}
-use Rattle.fj_turns.specs.Run.{Run, Held, Stage, Acting, Awaiting, Waiting}
-use Rattle.fj_turns.specs.Turns.{Turn, Pauses, bump, matched, with_core, with_tells, submits, settles, turn_act, turn_tell, turn_wait, wait_by, ends_halts, halted_slots, unsettled}
-use Rattle.fj_pending.specs.Plain.{held, tells_of}
+use Rattle.fj_desk.specs.Core.{Core}
+use Rattle.fj_desk.specs.Doing.{Doing, gives, awaits}
+use Rattle.fj_turns.specs.Run.{Run, Held, Stage, Acting, Awaiting}
+use Rattle.fj_turns.specs.Turns.{Pauses, bump, matched, with_core, submits, settles, turn_act, ends_halts}
+use Rattle.fj_pending.specs.Plain.{held}
 use Rattle.fj_acts.specs.Doing.{next_of, then_of}
 use Rattle.fj_acts.specs.State.{core_of}
 use Rattle.fj_acts.specs.declared.doing.Given.{Given}
@@ -25,7 +20,7 @@ use Rattle.fj_acts.specs.declared.doing.Then.{Then}
 use Rattle.fj_runner.specs.Machine.{stage_of, run_in}
 use Rattle.fj_runner.specs.Turned.{Pausing}
 use Rattle.fj_runner.specs.declared.state.State.{State}
-use Rattle.fj_runner.proofs.Runs.{matched_same, with_core_is, told_book}
+use Rattle.fj_runner.proofs.Runs.{with_core_is}
 
 module _ {F : Type 0} {ghosts : Ghosts F} (told : F → Bool) (bytes : F → List ℕ) (variables : List Variable) (rest : List Stated) (files : Files) where
   pub submit_pauses : (new : State F ghosts) (run : Run) (slot : ℕ) (job : Job F) (task : Task) (after : Stage) → task_of told bytes job ≡ Some task

@@ -1,7 +1,6 @@
 -- Runs as plain data: a core with another book, the end of a statement, and transfers that are told.
-use Rattle.std.proofs.Common.{◌≡◌, ℕ, ◌++◌, Bool, true, false, cond, not, List, [], ◌∷◌, map, filter, Option, Some, None, refl, sym, ap, ◌∙◌, subst}
+use Rattle.std.proofs.Common.{◌≡◌, ℕ, Bool, true, false, cond, not, List, [], ◌∷◌, map, filter, refl, sym, ap, ◌∙◌}
 use Rattle.std.proofs.lemmas.List.{append-nil}
-use Rattle.std.specs.Option.{option_map}
 use Rattle.fj_outside.specs.declared.outside.FileStore.{Ghosts}
 use Rattle.fj_value.specs.Condition.{code_of}
 use Rattle.fj_value.specs.declared.condition.Condition.{Condition}
@@ -9,18 +8,16 @@ use Rattle.fj_statement.specs.declared.deck.Variable.{Variable}
 use Rattle.fj_store.specs.Storage.{values_of}
 use Rattle.fj_store.specs.Variables.{Variables}
 use Rattle.fj_items.specs.Handing.{HandsOver, whole_records}
-use Rattle.fj_plain.specs.State.{Files, Entry, Output, Tell}
-use Rattle.fj_plain.specs.Statement.{Stated, Ending, ends, iostat_of}
-use Rattle.fj_plain.specs.Telling.{tells_id, tell_of, with_inputs}
+use Rattle.fj_plain.specs.State.{Files, Entry, Output}
+use Rattle.fj_plain.specs.Statement.{Stated, ends, iostat_of}
+use Rattle.fj_plain.specs.Telling.{tells_id}
 use Rattle.fj_plain.specs.Transfers.{with_number}
 use Rattle.fj_desk.specs.Core.{Core, Pending}
-use Rattle.fj_desk.specs.Desking.{told_core}
-use Rattle.fj_turns.specs.Run.{Run, Held, Stage, Start}
-use Rattle.fj_turns.specs.Turns.{Turn, Passes, Stops, matched, with_core, finish_by, turn_finish, goes}
-use Rattle.fj_pending.specs.Plain.{held, held_of, pending_of, tells_of}
+use Rattle.fj_turns.specs.Run.{Run, Held, Stage}
+use Rattle.fj_turns.specs.Turns.{matched, with_core, finish_by, turn_finish, goes}
+use Rattle.fj_pending.specs.Plain.{held, pending_of}
 use Rattle.fj_pending.specs.declared.held.Held as code
 use Rattle.fj_acts.specs.State.{core_of}
-use Rattle.fj_acts.specs.declared.state.Core as code_core
 use Rattle.fj_runner.specs.Machine.{run_in}
 use Rattle.fj_runner.specs.Taking.{TakesMore}
 use Rattle.fj_runner.specs.declared.state.State.{State}

@@ -1,22 +1,19 @@
 -- A runner after one call.
-use Rattle.std.proofs.Common.{◌≡◌, ℕ, ◌+◌, ◌<◌, ◌≤◌, Bool, true, false, cond, List, drop, Option, Some, None, inl, arith, refl, sym, ap, subst, ◌∙◌}
+use Rattle.std.proofs.Common.{◌≡◌, ℕ, ◌<◌, ◌≤◌, Bool, true, false, cond, List, drop, Option, Some, None, Result, Ok, Err, IfOk, inl, arith, refl, sym, ap, subst, ◌∙◌}
 use Rattle.std.specs.Option.{option_map}
-use Rattle.std.specs.Prelude.{◌⊎◌}
-use Rattle.fj_outside.specs.Holdings.{Holdings}
 use Rattle.fj_outside.specs.declared.outside.FileStore.{Ghosts}
 use Rattle.fj_statement.specs.declared.deck.Deck.{Deck}
 use Rattle.fj_world.specs.Conduct as conduct
-use Rattle.fj_world.specs.Conduct.{Conduct, IsDueAsk, KeepsTo, IsAsk}
+use Rattle.fj_slot.specs.Serving.{Meaning}
+use Rattle.fj_world.specs.Conduct.{Conduct, Asks, IsDueAsk, KeepsTo, IsAsk}
 use Rattle.fj_world.specs.declared.ask.Ask.{Ask}
 use Rattle.fj_world.specs.declared.ask.Ask.TheVariants.{Submit, Settle, Finished}
-use Rattle.fj_bay.specs.Jobs.{Job as Task, Answer}
+use Rattle.fj_bay.specs.Jobs.{Job as Task}
 use Rattle.fj_bay.specs.Meaning.{bay_meaning}
 use Rattle.fj_bay.specs.declared.job.Job.{Job}
 use Rattle.fj_plain.specs.State.{Files}
-use Rattle.fj_units.specs.Files.{files_of}
-use Rattle.fj_plain.specs.Statement.{Stated, stated}
+use Rattle.fj_plain.specs.Statement.{stated}
 use Rattle.fj_turns.specs.Run.{Run}
-use Rattle.fj_turns.specs.Serving.{run_conduct}
 use Rattle.fj_turns.specs.Turns.{asked}
 use Rattle.fj_acts.specs.State.{core_of}
 use Rattle.fj_runner.specs.Leaving.{Leaves, Rests}
@@ -41,6 +38,11 @@ run_same told bytes files m m' d a s =
 pub if_told : (b : Bool) (o o' : Option Run) (s s' : Run) → cond b o None ≡ Some s → (b ≡ true → o ≡ Some s → o' ≡ Some s') → cond b o' None ≡ Some s'
 if_told true o o' s s' e go = go refl e
 if_told false o o' s s' e go = cc
+
+-- whatever its number is
+pub took_by : {X E : Type 0} → (number : Result X E) (P : Type 0) → P → IfOk number (λ n. P)
+took_by (Ok n) P p = p
+took_by (Err e) P p = tt
 
 -- a call that touches neither disk nor sink
 pub rests_leaves : {W D F : Type 0} {ghosts : Ghosts F} {tells_out : W → Type 0} {taken : W → List ℕ} {count_out : W → ℕ} {tells : D → Type 0} {count : D → ℕ} → (out : W) (disk : D) (m m' : Machine F ghosts)
@@ -102,24 +104,21 @@ asked_told told bytes count files m true b' o r result e still go =
     let a = go refl e in
     (ap (λ t. cond t (run_of told bytes files m) None) (still refl) ∙ a.run, asks_task told bytes count (asked r).ask result a.asks)
 
--- a machine and a disk that are the same ones show the same run
-pub same_state : {D F : Type 0} {ghosts : Ghosts F} (told_disk : D → Bool) (held : D → Holdings) (told : F → Bool) (bytes : F → List ℕ) (d d' : D) (m m' : Machine F ghosts) → m' ≡ m → d' ≡ d
-    → cond (told_disk d') (run_of told bytes (files_of (held d')) m') None ≡ cond (told_disk d) (run_of told bytes (files_of (held d)) m) None
-same_state told_disk held told bytes d d' m m' f e =
-    ap (λ x. cond (told_disk x) (run_of told bytes (files_of (held x)) m') None) e ∙ ap (λ y. cond (told_disk d) (run_of told bytes (files_of (held d)) y) None) f
-
-pub at_most : (n m : ℕ) → n ≡ m → n ≤ m
-at_most n m e = omega arith
-
--- the numbers of a script alone
-abbrev pub numbers : ℕ → List ℕ → Conduct ℕ Task Answer
-numbers left owed = run_conduct (record {
-  left = λ r. left;
-  uses = λ r. 16;
-  owed = λ r at. owed_at owed at;
-  due = λ r. conduct.Idle;
-  over = λ r. true;
-  stopped = λ r. true;
-  leads = λ old new. ℕ;
-  state = λ r. None;
-})
+-- one `ask`, by what the tally shows
+pub asks_of : {S G J A P T R : Type 0} → (m : Meaning G J A P T R) (c : Conduct S T R) (old new : S) (result : Ask J) (hand : Hand) (over : Bool) (left : ℕ) (owed : List ℕ)
+    → c.uses new ≡ 16 → c.left new ≡ left → ((slot : ℕ) → c.owed new slot ≡ owed_at owed slot) → c.due new ≡ due_of hand → IsDueAsk (due_of hand) result → MaySubmit hand over left → MaySettle hand over left owed
+    → c.left new ≤ c.left old → c.uses new ≡ c.uses old → ((slot : ℕ) → c.owed new slot ≡ c.owed old slot) → (c.over old ≡ true → c.over new ≡ true) → (c.over new ≡ true → result ≡ Finished)
+    → (c.stopped new ≡ true → (c.stopped old ≡ true) × (c.state new ≡ c.state old)) → c.leads old new
+    → ((s : c.State) → c.state old ≡ Some s → c.over new ≡ false → (c.state new ≡ Some (c.asked s)) × IsAsk m (c.ask s) result) → Asks m c old result new
+asks_of m c old new result hand over left owed uses_is left_is owed_is due_is due submit settle less uses owes still ends stops leads told = record {
+  due = subst (λ d. IsDueAsk d result) (sym due_is) due;
+  keeps_to = keeps_to c new hand over left owed result uses_is left_is owed_is due submit settle;
+  left = less;
+  uses = uses;
+  owed = owes;
+  over = still;
+  ends = ends;
+  stops = stops;
+  leads = leads;
+  told = told;
+}

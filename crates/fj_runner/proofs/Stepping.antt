@@ -1,11 +1,11 @@
 -- Steps of a statement, one after another.
-use Rattle.std.proofs.Common.{◌≡◌, ◌≢◌, ◌↔◌, ℕ, ◌+◌, ◌≤◌, List, [], ◌++◌, Result, Ok, Err, OnOk, OnErr, refl, sym, ap, ◌∙◌, subst, arith, append_assoc}
+use Rattle.std.proofs.Common.{◌≡◌, ◌≢◌, ◌↔◌, ℕ, ◌≤◌, List, ◌++◌, Result, Ok, Err, OnOk, OnErr, refl, sym, ap, ◌∙◌, subst, arith, append_assoc}
 use Rattle.fj_outside.specs.Faults.{Rose}
 use Rattle.fj_outside.specs.Holdings.{Holdings, Names}
 use Rattle.fj_plain.specs.State.{Output}
 use Rattle.fj_items.specs.Handing.{HandsOver, HandsFront, whole_records}
 use Rattle.fj_items.specs.declared.lost.Lost.{Lost}
-use Rattle.fj_items.specs.declared.lost.Lost.TheVariants.{Memory, Disk, Sink, Unfit}
+use Rattle.fj_items.specs.declared.lost.Lost.TheVariants.{Disk, Sink}
 use Rattle.fj_units.specs.Names.{AreInUse}
 use Rattle.fj_acts.specs.declared.state.Core.{Core}
 use Rattle.fj_runner.specs.Taking.{TakesMore}
@@ -20,7 +20,7 @@ given_up lost = Err lost
 
 -- ---- what a sink took
 
-hands_both : (a b c : List ℕ) (x y z : Output) → HandsOver a b x y → HandsOver b c y z → HandsOver a c x z
+pub hands_both : (a b c : List ℕ) (x y z : Output) → HandsOver a b x y → HandsOver b c y z → HandsOver a c x z
 hands_both a b c x y z h k = (
   h.0 ++ k.0,
   k.1 ∙ ap (λ w. w ++ k.0) h.1 ∙ append_assoc (whole_records x) h.0 k.0,
@@ -88,6 +88,7 @@ module _ {W D : Type 0} {tells_out : W → Type 0} {taken : W → List ℕ} {cou
     telling_out = (λ t. t, λ t. t);
     later_out = omega arith;
     failed_out = λ e. absurd (k.sink e);
+    still = λ t e. hands_none (taken out) (taken out) core.output core'.output refl k.output;
     output = λ t. on_any r (HandsOver (taken out) (taken out) core.output core'.output) (hands_none (taken out) (taken out) core.output core'.output refl k.output);
     front = λ t. takes_none (taken out) (taken out) refl;
   }
@@ -107,6 +108,7 @@ module _ {W D : Type 0} {tells_out : W → Type 0} {taken : W → List ℕ} {cou
     failed_out = λ e. rose_before (count_out out) (count_out mid) (count_out out') a.later_out (b.failed_out e);
     output = λ t. on_ok r (HandsOver (taken mid) (taken out') half.output core'.output) (HandsOver (taken out) (taken out') core.output core'.output)
         (hands_both (taken out) (taken mid) (taken out') core.output half.output core'.output (a.output t)) (b.output (a.telling_out.0 t));
+    still = λ t e. hands_both (taken out) (taken mid) (taken out') core.output half.output core'.output (a.output t) (b.still (a.telling_out.0 t) e);
     front = λ t. takes_both (taken out) (taken mid) (taken out') (a.front t) (b.front (a.telling_out.0 t));
   }
 
@@ -123,6 +125,7 @@ module _ {W D : Type 0} {tells_out : W → Type 0} {taken : W → List ℕ} {cou
     later_out = a.later_out;
     failed_out = λ e. a.failed_out (cc (is, e));
     output = λ t. tt;
+    still = λ t e. a.still t (cc (is, e));
     front = a.front;
   }
 
@@ -138,7 +141,27 @@ module _ {W D : Type 0} {tells_out : W → Type 0} {taken : W → List ℕ} {cou
     later_out = a.later_out;
     failed_out = λ e. cc;
     output = λ t. subst (λ (s : Result X Lost). OnOk s (HandsOver (taken out) (taken out') core.output core'.output)) is (a.output t);
+    still = λ t e. cc;
     front = a.front;
+  }
+
+  -- its own action is given up
+  pub begun_steps : {X Y : Type 0} → (out out' : W) (disk disk' : D) (core core' : Core) (r : Result X Lost) (lost : Lost) (due : Output) → r ≡ Err lost → core'.store.kinds ≡ core.store.kinds → (tells disk → AreInUse core'.names (held disk').in_use)
+      → (tells disk ↔ tells disk') → count disk ≤ count disk' → (r ≡ Err Disk → Rose (count disk) (count disk')) → (tells_out out ↔ tells_out out') → count_out out ≤ count_out out' → (r ≡ Err Sink → Rose (count_out out) (count_out out'))
+      → (tells_out out → OnErr r (HandsFront (taken out) (taken out') core.output due)) → (r ≡ Err Disk → (out' ≡ out) × (core'.output ≡ core.output))
+      → Steps tells_out taken count_out tells held count out disk core (given_up {X = Y} lost) out' disk' core'
+  begun_steps {X = X} out out' disk disk' core core' r lost due is kinds names telling later failed telling_out later_out failed_out front still = record {
+    kinds = kinds;
+    names = λ t _. names t;
+    telling = telling;
+    later = later;
+    failed = λ e. failed (cc (is, e));
+    telling_out = telling_out;
+    later_out = later_out;
+    failed_out = λ e. failed_out (cc (is, e));
+    output = λ t. tt;
+    still = λ t e. let k = still (cc (is, e)) in hands_none (taken out) (taken out') core.output core'.output (ap taken k.0) k.1;
+    front = λ t. takes_front (taken out) (taken out') core.output due (subst (λ (x : Result X Lost). OnErr x (HandsFront (taken out) (taken out') core.output due)) is (front t));
   }
 
   -- it calls the disk alone
@@ -154,5 +177,6 @@ module _ {W D : Type 0} {tells_out : W → Type 0} {taken : W → List ℕ} {cou
     later_out = omega arith;
     failed_out = λ e. cc;
     output = λ t. hands_none (taken out) (taken out) core.output core'.output refl output;
+    still = λ t e. cc;
     front = λ t. takes_none (taken out) (taken out) refl;
   }

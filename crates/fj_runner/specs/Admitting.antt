@@ -1,5 +1,5 @@
 -- An ask that is admitted.
-use Rattle.std.specs.Prelude.{◌≡◌, ◌⊎◌, true}
+use Rattle.std.specs.Prelude.{◌≡◌, ◌≢◌, ◌⊎◌, true}
 use Rattle.fj_items.specs.declared.lost.Lost.TheVariants.{Unfit}
 use Rattle.fj_world.specs.declared.ask.Ask.{Ask}
 use Rattle.fj_world.specs.declared.ask.Ask.TheVariants.{Finished}
@@ -16,6 +16,6 @@ pub record IsDue {J : Type 0} (old : Tally) (result : Ask J) (new : Tally) : Typ
   pub over : old.over ≡ true → new.over ≡ true
   pub ends : new.over ≡ true → result ≡ Finished
 
--- the ask is asked, or it is given up
+-- the ask is asked, or it is given up where there is one
 abbrev pub IsAdmitted : {J : Type 0} → Tally → Ask J → Ask J → Tally → Type 0
-IsAdmitted old ask result new = (new.over ≡ old.over) × (result ≡ ask) × (new.lost ≡ old.lost) ⊎ (new.over ≡ true) × (result ≡ Finished) × (new.lost ≡ first_lost old.lost Unfit)
+IsAdmitted old ask result new = (new.over ≡ old.over) × (result ≡ ask) × (new.lost ≡ old.lost) ⊎ (new.over ≡ true) × (result ≡ Finished) × (new.lost ≡ first_lost old.lost Unfit) × (ask ≢ Finished)

@@ -13,8 +13,8 @@ pub record Leaves {W D F : Type 0} {ghosts : Ghosts F} (tells_out : W → Type 0
   pub later : count disk ≤ count disk'
   pub telling_out : tells_out out ↔ tells_out out'
   pub later_out : count_out out ≤ count_out out'
-  -- the sink took the records that ended, where nothing is lost; and else it took more behind what it had
-  pub output : tells_out out → m'.tally.lost ≡ None → HandsOver (taken out) (taken out') m.state.core.output m'.state.core.output
+  -- the sink took the records that ended, where nothing is lost but by the disk; and else it took more behind what it had
+  pub output : tells_out out → (m'.tally.lost ≡ None) ⊎ (m'.tally.lost ≡ Some Disk) → HandsOver (taken out) (taken out') m.state.core.output m'.state.core.output
   pub front : tells_out out → TakesMore (taken out) (taken out')
   -- a fault of the outside has its cause
   pub of_disk : m'.tally.lost ≡ Some Disk → (m.tally.lost ≡ Some Disk) ⊎ Rose (count disk) (count disk')
@@ -25,6 +25,7 @@ pub record Leaves {W D F : Type 0} {ghosts : Ghosts F} (tells_out : W → Type 0
 
 -- a call that touches neither disk nor sink
 pub record Rests {F : Type 0} {ghosts : Ghosts F} (m m' : Machine F ghosts) : Type 0 where
+  pub at : m'.at ≡ m.at
   pub names : m'.state.core.names ≡ m.state.core.names
   pub output : m'.state.core.output ≡ m.state.core.output
   pub of_disk : m'.tally.lost ≡ Some Disk → m.tally.lost ≡ Some Disk
@@ -33,8 +34,11 @@ pub record Rests {F : Type 0} {ghosts : Ghosts F} (m m' : Machine F ghosts) : Ty
   pub deck : m'.deck ≡ m.deck
 
 -- one call of a runner, whose sink, disk and machine go by these names: they are the same ones
-pub record Leads {N : Type 0} (out disk machine out' disk' machine' : N) (left_so : Type 0) : Type 0 where
+pub record Leads {N : Type 0} (out disk machine out' disk' machine' : N) (left_so given_up_so stays_so reason_so : Type 0) : Type 0 where
   pub same_out : out' ≡ out
   pub same_disk : disk' ≡ disk
   pub same_machine : machine' ≡ machine
   pub leaves : left_so
+  pub gives_up : given_up_so
+  pub stays : stays_so
+  pub reason : reason_so

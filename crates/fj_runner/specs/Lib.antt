@@ -7,6 +7,6 @@ pub mod Stepping
 pub mod Tallying
 pub mod Admitting
 pub mod Refused
+pub mod Failing
 pub mod Leaving
 pub mod Making
-pub mod Reaching

@@ -1,5 +1,5 @@
 -- The runner as plain data.
-use Rattle.std.specs.Prelude.{◌≡◌, ℕ, Bool, List, [], ◌∷◌, drop, Option, Some, None}
+use Rattle.std.specs.Prelude.{ℕ, Bool, List, [], ◌∷◌, drop, Option, Some, None}
 use Rattle.std.specs.Option.{option_map}
 use Rattle.fj_statement.specs.declared.deck.Variable.{Variable}
 use Rattle.fj_bay.specs.Plain.{task_of, reply_of}

@@ -28,6 +28,7 @@ pub record Steps {W D X : Type 0} (tells_out : W → Type 0) (taken : W → List
   pub telling_out : tells_out out ↔ tells_out out'
   pub later_out : count_out out ≤ count_out out'
   pub failed_out : result ≡ Err Sink → Rose (count_out out) (count_out out')
-  -- the sink took the records that ended; where the run is given up, it took more behind what it had
+  -- the sink took the records that ended, also where the disk failed; where the run is given up, it took more behind what it had
   pub output : tells_out out → OnOk result (HandsOver (taken out) (taken out') core.output core'.output)
+  pub still : tells_out out → result ≡ Err Disk → HandsOver (taken out) (taken out') core.output core'.output
   pub front : tells_out out → TakesMore (taken out) (taken out')

@@ -1,5 +1,5 @@
 -- The ask at hand, and what may be asked.
-use Rattle.std.specs.Prelude.{◌≡◌, ℕ, ◌+◌, ◌^◌, ◌<◌, Bool, true, false, List, Option, Some, None, get_or}
+use Rattle.std.specs.Prelude.{◌≡◌, ℕ, ◌+◌, ◌^◌, ◌<◌, Bool, false, List, Option, Some, None, get_or}
 use Rattle.fj_items.specs.declared.lost.Lost.{Lost}
 use Rattle.fj_world.specs.Conduct as conduct
 use Rattle.fj_world.specs.Conduct.{Due}

@@ -1,14 +1,16 @@
 // What a deck asks next.
-ghost use Rattle.std.specs.Prelude.{◌≡◌, ◌+◌, ◌<◌, length, Some, IfOk, IfSome, IfNone, drop};
+ghost use Rattle.std.specs.Prelude.{◌≡◌, ◌+◌, ◌<◌, length, Some, Err, IfOk, OnErr, IfSome, IfNone, drop};
 ghost use Rattle.fj_plain.specs.State.{Files};
 ghost use Rattle.fj_plain.specs.Statement.{stated};
 ghost use Rattle.fj_turns.specs.Run.{Run, Start};
 ghost use Rattle.fj_turns.specs.Turns.{Turn, asked, by_turn, goes};
+ghost use Rattle.fj_turns.specs.Passing.{passed_by, passed_on};
 ghost use Rattle.fj_units.specs.Names.{AreInUse};
 ghost use Rattle.fj_units.specs.Files.{files_of};
 ghost use Rattle.fj_runner.specs.Machine.{rest_of, run_at, run_of};
 ghost use Rattle.fj_runner.specs.Turned.{IsTurn, IsAsked};
 ghost use Rattle.fj_runner.specs.Stepping.{Steps};
+ghost use Rattle.fj_runner.specs.Failing.{FailsCall};
 
 use crate::machine::Machine;
 use crate::stage::Stage;
@@ -28,6 +30,8 @@ impl<F: FileStore> Machine<F> {
         ensures passes { (files : Files) (t : Turn) → IsTurn F.told F.bytes self.old.deck.variables (rest_of self.old) files self.old.state turned t
             → IfNone result ((self.new.state.stage ≡ Stage.Start) × (by_turn (drop (self.old.at + 1) (stated self.old.deck.statements)) t
             ≡ goes (rest_of self.new) (run_at files self.new Start))) }
+        ensures passed { (files : Files) (t : Turn) → IsTurn F.told F.bytes self.old.deck.variables (rest_of self.old) files self.old.state turned t
+            → IfNone result (passed_by (drop (self.old.at + 1) (stated self.old.deck.statements)) t ≡ Some (run_at files self.new Start)) }
         ensures at { IfNone result (self.new.at ≡ self.old.at + 1) }
         ensures deck { self.new.deck ≡ self.old.deck }
         ensures state { self.new.state ≡ self.old.state }
@@ -58,6 +62,10 @@ impl<F: FileStore> Machine<F> {
             (goes (rest_of self.old) (run_at (files_of (D.held disk.old)) self.old Start)))) }
         ensures passes { D.tells disk.old → IfOk result (λ o. IfNone o ((self.new.state.stage ≡ Stage.Start)
             × (goes (rest_of self.old) (run_at (files_of (D.held disk.old)) self.old Start) ≡ goes (rest_of self.new) (run_at (files_of (D.held disk.new)) self.new Start)))) }
+        ensures passed { D.tells disk.old → IfOk result (λ o. IfNone o (passed_on (rest_of self.old) (run_at (files_of (D.held disk.old)) self.old Start)
+            ≡ Some (run_at (files_of (D.held disk.new)) self.new Start))) }
+        ensures fails { D.tells disk.old → OnErr result (FailsCall (result ≡ Err Lost.Disk) (W.tells out.old) (W.taken out.old) (W.taken out.new)
+            (run_at (files_of (D.held disk.old)) self.old Start) self.old self.new) }
         ensures at { IfOk result (λ o. IfNone o (self.new.at ≡ self.old.at + 1)) }
         ensures steps { Steps W.tells W.taken W.count D.tells D.held D.count out.old disk.old self.old.state.core result out.new disk.new self.new.state.core }
         ensures deck { self.new.deck ≡ self.old.deck }
@@ -85,6 +93,8 @@ impl<F: FileStore> Machine<F> {
         ensures asks { D.tells disk.old → self.old.state.stage ≡ Stage.Start → IfOk result (λ ask. IsAsked F.told F.bytes (files_of (D.held disk.new)) self.new ask
             (goes (rest_of self.old) (run_at (files_of (D.held disk.old)) self.old Start))) }
         ensures steps { Steps W.tells W.taken W.count D.tells D.held D.count out.old disk.old self.old.state.core result out.new disk.new self.new.state.core }
+        ensures fails { D.tells disk.old → OnErr result (FailsCall (result ≡ Err Lost.Disk) (W.tells out.old) (W.taken out.old) (W.taken out.new)
+            (run_at (files_of (D.held disk.old)) self.old Start) self.old self.new) }
         ensures deck { self.new.deck ≡ self.old.deck }
         ensures tally { self.new.tally ≡ self.old.tally }
         ensures kept { self.new.kept ≡ self.old.kept }
@@ -114,6 +124,9 @@ impl<F: FileStore> Machine<F> {
         ensures asks { D.tells disk.old → (t : Turn) → IsTurn F.told F.bytes self.old.deck.variables (rest_of self.old) (files_of (D.held disk.old)) self.old.state turned t
             → IfOk result (λ ask. IsAsked F.told F.bytes (files_of (D.held disk.new)) self.new ask (by_turn (drop (self.old.at + 1) (stated self.old.deck.statements)) t)) }
         ensures steps { Steps W.tells W.taken W.count D.tells D.held D.count out.old disk.old self.old.state.core result out.new disk.new self.new.state.core }
+        ensures fails { D.tells disk.old → (t : Turn) → IsTurn F.told F.bytes self.old.deck.variables (rest_of self.old) (files_of (D.held disk.old)) self.old.state turned t
+            → OnErr result ((r : Run) × (passed_by (drop (self.old.at + 1) (stated self.old.deck.statements)) t ≡ Some r)
+            × FailsCall (result ≡ Err Lost.Disk) (W.tells out.old) (W.taken out.old) (W.taken out.new) r self.old self.new) }
         ensures deck { self.new.deck ≡ self.old.deck }
         ensures tally { self.new.tally ≡ self.old.tally }
         ensures kept { self.new.kept ≡ self.old.kept }
@@ -135,6 +148,8 @@ impl<F: FileStore> Machine<F> {
         ensures asks { D.tells disk.old → (r : Run) → run_of F.told F.bytes (files_of (D.held disk.old)) self.old ≡ Some r
             → IfOk result (λ ask. IsAsked F.told F.bytes (files_of (D.held disk.new)) self.new ask (asked r)) }
         ensures steps { Steps W.tells W.taken W.count D.tells D.held D.count out.old disk.old self.old.state.core result out.new disk.new self.new.state.core }
+        ensures fails { D.tells disk.old → (r : Run) → run_of F.told F.bytes (files_of (D.held disk.old)) self.old ≡ Some r
+            → OnErr result (FailsCall (result ≡ Err Lost.Disk) (W.tells out.old) (W.taken out.old) (W.taken out.new) r self.old self.new) }
         ensures deck { self.new.deck ≡ self.old.deck }
         ensures tally { self.new.tally ≡ self.old.tally }
         ensures kept { self.new.kept ≡ self.old.kept }

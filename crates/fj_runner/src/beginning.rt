@@ -1,17 +1,18 @@
 // How a statement begins: prohibitions, then the transfers that it waits for are settled and told.
-ghost use Rattle.std.specs.Prelude.{◌≡◌, List, ◌∷◌, not, filter, true, Some, IfOk, OnOk};
+ghost use Rattle.std.specs.Prelude.{◌≡◌, List, ◌∷◌, ◌++◌, not, map, filter, true, Some, IfOk, OnOk};
 ghost use Rattle.fj_items.specs.Kinds.{kinds_of};
 ghost use Rattle.fj_store.specs.Storage.{values_of};
 ghost use Rattle.fj_plain.specs.State.{Entry, Files};
 ghost use Rattle.fj_statement.specs.declared.deck.Variable.{Variable};
 ghost use Rattle.fj_plain.specs.Statement.{Stated, control_by};
-ghost use Rattle.fj_plain.specs.Telling.{waited_in, condition_of, tells_id};
+ghost use Rattle.fj_plain.specs.Telling.{waited_in, condition_of, tells_id, tell_of};
 ghost use Rattle.fj_desk.specs.Core.{unit_named};
 ghost use Rattle.fj_desk.specs.Desking.{told_core};
-ghost use Rattle.fj_turns.specs.Run.{Stage as PlainStage};
+ghost use Rattle.fj_turns.specs.Run.{Stage as PlainStage, Start, Waiting};
+ghost use Rattle.fj_turns.specs.Passing.{output_of};
 ghost use Rattle.fj_turns.specs.Turns.{settles, turn_tell, turn_wait, turn_start};
 ghost use Rattle.fj_pending.specs.Asks.{IsUnitAsked};
-ghost use Rattle.fj_pending.specs.Plain.{held, entries};
+ghost use Rattle.fj_pending.specs.Plain.{held, entries, tells_of};
 ghost use Rattle.fj_pending.specs.Waits.{waited_of};
 ghost use Rattle.fj_units.specs.Names.{AreInUse};
 ghost use Rattle.fj_acts.specs.State.{core_of};
@@ -20,6 +21,7 @@ ghost use Rattle.fj_runner.specs.Machine.{run_in, stage_of};
 ghost use Rattle.fj_runner.specs.Passing.{are_passed, is_passed};
 ghost use Rattle.fj_runner.specs.Turned.{IsTurn};
 ghost use Rattle.fj_runner.specs.Stepping.{Keeps, Steps};
+ghost use Rattle.fj_runner.specs.Failing.{FailsTurn, FailsStage};
 
 use crate::ending::Ending;
 use crate::halted::halted_slots;
@@ -99,6 +101,11 @@ impl<F: FileStore> State<F> {
             (turn_tell (lined.now, control_by lined.now.what) (waited_of whose (entries self.old.core.pending))
             (run_in variables.now ((lined.now, control_by lined.now.what) ∷ more) (files_of (D.held disk.old)) self.old stage))) }
         ensures steps { Steps W.tells W.taken W.count D.tells D.held D.count out.old disk.old self.old.core result out.new disk.new self.new.core }
+        ensures fails { D.tells disk.old → (more : List Stated) (stage : PlainStage)
+            → FailsTurn W.tells W.taken out.old self.old.core result out.new self.new.core
+            (output_of (turn_tell (lined.now, control_by lined.now.what) (waited_of whose (entries self.old.core.pending))
+            (run_in variables.now ((lined.now, control_by lined.now.what) ∷ more) (files_of (D.held disk.old)) self.old stage))) (Unit {0})
+            (tells_of self.old.core.tells ++ map (tell_of lined.now.line) (waited_of whose (entries self.old.core.pending))) }
     {
         put_stage(&mut self.stage, Stage::Start);
         let units = self.core.units.as_slice();
@@ -147,6 +154,9 @@ impl<F: FileStore> State<F> {
             (turn_wait (lined.now, control_by lined.now.what)
             (run_in variables.now ((lined.now, control_by lined.now.what) ∷ more) (files_of (D.held disk.old)) self.old stage))) }
         ensures steps { Steps W.tells W.taken W.count D.tells D.held D.count out.old disk.old self.old.core result out.new disk.new self.new.core }
+        ensures fails { D.tells disk.old → (more : List Stated) (stage : PlainStage)
+            → FailsStage W.tells W.taken out.old self.old.core result out.new self.new.core (lined.now, control_by lined.now.what) Waiting
+            (run_in variables.now ((lined.now, control_by lined.now.what) ∷ more) (files_of (D.held disk.old)) self.old stage) }
     {
         match self.core.pending.next_unsettled(whose, from) {
             Some((from, slot)) => Ok(self.settle(slot, Stage::Waiting { whose, from })),
@@ -173,6 +183,9 @@ impl<F: FileStore> State<F> {
             (turn_wait (lined.now, control_by lined.now.what)
             (run_in variables.now ((lined.now, control_by lined.now.what) ∷ more) (files_of (D.held disk.old)) self.old stage))) }
         ensures steps { Steps W.tells W.taken W.count D.tells D.held D.count out.old disk.old self.old.core result out.new disk.new self.new.core }
+        ensures fails { D.tells disk.old → (more : List Stated) (stage : PlainStage)
+            → FailsStage W.tells W.taken out.old self.old.core result out.new self.new.core (lined.now, control_by lined.now.what) Waiting
+            (run_in variables.now ((lined.now, control_by lined.now.what) ∷ more) (files_of (D.held disk.old)) self.old stage) }
     {
         let whose = waits_for(&lined.what, &self.core.store);
         let from = if whose == known { from } else { 0 };
@@ -195,6 +208,9 @@ impl<F: FileStore> State<F> {
             (turn_start (lined.now, control_by lined.now.what)
             (run_in variables.now ((lined.now, control_by lined.now.what) ∷ more) (files_of (D.held disk.old)) self.old stage))) }
         ensures steps { Steps W.tells W.taken W.count D.tells D.held D.count out.old disk.old self.old.core result out.new disk.new self.new.core }
+        ensures fails { D.tells disk.old → (more : List Stated) (stage : PlainStage)
+            → FailsStage W.tells W.taken out.old self.old.core result out.new self.new.core (lined.now, control_by lined.now.what) Start
+            (run_in variables.now ((lined.now, control_by lined.now.what) ∷ more) (files_of (D.held disk.old)) self.old stage) }
     {
         let named = unit_asked(&self.core.units, &lined.what);
         let broken = check(

@@ -4,14 +4,12 @@
 mod answering;
 mod asking;
 mod beginning;
-mod driving;
 mod ending;
 mod halted;
 mod hand;
 mod left;
 mod machine;
 mod making;
-mod reaching;
 mod script;
 mod serving;
 mod stage;
@@ -21,8 +19,7 @@ mod turned;
 mod turning;
 mod turns;
 
-pub use driving::serve;
 pub use ending::Ending;
 pub use left::Left;
 pub use machine::Machine;
-pub use script::{Conducts, Runner};
+pub use script::Runner;

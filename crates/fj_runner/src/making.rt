@@ -1,5 +1,5 @@
 // A runner that has not begun.
-ghost use Rattle.std.specs.Prelude.{◌≡◌, ◌*◌, ◌^◌, [], min, length, map, replicate, false, Some, None, IfOk};
+ghost use Rattle.std.specs.Prelude.{◌≡◌, ◌*◌, ◌-◌, ◌^◌, [], min, length, map, replicate, false, Some, None, IfOk};
 ghost use Rattle.fj_items.specs.Kinds.{kinds_of};
 ghost use Rattle.fj_desk.specs.Desking.{fresh};
 ghost use Rattle.fj_acts.specs.State.{core_of};
@@ -66,15 +66,15 @@ fn first_core(alloc: Global, variables: &[Variable]) -> Result<Core, AllocError>
 
 /// So many asks may come at most of so many statements; a number that no run reaches, where there are very many.
 fn most_asks(statements: usize) -> u64
-    ensures { result ≡ min (256 * statements) (2 ^ 62) }
+    ensures { result ≡ min (256 * statements) (2 ^ 62 - 1) }
 {
-    (statements as u64).saturating_mul(256).min(1 << 62)
+    (statements as u64).saturating_mul(256).min((1 << 62) - 1)
 }
 
 /// Nothing was asked.
 fn first_tally(alloc: Global, statements: usize) -> Result<Tally, AllocError>
     ensures { IfOk result (λ tally. (tally.hand ≡ Idle) × (tally.over ≡ false) × (tally.stopped ≡ false) × (tally.lost ≡ None)
-        × (tally.left ≡ min (256 * statements) (2 ^ 62)) × (tally.owed.items ≡ replicate 16 0)) }
+        × (tally.left ≡ min (256 * statements) (2 ^ 62 - 1)) × (tally.owed.items ≡ replicate 16 0)) }
 {
     Ok(Tally {
         hand: Hand::Idle,
@@ -91,7 +91,7 @@ impl<F: FileStore> Machine<F> {
     pub fn new(alloc: Global, deck: Deck) -> Result<Machine<F>, AllocError>
         ensures run { IfOk result (λ m. (files : Files) → run_of F.told F.bytes files m ≡ Some (first_run deck.variables (stated deck.statements) files)) }
         ensures tally { IfOk result (λ m. (m.tally.hand ≡ Idle) × (m.tally.over ≡ false) × (m.tally.stopped ≡ false) × (m.tally.lost ≡ None)
-            × (m.tally.left ≡ min (256 * length deck.statements) (2 ^ 62)) × (m.tally.owed.items ≡ replicate 16 0)) }
+            × (m.tally.left ≡ min (256 * length deck.statements) (2 ^ 62 - 1)) × (m.tally.owed.items ≡ replicate 16 0)) }
         ensures names { IfOk result (λ m. m.state.core.names ≡ []) }
         ensures deck { IfOk result (λ m. m.deck ≡ deck) }
         ensures kept { IfOk result (λ m. m.kept ≡ None) }

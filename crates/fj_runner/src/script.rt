@@ -1,20 +1,25 @@
 // The runner as a script over slots of bays.
-ghost use Rattle.std.specs.Prelude.{◌≡◌, None, if◌then◌else◌};
-ghost use Rattle.fj_bay.specs.Jobs.{Job as PlainJob, Answer as PlainAnswer};
+ghost use Rattle.std.specs.Prelude.{◌≡◌, true, false, Some, None, if◌then◌else◌};
 ghost use Rattle.fj_bay.specs.Meaning.{bay_meaning};
-ghost use Rattle.fj_world.specs.Conduct.{Conduct, Idle, IsSubmitting, IsSettling, Asks, Takes, Tells};
+ghost use Rattle.fj_world.specs.Conduct.{Idle, IsSubmitting, IsSettling, Asks, Takes, Tells};
 ghost use Rattle.fj_turns.specs.Serving.{run_conduct};
 ghost use Rattle.fj_units.specs.Names.{AreInUse};
 ghost use Rattle.fj_units.specs.Files.{files_of};
-ghost use Rattle.fj_runner.specs.Machine.{run_of};
+ghost use Rattle.fj_turns.specs.Run.{Run};
+ghost use Rattle.fj_turns.specs.Turns.{asked};
+ghost use Rattle.fj_runner.specs.Admitting.{IsDue};
+ghost use Rattle.fj_runner.specs.Turned.{IsAsked};
+ghost use Rattle.fj_runner.specs.Failing.{IsGivenUp, Stays, HasReason};
 ghost use Rattle.fj_runner.specs.Leaving.{Leaves, Leads};
+ghost use Rattle.fj_runner.specs.Machine.{run_of};
 ghost use Rattle.fj_runner.specs.Tallying.{due_of, owed_at};
 
+use crate::hand::Hand;
 use crate::machine::Machine;
 use fj_bay::{Bay, Job};
 use fj_outside::{Disk, Sink};
 use fj_slot::{Refused, Told};
-use fj_world::Ask;
+use fj_world::{Ask, Script};
 use std::alloc::Global;
 
 /// A runner: a machine, over a disk and a sink that are lent to it.
@@ -27,13 +32,31 @@ pub struct Runner<'a, 'b, 'c, W: Sink, D: Disk> {
     ghost names: { D.tells disk.now → AreInUse machine.now.state.core.names (D.held disk.now).in_use },
 }
 
-/// What asks for jobs of bays as a script does, shown as plain data.
-pub trait Conducts: Sized {
-    /// What it asks, over the plain jobs and answers of bays.
-    ghost conduct: { Conduct Self PlainJob PlainAnswer };
+/// What the machine asks next.
+fn next_of<W: Sink, D: Disk>(
+    alloc: Global,
+    machine: &mut Machine<D::File>,
+    disk: &mut D,
+    out: &mut W,
+) -> Ask<Job<D::File>>
+    requires idle { machine.old.tally.hand ≡ Hand.Idle }
+    requires names { D.tells disk.old → AreInUse machine.old.state.core.names (D.held disk.old).in_use }
+    ensures due { IsDue machine.old.tally result machine.new.tally }
+    ensures rests { machine.old.tally.over ≡ true → (machine.new ≡ machine.old) × (disk.new ≡ disk.old) × (out.new ≡ out.old) }
+    ensures reason { HasReason machine.old machine.new }
+    ensures asks { D.tells disk.old → (r : Run) → run_of D.File.told D.File.bytes (files_of (D.held disk.old)) machine.old ≡ Some r → machine.new.tally.over ≡ false
+        → IsAsked D.File.told D.File.bytes (files_of (D.held disk.new)) machine.new result (asked r) }
+    ensures names { D.tells disk.old → AreInUse machine.new.state.core.names (D.held disk.new).in_use }
+    ensures leaves { Leaves W.tells W.taken W.count D.tells D.count out.old disk.old machine.old out.new disk.new machine.new }
+    ensures fails { D.tells disk.old → IsGivenUp (W.tells out.old) (W.taken out.old) (W.taken out.new)
+        (run_of D.File.told D.File.bytes (files_of (D.held disk.old)) machine.old) machine.old machine.new }
+{
+    machine.ask(alloc, disk, out)
 }
 
-impl<'a, 'b, 'c, W: Sink, D: Disk> Conducts for Runner<'a, 'b, 'c, W, D> {
+impl<'a, 'b, 'c, W: Sink, D: Disk> Script for Runner<'a, 'b, 'c, W, D> {
+    type Gear = Bay<D::File>;
+
     ghost conduct = { run_conduct (record {
       left = λ r. r.machine.now.tally.left;
       uses = λ _. 16;
@@ -42,32 +65,30 @@ impl<'a, 'b, 'c, W: Sink, D: Disk> Conducts for Runner<'a, 'b, 'c, W, D> {
       over = λ r. r.machine.now.tally.over;
       stopped = λ r. r.machine.now.tally.stopped;
       leads = λ old new. Leads old.out.ghost_name old.disk.ghost_name old.machine.ghost_name new.out.ghost_name new.disk.ghost_name new.machine.ghost_name
-          (Leaves W.tells W.taken W.count D.tells D.count old.out.now old.disk.now old.machine.now new.out.now new.disk.now new.machine.now);
+          (Leaves W.tells W.taken W.count D.tells D.count old.out.now old.disk.now old.machine.now new.out.now new.disk.now new.machine.now)
+          (IsGivenUp (W.tells old.out.now) (W.taken old.out.now) (W.taken new.out.now)
+          (if D.told old.disk.now then run_of D.File.told D.File.bytes (files_of (D.held old.disk.now)) old.machine.now else None) old.machine.now new.machine.now)
+          (Stays (W.taken old.out.now) (W.taken new.out.now) old.machine.now new.machine.now) (HasReason old.machine.now new.machine.now);
       state = λ r. if D.told r.disk.now then run_of D.File.told D.File.bytes (files_of (D.held r.disk.now)) r.machine.now else None;
     }) };
-}
 
-impl<'a, 'b, 'c, W: Sink, D: Disk> Runner<'a, 'b, 'c, W, D> {
-    /// What it asks next.
-    pub fn ask(&mut self) -> Ask<Job<D::File>>
-        requires { ⟦<Runner<'a, 'b, 'c, W, D> as Conducts>⟧.conduct.due self.old ≡ Idle }
-        ensures { Asks (bay_meaning D.File.told D.File.bytes D.File.count) ⟦<Runner<'a, 'b, 'c, W, D> as Conducts>⟧.conduct self.old result self.new }
+    fn ask(&mut self) -> Ask<Job<D::File>>
+        requires { ⟦<Runner<'a, 'b, 'c, W, D> as Script>⟧.conduct.due self.old ≡ Idle }
+        ensures { Asks (bay_meaning D.File.told D.File.bytes D.File.count) ⟦<Runner<'a, 'b, 'c, W, D> as Script>⟧.conduct self.old result self.new }
     {
-        self.machine.ask(self.alloc, self.disk, self.out)
+        next_of(self.alloc, self.machine, self.disk, self.out)
     }
 
-    /// Its job was submitted under that number, or refused.
-    pub fn took(&mut self, number: Result<u64, Refused<Job<D::File>>>)
-        requires { IsSubmitting (⟦<Runner<'a, 'b, 'c, W, D> as Conducts>⟧.conduct.due self.old) }
-        ensures { Takes ⟦<Runner<'a, 'b, 'c, W, D> as Conducts>⟧.conduct self.old number self.new }
+    fn took(&mut self, number: Result<u64, Refused<Job<D::File>>>)
+        requires { IsSubmitting (⟦<Runner<'a, 'b, 'c, W, D> as Script>⟧.conduct.due self.old) }
+        ensures { Takes ⟦<Runner<'a, 'b, 'c, W, D> as Script>⟧.conduct self.old number self.new }
     {
         self.machine.take_number(number);
     }
 
-    /// What became of the job that it waited for.
-    pub fn told(&mut self, told: Told<Bay<D::File>>)
-        requires { IsSettling (⟦<Runner<'a, 'b, 'c, W, D> as Conducts>⟧.conduct.due self.old) }
-        ensures { Tells (bay_meaning D.File.told D.File.bytes D.File.count) ⟦<Runner<'a, 'b, 'c, W, D> as Conducts>⟧.conduct self.old told self.new }
+    fn told(&mut self, told: Told<Bay<D::File>>)
+        requires { IsSettling (⟦<Runner<'a, 'b, 'c, W, D> as Script>⟧.conduct.due self.old) }
+        ensures { Tells (bay_meaning D.File.told D.File.bytes D.File.count) ⟦<Runner<'a, 'b, 'c, W, D> as Script>⟧.conduct self.old told self.new }
     {
         self.machine.hear(told);
     }

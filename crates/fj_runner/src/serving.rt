@@ -1,5 +1,5 @@
 // Asks that are made and answered.
-ghost use Rattle.std.specs.Prelude.{◌≡◌, ◌⊎◌, ◌<◌, ℕ, true, false, OnErr, OnOk, Some, None};
+ghost use Rattle.std.specs.Prelude.{◌≡◌, ◌⊎◌, ◌<◌, ℕ, true, false, OnErr, OnOk, Some, None, IsSome};
 ghost use Rattle.fj_bay.specs.Jobs.{Job as Task, Answer as Reply};
 ghost use Rattle.fj_bay.specs.Meaning.{bay_meaning};
 ghost use Rattle.fj_bay.specs.Plain.{task_of, reply_of};
@@ -11,6 +11,7 @@ ghost use Rattle.fj_units.specs.Names.{AreInUse};
 ghost use Rattle.fj_units.specs.Files.{files_of};
 ghost use Rattle.fj_world.specs.Conduct.{IsSubmitting, IsSettling, IsAnswer, is_done, owed_after_settle, owed_after_took};
 ghost use Rattle.fj_runner.specs.Admitting.{IsDue, IsAdmitted};
+ghost use Rattle.fj_runner.specs.Failing.{IsGivenUp, HasReason};
 ghost use Rattle.fj_runner.specs.Leaving.{Leaves, Rests};
 ghost use Rattle.fj_runner.specs.Machine.{run_of};
 ghost use Rattle.fj_runner.specs.Refused.{brought};
@@ -92,11 +93,14 @@ impl<F: FileStore> Machine<F> {
         requires idle { self.old.tally.hand ≡ Idle }
         requires names { D.tells disk.old → AreInUse self.old.state.core.names (D.held disk.old).in_use }
         ensures due { IsDue self.old.tally result self.new.tally }
-        ensures rests { self.old.tally.over ≡ true → (self.new ≡ self.old) × (disk.new ≡ disk.old) }
+        ensures rests { self.old.tally.over ≡ true → (self.new ≡ self.old) × (disk.new ≡ disk.old) × (out.new ≡ out.old) }
+        ensures reason { HasReason self.old self.new }
         ensures asks { D.tells disk.old → (r : Run) → run_of F.told F.bytes (files_of (D.held disk.old)) self.old ≡ Some r → self.new.tally.over ≡ false
             → IsAsked F.told F.bytes (files_of (D.held disk.new)) self.new result (asked r) }
         ensures names { D.tells disk.old → AreInUse self.new.state.core.names (D.held disk.new).in_use }
         ensures leaves { Leaves W.tells W.taken W.count D.tells D.count out.old disk.old self.old out.new disk.new self.new }
+        ensures fails { D.tells disk.old → IsGivenUp (W.tells out.old) (W.taken out.old) (W.taken out.new)
+            (run_of F.told F.bytes (files_of (D.held disk.old)) self.old) self.old self.new }
     {
         if self.tally.over {
             return Ask::Finished;
@@ -118,6 +122,8 @@ impl<F: FileStore> Machine<F> {
         ensures owed { (slot : ℕ) → owed_at self.new.tally.owed.items slot ≡ owed_after_took (due_of self.old.tally.hand) number (owed_at self.old.tally.owed.items) slot }
         ensures over { self.old.tally.over ≡ true → self.new.tally.over ≡ true }
         ensures refused { OnErr number (self.new.tally.over ≡ true) }
+        ensures goes { OnOk number (self.new.tally.over ≡ self.old.tally.over) }
+        ensures reason { HasReason self.old self.new }
         ensures stopped { self.new.tally.stopped ≡ self.old.tally.stopped }
         ensures state { self.new.state ≡ self.old.state }
         ensures at { self.new.at ≡ self.old.at }
@@ -142,6 +148,7 @@ impl<F: FileStore> Machine<F> {
         ensures left { self.new.tally.left ≡ self.old.tally.left }
         ensures owed { self.new.tally.owed ≡ self.old.tally.owed }
         ensures over { self.old.tally.over ≡ true → self.new.tally.over ≡ true }
+        ensures reason { self.old.tally.over ≡ false → self.new.tally.over ≡ true → IsSome self.new.tally.lost }
         ensures stopped { self.new.tally.stopped ≡ self.old.tally.stopped }
         ensures rests { Rests self.old self.new }
     {
@@ -158,6 +165,7 @@ impl<F: FileStore> Machine<F> {
         ensures left { self.new.tally.left < self.old.tally.left }
         ensures owed { (slot : ℕ) → owed_at self.new.tally.owed.items slot ≡ owed_after_settle (due_of self.old.tally.hand) (owed_at self.old.tally.owed.items) slot }
         ensures over { self.old.tally.over ≡ true → self.new.tally.over ≡ true }
+        ensures reason { HasReason self.old self.new }
         ensures halts { is_done told ≡ false → (self.new.tally.over ≡ true) × (self.new.tally.stopped ≡ true) }
         ensures stops { self.new.tally.stopped ≡ true → (is_done told ≡ false) × (self.new.state ≡ self.old.state) × (self.new.at ≡ self.old.at) }
         ensures told { (files : Files) (r : Run) (reply : Outcome) → run_of F.told F.bytes files self.old ≡ Some r → self.new.tally.over ≡ false

@@ -1,5 +1,5 @@
 // How far the asks have come.
-ghost use Rattle.std.specs.Prelude.{◌≡◌, ℕ, ◌<◌, ◌≤◌, true, false, length, Some};
+ghost use Rattle.std.specs.Prelude.{◌≡◌, ℕ, ◌<◌, ◌≤◌, true, false, length, Some, IsSome};
 ghost use Rattle.fj_world.specs.Conduct.{IsSubmitting, IsSettling, owed_after_submit, owed_after_settle};
 ghost use Rattle.fj_runner.specs.declared.hand.Hand.TheVariants.{Idle, Submitting, Settling};
 ghost use Rattle.fj_runner.specs.Tallying.{due_of, MaySubmit, MaySettle, AreFew, owed_at, first_lost};
@@ -24,6 +24,7 @@ pub(crate) struct Tally {
     ghost settles: { MaySettle hand over left owed.items },
     ghost sixteen: { length owed.items ≡ 16 },
     ghost stop: { stopped ≡ true → over ≡ true },
+    ghost lost_over: { IsSome lost → over ≡ true },
     ghost few: { AreFew left owed.items },
 }
 

@@ -10,6 +10,7 @@ ghost use Rattle.fj_units.specs.Files.{files_of};
 ghost use Rattle.fj_runner.specs.Machine.{run_in, stage_of};
 ghost use Rattle.fj_runner.specs.Turned.{IsTurn};
 ghost use Rattle.fj_runner.specs.Stepping.{Steps};
+ghost use Rattle.fj_runner.specs.Failing.{FailsStage};
 
 use crate::stage::Stage;
 use crate::state::State;
@@ -39,6 +40,10 @@ impl<F: FileStore> State<F> {
             (turns.turn (lined.now, control_by lined.now.what) stage
             (run_in variables.now ((lined.now, control_by lined.now.what) ∷ more) (files_of (D.held disk.old)) self.old stage))) }
         ensures steps { Steps W.tells W.taken W.count D.tells D.held D.count out.old disk.old self.old.core result out.new disk.new self.new.core }
+        ensures fails { D.tells disk.old → (more : List Stated) (stage : PlainStage)
+            → stage_of F.told F.bytes variables.now ((lined.now, control_by lined.now.what) ∷ more) (core_of (files_of (D.held disk.old)) self.old.core) self.old.stage ≡ Some stage
+            → FailsStage W.tells W.taken out.old self.old.core result out.new self.new.core (lined.now, control_by lined.now.what) stage
+            (run_in variables.now ((lined.now, control_by lined.now.what) ∷ more) (files_of (D.held disk.old)) self.old stage) }
     {
         match mem::replace(&mut self.stage, Stage::Start) {
             Stage::Start => self.start(alloc, variables, lined, disk, out),

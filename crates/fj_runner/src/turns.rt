@@ -10,8 +10,9 @@ ghost use Rattle.fj_desk.specs.Core.{Core as PlainCore};
 ghost use Rattle.fj_desk.specs.Doing.{Doing as PlainDoing};
 ghost use Rattle.fj_desk.specs.Acting.{doing};
 ghost use Rattle.fj_turns.specs.Run.{Stage as PlainStage, Held};
+ghost use Rattle.fj_turns.specs.Passing.{output_of};
 ghost use Rattle.fj_turns.specs.Turns.{submits, turn_finish, turn_act, matched, ends_halts};
-ghost use Rattle.fj_pending.specs.Plain.{held};
+ghost use Rattle.fj_pending.specs.Plain.{held, tells_of};
 ghost use Rattle.fj_acts.specs.Doing.{IsDoing};
 ghost use Rattle.fj_units.specs.Names.{AreInUse};
 ghost use Rattle.fj_acts.specs.State.{core_of};
@@ -20,6 +21,7 @@ ghost use Rattle.fj_runner.specs.Machine.{run_in, stage_of};
 ghost use Rattle.fj_runner.specs.Passing.{is_passed};
 ghost use Rattle.fj_runner.specs.Turned.{IsTurn};
 ghost use Rattle.fj_runner.specs.Stepping.{Keeps, Steps};
+ghost use Rattle.fj_runner.specs.Failing.{FailsTurn};
 
 use crate::ending::{ended_by, iostat_of};
 use crate::stage::{Stage, put_stage};
@@ -151,6 +153,12 @@ impl<F: FileStore> State<F> {
             (doing (control_by lined.now.what) variables.now lined.now.line (core_of (files_of (D.held disk.old)) self.old.core) lined.now.what condition))
             (run_in variables.now ((lined.now, control_by lined.now.what) ∷ more) (files_of (D.held disk.old)) self.old stage))) }
         ensures steps { Steps W.tells W.taken W.count D.tells D.held D.count out.old disk.old self.old.core result out.new disk.new self.new.core }
+        ensures fails { D.tells disk.old → (more : List Stated) (stage : PlainStage)
+            → FailsTurn W.tells W.taken out.old self.old.core result out.new self.new.core
+            (output_of (turn_act (lined.now, control_by lined.now.what)
+            (ends_halts (drop next slots) (core_of (files_of (D.held disk.old)) self.old.core)
+            (doing (control_by lined.now.what) variables.now lined.now.line (core_of (files_of (D.held disk.old)) self.old.core) lined.now.what condition))
+            (run_in variables.now ((lined.now, control_by lined.now.what) ∷ more) (files_of (D.held disk.old)) self.old stage))) (Unit {0}) (tells_of self.old.core.tells) }
     {
         if let Some(slot) = slots.get(next) {
             let slot = *slot;

@@ -18,6 +18,4 @@ pub enum Reason {
     TooMany,
     /// The text has no END. The line is the one behind the last.
     NoEnd,
-    /// The deck has a statement that is not carried out yet. No text is refused for this reason as a deck.
-    NotBuilt,
 }

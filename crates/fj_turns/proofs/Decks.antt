@@ -47,7 +47,7 @@ cut_on variables index st more p e =
 
 -- ---- the start
 
-first_ties : {E J A : Type 0} (m : Meaning E J A Bay Job Answer) (variables : List Variable) (deck : List Stated) (files : Files) → Ties m (first_run variables deck files) fresh_slots (fresh variables files)
+pub first_ties : {E J A : Type 0} (m : Meaning E J A Bay Job Answer) (variables : List Variable) (deck : List Stated) (files : Files) → Ties m (first_run variables deck files) fresh_slots (fresh variables files)
 first_ties m variables deck files = record {
   core = refl;
   desks = refl;

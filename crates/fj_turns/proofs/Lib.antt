@@ -11,8 +11,14 @@ pub mod Finishing
 pub mod Cutting
 pub mod Meant
 pub mod Pending
+pub mod Printing
 pub mod Seated
 pub mod FewJobs
 pub mod Counts
 pub mod Steady
 pub mod Bounded
+pub mod Stages
+pub mod Turned
+pub mod Passed
+pub mod Before
+pub mod Ended

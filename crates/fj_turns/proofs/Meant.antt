@@ -4,8 +4,9 @@ use Rattle.fj_statement.specs.declared.deck.Variable.{Variable}
 use Rattle.fj_slot.specs.Serving.{Meaning}
 use Rattle.fj_bay.specs.Bay.{Bay}
 use Rattle.fj_bay.specs.Jobs.{Job, Answer}
-use Rattle.fj_plain.specs.State.{State, start}
+use Rattle.fj_plain.specs.State.{State, Files, start}
 use Rattle.fj_plain.specs.Statement.{Stated, Ending, Ran, executed, step, cut}
+use Rattle.fj_plain.specs.Telling.{waited_in}
 use Rattle.fj_plain.proofs.Sound.{Sound, sound_start}
 use Rattle.fj_plain.proofs.Reached.{sound_step}
 use Rattle.fj_desk.specs.Doing.{Desked}
@@ -40,10 +41,13 @@ leaves_result m s variables deck files script rack run alone going is =
         (subst (λ e. Forgets (record { desked = ran.desked; ending = e }) meant) (sym ending) (slots_forgotten variables deck files))
 
 -- a cut over desks, and that of what the deck means
-record CutTied (variables : List Variable) (deck : List Stated) (index : ℕ) (s : State) (statement : Stated) (before : Desked) : Type 0 where
-  state : State
-  cut_is : cut variables index deck s ≡ Some (statement, state)
-  tied : Tied before state
+pub record CutTied (variables : List Variable) (deck : List Stated) (index : ℕ) (s : State) (statement : Stated) (before : Desked) : Type 0 where
+  pub state : State
+  pub cut_is : cut variables index deck s ≡ Some (statement, state)
+  pub tied : Tied before state
+  -- and so it is behind the statement, with the same ending
+  pub ending : (desk_step variables statement before).1 ≡ (step variables statement state).1
+  pub behind : Tied (desk_step variables statement before).0 (step variables statement state).0
 
 cut_on : (variables : List Variable) (index : ℕ) (st : Stated) (more : List Stated) (s : State) → (step variables st s).1 ≡ None → cut variables (suc index) (st ∷ more) s ≡ cut variables index more (step variables st s).0
 cut_on variables index st more s e =
@@ -55,7 +59,9 @@ cut_tied variables [] index p s statement before t h e = cc
 cut_tied variables (st ∷ more) zero p s statement before t h e =
     let same : st ≡ statement = ap (λ (o : Option (Stated × Desked)). elim o as (λ _. Stated) [ None ↦ st | Some x ↦ x.0 ]) e in
     let here : p ≡ before = ap (λ (o : Option (Stated × Desked)). elim o as (λ _. Desked) [ None ↦ p | Some x ↦ x.1 ]) e in
-    record { state = s; cut_is = ap (λ x. Some (x, s)) same; tied = subst (λ q. Tied q s) here t }
+    let tied = subst (λ q. Tied q s) here t in
+    let done = step_tied variables statement before s tied (sound_caused s h) in
+    record { state = s; cut_is = ap (λ x. Some (x, s)) same; tied = tied; ending = done.0; behind = done.1 }
 cut_tied variables (st ∷ more) (suc index) p s statement before t h e =
     let done = step_tied variables st p s t (sound_caused s h) in
     by (desk_step variables st p).1 refl (λ f. cut_tied variables more index (desk_step variables st p).0 (step variables st s).0 statement before done.1 (sound_step variables st s h) f) done.0
@@ -66,9 +72,21 @@ cut_tied variables (st ∷ more) (suc index) p s statement before t h e =
         absurd (let z : None ≡ Some (statement, before) = sym (ap (λ o. elim o as (λ _. Option (Stated × Desked)) [ None ↦ cut_desks variables index more (desk_step variables st p).0 | Some y ↦ None ]) f) ∙ e in cc)
     by None f later same =
         let tied = later (sym (ap (λ o. elim o as (λ _. Option (Stated × Desked)) [ None ↦ cut_desks variables index more (desk_step variables st p).0 | Some y ↦ None ]) f) ∙ e) in
-        record { state = tied.state; cut_is = cut_on variables index st more s (sym same ∙ f) ∙ tied.cut_is; tied = tied.tied }
+        record { state = tied.state; cut_is = cut_on variables index st more s (sym same ∙ f) ∙ tied.cut_is; tied = tied.tied; ending = tied.ending; behind = tied.behind }
+
+-- the cut of a deck from its start
+pub cut_of_deck : (variables : List Variable) (deck : List Stated) (files : Files) (index : ℕ) (statement : Stated) (before : Desked) → cut_desks variables index deck (fresh variables files) ≡ Some (statement, before)
+    → CutTied variables deck index (start variables files) statement before
+cut_of_deck variables deck files index statement before e =
+    cut_tied variables deck index (fresh variables files) (start variables files) statement before (start_tied variables files) (sound_start variables files) e
 
 pub cuts_agree : CutsAgree
 cuts_agree variables deck files index statement before e =
-    let it = cut_tied variables deck index (fresh variables files) (start variables files) statement before (start_tied variables files) (sound_start variables files) e in
-    record { state = it.state; cut_is = it.cut_is; same = it.tied.same }
+    let it = cut_of_deck variables deck files index statement before e in
+    record {
+      state = it.state;
+      cut_is = it.cut_is;
+      same = it.tied.same;
+      waited_is = ap (λ es. waited_in es before.core.vars statement.0.what) it.tied.same.book ∙ ap (λ vs. waited_in it.state.book vs statement.0.what) it.tied.same.vars;
+      output = it.behind.same.output;
+    }

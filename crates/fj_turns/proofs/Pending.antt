@@ -59,7 +59,7 @@ module _ (control : ℕ → List Given) (variables : List Variable) (line : ℕ)
   transfer_none moved (unit.Number n) = unit_none moved (connected_at core.units n)
 
 -- where nothing is told, no halt ends
-none_halted : (us : List Connected) → halted_slots [] us ≡ []
+pub none_halted : (us : List Connected) → halted_slots [] us ≡ []
 none_halted [] = refl
 none_halted (u ∷ us) = none_halted us
 

@@ -144,6 +144,9 @@ module _ {E J A : Type 0} (m : Meaning E J A Bay Job Answer) where
 
 -- ---- served alone
 
+pub asked_at : (st : Stated) (rest : List Stated) (r : Run) → r.ending ≡ None → r.rest ≡ st ∷ rest → asked r ≡ by_turn rest (turn st r.stage r)
+asked_at st rest r none is = ap (λ e. if is_some e then record { ask = Finished; run = r } else asked_on r.rest r) none ∙ ap (λ l. asked_on l r) is
+
 module _ {E J A S : Type 0} (m : Meaning E J A Bay Job Answer) (s : Shows S) (P : Plain Bay (run_conduct s) → Type 0) where
   abbrev pub c : Conduct S Job Answer
   c = run_conduct s
@@ -151,9 +154,6 @@ module _ {E J A S : Type 0} (m : Meaning E J A Bay Job Answer) (s : Shows S) (P 
   -- after that turn, the statements behind it being these
   abbrev pub at_turn : List Stated → Turn → List (PlainSlot Bay Job) → Plain Bay c
   at_turn rest t qs = let a = by_turn rest t in record { script = a.run; hand = a.ask; slots = qs }
-
-  pub asked_at : (st : Stated) (rest : List Stated) (r : Run) → r.ending ≡ None → r.rest ≡ st ∷ rest → asked r ≡ by_turn rest (turn st r.stage r)
-  asked_at st rest r none is = ap (λ e. if is_some e then record { ask = Finished; run = r } else asked_on r.rest r) none ∙ ap (λ l. asked_on l r) is
 
   -- a Settle is served
   pub settle_next : (st : Stated) (rest : List Stated) (stage : Stage) (r : Run) (qs : List (PlainSlot Bay Job)) (slot : ℕ) (q : PlainSlot Bay Job) (o : Outcome)

@@ -12,6 +12,7 @@ use Rattle.fj_turns.specs.Whole.{RunnerIsPlain}
 use Rattle.fj_turns.specs.Executing.{ExecutesDecks}
 use Rattle.fj_turns.specs.Meant.{LeavesResult}
 use Rattle.fj_turns.specs.Cutting.{EachEntry, CutAtStop, WorldIsCut}
+use Rattle.fj_turns.specs.Passing.{EachStands, EachAsks, RunsEnd}
 
 -- a bay, with a count of faults of its file
 abbrev pub Counted : Type 0
@@ -59,3 +60,12 @@ StopsCut = (s : Seen Run) → CutAtStop plain_bays (shown s)
 
 abbrev pub WorldsAreCut : Type 0
 WorldsAreCut = (s : Seen Run) → WorldIsCut plain_bays (shown s)
+
+abbrev pub RunsStand : Type 0
+RunsStand = (s : Seen Run) → EachStands plain_bays (shown s)
+
+abbrev pub AsksStand : Type 0
+AsksStand = (s : Seen Run) → EachAsks plain_bays (shown s)
+
+abbrev pub EndsAreMet : Type 0
+EndsAreMet = (s : Seen Run) → RunsEnd plain_bays (shown s)

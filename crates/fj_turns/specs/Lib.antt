@@ -7,6 +7,7 @@ pub mod Whole
 pub mod Executing
 pub mod Cutting
 pub mod Meant
+pub mod Passing
 pub mod Laws
 pub mod Cases
 pub mod Few

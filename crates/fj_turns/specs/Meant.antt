@@ -7,14 +7,15 @@ use Rattle.fj_world.specs.Rack.{Rack}
 use Rattle.fj_bay.specs.Bay.{Bay}
 use Rattle.fj_bay.specs.Jobs.{Job, Answer}
 use Rattle.fj_plain.specs.State.{State, Files, start}
-use Rattle.fj_plain.specs.Statement.{Stated, executed, execution, cut}
+use Rattle.fj_plain.specs.Statement.{Stated, step, executed, execution, cut}
+use Rattle.fj_plain.specs.Telling.{waited}
 use Rattle.fj_desk.specs.Desks.{Desk}
 use Rattle.fj_desk.specs.Doing.{Desked}
-use Rattle.fj_desk.specs.Desking.{fresh, desk_result}
+use Rattle.fj_desk.specs.Desking.{desk_step, fresh, desk_result}
 use Rattle.fj_desk.specs.Forgetting.{Same, Forgets}
 use Rattle.fj_turns.specs.Run.{Run}
 use Rattle.fj_turns.specs.Serving.{over_bays, Shows, run_conduct, begins}
-use Rattle.fj_turns.specs.Inside.{cut_desks}
+use Rattle.fj_turns.specs.Inside.{waited_at, cut_desks}
 use Rattle.fj_turns.specs.Executing.{HoldsDesks}
 
 -- With the desks that the slots hold, the runner is what the deck came to: the same ending, and the same state, so each connected unit
@@ -38,6 +39,9 @@ pub record IsCutOf (variables : List Variable) (deck : List Stated) (files : Fil
   pub state : State
   pub cut_is : cut variables index deck (start variables files) ≡ Some (statement, state)
   pub same : Same before state
+  -- the statement tells the same transfers, and leaves the same output
+  pub waited_is : waited_at statement before ≡ waited state statement.0.what
+  pub output : (desk_step variables statement before).0.core.output ≡ (step variables statement state).0.output
 
 abbrev pub CutsAgree : Type 0
 CutsAgree = (variables : List Variable) (deck : List Stated) (files : Files) (index : ℕ) (statement : Stated) (before : Desked) →

@@ -1,5 +1,5 @@
 // What holds of every deck, as contracts of functions with nothing to do.
-ghost use Rattle.fj_turns.specs.Laws.{RunnersArePlain, RunsExecute, RunsLeaveResults, EntriesStand, StopsCut, WorldsAreCut};
+ghost use Rattle.fj_turns.specs.Laws.{RunnersArePlain, RunsExecute, RunsLeaveResults, EntriesStand, StopsCut, WorldsAreCut, RunsStand, AsksStand, EndsAreMet};
 ghost use Rattle.fj_turns.specs.Bounds.{AsksKeepToSlots, AsksEnd};
 ghost use Rattle.fj_turns.specs.Few.{GivesFewJobs};
 ghost use Rattle.fj_turns.specs.Meant.{CutsAgree};
@@ -58,4 +58,19 @@ pub fn asks_keep_to_slots()
 /// Whatever is answered, the runner has finished after so many asks for each statement.
 pub fn asks_end()
     ensures { AsksEnd }
+{}
+
+/// Before each ask, and behind the statements that it then passes, the runner stands at a statement of the deck, or none is left.
+pub fn runs_stand()
+    ensures { RunsStand }
+{}
+
+/// At each ask the runner stands at a statement of the deck that leaves the output as it is, and has told all that it waits for, or none.
+pub fn asks_stand()
+    ensures { AsksStand }
+{}
+
+/// Where a deck ended, the statement at hand is the one at which it ends.
+pub fn ends_are_met()
+    ensures { EndsAreMet }
 {}

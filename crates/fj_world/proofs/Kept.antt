@@ -1,5 +1,5 @@
 -- Every event keeps what is to be kept.
-use Rattle.std.proofs.Common.{◌≡◌, ℕ, ◌+◌, ◌≤◌, List, [], ◌∷◌, ◌++◌, length, Some, None, IfSome, slice_get, set, Result, Ok, Err, IfOk, IfErr, OnErr, append_assoc, refl, sym, ap, ◌∙◌, subst, inl, inr, arith, is_some, true, false, ◌<◌, cond}
+use Rattle.std.proofs.Common.{◌≡◌, ℕ, ◌+◌, ◌≤◌, List, [], ◌∷◌, ◌++◌, length, Some, None, IfSome, slice_get, set, Result, Ok, Err, IfOk, IfErr, OnErr, append_assoc, refl, sym, ap, ◌∙◌, subst, inl, inr, arith, is_some, true, false, ◌<◌}
 use Rattle.std.proofs.lemmas.List.{length-set}
 use Rattle.std.proofs.lemmas.Option.{slice_get_within}
 use Rattle.fj_outside.specs.declared.errors.Stop.{Stop}

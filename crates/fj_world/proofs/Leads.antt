@@ -1,8 +1,8 @@
 -- One call more.
-use Rattle.std.proofs.Common.{◌≡◌, ℕ, suc, refl}
+use Rattle.std.proofs.Common.{suc, refl}
 use Rattle.fj_world.specs.Leading.{LeadsTo}
 
-led : {S : Type 0} (R : S → S → Type 0) (first before last : S) → LeadsTo R first before → R before last → LeadsTo R first last
+pub led : {S : Type 0} (R : S → S → Type 0) (first before last : S) → LeadsTo R first before → R before last → LeadsTo R first last
 led R first before last path step = (suc path.0, (before, path.1, step))
 
 pub led_twice : {S : Type 0} (R : S → S → Type 0) (first a b c : S) → LeadsTo R first a → R a b → R b c → LeadsTo R first c

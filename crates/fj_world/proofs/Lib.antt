@@ -6,6 +6,7 @@ pub mod Kept
 pub mod Runs
 pub mod Leads
 pub mod Running
+pub mod Losing
 pub mod Commute
 pub mod Front
 pub mod Moving

@@ -1,8 +1,8 @@
 -- What holds of scripts over slots.
-use Rattle.std.proofs.Common.{◌≡◌, ◌⊎◌, ℕ, zero, suc, ◌+◌, ◌-◌, ◌<◌, ◌≤◌, Bool, true, false, ◌&&◌, not, cond, nat_lt, List, [], ◌∷◌, length, map, Option, Some, None, is_some, is_none, slice_get, inl, inr, refl, sym, ap, ◌∙◌, subst, arith}
+use Rattle.std.proofs.Common.{◌≡◌, ◌⊎◌, ℕ, zero, suc, ◌+◌, ◌-◌, ◌<◌, ◌≤◌, true, false, ◌&&◌, not, cond, nat_lt, List, [], ◌∷◌, length, map, Option, Some, None, is_some, is_none, slice_get, inl, inr, refl, sym, ap, ◌∙◌, subst, arith}
 use Rattle.std.proofs.lemmas.Bool.{cases_lt, cases_Bool}
 use Rattle.std.proofs.lemmas.Option.{slice_get_within}
-use Rattle.fj_slot.specs.Ledger.{Ledger, can_begin, can_tell}
+use Rattle.fj_slot.specs.Ledger.{Ledger, can_tell}
 use Rattle.fj_slot.specs.Serving.{Meaning}
 use Rattle.fj_slot.proofs.Sound.{length_mapped}
 use Rattle.fj_world.specs.declared.ask.Ask.{Ask}

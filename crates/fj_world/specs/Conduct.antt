@@ -1,5 +1,5 @@
 -- What a script asks, over plain data.
-use Rattle.std.specs.Prelude.{◌≡◌, ℕ, ◌+◌, ◌-◌, ◌<◌, ◌≤◌, ◌==◌, Bool, true, false, Option, Some, Result, Ok, Err, OnErr, IfOk, if◌then◌else◌}
+use Rattle.std.specs.Prelude.{◌≡◌, ℕ, ◌+◌, ◌-◌, ◌<◌, ◌≤◌, ◌==◌, Bool, true, false, Option, Some, Result, Ok, Err, OnErr, OnOk, IfOk, if◌then◌else◌}
 use Rattle.fj_slot.specs.declared.told.Told.{Told}
 use Rattle.fj_slot.specs.declared.told.Told.TheVariants.{Done, Stopped}
 use Rattle.fj_slot.specs.declared.told.Refused.{Refused}
@@ -103,7 +103,9 @@ pub record Takes {S T R J : Type 0} (c : Conduct S T R) (old : S) (number : Resu
   pub uses : c.uses new ≡ c.uses old
   pub owed : (slot : ℕ) → c.owed new slot ≡ owed_after_took (c.due old) number (c.owed old) slot
   pub over : c.over old ≡ true → c.over new ≡ true
+  -- a refusal makes it over, and a job that was submitted does not
   pub refused : OnErr number (c.over new ≡ true)
+  pub goes : OnOk number (c.over new ≡ c.over old)
   pub stops : c.stopped new ≡ true → c.stopped old ≡ true
   pub leads : c.leads old new
   pub took : (s : c.State) → c.state old ≡ Some s → c.over new ≡ false → IfOk number (λ n. c.state new ≡ Some (c.took s n))

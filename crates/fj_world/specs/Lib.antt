@@ -11,3 +11,4 @@ pub mod Happening
 pub mod Keeping
 pub mod Runs
 pub mod Laws
+pub mod Losing

@@ -8,6 +8,7 @@ ghost use Rattle.fj_world.specs.Plain.{PlainSlot, asked_next};
 ghost use Rattle.fj_world.specs.Fits.{SlotsFit};
 ghost use Rattle.fj_world.specs.Keeping.{AllCounted, AllGoOn, SomeStopped};
 ghost use Rattle.fj_world.specs.Alone.{ServesFront, Settles, AllHome, OwesAsSaid, ServedAlone};
+ghost use Rattle.fj_world.specs.Losing.{WasLost};
 
 use crate::ask::Ask;
 use crate::script::Script;
@@ -36,6 +37,11 @@ pub fn run_alone<S: Script>(script: &mut S, slots: &mut Slots<S::Gear>)
     ensures leads { LeadsTo S.conduct.leads script.old script.new }
     ensures alone { (s : S.conduct.State) (qs : List (PlainSlot S.Gear.State S.Gear.Task)) → S.conduct.state script.old ≡ Some s
         → S.conduct.stopped script.old ≡ false → SlotsFit S.Gear.meaning qs slots.old → ServedAlone S.Gear.meaning S.conduct (asked_next S.Gear.meaning S.conduct s qs) script.new slots.new }
+
+    // Where it is over, what it was before the call by which it was.
+    ensures gave_up { (s : S.conduct.State) (qs : List (PlainSlot S.Gear.State S.Gear.Task)) → S.conduct.state script.old ≡ Some s
+        → S.conduct.stopped script.old ≡ false → S.conduct.over script.old ≡ false → SlotsFit S.Gear.meaning qs slots.old → S.conduct.over script.new ≡ true
+        → WasLost S.Gear.meaning S.conduct s qs script.old script.new slots.new }
 {
     let mut hand = script.ask();
     loop {

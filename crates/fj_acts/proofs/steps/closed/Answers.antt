@@ -12,16 +12,18 @@ use Rattle.fj_acts.proofs.OpeningLemmas.{meant}
 use Rattle.fj_acts.proofs.StepLemmas.{disconnects_is, due_stands, names_closed}
 use Rattle.fj_acts.proofs.steps.closed.Goals as goal
 
-pub close_file-requires-after_bounds : goal.close_file-requires-after_bounds
-close_file-requires-after_bounds g c = λ κs within tells.
+pub close_file-requires : goal.close_file-requires
+close_file-requires g c = λ tells.
     used_name c.args.core.now.names (g.D.Disk.held c.args.disk.now) c.args.connection.name
     (due_stands (connected_at c.args.core.now.units c.args.number) c.args.core.now.names c.args.connection.name (sym c.if-not-is_due.ensures)) (c.requires.names tells)
 
-pub go_on-requires-clause-names : goal.go_on-requires-clause-names
-go_on-requires-clause-names g c = λ κs within tells.
-    let told : g.D.Disk.tells c.args.disk.now = c.in-Ok.ensures.telling.1 tells in
-    names_closed c.args.keep c.args.core.now.names c.remove.new.self (g.D.Disk.held c.args.disk.now) (g.D.Disk.held c.close_file.new.disk) c.args.connection.name (g.D.File.FileStore.bytes c.args.connection.file) _
-    (c.remove.ensures ∙ ap (left_of c.args.core.now.names) c.name.ensures) (c.in-Ok.ensures.back told) (c.requires.names told)
+pub go_on-requires : goal.go_on-requires
+go_on-requires g c = record {
+  names = λ tells.
+      let told : g.D.Disk.tells c.args.disk.now = c.in-Ok.ensures.telling.1 tells in
+      names_closed c.args.keep c.args.core.now.names c.remove.new.self (g.D.Disk.held c.args.disk.now) (g.D.Disk.held c.close_file.new.disk) c.args.connection.name (g.D.File.FileStore.bytes c.args.connection.file) _
+      (c.remove.ensures ∙ ap (left_of c.args.core.now.names) c.name.ensures) (c.in-Ok.ensures.back told) (c.requires.names told);
+}
 
 pub returns-in-Ok-clause-doing : goal.returns-in-Ok-clause-doing
 returns-in-Ok-clause-doing g c = λ tells conn answer is.

@@ -8,6 +8,7 @@ use Rattle.fj_world.specs.Plain.{asked_next}
 use Rattle.fj_queue.specs.Knows.{knows}
 use Rattle.fj_world.proofs.Places.{slice_get_in}
 use Rattle.fj_crew.proofs.Serving.{same_set, same_itself, submit_goes, settle_goes, sent_at_most, kept_by, first_goes, few_on, submit_owes, settle_owes, submit_answers, settle_answers, submit_told, settle_told, is_next}
+use Rattle.fj_crew.proofs.GivingUp.{first_gave_up, submit_gave_up, settle_gave_up}
 use Rattle.fj_crew.proofs.serve.serve.Goals as goal
 
 pub loop-slot-init : goal.loop-slot-init
@@ -26,6 +27,7 @@ loop-slot-init g c =
       answered = λ all _. all;
       stopped = λ was is. absurd (let o = (asks.stops is).0 in cc);
       leads = led_once k.leads c.args.script.now c.ask-hand.new.self asks.leads;
+      gave_up = λ b start over. first_gave_up m k c.args.script.now c.ask-hand.new.self c.ask-hand.result c.args.seats.now.items b start asks over;
       goes = λ b. first_goes m k c.args.script.now c.ask-hand.new.self c.ask-hand.result c.args.seats.now.items b asks;
     }
 
@@ -68,6 +70,8 @@ loop-slot-preserved-in-Submit g c =
       answered = λ all _. submit_answers m k old new c.in-Submit.slot c.submit_at-number.result found.0 (inv.answered all going) found.1 did;
       leads = led_twice k.leads c.args.script.now c.loop-slot.script c.took.new.self c.ask-hand-in-Submit.new.self inv.leads c.took.ensures.leads asks.leads;
       stopped = λ was is. submit_told m k c.loop-slot.script c.took.new.self c.ask-hand-in-Submit.new.self c.ask-hand-in-Submit.result new c.submit_at-number.result (λ e. (inv.stopped was e).0) going c.took.ensures asks is;
+      gave_up = λ b start over. submit_gave_up m k b.state b.slots (k.left c.args.script.now) c.args.script.now c.loop-slot.script c.took.new.self c.ask-hand-in-Submit.new.self c.loop-slot.hand c.ask-hand-in-Submit.result
+          old new c.in-Submit.slot c.in-Submit.job c.submit_at-number.result found.0 inv.leads (inv.goes b) going hand found.1 did c.took.ensures asks over;
       goes = λ b. submit_goes m k (asked_next m k b.state b.slots) (k.left c.args.script.now) c.loop-slot.script c.took.new.self c.ask-hand-in-Submit.new.self c.loop-slot.hand c.ask-hand-in-Submit.result
           old new c.in-Submit.slot c.in-Submit.job c.submit_at-number.result found.0 (inv.goes b) going hand found.1 did c.took.ensures asks;
     }
@@ -101,6 +105,8 @@ loop-slot-preserved g c =
       answered = λ all on. settle_answers m k c.loop-slot.script c.told.new.self c.ask-hand-in-Settle.new.self c.ask-hand-in-Settle.result old new c.in-Settle.slot c.settle_at-told.result found.0 (inv.answered all going) found.1 did c.told.ensures asks on;
       leads = led_twice k.leads c.args.script.now c.loop-slot.script c.told.new.self c.ask-hand-in-Settle.new.self inv.leads c.told.ensures.leads asks.leads;
       stopped = λ was is. settle_told m k c.loop-slot.script c.told.new.self c.ask-hand-in-Settle.new.self c.ask-hand-in-Settle.result old new c.in-Settle.slot c.settle_at-told.result found.0 found.1 did c.told.ensures asks is;
+      gave_up = λ b start over. settle_gave_up m k b.state b.slots (k.left c.args.script.now) c.args.seats.now.items c.args.script.now c.loop-slot.script c.told.new.self c.ask-hand-in-Settle.new.self c.loop-slot.hand c.ask-hand-in-Settle.result
+          old new c.in-Settle.slot c.settle_at-told.result found.0 b.planned inv.same inv.leads (inv.goes b) going keeps.1 hand found.1 (omega (arith, owes, keeps.2)) did c.told.ensures asks over;
       goes = λ b. settle_goes m k (asked_next m k b.state b.slots) (k.left c.args.script.now) c.args.seats.now.items c.loop-slot.script c.told.new.self c.ask-hand-in-Settle.new.self c.loop-slot.hand c.ask-hand-in-Settle.result
           old new c.in-Settle.slot c.settle_at-told.result found.0 b.planned inv.same (inv.goes b) going keeps.1 hand found.1 (omega (arith, owes, keeps.2)) (λ all. inv.answered all going c.in-Settle.slot found.0 found.1) did c.told.ensures asks;
     }

@@ -4,7 +4,7 @@ use Rattle.fj_world.specs.declared.ask.Ask.TheVariants.{Finished}
 use Rattle.fj_world.specs.Leading.{LeadsTo}
 use Rattle.fj_world.specs.Plain.{asked_next}
 use Rattle.fj_crew.specs.Seats.{Paired}
-use Rattle.fj_crew.specs.Fits.{SeatsSame, OwesAsSaid, FewJobs, AllAnswered, SomeTold, Begun, CrewGoes}
+use Rattle.fj_crew.specs.Fits.{SeatsSame, OwesAsSaid, FewJobs, AllAnswered, SomeTold, Begun, CrewGoes, CrewGaveUp}
 use Rattle.fj_crew.proofs.serve.serve.Given as goal
 
 abbrev pub invariant-loop-slot : goal.invariant-loop-slot
@@ -22,6 +22,8 @@ invariant-loop-slot g l = record {
   leads : LeadsTo g.S.Script.conduct.leads l.fn.script l.script;
   goes : (b : Begun g.S.Gear.Engine.meaning g.S.Script.conduct l.fn.script l.fn.seats.items)
       → CrewGoes g.S.Gear.Engine.meaning g.S.Script.conduct (g.S.Script.conduct.stopped l.fn.script) (AllAnswered l.fn.seats.items) (asked_next g.S.Gear.Engine.meaning g.S.Script.conduct b.state b.slots) (g.S.Script.conduct.left l.fn.script) l.script l.hand l.seats.items;
+  gave_up : (b : Begun g.S.Gear.Engine.meaning g.S.Script.conduct l.fn.script l.fn.seats.items) → g.S.Script.conduct.over l.fn.script ≡ false → g.S.Script.conduct.over l.script ≡ true
+      → CrewGaveUp g.S.Gear.Engine.meaning g.S.Script.conduct (g.S.Script.conduct.left l.fn.script) b.state b.slots l.fn.script l.script l.seats.items;
 }
 
 abbrev pub decreases-loop-slot : goal.decreases-loop-slot

@@ -1,5 +1,6 @@
 use Rattle.std.proofs.Common.{ap, ◌∙◌, subst}
 use Rattle.fj_world.specs.Rack.{Rack}
+use Rattle.fj_world.specs.Losing.{WasLost}
 use Rattle.fj_crew.specs.Plan.{SameNumbers}
 use Rattle.fj_crew.proofs.WithWorkers.{numbers_of, numbers_on, few_same, owes_same}
 use Rattle.fj_crew.proofs.with_workers.serve_with.Goals as goal
@@ -30,6 +31,9 @@ run_alone-requires-in-Err-clause-owed g c =
 pub returns-in-Ok-clause-alone : goal.returns-in-Ok-clause-alone
 returns-in-Ok-clause-alone g c = λ s qs state on fits. c.in-Ok.ensures.alone s qs state on (rw c.replace-given.ensures.value fits)
 
+pub returns-in-Ok-clause-gave_up : goal.returns-in-Ok-clause-gave_up
+returns-in-Ok-clause-gave_up g c = λ s qs state on start fits over. c.in-Ok.ensures.gave_up s qs state on start (rw c.replace-given.ensures.value fits) over
+
 pub returns-in-Err-clause-keeps : goal.returns-in-Err-clause-keeps
 returns-in-Err-clause-keeps g c =
     numbers_on c.args.slots.now c.in-Err.lost.slots c.run_alone-in-Err.new.slots
@@ -45,3 +49,11 @@ returns-in-Err-clause-alone g c = λ s qs state on fits.
     let same = c.in-Err.ensures.lost.0 in
     c.run_alone-in-Err.ensures.alone s qs (ap con.state same ∙ state) (ap con.stopped same ∙ on)
     (c.in-Err.ensures.lost_sound s qs state (rw c.replace-given.ensures.value fits))
+
+pub returns-in-Err-clause-gave_up : goal.returns-in-Err-clause-gave_up
+returns-in-Err-clause-gave_up g c = λ s qs state on start fits over.
+    let con = g.S.Script.conduct in
+    let same = c.in-Err.ensures.lost.0 in
+    subst (λ z. WasLost g.S.Gear.Engine.meaning con s qs z c.run_alone-in-Err.new.script c.run_alone-in-Err.new.slots) same
+    (c.run_alone-in-Err.ensures.gave_up s qs (ap con.state same ∙ state) (ap con.stopped same ∙ on) (ap con.over same ∙ start)
+    (c.in-Err.ensures.lost_sound s qs state (rw c.replace-given.ensures.value fits)) over)

@@ -9,8 +9,8 @@ take-requires g c = λ t. free_of_empty (g.D.Disk.held c.args.disk.now) c.args.n
 pub returns-in-Err : goal.returns-in-Err
 returns-in-Err g c = λ t. let told = c.in-Err.ensures.telling.1 t in ap (λ (h : Holdings). h.in_use) (c.in-Err.ensures.err told) ∙ c.requires told
 
-pub act_on_new-requires-after_bounds : goal.act_on_new-requires-after_bounds
-act_on_new-requires-after_bounds g c = λ _ _ t. let told = c.in-Ok-None.ensures.telling.1 t in let none = rw c.in-Ok-None.field-0-is at (c.in-Ok-None.ensures.none told) in ap (λ (h : Holdings). h.in_use) none.1 ∙ c.requires told
+pub act_on_new-requires : goal.act_on_new-requires
+act_on_new-requires g c = λ t. let told = c.in-Ok-None.ensures.telling.1 t in let none = rw c.in-Ok-None.field-0-is at (c.in-Ok-None.ensures.none told) in ap (λ (h : Holdings). h.in_use) none.1 ∙ c.requires told
 
 pub give-requires : goal.give-requires
 give-requires g c = λ t. let some = rw c.in-Ok-Some.field-0-is at (c.in-Ok-Some.ensures.some (c.in-Ok-Some.ensures.telling.1 t)) in in_use_after _ _ _ some.2

@@ -14,6 +14,7 @@ use Rattle.fj_world.proofs.AloneSteps.{alone_orderly, set_few, set_home, owes_se
 use Rattle.fj_slot.proofs.Counted.{counted_tell}
 use Rattle.fj_world.proofs.Kept.{all_go_itself, all_go_on_and_on, all_go_set, goes_same, counted_set, submit_counted, submit_stopped, told_stopped}
 use Rattle.fj_world.proofs.Places.{slice_get_in}
+use Rattle.fj_world.proofs.Losing.{first_lost, submit_lost, settle_lost}
 use Rattle.fj_world.proofs.alone.run_alone.Goals as goal
 
 pub loop-slot-init : goal.loop-slot-init
@@ -29,6 +30,7 @@ loop-slot-init g c =
       owed = λ at l used e. omega (arith, c.requires.owed at l (omega (arith, used, asks.uses)) e, asks.owed at);
       home = c.requires.home;
       leads = led_once k.leads c.args.script.now c.ask-hand.new.self asks.leads;
+      gave_up = λ s qs state on start fit over. first_lost m k s qs c.args.script.now c.ask-hand.new.self c.ask-hand.result c.args.slots.now state start fit asks over;
       fits = λ s qs state on fit. (
         0,
         restart m k (asked_next m k s qs) c.args.script.now c.ask-hand.new.self c.ask-hand.new.self c.ask-hand.result c.args.slots.now
@@ -62,6 +64,11 @@ loop-slot-preserved-in-Submit g c =
           inv.owed due found.1 (c.submit-number.ensures.after found.0 found.1) c.submit-number.ensures.err c.took.ensures asks;
       leads = led_twice k.leads c.args.script.now c.loop-slot.script c.took.new.self c.ask-hand-in-Submit.new.self inv.leads c.took.ensures.leads asks.leads;
       home = submit_home m k c.loop-slot.slots c.submit-number.new.self c.in-Submit.slot c.submit-number.result found.0 c.in-Submit.job inv.home found.1 (c.submit-number.ensures.after found.0 found.1) c.submit-number.ensures.err;
+      gave_up = λ s qs state on start fit over.
+          let before = inv.fits s qs state on fit in
+          submit_lost m k s qs before.0 c.args.script.now c.loop-slot.script c.took.new.self c.ask-hand-in-Submit.new.self c.loop-slot.hand c.ask-hand-in-Submit.result c.loop-slot.slots c.submit-number.new.self
+          c.in-Submit.slot c.in-Submit.job c.submit-number.result found.0 inv.leads before.1 going hand found.1 (c.submit-number.ensures.ok found.0 found.1) (c.submit-number.ensures.after found.0 found.1) c.submit-number.ensures.err
+          c.took.ensures asks over;
       fits = λ s qs state on fit.
           let before = inv.fits s qs state on fit in
           let moved = submit_advances m k (after m k before.0 (asked_next m k s qs)) (record { start = c.loop-slot.script; script = c.loop-slot.script; hand = c.loop-slot.hand; rack = c.loop-slot.slots; workers = [] })
@@ -98,6 +105,10 @@ loop-slot-preserved g c =
           inv.owed due keeps.2 found.1 settled.after settled.serves.told settled.serves.jobs c.told.ensures asks;
       leads = led_twice k.leads c.args.script.now c.loop-slot.script c.told.new.self c.ask-hand-in-Settle.new.self inv.leads c.told.ensures.leads asks.leads;
       home = set_home m k c.loop-slot.slots.slots c.settle-told.new.slots.slots c.in-Settle.slot (with_tell settled.ledger) settled.after settled.serves.home inv.home;
+      gave_up = λ s qs state on start fit over.
+          let before = inv.fits s qs state on fit in
+          settle_lost m k s qs before.0 c.args.script.now c.loop-slot.script c.told.new.self c.ask-hand-in-Settle.new.self c.loop-slot.hand c.ask-hand-in-Settle.result c.loop-slot.slots c.settle-told.new.slots
+          c.in-Settle.slot found.0 c.settle-told.result inv.leads before.1 going hand found.1 settled c.told.ensures asks over;
       fits = λ s qs state on fit.
           let before = inv.fits s qs state on fit in
           let moved = settle_alone m k (after m k before.0 (asked_next m k s qs)) c.loop-slot.script c.told.new.self c.ask-hand-in-Settle.new.self c.loop-slot.hand c.ask-hand-in-Settle.result c.loop-slot.slots c.settle-told.new.slots

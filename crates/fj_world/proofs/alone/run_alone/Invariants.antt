@@ -3,6 +3,7 @@ use Rattle.fj_world.specs.Scene.{IsOrderly}
 use Rattle.fj_world.specs.Plain.{PlainSlot, asked_next, after}
 use Rattle.fj_world.specs.Fits.{Fits, SlotsFit}
 use Rattle.fj_world.specs.Leading.{LeadsTo}
+use Rattle.fj_world.specs.Losing.{WasLost}
 use Rattle.fj_world.specs.Alone.{AllHome, OwesAsSaid}
 use Rattle.fj_world.specs.Keeping.{AllGoOn, AllCounted, SomeStopped}
 use Rattle.fj_world.proofs.alone.run_alone.Given as goal
@@ -19,6 +20,9 @@ invariant-loop-slot g l = record {
   fits : (s : g.S.Script.conduct.State) (qs : List (PlainSlot g.row.S-Gear-State.Denot g.row.S-Gear-Task.Denot)) → g.S.Script.conduct.state l.fn.script ≡ Some s
       → g.S.Script.conduct.stopped l.fn.script ≡ false → SlotsFit g.S.Gear.Engine.meaning qs l.fn.slots
       → (n : ℕ) × Fits g.S.Gear.Engine.meaning g.S.Script.conduct (after g.S.Gear.Engine.meaning g.S.Script.conduct n (asked_next g.S.Gear.Engine.meaning g.S.Script.conduct s qs)) (record { start = l.script; script = l.script; hand = l.hand; rack = l.slots; workers = [] });
+  gave_up : (s : g.S.Script.conduct.State) (qs : List (PlainSlot g.row.S-Gear-State.Denot g.row.S-Gear-Task.Denot)) → g.S.Script.conduct.state l.fn.script ≡ Some s
+      → g.S.Script.conduct.stopped l.fn.script ≡ false → g.S.Script.conduct.over l.fn.script ≡ false → SlotsFit g.S.Gear.Engine.meaning qs l.fn.slots → g.S.Script.conduct.over l.script ≡ true
+      → WasLost g.S.Gear.Engine.meaning g.S.Script.conduct s qs l.fn.script l.script l.slots;
 }
 
 abbrev pub decreases-loop-slot : goal.decreases-loop-slot

@@ -1,12 +1,14 @@
-use Rattle.std.proofs.Common.{◌≡◌, ◌+◌, List, ◌∷◌, drop, IfSome, IfNone, sym, subst}
+use Rattle.std.proofs.Common.{◌≡◌, ◌+◌, List, ◌∷◌, drop, Some, IfSome, IfNone, refl, sym, subst}
 use Rattle.fj_plain.specs.State.{Files}
 use Rattle.fj_plain.specs.Statement.{Stated, stated, control_by}
 use Rattle.fj_units.specs.Files.{files_of}
-use Rattle.fj_turns.specs.Run.{Run, Start}
+use Rattle.fj_turns.specs.Run.{Start}
 use Rattle.fj_turns.specs.Turns.{Turn, turn_start, goes, Asked}
+use Rattle.fj_runner.specs.Failing.{FailsStage}
 use Rattle.fj_runner.specs.Machine.{rest_of, run_in, run_at}
 use Rattle.fj_runner.specs.Turned.{IsTurn, IsAsked}
 use Rattle.fj_runner.specs.declared.stage.Stage.TheVariants as stage
+use Rattle.fj_runner.proofs.GivingUp.{fails_for, fails_turn, passed_at}
 use Rattle.fj_runner.proofs.NextAsks.{read_at_hand, goes_at}
 use Rattle.fj_runner.proofs.machine.Machine.begin_next.Goals as goal
 
@@ -40,3 +42,34 @@ returns-in-Ok-clause-passes g c = λ tells.
     let it = subst (λ (rest : List Stated). IsTurn told bytes m.deck.variables rest after c.start.new.self c.in-Ok.turned t) (sym h) (c.in-Ok.ensures.turn tells more Start) in
     let new = c.asked_by.new.self in
     subst (λ (a : Asked). IfNone c.asked_by.result ((new.state.stage ≡ stage.Start) × (a ≡ goes (rest_of new) (run_at after new Start)))) (sym (goes_at files m st more h)) (c.asked_by.ensures.passes after t it)
+
+pub returns-in-Ok-clause-passed : goal.returns-in-Ok-clause-passed
+returns-in-Ok-clause-passed g c = λ tells.
+    let told = g.F.FileStore.told in
+    let bytes = g.F.FileStore.bytes in
+    let m = c.args.self.now in
+    let files : Files = files_of (g.D.Disk.held c.args.disk.now) in
+    let lined = c.index-as_slice-self.result in
+    let st : Stated = (lined, control_by lined.what) in
+    let more : List Stated = drop (m.at + 1) (stated m.deck.statements) in
+    let after : Files = files_of (g.D.Disk.held c.start.new.disk) in
+    let h = read_at_hand m.deck.statements c.as_slice.result.now m.at lined c.as_slice.ensures c.requires.at c.index-as_slice-self.is in
+    let t : Turn = turn_start st (run_in m.deck.variables (st ∷ more) files m.state Start) in
+    let it = subst (λ (rest : List Stated). IsTurn told bytes m.deck.variables rest after c.start.new.self c.in-Ok.turned t) (sym h) (c.in-Ok.ensures.turn tells more Start) in
+    subst (λ o. IfNone c.asked_by.result (o ≡ Some (run_at after c.asked_by.new.self Start))) (sym (passed_at files m Start st more (run_at files m Start) refl h)) (c.asked_by.ensures.passed after t it)
+
+pub returns-in-Err-clause-fails : goal.returns-in-Err-clause-fails
+returns-in-Err-clause-fails g c = λ tells.
+    let m = c.args.self.now in
+    let files : Files = files_of (g.D.Disk.held c.args.disk.now) in
+    let lined = c.index-as_slice-self.result in
+    let st : Stated = (lined, control_by lined.what) in
+    let more : List Stated = drop (m.at + 1) (stated m.deck.statements) in
+    let h = read_at_hand m.deck.statements c.as_slice.result.now m.at lined c.as_slice.ensures c.requires.at c.index-as_slice-self.is in
+    let out = c.args.out.now in
+    let out' = c.start.new.out in
+    let taken = g.W.Sink.taken in
+    let f = subst (λ (rest : List Stated). FailsStage g.W.Sink.tells taken out m.state.core c.start.result out' c.start.new.self.core st Start (run_in m.deck.variables rest files m.state Start)) (sym h)
+    (c.start.ensures.fails tells more Start) in
+    fails_for _ _ (g.W.Sink.tells out) (taken out) (taken out') (run_at files m Start) m _ (λ e. cc (c.in-Err.is, e))
+    (fails_turn g.W.Sink.tells taken out out' m _ c.start.result c.in-Err.lost st more (run_at files m Start) c.in-Err.is h refl refl c.start.ensures.steps.still f)

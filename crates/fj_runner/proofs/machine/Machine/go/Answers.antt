@@ -1,8 +1,41 @@
+use Rattle.fj_turns.specs.Run.{Start}
+use Rattle.fj_units.specs.Files.{files_of}
+use Rattle.fj_runner.specs.Machine.{run_at}
+use Rattle.fj_runner.proofs.GivingUp.{fails_behind, fails_for}
 use Rattle.fj_runner.proofs.Going.{goes_more, none_has}
+use Rattle.fj_runner.proofs.Stepping.{went, given_up, then_steps, err_steps, ok_steps}
 use Rattle.fj_runner.proofs.machine.Machine.go.Goals as goal
 
 pub loop-self-preserved : goal.loop-self-preserved
 loop-self-preserved g c =
     goes_more g.W.Sink.tells g.W.Sink.taken g.W.Sink.count g.D.Disk.tells g.D.Disk.held g.D.Disk.count c.args.out.now c.loop-self.out c.begin_next.new.out c.args.disk.now c.loop-self.disk c.begin_next.new.disk
     c.args.self.now c.loop-self.self c.begin_next.new.self c.in-Ok.asked c.loop-self.invariant c.in-Ok.ensures.steps (λ t. none_has c.in-Ok.asked _ c.in_default.is (c.in-Ok.ensures.passes t))
-    c.begin_next.ensures.deck c.begin_next.ensures.tally c.begin_next.ensures.kept
+    (λ t. none_has c.in-Ok.asked _ c.in_default.is (c.in-Ok.ensures.passed t)) c.begin_next.ensures.deck c.begin_next.ensures.tally c.begin_next.ensures.kept
+
+pub returns-in-Err-clause-fails : goal.returns-in-Err-clause-fails
+returns-in-Err-clause-fails g c = λ tells.
+    let it = c.loop-self.invariant in
+    let m = c.args.self.now in
+    let half = c.loop-self.self in
+    let p = it.passed tells in
+    let taken = g.W.Sink.taken in
+    fails_behind _ (g.W.Sink.tells c.args.out.now) (g.W.Sink.tells c.loop-self.out) (taken c.args.out.now) (taken c.loop-self.out) (taken c.begin_next.new.out) p.0
+    (run_at (files_of (g.D.Disk.held c.args.disk.now)) m Start) (run_at (files_of (g.D.Disk.held c.loop-self.disk)) half Start) m half c.begin_next.new.self p.1 it.steps.telling_out.0 it.steps.output
+    (fails_for _ _ (g.W.Sink.tells c.loop-self.out) (taken c.loop-self.out) (taken c.begin_next.new.out) (run_at (files_of (g.D.Disk.held c.loop-self.disk)) half Start) half c.begin_next.new.self
+    (λ e. cc) (c.in-Err.ensures.fails (it.steps.telling.0 tells)))
+
+pub returns-in-Err-clause-steps : goal.returns-in-Err-clause-steps
+returns-in-Err-clause-steps g c =
+    let m = c.args.self.now in
+    let half = c.loop-self.self in
+    let new = c.begin_next.new in
+    then_steps c.args.out.now c.loop-self.out new.out c.args.disk.now c.loop-self.disk new.disk m.state.core half.state.core new.self.state.core (tt {0}) (given_up c.in-Err.lost) c.loop-self.invariant.steps
+    (err_steps c.loop-self.out new.out c.loop-self.disk new.disk half.state.core new.self.state.core c.begin_next.result c.in-Err.lost c.in-Err.is c.begin_next.ensures.steps)
+
+pub returns-in-Some-clause-steps : goal.returns-in-Some-clause-steps
+returns-in-Some-clause-steps g c =
+    let m = c.args.self.now in
+    let half = c.loop-self.self in
+    let new = c.begin_next.new in
+    then_steps c.args.out.now c.loop-self.out new.out c.args.disk.now c.loop-self.disk new.disk m.state.core half.state.core new.self.state.core (tt {0}) (went c.in-Some.ask) c.loop-self.invariant.steps
+    (ok_steps c.loop-self.out new.out c.loop-self.disk new.disk half.state.core new.self.state.core c.begin_next.result c.in-Ok.asked c.in-Some.ask c.in-Ok.is c.begin_next.ensures.steps)

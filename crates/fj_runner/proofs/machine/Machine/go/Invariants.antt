@@ -1,6 +1,4 @@
-use Rattle.std.proofs.Common.{◌≡◌, ◌-◌, length, Ok}
-use Rattle.fj_plain.specs.State.{Files}
-use Rattle.fj_units.specs.Files.{files_of}
+use Rattle.std.proofs.Common.{◌-◌, length}
 use Rattle.fj_runner.proofs.Going.{GoesOn}
 use Rattle.fj_runner.proofs.machine.Machine.go.Given as goal
 

@@ -1,4 +1,4 @@
-use Rattle.std.proofs.Common.{◌≡◌, ◌∷◌, IfOk, refl, sym, subst}
+use Rattle.std.proofs.Common.{◌∷◌, IfOk, refl, sym, subst}
 use Rattle.fj_plain.specs.Statement.{Stated, control_by}
 use Rattle.fj_turns.specs.Run.{Run, Acting, Awaiting}
 use Rattle.fj_turns.specs.Turns.{turn_act}

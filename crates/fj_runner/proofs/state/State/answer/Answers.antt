@@ -1,4 +1,4 @@
-use Rattle.std.proofs.Common.{◌≡◌, ◌+◌, true, false, List, Some, get_or, slice_set, refl, sym, ap, ◌∙◌, subst, arith, rules}
+use Rattle.std.proofs.Common.{◌≡◌, ◌+◌, true, Some, get_or, slice_set, refl, sym, ap, ◌∙◌, subst, arith, rules}
 use Rattle.std.proofs.lemmas.List.{get_or_read}
 use Rattle.fj_bay.specs.Plain.{reply_of}
 use Rattle.fj_acts.specs.State.{core_of}

@@ -1,11 +1,11 @@
-use Rattle.std.proofs.Common.{◌≡◌, ◌+◌, List, [], ◌∷◌, drop, IfOk, refl, sym, subst}
+use Rattle.std.proofs.Common.{◌≡◌, ◌+◌, ◌∷◌, drop, IfOk, refl, sym, subst, ap, ◌∙◌}
 use Rattle.fj_bay.specs.Jobs.{resume}
 use Rattle.fj_plain.specs.State.{Files}
 use Rattle.fj_plain.specs.Statement.{Stated, control_by}
 use Rattle.fj_desk.specs.Acting.{doing}
 use Rattle.fj_desk.specs.Core.{Core}
 use Rattle.fj_desk.specs.Doing.{Doing}
-use Rattle.fj_turns.specs.Run.{Run, Held, Acting}
+use Rattle.fj_turns.specs.Run.{Run, Acting}
 use Rattle.fj_turns.specs.Turns.{turn_act, ends_halts}
 use Rattle.fj_pending.specs.Plain.{held}
 use Rattle.fj_acts.specs.State.{core_of}
@@ -15,6 +15,11 @@ use Rattle.fj_runner.specs.Turned.{IsTurn}
 use Rattle.fj_runner.proofs.Lists.{drop_at, drop_none}
 use Rattle.fj_runner.proofs.Pauses.{ends_next}
 use Rattle.fj_runner.proofs.Runs.{matched_same}
+use Rattle.fj_items.specs.Handing.{HandsOver, HandsFront}
+use Rattle.fj_turns.specs.Passing.{output_of}
+use Rattle.fj_acts.specs.State.{core_at}
+use Rattle.fj_runner.proofs.Failures.{act_output, doing_output, fails_still, fails_acting, fails_begun}
+use Rattle.fj_runner.proofs.Stepping.{begun_steps}
 use Rattle.fj_runner.proofs.state.State.resume.Goals as goal
 
 pub returns-in-Some-clause-turn : goal.returns-in-Some-clause-turn
@@ -46,3 +51,53 @@ returns-in-Ok-clause-turn g c = λ tells more stage.
     let e = drop_none c.args.slots c.args.next (sym c.in_default.ensures) in
     subst (λ xs. IfOk c.act.result (λ t. IsTurn told bytes variables (st ∷ more) after c.act.new.self t (turn_act st (ends_halts xs core does) (run_in variables (st ∷ more) files s stage)))) (sym e)
     (c.act.ensures.turn more after core (held s.core.pending) stage does c.begin.ensures.pending (c.in-Ok.ensures.doing tells))
+
+pub returns-in-Some-clause-fails : goal.returns-in-Some-clause-fails
+returns-in-Some-clause-fails g c = λ tells more stage. fails_still c.args.out.now c.args.self.now.core c.submit.new.self.core c.submit.result _ _ _ c.submit.ensures.causes.0
+
+pub returns-in-Ok-clause-fails : goal.returns-in-Ok-clause-fails
+returns-in-Ok-clause-fails g c = λ tells more stage.
+    let told = g.F.FileStore.told in
+    let bytes = g.F.FileStore.bytes in
+    let s = c.args.self.now in
+    let variables = c.args.variables.now in
+    let st : Stated = (c.args.lined.now, control_by c.args.lined.now.what) in
+    let files : Files = files_of (g.D.Disk.held c.args.disk.now) in
+    let after : Files = files_of (g.D.Disk.held c.begin.new.disk) in
+    let core : Core = core_of files s.core in
+    let does : Doing = doing st.1 variables st.0.line core st.0.what c.args.condition in
+    let run : Run = run_in variables (st ∷ more) files s stage in
+    let e = drop_none c.args.slots c.args.next (sym c.in_default.ensures) in
+    let due : output_of (turn_act st (ends_halts (drop c.args.next c.args.slots) core does) run) ≡ c.begin.new.core.output =
+    ap (λ xs. output_of (turn_act st (ends_halts xs core does) run)) e ∙ act_output st does run ∙ doing_output told bytes variables st (core_of after c.begin.new.core) c.in-Ok.doing does (c.in-Ok.ensures.doing tells) in
+    let taken = g.W.Sink.taken in
+    fails_acting c.args.out.now c.begin.new.out s.core c.act.new.self.core c.act.result _ _ _ c.act.ensures.keeps.disk
+    (λ t. subst (λ o. HandsOver (taken c.args.out.now) (taken c.begin.new.out) s.core.output o) (sym due) (c.in-Ok.ensures.output t))
+
+pub returns-clause-fails : goal.returns-clause-fails
+returns-clause-fails g c = λ tells more stage.
+    let told = g.F.FileStore.told in
+    let bytes = g.F.FileStore.bytes in
+    let s = c.args.self.now in
+    let variables = c.args.variables.now in
+    let st : Stated = (c.args.lined.now, control_by c.args.lined.now.what) in
+    let files : Files = files_of (g.D.Disk.held c.args.disk.now) in
+    let core : Core = core_of files s.core in
+    let does : Doing = doing st.1 variables st.0.line core st.0.what c.args.condition in
+    let run : Run = run_in variables (st ∷ more) files s stage in
+    let e = drop_none c.args.slots c.args.next (sym c.in_default.ensures) in
+    let due : output_of (turn_act st (ends_halts (drop c.args.next c.args.slots) core does) run) ≡ (core_at does).output =
+    ap (λ xs. output_of (turn_act st (ends_halts xs core does) run)) e ∙ act_output st does run in
+    let taken = g.W.Sink.taken in
+    fails_begun c.args.out.now c.begin.new.out s.core c.begin.new.core _ _ (λ t. subst (λ o. HandsFront (taken c.args.out.now) (taken c.begin.new.out) s.core.output o) (sym due) (c.in-Err.ensures.front t))
+    (λ e. (c.begin.ensures.still (cc (c.in-Err.is, e))).1) c.begin.ensures.tells
+
+pub returns-clause-steps : goal.returns-clause-steps
+returns-clause-steps g c =
+    let it = c.begin.ensures in
+    let s = c.args.self.now in
+    let st : Stated = (c.args.lined.now, control_by c.args.lined.now.what) in
+    let core : Core = core_of (files_of (g.D.Disk.held c.args.disk.now)) s.core in
+    let due = (core_at (doing st.1 c.args.variables.now st.0.line core st.0.what c.args.condition)).output in
+    begun_steps c.args.out.now c.begin.new.out c.args.disk.now c.begin.new.disk c.args.self.now.core c.begin.new.core c.begin.result c.in-Err.lost due c.in-Err.is it.kinds it.names it.telling it.later it.failed it.telling_out
+    it.later_out it.failed_out it.front it.still

@@ -1,4 +1,4 @@
-use Rattle.std.proofs.Common.{◌≡◌, List, ◌∷◌, IfOk, ap, ◌∙◌, subst}
+use Rattle.std.proofs.Common.{List, ◌∷◌, IfOk, ap, ◌∙◌, subst}
 use Rattle.fj_plain.specs.State.{Files, Entry}
 use Rattle.fj_plain.specs.Statement.{Stated, control_by}
 use Rattle.fj_desk.specs.Core.{Core, Connected}
@@ -11,6 +11,8 @@ use Rattle.fj_units.specs.Files.{files_of}
 use Rattle.fj_runner.specs.Machine.{run_in}
 use Rattle.fj_runner.specs.Turned.{IsTurn}
 use Rattle.fj_runner.proofs.Beginnings.{told_run, tells_turn}
+use Rattle.fj_turns.specs.Passing.{output_of}
+use Rattle.fj_runner.proofs.Failures.{fails_from}
 use Rattle.fj_runner.proofs.state.State.tell.Goals as goal
 
 pub returns-in-Ok-tell_all-clause-turn : goal.returns-in-Ok-tell_all-clause-turn
@@ -30,3 +32,21 @@ returns-in-Ok-tell_all-clause-turn g c = λ tells more stage.
     (told_run st es run (core_of files new) (held new.pending) (c.in-Ok-tell_all.ensures.core files) c.in-Ok-tell_all.ensures.left)
     (c.in-Ok.ensures ∙ ap (λ (us : List Connected). halted_slots es us) c.as_slice-units.ensures) c.in-Ok-tell_all.ensures.condition)
     (c.resume.ensures.turn tells more stage)
+
+pub returns-in-Ok-tell_all-clause-fails : goal.returns-in-Ok-tell_all-clause-fails
+returns-in-Ok-tell_all-clause-fails g c = λ tells more stage.
+    let told = g.F.FileStore.told in
+    let bytes = g.F.FileStore.bytes in
+    let s = c.args.self.now in
+    let variables = c.args.variables.now in
+    let st : Stated = (c.args.lined.now, control_by c.args.lined.now.what) in
+    let files : Files = files_of (g.D.Disk.held c.args.disk.now) in
+    let run : Run = run_in variables (st ∷ more) files s stage in
+    let es : List Entry = waited_of c.args.whose (entries s.core.pending) in
+    let new = c.tell_all.new.core in
+    let left : Run = record run { core = core_of files new; book = held new.pending } in
+    let due = tells_turn st es run left c.in-Ok.slots c.in-Ok-tell_all.condition
+    (told_run st es run (core_of files new) (held new.pending) (c.in-Ok-tell_all.ensures.core files) c.in-Ok-tell_all.ensures.left)
+    (c.in-Ok.ensures ∙ ap (λ (us : List Connected). halted_slots es us) c.as_slice-units.ensures) c.in-Ok-tell_all.ensures.condition in
+    fails_from c.args.out.now c.resume.new.out s.core new c.resume.new.self.core c.resume.result _ _ _ _ _ _ c.tell_all.ensures.keeps.output (ap output_of due) (λ k. k)
+    (ap (λ (k : Core). k.tells) (c.in-Ok-tell_all.ensures.core files)) (c.resume.ensures.fails tells more stage)

@@ -1,12 +1,11 @@
-use Rattle.std.proofs.Common.{◌≡◌, List, ◌∷◌, drop, Ok, Some, IfOk, refl, sym, ◌∙◌, subst}
+use Rattle.std.proofs.Common.{◌≡◌, ◌∷◌, Ok, Some, IfOk, refl, sym, ◌∙◌, subst}
 use Rattle.fj_bay.specs.Plain.{task_of, reply_of}
 use Rattle.fj_plain.specs.State.{Files}
 use Rattle.fj_plain.specs.Statement.{Stated, control_by}
-use Rattle.fj_desk.specs.Acting.{doing}
 use Rattle.fj_desk.specs.Core.{Core}
 use Rattle.fj_desk.specs.Doing.{Doing}
 use Rattle.fj_turns.specs.Run.{Run, Start, Waiting, Acting, Awaiting}
-use Rattle.fj_turns.specs.Turns.{turn, ends_halts}
+use Rattle.fj_turns.specs.Turns.{turn}
 use Rattle.fj_pending.specs.Plain.{held}
 use Rattle.fj_acts.specs.Doing.{next_of, then_of}
 use Rattle.fj_acts.specs.State.{core_of}
@@ -15,6 +14,10 @@ use Rattle.fj_runner.specs.Machine.{run_in, stage_of}
 use Rattle.fj_runner.specs.Turned.{IsTurn}
 use Rattle.fj_runner.proofs.NextAsks.{some_same, run_known}
 use Rattle.fj_runner.proofs.Stepping.{kept_steps, ok_keeps, disk_steps, then_steps}
+use Rattle.fj_turns.specs.Passing.{output_of}
+use Rattle.fj_runner.specs.Failing.{FailsStage}
+use Rattle.fj_runner.proofs.Failures.{fails_still, fails_quiet, fails_at}
+use Rattle.fj_runner.proofs.Stepping.{went, given_up}
 use Rattle.fj_runner.proofs.state.State.turn.Goals as goal
 
 pub returns-in-Start-clause-turn : goal.returns-in-Start-clause-turn
@@ -132,3 +135,74 @@ returns-in-Ok-doing-clause-steps g c =
     then_steps out out out disk after after s.core half new c.in-Ok-doing.doing c.act-in-Ok-doing.result
     (disk_steps out disk after s.core half c.in-Ok-doing.doing told.kinds told.names told.output told.telling told.later)
     (kept_steps out after half new c.act-in-Ok-doing.result c.act-in-Ok-doing.ensures.keeps)
+
+pub returns-in-Start-clause-fails : goal.returns-in-Start-clause-fails
+returns-in-Start-clause-fails g c = λ tells more stage e.
+    let told = g.F.FileStore.told in
+    let bytes = g.F.FileStore.bytes in
+    let s = c.args.self.now in
+    let variables = c.args.variables.now in
+    let st : Stated = (c.args.lined.now, control_by c.args.lined.now.what) in
+    let files : Files = files_of (g.D.Disk.held c.args.disk.now) in
+    let run : Run = run_in variables (st ∷ more) files s stage in
+    let core : Core = core_of files s.core in
+    let known = subst (λ x. stage_of told bytes variables (st ∷ more) core x ≡ Some stage) (sym c.replace.ensures.value ∙ c.in-Start.is) e in
+    subst (λ x. FailsStage g.W.Sink.tells g.W.Sink.taken c.args.out.now s.core c.start.result c.start.new.out c.start.new.self.core st x run) (some_same Start stage known)
+    (c.start.ensures.fails tells more stage)
+
+pub returns-in-Waiting-clause-fails : goal.returns-in-Waiting-clause-fails
+returns-in-Waiting-clause-fails g c = λ tells more stage e.
+    let told = g.F.FileStore.told in
+    let bytes = g.F.FileStore.bytes in
+    let s = c.args.self.now in
+    let variables = c.args.variables.now in
+    let st : Stated = (c.args.lined.now, control_by c.args.lined.now.what) in
+    let files : Files = files_of (g.D.Disk.held c.args.disk.now) in
+    let run : Run = run_in variables (st ∷ more) files s stage in
+    let core : Core = core_of files s.core in
+    let known = subst (λ x. stage_of told bytes variables (st ∷ more) core x ≡ Some stage) (sym c.replace.ensures.value ∙ c.in-Waiting.is) e in
+    subst (λ x. FailsStage g.W.Sink.tells g.W.Sink.taken c.args.out.now s.core c.wait.result c.wait.new.out c.wait.new.self.core st x run) (some_same Waiting stage known)
+    (c.wait.ensures.fails tells more stage)
+
+pub returns-in-Resuming-clause-fails : goal.returns-in-Resuming-clause-fails
+returns-in-Resuming-clause-fails g c = λ tells more stage e.
+    let told = g.F.FileStore.told in
+    let bytes = g.F.FileStore.bytes in
+    let s = c.args.self.now in
+    let variables = c.args.variables.now in
+    let st : Stated = (c.args.lined.now, control_by c.args.lined.now.what) in
+    let files : Files = files_of (g.D.Disk.held c.args.disk.now) in
+    let run : Run = run_in variables (st ∷ more) files s stage in
+    let core : Core = core_of files s.core in
+    let known = subst (λ x. stage_of told bytes variables (st ∷ more) core x ≡ Some stage) (sym c.replace.ensures.value ∙ c.in-Resuming.is) e in
+    subst (λ x. FailsStage g.W.Sink.tells g.W.Sink.taken c.args.out.now s.core c.resume.result c.resume.new.out c.resume.new.self.core st x run) (some_same _ stage known)
+    (c.resume.ensures.fails tells more stage)
+
+pub returns-in-Ok-clause-fails : goal.returns-in-Ok-clause-fails
+returns-in-Ok-clause-fails g c = λ tells more stage e. fails_still c.args.out.now c.args.self.now.core c.act.new.self.core c.act.result _ _ _ c.act.ensures.keeps.disk
+
+pub returns-in-Err-clause-fails : goal.returns-in-Err-clause-fails
+returns-in-Err-clause-fails g c = λ tells more stage e. fails_still c.args.out.now c.args.self.now.core c.given.new.core _ _ _ _ (λ e. c.given.ensures.causes.0 (cc (c.in-Err.is, e)))
+
+pub returns-in-Awaiting-clause-fails : goal.returns-in-Awaiting-clause-fails
+returns-in-Awaiting-clause-fails g c = λ tells more stage e. fails_still c.args.out.now c.args.self.now.core c.settle.new.self.core (went c.settle.result) _ _ _ (λ e. cc)
+
+pub returns-in-Ok-doing-clause-fails : goal.returns-in-Ok-doing-clause-fails
+returns-in-Ok-doing-clause-fails g c = λ tells more stage e.
+    fails_still c.args.out.now c.args.self.now.core c.act-in-Ok-doing.new.self.core c.act-in-Ok-doing.result _ _ _ c.act-in-Ok-doing.ensures.keeps.disk
+
+pub returns-in-Err-doing-clause-fails : goal.returns-in-Err-doing-clause-fails
+returns-in-Err-doing-clause-fails g c = λ tells more stage e.
+    let told = g.F.FileStore.told in
+    let bytes = g.F.FileStore.bytes in
+    let s = c.args.self.now in
+    let variables = c.args.variables.now in
+    let st : Stated = (c.args.lined.now, control_by c.args.lined.now.what) in
+    let files : Files = files_of (g.D.Disk.held c.args.disk.now) in
+    let run : Run = run_in variables (st ∷ more) files s stage in
+    let core : Core = core_of files s.core in
+    let known = subst (λ x. stage_of told bytes variables (st ∷ more) core x ≡ Some stage) (sym c.replace.ensures.value ∙ c.in-Answered.is) e in
+    let k = run_known (λ task. Acting (then_of variables st core c.in-Answered.then (task, reply_of c.in-Answered.answer))) (task_of told bytes c.in-Answered.job) stage known in
+    let does : Doing = then_of variables st core c.in-Answered.then (k.0, reply_of c.in-Answered.answer) in
+    fails_at c.args.out.now c.args.out.now s.core c.answered-doing.new.core (given_up c.in-Err-doing.lost) st (Acting does) stage run k.2
+    (fails_quiet c.args.out.now s.core c.answered-doing.new.core (given_up c.in-Err-doing.lost) (output_of (turn st (Acting does) run)) c.answered-doing.ensures.output c.answered-doing.ensures.tells)

@@ -1,4 +1,4 @@
-use Rattle.std.proofs.Common.{◌≡◌, List, ◌∷◌, Ok, IfOk, refl, sym, subst}
+use Rattle.std.proofs.Common.{◌≡◌, List, ◌∷◌, Ok, IfOk, refl, sym, subst, ap, ◌∙◌, ◌++◌, map, None}
 use Rattle.fj_plain.specs.State.{Files, Entry}
 use Rattle.fj_plain.specs.Statement.{Stated, control_by}
 use Rattle.fj_turns.specs.Run.{Run, Waiting}
@@ -9,6 +9,11 @@ use Rattle.fj_runner.specs.Machine.{run_in}
 use Rattle.fj_runner.specs.Turned.{IsTurn}
 use Rattle.fj_runner.proofs.Beginnings.{none_of, waits_more, waits_none}
 use Rattle.fj_runner.proofs.Stepping.{kept_steps, ok_keeps}
+use Rattle.fj_plain.specs.Telling.{tell_of}
+use Rattle.fj_turns.specs.Passing.{output_of}
+use Rattle.fj_turns.specs.Turns.{unsettled, waited_now}
+use Rattle.fj_pending.specs.Plain.{tells_of}
+use Rattle.fj_runner.proofs.Failures.{fails_from}
 use Rattle.fj_runner.proofs.state.State.wait_for.Goals as goal
 
 pub returns-in-Some-clause-turn : goal.returns-in-Some-clause-turn
@@ -42,3 +47,18 @@ returns-in-None-clause-turn g c = λ tells more stage.
     subst (λ t'. IfOk c.tell.result (λ t. IsTurn told bytes variables (st ∷ more) (files_of (g.D.Disk.held c.tell.new.disk)) c.tell.new.self t t'))
     (sym (waits_none st run es (sym (c.requires.whose (entries s.core.pending))) (sym (c.in-None.ensures.slot (none_of _ c.requires.from)))))
     (c.tell.ensures.turn tells more stage)
+
+pub returns-in-None-clause-fails : goal.returns-in-None-clause-fails
+returns-in-None-clause-fails g c = λ tells more stage.
+    let told = g.F.FileStore.told in
+    let bytes = g.F.FileStore.bytes in
+    let s = c.args.self.now in
+    let variables = c.args.variables.now in
+    let st : Stated = (c.args.lined.now, control_by c.args.lined.now.what) in
+    let files : Files = files_of (g.D.Disk.held c.args.disk.now) in
+    let run : Run = run_in variables (st ∷ more) files s stage in
+    let es : List Entry = waited_of c.args.whose (entries s.core.pending) in
+    let w : waited_now st run ≡ es = sym (c.requires.whose (entries s.core.pending)) in
+    let u : unsettled es (held s.core.pending) ≡ None = sym (c.in-None.ensures.slot (none_of _ c.requires.from)) in
+    fails_from c.args.out.now c.tell.new.out s.core s.core c.tell.new.self.core c.tell.result _ _ _ _ _ _ refl (ap output_of (sym (waits_none st run es w u)))
+    (λ k. ap (λ xs. unsettled xs run.book) w ∙ u) (ap (λ xs. tells_of s.core.tells ++ map (tell_of st.0.line) xs) (sym w)) (c.tell.ensures.fails tells more stage)

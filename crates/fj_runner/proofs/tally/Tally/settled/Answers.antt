@@ -1,4 +1,4 @@
-use Rattle.std.proofs.Common.{◌≡◌, ◌<◌, arith}
+use Rattle.std.proofs.Common.{arith}
 use Rattle.fj_runner.proofs.tally.Tally.settled.Goals as goal
 
 pub index-owed-requires : goal.index-owed-requires

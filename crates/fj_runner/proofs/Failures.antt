@@ -1,0 +1,106 @@
+-- Turns that are given up.
+use Rattle.std.proofs.Common.{◌≡◌, ◌≢◌, ℕ, Bool, List, [], ◌++◌, Option, Some, None, Result, Ok, Err, OnErr, inl, inr, refl, sym, ap, ◌∙◌, subst}
+use Rattle.std.specs.Prelude.{◌⊎◌}
+use Rattle.std.proofs.lemmas.List.{append-nil}
+use Rattle.fj_statement.specs.declared.deck.Variable.{Variable}
+use Rattle.fj_items.specs.Handing.{HandsOver, HandsFront, whole_records}
+use Rattle.fj_items.specs.declared.lost.Lost.{Lost}
+use Rattle.fj_items.specs.declared.lost.Lost.TheVariants.{Disk}
+use Rattle.fj_plain.specs.State.{Output, Tell}
+use Rattle.fj_plain.specs.Statement.{Stated, Ending, ends}
+use Rattle.fj_desk.specs.Core.{Core as PlainCore}
+use Rattle.fj_desk.specs.Doing.{Doing as PlainDoing, finishes, gives, awaits}
+use Rattle.fj_turns.specs.Run.{Run, Stage}
+use Rattle.fj_turns.specs.Turns.{finish_by, turn_act, with_core, with_iostat}
+use Rattle.fj_turns.specs.Passing.{output_of}
+use Rattle.fj_pending.specs.Plain.{tells_of}
+use Rattle.fj_acts.specs.State.{core_at}
+use Rattle.fj_acts.specs.Doing.{IsDoing}
+use Rattle.fj_acts.specs.declared.doing.Doing.{Doing}
+use Rattle.fj_acts.specs.declared.doing.Doing.TheVariants as doing
+use Rattle.fj_acts.specs.declared.state.Core.{Core}
+use Rattle.fj_runner.specs.Failing.{FailsTurn, FailsStage}
+
+-- ---- what a sink took
+
+-- all of it is a front
+pub hands_front : (a b : List ℕ) (x due : Output) → HandsOver a b x due → HandsFront a b x due
+hands_front a b x due h = (h.0, [], h.1 ∙ ap (λ w. whole_records x ++ w) (sym (append-nil h.0)), h.2)
+
+on_err : {X : Type 0} → (r : Result X Lost) (P : Type 0) → P → OnErr r P
+on_err (Ok it) P p = tt
+on_err (Err lost) P p = p
+
+-- ---- the output of what a statement does
+
+finish_output : (o : Option Ending) (r : Run) → output_of (finish_by o r) ≡ r.core.output
+finish_output None r = refl
+finish_output (Some e) r = refl
+
+pub act_output : (st : Stated) (does : PlainDoing) (r : Run) → output_of (turn_act st does r) ≡ (core_at does).output
+act_output st (finishes core condition) r = finish_output (ends st.0.line st.0.what condition) (with_core (with_iostat st condition r core) r)
+act_output st (gives slot job core next) r = refl
+act_output st (awaits slot job core next) r = refl
+
+pub doing_output : {F : Type 0} → (told : F → Bool) (bytes : F → List ℕ) (variables : List Variable) (st : Stated) (core : PlainCore) (does : Doing F) (plain : PlainDoing)
+    → IsDoing told bytes variables st core does plain → (core_at plain).output ≡ core.output
+doing_output told bytes variables st core (doing.Finishes condition) plain d = ap (λ p. (core_at p).output) d
+doing_output told bytes variables st core (doing.Gives slot job next) plain d = ap (λ p. (core_at p).output) d.gives
+doing_output told bytes variables st core (doing.Awaits slot job next) plain d = ap (λ p. (core_at p).output) d.gives
+
+-- ---- turns
+
+module _ {W : Type 0} {tells_out : W → Type 0} {taken : W → List ℕ} where
+  -- it is not for the disk, and nothing is written
+  pub fails_still : {X : Type 0} → (out : W) (core core' : Core) (r : Result X Lost) (due : Output) (Known : Type 0) (told : List Tell) → r ≢ Err Disk
+      → FailsTurn tells_out taken out core r out core' due Known told
+  fails_still out core core' r due Known told n = record {
+    front = λ t. on_err r (HandsFront (taken out) (taken out) core.output due ⊎ (taken out ≡ taken out)) (inr refl);
+    known = λ e. absurd (n e);
+    output = λ e. absurd (n e);
+    tells = λ e. absurd (n e);
+  }
+
+  -- it is not for the disk, and all is written
+  pub fails_acting : {X : Type 0} → (out out' : W) (core core' : Core) (r : Result X Lost) (due : Output) (Known : Type 0) (told : List Tell) → r ≢ Err Disk
+      → (tells_out out → HandsOver (taken out) (taken out') core.output due) → FailsTurn tells_out taken out core r out' core' due Known told
+  fails_acting out out' core core' r due Known told n h = record {
+    front = λ t. on_err r (HandsFront (taken out) (taken out') core.output due ⊎ (taken out' ≡ taken out)) (inl (hands_front (taken out) (taken out') core.output due (h t)));
+    known = λ e. absurd (n e);
+    output = λ e. absurd (n e);
+    tells = λ e. absurd (n e);
+  }
+
+  -- its own action is given up
+  pub fails_begun : {X : Type 0} → (out out' : W) (core core' : Core) (r : Result X Lost) (due : Output) → (tells_out out → OnErr r (HandsFront (taken out) (taken out') core.output due))
+      → (r ≡ Err Disk → core'.output ≡ core.output) → core'.tells ≡ core.tells → FailsTurn tells_out taken out core r out' core' due (Unit {0}) (tells_of core.tells)
+  fails_begun out out' core core' r due h o t = record { front = λ k. by r (h k); known = λ e. tt; output = o; tells = λ e. ap tells_of t }
+    where
+      by : {Y : Type 0} → (x : Result Y Lost) → OnErr x (HandsFront (taken out) (taken out') core.output due) → OnErr x (HandsFront (taken out) (taken out') core.output due ⊎ (taken out' ≡ taken out))
+      by (Ok it) k = tt
+      by (Err lost) k = inl k
+
+  -- nothing is written, and what is told stays
+  pub fails_quiet : {X : Type 0} → (out : W) (core core' : Core) (r : Result X Lost) (due : Output) → core'.output ≡ core.output → core'.tells ≡ core.tells
+      → FailsTurn tells_out taken out core r out core' due (Unit {0}) (tells_of core.tells)
+  fails_quiet out core core' r due o t = record {
+    front = λ k. on_err r (HandsFront (taken out) (taken out) core.output due ⊎ (taken out ≡ taken out)) (inr refl);
+    known = λ e. tt;
+    output = λ e. o;
+    tells = λ e. ap tells_of t;
+  }
+
+  -- by another word for what was due
+  pub fails_from : {X : Type 0} → (out out' : W) (core half core' : Core) (r : Result X Lost) (due due' : Output) (Known Known' : Type 0) (told told' : List Tell) → half.output ≡ core.output → due ≡ due' → (Known → Known')
+      → told ≡ told' → FailsTurn tells_out taken out half r out' core' due Known told → FailsTurn tells_out taken out core r out' core' due' Known' told'
+  fails_from out out' core half core' r due due' Known Known' told told' o d k t f = record {
+    front = λ s. subst (λ x. OnErr r (HandsFront (taken out) (taken out') x due' ⊎ (taken out' ≡ taken out))) o
+        (subst (λ x. OnErr r (HandsFront (taken out) (taken out') half.output x ⊎ (taken out' ≡ taken out))) d (f.front s));
+    known = λ e. k (f.known e);
+    output = λ e. f.output e ∙ o;
+    tells = λ e. f.tells e ∙ t;
+  }
+
+  -- by another word for the stage
+  pub fails_at : {X : Type 0} → (out out' : W) (core core' : Core) (r : Result X Lost) (st : Stated) (x y : Stage) (run : Run) → x ≡ y → FailsStage tells_out taken out core r out' core' st x run → FailsStage tells_out taken out core r out' core' st y run
+  fails_at out out' core core' r st x y run e f = subst (λ z. FailsStage tells_out taken out core r out' core' st z run) e f

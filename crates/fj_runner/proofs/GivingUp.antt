@@ -1,0 +1,296 @@
+-- Calls that give up, behind statements that are passed.
+use Rattle.std.proofs.Common.{◌≡◌, ◌≢◌, ℕ, zero, suc, ◌+◌, Bool, true, false, List, [], ◌∷◌, ◌++◌, drop, Option, Some, None, is_some, Result, Ok, Err, OnErr, IsSome, inl, inr, refl, sym, ap, ◌∙◌, subst, arith, append_assoc}
+use Rattle.std.specs.Prelude.{◌⊎◌, if◌then◌else◌}
+use Rattle.std.specs.Option.{option_and_then}
+use Rattle.fj_outside.specs.declared.outside.FileStore.{Ghosts}
+use Rattle.fj_items.specs.Handing.{HandsOver, HandsFront, whole_records}
+use Rattle.fj_items.specs.declared.lost.Lost.{Lost}
+use Rattle.fj_items.specs.declared.lost.Lost.TheVariants.{Disk}
+use Rattle.fj_world.specs.declared.ask.Ask.{Ask}
+use Rattle.fj_world.specs.declared.ask.Ask.TheVariants.{Submit, Settle, Finished}
+use Rattle.fj_bay.specs.Jobs.{Job as Task}
+use Rattle.fj_bay.specs.declared.job.Job.{Job}
+use Rattle.fj_plain.specs.State.{Entry, Files, Output}
+use Rattle.fj_plain.specs.Statement.{Stated, stated, Ending, ends, prohibition}
+use Rattle.fj_value.specs.declared.condition.Rule.{Rule}
+use Rattle.fj_desk.specs.Doing.{Doing, finishes, gives, awaits}
+use Rattle.fj_turns.specs.Run.{Run, Stage, Start, Waiting, Acting, Awaiting}
+use Rattle.fj_turns.specs.Turns.{Turn, Pauses, Passes, Stops, Asked, finish_by, with_core, with_iostat, turn_act, with_tells, doing_told, wait_by, waited_now, unsettled, start_by, rule_of, turn_start, turn, goes, by_turn, asked_on, asked}
+use Rattle.fj_turns.specs.Passing.{passed_by, passed_on, passes, output_of, output_due, turn_output, known_due, tells_due}
+use Rattle.fj_pending.specs.Plain.{tells_of}
+use Rattle.fj_acts.specs.declared.state.Core.{Core}
+use Rattle.fj_runner.specs.Failing.{FailsStage, FailsCall, IsGivenUp}
+use Rattle.fj_runner.specs.Leaving.{Rests}
+use Rattle.fj_runner.specs.Machine.{rest_of, run_in, run_at, run_of, stage_at}
+use Rattle.fj_runner.specs.Tallying.{first_lost}
+use Rattle.fj_runner.specs.Turned.{IsTask, IsAsked}
+use Rattle.fj_runner.specs.declared.machine.Machine.{Machine}
+use Rattle.fj_runner.proofs.Failures.{hands_front}
+use Rattle.fj_runner.proofs.NextAsks.{goes_turn, run_known, some_same}
+use Rattle.fj_runner.proofs.Runs.{hands_none}
+use Rattle.fj_runner.proofs.Stepping.{hands_both}
+use Rattle.fj_runner.proofs.Tallies.{not_both}
+
+-- ---- statements that are passed
+
+passes_on : (n k : ℕ) (half run : Run) → ((x : Run) → passes n x ≡ Some half → passes (n + k) x ≡ Some run) → (o : Option Run) → option_and_then (passes n) o ≡ Some half → option_and_then (passes (n + k)) o ≡ Some run
+passes_on n k half run go None q = cc
+passes_on n k half run go (Some x) q = go x q
+
+pub passes_both : (n k : ℕ) (r half run : Run) → passes n r ≡ Some half → passes k half ≡ Some run → passes (n + k) r ≡ Some run
+passes_both zero k r half run a b =
+    let e : zero + k ≡ k = omega arith in
+    ap (λ i. passes i r) e ∙ ap (passes k) (some_same r half a) ∙ b
+passes_both (suc n) k r half run a b =
+    let e : suc n + k ≡ suc (n + k) = omega arith in
+    ap (λ i. passes i r) e ∙ passes_on n k half run (λ x q. passes_both n k x half run q b) (passed_on r.rest r) a
+
+pub passes_one : (r run : Run) → passed_on r.rest r ≡ Some run → passes 1 r ≡ Some run
+passes_one r run e = ap (option_and_then (passes 0)) e
+
+-- ---- what a sink took
+
+hands_then : (a b c : List ℕ) (x y due : Output) → HandsOver a b x y → HandsFront b c y due → HandsFront a c x due
+hands_then a b c x y due h k = (
+  h.0 ++ k.0,
+  k.1,
+  k.2 ∙ ap (λ w. w ++ (k.0 ++ k.1)) h.1 ∙ append_assoc (whole_records x) h.0 (k.0 ++ k.1) ∙ ap (λ w. whole_records x ++ w) (sym (append_assoc h.0 k.0 k.1)),
+  k.3 ∙ ap (λ w. w ++ k.0) h.2 ∙ append_assoc a h.0 k.0,
+)
+
+-- ---- calls
+
+module _ {F : Type 0} {ghosts : Ghosts F} where
+  -- behind statements that were passed
+  pub fails_behind : (OfDisk TellsOut TellsMid : Type 0) (a b c : List ℕ) (n : ℕ) (r half : Run) (m mid m' : Machine F ghosts) → passes n r ≡ Some half → (TellsOut → TellsMid)
+      → (TellsOut → HandsOver a b m.state.core.output mid.state.core.output) → FailsCall OfDisk TellsMid b c half mid m' → FailsCall OfDisk TellsOut a c r m m'
+  fails_behind OfDisk TellsOut TellsMid a b c n r half m mid m' p tells h f = record {
+    count = n + f.count;
+    run = f.run;
+    passed = passes_both n f.count r half f.run p f.passed;
+    rest = f.rest;
+    front = λ t. by t (f.front (tells t));
+    disk = λ d. let k = f.disk d in record {
+      known = k.known;
+      output = k.output;
+      handed = λ t. hands_both a b c m.state.core.output mid.state.core.output f.run.core.output (h t) (k.handed (tells t));
+      tells = k.tells;
+    };
+  }
+    where
+      by : TellsOut → HandsFront b c mid.state.core.output (turn_output f.run) ⊎ HandsOver b c mid.state.core.output f.run.core.output
+          → HandsFront a c m.state.core.output (turn_output f.run) ⊎ HandsOver a c m.state.core.output f.run.core.output
+      by t (inl k) = inl (hands_then a b c m.state.core.output mid.state.core.output (turn_output f.run) (h t) k)
+      by t (inr k) = inr (hands_both a b c m.state.core.output mid.state.core.output f.run.core.output (h t) k)
+
+  -- from another machine with the same output
+  pub fails_like : (OfDisk TellsOut : Type 0) (a b : List ℕ) (r : Run) (m mid m' : Machine F ghosts) → mid.state.core.output ≡ m.state.core.output → FailsCall OfDisk TellsOut a b r mid m' → FailsCall OfDisk TellsOut a b r m m'
+  fails_like OfDisk TellsOut a b r m mid m' e f = fails_behind OfDisk TellsOut TellsOut a a b 0 r r m mid m' refl (λ t. t) (λ t. hands_none a a m.state.core.output mid.state.core.output refl e) f
+
+  -- to another machine with the same state
+  pub fails_to : (OfDisk TellsOut : Type 0) (a b : List ℕ) (r : Run) (m m' m'' : Machine F ghosts) → rest_of m'' ≡ rest_of m' → m''.state.core ≡ m'.state.core → FailsCall OfDisk TellsOut a b r m m' → FailsCall OfDisk TellsOut a b r m m''
+  fails_to OfDisk TellsOut a b r m m' m'' rest core f = record {
+    count = f.count;
+    run = f.run;
+    passed = f.passed;
+    rest = rest ∙ f.rest;
+    front = f.front;
+    disk = λ d. let k = f.disk d in record { known = k.known; output = ap (λ (x : Core). x.output) core ∙ k.output; handed = k.handed; tells = ap (λ (x : Core). tells_of x.tells) core ∙ k.tells };
+  }
+
+  -- by another word for the run
+  pub fails_run : (OfDisk TellsOut : Type 0) (a b : List ℕ) (r r' : Run) (m m' : Machine F ghosts) → r ≡ r' → FailsCall OfDisk TellsOut a b r m m' → FailsCall OfDisk TellsOut a b r' m m'
+  fails_run OfDisk TellsOut a b r r' m m' e f = subst (λ x. FailsCall OfDisk TellsOut a b x m m') e f
+
+  -- by another word for the fault of the disk
+  pub fails_for : (OfDisk OfDisk' TellsOut : Type 0) (a b : List ℕ) (r : Run) (m m' : Machine F ghosts) → (OfDisk' → OfDisk) → FailsCall OfDisk TellsOut a b r m m' → FailsCall OfDisk' TellsOut a b r m m'
+  fails_for OfDisk OfDisk' TellsOut a b r m m' go f = record { count = f.count; run = f.run; passed = f.passed; rest = f.rest; front = f.front; disk = λ d. f.disk (go d) }
+
+  -- in the turn of the statement at hand
+  pub fails_turn : {W X : Type 0} (tells_out : W → Type 0) (taken : W → List ℕ) (out out' : W) (m m' : Machine F ghosts) (x : Result X Lost) (lost : Lost) (st : Stated) (more : List Stated) (r : Run) → x ≡ Err lost
+      → r.rest ≡ st ∷ more → r.core.output ≡ m.state.core.output → rest_of m' ≡ r.rest
+      → (tells_out out → x ≡ Err Disk → HandsOver (taken out) (taken out') m.state.core.output m'.state.core.output)
+      → FailsStage tells_out taken out m.state.core x out' m'.state.core st r.stage r → FailsCall (x ≡ Err Disk) (tells_out out) (taken out) (taken out') r m m'
+  fails_turn {X = X} tells_out taken out out' m m' x lost st more r is h o rest still f = record {
+    count = 0;
+    run = r;
+    passed = refl;
+    rest = rest;
+    front = λ t. by (subst (λ (y : Result X Lost). OnErr y (HandsFront (taken out) (taken out') m.state.core.output (output_of (turn st r.stage r)) ⊎ (taken out' ≡ taken out))) is (f.front t));
+    disk = λ d. record {
+      known = subst (λ rest. known_due rest r) (sym h) (f.known d);
+      output = f.output d ∙ sym o;
+      handed = λ t. subst (λ y. HandsOver (taken out) (taken out') m.state.core.output y) (f.output d ∙ sym o) (still t d);
+      tells = f.tells d ∙ ap (λ rest. tells_due rest r) (sym h);
+    };
+  }
+    where
+      due : output_of (turn st r.stage r) ≡ turn_output r
+      due = ap (λ rest. output_due rest r) (sym h)
+
+      by : HandsFront (taken out) (taken out') m.state.core.output (output_of (turn st r.stage r)) ⊎ (taken out' ≡ taken out)
+          → HandsFront (taken out) (taken out') m.state.core.output (turn_output r) ⊎ HandsOver (taken out) (taken out') m.state.core.output r.core.output
+      by (inl k) = inl (subst (λ y. HandsFront (taken out) (taken out') m.state.core.output y) due k)
+      by (inr k) = inr (hands_none (taken out) (taken out') m.state.core.output r.core.output k o)
+
+  -- nothing was done
+  pub fails_none : (OfDisk TellsOut : Type 0) (a : List ℕ) (r : Run) (m m' : Machine F ghosts) → rest_of m' ≡ r.rest → r.core.output ≡ m.state.core.output → (OfDisk → ⊥) → FailsCall OfDisk TellsOut a a r m m'
+  fails_none OfDisk TellsOut a r m m' rest o n = record {
+    count = 0;
+    run = r;
+    passed = refl;
+    rest = rest;
+    front = λ t. inr (hands_none a a m.state.core.output r.core.output refl o);
+    disk = λ d. absurd (n d);
+  }
+
+-- ---- a turn that pauses, whose ask is refused
+
+-- it keeps the statements at hand, and passes at the start of a statement
+abbrev KeepsRest : List Stated → Turn → Type 0
+KeepsRest rest (Pauses ask run) = run.rest ≡ rest
+KeepsRest rest (Passes run) = run.stage ≡ Start
+KeepsRest rest (Stops run) = Unit {0}
+
+finish_keeps : (o : Option Ending) (r : Run) → KeepsRest r.rest (finish_by o r)
+finish_keeps None r = refl
+finish_keeps (Some e) r = tt
+
+act_keeps : (st : Stated) (does : Doing) (r : Run) → KeepsRest r.rest (turn_act st does r)
+act_keeps st (finishes core condition) r = finish_keeps (ends st.0.line st.0.what condition) (with_core (with_iostat st condition r core) r)
+act_keeps st (gives slot job core next) r = refl
+act_keeps st (awaits slot job core next) r = refl
+
+wait_keeps : (st : Stated) (waited : List Entry) (o : Option ℕ) (r : Run) → KeepsRest r.rest (wait_by st waited o r)
+wait_keeps st waited None r = act_keeps st (doing_told r.variables st waited r.core) (with_tells st waited r)
+wait_keeps st waited (Some slot) r = refl
+
+start_keeps : (st : Stated) (o : Option Rule) (r : Run) → KeepsRest r.rest (start_by st o r)
+start_keeps st (Some rule) r = finish_keeps (Some (prohibition st.0.line rule)) r
+start_keeps st None r = wait_keeps st (waited_now st r) (unsettled (waited_now st r) r.book) r
+
+turn_keeps : (st : Stated) (stage : Stage) (r : Run) → KeepsRest r.rest (turn st stage r)
+turn_keeps st Start r = start_keeps st (rule_of r.variables st r.core) r
+turn_keeps st Waiting r = wait_keeps st (waited_now st r) (unsettled (waited_now st r) r.book) r
+turn_keeps st (Acting does) r = act_keeps st does r
+turn_keeps st (Awaiting slot number next) r = refl
+
+-- behind so many statements that it passed, it pauses in the turn of one
+pub record PausesAt (r : Run) (a : Asked) : Type 0 where
+  pub count : ℕ
+  pub run : Run
+  pub passed : passes count r ≡ Some run
+  pub rest : a.run.rest ≡ run.rest
+  pub output : a.run.core.output ≡ turn_output run
+
+pauses_behind : (r half : Run) (a : Asked) → passed_on r.rest r ≡ Some half → PausesAt half a → PausesAt r a
+pauses_behind r half a e p = record {
+  count = 1 + p.count;
+  run = p.run;
+  passed = passes_both 1 p.count r half p.run (passes_one r half e) p.passed;
+  rest = p.rest;
+  output = p.output;
+}
+
+turn_pauses : (st : Stated) (more : List Stated) (r : Run) (t : Turn) → r.rest ≡ st ∷ more → turn st r.stage r ≡ t → KeepsRest r.rest t
+    → ((run : Run) → run.stage ≡ Start → (goes more run).ask ≢ Finished → PausesAt (record run { rest = more }) (goes more run)) → (by_turn more t).ask ≢ Finished → PausesAt r (by_turn more t)
+turn_pauses st more r (Pauses ask run) h e k go n = record {
+  count = 0;
+  run = r;
+  passed = refl;
+  rest = k;
+  output = sym (ap (λ rest. output_due rest r) h ∙ ap output_of e);
+}
+turn_pauses st more r (Passes run) h e k go n =
+    pauses_behind r (record run { rest = more }) (goes more run) (ap (λ rest. passed_on rest r) h ∙ ap (passed_by more) e) (go run k n)
+turn_pauses st more r (Stops run) h e k go n = absurd (n refl)
+
+goes_pauses : (rest : List Stated) (r : Run) → r.stage ≡ Start → (goes rest r).ask ≢ Finished → PausesAt (record r { rest = rest }) (goes rest r)
+goes_pauses [] r s n = absurd (n refl)
+goes_pauses (st ∷ more) r s n =
+    let run : Run = record r { rest = st ∷ more } in
+    let at : turn st run.stage run ≡ turn_start st run = ap (λ x. turn st x run) s in
+    let e = goes_turn st more r in
+    subst (λ a. PausesAt run a) (sym e)
+    (turn_pauses st more run (turn_start st run) refl at (subst (λ t. KeepsRest run.rest t) at (turn_keeps st run.stage run)) (goes_pauses more) (subst (λ (a : Asked). a.ask ≢ Finished) e n))
+
+on_pauses : (rest : List Stated) (r : Run) → r.rest ≡ rest → (asked_on rest r).ask ≢ Finished → PausesAt r (asked_on rest r)
+on_pauses [] r h n = absurd (n refl)
+on_pauses (st ∷ more) r h n = turn_pauses st more r (turn st r.stage r) h refl (turn_keeps st r.stage r) (goes_pauses more) n
+
+asked_by : (b : Bool) (r : Run) → let a : Asked = if b then record { ask = Finished; run = r } else asked_on r.rest r in a.ask ≢ Finished → PausesAt r a
+asked_by true r n = absurd (n refl)
+asked_by false r n = on_pauses r.rest r refl n
+
+pub asked_pauses : (r : Run) → (asked r).ask ≢ Finished → PausesAt r (asked r)
+asked_pauses r n = asked_by (is_some r.ending) r n
+
+pub task_finished : {F : Type 0} → (told : F → Bool) (bytes : F → List ℕ) (a : Ask Task) (b : Ask (Job F)) → IsTask told bytes a b → b ≢ Finished → a ≢ Finished
+task_finished told bytes (Submit slot task) b t n e = cc
+task_finished told bytes (Settle slot) b t n e = cc
+task_finished told bytes Finished (Submit slot job) t n e = absurd t
+task_finished told bytes Finished (Settle slot) t n e = absurd t
+task_finished told bytes Finished Finished t n e = absurd (n refl)
+
+module _ {F : Type 0} {ghosts : Ghosts F} where
+  pub refused_fails : (told : F → Bool) (bytes : F → List ℕ) (OfDisk TellsOut : Type 0) (a b : List ℕ) (files : Files) (r : Run) (m mid m' : Machine F ghosts) (ask : Ask (Job F)) → IsAsked told bytes files mid ask (asked r) → ask ≢ Finished
+      → mid.deck ≡ m'.deck → mid.at ≡ m'.at → (TellsOut → HandsOver a b m.state.core.output mid.state.core.output) → (OfDisk → ⊥) → FailsCall OfDisk TellsOut a b r m m'
+  refused_fails told bytes OfDisk TellsOut a b files r m mid m' ask it n deck at h none =
+      let p = asked_pauses r (task_finished told bytes (asked r).ask ask it.asks n) in
+      let k = run_known (run_at files mid) (stage_at told bytes files mid) (asked r).run it.run in
+      let out : mid.state.core.output ≡ turn_output p.run = ap (λ (x : Run). x.core.output) k.2 ∙ p.output in
+      record {
+        count = p.count;
+        run = p.run;
+        passed = p.passed;
+        rest = same_rest mid m' deck at ∙ ap (λ (x : Run). x.rest) k.2 ∙ p.rest;
+        front = λ t. inl (hands_front a b m.state.core.output (turn_output p.run) (subst (λ o. HandsOver a b m.state.core.output o) out (h t)));
+        disk = λ d. absurd (none d);
+      }
+    where
+      same_rest : (x y : Machine F ghosts) → x.deck ≡ y.deck → x.at ≡ y.at → rest_of y ≡ rest_of x
+      same_rest x y d e = sym (ap (λ k. drop x.at (stated k.statements)) d ∙ ap (λ i. drop i (stated y.deck.statements)) e)
+
+-- ---- what was lost
+
+first_some : {X : Type 0} → (o : Option X) (b : Bool) → (IsSome o → b ≡ true) → b ≡ false → o ≡ None
+first_some None b h f = refl
+first_some (Some x) b h f = absurd (not_both b (h refl) f)
+
+-- while it is not over nothing is lost
+pub disk_first : (o : Option Lost) (b : Bool) (lost : Lost) → (IsSome o → b ≡ true) → b ≡ false → first_lost o lost ≡ Some Disk → lost ≡ Disk
+disk_first o b lost h f e = let n = first_some o b h f in some_same lost Disk (sym (ap (λ k. first_lost k lost) n) ∙ e)
+
+-- what it was lost for, where the records that ended are with the sink
+pub disk_lost : (o o' : Option Lost) (b : Bool) (lost : Lost) → (IsSome o → b ≡ true) → b ≡ false → o' ≡ first_lost o lost → (o' ≡ None) ⊎ (o' ≡ Some Disk) → lost ≡ Disk
+disk_lost o o' b lost h f e (inl n) =
+    let s : Some lost ≡ None = sym (ap (λ k. first_lost k lost) (first_some o b h f)) ∙ sym e ∙ n in cc
+disk_lost o o' b lost h f e (inr d) = disk_first o b lost h f (sym e ∙ d)
+
+module _ {F : Type 0} {ghosts : Ghosts F} where
+  -- a call that touches neither disk nor sink
+  pub rests_give_up : (told : F → Bool) (bytes : F → List ℕ) (TellsOut : Type 0) (a : List ℕ) (files : Files) (m m' : Machine F ghosts) → Rests m m' → IsGivenUp TellsOut a a (run_of told bytes files m) m m'
+  rests_give_up told bytes TellsOut a files m m' s r e going over stopped =
+      let k = run_known (run_at files m) (stage_at told bytes files m) r e in
+      let rest : rest_of m' ≡ rest_of m = ap (λ d. drop m'.at (stated d.statements)) s.deck ∙ ap (λ i. drop i (stated m.deck.statements)) s.at in
+      fails_none (m'.tally.lost ≡ Some Disk) TellsOut a r m m' (rest ∙ ap (λ (x : Run). x.rest) k.2) (sym (ap (λ (x : Run). x.core.output) k.2))
+      (λ d. let n : m.tally.lost ≡ None = first_some m.tally.lost m.tally.over m.tally.lost_over going in none_disk m.tally.lost n (s.of_disk d))
+    where
+      none_disk : (o : Option Lost) → o ≡ None → o ≡ Some Disk → ⊥
+      none_disk o n d = cc
+
+  -- where the disk tells
+  pub given_up_told : (TellsOut : Type 0) (a b : List ℕ) (decided : Bool) (o : Option Run) (m m' : Machine F ghosts) → (decided ≡ true → IsGivenUp TellsOut a b o m m')
+      → IsGivenUp TellsOut a b (if decided then o else None) m m'
+  given_up_told TellsOut a b true o m m' go = go refl
+  given_up_told TellsOut a b false o m m' go = λ r e going over stopped. cc
+
+-- ---- the statement at hand
+
+pub passed_at : {F : Type 0} {ghosts : Ghosts F} → (files : Files) (m : Machine F ghosts) (x : Stage) (st : Stated) (more : List Stated) (r : Run) → run_at files m x ≡ r → rest_of m ≡ st ∷ more
+    → passed_on r.rest r ≡ passed_by more (turn st x (run_in m.deck.variables (st ∷ more) files m.state x))
+passed_at files m x st more r e h = ap (λ (y : Run). passed_on y.rest y) (sym e) ∙ ap (λ (rest : List Stated). passed_on rest (run_in m.deck.variables rest files m.state x)) h
+
+pub on_err_by : {X : Type 0} → (r : Result X Lost) (P Q : Type 0) → (P → Q) → OnErr r P → OnErr r Q
+on_err_by (Ok it) P Q go p = tt
+on_err_by (Err lost) P Q go p = go p

@@ -1,0 +1,20 @@
+use Rattle.std.proofs.Common.{ap}
+use Rattle.fj_plain.specs.State.{Files}
+use Rattle.fj_units.specs.Files.{files_of}
+use Rattle.fj_turns.specs.Run.{Start}
+use Rattle.fj_runner.specs.Machine.{run_at}
+use Rattle.fj_runner.proofs.GivingUp.{fails_like, on_err_by}
+use Rattle.fj_runner.proofs.Going.{none_has}
+use Rattle.fj_runner.proofs.machine.Machine.ask_or_go.Goals as goal
+
+pub returns-in-None-clause-fails : goal.returns-in-None-clause-fails
+returns-in-None-clause-fails g c = λ tells t i.
+    let files : Files = files_of (g.D.Disk.held c.args.disk.now) in
+    let m = c.args.self.now in
+    let mid = c.asked_by.new.self in
+    let taken = g.W.Sink.taken in
+    let passed = none_has c.asked_by.result _ c.in-None.is (c.asked_by.ensures.passed files t i) in
+    let r = run_at files mid Start in
+    on_err_by c.go.result _ _
+    (λ f. (r, passed, fails_like _ (g.W.Sink.tells c.args.out.now) (taken c.args.out.now) (taken c.go.new.out) r m mid c.go.new.self (ap (λ s. s.core.output) c.asked_by.ensures.state) f))
+    (c.go.ensures.fails tells)

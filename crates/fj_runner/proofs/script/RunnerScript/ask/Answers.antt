@@ -1,0 +1,42 @@
+use Rattle.std.proofs.Common.{◌≡◌, true, cond, None, refl, sym, ap, ◌∙◌, arith}
+use Rattle.fj_plain.specs.State.{Files}
+use Rattle.fj_units.specs.Files.{files_of}
+use Rattle.fj_runner.specs.Machine.{run_of}
+use Rattle.fj_runner.specs.Tallying.{owed_at}
+use Rattle.fj_runner.proofs.GivingUp.{given_up_told}
+use Rattle.fj_runner.proofs.Scripting.{asks_of, asked_told}
+use Rattle.fj_runner.proofs.script.RunnerScript.ask.Goals as goal
+
+pub returns : goal.returns
+returns g c =
+    let told = g.D.File.FileStore.told in
+    let bytes = g.D.File.FileStore.bytes in
+    let count = g.D.File.FileStore.count in
+    let old = c.args.self.now in
+    let m = old.machine.now in
+    let new = c.next_of.new.machine in
+    let disk = old.disk.now in
+    let after = c.next_of.new.disk in
+    let it = c.next_of.ensures in
+    let files : Files = files_of (g.D.Disk.held disk) in
+    let files_after : Files = files_of (g.D.Disk.held after) in
+    let same : new.tally.left ≡ m.tally.left = it.due.left in
+    asks_of _ _ _ _ c.next_of.result new.tally.hand new.tally.over new.tally.left new.tally.owed.items refl refl (λ slot. refl) refl it.due.due new.tally.submits new.tally.settles
+    (omega (arith, same)) refl (λ slot. ap (λ o. owed_at o.items slot) it.due.owed) it.due.over it.due.ends
+    (λ s.
+    let was : m.tally.stopped ≡ true = sym it.due.stopped ∙ s in
+    let still = it.rests (m.tally.stop was) in
+    (was, ap (λ d. cond (g.D.Disk.told d) (run_of told bytes (files_of (g.D.Disk.held d)) new) None) still.1 ∙ ap (λ k. cond (g.D.Disk.told disk) (run_of told bytes files k) None) still.0))
+    (record {
+      same_out = refl;
+      same_disk = refl;
+      same_machine = refl;
+      leaves = it.leaves;
+      gives_up = given_up_told (g.W.Sink.tells old.out.now) (g.W.Sink.taken old.out.now) (g.W.Sink.taken c.next_of.new.out) (g.D.Disk.told disk) (run_of told bytes files m) m new
+          (λ t. it.fails ((g.met.D.Disk.decided disk).0 t));
+      stays = λ over. let still = it.rests over in (still.0, ap g.W.Sink.taken still.2);
+      reason = it.reason;
+    })
+    (λ r e over. asked_told told bytes count files_after new (g.D.Disk.told disk) (g.D.Disk.told after) (run_of told bytes files m) r c.next_of.result e
+    (λ t. (g.met.D.Disk.decided after).1 (it.leaves.telling.0 ((g.met.D.Disk.decided disk).0 t)))
+    (λ t known. it.asks ((g.met.D.Disk.decided disk).0 t) r known over))

@@ -1,0 +1,41 @@
+use Rattle.std.proofs.Common.{cond, None, refl, ap}
+use Rattle.fj_plain.specs.State.{Files}
+use Rattle.fj_turns.specs.Turns.{told_of}
+use Rattle.fj_units.specs.Files.{files_of}
+use Rattle.fj_runner.specs.Machine.{run_of}
+use Rattle.fj_runner.specs.Tallying.{due_of}
+use Rattle.fj_runner.proofs.GivingUp.{given_up_told, rests_give_up}
+use Rattle.fj_runner.proofs.Scripting.{run_same, if_told, rests_leaves}
+use Rattle.fj_runner.proofs.Tallies.{settling_runs, not_both}
+use Rattle.fj_runner.proofs.script.RunnerScript.told.Goals as goal
+
+pub returns : goal.returns
+returns g c =
+    let told = g.D.File.FileStore.told in
+    let bytes = g.D.File.FileStore.bytes in
+    let old = c.args.self.now in
+    let m = old.machine.now in
+    let new = c.hear.new.self in
+    let files : Files = files_of (g.D.Disk.held old.disk.now) in
+    let it = c.hear.ensures in
+    record {
+      due = ap due_of it.hand;
+      left = it.left;
+      uses = refl;
+      owed = it.owed;
+      over = it.over;
+      stopped = λ d. (it.halts d).0;
+      stops = λ s. let k = it.stops s in (k.0, ap (λ o. cond (g.D.Disk.told old.disk.now) o None) (run_same told bytes files m new it.rests.deck k.2 k.1));
+      keeps = λ d. (it.halts d).1;
+      leads = record {
+        same_out = refl;
+        same_disk = refl;
+        same_machine = refl;
+        leaves = rests_leaves old.out.now old.disk.now m new it.rests;
+        gives_up = given_up_told (g.W.Sink.tells old.out.now) (g.W.Sink.taken old.out.now) (g.W.Sink.taken old.out.now) (g.D.Disk.told old.disk.now) (run_of told bytes files m) m new
+            (λ _. rests_give_up told bytes (g.W.Sink.tells old.out.now) (g.W.Sink.taken old.out.now) files m new it.rests);
+        stays = λ over. absurd (not_both m.tally.over over (settling_runs m.tally.hand m.tally.over m.tally.left m.tally.owed.items m.tally.settles c.requires));
+        reason = it.reason;
+      };
+      told = λ s reply e over is. if_told (g.D.Disk.told old.disk.now) (run_of told bytes files m) (run_of told bytes files new) s (told_of s reply) e (λ _ known. it.told files s reply known over is);
+    }
