@@ -1,4 +1,11 @@
 pub mod Taken
 pub mod Task
 pub mod Reply
+pub mod Cut
+pub mod Cutting
 pub mod Answers
+pub mod Asking
+pub mod Carrying
+pub mod Concluding
+pub mod Executing
+pub mod Making

@@ -1,67 +1,145 @@
 -- What a run answers, prints and leaves.
-use Rattle.std.specs.Prelude.{◌≡◌, ◌⊎◌, ℕ, ◌+◌, List, [], ◌∷◌, ◌++◌, length, take, drop, min, Some, Result, Ok, Err}
-use Rattle.fj_value.specs.declared.value.Value.{Value}
-use Rattle.fj_outside.specs.Holdings.{Files}
+use Rattle.std.specs.Prelude.{◌≡◌, ℕ, zero, suc, pos, ◌+◌, List, [], ◌∷◌, ◌++◌, length, min, sum, filter, codes, Bool, true, false, Some, None, unwrap_or, Result, Ok, Err, if◌then◌else◌}
+use Rattle.std.specs.List.{flat_map}
+use Rattle.std.specs.FinMap as map
+use Rattle.fj_value.specs.Condition.{code_of}
+use Rattle.fj_value.specs.declared.condition.Condition.{Condition}
+use Rattle.fj_value.specs.declared.condition.Condition.TheVariants.{Fine}
+use Rattle.fj_value.specs.declared.place.Place.{Place}
+use Rattle.fj_outside.specs.Holdings.{Files as Held}
 use Rattle.fj_statement.specs.declared.deck.Variable.{Variable}
-use Rattle.fj_statement.specs.declared.deck.Deck.{Deck as WholeDeck}
+use Rattle.fj_statement.specs.declared.deck.Deck.{Deck}
 use Rattle.fj_statement.specs.declared.reason.Reason.{Reason}
-use Rattle.fj_statement.specs.declared.reason.Reason.TheVariants.{NotBuilt}
 use Rattle.fj_deck.specs.Deck.{IsDeck, IsRefused}
-use Rattle.fj_built.specs.declared.deck.Deck.{Deck}
-use Rattle.fj_built.specs.Built.{built_of}
-use Rattle.fj_run.specs.Plain.{Execution, places_of, plain_execution}
-use Rattle.fj_run.specs.declared.ending.Ending.{Ending}
-use Rattle.fj_run.specs.declared.ending.Ending.TheVariants as ending
-use Rattle.fj_report.specs.Lines.{usage_text, status_text, check_text, variable_text}
+use Rattle.fj_store.specs.Variables.{Variables, value_at}
+use Rattle.fj_plain.specs.State.{Files, Output, Tell, elements}
+use Rattle.fj_plain.specs.Statement.{Result as Left, Ending, ended, error_stop, prohibition, plain_execution}
+use Rattle.fj_report.specs.Lines.{usage_text, status_text, check_text, variable_text, trace_text, summary_text}
+use Rattle.fj_report.specs.declared.summary.Summary.{Summary}
+use Rattle.fj_gen.specs.Generated.{generated_text}
 use Rattle.fj_report.specs.declared.status.Status.{Status}
 use Rattle.fj_report.specs.declared.status.Status.TheVariants.{Ended, ErrorStop, Prohibited, DeckRefused, Usage}
 use Rattle.fj_job.specs.declared.task.Task.{Task}
-use Rattle.fj_job.specs.declared.task.Task.TheVariants.{Refuse, Check, Execute}
+use Rattle.fj_job.specs.declared.task.Task.TheVariants.{Refuse, Check, Execute, Generate}
 
+-- an answer, the bytes for the sink, and by name the files that are left
 pub record Reply : Type 0 where
   pub status : Status
   pub output : List ℕ
   pub files : Files
 
-abbrev pub status_of : ℕ → Ending → Status
-status_of line ending.Ended = Ended
-status_of line (ending.ErrorStop code) = ErrorStop line code
-status_of line (ending.Prohibited rule) = Prohibited line rule
+-- the files of a disk by name
+abbrev pub files_in : Held → Files
+files_in held = λ name. map.get held name
 
--- the lines of a variable's places: a scalar's has no index, and those of an array's elements begin with the first
-abbrev pub place_lines : List ℕ → ℕ → List Value → List ℕ
-place_lines name index [] = []
-place_lines name index (value ∷ values) = variable_text name index (Some value) ++ place_lines name (index + 1) values
+-- ---- the report
 
-abbrev pub first_index : Variable → ℕ
-first_index variable = min variable.count 1
+abbrev pub status_of : Ending → Status
+status_of ended = Ended
+status_of (error_stop line code) = ErrorStop line code
+status_of (prohibition line rule) = Prohibited line rule
 
--- the lines of the variables in the order of their declarations, over the values of all places
-abbrev pub variable_lines : List Variable → List Value → List ℕ
-variable_lines [] values = []
-variable_lines (variable ∷ variables) values =
-    place_lines variable.name (first_index variable) (take (places_of variable) values) ++ variable_lines variables (drop (places_of variable) values)
+-- a record of unit `*` that is open at the end gets its line feed
+abbrev pub open_feed : Output → List ℕ
+open_feed output = if output.is_open then 10 ∷ [] else []
 
--- how a deck ended, and its variables
-abbrev pub report_text : Deck → ℕ → Ending → List Value → List ℕ
-report_text deck line ending values = status_text (status_of line ending) ++ variable_lines deck.variables values
+abbrev pub told_line : Tell → List ℕ
+told_line t = trace_text t.line (pos t.unit) t.id (code_of t.condition)
 
--- what it writes on unit `*`, and then its report
-abbrev pub reply_of : Deck → Execution → Reply
-reply_of deck e = record { status = status_of e.line e.ending; output = e.output ++ report_text deck e.line e.ending e.state.values; files = e.state.files }
+-- the transfers in the order in which they were told, where they are asked for
+abbrev pub trace_of : Bool → List Tell → List ℕ
+trace_of trace tells = if trace then flat_map told_line tells else []
 
--- to a deck that is carried out
-abbrev pub run_reply : Deck → Files → Reply
-run_reply deck files = reply_of deck (plain_execution deck files)
+-- the index that is shown of a place: a scalar has none
+abbrev pub shown_at : Variable → ℕ → ℕ
+shown_at variable index = min variable.count index
+
+abbrev pub place_line : Variables → Variable → Place → List ℕ
+place_line vars variable place = variable_text variable.name (shown_at variable place.index) (Some (value_at vars place))
+
+-- the lines of so many places of a variable, from an index on
+abbrev pub place_lines : Variables → Variable → ℕ → ℕ → ℕ → List ℕ
+place_lines vars variable var index zero = []
+place_lines vars variable var index (suc n) = place_line vars variable (record { var = var; index = index }) ++ place_lines vars variable var (index + 1) n
+
+-- the lines of variables in the order of their declarations, from a number on
+abbrev pub lines_from : Variables → ℕ → List Variable → List ℕ
+lines_from vars var [] = []
+lines_from vars var (variable ∷ more) = place_lines vars variable var 1 (elements variable) ++ lines_from vars (var + 1) more
+
+abbrev pub variable_lines : List Variable → Variables → List ℕ
+variable_lines variables vars = lines_from vars 0 variables
+
+-- what unit `*` got, the trace, how the deck ended, and its variables
+abbrev pub report_of : Deck → Bool → Left → Ending → List ℕ
+report_of deck trace r e = r.output.text ++ (open_feed r.output ++ (trace_of trace r.tells ++ (status_text (status_of e) ++ variable_lines deck.variables r.vars)))
+
+-- ---- the report of a deck that is made
+
+-- no file is there
+abbrev pub no_files : Files
+no_files name = None
+
+-- the bytes of both its files, one file behind the other
+abbrev pub made_bytes : Files → List ℕ
+made_bytes files = unwrap_or (files (codes "G10")) [] ++ unwrap_or (files (codes "G11")) []
+
+abbrev pub is_condition : Condition → Bool
+is_condition Fine = false
+is_condition _ = true
+
+-- how many transfers were told with a condition
+abbrev pub conditions_in : List Tell → ℕ
+conditions_in tells = length (filter (λ (t : Tell). is_condition t.condition) tells)
+
+-- of so many statements, with those tells and files
+abbrev pub summed : ℕ → ℕ → ℕ → List Tell → Files → Summary
+summed seed count statements tells files = record {
+  seed = seed;
+  count = count;
+  statements = statements;
+  tells = length tells;
+  conditions = conditions_in tells;
+  bytes = length (made_bytes files);
+  sum = sum (made_bytes files);
+}
+
+abbrev pub summary_of : ℕ → ℕ → Deck → Left → Summary
+summary_of seed count deck r = summed seed count (length deck.statements) r.tells r.files
+
+-- where it ended, its summary stands in place of how it ended and of its variables
+abbrev pub made_lines : ℕ → ℕ → Deck → Left → Ending → List ℕ
+made_lines seed count deck r ended = summary_text (summary_of seed count deck r)
+made_lines seed count deck r e = status_text (status_of e) ++ variable_lines deck.variables r.vars
+
+abbrev pub made_report : ℕ → ℕ → Deck → Left → Ending → List ℕ
+made_report seed count deck r e = r.output.text ++ (open_feed r.output ++ made_lines seed count deck r e)
+
+-- ---- replies
+
+-- to a deck that is carried out: what executing it one statement after another gives
+pub record IsRunReply (deck : Deck) (trace : Bool) (files : Files) (reply : Reply) : Type 0 where
+  pub ending : Ending
+  pub ends : (plain_execution deck.variables deck.statements files).ending ≡ Some ending
+  pub status : reply.status ≡ status_of ending
+  pub output : reply.output ≡ report_of deck trace (plain_execution deck.variables deck.statements files) ending
+  pub files_left : reply.files ≡ (plain_execution deck.variables deck.statements files).files
+
+-- to a deck that is made, which is carried out where no file is; the files are as they were
+pub record IsMadeReply (deck : Deck) (seed count : ℕ) (files : Files) (reply : Reply) : Type 0 where
+  pub ending : Ending
+  pub ends : (plain_execution deck.variables deck.statements no_files).ending ≡ Some ending
+  pub status : reply.status ≡ status_of ending
+  pub output : reply.output ≡ made_report seed count deck (plain_execution deck.variables deck.statements no_files) ending
+  pub files_left : reply.files ≡ files
 
 -- to what is refused at a line
 abbrev pub refusal_reply : ℕ → Reason → Files → Reply
 refusal_reply line reason files = record { status = DeckRefused line reason; output = status_text (DeckRefused line reason); files = files }
 
--- to a deck that is built, or is not at a line
-abbrev pub built_reply : Result Deck ℕ → Files → Reply
-built_reply (Ok deck) files = run_reply deck files
-built_reply (Err line) files = refusal_reply line NotBuilt files
+-- to the words for the text of a deck that is made
+abbrev pub text_reply : ℕ → ℕ → Files → Reply
+text_reply seed count files = record { status = Ended; output = generated_text seed count; files = files }
 
 -- to words that are no form
 abbrev pub usage_reply : Files → Reply
@@ -69,38 +147,41 @@ usage_reply files = record { status = Usage; output = usage_text; files = files 
 
 -- a deck, or a line and the reason for which it is refused
 abbrev pub Reading : Type 0
-Reading = Result WholeDeck (ℕ × Reason)
+Reading = Result Deck (ℕ × Reason)
 
 abbrev pub IsReading : List ℕ → Reading → Type 0
 IsReading text (Ok deck) = IsDeck text deck
 IsReading text (Err refusal) = IsRefused text refusal.0 refusal.1
 
 -- to a text that is carried out
-abbrev pub executed : Reading → Files → Reply
-executed (Ok deck) files = built_reply (built_of deck) files
-executed (Err refusal) files = refusal_reply refusal.0 refusal.1 files
+abbrev pub IsExecuted : Reading → Bool → Files → Reply → Type 0
+IsExecuted (Ok deck) trace files reply = IsRunReply deck trace files reply
+IsExecuted (Err refusal) trace files reply = reply ≡ refusal_reply refusal.0 refusal.1 files
 
 -- to a text that is read alone
 abbrev pub checked : Reading → Files → Reply
 checked (Ok deck) files = record { status = Ended; output = check_text (length deck.statements); files = files }
 checked (Err refusal) files = refusal_reply refusal.0 refusal.1 files
 
+-- to a deck that was made and carried out where no file is
+abbrev pub IsMade : Reading → ℕ → ℕ → Files → Reply → Type 0
+IsMade (Ok deck) seed count files reply = IsMadeReply deck seed count files reply
+IsMade (Err refusal) seed count files reply = reply ≡ refusal_reply refusal.0 refusal.1 files
+
 -- to the words, a text and files
 abbrev pub IsReplyTo : Task → List ℕ → Files → Reply → Type 0
 IsReplyTo Refuse text files reply = reply ≡ usage_reply files
 IsReplyTo Check text files reply = (reading : Reading) × IsReading text reading × (reply ≡ checked reading files)
-IsReplyTo Execute text files reply = (reading : Reading) × IsReading text reading × (reply ≡ executed reading files)
+IsReplyTo (Execute workers trace) text files reply = (reading : Reading) × IsReading text reading × IsExecuted reading trace files reply
+IsReplyTo (Generate seed count true) text files reply = reply ≡ text_reply seed count files
+IsReplyTo (Generate seed count false) text files reply = (reading : Reading) × IsReading (generated_text seed count) reading × IsMade reading seed count files reply
 
 -- there is one reply at most
 abbrev pub OneReply : Type 0
 OneReply = (task : Task) (text : List ℕ) (files : Files) (reply other : Reply) → IsReplyTo task text files reply → IsReplyTo task text files other → reply ≡ other
 
--- the text is refused at a line; where it is carried out, so is a deck that is not built
+-- the text is refused at a line
 abbrev pub IsRefusal : Task → List ℕ → ℕ → Reason → Type 0
 IsRefusal Refuse text line reason = ⊥
-IsRefusal Check text line reason = IsRefused text line reason
-IsRefusal Execute text line reason = IsRefused text line reason ⊎ ((deck : WholeDeck) × IsDeck text deck × (built_of deck ≡ Err line) × (reason ≡ NotBuilt))
-
--- the text is this deck of today's forms
-abbrev pub IsBuiltText : List ℕ → Deck → Type 0
-IsBuiltText text small = (deck : WholeDeck) × IsDeck text deck × (built_of deck ≡ Ok small)
+IsRefusal (Generate seed count shown) text line reason = IsRefused (generated_text seed count) line reason
+IsRefusal _ text line reason = IsRefused text line reason

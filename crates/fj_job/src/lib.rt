@@ -1,11 +1,17 @@
 //! Runs decks: from the words and the text of a deck to its report and its files.
 #![tactic(auto)]
 
+mod asked;
+mod carrying;
+mod ending;
 mod job;
 mod laws;
+mod made;
+mod ready;
 mod report;
 mod streams;
 mod task;
+mod telling;
 #[cfg(test)]
 mod tests;
 mod text;

@@ -1,23 +1,35 @@
-// The report of a run.
-ghost use Rattle.std.specs.Prelude.{◌≡◌, ◌≤◌, ◌+◌, ◌++◌, length, take, drop, IfOk, OnOk};
-ghost use Rattle.fj_report.specs.Lines.{status_text, check_text};
-ghost use Rattle.fj_run.specs.Plain.{places_of};
-ghost use Rattle.fj_job.specs.Reply.{status_of, place_lines, variable_lines, report_text};
+// The report of a run: the trace, how the deck ended, and its variables.
+ghost use Rattle.std.specs.Prelude.{◌≡◌, ◌≤◌, ◌<◌, ◌++◌, length, min, max, IfOk, OnOk, unwrap_or};
+ghost use Rattle.std.specs.List.{flat_map};
+ghost use Rattle.std.specs.Option.{option_copied};
+ghost use Rattle.fj_store.specs.Storage.{values_of};
+ghost use Rattle.fj_store.specs.Variables.{value_at};
+ghost use Rattle.fj_report.specs.Lines.{status_text, check_text, summary_text};
+ghost use Rattle.fj_plain.specs.State.{elements};
+ghost use Rattle.fj_pending.specs.Plain.{tells_of};
+ghost use Rattle.fj_runner.specs.Machine.{ending_of};
+ghost use Rattle.fj_job.specs.Reply.{status_of, told_line, trace_of, shown_at, place_line, place_lines, variable_lines};
+ghost use Rattle.fj_job.specs.Concluding.{run_text};
 
-use fj_built::Deck;
-use fj_report::{Status, check_line, status_line, variable_line};
-use fj_run::{Ending, Finished};
+use fj_acts::Core;
+use fj_pending::Tell;
+use fj_report::{
+    Status, Summary, check_line, status_line, summary_line, trace_line, variable_line,
+};
+use fj_runner::Ending;
 use fj_statement::Variable;
-use fj_value::{Text, Value};
+use fj_store::Store;
+use fj_value::{Place, Tag, Text, Value};
 use std::alloc::{AllocError, Global};
 
-pub fn status_of(line: u32, ending: Ending) -> Status
-    ensures { result ≡ status_of line ending }
+/// The answer of a deck that ended.
+pub fn status_of(ending: Ending) -> Status
+    ensures { result ≡ status_of (ending_of ending) }
 {
     match ending {
         Ending::Ended => Status::Ended,
-        Ending::ErrorStop { code } => Status::ErrorStop { stmt: line, code },
-        Ending::Prohibited { rule } => Status::Prohibited { stmt: line, rule },
+        Ending::ErrorStop { line, code } => Status::ErrorStop { stmt: line, code },
+        Ending::Prohibited { line, rule } => Status::Prohibited { stmt: line, rule },
     }
 }
 
@@ -39,57 +51,125 @@ pub fn check_report(alloc: Global, count: usize) -> Result<Text, AllocError>
     Ok(text)
 }
 
-fn places_of(variable: &Variable) -> u32
-    ensures { result ≡ places_of variable.now }
+/// The line of the summary of a deck that was made.
+pub fn summary_report(alloc: Global, summary: &Summary) -> Result<Text, AllocError>
+    ensures { IfOk result (λ text. text ≡ summary_text summary.now) }
 {
-    variable.count.max(1)
+    let mut text = Text::new(alloc);
+    summary_line(summary, &mut text)?;
+    Ok(text)
 }
 
-/// The first values, so many of them as there are, and those behind them.
-fn split(values: &[Value], count: usize) -> (&[Value], &[Value])
-    ensures { (result.0.now ≡ take count values.now) × (result.1.now ≡ drop count values.now) }
+/// Adds the lines of transfers that were told.
+fn push_tells(text: &mut Text, tells: &[Tell]) -> Result<(), AllocError>
+    ensures { OnOk result (text.new ≡ text.old ++ flat_map told_line (tells_of tells.now)) }
 {
-    if values.len() < count {
-        return (values, &[]);
+    'adding: for tell in tells {
+        let code = tell.condition.code();
+        trace_line(tell.line, i64::from(tell.unit), Tag(tell.id), code, text)?;
     }
-    (&values[..count], &values[count..])
+    Ok(())
 }
 
-/// Adds the lines of a variable's places.
-fn push_places(text: &mut Text, name: &[u8], first: u32, values: &[Value]) -> Result<(), AllocError>
-    requires { first + length values.now ≤ 4294967296 }
-    ensures { OnOk result (text.new ≡ text.old ++ place_lines name.now first values.now) }
+/// The same where they are asked for.
+fn push_trace(text: &mut Text, trace: bool, tells: &[Tell]) -> Result<(), AllocError>
+    ensures { OnOk result (text.new ≡ text.old ++ trace_of trace (tells_of tells.now)) }
 {
-    let mut index = u64::from(first);
-    'adding: for value in values {
-        variable_line(name, index as u32, Some(value), text)?;
+    if trace {
+        push_tells(text, tells)
+    } else {
+        Ok(())
+    }
+}
+
+/// Adds the line of a place.
+fn push_place(
+    text: &mut Text,
+    store: &Store,
+    variable: &Variable,
+    place: Place,
+) -> Result<(), AllocError>
+    ensures { OnOk result (text.new ≡ text.old ++ place_line (values_of store.now) variable.now place) }
+{
+    let undefined = Value::Undefined;
+    let value = match store.read(place) {
+        Some(value) => value,
+        None => &undefined,
+    };
+    let index = variable.count.min(place.index);
+    variable_line(variable.name.bytes(), index, Some(value), text)
+}
+
+fn elements(variable: &Variable) -> u32
+    ensures { result ≡ elements variable.now }
+{
+    if variable.count == 0 {
+        1
+    } else {
+        variable.count
+    }
+}
+
+/// Adds the lines of the places of a variable.
+fn push_places(
+    text: &mut Text,
+    store: &Store,
+    variable: &Variable,
+    var: u32,
+) -> Result<(), AllocError>
+    ensures { OnOk result (text.new ≡ text.old ++ place_lines (values_of store.now) variable.now var 1 (elements variable.now)) }
+{
+    let mut left = u64::from(elements(variable));
+    let mut index: u64 = 1;
+    'adding: while left > 0 {
+        let place = Place {
+            var,
+            index: index as u32,
+        };
+        push_place(text, store, variable, place)?;
         index += 1;
+        left -= 1;
     }
     Ok(())
 }
 
 /// Adds the lines of the variables.
-fn push_variables(
-    text: &mut Text,
-    variables: &[Variable],
-    values: &[Value],
-) -> Result<(), AllocError>
-    ensures { OnOk result (text.new ≡ text.old ++ variable_lines variables.now values.now) }
+fn push_variables(text: &mut Text, store: &Store, variables: &[Variable]) -> Result<(), AllocError>
+    requires { length variables.now ≤ 4096 }
+    ensures { OnOk result (text.new ≡ text.old ++ variable_lines variables.now (values_of store.now)) }
 {
-    let mut rest = values;
-    'adding: for variable in variables {
-        let (own, more) = split(rest, places_of(variable) as usize);
-        push_places(text, variable.name.bytes(), variable.count.min(1), own)?;
-        rest = more;
+    let mut at = 0;
+    'adding: while at < variables.len() {
+        push_places(text, store, &variables[at], at as u32)?;
+        at += 1;
     }
     Ok(())
 }
 
-/// The report of a deck that was carried out.
-pub fn run_report(alloc: Global, deck: &Deck, done: &Finished) -> Result<Text, AllocError>
-    ensures { IfOk result (λ text. text ≡ report_text deck.now done.now.line done.now.ending done.now.values) }
+/// The lines of a run behind its output: the transfers that were told, how the deck ended, and its variables.
+pub fn run_report(
+    alloc: Global,
+    variables: &[Variable],
+    trace: bool,
+    ending: Ending,
+    core: &Core,
+) -> Result<Text, AllocError>
+    requires { length variables.now ≤ 4096 }
+    ensures { IfOk result (λ text. text ≡ run_text variables.now trace (ending_of ending) core.now) }
 {
-    let mut text = status_report(alloc, status_of(done.line, done.ending))?;
-    push_variables(&mut text, deck.variables.as_slice(), done.values.as_slice())?;
+    let mut text = Text::new(alloc);
+    push_trace(&mut text, trace, core.tells.as_slice())?;
+    status_line(&status_of(ending), &mut text)?;
+    push_variables(&mut text, &core.store, variables)?;
+    Ok(text)
+}
+
+/// The lines of a run that a fault of the disk cut at a line.
+pub fn fault_report(alloc: Global, trace: bool, line: u32, core: &Core) -> Result<Text, AllocError>
+    ensures { IfOk result (λ text. text ≡ trace_of trace (tells_of core.now.tells) ++ status_text (Status.DiskFault line)) }
+{
+    let mut text = Text::new(alloc);
+    push_trace(&mut text, trace, core.tells.as_slice())?;
+    status_line(&Status::DiskFault { stmt: line }, &mut text)?;
     Ok(text)
 }

@@ -4,28 +4,28 @@ ghost use Rattle.fj_job.specs.Task.{task_of, alone_task};
 
 use fj_report::Form;
 
-/// What is done with a deck.
+/// What is done, and with which deck.
 #[derive(Clone, Copy, Debug, PartialEq, Eq)]
 pub enum Task {
     /// Nothing: the words are no form.
     Refuse,
     /// It is read.
     Check,
-    /// It is carried out.
-    Execute,
+    /// It is carried out, with so many workers beside; with a line for each transfer that was told, where `trace` holds.
+    Execute { workers: u32, trace: bool },
+    /// A deck is made from a seed; its text is told where `text` holds, and else it is carried out on a disk of its own.
+    Generate { seed: u32, count: u32, text: bool },
 }
 
 pub fn task_of(form: Form) -> Task
     ensures { result ≡ task_of form }
 {
     match form {
-        Form::Run {
-            workers: 0,
-            trace: false,
-        }
-        | Form::Alone { trace: false } => Task::Execute,
+        Form::Run { workers, trace } => Task::Execute { workers, trace },
+        Form::Alone { trace } => Task::Execute { workers: 0, trace },
         Form::Check => Task::Check,
-        Form::Run { .. } | Form::Alone { .. } | Form::Gen { .. } | Form::Wrong => Task::Refuse,
+        Form::Gen { seed, count, text } => Task::Generate { seed, count, text },
+        Form::Wrong => Task::Refuse,
     }
 }
 

@@ -9,7 +9,7 @@ use std::alloc::{AllocError, Global};
 use std::test::Fail;
 
 /// The words, a deck, the answer, the output, and what the file G holds behind the run. Before it, it holds ` 12` and `x`.
-static ROWS: [(&str, &[u8], Status, &[u8], &[u8]); 25] = [
+static ROWS: [(&str, &[u8], Status, &[u8], &[u8]); 37] = [
     ("alone", b"END\n", Status::Ended, b"= ended\n", b" 12\nx\n"),
     (
         "run --workers 0",
@@ -152,16 +152,6 @@ static ROWS: [(&str, &[u8], Status, &[u8], &[u8]); 25] = [
         b" 12\nx\n",
     ),
     (
-        "alone",
-        b"WRITE(*,*) 1\nEND\n",
-        Status::DeckRefused {
-            line: 1,
-            reason: Reason::NotBuilt,
-        },
-        b"= refused at 1: not built\n",
-        b" 12\nx\n",
-    ),
-    (
         "check",
         b"integer a ! x\na=5\nend\n",
         Status::Ended,
@@ -202,6 +192,109 @@ static ROWS: [(&str, &[u8], Status, &[u8], &[u8]); 25] = [
     (
         "",
         b"END\n",
+        Status::Usage,
+        b"usage: fjob run [--workers N] [--trace] | alone [--trace] | check | gen --seed N --count M [--text]\n",
+        b" 12\nx\n",
+    ),
+    // Transfers that are pending, and the statements that tell them.
+    (
+        "alone --trace",
+        b"INTEGER A, B, S\nOPEN(10,FILE='G',ASYNCHRONOUS='YES')\nREAD(10,'(I3)',ASYNCHRONOUS='YES') A\nREAD(10,'(I3)',ASYNCHRONOUS='YES') B\nWRITE(*,'(I1)') 7\nWAIT(10,IOSTAT=S)\nEND\n",
+        Status::Ended,
+        b"7\n~ 6 10 1 0\n~ 6 10 2 13\n= ended\nA = 12\nB = ?\nS = 13\n",
+        b" 12\nx\n",
+    ),
+    (
+        "run --workers 2",
+        b"INTEGER A, B\nA = 9\nOPEN(10,FILE='G',STATUS='REPLACE',ASYNCHRONOUS='YES')\nWRITE(10,'(I3)',ASYNCHRONOUS='YES') A\nWAIT(10)\nREWIND 10\nREAD(10,'(I3)') B\nEND\n",
+        Status::Ended,
+        b"= ended\nA = 9\nB = 9\n",
+        b"  9\n",
+    ),
+    (
+        "alone",
+        b"INTEGER A\nA = 3\nOPEN(10,FILE='G',STATUS='REPLACE',ASYNCHRONOUS='YES')\nWRITE(10,'(I3)',ASYNCHRONOUS='YES') A\nWRITE(*,'(I1)') A\nA = 1\nEND\n",
+        Status::Prohibited {
+            stmt: 6,
+            rule: Rule::P2,
+        },
+        b"3\n= prohibited at 6 by P2\nA = 3\n",
+        b"  3\n",
+    ),
+    (
+        "alone",
+        b"INTEGER A\nOPEN(10,FILE='G',ASYNCHRONOUS='YES')\nREAD(10,'(I3)',ASYNCHRONOUS='YES') A\nWRITE(*,*) A\nEND\n",
+        Status::Prohibited {
+            stmt: 4,
+            rule: Rule::P1,
+        },
+        b"= prohibited at 4 by P1\nA = ?\n",
+        b" 12\nx\n",
+    ),
+    (
+        "alone",
+        b"WAIT(10)\nWAIT(10,ID=1)\nEND\n",
+        Status::Prohibited {
+            stmt: 2,
+            rule: Rule::P4,
+        },
+        b"= prohibited at 2 by P4\n",
+        b" 12\nx\n",
+    ),
+    // Groups; direct and stream access; inquiry.
+    (
+        "alone",
+        b"INTEGER A, B(3)\nNAMELIST /H/ A, B\nA = 5\nB = 7\nOPEN(10,FILE='G',STATUS='REPLACE')\nWRITE(10,NML=H)\nREWIND 10\nB = 1\nREAD(10,NML=H)\nWRITE(*,NML=H)\nEND\n",
+        Status::Ended,
+        b" &H\n A=5\n B=7,7,7\n /\n= ended\nA = 5\nB(1) = 7\nB(2) = 7\nB(3) = 7\n",
+        b" &H\n A=5\n B=7,7,7\n /\n",
+    ),
+    (
+        "alone",
+        b"CHARACTER(4) C\nINTEGER S\nOPEN(10,FILE='G',STATUS='REPLACE',ACCESS='DIRECT',FORM='FORMATTED',RECL=4)\nWRITE(10,'(A)',REC=3) 'xyz'\nREAD(10,'(A)',REC=4,IOSTAT=S) C\nEND\n",
+        Status::Ended,
+        b"= ended\nC = ?\nS = 17\n",
+        b"        xyz ",
+    ),
+    (
+        "alone",
+        b"CHARACTER(2) C\nINTEGER K, N, S\nLOGICAL L\nOPEN(10,FILE='G',STATUS='REPLACE',ACCESS='STREAM',ASYNCHRONOUS='YES')\nWRITE(10,ASYNCHRONOUS='YES') 'abcdef'\nINQUIRE(10,POS=K,SIZE=N,PENDING=L)\nWRITE(10,POS=3) 'XY'\nREAD(10,POS=6,IOSTAT=S) C\nEND\n",
+        Status::Ended,
+        b"= ended\nC = ?\nK = 7\nN = 6\nS = -1\nL = T\n",
+        b"abXYef",
+    ),
+    (
+        "alone",
+        b"LOGICAL L, M\nINTEGER N\nINQUIRE(FILE='X',EXIST=L,NUMBER=N)\nINQUIRE(FILE='G',EXIST=M)\nEND\n",
+        Status::Ended,
+        b"= ended\nL = F\nM = T\nN = -1\n",
+        b" 12\nx\n",
+    ),
+    // Decks that are made.
+    (
+        "gen --seed 1 --count 2",
+        b"",
+        Status::Ended,
+        b"= gen seed 1 count 2: 9 statements, 2 tells, 0 conditions, 14 bytes, sum 531\n",
+        b" 12\nx\n",
+    ),
+    (
+        "gen --count 0 --seed 0",
+        b"",
+        Status::Ended,
+        b"= gen seed 0 count 0: 5 statements, 0 tells, 0 conditions, 0 bytes, sum 0\n",
+        b" 12\nx\n",
+    ),
+    (
+        "gen --seed 0 --count 0 --text",
+        b"",
+        Status::Ended,
+        b"INTEGER V(4)\nOPEN(10,FILE='G10',STATUS='REPLACE',ASYNCHRONOUS='YES')\nOPEN(11,FILE='G11',STATUS='REPLACE',ASYNCHRONOUS='YES')\nCLOSE(10)\nCLOSE(11)\nEND\n",
+        b" 12\nx\n",
+    ),
+    (
+        "gen --seed 2147483648 --count 1",
+        b"",
         Status::Usage,
         b"usage: fjob run [--workers N] [--trace] | alone [--trace] | check | gen --seed N --count M [--text]\n",
         b" 12\nx\n",
@@ -256,7 +349,7 @@ static LINES: [&[u8]; 6] = [
 
 /// What stands in place of the line of that number, and the line and the reason for which the deck is then refused, as the sink
 /// is told.
-static WRONG: [(usize, &[u8], u32, Reason, &[u8]); 19] = [
+static WRONG: [(usize, &[u8], u32, Reason, &[u8]); 17] = [
     (
         1,
         b"INTEGER 1K",
@@ -343,25 +436,11 @@ static WRONG: [(usize, &[u8], u32, Reason, &[u8]); 19] = [
         b"= refused at 4: meaning\n",
     ),
     (
-        4,
-        b"WRITE(10,*) K",
-        4,
-        Reason::NotBuilt,
-        b"= refused at 4: not built\n",
-    ),
-    (
         5,
         b"CLOSE(10",
         5,
         Reason::Syntax,
         b"= refused at 5: syntax\n",
-    ),
-    (
-        5,
-        b"REWIND 10",
-        5,
-        Reason::NotBuilt,
-        b"= refused at 5: not built\n",
     ),
     (6, b"END K", 6, Reason::Syntax, b"= refused at 6: syntax\n"),
     (

@@ -1,35 +1,25 @@
-use Rattle.std.proofs.Common.{refl, inl, inr, Ok, Err, rules}
-use Rattle.fj_job.specs.Reply.{checked}
+use Rattle.std.proofs.Common.{refl, Ok, Err, rules}
+use Rattle.fj_job.specs.Reply.{checked, files_in}
 use Rattle.fj_job.proofs.ReplyLaws.{ended_by, no_end}
 use Rattle.fj_job.proofs.text.check_text.Goals as goal
 
 pub returns-in-Ok-clause-replied : goal.returns-in-Ok-clause-replied
 returns-in-Ok-clause-replied g c = λ files a. record {
-  reply = checked (Ok c.in-Ok.deck) files;
+  reply = checked (Ok c.in-Ok.deck) (files_in files);
   is = (Ok c.in-Ok.deck, c.in-Ok.ensures.answer, refl);
   answer = search rules;
   files_left = refl;
   output = λ t. c.check_deck.ensures.output a t;
 }
 
-pub returns-in-Ok-clause-prefix : goal.returns-in-Ok-clause-prefix
-returns-in-Ok-clause-prefix g c = λ t files. inr (checked (Ok c.in-Ok.deck) files, (Ok c.in-Ok.deck, c.in-Ok.ensures.answer, refl), inl (c.check_deck.ensures.prefix t))
-
 pub returns-in-Err-Refused-clause-replied : goal.returns-in-Err-Refused-clause-replied
 returns-in-Err-Refused-clause-replied g c = λ files a. record {
-  reply = checked (Err (c.in-Err-Refused.line, c.in-Err-Refused.reason)) files;
+  reply = checked (Err (c.in-Err-Refused.line, c.in-Err-Refused.reason)) (files_in files);
   is = (Err (c.in-Err-Refused.line, c.in-Err-Refused.reason), search rules, refl);
   answer = search rules;
   files_left = refl;
   output = λ t. c.refuse_line.ensures.output a t;
 }
-
-pub returns-in-Err-Refused-clause-prefix : goal.returns-in-Err-Refused-clause-prefix
-returns-in-Err-Refused-clause-prefix g c = λ t files. inr (
-  checked (Err (c.in-Err-Refused.line, c.in-Err-Refused.reason)) files,
-  (Err (c.in-Err-Refused.line, c.in-Err-Refused.reason), search rules, refl),
-  inl (c.refuse_line.ensures.prefix t),
-)
 
 pub returns-in-Ok-clause-ended : goal.returns-in-Ok-clause-ended
 returns-in-Ok-clause-ended g c = ended_by c.check_deck.result _ (c.in-Ok.deck, c.in-Ok.ensures.answer)

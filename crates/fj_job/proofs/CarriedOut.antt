@@ -1,0 +1,129 @@
+-- A deck that was carried out on slots of its own, and whose files went back.
+use Rattle.std.proofs.Common.{◌≡◌, ◌⊎◌, inl, inr, ◌≤◌, ℕ, Bool, true, false, List, [], Result, Ok, Err, Some, None, refl, ap, sym, ◌∙◌, subst, arith}
+use Rattle.fj_outside.specs.Faults.{Rose}
+use Rattle.fj_outside.specs.Holdings.{Holdings}
+use Rattle.fj_outside.specs.declared.outside.FileStore.{Ghosts}
+use Rattle.fj_statement.specs.Sound.{IsSound}
+use Rattle.fj_statement.specs.declared.deck.Deck.{Deck}
+use Rattle.fj_slot.specs.Serving.{Meaning}
+use Rattle.fj_bay.specs.Bay.{Bay}
+use Rattle.fj_bay.specs.Jobs.{Job, Answer}
+use Rattle.fj_world.specs.Rack.{Rack}
+use Rattle.fj_items.specs.Handing.{whole_records}
+use Rattle.fj_items.specs.declared.lost.Lost.TheVariants.{Sink, Disk}
+use Rattle.fj_units.specs.Files.{files_of}
+use Rattle.fj_runner.specs.Leaving.{Leaves}
+use Rattle.fj_runner.specs.declared.ending.Ending.{Ending as Code}
+use Rattle.fj_runner.specs.declared.machine.Machine.{Machine}
+use Rattle.fj_job.specs.Carrying.{HasNotBegun, HasRun}
+use Rattle.fj_report.specs.declared.status.Status.{Status}
+use Rattle.fj_report.specs.declared.status.Status.TheVariants.{DiskFault, Memory}
+use Rattle.fj_job.specs.Answers.{IsAnswer, HasCause}
+use Rattle.fj_job.specs.Cut.{TookSome}
+use Rattle.fj_job.specs.Cutting.{IsCut, EndsHere, IsLeftAt}
+use Rattle.fj_job.specs.Executing.{IsSettled, IsCarriedOut, IsConcluded, IsExecuted}
+use Rattle.fj_job.specs.declared.ending.Carried.{Carried}
+use Rattle.fj_job.proofs.Executed.{came, replies, all_taken, nothing_written}
+use Rattle.fj_job.proofs.Told.{fault_by, not_lost}
+use Rattle.fj_job.proofs.Reported.{at_statement, left_at, took_some, told_fault, part_of_run, part_of_fault, part_of_end}
+use Rattle.fj_job.proofs.Leading.{rose_later, rose_earlier, rose_of, on_left}
+use Rattle.fj_job.proofs.ToldLaws.{cause_more}
+
+cause_by : (P Q : Type 0) (a b c : ℕ) → a ≤ b → b ≤ c → (P → Q ⊎ Rose a b) → (Q → ⊥) → P ⊎ Rose b c → Rose a c
+cause_by P Q a b c l k one none (inr rose) = rose_earlier a b c l rose
+cause_by P Q a b c l k one none (inl p) = elim (one p) [ inl q ↦ absurd (none q) | inr rose ↦ rose_later a b c rose k ]
+
+module _ {W D F : Type 0} (tells_out : W → Type 0) (taken : W → List ℕ) (count_out : W → ℕ) (tells : D → Type 0) (held : D → Holdings) (count : D → ℕ) where
+  pub carried_out : {ghosts : Ghosts F} {E J A X : Type 0} (meaning : Meaning E J A Bay Job Answer) (told : F → Bool) (bytes : F → List ℕ) (deck : Deck) (out : W) (disk : D) (out' : W) (disk' disk'' : D) (m m' : Machine F ghosts) (rack' : Rack E J A) (it : Carried F)
+      → HasNotBegun told bytes m → m.deck ≡ deck → Leaves tells_out taken count_out tells count out disk m out' disk' m'
+      → (tells disk → m'.tally.over ≡ false → HasRun meaning told bytes m.deck (files_of (held disk)) (files_of (held disk')) m' rack')
+      → (tells disk → IsSound m.deck → m'.tally.over ≡ true → IsCut (tells_out out) (taken out) (taken out') m.deck (files_of (held disk)) m')
+      → (tells disk → m'.tally.over ≡ false → (ending : Code) → m'.state.ending ≡ Some ending → EndsHere m.deck (files_of (held disk)) m')
+      → IsSound deck → IsSettled tells held count meaning m' rack' disk' disk'' it
+      → (let r : Result (Carried F) X = Ok it in IsCarriedOut tells_out taken count_out tells held count deck out disk out' disk'' r)
+  carried_out meaning told bytes deck out disk out' disk' disk'' m m' rack' it begun same leaves ran cut ended is_sound settled =
+      let sound : m.tally.lost ≡ None = begun.sound in
+      let own : IsSound m.deck = subst IsSound (sym same) is_sound in
+      let nothing : whole_records m.state.core.output ≡ [] = nothing_written told bytes (files_of (held disk)) m begun in
+      let there = λ (t : tells disk).
+      at_statement meaning told bytes m.deck (files_of (held disk)) (files_of (held disk')) m' rack' (tells_out out) (taken out) (taken out') own (ran t) (ended t) (cut t own)
+      (λ going w. all_taken _ _ m.state.core.output m'.state.core.output m'.state.core.output nothing (leaves.output w (inl (not_lost m'.tally.lost m'.tally.over m'.tally.lost_over going))) refl) in
+      record {
+        deck_is = settled.deck ∙ leaves.deck ∙ same;
+        taken_is = λ w s. all_taken _ _ m.state.core.output m'.state.core.output it.left.core.output nothing
+            (leaves.output w (elim s [ inl e ↦ inl (settled.nothing e) | inr e ↦ settled.alone e ])) (ap (λ k. k.output) settled.core);
+        at_fault = λ t e. subst (λ (d : Deck). IsLeftAt d (files_of (held disk)) it.left) same
+            (left_at (tells_out out) (taken out) (taken out') m.deck (files_of (held disk)) m' it.left (there t) (settled.alone e) settled.core settled.at);
+        part = λ t w. subst (λ (d : Deck). TookSome d (files_of (held disk)) (taken out) (taken out')) same
+            (took_some (tells_out out) (taken out) (taken out') m.deck (files_of (held disk)) m' (there t) w);
+        result_is = λ t s going. came meaning told bytes deck m.deck (files_of (held disk)) (files_of (held disk')) (files_of (held disk'')) m' rack' it.left
+            (ran t (sym settled.over ∙ going)) same settled.core settled.ending (λ desks h seats. settled.files (leaves.telling.0 t) s desks h seats);
+        sink = λ e. elim (leaves.of_sink (settled.sink e)) [ inl q ↦ absurd (let z : Some Sink ≡ None = sym q ∙ sound in cc) | inr rose ↦ rose ];
+        of_disk = λ e. cause_by _ _ _ _ _ leaves.later settled.later leaves.of_disk (λ q. let z : Some Disk ≡ None = sym q ∙ sound in cc) (settled.of_disk e);
+        in_use = λ t. settled.in_use (leaves.telling.0 t);
+        unbegun = tt;
+        telling_out = leaves.telling_out;
+        telling = (λ t. settled.telling.0 (leaves.telling.0 t), λ t. leaves.telling.1 (settled.telling.1 t));
+        later_out = leaves.later_out;
+        later = let a = leaves.later in let b = settled.later in omega (arith, a, b);
+      }
+
+  conclude_ok : {X : Type 0} (deck : Deck) (trace : Bool) (out : W) (disk : D) (out' : W) (disk' : D) (out'' : W) (it : Carried F) (status : Status)
+      → (let r : Result (Carried F) X = Ok it in IsCarriedOut tells_out taken count_out tells held count deck out disk out' disk' r)
+      → (let r : Result (Carried F) X = Ok it in IsConcluded tells_out taken count_out trace r out' out'' status)
+      → IsExecuted tells_out taken count_out tells held count deck trace out disk out'' disk' status
+  conclude_ok deck trace out disk out' disk' out'' it status carried h = record {
+    replied = λ a t. let ended = h.ended a in let settled = h.settled a in
+        replies deck trace it.left (held disk).files (held disk').files status (tells_out out) (tells_out out') _ _ _ carried.telling_out.0 carried.deck_is
+        (carried.result_is t settled ended.going) ended (λ w. carried.taken_is w (inl settled));
+    fault = λ t. fault_by status _ (λ line e. let told = h.fault line e in
+        told_fault deck trace it (held disk).files (held disk').files (taken out) (taken out') (taken out'') carried.deck_is line (tells_out out) (tells_out out') (Rose (count_out out') (count_out out''))
+        (Rose (count_out out) (count_out out'')) carried.telling_out.0 (rose_earlier _ _ _ carried.later_out) (carried.at_fault t told.settled) told (λ w. carried.taken_is w (inr told.settled)));
+    front = λ t w. elim (h.front (carried.telling_out.0 w)) [
+      | inl e ↦ part_of_run deck trace it (held disk).files (held disk').files (taken out) (taken out') (taken out'') carried.deck_is (carried.part t w) e
+      | inr (inl f) ↦ part_of_fault deck trace it (held disk).files (held disk').files (taken out) (taken out') (taken out'') carried.deck_is (carried.at_fault t f.settled) f (carried.taken_is w (inr f.settled))
+      | inr (inr f) ↦ part_of_end deck trace it (held disk).files (held disk').files (taken out) (taken out') (taken out'') carried.deck_is (carried.result_is t f.settled f.going) f (carried.taken_is w (inl f.settled))
+    ];
+    of_run = h.of_run;
+    cause = cause_more status _ _ _ _ _ _ (λ x. x) (rose_of _ _ _ _ carried.later_out h.later_out carried.sink) carried.of_disk h.cause;
+    in_use = λ t. on_left _ _ _ h.unfit (carried.in_use t);
+    telling_out = (λ t. h.telling_out.0 (carried.telling_out.0 t), λ t. carried.telling_out.1 (h.telling_out.1 t));
+    telling = carried.telling;
+    later_out = let a = carried.later_out in let b = h.later_out in omega (arith, a, b);
+    later = carried.later;
+  }
+
+  conclude_err : {X : Type 0} (deck : Deck) (trace : Bool) (out : W) (disk : D) (out' : W) (disk' : D) (out'' : W) (e : X) (status : Status)
+      → (let r : Result (Carried F) X = Err e in IsCarriedOut tells_out taken count_out tells held count deck out disk out' disk' r)
+      → (let r : Result (Carried F) X = Err e in IsConcluded tells_out taken count_out trace r out' out'' status)
+      → IsExecuted tells_out taken count_out tells held count deck trace out disk out'' disk' status
+  conclude_err deck trace out disk out' disk' out'' e status carried h = record {
+    replied = λ a t. absurd (subst (λ (s : Status). IsAnswer s) h.begun a);
+    fault = λ t. fault_by status _ (λ line f. absurd (let z : Memory ≡ DiskFault line = sym h.begun ∙ f in cc));
+    front = λ t w. inl (ap taken (h.silent ∙ carried.unbegun.1));
+    of_run = h.of_run;
+    cause = subst (λ (s : Status). HasCause ⊥ (Rose (count_out out) (count_out out'')) (Rose (count disk) (count disk')) s) (sym h.begun) tt;
+    in_use = λ t. inl h.begun;
+    telling_out = (λ t. h.telling_out.0 (carried.telling_out.0 t), λ t. carried.telling_out.1 (h.telling_out.1 t));
+    telling = carried.telling;
+    later_out = let a = carried.later_out in let b = h.later_out in omega (arith, a, b);
+    later = carried.later;
+  }
+
+  pub executed : {X : Type 0} (deck : Deck) (trace : Bool) (out : W) (disk : D) (out' : W) (disk' : D) (out'' : W) (carried : Result (Carried F) X) (status : Status)
+      → IsCarriedOut tells_out taken count_out tells held count deck out disk out' disk' carried → IsConcluded tells_out taken count_out trace carried out' out'' status
+      → IsExecuted tells_out taken count_out tells held count deck trace out disk out'' disk' status
+  executed deck trace out disk out' disk' out'' (Ok it) status carried h = conclude_ok deck trace out disk out' disk' out'' it status carried h
+  executed deck trace out disk out' disk' out'' (Err e) status carried h = conclude_err deck trace out disk out' disk' out'' e status carried h
+
+-- a run is reported
+pub concluded : {W F X : Type 0} (tells_out : W → Type 0) (taken : W → List ℕ) (count_out : W → ℕ) (trace : Bool) (carried : Result (Carried F) X) (it : Carried F) (out out' : W) (status : Status) → carried ≡ Ok it
+    → (let r : Result (Carried F) X = Ok it in IsConcluded tells_out taken count_out trace r out out' status) → IsConcluded tells_out taken count_out trace carried out out' status
+concluded {F = F} {X = X} tells_out taken count_out trace carried it out out' status e h =
+    subst (λ (r : Result (Carried F) X). IsConcluded tells_out taken count_out trace r out out' status) (sym e) h
+
+pub unbegun : {W F X : Type 0} (tells_out : W → Type 0) (taken : W → List ℕ) (count_out : W → ℕ) (trace : Bool) (carried : Result (Carried F) X) (error : X) (out : W) → carried ≡ Err error
+    → IsConcluded tells_out taken count_out trace carried out out Memory
+unbegun {F = F} {X = X} tells_out taken count_out trace carried error out e =
+    subst (λ (r : Result (Carried F) X). IsConcluded tells_out taken count_out trace r out out Memory) (sym e)
+    (record { settled = λ a. tt; ended = λ a. tt; begun = refl; of_run = tt; unfit = tt; fault = tt; front = λ w. tt; silent = refl; cause = tt; telling_out = (λ t. t, λ t. t); later_out = omega arith })

@@ -1,0 +1,131 @@
+-- What the machine and its sink are where a run was cut.
+use Rattle.std.proofs.Common.{◌≡◌, ◌≢◌, ◌⊎◌, ℕ, Bool, true, false, cond, List, [], ◌++◌, map, drop, Option, Some, None, unwrap_or, sym, ap, ◌∙◌, inl, inr, append_assoc, append-nil}
+use Rattle.std.specs.Option.{option_map}
+use Rattle.fj_outside.specs.declared.outside.FileStore.{Ghosts}
+use Rattle.fj_statement.specs.declared.deck.Deck.{Deck}
+use Rattle.fj_plain.specs.State.{Files}
+use Rattle.fj_plain.specs.Statement.{stated}
+use Rattle.fj_plain.specs.Telling.{tell_of}
+use Rattle.fj_desk.specs.Core.{Core}
+use Rattle.fj_desk.specs.Desking.{fresh}
+use Rattle.fj_turns.specs.Run.{Run, Stage}
+use Rattle.fj_turns.specs.Passing.{turn_output, AsksAt}
+use Rattle.fj_turns.specs.Inside.{waited_at}
+use Rattle.fj_turns.specs.Meant.{IsCutOf}
+use Rattle.fj_turns.proofs.Meant.{cuts_agree}
+use Rattle.fj_pending.specs.Plain.{tells_of}
+use Rattle.fj_items.specs.Handing.{whole_records, HandsOver, HandsFront}
+use Rattle.fj_items.specs.declared.lost.Lost.TheVariants.{Disk}
+use Rattle.fj_acts.specs.State.{core_of}
+use Rattle.fj_runner.specs.Failing.{FailsCall, FailsAtDisk}
+use Rattle.fj_runner.specs.Machine.{rest_of, run_at, stage_at, run_of}
+use Rattle.fj_runner.specs.declared.machine.Machine.{Machine}
+use Rattle.fj_job.specs.Cut.{Untold, Told, Carried, ComesTo}
+use Rattle.fj_job.specs.Cutting.{IsExact, TookFront, IsCut}
+use Rattle.fj_job.proofs.CutTexts.{at_hand}
+use Rattle.fj_job.proofs.Learning.{LearnsAt}
+
+-- ---- what is shown
+
+pub shown : (b : Bool) (o : Option Run) (r : Run) → cond b o None ≡ Some r → o ≡ Some r
+shown true o r e = e
+shown false o r e = cc
+
+module _ {F : Type 0} {ghosts : Ghosts F} (told : F → Bool) (bytes : F → List ℕ) (files : Files) (m : Machine F ghosts) where
+  rest_by : (o : Option Stage) (r : Run) → option_map (run_at files m) o ≡ Some r → r.rest ≡ rest_of m
+  rest_by None r e = cc
+  rest_by (Some stage) r e =
+      let same : run_at files m stage ≡ r = ap (λ (o : Option Run). unwrap_or o r) e in
+      ap (λ (x : Run). x.rest) (sym same)
+
+  pub rest_is : (r : Run) → run_of told bytes files m ≡ Some r → r.rest ≡ rest_of m
+  rest_is r e = rest_by (stage_at told bytes files m) r e
+
+-- ---- at a statement
+
+module _ {F : Type 0} {ghosts : Ghosts F} (Tells : Type 0) (old new : List ℕ) (deck : Deck) (files : Files) (m : Machine F ghosts) (same : m.deck ≡ deck) where
+  hand : (comes : ComesTo deck files) (run : Run) → run.rest ≡ rest_of m → run.rest ≡ drop comes.index (stated deck.statements)
+      → drop m.at (stated deck.statements) ≡ drop comes.index (stated deck.statements)
+  hand comes run rest place = ap (λ (d : Deck). drop m.at (stated d.statements)) (sym same) ∙ sym rest ∙ place
+
+  -- a job was refused there, or a stop was told: nothing was done
+  pub cut_asking : (run : Run) (left : Files) → AsksAt deck.variables (stated deck.statements) (fresh deck.variables files) run → run.core ≡ core_of left m.state.core → run.rest ≡ rest_of m
+      → (Tells → new ≡ old ++ whole_records m.state.core.output) → IsCut Tells old new deck files m
+  cut_asking run left x core rest took =
+      let it : IsCutOf deck.variables (stated deck.statements) files x.index x.statement x.before = cuts_agree deck.variables (stated deck.statements) files x.index x.statement x.before x.reached in
+      let comes : ComesTo deck files = record { index = x.index; statement = x.statement; before = it.state; there = it.cut_is } in
+      let output : m.state.core.output ≡ it.state.output = sym (ap (λ (c : Core). c.output) core) ∙ x.output ∙ it.same.output in
+      let tells : tells_of m.state.core.tells ≡ run.core.tells = sym (ap (λ (c : Core). c.tells) core) in
+      record {
+        comes = comes;
+        at = at_hand deck files comes m.at (hand comes run rest x.rest);
+        exact = λ _. elim x.tells [
+          | inl e ↦ record { reach = Untold; may = tt; output = output; tells = tells ∙ e ∙ it.same.tells; taken = took }
+          | inr e ↦ record {
+            reach = Told;
+            may = tt;
+            output = output;
+            tells = tells ∙ e ∙ ap (λ ts. ts ++ map (tell_of x.statement.0.line) (waited_at x.statement x.before)) it.same.tells ∙ ap (λ es. it.state.tells ++ map (tell_of x.statement.0.line) es) it.waited_is;
+            taken = took;
+          }
+        ];
+        front = λ t. record { reach = Untold; part = whole_records m.state.core.output; rest = []; due = ap whole_records (sym output) ∙ sym (append-nil _); taken = took t };
+      }
+
+  -- ---- where a call gave up
+
+  more_taken : (taken before part : List ℕ) → taken ≡ old ++ before → new ≡ taken ++ part → new ≡ old ++ (before ++ part)
+  more_taken taken before part a b = b ∙ ap (λ x. x ++ part) a ∙ append_assoc old before part
+
+  module _ (taken : List ℕ) (was : Machine F ghosts) (TellsThen : Type 0) (on : Tells → TellsThen) (took : Tells → taken ≡ old ++ whole_records was.state.core.output) where
+    exact_fails : (run : Run) (x : LearnsAt deck.variables (stated deck.statements) (fresh deck.variables files) run)
+        → (it : IsCutOf deck.variables (stated deck.statements) files x.index x.statement x.before) → FailsAtDisk TellsThen taken new run was m
+        → IsExact Tells old new deck files (record { index = x.index; statement = x.statement; before = it.state; there = it.cut_is }) m
+    exact_fails run x it k =
+        let output : m.state.core.output ≡ it.state.output = k.output ∙ x.output ∙ it.same.output in
+        elim (x.tells k.known) [
+          | inl e ↦ record { reach = Untold; may = tt; output = output; tells = k.tells ∙ e ∙ it.same.tells; taken = all }
+          | inr e ↦ record {
+            reach = Told;
+            may = tt;
+            output = output;
+            tells = k.tells ∙ e ∙ ap (λ ts. ts ++ map (tell_of x.statement.0.line) (waited_at x.statement x.before)) it.same.tells ∙ ap (λ es. it.state.tells ++ map (tell_of x.statement.0.line) es) it.waited_is;
+            taken = all;
+          }
+        ]
+      where
+        all : Tells → new ≡ old ++ whole_records m.state.core.output
+        all t =
+            let h : HandsOver taken new was.state.core.output run.core.output = k.handed (on t) in
+            more_taken taken (whole_records was.state.core.output) h.0 (took t) h.2 ∙ ap (λ w. old ++ w) (sym h.1 ∙ ap whole_records (sym k.output))
+
+    front_fails : (run : Run) (x : LearnsAt deck.variables (stated deck.statements) (fresh deck.variables files) run)
+        → (it : IsCutOf deck.variables (stated deck.statements) files x.index x.statement x.before) → Tells
+        → HandsFront taken new was.state.core.output (turn_output run) ⊎ HandsOver taken new was.state.core.output run.core.output
+        → TookFront old new deck files (record { index = x.index; statement = x.statement; before = it.state; there = it.cut_is })
+    front_fails run x it t (inl (part, rest, due, is)) = record {
+      reach = Carried;
+      part = whole_records was.state.core.output ++ part;
+      rest = rest;
+      due = ap whole_records (sym (x.due ∙ it.output)) ∙ due ∙ sym (append_assoc (whole_records was.state.core.output) part rest);
+      taken = more_taken taken (whole_records was.state.core.output) part (took t) is;
+    }
+    front_fails run x it t (inr (part, due, is)) = record {
+      reach = Untold;
+      part = whole_records was.state.core.output ++ part;
+      rest = [];
+      due = ap whole_records (sym (x.output ∙ it.same.output)) ∙ due ∙ sym (append-nil _);
+      taken = more_taken taken (whole_records was.state.core.output) part (took t) is;
+    }
+
+    pub cut_failing : (r : Run) (f : FailsCall (m.tally.lost ≡ Some Disk) TellsThen taken new r was m) → LearnsAt deck.variables (stated deck.statements) (fresh deck.variables files) f.run → m.tally.lost ≢ None
+        → IsCut Tells old new deck files m
+    cut_failing r f x lost =
+        let it : IsCutOf deck.variables (stated deck.statements) files x.index x.statement x.before = cuts_agree deck.variables (stated deck.statements) files x.index x.statement x.before x.reached in
+        let comes : ComesTo deck files = record { index = x.index; statement = x.statement; before = it.state; there = it.cut_is } in
+        record {
+          comes = comes;
+          at = at_hand deck files comes m.at (hand comes f.run (sym f.rest) x.rest);
+          exact = λ how. elim how [ inl none ↦ absurd (lost none) | inr disk ↦ exact_fails f.run x it (f.disk disk) ];
+          front = λ t. front_fails f.run x it t (f.front (on t));
+        }

@@ -1,0 +1,78 @@
+-- The statement at which an execution is cut, and what unit `*` got until there.
+use Rattle.std.proofs.Common.{◌≡◌, ℕ, zero, suc, ◌-◌, List, [], ◌∷◌, ◌++◌, length, drop, take-append-drop, Option, Some, None, slice_get, refl, sym, ap, ◌∙◌, subst}
+use Rattle.fj_statement.specs.declared.deck.Variable.{Variable}
+use Rattle.fj_statement.specs.declared.deck.Lined.{Lined}
+use Rattle.fj_statement.specs.declared.deck.Deck.{Deck}
+use Rattle.fj_plain.specs.State.{State, Files, Output, start}
+use Rattle.fj_plain.specs.Statement.{Stated, stated, control_by, step, Ending, cut}
+use Rattle.fj_items.specs.Handing.{whole_records, open_record}
+use Rattle.fj_job.specs.Cut.{Reach, Untold, Told, Carried, reached, ComesTo}
+use Rattle.fj_job.specs.Reply.{open_feed}
+use Rattle.fj_job.proofs.Closed.{IsClosed, step_closed}
+use Rattle.fj_job.proofs.Executed.{whole_and_open}
+
+same_some : {X : Type 0} → {x y : X} → Some x ≡ Some y → x ≡ y
+same_some e = cc
+
+-- ---- one statement of a cut
+
+module _ (variables : List Variable) where
+  -- a cut behind a statement, by the ending of that
+  abbrev cut_by : ℕ → List Stated → State → Option Ending → Option (Stated × State)
+  cut_by index sts next o = elim o as (λ _. Option (Stated × State)) [ None ↦ cut variables index sts next | Some e ↦ None ]
+
+  -- the statement stands there in the deck
+  pub cut_place : (index : ℕ) (sts : List Stated) (s : State) (st : Stated) (before : State) → cut variables index sts s ≡ Some (st, before) → (more : List Stated) × (drop index sts ≡ st ∷ more)
+  cut_place index [] s st before e = cc
+  cut_place zero (x ∷ sts) s st before e = let same : ◌≡◌ {A = Stated × State} (x, s) (st, before) = same_some e in (sts, ap (λ y. y.0 ∷ sts) same)
+  cut_place (suc index) (x ∷ sts) s st before e = by (λ f. cut_place index sts (step variables x s).0 st before f) (step variables x s).1 refl
+    where
+      by : (cut variables index sts (step variables x s).0 ≡ Some (st, before) → (more : List Stated) × (drop index sts ≡ st ∷ more)) → (o : Option Ending) → (step variables x s).1 ≡ o
+          → (more : List Stated) × (drop index sts ≡ st ∷ more)
+      by later None f = later (sym (ap (cut_by index sts (step variables x s).0) f) ∙ e)
+      by later (Some ending) f = absurd (let z : None ≡ Some (st, before) = sym (ap (cut_by index sts (step variables x s).0) f) ∙ e in cc)
+
+  cut_closed : (index : ℕ) (sts : List Stated) (s : State) (st : Stated) (before : State) → IsClosed s.output → cut variables index sts s ≡ Some (st, before) → IsClosed before.output
+  cut_closed index [] s st before c e = cc
+  cut_closed zero (x ∷ sts) s st before c e = let same : ◌≡◌ {A = Stated × State} (x, s) (st, before) = same_some e in subst (λ y. IsClosed y.1.output) same c
+  cut_closed (suc index) (x ∷ sts) s st before c e = by (λ f. cut_closed index sts (step variables x s).0 st before (step_closed variables x s c) f) (step variables x s).1 refl
+    where
+      by : (cut variables index sts (step variables x s).0 ≡ Some (st, before) → IsClosed before.output) → (o : Option Ending) → (step variables x s).1 ≡ o → IsClosed before.output
+      by later None f = later (sym (ap (cut_by index sts (step variables x s).0) f) ∙ e)
+      by later (Some ending) f = absurd (let z : None ≡ Some (st, before) = sym (ap (cut_by index sts (step variables x s).0) f) ∙ e in cc)
+
+  reached_closed : (reach : Reach) (st : Stated) (s : State) → IsClosed s.output → IsClosed (reached reach variables st s).output
+  reached_closed Untold st s c = c
+  reached_closed Told st s c = c
+  reached_closed Carried st s c = step_closed variables st s c
+
+-- at any statement to which the execution comes, and as far as it came there, an open record alone has characters that did not end
+pub comes_closed : (deck : Deck) (files : Files) (comes : ComesTo deck files) (reach : Reach) → IsClosed (reached reach deck.variables comes.statement comes.before).output
+comes_closed deck files comes reach =
+    reached_closed deck.variables reach comes.statement comes.before
+    (cut_closed deck.variables comes.index (stated deck.statements) (start deck.variables files) comes.statement comes.before (λ _. refl) comes.there)
+
+-- ---- the statement at hand
+
+hand_at : (xs : List Lined) (at : ℕ) (st : Stated) (more : List Stated) → drop at (stated xs) ≡ st ∷ more → slice_get xs at ≡ Some st.0
+hand_at [] zero st more e = cc
+hand_at [] (suc at) st more e = cc
+hand_at (x ∷ xs) zero st more e = let same : (x, control_by x.what) ≡ st = cc in ap (λ y. Some y.0) same
+hand_at (x ∷ xs) (suc at) st more e = hand_at xs at st more e
+
+-- where those behind it are those behind a cut, it is the one at which that is
+pub at_hand : (deck : Deck) (files : Files) (comes : ComesTo deck files) (at : ℕ) → drop at (stated deck.statements) ≡ drop comes.index (stated deck.statements) → slice_get deck.statements at ≡ Some comes.statement.0
+at_hand deck files comes at e =
+    let place = cut_place deck.variables comes.index (stated deck.statements) (start deck.variables files) comes.statement comes.before comes.there in
+    hand_at deck.statements at comes.statement place.0 (e ∙ place.1)
+
+-- ---- texts
+
+-- the records that ended are in front
+pub records_front : (o : Output) → whole_records o ++ drop (length o.text - o.begun) o.text ≡ o.text
+records_front o = take-append-drop (length o.text - o.begun) o.text
+
+-- the records that ended and the open one are the text, with the line feed of the open one
+pub text_and_feed : (deck : Deck) (files : Files) (comes : ComesTo deck files) (reach : Reach) (o : Output) → o ≡ (reached reach deck.variables comes.statement comes.before).output → (rest : List ℕ)
+    → whole_records o ++ (open_record o ++ rest) ≡ o.text ++ (open_feed o ++ rest)
+text_and_feed deck files comes reach o e rest = whole_and_open o.text o.begun o.is_open rest (subst (λ (x : Output). IsClosed x) (sym e) (comes_closed deck files comes reach))

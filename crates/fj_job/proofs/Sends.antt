@@ -1,0 +1,262 @@
+-- The script of a run and the jobs that it asks for may go to another thread, where the sink, the disk and the disk's files may.
+-- A type that holds a format, or much else, is past the limits of one `search`. So each such type has a lemma here, from those of its parts.
+use denote.RattleType.{RattleType}
+use denote.Ref.{NamedLft}
+use denote.Param.Send.{IsSend, view_send, sendable}
+use denote.Param.SendFields.{as_row_send, declared_send, variants_send}
+use Rattle.std.proofs.Crossing.{crosses}
+use Rattle.std.specs.contracts.option.Option as Option
+use Rattle.fj_value.specs.contracts.edit.EditModes as EditModes
+use Rattle.fj_value.specs.contracts.items.Items as Items
+use Rattle.fj_value.specs.contracts.text.Text as Text
+use Rattle.fj_value.specs.contracts.value.Cell as Cell
+use Rattle.fj_value.specs.contracts.value.Value as Value
+use Rattle.fj_outside.specs.contracts.buffered.Buffered as Buffered
+use Rattle.fj_outside.specs.declared.outside.Disk as disk
+use Rattle.fj_outside.specs.declared.outside.FileStore as files
+use Rattle.fj_outside.specs.declared.outside.Sink as sink
+use Rattle.fj_modes.specs.contracts.asked.Question as Question
+use Rattle.fj_modes.specs.contracts.asked.Wanted as Wanted
+use Rattle.fj_modes.specs.contracts.file_name.FileName as FileName
+use Rattle.fj_modes.specs.contracts.modes.Modes as Modes
+use Rattle.fj_modes.specs.contracts.specifiers.OpenSpec as OpenSpec
+use Rattle.fj_format.proofs.item.FormatItem.TheLaws.TheKnot as knot
+use Rattle.fj_format.specs.contracts.format.Format as Format
+use Rattle.fj_format.specs.contracts.item.FormatItem as FormatItem
+use Rattle.fj_list.specs.contracts.moved.GroupMember as GroupMember
+use Rattle.fj_list.specs.contracts.moved.Moved as Moved
+use Rattle.fj_transfer.specs.contracts.change.EditChange as EditChange
+use Rattle.fj_transfer.specs.contracts.transfer.Layout as Layout
+use Rattle.fj_transfer.specs.contracts.transfer.Transfer as Moving
+use Rattle.fj_transfer.specs.contracts.transfer.TransferSpec as Spec
+use Rattle.fj_connect.specs.contracts.connection.Connection as Connection
+use Rattle.fj_connect.specs.contracts.connection.Connection.TheInside as Inside
+use Rattle.fj_connect.specs.contracts.connection.Looked as Looked
+use Rattle.fj_connect.specs.contracts.spot.Look as Look
+use Rattle.fj_connect.specs.contracts.spot.Spot as Spot
+use Rattle.fj_statement.specs.contracts.deck.Deck as Deck
+use Rattle.fj_statement.specs.contracts.deck.Lined as Lined
+use Rattle.fj_statement.specs.contracts.deck.Variable as Variable
+use Rattle.fj_statement.specs.contracts.statement.Control as Control
+use Rattle.fj_statement.specs.contracts.statement.Operand as Operand
+use Rattle.fj_statement.specs.contracts.statement.Statement as Statement
+use Rattle.fj_statement.specs.contracts.statement.Transfer as Transfer
+use Rattle.fj_store.specs.contracts.run.Run as Run
+use Rattle.fj_store.specs.contracts.slot.Slot as Slot
+use Rattle.fj_store.specs.contracts.store.Store as Store
+use Rattle.fj_store.specs.contracts.table.Table as Table
+use Rattle.fj_book.specs.contracts.book.Book as Book
+use Rattle.fj_book.specs.contracts.pending.Pending as Pending
+use Rattle.fj_book.specs.contracts.pending.Places as Places
+use Rattle.fj_bay.specs.contracts.job.Answer as Answer
+use Rattle.fj_bay.specs.contracts.job.Job as Job
+use Rattle.fj_pending.specs.contracts.held.Held as Held
+use Rattle.fj_pending.specs.contracts.held.Told as Told
+use Rattle.fj_pending.specs.contracts.mark.Mark as Mark
+use Rattle.fj_pending.specs.contracts.pendings.Pendings as Pendings
+use Rattle.fj_pending.specs.contracts.tell.Tell as Tell
+use Rattle.fj_items.specs.contracts.star.Output as Output
+use Rattle.fj_units.specs.contracts.names.Names as Names
+use Rattle.fj_units.specs.contracts.units.Connected as Connected
+use Rattle.fj_units.specs.contracts.units.Units as Units
+use Rattle.fj_acts.specs.contracts.doing.Given as Given
+use Rattle.fj_acts.specs.contracts.doing.Then as Then
+use Rattle.fj_acts.specs.contracts.state.Core as Core
+use Rattle.fj_runner.specs.contracts.ending.Ending as Ending
+use Rattle.fj_runner.specs.contracts.machine.Machine as Machine
+use Rattle.fj_runner.specs.contracts.script.Runner as Runner
+use Rattle.fj_runner.specs.contracts.stage.Stage as Stage
+use Rattle.fj_runner.specs.contracts.state.State as State
+use Rattle.fj_runner.specs.contracts.tally.Tally as Tally
+
+-- ---- values and names
+text_sends : IsSend Text.the_row
+text_sends = search (crosses, sendable) depth 20
+
+items_sends : (T : RattleType) → IsSend T → IsSend (Items.the_row T)
+items_sends T s = search (crosses, sendable) depth 20
+
+value_sends : IsSend Value.the_row
+value_sends = search (crosses, sendable) depth 20
+
+cell_sends : IsSend Cell.the_row
+cell_sends = declared_send Cell.the_type (search (as_row_send, value_sends, crosses, sendable) depth 20)
+
+file_name_sends : IsSend FileName.the_row
+file_name_sends = search (crosses, sendable) depth 20
+
+edit_modes_sends : IsSend EditModes.the_row
+edit_modes_sends = declared_send EditModes.the_type (search (as_row_send, crosses, sendable) depth 20)
+
+modes_sends : IsSend Modes.the_row
+modes_sends = declared_send Modes.the_type (search (as_row_send, edit_modes_sends, crosses, sendable) depth 20)
+
+-- ---- statements
+format_item_sends : IsSend FormatItem.the_row
+format_item_sends = search (crosses, knot.crosses, sendable) depth 60 fits 20000
+
+format_sends : IsSend Format.the_row
+format_sends = search (format_item_sends, items_sends, sendable) depth 12
+
+operand_sends : IsSend Operand.the_row
+operand_sends = variants_send Operand.enum (search (as_row_send, value_sends, crosses, sendable) depth 20)
+
+control_sends : IsSend Control.the_row
+control_sends = variants_send Control.enum (search (as_row_send, format_sends, text_sends, items_sends, crosses, sendable) depth 20)
+
+transfer_sends : IsSend Transfer.the_row
+transfer_sends = declared_send Transfer.the_type (search (as_row_send, control_sends, operand_sends, items_sends, crosses, sendable) depth 20)
+
+open_spec_sends : IsSend OpenSpec.the_row
+open_spec_sends = declared_send OpenSpec.the_type (search (as_row_send, file_name_sends, crosses, sendable) depth 20)
+
+question_sends : IsSend Question.the_row
+question_sends = variants_send Question.enum (search (crosses, sendable) depth 40)
+
+wanted_sends : IsSend Wanted.the_row
+wanted_sends = declared_send Wanted.the_type (search (as_row_send, question_sends, crosses, sendable) depth 20)
+
+statement_sends : IsSend Statement.the_row
+statement_sends = variants_send Statement.enum (search (as_row_send, operand_sends, open_spec_sends, file_name_sends, wanted_sends, items_sends, transfer_sends, crosses, sendable) depth 20)
+
+lined_sends : IsSend Lined.the_row
+lined_sends = declared_send Lined.the_type (search (as_row_send, statement_sends, crosses, sendable) depth 20)
+
+variable_sends : IsSend Variable.the_row
+variable_sends = declared_send Variable.the_type (search (as_row_send, text_sends, crosses, sendable) depth 20)
+
+deck_sends : IsSend Deck.the_row
+deck_sends = declared_send Deck.the_type (search (as_row_send, variable_sends, lined_sends, items_sends, crosses, sendable) depth 20)
+
+-- ---- what a job moves
+group_member_sends : IsSend GroupMember.the_row
+group_member_sends = declared_send GroupMember.the_type (search (as_row_send, text_sends, crosses, sendable) depth 20)
+
+moved_sends : IsSend Moved.the_row
+moved_sends = declared_send Moved.the_type (search (as_row_send, cell_sends, items_sends, crosses, sendable) depth 20)
+
+layout_sends : IsSend Layout.the_row
+layout_sends = variants_send Layout.enum (search (as_row_send, format_sends, text_sends, group_member_sends, items_sends, crosses, sendable) depth 20)
+
+edit_change_sends : IsSend EditChange.the_row
+edit_change_sends = declared_send EditChange.the_type (search (as_row_send, crosses, sendable) depth 20)
+
+spec_sends : IsSend Spec.the_row
+spec_sends = declared_send Spec.the_type (search (as_row_send, layout_sends, edit_change_sends, crosses, sendable) depth 20)
+
+moving_sends : IsSend Moving.the_row
+moving_sends = declared_send Moving.the_type (search (as_row_send, spec_sends, moved_sends, crosses, sendable) depth 20)
+
+-- ---- what a run keeps
+run_sends : IsSend Run.the_row
+run_sends = declared_send Run.the_type (search (as_row_send, crosses, sendable) depth 20)
+
+slot_sends : IsSend Slot.the_row
+slot_sends = variants_send Slot.enum (search (as_row_send, value_sends, crosses, sendable) depth 20)
+
+table_sends : (T : RattleType) → IsSend T → IsSend (Table.the_row T)
+table_sends T s = search (items_sends, crosses, sendable) depth 20
+
+store_sends : IsSend Store.the_row
+store_sends = search (slot_sends, table_sends, crosses, sendable) depth 20
+
+places_sends : IsSend Places.the_row
+places_sends = search (items_sends, crosses, sendable) depth 20
+
+pending_sends : IsSend Pending.the_row
+pending_sends = declared_send Pending.the_type (search (as_row_send, places_sends, crosses, sendable) depth 20)
+
+book_sends : IsSend Book.the_row
+book_sends = search (pending_sends, table_sends, crosses, sendable) depth 20
+
+connected_sends : IsSend Connected.the_row
+connected_sends = declared_send Connected.the_type (search (as_row_send, file_name_sends, modes_sends, crosses, sendable) depth 20)
+
+units_sends : IsSend Units.the_row
+units_sends = search (connected_sends, crosses, sendable) depth 20
+
+names_sends : IsSend Names.the_row
+names_sends = search (file_name_sends, crosses, sendable) depth 20
+
+output_sends : IsSend Output.the_row
+output_sends = search (text_sends, crosses, sendable) depth 20
+
+tell_sends : IsSend Tell.the_row
+tell_sends = declared_send Tell.the_type (search (as_row_send, crosses, sendable) depth 20)
+
+answer_sends : IsSend Answer.the_row
+answer_sends = variants_send Answer.enum (search (as_row_send, crosses, sendable) depth 20)
+
+told_sends : IsSend Told.the_row
+told_sends = declared_send Told.the_type (search (moving_sends, answer_sends, crosses, sendable) depth 20)
+
+held_sends : IsSend Held.the_row
+held_sends = declared_send Held.the_type (search (as_row_send, told_sends, run_sends, items_sends, crosses, sendable) depth 20)
+
+mark_sends : IsSend Mark.the_row
+mark_sends = declared_send Mark.the_type (search (as_row_send, crosses, sendable) depth 20)
+
+pendings_sends : IsSend Pendings.the_row
+pendings_sends = search (held_sends, book_sends, mark_sends, crosses, sendable) depth 20
+
+core_sends : IsSend Core.the_row
+core_sends = declared_send Core.the_type (search (as_row_send, store_sends, pendings_sends, units_sends, output_sends, tell_sends, items_sends, names_sends, crosses, sendable) depth 20)
+
+-- ---- what a machine holds beside
+given_sends : IsSend Given.the_row
+given_sends = variants_send Given.enum (search (as_row_send, crosses, sendable) depth 20)
+
+then_sends : IsSend Then.the_row
+then_sends = variants_send Then.enum (search (as_row_send, connected_sends, modes_sends, crosses, sendable) depth 20)
+
+ending_sends : IsSend Ending.the_row
+ending_sends = variants_send Ending.enum (search (as_row_send, crosses, sendable) depth 20)
+
+tally_sends : IsSend Tally.the_row
+tally_sends = declared_send Tally.the_type (search (as_row_send, crosses, sendable) depth 20)
+
+spot_sends : IsSend Spot.the_row
+spot_sends = declared_send Spot.the_type (search (as_row_send, crosses, sendable) depth 20)
+
+look_sends : IsSend Look.the_row
+look_sends = declared_send Look.the_type (search (as_row_send, spot_sends, crosses, sendable) depth 20)
+
+looks_send : IsSend (Option.the_row Look.the_row)
+looks_send = search (look_sends, crosses, sendable) depth 20
+
+looked_sends : IsSend (Option.the_row Looked.the_row)
+looked_sends = search (crosses, sendable) depth 20
+
+-- ---- over files
+module _ (F : RattleType) (g : files.Ghosts F.Denot) (s : IsSend F) where
+  buffered_sends : IsSend (Buffered.the_row F g)
+  buffered_sends = search (crosses, sendable) depth 20
+
+  inside_sends : IsSend (Inside.the_row F g)
+  inside_sends = declared_send (Inside.the_type F g) (search (as_row_send, buffered_sends, modes_sends, file_name_sends, spot_sends, text_sends, looked_sends, crosses, sendable) depth 20)
+
+  connection_sends : IsSend (Connection.the_row F g)
+  connection_sends = view_send _ _ _ _ _ inside_sends
+
+  connections_send : IsSend (Option.the_row (Connection.the_row F g))
+  connections_send = search (connection_sends, crosses, sendable) depth 12
+
+  -- its variants by hand, since they are many and most have parts
+  pub job_sends : IsSend (Job.the_row F g)
+  job_sends = variants_send (Job.enum F g) (
+    (connections_send, tt),
+    ((connections_send, tt), ((moving_sends, tt), ((search sendable depth 20, tt), ((edit_modes_sends, tt), (tt, ((looks_send, tt), (tt, tt))))))),
+  )
+
+  stage_sends : IsSend (Stage.the_row F g)
+  stage_sends = variants_send (Stage.enum F g) (search (as_row_send, given_sends, then_sends, job_sends, answer_sends, items_sends, crosses, sendable) depth 20)
+
+  state_sends : IsSend (State.the_row F g)
+  state_sends = declared_send (State.the_type F g) (search (as_row_send, core_sends, stage_sends, ending_sends, crosses, sendable) depth 20)
+
+  machine_sends : IsSend (Machine.the_row F g)
+  machine_sends = declared_send (Machine.the_type F g) (search (as_row_send, deck_sends, state_sends, tally_sends, connection_sends, crosses, sendable) depth 20)
+
+module _ (a b c : NamedLft) (W D F : RattleType) (gW : sink.Ghosts W.Denot) (gD : disk.Ghosts D.Denot F.Denot) (g : files.Ghosts F.Denot) where
+  pub runner_sends : IsSend W → IsSend D → IsSend F → IsSend (Runner.the_row a b c W D F gW gD g)
+  runner_sends w d s = declared_send (Runner.the_type a b c W D F gW gD g) (search (as_row_send, machine_sends, crosses, sendable) depth 12)

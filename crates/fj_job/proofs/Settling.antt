@@ -1,0 +1,52 @@
+-- Names of files that are out, and what was lost first.
+use Rattle.std.proofs.Common.{◌≡◌, ◌≢◌, ◌⊎◌, inl, inr, ◌==◌, ◌≤◌, ℕ, List, [], ◌∷◌, length, true, Option, Some, None, IfNone, Result, Ok, Err, OnOk, refl, ap, sym, ◌∙◌, subst, arith}
+use Rattle.std.specs.Ordering.{nat_cmp}
+use Rattle.std.specs.Cmp.Lexicographic.{slice_cmp, nat_list_cmp_total}
+use Rattle.std.specs.FinMap.{slice_cmp-IsAntisymmetric, nat_cmp-IsAntisymmetric}
+use Rattle.std.specs.FinSet as set
+use Rattle.fj_outside.specs.Holdings.{Names}
+use Rattle.fj_units.specs.Names.{stands, AreInUse}
+use Rattle.fj_items.specs.declared.lost.Lost.{Lost}
+use Rattle.fj_items.specs.declared.lost.Lost.TheVariants.{Sink, Disk}
+use Rattle.fj_outside.specs.Faults.{Rose}
+use Rattle.fj_job.proofs.Closed.{not_none}
+use Rattle.fj_job.proofs.Leading.{rose_later, rose_earlier}
+
+-- no name stands: none is in use
+pub none_in_use : (names : List (List ℕ)) (in_use : Names) → names ≡ [] → AreInUse names in_use → in_use ≡ set.empty
+none_in_use names in_use e are = set.same_set nat_list_cmp_total (slice_cmp-IsAntisymmetric nat_cmp-IsAntisymmetric) _ _
+    (λ q. are q ∙ ap (λ (ns : List (List ℕ)). stands ns q) e ∙ sym (set.contains-empty (slice_cmp nat_cmp) q))
+
+pub in_use_none : (names : List (List ℕ)) (in_use : Names) → names ≡ [] → in_use ≡ set.empty → AreInUse names in_use
+in_use_none names in_use e f = λ q. ap (λ (s : Names). set.contains s q) f ∙ set.contains-empty (slice_cmp nat_cmp) q ∙ ap (λ (ns : List (List ℕ)). stands ns q) (sym e)
+
+pub empty_by : (names : List (List ℕ)) → (length names == 0) ≡ true → names ≡ []
+empty_by [] e = refl
+empty_by (name ∷ names) e = let other = not_none (length (name ∷ names)) (omega arith) in cc
+
+pub where_ok : (r : Result (Unit {0}) Lost) (P : Type 0) → r ≡ Ok tt → OnOk r P → P
+where_ok r P e h = subst (λ (x : Result (Unit {0}) Lost). OnOk x P) e h
+
+-- a loss of the sink is none of closing
+pub before : (lost : Option Lost) (closed : Result (Unit {0}) Lost) → closed ≢ Err Sink → (lost ≡ Some Sink) ⊎ (closed ≡ Err Sink) → lost ≡ Some Sink
+before lost closed none (inl e) = e
+before lost closed none (inr e) = absurd (none e)
+
+pub where_none : (o : Option Lost) (P : Type 0) → o ≡ None → IfNone o P → P
+where_none o P e h = subst (λ (x : Option Lost). IfNone x P) e h
+
+-- a loss of the disk was there before, or came of one of two steps
+pub lost_disk : (lost first : Option Lost) (closed given : Result (Unit {0}) Lost) (a b c : ℕ) → a ≤ b → b ≤ c → (closed ≡ Err Disk → Rose a b) → (given ≡ Err Disk → Rose b c)
+    → (first ≡ Some Disk → (lost ≡ Some Disk) ⊎ (closed ≡ Err Disk)) → (first ≡ Some Disk) ⊎ (given ≡ Err Disk) → (lost ≡ Some Disk) ⊎ Rose a c
+lost_disk lost first closed given a b c l k one two by (inr e) = inr (rose_earlier a b c l (two e))
+lost_disk lost first closed given a b c l k one two by (inl e) = elim (by e) [ inl q ↦ inl q | inr q ↦ inr (rose_later a b c (one q) k) ]
+
+-- the same loss, where the machine has it
+pub lost_then : {Q : Type 0} {was now lost : Option Lost} → now ≡ was → (now ≡ lost) ⊎ Q → (was ≡ lost) ⊎ Q
+lost_then same (inl e) = inl (sym same ∙ e)
+lost_then same (inr q) = inr q
+
+-- of two losses, where the first is none or of the disk
+pub lost_alone : (Q : Type 0) (lost first : Option Lost) → IfNone first ((lost ≡ None) × Q) → (first ≡ Some Disk → (lost ≡ None) ⊎ (lost ≡ Some Disk)) → (first ≡ None) ⊎ (first ≡ Some Disk) → (lost ≡ None) ⊎ (lost ≡ Some Disk)
+lost_alone Q lost first none by (inl e) = inl (where_none first ((lost ≡ None) × Q) e none).0
+lost_alone Q lost first none by (inr e) = by e

@@ -1,0 +1,340 @@
+-- What a run tells, by what the words ask for.
+use Rattle.std.proofs.Common.{◌≡◌, ◌⊎◌, inl, inr, ℕ, Bool, List, ◌++◌, Result, Ok, Err, IfErr, refl, sym, subst}
+use Rattle.fj_outside.specs.Holdings.{Files}
+use Rattle.fj_statement.specs.declared.reason.Reason.{Reason}
+use Rattle.fj_plain.specs.Statement.{Ending, ended, error_stop, prohibition}
+use Rattle.fj_statement.specs.declared.deck.Deck.{Deck}
+use Rattle.fj_deck.specs.Deck.{IsDeck, IsRefused}
+use Rattle.fj_report.specs.Lines.{usage_text, status_text}
+use Rattle.fj_report.specs.declared.status.Status.{Status}
+use Rattle.fj_report.specs.declared.status.Status.TheVariants.{Ended, ErrorStop, Prohibited, DeckRefused, Usage, ReadFault, WriteFault, DiskFault, Memory}
+use Rattle.fj_job.specs.Asking.{IsUnread}
+use Rattle.fj_job.specs.Concluding.{IsReplied}
+use Rattle.fj_job.specs.Taken.{IsReadOf}
+use Rattle.fj_job.proofs.ReplyLaws.{ended_by, same_refusal}
+use Rattle.fj_job.specs.Answers.{IsAnswer, IsLost, IsOfRun, LeavesDisk, HasCause, IfRefused, IfFault, TookRefusal, Told, Keeps}
+use Rattle.fj_job.specs.Cut.{TookPart, ToldFault}
+use Rattle.fj_job.proofs.Told.{fault_more}
+use Rattle.fj_job.specs.Reply.{usage_reply, refusal_reply, files_in, status_of}
+use Rattle.fj_job.specs.declared.task.Task.{Task}
+use Rattle.fj_job.specs.declared.task.Task.TheVariants.{Refuse, Check, Execute, Generate}
+
+pub told_for : (task other : Task) (status : Status) (R W D : Type 0) (text : List ℕ) (files left : Files) (old new : List ℕ) (SR WR DR : Type 0) → task ≡ other
+    → Told task status R W D text files left old new SR WR DR → Told other status R W D text files left old new SR WR DR
+told_for task other status R W D text files left old new SR WR DR e t = subst (λ (x : Task). Told x status R W D text files left old new SR WR DR) e t
+
+pub keeps_for : {R W D : Type 0} (task other : Task) (status : Status) (S : Type 0) (text : List ℕ) (r r' : R) (w w' : W) (d d' : D) → task ≡ other
+    → Keeps task status S text r r' w w' d d' → Keeps other status S text r r' w w' d d'
+keeps_for task other status S text r r' w w' d d' e k = subst (λ (x : Task). Keeps x status S text r r' w w' d d') e k
+
+-- where no cause of a fault is there, it is no fault
+pub fine_by : (status : Status) (R W D : Type 0) → HasCause R W D status → (R → ⊥) → (W → ⊥) → (D → ⊥) → (status ≡ Memory) ⊎ IsAnswer status
+fine_by Ended R W D c r w d = inr tt
+fine_by (ErrorStop stmt code) R W D c r w d = inr tt
+fine_by (Prohibited stmt rule) R W D c r w d = inr tt
+fine_by (DeckRefused line reason) R W D c r w d = inr tt
+fine_by Usage R W D c r w d = inr tt
+fine_by ReadFault R W D c r w d = absurd (r c)
+fine_by WriteFault R W D c r w d = absurd (w c)
+fine_by (DiskFault stmt) R W D c r w d = absurd (d c)
+fine_by Memory R W D c r w d = inl refl
+
+-- a cause where others are possible too
+pub cause_more : (status : Status) (R W D R' W' D' : Type 0) → (R → R') → (W → W') → (D → D') → HasCause R W D status → HasCause R' W' D' status
+cause_more Ended R W D R' W' D' r w d c = tt
+cause_more (ErrorStop stmt code) R W D R' W' D' r w d c = tt
+cause_more (Prohibited stmt rule) R W D R' W' D' r w d c = tt
+cause_more (DeckRefused line reason) R W D R' W' D' r w d c = tt
+cause_more Usage R W D R' W' D' r w d c = tt
+cause_more ReadFault R W D R' W' D' r w d c = r c
+cause_more WriteFault R W D R' W' D' r w d c = w c
+cause_more (DiskFault stmt) R W D R' W' D' r w d c = d c
+cause_more Memory R W D R' W' D' r w d c = tt
+
+-- ---- words that are no form
+
+told_usage : (R W D : Type 0) (text : List ℕ) (files : Files) (old new : List ℕ) (SR WR DR : Type 0) → (W → new ≡ old ++ usage_text)
+    → Told Refuse Usage R W D text files files old new SR WR DR
+told_usage R W D text files old new SR WR DR output = record {
+  replied = λ a t u. record { reply = usage_reply (files_in files); is = refl; answer = refl; files_left = refl; output = output };
+  usage = λ q. refl;
+  no_form = λ q. inl refl;
+  ended = λ t. tt;
+  refused = λ t. tt;
+  fault = λ t u. tt;
+  front = λ t u w. tt;
+  cause = tt;
+  fine = λ x y z. inr tt;
+}
+
+told_lost : (status : Status) (R W D : Type 0) (text : List ℕ) (files : Files) (old new : List ℕ) (SR WR DR : Type 0) → IsLost status
+    → HasCause ⊥ WR ⊥ status → Told Refuse status R W D text files files old new SR WR DR
+told_lost Ended R W D text files old new SR WR DR lost c = absurd lost
+told_lost (ErrorStop stmt code) R W D text files old new SR WR DR lost c = absurd lost
+told_lost (Prohibited stmt rule) R W D text files old new SR WR DR lost c = absurd lost
+told_lost (DeckRefused line reason) R W D text files old new SR WR DR lost c = absurd lost
+told_lost Usage R W D text files old new SR WR DR lost c = absurd lost
+told_lost ReadFault R W D text files old new SR WR DR lost c = absurd lost
+told_lost WriteFault R W D text files old new SR WR DR lost c = record {
+  replied = λ a t u. absurd a;
+  usage = λ q. refl;
+  no_form = λ q. inr tt;
+  ended = λ t. tt;
+  refused = λ t. tt;
+  fault = λ t u. tt;
+  front = λ t u w. tt;
+  cause = c;
+  fine = λ x y z. absurd (y c);
+}
+told_lost (DiskFault stmt) R W D text files old new SR WR DR lost c = absurd lost
+told_lost Memory R W D text files old new SR WR DR lost c = record {
+  replied = λ a t u. absurd a;
+  usage = λ q. refl;
+  no_form = λ q. inr tt;
+  ended = λ t. tt;
+  refused = λ t. tt;
+  fault = λ t u. tt;
+  front = λ t u w. tt;
+  cause = tt;
+  fine = λ x y z. inl refl;
+}
+
+pub told_refused : (status : Status) (R W D : Type 0) (text : List ℕ) (files : Files) (old new : List ℕ) (SR WR DR : Type 0) → (status ≡ Usage) ⊎ IsLost status
+    → (IsAnswer status → W → new ≡ old ++ usage_text) → HasCause ⊥ WR ⊥ status
+    → Told Refuse status R W D text files files old new SR WR DR
+told_refused status R W D text files old new SR WR DR (inl e) output c =
+    subst (λ (x : Status). Told Refuse x R W D text files files old new SR WR DR) (sym e)
+    (told_usage R W D text files old new SR WR DR (output (subst (λ (x : Status). IsAnswer x) (sym e) tt)))
+told_refused status R W D text files old new SR WR DR (inr lost) output c = told_lost status R W D text files old new SR WR DR lost c
+
+-- ---- words that are a form
+
+abbrev pub IsForm : Task → Type 0
+IsForm Refuse = ⊥
+IsForm Check = Unit {0}
+IsForm (Execute workers trace) = Unit {0}
+IsForm (Generate seed count shown) = Unit {0}
+
+pub no_words : (task : Task) (P : Type 0) → IsForm task → task ≡ Refuse → P
+no_words task P is q = absurd (subst (λ (x : Task). IsForm x) q is)
+
+abbrev pub IsNoCheck : Task → Type 0
+IsNoCheck Check = ⊥
+IsNoCheck _ = Unit {0}
+
+pub no_check : (task : Task) (P : Type 0) → IsNoCheck task → task ≡ Check → P
+no_check task P is q = absurd (subst (λ (x : Task). IsNoCheck x) q is)
+
+-- ---- no source was read
+
+abbrev pub IsNoReadFault : Status → Type 0
+IsNoReadFault ReadFault = ⊥
+IsNoReadFault _ = Unit {0}
+
+pub no_read : (status : Status) (W D P : Type 0) → HasCause ⊥ W D status → status ≡ ReadFault → P
+no_read status W D P c e = absurd (subst (λ (x : Status). HasCause ⊥ W D x) e c)
+
+-- ---- answers of a deck that is carried out
+
+pub run_leaves : (status : Status) (P : Type 0) → IsOfRun status → LeavesDisk status → P
+run_leaves Ended P r l = absurd l
+run_leaves (ErrorStop stmt code) P r l = absurd l
+run_leaves (Prohibited stmt rule) P r l = absurd l
+run_leaves (DeckRefused line reason) P r l = absurd r
+run_leaves Usage P r l = absurd r
+run_leaves ReadFault P r l = absurd r
+run_leaves WriteFault P r l = absurd l
+run_leaves (DiskFault stmt) P r l = absurd l
+run_leaves Memory P r l = absurd l
+
+pub run_is_not_refused : (status : Status) (P : ℕ → Reason → Type 0) → IsOfRun status → IfRefused status P
+run_is_not_refused Ended P r = tt
+run_is_not_refused (ErrorStop stmt code) P r = tt
+run_is_not_refused (Prohibited stmt rule) P r = tt
+run_is_not_refused (DeckRefused line reason) P r = absurd r
+run_is_not_refused Usage P r = tt
+run_is_not_refused ReadFault P r = tt
+run_is_not_refused WriteFault P r = tt
+run_is_not_refused (DiskFault stmt) P r = tt
+run_is_not_refused Memory P r = tt
+
+pub run_is_no_usage : (status : Status) → IsOfRun status → status ≡ Usage → ⊥
+run_is_no_usage status r e = subst (λ (x : Status). IsOfRun x) e r
+
+-- an answer that was lost is one of a run
+pub lost_of_run : (status : Status) → IsLost status → IsOfRun status
+lost_of_run Ended l = absurd l
+lost_of_run (ErrorStop stmt code) l = absurd l
+lost_of_run (Prohibited stmt rule) l = absurd l
+lost_of_run (DeckRefused line reason) l = absurd l
+lost_of_run Usage l = absurd l
+lost_of_run ReadFault l = absurd l
+lost_of_run WriteFault l = tt
+lost_of_run (DiskFault stmt) l = absurd l
+lost_of_run Memory l = tt
+
+pub ending_of_run : (e : Ending) → IsOfRun (status_of e)
+ending_of_run ended = tt
+ending_of_run (error_stop line code) = tt
+ending_of_run (prohibition line rule) = tt
+
+pub lost_is_no_answer : (status : Status) (P : Type 0) → IsLost status → IsAnswer status → P
+lost_is_no_answer Ended P l a = absurd l
+lost_is_no_answer (ErrorStop stmt code) P l a = absurd l
+lost_is_no_answer (Prohibited stmt rule) P l a = absurd l
+lost_is_no_answer (DeckRefused line reason) P l a = absurd l
+lost_is_no_answer Usage P l a = absurd l
+lost_is_no_answer ReadFault P l a = absurd l
+lost_is_no_answer WriteFault P l a = absurd a
+lost_is_no_answer (DiskFault stmt) P l a = absurd l
+lost_is_no_answer Memory P l a = absurd a
+
+-- an answer that was told or lost, where it is an answer
+pub answered : (status told : Status) (P : Type 0) → (status ≡ told) ⊎ IsLost status → IsAnswer status → (status ≡ told → P) → P
+answered status told P (inl e) a f = f e
+answered status told P (inr l) a f = lost_is_no_answer status P l a
+
+pub of_run : (status told : Status) → IsOfRun told → (status ≡ told) ⊎ IsLost status → IsOfRun status
+of_run status told r (inl e) = subst (λ (x : Status). IsOfRun x) (sym e) r
+of_run status told r (inr l) = lost_of_run status l
+
+-- ---- a text that is not carried out
+
+-- a refusal that is told, or what kept it from being told
+told_refusal : (workers : ℕ) (trace : Bool) (line : ℕ) (reason : Reason) (R W D : Type 0) (text : List ℕ) (files : Files) (old new : List ℕ) (SR WR : Type 0) → (R → IsRefused text line reason)
+    → (W → new ≡ old ++ status_text (DeckRefused line reason)) → (R → W → TookRefusal text old new) → Told (Execute workers trace) (DeckRefused line reason) R W D text files files old new SR WR ⊥
+told_refusal workers trace line reason R W D text files old new SR WR is output front = record {
+  replied = λ a t u. record {
+    reply = refusal_reply line reason (files_in files);
+    is = (Err (line, reason), is t, refl);
+    answer = refl;
+    files_left = refl;
+    output = output;
+  };
+  usage = λ q. cc;
+  no_form = λ q. cc;
+  ended = λ t. tt;
+  refused = is;
+  fault = λ t u. tt;
+  front = λ t u w. inl (front t w);
+  cause = tt;
+  fine = λ x y z. inr tt;
+}
+
+told_none : (workers : ℕ) (trace : Bool) (status : Status) (R W D : Type 0) (text : List ℕ) (files : Files) (old new : List ℕ) (SR WR : Type 0) → IsLost status ⊎ (status ≡ ReadFault)
+    → (R → W → TookRefusal text old new) → HasCause SR WR ⊥ status → Told (Execute workers trace) status R W D text files files old new SR WR ⊥
+told_none workers trace status R W D text files old new SR WR (inr e) front c = subst (λ (x : Status). Told (Execute workers trace) x R W D text files files old new SR WR ⊥) (sym e) (record {
+  replied = λ a t u. absurd a;
+  usage = λ q. cc;
+  no_form = λ q. cc;
+  ended = λ t. tt;
+  refused = λ t. tt;
+  fault = λ t u. tt;
+  front = λ t u w. inl (front t w);
+  cause = subst (λ (x : Status). HasCause SR WR ⊥ x) e c;
+  fine = λ x y z. absurd (x (subst (λ (x : Status). HasCause SR WR ⊥ x) e c));
+})
+told_none workers trace WriteFault R W D text files old new SR WR (inl l) front c = record {
+  replied = λ a t u. absurd a;
+  usage = λ q. cc;
+  no_form = λ q. cc;
+  ended = λ t. tt;
+  refused = λ t. tt;
+  fault = λ t u. tt;
+  front = λ t u w. inl (front t w);
+  cause = c;
+  fine = λ x y z. absurd (y c);
+}
+told_none workers trace Memory R W D text files old new SR WR (inl l) front c = record {
+  replied = λ a t u. absurd a;
+  usage = λ q. cc;
+  no_form = λ q. cc;
+  ended = λ t. tt;
+  refused = λ t. tt;
+  fault = λ t u. tt;
+  front = λ t u w. inl (front t w);
+  cause = tt;
+  fine = λ x y z. inl refl;
+}
+told_none workers trace Ended R W D text files old new SR WR (inl l) front c = absurd l
+told_none workers trace (ErrorStop stmt code) R W D text files old new SR WR (inl l) front c = absurd l
+told_none workers trace (Prohibited stmt rule) R W D text files old new SR WR (inl l) front c = absurd l
+told_none workers trace (DeckRefused line reason) R W D text files old new SR WR (inl l) front c = absurd l
+told_none workers trace Usage R W D text files old new SR WR (inl l) front c = absurd l
+told_none workers trace ReadFault R W D text files old new SR WR (inl l) front c = absurd l
+told_none workers trace (DiskFault stmt) R W D text files old new SR WR (inl l) front c = absurd l
+
+pub told_unread : (workers : ℕ) (trace : Bool) (status : Status) (R W D : Type 0) (text : List ℕ) (files : Files) (old new : List ℕ) (SR WR : Type 0) → IsUnread status R text
+    → IfRefused status (λ line reason. W → new ≡ old ++ status_text (DeckRefused line reason)) → (R → W → TookRefusal text old new) → HasCause SR WR ⊥ status
+    → Told (Execute workers trace) status R W D text files files old new SR WR ⊥
+told_unread workers trace status R W D text files old new SR WR (inl (line, reason, e, is)) output front c =
+    subst (λ (x : Status). Told (Execute workers trace) x R W D text files files old new SR WR ⊥) (sym e)
+    (told_refusal workers trace line reason R W D text files old new SR WR is (subst (λ (x : Status). IfRefused x (λ line reason. W → new ≡ old ++ status_text (DeckRefused line reason))) e output) front)
+told_unread workers trace status R W D text files old new SR WR (inr (inl l)) output front c = told_none workers trace status R W D text files old new SR WR (inl l) front c
+told_unread workers trace status R W D text files old new SR WR (inr (inr e)) output front c = told_none workers trace status R W D text files old new SR WR (inr e) front c
+
+-- ---- what is asked for, over a disk
+
+pub told_over : {D : Type 0} (task : Task) (status : Status) (R W : Type 0) (text : List ℕ) (files : Files) (old new : List ℕ) (SR WR DR : Type 0)
+    → Told task status R W (Unit {0}) text files files old new SR WR ⊥ → Told task status R W D text files files old new SR WR DR
+told_over task status R W text files old new SR WR DR t = record {
+  replied = λ a r d. t.replied a r tt;
+  usage = t.usage;
+  no_form = t.no_form;
+  ended = t.ended;
+  refused = t.refused;
+  fault = λ r d. t.fault r tt;
+  front = λ r d w. t.front r tt w;
+  cause = cause_more status _ _ _ _ _ _ (λ x. x) (λ x. x) (λ x. absurd x) t.cause;
+  fine = λ x y z. t.fine x y (λ b. b);
+}
+
+pub keeps_over : {R W D : Type 0} (task : Task) (status : Status) (S : Type 0) (text : List ℕ) (r r' : R) (w w' : W) (d : D)
+    → Keeps {D = Unit {0}} task status S text r r' w w' tt tt → Keeps task status S text r r' w w' d d
+keeps_over task status S text r r' w w' d k = record {
+  aside = λ a. ((k.aside a).0, refl);
+  check = λ e. refl;
+  answer = λ l. refl;
+  changed = λ t. inl refl;
+  untold = k.untold;
+}
+
+-- a deck was read, and carried out
+pub told_executed : (workers : ℕ) (trace : Bool) (deck : Deck) (status : Status) (R W D : Type 0) (text : List ℕ) (files left : Files) (old new : List ℕ) (SR WR DR : Type 0) → (R → IsDeck text deck)
+    → (IsAnswer status → D → IsReplied deck trace files status left (λ output. W → new ≡ old ++ output))
+    → (D → IfFault status (λ line. ToldFault deck trace (files_in files) line W old new WR)) → (D → W → TookPart deck trace (files_in files) old new) → IsOfRun status → HasCause ⊥ WR DR status
+    → Told (Execute workers trace) status R W D text files left old new SR WR DR
+told_executed workers trace deck status R W D text files left old new SR WR DR is replied fault front r c = record {
+  replied = λ a t u. let it = replied a u in record {
+    reply = it.reply;
+    is = (Ok deck, is t, it.is);
+    answer = it.answer;
+    files_left = it.files_left;
+    output = it.output;
+  };
+  usage = λ q. absurd (run_is_no_usage status r q);
+  no_form = λ q. no_words (Execute workers trace) _ tt q;
+  ended = λ t. ended_by status _ (deck, is t);
+  refused = λ t. run_is_not_refused status _ r;
+  fault = λ t d. fault_more status _ _ (λ line told. (deck, is t, told)) (fault d);
+  front = λ t d w. inr (deck, is t, front d w);
+  cause = cause_more status _ _ _ _ _ _ (λ x. absurd x) (λ x. x) (λ x. x) c;
+  fine = λ x y z. fine_by status _ _ _ c (λ b. b) y z;
+}
+
+pub keeps_executed : {R W D : Type 0} (workers : ℕ) (trace : Bool) (deck : Deck) (status : Status) (WR DR S : Type 0) (text : List ℕ) (r r' : R) (w w' : W) (d d' : D)
+    → (S → IsDeck text deck) → IsOfRun status → HasCause ⊥ WR DR status → Keeps (Execute workers trace) status S text r r' w w' d d'
+keeps_executed workers trace deck status WR DR S text r r' w w' d d' is o c = record {
+  aside = λ q. absurd q;
+  check = λ q. no_check (Execute workers trace) _ tt q;
+  answer = λ l. run_leaves status _ o l;
+  changed = λ t. inr (deck, is t);
+  untold = λ e. no_read status _ _ _ c e;
+}
+
+-- a text that was read in part is refused as the whole is
+pub unread_whole : {X : Type 0} (result : Result X Status) (R : Type 0) (held text : List ℕ) → (R → IsReadOf 4194304 held text) → IfErr result (λ status. IsUnread status (Unit {0}) text)
+    → IfErr result (λ status. IsUnread status R held)
+unread_whole (Ok x) R held text read h = tt
+unread_whole (Err status) R held text read (inl (line, reason, e, is)) = inl (line, reason, e, λ r. same_refusal held text line reason (read r) (is tt))
+unread_whole (Err status) R held text read (inr other) = inr other

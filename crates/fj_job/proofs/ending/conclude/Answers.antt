@@ -1,0 +1,23 @@
+use Rattle.fj_job.proofs.CarriedOut.{concluded, unbegun}
+use Rattle.fj_job.proofs.ending.conclude.Goals as goal
+
+pub returns-in-Ok : goal.returns-in-Ok
+returns-in-Ok g c = record {
+  concluded = concluded g.W.Sink.tells g.W.Sink.taken g.W.Sink.count c.args.trace c.args.carried c.in-Ok.it c.args.out.now c.report.new.out c.report.result c.in-Ok.is
+      (record {
+        settled = c.report.ensures.settled;
+        ended = c.report.ensures.ended;
+        begun = tt;
+        of_run = c.report.ensures.of_run;
+        unfit = c.report.ensures.unfit;
+        fault = c.report.ensures.fault;
+        front = c.report.ensures.front;
+        silent = tt;
+        cause = c.report.ensures.cause;
+        telling_out = c.report.ensures.telling;
+        later_out = c.report.ensures.later;
+      });
+}
+
+pub returns-in-Err : goal.returns-in-Err
+returns-in-Err g c = record { concluded = unbegun g.W.Sink.tells g.W.Sink.taken g.W.Sink.count c.args.trace c.args.carried _ c.args.out.now c.in-Err.is }

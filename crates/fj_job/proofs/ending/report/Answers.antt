@@ -1,0 +1,23 @@
+use Rattle.std.proofs.Common.{inr}
+use Rattle.fj_runner.specs.Machine.{ending_of}
+use Rattle.fj_job.specs.Reply.{status_of}
+use Rattle.fj_job.proofs.ToldLaws.{answered}
+use Rattle.fj_job.proofs.ending.report.Goals as goal
+
+pub returns-in-Some-clause-ended : goal.returns-in-Some-clause-ended
+returns-in-Some-clause-ended g c = λ a. record {
+  going = c.in-Some.ensures.0;
+  ending = c.in-Some.ending;
+  ends = c.in-Some.ensures.1;
+  status_is = answered c.tell_run.result (status_of (ending_of c.in-Some.ending)) _ c.tell_run.ensures.status a (λ e. e);
+  output = λ t. rw (← c.as_slice.ensures) (c.tell_run.ensures.output a t);
+}
+
+pub returns-in-Some-clause-front : goal.returns-in-Some-clause-front
+returns-in-Some-clause-front g c = λ w. inr (inr (record {
+  settled = c.in-Ok.is;
+  going = c.in-Some.ensures.0;
+  ending = c.in-Some.ending;
+  ends = c.in-Some.ensures.1;
+  taken = rw (← c.as_slice.ensures) (c.tell_run.ensures.front w);
+}))

@@ -1,0 +1,34 @@
+use Rattle.std.proofs.Common.{◌≡◌, ◌⊎◌, Option, Some, None, ◌∙◌, ap, sym, subst}
+use Rattle.fj_items.specs.declared.lost.Lost.{Lost}
+use Rattle.fj_items.specs.declared.lost.Lost.TheVariants.{Disk}
+use Rattle.fj_acts.specs.declared.state.Core.{Core}
+use Rattle.fj_desk.specs.Desking.{all_left}
+use Rattle.fj_closing.specs.Closing.{AreSeated}
+use Rattle.fj_units.specs.Files.{files_of}
+use Rattle.fj_units.specs.Names.{stands}
+use Rattle.fj_job.proofs.Settling.{where_ok, lost_then}
+use Rattle.fj_job.proofs.ending.settle.Goals as goal
+
+pub give_back-settled-requires-clause-names : goal.give_back-settled-requires-clause-names
+give_back-settled-requires-clause-names g c = λ t name. c.requires.names t name ∙ ap (λ (k : Core). stands k.names name) (sym c.into_left-left.ensures.core)
+
+pub returns : goal.returns
+returns g c = record {
+  settled = record {
+    deck = ap (λ l. l.deck) c.give_back-settled.ensures.left ∙ c.into_left-left.ensures.deck;
+    core = ap (λ l. l.core) c.give_back-settled.ensures.left ∙ ap (λ (k : Core). record k { names = c.give_back-settled.new.left.core.names }) c.into_left-left.ensures.core;
+    ending = ap (λ l. l.ending) c.give_back-settled.ensures.left ∙ c.into_left-left.ensures.ending;
+    over = ap (λ l. l.over) c.give_back-settled.ensures.left ∙ c.into_left-left.ensures.over;
+    at = ap (λ l. l.at) c.give_back-settled.ensures.left ∙ c.into_left-left.ensures.at;
+    nothing = λ s. sym c.into_left-left.ensures.lost ∙ where_ok _ _ s c.give_back-settled.ensures.nothing;
+    files = λ t s desks h seats.
+        let us = ap (λ k. k.units) c.into_left-left.ensures.core in
+        where_ok _ _ s (c.give_back-settled.ensures.files t) desks h (subst (λ us. AreSeated desks us) (sym us) seats) ∙ ap (λ us. all_left desks us (files_of (g.D.Disk.held c.args.disk.now))) us;
+    sink = λ e. sym c.into_left-left.ensures.lost ∙ c.give_back-settled.ensures.sink e;
+    of_disk = λ e. lost_then c.into_left-left.ensures.lost (c.give_back-settled.ensures.disk e);
+    alone = λ e. subst (λ (o : Option Lost). (o ≡ None) ⊎ (o ≡ Some Disk)) c.into_left-left.ensures.lost (c.give_back-settled.ensures.alone e);
+    in_use = c.give_back-settled.ensures.in_use;
+    telling = c.give_back-settled.ensures.telling;
+    later = c.give_back-settled.ensures.later;
+  };
+}

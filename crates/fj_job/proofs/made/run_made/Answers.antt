@@ -1,0 +1,20 @@
+use Rattle.std.proofs.Common.{inl}
+use Rattle.fj_job.proofs.Executed.{makes}
+use Rattle.fj_job.proofs.Leading.{rose_of}
+use Rattle.fj_job.proofs.ToldLaws.{cause_more}
+use Rattle.fj_job.specs.Reply.{files_in}
+use Rattle.fj_job.proofs.made.run_made.Goals as goal
+
+pub returns-in-Ok-clause-replied : goal.returns-in-Ok-clause-replied
+returns-in-Ok-clause-replied g c = λ files a.
+    let made = c.report_made.ensures.made a in
+    let settled = c.report_made.ensures.settled a in
+    let carried = rw c.in-Ok.is at c.carry_out.ensures.carried in
+    makes c.args.deck c.args.seed c.args.count c.in-Ok.it.left (files_in files) (files_in c.carry_out.new.disk.files) c.new-disk.result.files c.report_made.result
+    (g.W.Sink.tells c.args.out.now) (g.W.Sink.tells c.carry_out.new.out) _ _ _ carried.telling_out.0 carried.deck_is c.new-disk.ensures.files
+    (carried.result_is tt settled made.going) made (λ w. carried.taken_is w (inl settled))
+
+pub returns-in-Ok-clause-cause : goal.returns-in-Ok-clause-cause
+returns-in-Ok-clause-cause g c =
+    let carried = rw c.in-Ok.is at c.carry_out.ensures.carried in
+    cause_more c.report_made.result _ _ _ _ _ _ (λ x. x) (rose_of _ _ _ _ carried.later_out c.report_made.ensures.later carried.sink) (λ x. x) c.report_made.ensures.cause

@@ -1,0 +1,48 @@
+-- A deck that is carried out on its slots.
+use Rattle.std.specs.Prelude.{◌≡◌, ◌^◌, ◌<◌, ℕ, Bool, false, List, [], replicate, length, All, Some, None, is_some, true}
+use Rattle.fj_statement.specs.declared.deck.Deck.{Deck}
+use Rattle.fj_slot.specs.Ledger.{Ledger}
+use Rattle.fj_slot.specs.Serving.{Meaning}
+use Rattle.fj_slot.specs.Sound.{IsSound}
+use Rattle.fj_bay.specs.Bay.{Bay}
+use Rattle.fj_bay.specs.Jobs.{Job, Answer}
+use Rattle.fj_plain.specs.State.{Files}
+use Rattle.fj_plain.specs.Statement.{stated}
+use Rattle.fj_world.specs.Rack.{Rack}
+use Rattle.fj_turns.specs.Run.{Run}
+use Rattle.fj_turns.specs.Meant.{Leaves}
+use Rattle.fj_turns.specs.Serving.{first_run}
+use Rattle.fj_outside.specs.declared.outside.FileStore.{Ghosts}
+use Rattle.fj_runner.specs.Machine.{run_of}
+use Rattle.fj_runner.specs.declared.hand.Hand.TheVariants.{Idle}
+use Rattle.fj_runner.specs.declared.machine.Machine.{Machine}
+
+-- a slot to which no job was given, over a bay with nothing
+pub record IsFresh {E J A : Type 0} (m : Meaning E J A Bay Job Answer) (l : Ledger E J A) : Type 0 where
+  pub jobs : l.jobs ≡ []
+  pub told : l.told ≡ 0
+  pub home : is_some l.home ≡ true
+  pub sound : IsSound m (record { connection = None; halt = None }) [] l
+
+-- sixteen of them
+pub record AreFresh {E J A : Type 0} (m : Meaning E J A Bay Job Answer) (ls : List (Ledger E J A)) : Type 0 where
+  pub each : All (IsFresh m) ls
+  pub sixteen : length ls ≡ 16
+
+-- nothing of the deck was done
+pub record HasNotBegun {F : Type 0} {ghosts : Ghosts F} (told : F → Bool) (bytes : F → List ℕ) (m : Machine F ghosts) : Type 0 where
+  pub run : (files : Files) → run_of told bytes files m ≡ Some (first_run m.deck.variables (stated m.deck.statements) files)
+  pub idle : m.tally.hand ≡ Idle
+  pub going : m.tally.over ≡ false
+  pub running : m.tally.stopped ≡ false
+  pub sound : m.tally.lost ≡ None
+  pub few : m.tally.left < 2 ^ 62
+  pub owed : m.tally.owed.items ≡ replicate 16 0
+  pub names : m.state.core.names ≡ []
+
+-- The machine and the slots are what carrying out the deck over those files leaves.
+pub record HasRun {E J A F : Type 0} {ghosts : Ghosts F} (meaning : Meaning E J A Bay Job Answer) (told : F → Bool) (bytes : F → List ℕ) (deck : Deck) (files left : Files)
+    (m : Machine F ghosts) (rack : Rack E J A) : Type 0 where
+  pub run : Run
+  pub is : run_of told bytes left m ≡ Some run
+  pub leaves : Leaves meaning deck.variables (stated deck.statements) files run rack

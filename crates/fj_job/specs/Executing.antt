@@ -1,0 +1,121 @@
+-- What the steps of carrying out a deck leave: its disk, its sink and what is answered.
+use Rattle.std.specs.Prelude.{◌≡◌, ◌⊎◌, ◌↔◌, ◌≤◌, ◌++◌, ℕ, Bool, false, List, Result, Ok, Err, Some, None, IfOk, IfErr, slice_get}
+use Rattle.std.specs.FinSet as set
+use Rattle.fj_outside.specs.Faults.{Rose}
+use Rattle.fj_outside.specs.Holdings.{Holdings}
+use Rattle.fj_outside.specs.declared.outside.FileStore.{Ghosts}
+use Rattle.fj_statement.specs.declared.deck.Lined.{Lined}
+use Rattle.fj_statement.specs.declared.deck.Deck.{Deck}
+use Rattle.fj_slot.specs.Serving.{Meaning}
+use Rattle.fj_world.specs.Rack.{Rack}
+use Rattle.fj_bay.specs.Bay.{Bay}
+use Rattle.fj_bay.specs.Jobs.{Job, Answer}
+use Rattle.fj_plain.specs.Statement.{plain_execution}
+use Rattle.fj_desk.specs.Desks.{Desk}
+use Rattle.fj_desk.specs.Desking.{all_left}
+use Rattle.fj_turns.specs.Executing.{HoldsDesks}
+use Rattle.fj_items.specs.Handing.{whole_records, open_record, TakesFront}
+use Rattle.fj_pending.specs.Plain.{tells_of}
+use Rattle.fj_items.specs.declared.lost.Lost.TheVariants.{Sink, Disk, Unfit}
+use Rattle.fj_units.specs.Files.{files_of}
+use Rattle.fj_closing.specs.Closing.{AreSeated}
+use Rattle.fj_report.specs.declared.status.Status.{Status}
+use Rattle.fj_report.specs.declared.status.Status.TheVariants.{DiskFault, Memory}
+use Rattle.fj_runner.specs.Machine.{ending_of}
+use Rattle.fj_runner.specs.declared.ending.Ending.{Ending}
+use Rattle.fj_runner.specs.declared.machine.Machine.{Machine}
+use Rattle.fj_job.specs.Answers.{IsAnswer, IsOfRun, HasCause, IfFault}
+use Rattle.fj_job.specs.Cut.{TookPart, TookSome, ToldFault}
+use Rattle.fj_job.specs.Cutting.{IsLeftAt}
+use Rattle.fj_job.specs.Concluding.{HasEnded, IsReplied, IsResult, run_text, fault_text}
+use Rattle.fj_job.specs.declared.ending.Carried.{Carried}
+
+-- Files went back to the disk behind a machine and its slots. What is left is the machine's, but for the names.
+pub record IsSettled {D F E J A : Type 0} {ghosts : Ghosts F} (tells : D → Type 0) (held : D → Holdings) (count : D → ℕ) (meaning : Meaning E J A Bay Job Answer)
+    (m : Machine F ghosts) (rack : Rack E J A) (disk disk' : D) (it : Carried F) : Type 0 where
+  pub deck : it.left.deck ≡ m.deck
+  pub core : it.left.core ≡ record (m.state.core) { names = it.left.core.names }
+  pub ending : it.left.ending ≡ m.state.ending
+  pub over : it.left.over ≡ m.tally.over
+  pub at : it.left.at ≡ m.at
+  pub nothing : it.settled ≡ Ok tt → m.tally.lost ≡ None
+  pub files : tells disk → it.settled ≡ Ok tt → (desks : List Desk) → HoldsDesks meaning rack desks → AreSeated desks m.state.core.units
+      → files_of (held disk') ≡ all_left desks m.state.core.units (files_of (held disk))
+  pub sink : it.settled ≡ Err Sink → m.tally.lost ≡ Some Sink
+  pub of_disk : it.settled ≡ Err Disk → (m.tally.lost ≡ Some Disk) ⊎ Rose (count disk) (count disk')
+  pub alone : it.settled ≡ Err Disk → (m.tally.lost ≡ None) ⊎ (m.tally.lost ≡ Some Disk)
+  pub in_use : tells disk → (it.settled ≡ Err Unfit) ⊎ ((held disk').in_use ≡ set.empty)
+  pub telling : tells disk ↔ tells disk'
+  pub later : count disk ≤ count disk'
+
+-- A deck was carried out, or there was no memory to begin it.
+pub record IsCarriedOut {W D F E : Type 0} (tells_out : W → Type 0) (taken : W → List ℕ) (count_out : W → ℕ) (tells : D → Type 0) (held : D → Holdings) (count : D → ℕ)
+    (deck : Deck) (out : W) (disk : D) (out' : W) (disk' : D) (result : Result (Carried F) E) : Type 0 where
+  pub deck_is : IfOk result (λ it. it.left.deck ≡ deck)
+  pub taken_is : tells_out out → IfOk result (λ it. (it.settled ≡ Ok tt) ⊎ (it.settled ≡ Err Disk) → taken out' ≡ taken out ++ whole_records it.left.core.output)
+  pub result_is : tells disk → IfOk result (λ it. it.settled ≡ Ok tt → it.left.over ≡ false
+      → IsResult (plain_execution deck.variables deck.statements (files_of (held disk))) (files_of (held disk')) it.left)
+  pub at_fault : tells disk → IfOk result (λ it. it.settled ≡ Err Disk → IsLeftAt deck (files_of (held disk)) it.left)
+  pub part : tells disk → tells_out out → IfOk result (λ it. TookSome deck (files_of (held disk)) (taken out) (taken out'))
+  pub sink : IfOk result (λ it. it.settled ≡ Err Sink → Rose (count_out out) (count_out out'))
+  pub of_disk : IfOk result (λ it. it.settled ≡ Err Disk → Rose (count disk) (count disk'))
+  pub in_use : tells disk → IfOk result (λ it. (it.settled ≡ Err Unfit) ⊎ ((held disk').in_use ≡ set.empty))
+  pub unbegun : IfErr result (λ _. (disk' ≡ disk) × (out' ≡ out))
+  pub telling_out : tells_out out ↔ tells_out out'
+  pub telling : tells disk ↔ tells disk'
+  pub later_out : count_out out ≤ count_out out'
+  pub later : count disk ≤ count disk'
+
+-- the fault of the line of the statement at hand, and what the sink took of it
+pub record IsFaultTold {F : Type 0} (trace : Bool) (it : Carried F) (line : ℕ) (Tells : Type 0) (old new : List ℕ) (Failed : Type 0) : Type 0 where
+  pub settled : it.settled ≡ Err Disk
+  pub line_is : (lined : Lined) → slice_get it.left.deck.statements it.left.at ≡ Some lined → line ≡ lined.line
+  pub taken : Tells → (new ≡ old ++ fault_text trace line it.left.core.output (tells_of it.left.core.tells)) ⊎ Failed
+
+-- the sink took a front of the report of a fault
+pub record IsFaultBegun {F : Type 0} (trace : Bool) (it : Carried F) (old new : List ℕ) : Type 0 where
+  pub settled : it.settled ≡ Err Disk
+  pub line : ℕ
+  pub line_is : (lined : Lined) → slice_get it.left.deck.statements it.left.at ≡ Some lined → line ≡ lined.line
+  pub taken : TakesFront old new (fault_text trace line it.left.core.output (tells_of it.left.core.tells))
+
+-- the sink took a front of the report of a deck that ended
+pub record IsEndBegun {F : Type 0} (trace : Bool) (it : Carried F) (old new : List ℕ) : Type 0 where
+  pub settled : it.settled ≡ Ok tt
+  pub going : it.left.over ≡ false
+  pub ending : Ending
+  pub ends : it.left.ending ≡ Some ending
+  pub taken : TakesFront old new (open_record it.left.core.output ++ run_text it.left.deck.variables trace (ending_of ending) it.left.core)
+
+-- what the sink took of a report
+abbrev pub IsFrontTold : {F : Type 0} → Bool → Carried F → List ℕ → List ℕ → Type 0
+IsFrontTold trace it old new = (new ≡ old) ⊎ IsFaultBegun trace it old new ⊎ IsEndBegun trace it old new
+
+-- What was carried out is reported.
+pub record IsConcluded {W F E : Type 0} (tells_out : W → Type 0) (taken : W → List ℕ) (count_out : W → ℕ)
+    (trace : Bool) (carried : Result (Carried F) E) (out out' : W) (status : Status) : Type 0 where
+  pub settled : IsAnswer status → IfOk carried (λ it. it.settled ≡ Ok tt)
+  pub ended : IsAnswer status → IfOk carried (λ it. HasEnded trace it.left status (tells_out out) (taken out) (taken out'))
+  pub begun : IfErr carried (λ _. status ≡ Memory)
+  pub of_run : IsOfRun status
+  pub unfit : IfOk carried (λ it. it.settled ≡ Err Unfit → status ≡ Memory)
+  pub fault : IfOk carried (λ it. (line : ℕ) → status ≡ DiskFault line → IsFaultTold trace it line (tells_out out) (taken out) (taken out') (Rose (count_out out) (count_out out')))
+  pub front : tells_out out → IfOk carried (λ it. IsFrontTold trace it (taken out) (taken out'))
+  pub silent : IfErr carried (λ _. out' ≡ out)
+  pub cause : HasCause ⊥ ((IfOk carried (λ it. it.settled ≡ Err Sink)) ⊎ Rose (count_out out) (count_out out')) (IfOk carried (λ it. it.settled ≡ Err Disk)) status
+  pub telling_out : tells_out out ↔ tells_out out'
+  pub later_out : count_out out ≤ count_out out'
+
+-- A deck was carried out and reported.
+pub record IsExecuted {W D : Type 0} (tells_out : W → Type 0) (taken : W → List ℕ) (count_out : W → ℕ) (tells : D → Type 0) (held : D → Holdings) (count : D → ℕ)
+    (deck : Deck) (trace : Bool) (out : W) (disk : D) (out' : W) (disk' : D) (status : Status) : Type 0 where
+  pub replied : IsAnswer status → tells disk → IsReplied deck trace (held disk).files status (held disk').files (λ output. tells_out out → taken out' ≡ taken out ++ output)
+  pub fault : tells disk → IfFault status (λ line. ToldFault deck trace (files_of (held disk)) line (tells_out out) (taken out) (taken out') (Rose (count_out out) (count_out out')))
+  pub front : tells disk → tells_out out → TookPart deck trace (files_of (held disk)) (taken out) (taken out')
+  pub of_run : IsOfRun status
+  pub cause : HasCause ⊥ (Rose (count_out out) (count_out out')) (Rose (count disk) (count disk')) status
+  pub in_use : tells disk → (status ≡ Memory) ⊎ ((held disk').in_use ≡ set.empty)
+  pub telling_out : tells_out out ↔ tells_out out'
+  pub telling : tells disk ↔ tells disk'
+  pub later_out : count_out out ≤ count_out out'
+  pub later : count disk ≤ count disk'

@@ -1,0 +1,35 @@
+-- How a deck that was made and carried out is summed up, and what is replied.
+use Rattle.std.specs.Prelude.{◌≡◌, ◌++◌, ℕ, false, List, length, Some}
+use Rattle.fj_statement.specs.declared.deck.Deck.{Deck}
+use Rattle.fj_plain.specs.State.{Files}
+use Rattle.fj_plain.specs.Statement.{Ending as PlainEnding, ended}
+use Rattle.fj_pending.specs.Plain.{tells_of}
+use Rattle.fj_report.specs.Lines.{summary_text}
+use Rattle.fj_report.specs.declared.status.Status.{Status}
+use Rattle.fj_items.specs.Handing.{open_record}
+use Rattle.fj_runner.specs.Machine.{ending_of}
+use Rattle.fj_runner.specs.declared.ending.Ending.{Ending}
+use Rattle.fj_runner.specs.declared.left.Left.{Left}
+use Rattle.fj_job.specs.Concluding.{run_text}
+use Rattle.fj_job.specs.Reply.{Reply, IsMadeReply, status_of, summed}
+
+-- the lines behind the output: the summary of a deck that ended, and of any other how it ended and its variables
+abbrev pub made_text : {F : Type 0} → ℕ → ℕ → PlainEnding → Left F → Files → List ℕ
+made_text seed count ended left files = summary_text (summed seed count (length left.deck.statements) (tells_of left.core.tells) files)
+made_text seed count e left files = run_text left.deck.variables false e left.core
+
+-- the deck ended, and the sink took the open record and the lines behind it
+pub record HasMade {F : Type 0} (seed count : ℕ) (left : Left F) (files : Files) (status : Status) (Tells : Type 0) (old new : List ℕ) : Type 0 where
+  pub going : left.over ≡ false
+  pub ending : Ending
+  pub ends : left.ending ≡ Some ending
+  pub status_is : status ≡ status_of (ending_of ending)
+  pub output : Tells → new ≡ old ++ (open_record left.core.output ++ made_text seed count (ending_of ending) left files)
+
+-- the answer is that of the reply to a deck that was made, which leaves the files, and its output was taken
+pub record IsMadeReplied (deck : Deck) (seed count : ℕ) (files : Files) (status : Status) (Taken : List ℕ → Type 0) : Type 0 where
+  pub reply : Reply
+  pub is : IsMadeReply deck seed count files reply
+  pub answer : status ≡ reply.status
+  pub files_left : files ≡ reply.files
+  pub output : Taken reply.output

@@ -1,0 +1,356 @@
+// A deck is carried out on slots, its files go back to the disk, and it is reported.
+ghost use Rattle.std.specs.Prelude.{◌≡◌, ◌≢◌, ◌⊎◌, ◌≤◌, ◌++◌, ◌↔◌, ℕ, [], Some, None, Ok, Err, IfNone, IfOk, IfSome, OnOk, false, length, slice_get, vec_capacity, List};
+ghost use Rattle.std.specs.FinSet as set;
+ghost use Rattle.fj_outside.specs.Faults.{Rose};
+ghost use Rattle.fj_statement.specs.Sound.{IsSound};
+ghost use Rattle.fj_world.specs.Alone.{AllHome};
+ghost use Rattle.fj_bay.specs.Meaning.{bay_meaning};
+ghost use Rattle.fj_desk.specs.Desks.{Desk};
+ghost use Rattle.fj_desk.specs.Desking.{all_left};
+ghost use Rattle.fj_turns.specs.Executing.{HoldsDesks};
+ghost use Rattle.fj_items.specs.Handing.{open_record, TakesFront};
+ghost use Rattle.fj_pending.specs.Plain.{tells_of};
+ghost use Rattle.fj_units.specs.Names.{AreInUse};
+ghost use Rattle.fj_units.specs.Files.{files_of};
+ghost use Rattle.fj_runner.specs.Machine.{ending_of};
+ghost use Rattle.fj_closing.specs.Closing.{AreSeated};
+ghost use Rattle.fj_job.specs.Answers.{IsAnswer, IsLost, IsOfRun, HasCause};
+ghost use Rattle.fj_job.specs.Reply.{status_of};
+ghost use Rattle.fj_job.specs.Concluding.{HasEnded, run_text, fault_text};
+ghost use Rattle.fj_job.specs.Executing.{IsSettled, IsCarriedOut, IsConcluded, IsExecuted, IsFaultTold, IsFrontTold};
+
+use crate::carrying::{carry, carry_with};
+use crate::ready::{Ready, ready_for};
+use crate::report::{fault_report, run_report, status_of};
+use crate::telling::tell_behind;
+use fj_acts::Core;
+use fj_bay::Bay;
+use fj_closing::{Remains, finish};
+use fj_connect::Connection;
+use fj_items::Lost;
+use fj_outside::{Disk, FileStore, Sink};
+use fj_report::Status;
+use fj_runner::{Ending, Left, Machine};
+use fj_statement::{Deck, Lined, Variable};
+use fj_units::Names;
+use fj_world::Slots;
+use std::alloc::{AllocError, Global};
+use std::sync::Wait;
+use std::thread::Threads;
+
+/// Want of memory, else what was lost first.
+fn first_lost(lost: Option<Lost>, closed: Result<(), Lost>) -> Option<Lost>
+    ensures none { IfNone result ((lost ≡ None) × (closed ≡ Ok tt)) }
+    ensures sink { result ≡ Some Lost.Sink → (lost ≡ Some Lost.Sink) ⊎ (closed ≡ Err Lost.Sink) }
+    ensures disk { result ≡ Some Lost.Disk → (lost ≡ Some Lost.Disk) ⊎ (closed ≡ Err Lost.Disk) }
+    ensures alone { result ≡ Some Lost.Disk → (lost ≡ None) ⊎ (lost ≡ Some Lost.Disk) }
+{
+    match closed {
+        Ok(()) => lost,
+        Err(Lost::Memory(error)) => Some(Lost::Memory(error)),
+        Err(other) => match lost {
+            Some(first) => Some(first),
+            None => Some(other),
+        },
+    }
+}
+
+/// The line of the statement at hand; behind the last one, the line of that.
+fn line_at(statements: &[Lined], at: usize) -> u32
+    ensures { (lined : Lined) → slice_get statements.now at ≡ Some lined → result ≡ lined.line }
+{
+    match statements.get(at) {
+        Some(lined) => lined.line,
+        None => match statements.last() {
+            Some(lined) => lined.line,
+            None => 0,
+        },
+    }
+}
+
+/// Reports a deck that ended.
+fn tell_run<W: Sink>(
+    alloc: Global,
+    variables: &[Variable],
+    trace: bool,
+    ending: Ending,
+    core: &mut Core,
+    out: &mut W,
+) -> Status
+    requires { length variables.now ≤ 4096 }
+    ensures status { (result ≡ status_of (ending_of ending)) ⊎ IsLost result }
+    ensures output { IsAnswer result → W.tells out.old
+        → W.taken out.new ≡ W.taken out.old ++ (open_record core.old.output ++ run_text variables.now trace (ending_of ending) core.old) }
+    ensures front { W.tells out.old
+        → TakesFront (W.taken out.old) (W.taken out.new) (open_record core.old.output ++ run_text variables.now trace (ending_of ending) core.old) }
+    ensures cause { HasCause ⊥ (Rose (W.count out.old) (W.count out.new)) ⊥ result }
+    ensures telling { W.tells out.old ↔ W.tells out.new }
+    ensures later { W.count out.old ≤ W.count out.new }
+{
+    match run_report(alloc, variables, trace, ending, core) {
+        Ok(text) => match tell_behind(&mut core.output, text.bytes(), out) {
+            Ok(()) => status_of(ending),
+            Err(lost) => lost,
+        },
+        Err(_) => Status::Memory,
+    }
+}
+
+/// Reports a fault of the disk at a statement. It stays the answer where the sink fails then.
+fn tell_fault<W: Sink>(
+    alloc: Global,
+    line: u32,
+    trace: bool,
+    core: &mut Core,
+    out: &mut W,
+) -> Status
+    ensures status { (result ≡ Status.DiskFault line) ⊎ (result ≡ Status.Memory) }
+    ensures whole { result ≡ Status.DiskFault line → W.tells out.old
+        → (W.taken out.new ≡ W.taken out.old ++ fault_text trace line core.old.output (tells_of core.old.tells)) ⊎ Rose (W.count out.old) (W.count out.new) }
+    ensures front { W.tells out.old → TakesFront (W.taken out.old) (W.taken out.new) (fault_text trace line core.old.output (tells_of core.old.tells)) }
+    ensures telling { W.tells out.old ↔ W.tells out.new }
+    ensures later { W.count out.old ≤ W.count out.new }
+{
+    match fault_report(alloc, trace, line, core) {
+        Ok(text) => match tell_behind(&mut core.output, text.bytes(), out) {
+            Ok(()) | Err(Status::WriteFault) => Status::DiskFault { stmt: line },
+            Err(_) => Status::Memory,
+        },
+        Err(_) => Status::Memory,
+    }
+}
+
+/// How a run ended; none where it was given up or told a stop.
+pub fn ending_of<F: FileStore>(left: &Left<F>) -> Option<Ending>
+    ensures { IfSome result (λ ending. (left.now.over ≡ false) × (left.now.ending ≡ Some ending)) }
+{
+    if left.over { None } else { left.ending }
+}
+
+/// The line of a fault of the disk in a run.
+fn line_of<F: FileStore>(left: &Left<F>) -> u32
+    ensures { (lined : Lined) → slice_get left.now.deck.statements left.now.at ≡ Some lined → result ≡ lined.line }
+{
+    line_at(left.deck.statements.as_slice(), left.at)
+}
+
+/// Gives a connection back whose job was refused. A run that has one was given up.
+fn give_kept<D: Disk>(
+    kept: Option<Connection<D::File>>,
+    names: &mut Names,
+    disk: &mut D,
+) -> Result<(), Lost>
+    requires names { D.tells disk.old → AreInUse names.old (D.held disk.old).in_use }
+    ensures names { D.tells disk.old → AreInUse names.new (D.held disk.new).in_use }
+    ensures none { OnOk result (disk.new ≡ disk.old) }
+    ensures sink { result ≢ Err Lost.Sink }
+    ensures disk { result ≡ Err Lost.Disk → Rose (D.count disk.old) (D.count disk.new) }
+    ensures telling { D.tells disk.old ↔ D.tells disk.new }
+    ensures later { D.count disk.old ≤ D.count disk.new }
+{
+    let Some(connection) = kept else {
+        return Ok(());
+    };
+    if !names.holds(connection.name()) {
+        return Err(Lost::Unfit);
+    }
+    names.remove(connection.name());
+    match connection.close_file(disk, true) {
+        Ok(()) => Err(Lost::Unfit),
+        Err(_) => Err(Lost::Disk),
+    }
+}
+
+/// Gives the files of a run back, and answers what was lost first. Where a name would stay in use the run does not fit: it is
+/// not known, as what it lost is not.
+fn give_back<D: Disk>(
+    left: &mut Left<D::File>,
+    slots: Slots<Bay<D::File>>,
+    room: Vec<Remains<D::File>>,
+    disk: &mut D,
+) -> Result<(), Lost>
+    requires home { AllHome slots }
+    requires empty { room.items ≡ [] }
+    requires room { length slots.slots ≤ vec_capacity room }
+    requires names { D.tells disk.old → AreInUse left.old.core.names (D.held disk.old).in_use }
+    ensures left { left.new ≡ record left.old { core = record (left.old.core) { names = left.new.core.names }; kept = None } }
+    ensures nothing { OnOk result (left.old.lost ≡ None) }
+    ensures files { D.tells disk.old → OnOk result ((desks : List Desk) → HoldsDesks (bay_meaning D.File.told D.File.bytes D.File.count) slots desks
+        → AreSeated desks left.old.core.units → files_of (D.held disk.new) ≡ all_left desks left.old.core.units (files_of (D.held disk.old))) }
+    ensures sink { result ≡ Err Lost.Sink → left.old.lost ≡ Some Lost.Sink }
+    ensures disk { result ≡ Err Lost.Disk → (left.old.lost ≡ Some Lost.Disk) ⊎ Rose (D.count disk.old) (D.count disk.new) }
+    ensures alone { result ≡ Err Lost.Disk → (left.old.lost ≡ None) ⊎ (left.old.lost ≡ Some Lost.Disk) }
+    ensures in_use { D.tells disk.old → (result ≡ Err Lost.Unfit) ⊎ ((D.held disk.new).in_use ≡ set.empty) }
+    ensures telling { D.tells disk.old ↔ D.tells disk.new }
+    ensures later { D.count disk.old ≤ D.count disk.new }
+{
+    let lost = left.lost;
+    let kept = left.kept.take();
+    let core = &mut left.core;
+    let closed = finish(&core.units, slots, room, &mut core.names, disk);
+    let given = give_kept(kept, &mut core.names, disk);
+    if !core.names.is_empty() {
+        return Err(Lost::Unfit);
+    }
+    match first_lost(first_lost(lost, closed), given) {
+        Some(lost) => Err(lost),
+        None => Ok(()),
+    }
+}
+
+/// What a run left, and what was lost first, if anything was.
+#[derive(Drop)]
+pub struct Carried<F: FileStore> {
+    pub left: Left<F>,
+    pub settled: Result<(), Lost>,
+}
+
+/// What is left of a deck that was carried out, once its files went back.
+fn settle<D: Disk>(
+    machine: Machine<D::File>,
+    slots: Slots<Bay<D::File>>,
+    room: Vec<Remains<D::File>>,
+    disk: &mut D,
+) -> Carried<D::File>
+    requires home { AllHome slots }
+    requires empty { room.items ≡ [] }
+    requires room { length slots.slots ≤ vec_capacity room }
+    requires names { D.tells disk.old → AreInUse machine.state.core.names (D.held disk.old).in_use }
+    ensures settled { IsSettled D.tells D.held D.count (bay_meaning D.File.told D.File.bytes D.File.count) machine slots disk.old disk.new result }
+{
+    let mut left = machine.into_left();
+    let settled = give_back(&mut left, slots, room, disk);
+    Carried { left, settled }
+}
+
+/// Carries out a deck on slots of its own, on the calling thread, and gives the files back.
+pub fn carry_out<W: Sink, D: Disk>(
+    alloc: Global,
+    deck: Deck,
+    out: &mut W,
+    disk: &mut D,
+) -> Result<Carried<D::File>, AllocError>
+    requires sound { IsSound deck }
+    requires free { D.tells disk.old → (D.held disk.old).in_use ≡ set.empty }
+    ensures carried { IsCarriedOut W.tells W.taken W.count D.tells D.held D.count deck out.old disk.old out.new disk.new result }
+{
+    let Ready {
+        machine,
+        slots,
+        room,
+    } = ready_for::<D::File>(alloc, deck)?;
+    let (mut machine, mut slots) = (machine, slots);
+    carry(alloc, &mut machine, &mut slots, out, disk);
+    Ok(settle(machine, slots, room, disk))
+}
+
+/// The same with so many threads besides.
+fn carry_out_with<Rt: Threads + Wait + Sync, W: Sink + Send, D: Disk + Send>(
+    rt: &Rt,
+    alloc: Global,
+    workers: u32,
+    deck: Deck,
+    out: &mut W,
+    disk: &mut D,
+) -> Result<Carried<D::File>, AllocError>
+where
+    D::File: Send,
+    requires sound { IsSound deck }
+    requires free { D.tells disk.old → (D.held disk.old).in_use ≡ set.empty }
+    ensures carried { IsCarriedOut W.tells W.taken W.count D.tells D.held D.count deck out.old disk.old out.new disk.new result }
+{
+    let Ready {
+        machine,
+        slots,
+        room,
+    } = ready_for::<D::File>(alloc, deck)?;
+    let (mut machine, mut slots) = (machine, slots);
+    carry_with(rt, alloc, workers, &mut machine, &mut slots, out, disk);
+    Ok(settle(machine, slots, room, disk))
+}
+
+/// Reports a run.
+fn report<F: FileStore, W: Sink>(alloc: Global, trace: bool, it: Carried<F>, out: &mut W) -> Status
+    requires { length it.left.deck.variables ≤ 4096 }
+    ensures settled { IsAnswer result → it.settled ≡ Ok tt }
+    ensures ended { IsAnswer result → HasEnded trace it.left result (W.tells out.old) (W.taken out.old) (W.taken out.new) }
+    ensures of_run { IsOfRun result }
+    ensures unfit { it.settled ≡ Err Lost.Unfit → result ≡ Status.Memory }
+    ensures fault { (line : ℕ) → result ≡ Status.DiskFault line
+        → IsFaultTold trace it line (W.tells out.old) (W.taken out.old) (W.taken out.new) (Rose (W.count out.old) (W.count out.new)) }
+    ensures front { W.tells out.old → IsFrontTold trace it (W.taken out.old) (W.taken out.new) }
+    ensures cause { HasCause ⊥ ((it.settled ≡ Err Lost.Sink) ⊎ Rose (W.count out.old) (W.count out.new)) (it.settled ≡ Err Lost.Disk) result }
+    ensures telling { W.tells out.old ↔ W.tells out.new }
+    ensures later { W.count out.old ≤ W.count out.new }
+{
+    let Carried { left, settled } = it;
+    let mut left = left;
+    match settled {
+        Err(Lost::Sink) => Status::WriteFault,
+        Err(Lost::Disk) => tell_fault(alloc, line_of(&left), trace, &mut left.core, out),
+        Err(Lost::Memory(_) | Lost::Unfit) => Status::Memory,
+        Ok(()) => match ending_of(&left) {
+            Some(ending) => tell_run(
+                alloc,
+                left.deck.variables.as_slice(),
+                trace,
+                ending,
+                &mut left.core,
+                out,
+            ),
+            None => Status::Memory,
+        },
+    }
+}
+
+/// Reports a run, if there was memory to begin it.
+fn conclude<F: FileStore, W: Sink>(
+    alloc: Global,
+    trace: bool,
+    carried: Result<Carried<F>, AllocError>,
+    out: &mut W,
+) -> Status
+    requires { IfOk carried (λ it. length it.left.deck.variables ≤ 4096) }
+    ensures concluded { IsConcluded W.tells W.taken W.count trace carried out.old out.new result }
+{
+    match carried {
+        Ok(it) => report(alloc, trace, it, out),
+        Err(_) => Status::Memory,
+    }
+}
+
+/// Carries out a deck on the calling thread, and reports.
+pub fn execute<W: Sink, D: Disk>(
+    alloc: Global,
+    deck: Deck,
+    trace: bool,
+    out: &mut W,
+    disk: &mut D,
+) -> Status
+    requires sound { IsSound deck }
+    requires free { D.tells disk.old → (D.held disk.old).in_use ≡ set.empty }
+    ensures executed { IsExecuted W.tells W.taken W.count D.tells D.held D.count deck trace out.old disk.old out.new disk.new result }
+{
+    let carried = carry_out(alloc, deck, out, disk);
+    conclude(alloc, trace, carried, out)
+}
+
+/// The same with so many threads besides.
+pub fn execute_with<Rt: Threads + Wait + Sync, W: Sink + Send, D: Disk + Send>(
+    rt: &Rt,
+    alloc: Global,
+    workers: u32,
+    deck: Deck,
+    trace: bool,
+    out: &mut W,
+    disk: &mut D,
+) -> Status
+where
+    D::File: Send,
+    requires sound { IsSound deck }
+    requires free { D.tells disk.old → (D.held disk.old).in_use ≡ set.empty }
+    ensures executed { IsExecuted W.tells W.taken W.count D.tells D.held D.count deck trace out.old disk.old out.new disk.new result }
+{
+    let carried = carry_out_with(rt, alloc, workers, deck, out, disk);
+    conclude(alloc, trace, carried, out)
+}
