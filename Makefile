@@ -1,15 +1,16 @@
-# build: proves what changed and leaves the program as ./fjob, also while an older one runs
+# build: proves what changed, with a line for each crate as it begins, and leaves the program as ./fjob, also while an older one runs
 # install: puts the program, and nothing else, into PREFIX/bin
 # example: runs the deck of examples/first in a folder of its own
 # test: the gate
 # bench: the benchmarks, beside gfortran where it is on the machine
-# checks: what no gate asks for: refused allocations, random statements beside gfortran, and the lines of docs/DECKS.md
+# checks: what no gate asks for: refused allocations, failing calls, many runs with workers, random statements beside gfortran, the
+# lines of docs/DECKS.md, worked decks, and the modules of docs/DEFINITIONS.md
 .PHONY: build install example examples test bench checks
 
 PREFIX ?= /usr/local
 
 build:
-	(cd crates/fjob && rt run -- check </dev/null >/dev/null) || test $$? -eq 4
+	tools/build fjob 4 check
 	cp crates/fjob/out/fjob fjob.new
 	mv -f fjob.new fjob
 
@@ -26,12 +27,16 @@ test:
 	rt ci
 
 bench: build
-	(cd crates/fj_bench && rt run >/dev/null) || test $$? -eq 1
+	tools/build fj_bench 1
 	bench/run
 
 checks: build
 	checks/memory
+	checks/faults
+	checks/soak
 	checks/formats
 	checks/reads
 	checks/groups
 	checks/decks
+	checks/definitions
+	checks/worked

@@ -1,4 +1,4 @@
-/* Loaded before the C library: the allocation of the number REFUSE, counted from 1, is refused, and the file COUNT gets how many were
+/* Loaded before the C library: the allocation of the number AT, counted from 1, is refused, and the file COUNT gets how many were
    asked for. */
 #define _GNU_SOURCE
 #include <dlfcn.h>
@@ -7,15 +7,15 @@
 #include <stdlib.h>
 
 static long asked = 0;
+static long refused = 0;
+
+__attribute__((constructor)) static void begin(void) {
+  const char *number = getenv("AT");
+  refused = number ? atol(number) : 0;
+}
 
 static int is_refused(void) {
-  static long refused = -1;
-  if (refused < 0) {
-    const char *number = getenv("REFUSE");
-    refused = number ? atol(number) : 0;
-  }
-  asked++;
-  if (asked != refused) return 0;
+  if (__atomic_add_fetch(&asked, 1, __ATOMIC_SEQ_CST) != refused) return 0;
   errno = ENOMEM;
   return 1;
 }
@@ -46,8 +46,9 @@ int posix_memalign(void **out, size_t alignment, size_t size) {
 
 __attribute__((destructor)) static void tell(void) {
   const char *path = getenv("COUNT");
+  long number = asked;
   FILE *file = path ? fopen(path, "w") : NULL;
   if (!file) return;
-  fprintf(file, "%ld\n", asked);
+  fprintf(file, "%ld\n", number);
   fclose(file);
 }
