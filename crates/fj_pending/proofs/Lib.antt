@@ -3,6 +3,7 @@ pub mod Finding
 pub mod Parting
 pub mod Pushing
 pub mod Waited
+pub mod Idle
 pub mod Tying
 pub mod Answering
 pub mod Giving

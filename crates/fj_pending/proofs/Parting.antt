@@ -2,6 +2,7 @@
 use Rattle.std.proofs.Common.{◌≡◌, ◌<◌, ◌≤◌, cond, not, Bool, true, false, List, [], ◌∷◌, ◌++◌, length, refl, sym, ap, subst, ◌∙◌, arith}
 use Rattle.std.specs.Prelude.{filter}
 use Rattle.std.proofs.lemmas.List.Filters.{length-filter_both}
+use Rattle.fj_plain.proofs.Lists.{no_longer}
 
 module _ {X : Type 0} (p : X → Bool) where
   longer : (done : List X) (x : X) (more : List X) → length done < length (done ++ x ∷ more)
@@ -23,3 +24,13 @@ module _ {X : Type 0} (p : X → Bool) where
           → ([] ≡ cond b (x ∷ filter p xs) (filter p xs)) × (x ∷ xs ≡ cond (not b) (x ∷ filter (λ y. not (p y)) xs) (filter (λ y. not (p y)) xs))
       by true next e = absurd (omega (arith, e))
       by false next e = ((next e).0, ap (λ l. x ∷ l) (next e).1)
+
+  -- where all pass
+  pub all_part : (xs : List X) → length (filter p xs) ≡ length xs → (xs ≡ filter p xs) × ([] ≡ filter (λ x. not (p x)) xs)
+  all_part [] e = (refl, refl)
+  all_part (x ∷ xs) e = by (p x) (all_part xs) e
+    where
+      by : (b : Bool) → (length (filter p xs) ≡ length xs → (xs ≡ filter p xs) × ([] ≡ filter (λ y. not (p y)) xs)) → length (cond b (x ∷ filter p xs) (filter p xs)) ≡ length (x ∷ xs)
+          → (x ∷ xs ≡ cond b (x ∷ filter p xs) (filter p xs)) × ([] ≡ cond (not b) (x ∷ filter (λ y. not (p y)) xs) (filter (λ y. not (p y)) xs))
+      by true next e = let two = next (omega (arith, e)) in (ap (λ l. x ∷ l) two.0, two.1)
+      by false next e = absurd (omega (arith, e, no_longer p xs))

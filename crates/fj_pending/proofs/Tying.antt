@@ -20,10 +20,14 @@ use Rattle.fj_book.specs.Prohibitions.{Need, is_read, is_held, has_id, names_pen
 use Rattle.fj_plain.proofs.Lists.{any_same}
 use Rattle.fj_pending.specs.declared.held.Held.{Held}
 use Rattle.fj_pending.specs.declared.mark.Mark.{Mark}
+use Rattle.fj_pending.specs.declared.pick.Pick.{Pick}
+use Rattle.fj_pending.specs.Busy.{with_unit, without_told}
 use Rattle.fj_pending.specs.Plain.{holders}
 use Rattle.fj_pending.specs.Taking.{without}
-use Rattle.fj_pending.specs.Tied.{IsMarked, IsSame, AreSame, IsTied, mark_at, no_mark, entered_marks}
+use Rattle.fj_pending.specs.Tied.{IsAscending, IsMarked, IsSame, AreSame, IsTied, mark_at, no_mark, entered_marks}
+use Rattle.fj_pending.specs.Waits.{picks}
 use Rattle.fj_pending.proofs.Waited.{among_chosen}
+use Rattle.fj_pending.proofs.Idle.{busy_entered, busy_left}
 
 -- ---- the book prohibits what the transfers prohibit
 
@@ -129,9 +133,9 @@ remarked marks slot m h old new = elim (eqb_tells h.slot slot) [
 all_one : {X : Type 0} (P : X → Type 0) (x : X) → P x → All P (x ∷ [])
 all_one P x h = All-cons P x [] h (All-nil P)
 
-pub entered_is : (hs : List Held) (es : List Pending) (marks : List Mark) (h : Held) (e : Pending) → IsTied hs es marks → h.answer ≡ None → IsSame e h → h.slot < length marks
-    → All (λ (x : Held). x.tag.0 < h.tag.0) hs → (mark_at marks h.slot).next ≤ h.number → IsTied (hs ++ h ∷ []) (es ++ e ∷ []) (entered_marks marks h)
-entered_is hs es marks h e t none this low above from =
+pub entered_is : (hs : List Held) (es : List Pending) (marks : List Mark) (units : List ℕ) (h : Held) (e : Pending) → IsTied hs es marks units → h.answer ≡ None → IsSame e h → h.slot < length marks
+    → All (λ (x : Held). x.tag.0 < h.tag.0) hs → (mark_at marks h.slot).next ≤ h.number → IsTied (hs ++ h ∷ []) (es ++ e ∷ []) (entered_marks marks h) (with_unit units h.unit)
+entered_is hs es marks units h e t none this low above from =
     let m : Mark = record { passed = min (mark_at marks h.slot).passed h.tag.0; reached = (mark_at marks h.slot).reached; next = h.number + 1 } in
     let unanswered : is_some h.answer ≡ false = ap is_some none in
     record {
@@ -142,6 +146,7 @@ entered_is hs es marks h e t none this low above from =
       marked = All-append (IsMarked (entered_marks marks h)) hs (h ∷ [])
           (All-weaker (IsMarked marks) (IsMarked (set marks h.slot m)) (λ x k. remarked marks h.slot m x k (λ here. before x k here m refl)) hs t.marked)
           (all_one (IsMarked (set marks h.slot m)) h (fresh m unanswered refl));
+      busy = busy_entered units hs h t.busy;
     }
   where
     before : (x : Held) → IsMarked marks x → x.slot ≡ h.slot → (m : Mark) → m ≡ record { passed = min (mark_at marks h.slot).passed h.tag.0; reached = (mark_at marks h.slot).reached; next = h.number + 1 }
@@ -167,8 +172,9 @@ entered_is hs es marks h e t none this low above from =
           next = subst (λ (y : Mark). h.number < y.next) (sym here) (let n : h.number < m.next = omega arith in n);
         }
 
-pub tied_as : (hs hs' : List Held) (es es' : List Pending) (ms ms' : List Mark) → hs' ≡ hs → es' ≡ es → ms' ≡ ms → IsTied hs es ms → IsTied hs' es' ms'
-tied_as hs hs' es es' ms ms' a b m t = subst (λ l. IsTied l es' ms') (sym a) (subst (λ l. IsTied hs l ms') (sym b) (subst (IsTied hs es) (sym m) t))
+pub tied_as : (hs hs' : List Held) (es es' : List Pending) (ms ms' : List Mark) (us us' : List ℕ) → hs' ≡ hs → es' ≡ es → ms' ≡ ms → us' ≡ us → IsTied hs es ms us → IsTied hs' es' ms' us'
+tied_as hs hs' es es' ms ms' us us' a b m u t =
+    subst (λ l. IsTied l es' ms' us') (sym a) (subst (λ l. IsTied hs l ms' us') (sym b) (subst (λ l. IsTied hs es l us') (sym m) (subst (IsTied hs es ms) (sym u) t)))
 
 -- ---- taken off
 
@@ -216,14 +222,20 @@ without_is (h ∷ told) es = without_is told (filter (λ e. not (has_tag h.tag.0
         turn false true k rest = (let never : false ≡ true = k in cc)
         turn false false k rest = ap (λ l. if not (list_any (λ (y : Held). y.tag.0 == tag_of x) told) then x ∷ l else l) rest
 
-pub taken_is : (q : Held → Bool) (hs : List Held) (es : List Pending) (marks : List Mark) → IsTied hs es marks → IsTied (filter (λ h. not (q h)) hs) (without (filter q hs) es) marks
-taken_is q hs es marks t = record {
-  ascending = AllPairs-filter (λ (a b : Held). a.tag.0 < b.tag.0) (λ h. not (q h)) hs t.ascending;
-  rising = AllPairs-filter (λ (a b : Held). a.slot ≡ b.slot → a.number < b.number) (λ h. not (q h)) hs t.rising;
-  same = subst (λ l. AreSame l (filter (λ h. not (q h)) hs)) (sym (without_is (filter q hs) es))
-      (same_filter (λ (e : Pending). not (list_any (λ (h : Held). h.tag.0 == tag_of e) (filter q hs))) (λ h. not (q h)) es hs t.same
-      (All-weaker (λ (h : Held). list_any (λ (x : Held). x.tag.0 == h.tag.0) (filter q hs) ≡ q h)
-      (λ (h : Held). (e : Pending) → tag_of e ≡ h.tag.0 → not (list_any (λ (x : Held). x.tag.0 == tag_of e) (filter q hs)) ≡ not (q h))
-      (λ h k e same. ap (λ n. not (list_any (λ (x : Held). x.tag.0 == n) (filter q hs))) same ∙ ap not k) hs (among_chosen q hs t.ascending)));
-  marked = All-filter (λ h. not (q h)) (IsMarked marks) hs t.marked;
+taken_same : (q : Held → Bool) (hs : List Held) (es : List Pending) → IsAscending hs → AreSame es hs → AreSame (without (filter q hs) es) (filter (λ h. not (q h)) hs)
+taken_same q hs es up s =
+    subst (λ l. AreSame l (filter (λ h. not (q h)) hs)) (sym (without_is (filter q hs) es))
+    (same_filter (λ (e : Pending). not (list_any (λ (h : Held). h.tag.0 == tag_of e) (filter q hs))) (λ h. not (q h)) es hs s
+    (All-weaker (λ (h : Held). list_any (λ (x : Held). x.tag.0 == h.tag.0) (filter q hs) ≡ q h)
+    (λ (h : Held). (e : Pending) → tag_of e ≡ h.tag.0 → not (list_any (λ (x : Held). x.tag.0 == tag_of e) (filter q hs)) ≡ not (q h))
+    (λ h k e same. ap (λ n. not (list_any (λ (x : Held). x.tag.0 == n) (filter q hs))) same ∙ ap not k) hs (among_chosen q hs up)))
+
+pub taken_is : (p : Pick) (hs : List Held) (es : List Pending) (marks : List Mark) (units : List ℕ) → IsTied hs es marks units
+    → IsTied (filter (λ h. not (picks p h)) hs) (without (filter (picks p) hs) es) marks (without_told p units)
+taken_is p hs es marks units t = record {
+  ascending = AllPairs-filter (λ (a b : Held). a.tag.0 < b.tag.0) (λ h. not (picks p h)) hs t.ascending;
+  rising = AllPairs-filter (λ (a b : Held). a.slot ≡ b.slot → a.number < b.number) (λ h. not (picks p h)) hs t.rising;
+  same = taken_same (picks p) hs es t.ascending t.same;
+  marked = All-filter (λ h. not (picks p h)) (IsMarked marks) hs t.marked;
+  busy = busy_left p units hs t.busy;
 }

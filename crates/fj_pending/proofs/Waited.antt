@@ -265,7 +265,7 @@ passes_first hs es (Some r) some = ap (λ n. unsettled es (take n hs)) some
 
 -- ---- the one of an identifier without an answer
 
-find_filter : {X : Type 0} (p q : X → Bool) (xs : List X) → find (λ x. p x && q x) xs ≡ find q (filter p xs)
+pub find_filter : {X : Type 0} (p q : X → Bool) (xs : List X) → find (λ x. p x && q x) xs ≡ find q (filter p xs)
 find_filter p q [] = refl
 find_filter p q (x ∷ xs) = by (p x) (find_filter p q xs)
   where

@@ -1,6 +1,7 @@
 pub mod Plain
 pub mod Waits
 pub mod Asks
+pub mod Busy
 pub mod Tied
 pub mod Parts
 pub mod Answers

@@ -5,6 +5,7 @@ use Rattle.fj_store.specs.Places.{is_among, places_in}
 use Rattle.fj_book.specs.declared.pending.Pending.{Pending}
 use Rattle.fj_pending.specs.declared.held.Held.{Held}
 use Rattle.fj_pending.specs.declared.mark.Mark.{Mark}
+use Rattle.fj_pending.specs.Busy.{AreBusy}
 
 abbrev pub IsAscending : List Held → Type 0
 IsAscending hs = AllPairs (λ (a b : Held). a.tag.0 < b.tag.0) hs
@@ -45,8 +46,9 @@ AreSame [] [] = Unit {0}
 AreSame (e ∷ es) (h ∷ hs) = IsSame e h × AreSame es hs
 AreSame es hs = ⊥
 
-pub record IsTied (hs : List Held) (book : List Pending) (marks : List Mark) : Type 0 where
+pub record IsTied (hs : List Held) (book : List Pending) (marks : List Mark) (units : List ℕ) : Type 0 where
   pub ascending : IsAscending hs
   pub rising : IsRising hs
   pub same : AreSame book hs
   pub marked : All (IsMarked marks) hs
+  pub busy : AreBusy units hs

@@ -3,6 +3,7 @@
 #![tactic(auto)]
 
 mod answers;
+mod busy;
 mod deliver;
 mod held;
 mod lost;

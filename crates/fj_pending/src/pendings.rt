@@ -11,10 +11,12 @@ ghost use Rattle.fj_plain.specs.Telling.{condition_of, tells_id, tells_cause, wi
 ghost use Rattle.fj_plain.specs.Telling as telling;
 ghost use Rattle.fj_turns.specs.Turns.{is_at, unsettled, with_answer};
 ghost use Rattle.fj_pending.specs.Plain.{held, entries, holders, outcome_of, tells_of};
+ghost use Rattle.fj_pending.specs.Busy.{AreBusy};
 ghost use Rattle.fj_pending.specs.Tied.{IsAscending, mark_at, entered_marks, answered_marks};
 ghost use Rattle.fj_pending.specs.Waits.{waited_of, IsPassed, is_due, is_cause};
 
 use crate::answers::{mark_at, pass, put_answer, put_mark, seek};
+use crate::busy::{add_unit, forget, is_busy};
 use crate::deliver::deliver;
 use crate::held::{Held, Told};
 use crate::lost::Lost;
@@ -42,6 +44,8 @@ pub struct Pendings {
     book: Book,
     /// By slot.
     marks: Vec<Mark>,
+    /// The units that may have transfers.
+    busy: Vec<u32>,
 }
 
 impl Model for Pendings {
@@ -58,7 +62,7 @@ impl Model for Pendings {
 
     ghost view = { λ p. p.helds.items };
 
-    ghost invariant = { λ p. IsTied p.helds.items p.book p.marks.items };
+    ghost invariant = { λ p. IsTied p.helds.items p.book p.marks.items p.busy.items };
 }
 
 /// The slot of the first transfer that is waited for and has no answer, where none stands before the place, and where it stands.
@@ -73,6 +77,18 @@ fn next_due(helds: &VecDeque<Held>, pick: Pick, from: usize) -> Option<(usize, u
         }
     }
     None
+}
+
+/// The same of the transfers of a unit, without a look where it can have none.
+fn unit_due(helds: &VecDeque<Held>, busy: &Vec<u32>, unit: u32, from: usize) -> Option<(usize, u32)>
+    requires { AreBusy busy.now.items helds.now.items }
+    ensures slot { find (is_due (Pick.OfUnit unit)) (take from helds.now.items) ≡ None → option_map (λ r. r.1) result ≡ option_map (λ h. h.slot) (find (is_due (Pick.OfUnit unit)) helds.now.items) }
+    ensures passed { find (is_due (Pick.OfUnit unit)) (take from helds.now.items) ≡ None → IfSome result (λ r. find (is_due (Pick.OfUnit unit)) (take r.0 helds.now.items) ≡ None) }
+{
+    if !is_busy(busy, unit) {
+        return None;
+    }
+    next_due(helds, Pick::OfUnit(unit), from)
 }
 
 /// The slot of the transfer of an identifier, where it has no answer.
@@ -92,20 +108,37 @@ fn one_due(helds: &VecDeque<Held>, id: u32) -> Option<(usize, u32)>
 }
 
 /// The slot of the first transfer without an answer among those that are waited for, and a place from which to look on.
-fn unsettled_in(helds: &VecDeque<Held>, whose: Whose, from: usize) -> Option<(usize, u32)>
-    requires { IsAscending helds.now.items }
+fn unsettled_in(
+    helds: &VecDeque<Held>,
+    busy: &Vec<u32>,
+    whose: Whose,
+    from: usize,
+) -> Option<(usize, u32)>
+    requires ascending { IsAscending helds.now.items }
+    requires busy { AreBusy busy.now.items helds.now.items }
     ensures slot { IsPassed whose (held helds.now.items) from → option_map (λ r. r.1) result ≡ unsettled (waited_of whose (entries helds.now.items)) (held helds.now.items) }
     ensures passed { IsPassed whose (held helds.now.items) from → IfSome result (λ r. IsPassed whose (held helds.now.items) r.0) }
 {
     match picked(helds, whose) {
         Pick::None => None,
-        Pick::OfUnit(unit) => next_due(helds, Pick::OfUnit(unit), from),
+        Pick::OfUnit(unit) => unit_due(helds, busy, unit, from),
         Pick::One(id) => one_due(helds, id),
         Pick::All => next_due(helds, Pick::All, from),
     }
 }
 
-/// Whether one that is waited for halted the unit.
+/// Whether the transfer of an identifier is of the unit and halted it.
+fn one_causes(helds: &VecDeque<Held>, id: u32, unit: u32) -> bool
+    requires { IsAscending helds.now.items }
+    ensures { result ≡ list_any (is_cause (Pick.One id) unit) helds.now.items }
+{
+    match place_of(helds, u64::from(id)) {
+        Some(at) => causes(Pick::One(id), unit, &helds[at]),
+        None => false,
+    }
+}
+
+/// Whether one that is waited for halted the unit, by looking at each.
 fn any_causes(helds: &VecDeque<Held>, pick: Pick, unit: u32) -> bool
     ensures { result ≡ list_any (is_cause pick unit) helds.now.items }
 {
@@ -115,6 +148,29 @@ fn any_causes(helds: &VecDeque<Held>, pick: Pick, unit: u32) -> bool
         }
     }
     false
+}
+
+/// Whether one that is waited for halted the unit: transfers of other units are not looked at where those of one are waited for, nor
+/// any where the unit can have none.
+fn ends_in(helds: &VecDeque<Held>, busy: &Vec<u32>, pick: Pick, unit: u32) -> bool
+    requires ascending { IsAscending helds.now.items }
+    requires busy { AreBusy busy.now.items helds.now.items }
+    ensures { result ≡ list_any (is_cause pick unit) helds.now.items }
+{
+    match pick {
+        Pick::None => return false,
+        Pick::OfUnit(told) => {
+            if told != unit {
+                return false;
+            }
+        }
+        Pick::One(id) => return one_causes(helds, id, unit),
+        Pick::All => {}
+    }
+    if !is_busy(busy, unit) {
+        return false;
+    }
+    any_causes(helds, pick, unit)
 }
 
 /// Whether the transfer that stands behind all others may come.
@@ -188,6 +244,7 @@ impl Pendings {
             helds: VecDeque::new(alloc),
             book,
             marks,
+            busy: Vec::new(alloc),
         })
     }
 
@@ -212,6 +269,7 @@ impl Pendings {
             return Err(Lost::Unfit);
         }
         self.helds.reserve(1)?;
+        self.busy.reserve(1)?;
         self.book.enter(Pending {
             tag: entered.tag,
             unit: entered.unit,
@@ -220,6 +278,7 @@ impl Pendings {
             number: entered.number,
         })?;
         mark_entered(&mut self.marks, &entered);
+        add_unit(&mut self.busy, entered.unit);
         self.helds.push_back_reserved(entered);
         Ok(())
     }
@@ -253,7 +312,7 @@ impl Pendings {
         ensures slot { IsPassed whose (held self.now) from → option_map (λ r. r.1) result ≡ unsettled (waited_of whose (entries self.now)) (held self.now) }
         ensures passed { IsPassed whose (held self.now) from → IfSome result (λ r. IsPassed whose (held self.now) r.0) }
     {
-        unsettled_in(&self.helds, whose, from)
+        unsettled_in(&self.helds, &self.busy, whose, from)
     }
 
     /// Whether telling the transfers that are waited for ends the halt of a unit.
@@ -261,7 +320,7 @@ impl Pendings {
         ensures { result ≡ tells_cause (waited_of whose (entries self.now)) unit }
     {
         let pick = picked(&self.helds, whose);
-        any_causes(&self.helds, pick, unit)
+        ends_in(&self.helds, &self.busy, pick, unit)
     }
 
     /// Tells the transfers that are waited for, at a line: items and SIZE= of inputs become defined, the transfers are pending no
@@ -283,8 +342,9 @@ impl Pendings {
         ensures tells { OnOk result (tells_of tells.new ≡ tells_of tells.old ++ map (telling.tell_of line) (waited_of whose (entries self.old))) }
     {
         let pick = picked(&self.helds, whose);
-        let told = take_picked(alloc, &mut self.helds, pick)?;
+        let told = take_picked(alloc, &mut self.helds, &self.busy, pick)?;
         leave(&mut self.book, &told);
+        forget(&mut self.busy, pick);
         deliver(told, line, variables, store, tells)
     }
 

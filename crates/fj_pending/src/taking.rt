@@ -2,10 +2,12 @@
 ghost use Rattle.std.specs.Prelude.{◌≡◌, ◌≤◌, [], not, filter, length, IfOk, OnOk, OnErr};
 ghost use Rattle.std.specs.VecDeque.{deque_capacity};
 ghost use Rattle.fj_book.specs.declared.pending.Pending.{Pending};
+ghost use Rattle.fj_pending.specs.Busy.{AreBusy};
 ghost use Rattle.fj_pending.specs.Taking.{without};
 ghost use Rattle.fj_pending.specs.Tied.{IsAscending};
 ghost use Rattle.fj_pending.specs.Waits.{picks};
 
+use crate::busy::is_busy;
 use crate::held::Held;
 use crate::pick::{Pick, place_of};
 use fj_book::Book;
@@ -60,7 +62,7 @@ fn part(all: VecDeque<Held>, unit: u32, told: &mut VecDeque<Held>, left: &mut Ve
     }
 }
 
-/// Takes the transfers of a unit off, in their order. Want of memory changes nothing.
+/// Takes the transfers of a unit off, in their order. Where all are of the unit, they are not moved. Want of memory changes nothing.
 fn take_unit(
     alloc: Global,
     helds: &mut VecDeque<Held>,
@@ -74,6 +76,9 @@ fn take_unit(
     if count == 0 {
         return Ok(VecDeque::new(alloc));
     }
+    if count == helds.len() {
+        return Ok(replace(helds, VecDeque::new(alloc)));
+    }
     let mut told = VecDeque::with_capacity(alloc, count)?;
     let left = VecDeque::with_capacity(alloc, helds.len())?;
     let all = replace(helds, left);
@@ -81,20 +86,40 @@ fn take_unit(
     Ok(told)
 }
 
+/// The same, without a look where the unit can have none.
+fn take_busy(
+    alloc: Global,
+    helds: &mut VecDeque<Held>,
+    busy: &Vec<u32>,
+    unit: u32,
+) -> Result<VecDeque<Held>, AllocError>
+    requires { AreBusy busy.now.items helds.old.items }
+    ensures told { IfOk result (λ told. told.items ≡ filter (picks (Pick.OfUnit unit)) helds.old.items) }
+    ensures left { OnOk result (helds.new.items ≡ filter (λ h. not (picks (Pick.OfUnit unit) h)) helds.old.items) }
+    ensures err { OnErr result (helds.new.items ≡ helds.old.items) }
+{
+    if !is_busy(busy, unit) {
+        return Ok(VecDeque::new(alloc));
+    }
+    take_unit(alloc, helds, unit)
+}
+
 /// Takes the transfers off that are waited for, in their order. Want of memory changes nothing.
 pub(crate) fn take_picked(
     alloc: Global,
     helds: &mut VecDeque<Held>,
+    busy: &Vec<u32>,
     pick: Pick,
 ) -> Result<VecDeque<Held>, AllocError>
-    requires { IsAscending helds.old.items }
+    requires ascending { IsAscending helds.old.items }
+    requires busy { AreBusy busy.now.items helds.old.items }
     ensures told { IfOk result (λ told. told.items ≡ filter (picks pick) helds.old.items) }
     ensures left { OnOk result (helds.new.items ≡ filter (λ h. not (picks pick h)) helds.old.items) }
     ensures err { OnErr result (helds.new.items ≡ helds.old.items) }
 {
     match pick {
         Pick::None => Ok(VecDeque::new(alloc)),
-        Pick::OfUnit(unit) => take_unit(alloc, helds, unit),
+        Pick::OfUnit(unit) => take_busy(alloc, helds, busy, unit),
         Pick::One(id) => take_one(alloc, helds, id),
         Pick::All => Ok(replace(helds, VecDeque::new(alloc))),
     }

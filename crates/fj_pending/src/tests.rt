@@ -124,3 +124,26 @@ fn tells_what_was_answered(rt: HostRuntime) -> Result<(), Fail> {
     assert!(rt; pendings.entries().is_empty());
     Ok(())
 }
+
+#[test]
+fn a_unit_with_none_is_not_waited_for(rt: HostRuntime) -> Result<(), Fail> {
+    let alloc = rt.alloc();
+    let mut pendings = Pendings::new(alloc, &[])?;
+    let mut store = Store::new(alloc, &[])?;
+    let mut tells: Items<Tell> = Items::new(alloc);
+    assert!(rt; enter(&mut pendings, alloc, (1, 10, 0, 1)).is_ok());
+    assert!(rt; pendings.next_unsettled(Whose::OfUnit(20), 0).is_none());
+    assert!(rt; !pendings.ends_halt(Whose::All, 20));
+    let condition = pendings.tell(alloc, Whose::OfUnit(20), 7, &[], &mut store, &mut tells);
+    assert!(rt; matches!(&condition, Ok(Condition::Fine)));
+    assert!(rt; tells.len() == 0);
+    assert!(rt; pendings.next_unsettled(Whose::OfUnit(10), 0) == Some((0, 0)));
+    // all of the unit are told, and then it has one again
+    let condition = pendings.tell(alloc, Whose::OfUnit(10), 8, &[], &mut store, &mut tells);
+    assert!(rt; matches!(&condition, Ok(Condition::Fine)));
+    assert!(rt; tells.len() == 1);
+    assert!(rt; pendings.next_unsettled(Whose::OfUnit(10), 0).is_none());
+    assert!(rt; enter(&mut pendings, alloc, (2, 10, 0, 2)).is_ok());
+    assert!(rt; pendings.next_unsettled(Whose::OfUnit(10), 0) == Some((0, 0)));
+    Ok(())
+}

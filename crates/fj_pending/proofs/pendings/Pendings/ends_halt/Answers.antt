@@ -7,6 +7,6 @@ use Rattle.fj_pending.proofs.pendings.Pendings.ends_halt.Goals as goal
 
 pub returns : goal.returns
 returns c =
-    c.any_causes.ensures
+    c.ends_in.ensures
     ∙ sym (cause_is c.picked-pick.result c.args.unit c.self.inside.helds.items (waited_of c.args.whose (entries c.self.inside.helds.items)) c.picked-pick.ensures.picked)
     ∙ ap (λ hs. tells_cause (waited_of c.args.whose (entries hs)) c.args.unit) c.self.view_is

@@ -3,6 +3,7 @@ use Rattle.fj_plain.specs.Telling.{tells_id}
 use Rattle.fj_turns.specs.Run as run
 use Rattle.fj_pending.specs.declared.held.Held.{Held}
 use Rattle.fj_pending.specs.Plain.{held, entries}
+use Rattle.fj_pending.specs.Busy.{without_told}
 use Rattle.fj_pending.specs.Taking.{without}
 use Rattle.fj_pending.specs.Waits.{waited_of, picks}
 use Rattle.fj_pending.proofs.Tying.{taken_is, tied_as}
@@ -13,8 +14,8 @@ pub invariant_of-self-2 : goal.invariant_of-self-2
 invariant_of-self-2 c =
     let hs = c.self.inside.helds.items in
     let p = c.picked-pick.result in
-    tied_as (filter (λ (h : Held). not (picks p h)) hs) c.take_picked.new.helds.items (without (filter (picks p) hs) c.self.inside.book) c.leave.new.book c.self.inside.marks.items c.self.inside.marks.items
-    c.in_ok-told.ensures.left (c.leave.ensures ∙ ap (λ l. without l c.self.inside.book) c.in_ok-told.ensures.told) refl (taken_is (picks p) hs c.self.inside.book c.self.inside.marks.items c.self.invariant)
+    tied_as (filter (λ (h : Held). not (picks p h)) hs) c.take_picked.new.helds.items (without (filter (picks p) hs) c.self.inside.book) c.leave.new.book c.self.inside.marks.items c.self.inside.marks.items (without_told p c.self.inside.busy.items) c.forget.new.busy.items
+    c.in_ok-told.ensures.left (c.leave.ensures ∙ ap (λ l. without l c.self.inside.book) c.in_ok-told.ensures.told) refl c.forget.ensures (taken_is p hs c.self.inside.book c.self.inside.marks.items c.self.inside.busy.items c.self.invariant)
 
 pub returns-clause-left : goal.returns-clause-left
 returns-clause-left c =
