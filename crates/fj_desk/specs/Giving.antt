@@ -1,6 +1,6 @@
 -- Which jobs a statement gives to which units, in the words of what it means.
-use Rattle.std.specs.Prelude.{◌≡◌, ℕ, ◌&&◌, ◌++◌, nat_lt, unwrap_or, length, Bool, false, List, [], ◌∷◌, map, Option, Some, None, if◌then◌else◌, Result, Ok, Err}
-use Rattle.std.specs.List.{list_any, flat_map}
+use Rattle.std.specs.Prelude.{◌≡◌, ℕ, ◌<◌, ◌&&◌, ◌++◌, nat_lt, unwrap_or, length, Bool, false, List, [], ◌∷◌, map, Option, Some, None, if◌then◌else◌, Result, Ok, Err}
+use Rattle.std.specs.List.{AllPairs, list_any, flat_map}
 use Rattle.fj_value.specs.declared.condition.Condition.{Condition}
 use Rattle.fj_value.specs.declared.condition.Rule.{Rule}
 use Rattle.fj_modes.specs.Modes.{settled}
@@ -26,6 +26,7 @@ use Rattle.fj_plain.specs.Telling.{waited, condition_of, tells_cause, after_tell
 use Rattle.fj_plain.specs.Transfers.{moved_by, spec_of, layout_of, refusal}
 use Rattle.fj_plain.specs.Connecting.{file_due, keeps_file, is_taken, most_units, without_old}
 use Rattle.fj_plain.specs.Statement.{Stated, executed, unit_at}
+use Rattle.fj_plain.specs.Reaching.{reached}
 use Rattle.fj_desk.specs.Core.{Connected, connected_at}
 use Rattle.fj_desk.specs.Desks.{Desk, carry}
 use Rattle.fj_desk.specs.Acting.{moving_of, job_of, asks_connection}
@@ -168,3 +169,11 @@ abbrev pub JobsAreGiven : Type 0
 JobsAreGiven = (variables : List Variable) (sts : List Stated) (st : Stated) (files : Files) →
     let reached = over_desks variables sts (fresh variables files) in
     GivesJobs reached.desked (desk_step variables st reached.desked).0 (jobs variables st (executed variables sts (start variables files)).state)
+
+-- END closes the units one after another, in ascending order, also where the condition of a transfer is told
+abbrev pub Ascend : Jobs → Type 0
+Ascend given = AllPairs (λ (a b : ℕ × Job). a.0 < b.0) given
+
+abbrev pub EndAscends : Type 0
+EndAscends = (variables : List Variable) (sts : List Stated) (files : Files) (control : ℕ → List Given) (line : ℕ) →
+    let s = reached variables sts files in Ascend (own_jobs control variables line s statement.End) × Ascend (closing_jobs s statement.End)

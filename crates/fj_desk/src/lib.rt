@@ -9,4 +9,4 @@ pub use cases::{
     changes_and_looks, ends_its_halt, lowest_free_slots, reads_past_the_end, skips_behind_the_end,
     stops_with_pending,
 };
-pub use laws::{jobs_are_given, results_agree, slots_forgotten};
+pub use laws::{end_ascends, jobs_are_given, results_agree, slots_forgotten};

@@ -11,3 +11,4 @@ pub mod Cutting
 pub mod Closing
 pub mod AtOnce
 pub mod Skipping
+pub mod Numerals

@@ -37,6 +37,11 @@ FieldsAreWritten = (execution [] (lines_from 1 (
     ∷ print_by (edit.Bits 16 4 None) (whole (pos 255)) ∷ print_by (edit.Bits 2 3 None) (whole (pos 8)) ∷ «end» ∷ [])) no_files).output.text
     ≡ text_of (codes "   42" ∷ codes "**" ∷ codes "0" ∷ codes " " ∷ codes " -007" ∷ codes "  FF" ∷ codes "***" ∷ [])
 
+-- B and Z of a negative number give the bits of its two's complement
+abbrev pub BitsAreWritten : Type 0
+BitsAreWritten = (execution [] (lines_from 1 (print_by (edit.Bits 16 8 None) (whole (negsuc 0)) ∷ print_by (edit.Bits 2 3 None) (whole (negsuc 0)) ∷ «end» ∷ [])) no_files).output.text
+    ≡ text_of (codes "FFFFFFFF" ∷ codes "***" ∷ [])
+
 abbrev pub i2 : Edit
 i2 = edit.Int 2 None
 

@@ -38,13 +38,14 @@ pub use pending_laws::{
     identifiers_rise, nothing_is_told, pending_turns, places_are_apart, prohibited_does_nothing,
 };
 pub use statement_cases::{
-    close_tells, definitions_come_first, later_is_still_skipped, nothing_is_read,
-    scratch_file_is_gone, scratch_file_is_gone_at_a_stop, size_is_undefined, tells_come_first,
-    tests_are_in_order,
+    close_tells, definitions_come_first, later_is_still_skipped, nothing_is_moved, nothing_is_read,
+    prohibitions_come_first, refused_reads_nothing, scratch_file_is_gone,
+    scratch_file_is_gone_at_a_stop, size_is_undefined, tells_come_before_tests, tells_come_first,
+    tests_are_in_order, tests_of_star,
 };
 pub use telling_laws::gravest_is_told;
 pub use transfer_cases::{
-    blanks_are_read, closed_file_is_there, descriptor_is_wanting, end_alone_ends,
+    bits_are_written, blanks_are_read, closed_file_is_there, descriptor_is_wanting, end_alone_ends,
     fields_are_written, format_is_used_again, group_is_another, group_is_read_and_written,
     item_is_not_its_status, items_are_listed, list_goes_over_records, name_is_unknown,
     null_keeps_the_value, open_record_goes_on, tabs_move, undefined_is_not_referenced,
@@ -55,7 +56,8 @@ pub use unit_laws::{
     pending_are_connected, telling_changes_no_file, units_ascend,
 };
 pub use wait_cases::{
-    closes_all_the_same, deleted_is_gone, end_tells_and_stops, end_tells_in_order,
-    first_file_is_closed, lowest_rule_stops, pending_is_undefined, scratch_is_made_anew,
-    seventeenth_unit, size_is_held, statements_wait, text_is_fitted,
+    close_that_errs, closes_all_the_same, deleted_is_gone, end_of_record_halts_nothing,
+    end_tells_and_stops, end_tells_in_order, first_file_is_closed, lowest_rule_stops,
+    open_tests_are_in_order, pending_is_undefined, scratch_is_made_anew, seventeenth_unit,
+    size_is_held, statements_wait, text_is_fitted,
 };

@@ -1,5 +1,5 @@
 // Worked cases of the order in which a statement goes.
-ghost use Rattle.fj_plain.specs.StatementCases.{LaterIsStillSkipped, CloseTells, NothingIsRead, SizeIsUndefined, TestsAreInOrder, DefinitionsComeFirst, TellsComeFirst, ScratchFileIsGone, ScratchFileIsGoneAtAStop};
+ghost use Rattle.fj_plain.specs.StatementCases.{LaterIsStillSkipped, CloseTells, NothingIsRead, SizeIsUndefined, TestsAreInOrder, TestsOfStar, TellsComeBeforeTests, ProhibitionsComeFirst, RefusedReadsNothing, NothingIsMoved, DefinitionsComeFirst, TellsComeFirst, ScratchFileIsGone, ScratchFileIsGoneAtAStop};
 
 /// A transfer that becomes pending in a halt is skipped, also behind the telling of one that was fine.
 pub fn later_is_still_skipped()
@@ -24,6 +24,31 @@ pub fn size_is_undefined()
 /// 1, then 2, then 16, then 10.
 pub fn tests_are_in_order()
     ensures { TestsAreInOrder }
+{}
+
+/// On `*`: 2, then 16.
+pub fn tests_of_star()
+    ensures { TestsOfStar }
+{}
+
+/// What is pending is told before a statement's own tests.
+pub fn tells_come_before_tests()
+    ensures { TellsComeBeforeTests }
+{}
+
+/// A prohibition comes before what is told, and before these tests.
+pub fn prohibitions_come_first()
+    ensures { ProhibitionsComeFirst }
+{}
+
+/// A READ that does not fit leaves its item and SIZE= undefined, and what ID= names as it was.
+pub fn refused_reads_nothing()
+    ensures { RefusedReadsNothing }
+{}
+
+/// A motion or an OPEN before which a condition is told does nothing else.
+pub fn nothing_is_moved()
+    ensures { NothingIsMoved }
 {}
 
 /// At a condition that nothing catches the item is undefined.

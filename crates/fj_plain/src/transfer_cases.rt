@@ -1,5 +1,5 @@
 // Worked cases of formatted, list-directed and namelist transfers.
-ghost use Rattle.fj_plain.specs.TransferCases.{EndAloneEnds, FieldsAreWritten, FormatIsUsedAgain, TabsMove, OpenRecordGoesOn, DescriptorIsWanting, ItemsAreListed, ClosedFileIsThere, BlanksAreRead, NullKeepsTheValue, ListGoesOverRecords, GroupIsReadAndWritten, NameIsUnknown, GroupIsAnother, UndefinedIsNotReferenced, WrongFieldStops, ItemIsNotItsStatus};
+ghost use Rattle.fj_plain.specs.TransferCases.{EndAloneEnds, FieldsAreWritten, BitsAreWritten, FormatIsUsedAgain, TabsMove, OpenRecordGoesOn, DescriptorIsWanting, ItemsAreListed, ClosedFileIsThere, BlanksAreRead, NullKeepsTheValue, ListGoesOverRecords, GroupIsReadAndWritten, NameIsUnknown, GroupIsAnother, UndefinedIsNotReferenced, WrongFieldStops, ItemIsNotItsStatus};
 
 /// A deck of END alone writes nothing.
 pub fn end_alone_ends()
@@ -9,6 +9,11 @@ pub fn end_alone_ends()
 /// Integers in fields: by width, with asterisks, with a least number of digits, in other bases.
 pub fn fields_are_written()
     ensures { FieldsAreWritten }
+{}
+
+/// B and Z of a negative number: the bits of its two's complement.
+pub fn bits_are_written()
+    ensures { BitsAreWritten }
 {}
 
 /// Under (I3,2(1X,I2)) the last group is used again, each time in a new record.

@@ -1,9 +1,14 @@
 // Worked cases of what waits, what is prohibited, and what is left of a statement that is not carried out.
-ghost use Rattle.fj_plain.specs.WaitCases.{StatementsWait, EndTellsInOrder, EndTellsAndStops, ClosesAllTheSame, PendingIsUndefined, SizeIsHeld, LowestRuleStops, FirstFileIsClosed, SeventeenthUnit, DeletedIsGone, ScratchIsMadeAnew, TextIsFitted};
+ghost use Rattle.fj_plain.specs.WaitCases.{StatementsWait, EndOfRecordHaltsNothing, EndTellsInOrder, EndTellsAndStops, ClosesAllTheSame, PendingIsUndefined, SizeIsHeld, LowestRuleStops, FirstFileIsClosed, OpenTestsAreInOrder, SeventeenthUnit, CloseThatErrs, DeletedIsGone, ScratchIsMadeAnew, TextIsFitted};
 
 /// OPEN, FLUSH, WRITE, ENDFILE, BACKSPACE, REWIND and END tell what is pending on the unit.
 pub fn statements_wait()
     ensures { StatementsWait }
+{}
+
+/// End-of-record halts nothing, and a wait for one transfer is not widened by it.
+pub fn end_of_record_halts_nothing()
+    ensures { EndOfRecordHaltsNothing }
 {}
 
 /// END tells by identifiers, and not one unit after another.
@@ -39,6 +44,16 @@ pub fn lowest_rule_stops()
 /// OPEN of another file closes the first one, also where it is refused then.
 pub fn first_file_is_closed()
     ensures { FirstFileIsClosed }
+{}
+
+/// OPEN of another file: 3, then 7, and in both the first file stays connected.
+pub fn open_tests_are_in_order()
+    ensures { OpenTestsAreInOrder }
+{}
+
+/// A CLOSE that is in error leaves its unit connected; a unit that is not connected is closed, and not moved.
+pub fn close_that_errs()
+    ensures { CloseThatErrs }
 {}
 
 /// Sixteen units are connected at the most; one that is closed makes room.
