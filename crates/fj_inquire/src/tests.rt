@@ -52,6 +52,7 @@ enum Subject {
     Frames,
     Direct,
     Stream,
+    TextStream,
     Scratch,
     OtherModes,
     Unit,
@@ -59,7 +60,7 @@ enum Subject {
 }
 
 // The position of each connection is behind five bytes of nine, its next direct record is 3, and the unit is -12.
-static ANSWERS: [(Subject, &[Told]); 9] = [
+static ANSWERS: [(Subject, &[Told]); 10] = [
     (
         Subject::Lines,
         &[
@@ -157,6 +158,30 @@ static ANSWERS: [(Subject, &[Told]); 9] = [
         ],
     ),
     (
+        Subject::TextStream,
+        &[
+            T,
+            T,
+            N(-12),
+            T,
+            W("fort.7"),
+            W("STREAM"),
+            W("FORMATTED"),
+            U,
+            U,
+            N(6),
+            N(9),
+            W("NULL"),
+            W("NONE"),
+            W("YES"),
+            W("POINT"),
+            W("SUPPRESS"),
+            W("READWRITE"),
+            W("NO"),
+            F,
+        ],
+    ),
+    (
         Subject::Scratch,
         &[
             T,
@@ -190,7 +215,7 @@ static ANSWERS: [(Subject, &[Told]); 9] = [
             W("fort.7"),
             W("DIRECT"),
             W("FORMATTED"),
-            N(80),
+            N(3),
             N(3),
             U,
             N(9),
@@ -293,11 +318,15 @@ fn statement(subject: Subject) -> Option<OpenSpec> {
             spec.recl = Some(4);
         }
         Subject::Stream => spec.access = Some(Access::Stream),
+        Subject::TextStream => {
+            spec.access = Some(Access::Stream);
+            spec.formatted = Some(true);
+        }
         Subject::Scratch => spec.status = Some(FileStatus::Scratch),
         Subject::OtherModes => {
             spec.access = Some(Access::Direct);
             spec.formatted = Some(true);
-            spec.recl = Some(80);
+            spec.recl = Some(3);
             spec.action = Some(Action::Write);
             spec.asynchronous = Some(true);
             spec.blank_zero = Some(true);
