@@ -19,13 +19,12 @@ use Rattle.fj_job.specs.Carrying.{HasNotBegun, HasRun}
 use Rattle.fj_report.specs.declared.status.Status.{Status}
 use Rattle.fj_report.specs.declared.status.Status.TheVariants.{DiskFault, Memory}
 use Rattle.fj_job.specs.Answers.{IsAnswer, HasCause}
-use Rattle.fj_job.specs.Cut.{TookSome}
-use Rattle.fj_job.specs.Cutting.{IsCut, EndsHere, IsLeftAt}
+use Rattle.fj_job.specs.Cutting.{IsCut, EndsHere, IsLeftAt, TookSome}
 use Rattle.fj_job.specs.Executing.{IsSettled, IsCarriedOut, IsConcluded, IsExecuted}
 use Rattle.fj_job.specs.declared.ending.Carried.{Carried}
 use Rattle.fj_job.proofs.Executed.{came, replies, all_taken, nothing_written}
-use Rattle.fj_job.proofs.Told.{fault_by, not_lost}
-use Rattle.fj_job.proofs.Reported.{at_statement, left_at, took_some, told_fault, part_of_run, part_of_fault, part_of_end}
+use Rattle.fj_job.proofs.Told.{fault_by, front_of_same, not_lost}
+use Rattle.fj_job.proofs.Reported.{at_statement, left_at, took_some, told_fault, report_of_fault, part_of_end, part_of_run, front_so_far}
 use Rattle.fj_job.proofs.Leading.{rose_later, rose_earlier, rose_of, on_left}
 use Rattle.fj_job.proofs.ToldLaws.{cause_more}
 
@@ -69,10 +68,11 @@ module _ {W D F : Type 0} (tells_out : W → Type 0) (taken : W → List ℕ) (c
       }
 
   conclude_ok : {X : Type 0} (deck : Deck) (trace : Bool) (out : W) (disk : D) (out' : W) (disk' : D) (out'' : W) (it : Carried F) (status : Status)
+      → IsSound deck
       → (let r : Result (Carried F) X = Ok it in IsCarriedOut tells_out taken count_out tells held count deck out disk out' disk' r)
       → (let r : Result (Carried F) X = Ok it in IsConcluded tells_out taken count_out trace r out' out'' status)
       → IsExecuted tells_out taken count_out tells held count deck trace out disk out'' disk' status
-  conclude_ok deck trace out disk out' disk' out'' it status carried h = record {
+  conclude_ok deck trace out disk out' disk' out'' it status sound carried h = record {
     replied = λ a t. let ended = h.ended a in let settled = h.settled a in
         replies deck trace it.left (held disk).files (held disk').files status (tells_out out) (tells_out out') _ _ _ carried.telling_out.0 carried.deck_is
         (carried.result_is t settled ended.going) ended (λ w. carried.taken_is w (inl settled));
@@ -80,9 +80,13 @@ module _ {W D F : Type 0} (tells_out : W → Type 0) (taken : W → List ℕ) (c
         told_fault deck trace it (held disk).files (held disk').files (taken out) (taken out') (taken out'') carried.deck_is line (tells_out out) (tells_out out') (Rose (count_out out') (count_out out''))
         (Rose (count_out out) (count_out out'')) carried.telling_out.0 (rose_earlier _ _ _ carried.later_out) (carried.at_fault t told.settled) told (λ w. carried.taken_is w (inr told.settled)));
     front = λ t w. elim (h.front (carried.telling_out.0 w)) [
-      | inl e ↦ part_of_run deck trace it (held disk).files (held disk').files (taken out) (taken out') (taken out'') carried.deck_is (carried.part t w) e
-      | inr (inl f) ↦ part_of_fault deck trace it (held disk).files (held disk').files (taken out) (taken out') (taken out'') carried.deck_is (carried.at_fault t f.settled) f (carried.taken_is w (inr f.settled))
-      | inr (inr f) ↦ part_of_end deck trace it (held disk).files (held disk').files (taken out) (taken out') (taken out'') carried.deck_is (carried.result_is t f.settled f.going) f (carried.taken_is w (inl f.settled))
+      | inl e ↦ inl (part_of_run deck trace (files_of (held disk)) (taken out) (taken out'') sound
+          (λ lines. front_so_far deck (files_of (held disk)) (taken out) (taken out'') lines (subst (λ (x : List ℕ). TookSome deck (files_of (held disk)) (taken out) x) (sym e) (carried.part t w))))
+      | inr (inl f) ↦ inr (
+        carried.of_disk f.settled,
+        report_of_fault deck trace it (held disk).files (held disk').files (taken out) (taken out') (taken out'') carried.deck_is status (carried.at_fault t f.settled) f (carried.taken_is w (inr f.settled)),
+      )
+      | inr (inr f) ↦ inl (part_of_end deck trace it (held disk).files (held disk').files (taken out) (taken out') (taken out'') carried.deck_is (carried.result_is t f.settled f.going) f (carried.taken_is w (inl f.settled)))
     ];
     of_run = h.of_run;
     cause = cause_more status _ _ _ _ _ _ (λ x. x) (rose_of _ _ _ _ carried.later_out h.later_out carried.sink) carried.of_disk h.cause;
@@ -94,13 +98,15 @@ module _ {W D F : Type 0} (tells_out : W → Type 0) (taken : W → List ℕ) (c
   }
 
   conclude_err : {X : Type 0} (deck : Deck) (trace : Bool) (out : W) (disk : D) (out' : W) (disk' : D) (out'' : W) (e : X) (status : Status)
+      → IsSound deck
       → (let r : Result (Carried F) X = Err e in IsCarriedOut tells_out taken count_out tells held count deck out disk out' disk' r)
       → (let r : Result (Carried F) X = Err e in IsConcluded tells_out taken count_out trace r out' out'' status)
       → IsExecuted tells_out taken count_out tells held count deck trace out disk out'' disk' status
-  conclude_err deck trace out disk out' disk' out'' e status carried h = record {
+  conclude_err deck trace out disk out' disk' out'' e status sound carried h = record {
     replied = λ a t. absurd (subst (λ (s : Status). IsAnswer s) h.begun a);
     fault = λ t. fault_by status _ (λ line f. absurd (let z : Memory ≡ DiskFault line = sym h.begun ∙ f in cc));
-    front = λ t w. inl (ap taken (h.silent ∙ carried.unbegun.1));
+    front = λ t w. inl (part_of_run deck trace (files_of (held disk)) (taken out) (taken out'') sound
+        (λ lines. front_of_same (taken out) (taken out'') _ (ap taken (h.silent ∙ carried.unbegun.1))));
     of_run = h.of_run;
     cause = subst (λ (s : Status). HasCause ⊥ (Rose (count_out out) (count_out out'')) (Rose (count disk) (count disk')) s) (sym h.begun) tt;
     in_use = λ t. inl h.begun;
@@ -111,10 +117,10 @@ module _ {W D F : Type 0} (tells_out : W → Type 0) (taken : W → List ℕ) (c
   }
 
   pub executed : {X : Type 0} (deck : Deck) (trace : Bool) (out : W) (disk : D) (out' : W) (disk' : D) (out'' : W) (carried : Result (Carried F) X) (status : Status)
-      → IsCarriedOut tells_out taken count_out tells held count deck out disk out' disk' carried → IsConcluded tells_out taken count_out trace carried out' out'' status
+      → IsSound deck → IsCarriedOut tells_out taken count_out tells held count deck out disk out' disk' carried → IsConcluded tells_out taken count_out trace carried out' out'' status
       → IsExecuted tells_out taken count_out tells held count deck trace out disk out'' disk' status
-  executed deck trace out disk out' disk' out'' (Ok it) status carried h = conclude_ok deck trace out disk out' disk' out'' it status carried h
-  executed deck trace out disk out' disk' out'' (Err e) status carried h = conclude_err deck trace out disk out' disk' out'' e status carried h
+  executed deck trace out disk out' disk' out'' (Ok it) status sound carried h = conclude_ok deck trace out disk out' disk' out'' it status sound carried h
+  executed deck trace out disk out' disk' out'' (Err e) status sound carried h = conclude_err deck trace out disk out' disk' out'' e status sound carried h
 
 -- a run is reported
 pub concluded : {W F X : Type 0} (tells_out : W → Type 0) (taken : W → List ℕ) (count_out : W → ℕ) (trace : Bool) (carried : Result (Carried F) X) (it : Carried F) (out out' : W) (status : Status) → carried ≡ Ok it

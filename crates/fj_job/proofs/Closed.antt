@@ -1,5 +1,5 @@
--- A record of unit `*` that is not open has no character.
-use Rattle.std.proofs.Common.{◌≡◌, ℕ, ◌+◌, ◌<◌, Bool, true, false, not, ◌||◌, List, [], ◌∷◌, ◌++◌, length, Option, Some, None, Result, Ok, Err, refl, sym, ap, subst, arith}
+-- What a statement adds to the output on unit `*`: it prints behind what is there, and a record that is not open has no character.
+use Rattle.std.proofs.Common.{◌≡◌, ℕ, ◌+◌, ◌<◌, Bool, true, false, not, ◌||◌, List, [], ◌∷◌, ◌++◌, length, Option, Some, None, Result, Ok, Err, refl, sym, ap, ◌∙◌, subst, append_assoc, append-nil, arith}
 use Rattle.std.specs.Prelude.{◌==◌, if◌then◌else◌, nat_lt}
 use Rattle.std.proofs.lemmas.Bool.Decides.{nat_tests}
 use Rattle.fj_value.specs.declared.condition.Condition.{Condition}
@@ -17,6 +17,7 @@ use Rattle.fj_line.specs.Actions.{Action, put, move, end_record, meet, AtHand}
 use Rattle.fj_line.specs.Records.{texts_from, texts_of}
 use Rattle.fj_control.specs.Steps.{Given}
 use Rattle.fj_connect.specs.Connection.{Connection}
+use Rattle.fj_list.specs.ListText.{text_of}
 use Rattle.fj_list.specs.declared.moved.Moved.{Moved}
 use Rattle.fj_transfer.specs.Change.{changed}
 use Rattle.fj_transfer.specs.declared.transfer.TransferSpec.{TransferSpec}
@@ -41,6 +42,19 @@ use Rattle.fj_plain.specs.Statement.{Stated, Ending, Ran, own, instead, acts, go
 -- where no record is open, none has characters
 abbrev pub IsClosed : Output → Type 0
 IsClosed o = o.is_open ≡ false → o.begun ≡ 0
+
+-- more was printed, or nothing
+pub record Follows (o p : Output) : Type 0 where
+  pub more : List ℕ
+  pub text : p.text ≡ o.text ++ more
+  pub closed : IsClosed o → IsClosed p
+
+pub follows_same : (o p : Output) → p ≡ o → Follows o p
+follows_same o p e = record { more = []; text = ap (λ (x : Output). x.text) e ∙ sym (append-nil o.text); closed = λ c. subst (λ (x : Output). IsClosed x) (sym e) c }
+
+pub follows_on : (o p q : Output) → Follows o p → Follows p q → Follows o q
+follows_on o p q f g =
+    record { more = f.more ++ g.more; text = g.text ∙ ap (λ x. x ++ g.more) f.text ∙ append_assoc o.text f.more g.more; closed = λ c. g.closed (f.closed c) }
 
 -- ---- what ends with the end of a record
 
@@ -89,22 +103,26 @@ closed_by : (output : Output) (p : Printed) (ends : Bool) → (ends ≡ true →
 closed_by output p true e = λ _. counted output.begun p (e refl)
 closed_by output p false e = λ k. cc
 
-closed_printed : (output : Output) (ends : Bool) (actions : List Action) (hand : Result AtHand Condition) → (ends ≡ true → EndsSo actions) → IsClosed output
-    → IsClosed (printed_to ends output (if_fine actions hand)).0
-closed_printed output ends actions (Err condition) e c = c
-closed_printed output ends actions (Ok hand) e c =
-    closed_by output (printed_of (texts_of actions)) ends (λ k. let so = e k in subst (λ (x : List Action). Ended (printed_of (texts_of x))) (sym so.1) (ended_texts empty_line so.0))
+follows_printed : (output : Output) (ends : Bool) (actions : List Action) (hand : Result AtHand Condition) → (ends ≡ true → EndsSo actions) → Follows output (printed_to ends output (if_fine actions hand)).0
+follows_printed output ends actions (Err condition) e = follows_same _ _ refl
+follows_printed output ends actions (Ok hand) e =
+    let p : Printed = printed_of (texts_of actions) in
+    record {
+      more = text_of p.records ++ p.«open»;
+      text = append_assoc output.text (text_of p.records) p.«open»;
+      closed = λ c. closed_by output p ends (λ k. let so = e k in subst (λ (x : List Action). Ended (printed_of (texts_of x))) (sym so.1) (ended_texts empty_line so.0));
+    }
 
-module _ (control : ℕ → List Given) (variables : List Variable) (s : State) (c : IsClosed s.output) where
-  star_closed : (t : Transfer) (m : Moved) (spec : TransferSpec) → IsClosed (on_star control s t m spec).0.output
-  star_closed t m spec = by (is_asynchronous t) (is_formatted spec.layout) refl
+module _ (control : ℕ → List Given) (variables : List Variable) (s : State) where
+  star_follows : (t : Transfer) (m : Moved) (spec : TransferSpec) → Follows s.output (on_star control s t m spec).0.output
+  star_follows t m spec = by (is_asynchronous t) (is_formatted spec.layout) refl
     where
       by : (later formatted : Bool) → is_formatted spec.layout ≡ formatted
-          → IsClosed (if later then (s.output, Error 2) else (if not formatted then (s.output, Error 16) else printed_to (ends_record spec) s.output (printed star_limit s.output.begun spec control (changed spec.edit usual_edit) m))).0
-      by true formatted k = c
-      by false false k = c
-      by false true k = closed_printed s.output (ends_record spec) (actions_by spec.layout control (changed spec.edit usual_edit) spec.advance m) _
-          (λ e. ends_so spec.layout control (changed spec.edit usual_edit) spec.advance m k e) c
+          → Follows s.output (if later then (s.output, Error 2) else (if not formatted then (s.output, Error 16) else printed_to (ends_record spec) s.output (printed star_limit s.output.begun spec control (changed spec.edit usual_edit) m))).0
+      by true formatted k = follows_same _ _ refl
+      by false false k = follows_same _ _ refl
+      by false true k = follows_printed s.output (ends_record spec) (actions_by spec.layout control (changed spec.edit usual_edit) spec.advance m) _
+          (λ e. ends_so spec.layout control (changed spec.edit usual_edit) spec.advance m k e)
 
 -- ---- other statements leave the output
 
@@ -176,50 +194,47 @@ module _ (control : ℕ → List Given) (variables : List Variable) (s : State) 
   instead_same (statement.Transfer t) = refl
   instead_same statement.End = refl
 
-still : (o p : Output) → p ≡ o → IsClosed o → IsClosed p
-still o p e c = subst (λ (x : Output). IsClosed x) (sym e) c
+module _ (control : ℕ → List Given) (variables : List Variable) (s : State) where
+  transfer_follows : (t : Transfer) (m : Moved) (ref : UnitRef) → Follows s.output (transfer_at control variables s t m ref).0.output
+  transfer_follows t m unit.Star = star_follows control variables s t m (spec_of variables s t m.cells)
+  transfer_follows t m (unit.Number n) = follows_same _ _ (unit_same control variables s t m (found s.units n))
 
-module _ (control : ℕ → List Given) (variables : List Variable) (s : State) (c : IsClosed s.output) where
-  transfer_closed : (t : Transfer) (m : Moved) (ref : UnitRef) → IsClosed (transfer_at control variables s t m ref).0.output
-  transfer_closed t m unit.Star = star_closed control variables s c t m (spec_of variables s t m.cells)
-  transfer_closed t m (unit.Number n) = still _ _ (unit_same control variables s t m (found s.units n)) c
+  own_follows : (what : Statement) → Follows s.output (own control variables s what).0.output
+  own_follows (statement.Assign to from) = follows_same _ _ refl
+  own_follows (statement.OpenUnit unit.Star spec iostat) = follows_same _ _ refl
+  own_follows (statement.OpenUnit (unit.Number n) spec iostat) = follows_same _ _ (opens_same control variables s n spec (found s.units n))
+  own_follows (statement.CloseUnit unit.Star keep iostat) = follows_same _ _ refl
+  own_follows (statement.CloseUnit (unit.Number n) keep iostat) = follows_same _ _ (closes_same control variables s keep (found s.units n))
+  own_follows (statement.WaitFor u id iostat) = follows_same _ _ refl
+  own_follows (statement.Move how unit.Star iostat) = follows_same _ _ refl
+  own_follows (statement.Move how (unit.Number n) iostat) = follows_same _ _ (moves_same control variables s how (found s.units n))
+  own_follows (statement.Inquire subject asked id iostat) = follows_same _ _ refl
+  own_follows (statement.Transfer t) = transfer_follows t (moved_by variables s t) t.unit
+  own_follows statement.End = follows_same _ _ refl
 
-  own_closed : (what : Statement) → IsClosed (own control variables s what).0.output
-  own_closed (statement.Assign to from) = c
-  own_closed (statement.OpenUnit unit.Star spec iostat) = c
-  own_closed (statement.OpenUnit (unit.Number n) spec iostat) = still _ _ (opens_same control variables s n spec (found s.units n)) c
-  own_closed (statement.CloseUnit unit.Star keep iostat) = c
-  own_closed (statement.CloseUnit (unit.Number n) keep iostat) = still _ _ (closes_same control variables s keep (found s.units n)) c
-  own_closed (statement.WaitFor u id iostat) = c
-  own_closed (statement.Move how unit.Star iostat) = c
-  own_closed (statement.Move how (unit.Number n) iostat) = still _ _ (moves_same control variables s how (found s.units n)) c
-  own_closed (statement.Inquire subject asked id iostat) = c
-  own_closed (statement.Transfer t) = transfer_closed t (moved_by variables s t) t.unit
-  own_closed statement.End = c
+  acts_follows : (what : Statement) (condition : Condition) → Follows s.output (acts control variables s what condition).0.output
+  acts_follows what Fine = own_follows what
+  acts_follows what EndOfFile = follows_same _ _ (instead_same control variables s what)
+  acts_follows what EndOfRecord = follows_same _ _ (instead_same control variables s what)
+  acts_follows what (Error n) = follows_same _ _ (instead_same control variables s what)
 
-  acts_closed : (what : Statement) (condition : Condition) → IsClosed (acts control variables s what condition).0.output
-  acts_closed what Fine = own_closed what
-  acts_closed what EndOfFile = still _ _ (instead_same control variables s what) c
-  acts_closed what EndOfRecord = still _ _ (instead_same control variables s what) c
-  acts_closed what (Error n) = still _ _ (instead_same control variables s what) c
+goes_follows : (control : ℕ → List Given) (variables : List Variable) (line : ℕ) (what : Statement) (s : State) (rule : Option Rule)
+    → Follows s.output (goes_on control variables line what s rule).0.output
+goes_follows control variables line what s (Some rule) = follows_same _ _ refl
+goes_follows control variables line what s None = acts_follows control variables (after_tells variables line (waited s what) s) what (condition_of (waited s what))
 
-goes_closed : (control : ℕ → List Given) (variables : List Variable) (line : ℕ) (what : Statement) (s : State) (rule : Option Rule) → IsClosed s.output
-    → IsClosed (goes_on control variables line what s rule).0.output
-goes_closed control variables line what s (Some rule) c = c
-goes_closed control variables line what s None c = acts_closed control variables (after_tells variables line (waited s what) s) c what (condition_of (waited s what))
-
-pub step_closed : (variables : List Variable) (st : Stated) (s : State) → IsClosed s.output → IsClosed (step variables st s).0.output
+pub step_follows : (variables : List Variable) (st : Stated) (s : State) → Follows s.output (step variables st s).0.output
 unfolding step
-step_closed variables st s c = goes_closed st.1 variables st.0.line st.0.what s (prohibited s.vars (holders s.book) (need variables s st.0.what)) c
+step_follows variables st s = goes_follows st.1 variables st.0.line st.0.what s (prohibited s.vars (holders s.book) (need variables s st.0.what))
 
-executed_closed : (variables : List Variable) (sts : List Stated) (s : State) → IsClosed s.output → IsClosed (executed variables sts s).state.output
-executed_closed variables [] s c = c
-executed_closed variables (st ∷ more) s c = by (λ next. executed_closed variables more next) (step variables st s) (step_closed variables st s c)
+pub executed_follows : (variables : List Variable) (sts : List Stated) (s : State) → Follows s.output (executed variables sts s).state.output
+executed_follows variables [] s = follows_same _ _ refl
+executed_follows variables (st ∷ more) s = by (λ next. executed_follows variables more next) (step variables st s) (step_follows variables st s)
   where
-    by : ((next : State) → IsClosed next.output → IsClosed (executed variables more next).state.output) → (done : State × Option Ending) → IsClosed done.0.output
-        → IsClosed (elim done.1 as (λ _. Ran) [ None ↦ executed variables more done.0 | Some e ↦ record { state = done.0; ending = Some e } ]).state.output
-    by rest (next, None) k = rest next k
+    by : ((next : State) → Follows next.output (executed variables more next).state.output) → (done : State × Option Ending) → Follows s.output done.0.output
+        → Follows s.output (elim done.1 as (λ _. Ran) [ None ↦ executed variables more done.0 | Some e ↦ record { state = done.0; ending = Some e } ]).state.output
+    by rest (next, None) k = follows_on _ _ _ k (rest next)
     by rest (next, Some e) k = k
 
 pub outputs_are_closed : (variables : List Variable) (statements : List Lined) (files : Files) → IsClosed (plain_execution variables statements files).output
-outputs_are_closed variables statements files = executed_closed variables (stated statements) (start variables files) (λ _. refl)
+outputs_are_closed variables statements files = (executed_follows variables (stated statements) (start variables files)).closed (λ _. refl)

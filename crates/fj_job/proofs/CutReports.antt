@@ -8,9 +8,9 @@ use Rattle.fj_items.specs.Handing.{whole_records}
 use Rattle.fj_report.specs.Lines.{status_text}
 use Rattle.fj_report.specs.declared.status.Status.TheVariants.{DiskFault}
 use Rattle.fj_runner.specs.declared.machine.Machine.{Machine}
-use Rattle.fj_job.specs.Cut.{reached, ComesTo, IsFaultReport, IsOutputSoFar}
+use Rattle.fj_job.specs.Cut.{reached, ComesTo, IsFaultReport}
 use Rattle.fj_job.specs.Concluding.{fault_text}
-use Rattle.fj_job.specs.Cutting.{IsExact, TookFront}
+use Rattle.fj_job.specs.Cutting.{IsExact, IsOutputSoFar, TookFront}
 use Rattle.fj_job.specs.Reply.{open_feed, trace_of}
 use Rattle.fj_job.proofs.CutTexts.{records_front, text_and_feed}
 

@@ -4,11 +4,11 @@ use Rattle.fj_statement.specs.declared.deck.Variable.{Variable}
 use Rattle.fj_statement.specs.declared.deck.Lined.{Lined}
 use Rattle.fj_statement.specs.declared.deck.Deck.{Deck}
 use Rattle.fj_plain.specs.State.{State, Files, Output, start}
-use Rattle.fj_plain.specs.Statement.{Stated, stated, control_by, step, Ending, cut}
+use Rattle.fj_plain.specs.Statement.{Stated, Ran, stated, control_by, step, executed, Ending, cut, plain_execution}
 use Rattle.fj_items.specs.Handing.{whole_records, open_record}
 use Rattle.fj_job.specs.Cut.{Reach, Untold, Told, Carried, reached, ComesTo}
 use Rattle.fj_job.specs.Reply.{open_feed}
-use Rattle.fj_job.proofs.Closed.{IsClosed, step_closed}
+use Rattle.fj_job.proofs.Closed.{IsClosed, Follows, follows_same, follows_on, step_follows, executed_follows}
 use Rattle.fj_job.proofs.Executed.{whole_and_open}
 
 same_some : {X : Type 0} → {x y : X} → Some x ≡ Some y → x ≡ y
@@ -32,25 +32,57 @@ module _ (variables : List Variable) where
       by later None f = later (sym (ap (cut_by index sts (step variables x s).0) f) ∙ e)
       by later (Some ending) f = absurd (let z : None ≡ Some (st, before) = sym (ap (cut_by index sts (step variables x s).0) f) ∙ e in cc)
 
-  cut_closed : (index : ℕ) (sts : List Stated) (s : State) (st : Stated) (before : State) → IsClosed s.output → cut variables index sts s ≡ Some (st, before) → IsClosed before.output
-  cut_closed index [] s st before c e = cc
-  cut_closed zero (x ∷ sts) s st before c e = let same : ◌≡◌ {A = Stated × State} (x, s) (st, before) = same_some e in subst (λ y. IsClosed y.1.output) same c
-  cut_closed (suc index) (x ∷ sts) s st before c e = by (λ f. cut_closed index sts (step variables x s).0 st before (step_closed variables x s c) f) (step variables x s).1 refl
+  -- what is printed up to there, and as far as the statement came
+  cut_follows : (index : ℕ) (sts : List Stated) (s : State) (st : Stated) (before : State) → cut variables index sts s ≡ Some (st, before) → Follows s.output before.output
+  cut_follows index [] s st before e = cc
+  cut_follows zero (x ∷ sts) s st before e = let same : ◌≡◌ {A = Stated × State} (x, s) (st, before) = same_some e in subst (λ y. Follows s.output y.1.output) same (follows_same _ _ refl)
+  cut_follows (suc index) (x ∷ sts) s st before e = by (step variables x s) (step_follows variables x s) (λ f. cut_follows index sts (step variables x s).0 st before f) e
     where
-      by : (cut variables index sts (step variables x s).0 ≡ Some (st, before) → IsClosed before.output) → (o : Option Ending) → (step variables x s).1 ≡ o → IsClosed before.output
-      by later None f = later (sym (ap (cut_by index sts (step variables x s).0) f) ∙ e)
-      by later (Some ending) f = absurd (let z : None ≡ Some (st, before) = sym (ap (cut_by index sts (step variables x s).0) f) ∙ e in cc)
+      by : (done : State × Option Ending) → Follows s.output done.0.output → (cut variables index sts done.0 ≡ Some (st, before) → Follows done.0.output before.output)
+          → cut_by index sts done.0 done.1 ≡ Some (st, before) → Follows s.output before.output
+      by (next, None) k later f = follows_on _ _ _ k (later f)
+      by (next, Some ending) k later f = absurd (let z : None ≡ Some (st, before) = f in cc)
 
-  reached_closed : (reach : Reach) (st : Stated) (s : State) → IsClosed s.output → IsClosed (reached reach variables st s).output
-  reached_closed Untold st s c = c
-  reached_closed Told st s c = c
-  reached_closed Carried st s c = step_closed variables st s c
+  reached_follows : (reach : Reach) (st : Stated) (s : State) → Follows s.output (reached reach variables st s).output
+  reached_follows Untold st s = follows_same _ _ refl
+  reached_follows Told st s = follows_same _ _ refl
+  reached_follows Carried st s = step_follows variables st s
+
+  -- and from there on
+  rest_follows : (reach : Reach) (st : Stated) (more : List Stated) (s : State) → Follows (reached reach variables st s).output (executed variables (st ∷ more) s).state.output
+  rest_follows Untold st more s = executed_follows variables (st ∷ more) s
+  rest_follows Told st more s = executed_follows variables (st ∷ more) s
+  rest_follows Carried st more s = by (step variables st s)
+    where
+      by : (done : State × Option Ending) → Follows done.0.output (elim done.1 as (λ _. Ran) [ None ↦ executed variables more done.0 | Some e ↦ record { state = done.0; ending = Some e } ]).state.output
+      by (next, None) = executed_follows variables more next
+      by (next, Some ending) = follows_same _ _ refl
+
+  behind_cut : (reach : Reach) (index : ℕ) (sts : List Stated) (s : State) (st : Stated) (before : State) → cut variables index sts s ≡ Some (st, before)
+      → Follows (reached reach variables st before).output (executed variables sts s).state.output
+  behind_cut reach index [] s st before e = cc
+  behind_cut reach zero (x ∷ sts) s st before e =
+      let same : ◌≡◌ {A = Stated × State} (x, s) (st, before) = same_some e in
+      subst (λ y. Follows (reached reach variables y.0 y.1).output (executed variables (x ∷ sts) s).state.output) same (rest_follows reach x sts s)
+  behind_cut reach (suc index) (x ∷ sts) s st before e = by (step variables x s) (λ f. behind_cut reach index sts (step variables x s).0 st before f) e
+    where
+      by : (done : State × Option Ending) → (cut variables index sts done.0 ≡ Some (st, before) → Follows (reached reach variables st before).output (executed variables sts done.0).state.output)
+          → cut_by index sts done.0 done.1 ≡ Some (st, before)
+          → Follows (reached reach variables st before).output (elim done.1 as (λ _. Ran) [ None ↦ executed variables sts done.0 | Some e ↦ record { state = done.0; ending = Some e } ]).state.output
+      by (next, None) later f = later f
+      by (next, Some ending) later f = absurd (let z : None ≡ Some (st, before) = f in cc)
 
 -- at any statement to which the execution comes, and as far as it came there, an open record alone has characters that did not end
 pub comes_closed : (deck : Deck) (files : Files) (comes : ComesTo deck files) (reach : Reach) → IsClosed (reached reach deck.variables comes.statement comes.before).output
 comes_closed deck files comes reach =
-    reached_closed deck.variables reach comes.statement comes.before
-    (cut_closed deck.variables comes.index (stated deck.statements) (start deck.variables files) comes.statement comes.before (λ _. refl) comes.there)
+    (reached_follows deck.variables reach comes.statement comes.before).closed
+    ((cut_follows deck.variables comes.index (stated deck.statements) (start deck.variables files) comes.statement comes.before comes.there).closed (λ _. refl))
+
+-- the output of the whole execution goes on from there
+pub goes_on_behind : (deck : Deck) (files : Files) (comes : ComesTo deck files) (reach : Reach)
+    → Follows (reached reach deck.variables comes.statement comes.before).output (plain_execution deck.variables deck.statements files).output
+goes_on_behind deck files comes reach =
+    behind_cut deck.variables reach comes.index (stated deck.statements) (start deck.variables files) comes.statement comes.before comes.there
 
 -- ---- the statement at hand
 

@@ -219,7 +219,7 @@ makes_own seed count l files now status Tells Now old middle new on is h one =
     }
 
 -- a disk with no file has none by any name
-none_there : (before : Held) → before ≡ map.empty → files_in before ≡ no_files
+pub none_there : (before : Held) → before ≡ map.empty → files_in before ≡ no_files
 none_there before e = ap files_in e ∙ (λ i name. map.get-empty (slice_cmp nat_cmp) name i)
 
 -- the same of a deck that was made, over a disk with no file

@@ -1,5 +1,6 @@
 pub mod ReplyLaws
 pub mod ToldLaws
+pub mod AskedLaws
 pub mod Leading
 pub mod Executed
 pub mod Fresh

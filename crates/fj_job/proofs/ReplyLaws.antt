@@ -137,21 +137,22 @@ ended_weaker WriteFault P Q f h = tt
 ended_weaker (DiskFault stmt) P Q f h = tt
 ended_weaker Memory P Q f h = tt
 
-lost_is_no_end : (s : Status) (P : Type 0) → IsLost s → IfEnded s P
-lost_is_no_end Ended P h = absurd h
-lost_is_no_end (ErrorStop stmt code) P h = absurd h
-lost_is_no_end (Prohibited stmt rule) P h = absurd h
-lost_is_no_end (DeckRefused line reason) P h = tt
-lost_is_no_end Usage P h = tt
-lost_is_no_end ReadFault P h = tt
-lost_is_no_end WriteFault P h = tt
-lost_is_no_end (DiskFault stmt) P h = tt
-lost_is_no_end Memory P h = tt
+-- what holds of both answers that are lost
+pub lost_by : (s : Status) (P : Status → Type 0) → IsLost s → P WriteFault → P Memory → P s
+lost_by Ended P h w m = absurd h
+lost_by (ErrorStop stmt code) P h w m = absurd h
+lost_by (Prohibited stmt rule) P h w m = absurd h
+lost_by (DeckRefused line reason) P h w m = absurd h
+lost_by Usage P h w m = absurd h
+lost_by ReadFault P h w m = absurd h
+lost_by WriteFault P h w m = w
+lost_by (DiskFault stmt) P h w m = absurd h
+lost_by Memory P h w m = m
 
 -- an answer that is told or lost is none of a deck, where the one that is told is none
 pub no_end : (s told : Status) (P : Type 0) → IfEnded told P → (s ≡ told) ⊎ IsLost s → IfEnded s P
 no_end s told P h (inl e) = subst (λ (x : Status). IfEnded x P) (sym e) h
-no_end s told P h (inr lost) = lost_is_no_end s P lost
+no_end s told P h (inr lost) = lost_by s (λ x. IfEnded x P) lost tt tt
 
 deck_whole : (task : Task) (held text : List ℕ) → IsReadOf 4194304 held text → HasDeck task text → HasDeck task held
 deck_whole Refuse held text e h = h

@@ -1,5 +1,6 @@
 -- What was told and written where a run met a fault, and what is reported then.
-use Rattle.std.proofs.Common.{◌≡◌, ◌⊎◌, inl, inr, ℕ, Bool, true, false, List, [], ◌++◌, Some, None, IsSome, slice_get, refl, ap, sym, ◌∙◌, subst}
+use Rattle.std.proofs.Common.{◌≡◌, ◌⊎◌, inl, inr, ℕ, Bool, true, false, List, [], ◌++◌, Option, Some, None, IsSome, Ok, slice_get, refl, ap, sym, ◌∙◌, subst}
+use Rattle.std.specs.FinMap as map
 use Rattle.std.specs.Option.{option_map}
 use Rattle.fj_outside.specs.declared.outside.FileStore.{Ghosts}
 use Rattle.fj_outside.specs.Holdings.{Files as Held}
@@ -15,6 +16,7 @@ use Rattle.fj_pending.specs.Plain.{tells_of}
 use Rattle.fj_items.specs.Handing.{TakesFront, whole_records, open_record}
 use Rattle.fj_items.specs.declared.lost.Lost.TheVariants.{Disk}
 use Rattle.fj_report.specs.Lines.{status_text}
+use Rattle.fj_report.specs.declared.status.Status.{Status}
 use Rattle.fj_report.specs.declared.status.Status.TheVariants.{DiskFault}
 use Rattle.fj_runner.specs.Machine.{ending_of}
 use Rattle.fj_runner.specs.declared.ending.Ending.{Ending as Code}
@@ -23,16 +25,17 @@ use Rattle.fj_runner.specs.declared.machine.Machine.{Machine}
 use Rattle.fj_acts.specs.declared.state.Core.{Core as Kept}
 use Rattle.fj_job.specs.Carrying.{HasRun}
 use Rattle.fj_job.specs.Concluding.{HasEnded, IsResult, run_text, fault_text}
-use Rattle.fj_job.specs.Cut.{reached, IsFaultReport, TookPart, TookSome, ToldFault}
-use Rattle.fj_job.specs.Cutting.{IsCut, EndsHere, IsLeftAt}
+use Rattle.fj_job.specs.Cut.{reached, IsFaultReport, TookRun, TookReport, ToldFault}
+use Rattle.fj_job.specs.Cutting.{IsCut, EndsHere, IsLeftAt, TookSome}
 use Rattle.fj_job.specs.Executing.{IsFaultTold, IsFaultBegun, IsEndBegun}
-use Rattle.fj_job.specs.Reply.{open_feed, trace_of, files_in, status_of}
+use Rattle.fj_job.specs.Making.{HasMade, IsMadeFront, TookMade, made_text}
+use Rattle.fj_job.specs.Reply.{open_feed, trace_of, variable_lines, report_of, made_lines, made_report, no_files, files_in, status_of}
 use Rattle.fj_job.specs.declared.ending.Carried.{Carried}
 use Rattle.fj_job.proofs.CutEnds.{ended_exact}
 use Rattle.fj_job.proofs.CutReports.{front_of_output, front_of_exact}
-use Rattle.fj_job.proofs.CutTexts.{text_and_feed}
-use Rattle.fj_job.proofs.Executed.{ending_is, output_is, tells_are, replies, taken_both}
-use Rattle.fj_job.proofs.Told.{front_behind, deck_ends, some_by}
+use Rattle.fj_job.proofs.CutTexts.{text_and_feed, goes_on_behind}
+use Rattle.fj_job.proofs.Executed.{ending_is, output_is, tells_are, replies, makes, none_there, taken_both}
+use Rattle.fj_job.proofs.Told.{front_behind, front_more, deck_ends, some_by}
 
 -- ---- where a run ended or was cut, at the statement at hand
 
@@ -108,22 +111,73 @@ module _ {F : Type 0} (deck : Deck) (trace : Bool) (it : Carried F) (before now 
     λ t. elim (fault.taken (on t)) [ inl e ↦ inl (taken_both old mid new _ _ (one t) e) | inr f ↦ inr (later f) ],
   )
 
-  pub part_of_fault : IsLeftAt deck (files_in before) it.left → IsFaultBegun trace it mid new → mid ≡ old ++ whole_records it.left.core.output → TookPart deck trace (files_in before) old new
-  part_of_fault at fault one = inr (
+  pub report_of_fault : (status : Status) → IsLeftAt deck (files_in before) it.left → IsFaultBegun trace it status mid new → mid ≡ old ++ whole_records it.left.core.output
+      → TookReport deck trace (files_in before) status old new
+  report_of_fault status at fault one = (
+    fault.line,
+    fault.answer,
     whole_records it.left.core.output ++ fault_text trace fault.line it.left.core.output (tells_of it.left.core.tells),
-    inr (inl (fault.line, fault_reported deck (files_in before) it.left at trace fault.line (line_by at fault.line fault.line_is))),
+    fault_reported deck (files_in before) it.left at trace fault.line (line_by at fault.line fault.line_is),
     front_behind old mid new _ _ one fault.taken,
   )
 
   pub part_of_end : IsResult (plain_execution deck.variables deck.statements (files_in before)) (files_in now) it.left → IsEndBegun trace it mid new
-      → mid ≡ old ++ whole_records it.left.core.output → TookPart deck trace (files_in before) old new
+      → mid ≡ old ++ whole_records it.left.core.output → TookRun deck trace (files_in before) old new
   part_of_end is ended one =
       let whole : List ℕ = whole_records it.left.core.output in
       let text : List ℕ = open_record it.left.core.output ++ run_text it.left.deck.variables trace (ending_of ended.ending) it.left.core in
       let h : HasEnded trace it.left (status_of (ending_of ended.ending)) (Unit {0}) whole (whole ++ text) =
       record { going = ended.going; ending = ended.ending; ends = ended.ends; status_is = refl; output = λ _. refl } in
       let r = replies deck trace it.left before now (status_of (ending_of ended.ending)) (Unit {0}) (Unit {0}) [] whole (whole ++ text) (λ t. t) same is h (λ _. refl) in
-      inr (r.reply.output, inr (inr (r.reply, r.is, refl)), subst (λ (x : List ℕ). TakesFront old new x) (r.output tt) (front_behind old mid new whole text one ended.taken))
+      (r.reply, r.is, subst (λ (x : List ℕ). TakesFront old new x) (r.output tt) (front_behind old mid new whole text one ended.taken))
 
-  pub part_of_run : TookSome deck (files_in before) old mid → new ≡ mid → TookPart deck trace (files_in before) old new
-  part_of_run (part, rest, so_far, taken) e = inr (part ++ rest, inl so_far, (part, rest, refl, e ∙ taken))
+-- ---- fronts of a reply
+
+-- what a sink took of the output up to a statement is a front of the output of the whole execution
+pub front_so_far : (deck : Deck) (files : Files) (old new lines : List ℕ) → TookSome deck files old new
+    → TakesFront old new ((plain_execution deck.variables deck.statements files).output.text ++ lines)
+front_so_far deck files old new lines (part, rest, so_far, taken) =
+    let f = goes_on_behind deck files so_far.comes so_far.reach in
+    let text : (plain_execution deck.variables deck.statements files).output.text ≡ (part ++ rest) ++ f.more = f.text ∙ ap (λ x. x ++ f.more) (sym so_far.output_is) in
+    front_more old new _ lines (subst (λ (x : List ℕ). TakesFront old new x) (sym text) (front_more old new (part ++ rest) f.more (part, rest, refl, taken)))
+
+some_is : {A : Type 0} (o : Option A) → IsSome o → (a : A) × (o ≡ Some a)
+some_is None s = cc
+some_is (Some a) s = (a, refl)
+
+-- a deck that is carried out has a reply
+pub part_of_run : (deck : Deck) (trace : Bool) (files : Files) (old new : List ℕ) → IsSound deck
+    → ((lines : List ℕ) → TakesFront old new ((plain_execution deck.variables deck.statements files).output.text ++ lines)) → TookRun deck trace files old new
+part_of_run deck trace files old new sound front =
+    let r = plain_execution deck.variables deck.statements files in
+    let ends = some_is r.ending (deck_ends deck files sound) in (
+      record { status = status_of ends.0; output = report_of deck trace r ends.0; files = r.files },
+      record { ending = ends.0; ends = ends.1; status = refl; output = refl; files_left = refl },
+      front (open_feed r.output ++ (trace_of trace r.tells ++ (status_text (status_of ends.0) ++ variable_lines deck.variables r.vars))),
+    )
+
+-- and one that was made
+pub part_of_made : (deck : Deck) (seed count : ℕ) (files : Files) (old new : List ℕ) → IsSound deck
+    → ((lines : List ℕ) → TakesFront old new ((plain_execution deck.variables deck.statements no_files).output.text ++ lines)) → TookMade deck seed count files old new
+part_of_made deck seed count files old new sound front =
+    let r = plain_execution deck.variables deck.statements no_files in
+    let ends = some_is r.ending (deck_ends deck no_files sound) in (
+      record { status = status_of ends.0; output = made_report seed count deck r ends.0; files = files },
+      record { ending = ends.0; ends = ends.1; status = refl; output = refl; files_left = refl },
+      front (open_feed r.output ++ made_lines seed count deck r ends.0),
+    )
+
+-- what it took of the report of a deck that was made
+pub made_front : {F : Type 0} (deck : Deck) (seed count : ℕ) (it : Carried F) (files now : Files) (before : Held) (old mid new : List ℕ) → IsSound deck → it.left.deck ≡ deck → before ≡ map.empty
+    → TookSome deck (files_in before) old mid → (it.settled ≡ Ok tt → it.left.over ≡ false → IsResult (plain_execution deck.variables deck.statements (files_in before)) now it.left)
+    → (it.settled ≡ Ok tt → mid ≡ old ++ whole_records it.left.core.output) → IsMadeFront seed count it now mid new → TookMade deck seed count files old new
+made_front deck seed count it files now before old mid new sound same none some result whole_is (inl e) =
+    part_of_made deck seed count files old new sound
+    (λ lines. front_so_far deck no_files old new lines (subst (λ (x : List ℕ). TookSome deck no_files old x) (sym e) (subst (λ (f : Files). TookSome deck f old mid) (none_there before none) some)))
+made_front deck seed count it files now before old mid new sound same none some result whole_is (inr m) =
+    let whole : List ℕ = whole_records it.left.core.output in
+    let text : List ℕ = open_record it.left.core.output ++ made_text seed count (ending_of m.ending) it.left now in
+    let h : HasMade seed count it.left now (status_of (ending_of m.ending)) (Unit {0}) whole (whole ++ text) =
+    record { going = m.going; ending = m.ending; ends = m.ends; status_is = refl; output = λ _. refl } in
+    let r = makes deck seed count it.left files now before (status_of (ending_of m.ending)) (Unit {0}) (Unit {0}) [] whole (whole ++ text) (λ t. t) same none (result m.settled m.going) h (λ _. refl) in
+    (r.reply, r.is, subst (λ (x : List ℕ). TakesFront old new x) (r.output tt) (front_behind old mid new whole text (whole_is m.settled) m.taken))

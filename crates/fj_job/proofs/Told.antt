@@ -1,5 +1,5 @@
 -- What a sink took of what it was told, and that every deck ends.
-use Rattle.std.proofs.Common.{◌≡◌, inl, inr, ℕ, Bool, true, false, List, [], ◌∷◌, ◌++◌, Option, Some, None, IsSome, Result, Ok, Err, IfErr, refl, ap, sym, ◌∙◌, subst, append_assoc}
+use Rattle.std.proofs.Common.{◌≡◌, ◌⊎◌, inl, inr, ℕ, Bool, true, false, List, [], ◌∷◌, ◌++◌, Option, Some, None, IsSome, Result, Ok, Err, IfErr, refl, ap, sym, ◌∙◌, subst, append_assoc}
 use Rattle.std.proofs.lemmas.List.{append-nil}
 use Rattle.std.specs.Option.{option_map}
 use Rattle.fj_value.specs.declared.condition.Condition.{Condition}
@@ -20,9 +20,11 @@ use Rattle.fj_items.specs.Handing.{TakesFront}
 use Rattle.fj_items.specs.declared.lost.Lost.{Lost}
 use Rattle.fj_report.specs.declared.status.Status.{Status}
 use Rattle.fj_report.specs.declared.status.Status.TheVariants.{Ended, ErrorStop, Prohibited, DeckRefused, Usage, ReadFault, WriteFault, DiskFault, Memory}
-use Rattle.fj_job.specs.Answers.{IsLost, IfFault, TookRefusal}
+use Rattle.fj_job.specs.Answers.{IsLost, IfFault, TookFor, TookRefusal}
+use Rattle.fj_job.specs.Cut.{IsOfReport}
 use Rattle.fj_job.specs.Taken.{IsReadOf}
-use Rattle.fj_job.proofs.ReplyLaws.{same_refusal}
+use Rattle.fj_job.specs.declared.task.Task.{Task}
+use Rattle.fj_job.proofs.ReplyLaws.{same_refusal, same_reply}
 
 -- ---- fronts
 
@@ -34,10 +36,15 @@ front_behind old mid new first text e (part, rest, due, taken) =
 pub front_more : (old new due more : List ℕ) → TakesFront old new due → TakesFront old new (due ++ more)
 front_more old new due more (part, rest, is, taken) = (part, rest ++ more, ap (λ x. x ++ more) is ∙ append_assoc part rest more, taken)
 
-pub no_front : (old due : List ℕ) → TakesFront old old due
-no_front old due = ([], due, refl, sym (append-nil old))
+pub front_of_same : (old new due : List ℕ) → new ≡ old → TakesFront old new due
+front_of_same old new due e = ([], due, refl, e ∙ sym (append-nil old))
 
 -- ---- faults
+
+-- a fault that is reported is answered, unless memory was wanting
+pub of_report : (status : Status) (line : ℕ) → (status ≡ DiskFault line) ⊎ (status ≡ Memory) → IsOfReport status line
+of_report status line (inl e) = subst (λ (s : Status). IsOfReport s line) (sym e) refl
+of_report status line (inr e) = subst (λ (s : Status). IsOfReport s line) (sym e) tt
 
 -- where it is claimed of every fault
 pub fault_by : (status : Status) (P : ℕ → Type 0) → ((line : ℕ) → status ≡ DiskFault line → P line) → IfFault status P
@@ -65,6 +72,11 @@ fault_more Memory P Q f h = tt
 -- a fault of the disk is neither lost nor how a deck ends
 pub lost_is_no_fault : (status : Status) (line : ℕ) (P : Type 0) → IsLost status → status ≡ DiskFault line → P
 lost_is_no_fault status line P l e = absurd (subst (λ (s : Status). IsLost s) e l)
+
+-- the reply to what was read is one to the whole
+pub took_whole : (task : Task) (held text : List ℕ) (files : Files) (old new : List ℕ) → IsReadOf 4194304 held text → TookFor task text files old new → TookFor task held files old new
+took_whole task held text files old new read (inl same) = inl same
+took_whole task held text files old new read (inr (reply, is, front)) = inr (reply, same_reply task held text files reply read is, front)
 
 -- a refusal of what was read is one of the whole
 pub front_whole : {X E : Type 0} (result : Result X E) (R W : Type 0) (held text old new : List ℕ) → (R → IsReadOf 4194304 held text) → IfErr result (λ _. W → TookRefusal text old new)

@@ -5,17 +5,18 @@ use Rattle.fj_statement.specs.declared.reason.Reason.{Reason}
 use Rattle.fj_plain.specs.Statement.{Ending, ended, error_stop, prohibition}
 use Rattle.fj_statement.specs.declared.deck.Deck.{Deck}
 use Rattle.fj_deck.specs.Deck.{IsDeck, IsRefused}
+use Rattle.fj_items.specs.Handing.{TakesFront}
 use Rattle.fj_report.specs.Lines.{usage_text, status_text}
 use Rattle.fj_report.specs.declared.status.Status.{Status}
 use Rattle.fj_report.specs.declared.status.Status.TheVariants.{Ended, ErrorStop, Prohibited, DeckRefused, Usage, ReadFault, WriteFault, DiskFault, Memory}
 use Rattle.fj_job.specs.Asking.{IsUnread}
 use Rattle.fj_job.specs.Concluding.{IsReplied}
 use Rattle.fj_job.specs.Taken.{IsReadOf}
-use Rattle.fj_job.proofs.ReplyLaws.{ended_by, same_refusal}
-use Rattle.fj_job.specs.Answers.{IsAnswer, IsLost, IsOfRun, LeavesDisk, HasCause, IfRefused, IfFault, TookRefusal, Told, Keeps}
-use Rattle.fj_job.specs.Cut.{TookPart, ToldFault}
-use Rattle.fj_job.proofs.Told.{fault_more}
-use Rattle.fj_job.specs.Reply.{usage_reply, refusal_reply, files_in, status_of}
+use Rattle.fj_job.proofs.ReplyLaws.{ended_by, lost_by, same_refusal}
+use Rattle.fj_job.specs.Answers.{IsAnswer, IsLost, IsOfRun, LeavesDisk, HasCause, IfEnded, IfRefused, IfFault, HasDeck, TookFor, TookRefusal, Told, Keeps}
+use Rattle.fj_job.specs.Cut.{TookRun, TookReport, ToldFault}
+use Rattle.fj_job.proofs.Told.{fault_by, fault_more}
+use Rattle.fj_job.specs.Reply.{IsRefusal, usage_reply, refusal_reply, files_in, status_of}
 use Rattle.fj_job.specs.declared.task.Task.{Task}
 use Rattle.fj_job.specs.declared.task.Task.TheVariants.{Refuse, Check, Execute, Generate}
 
@@ -50,62 +51,6 @@ cause_more ReadFault R W D R' W' D' r w d c = r c
 cause_more WriteFault R W D R' W' D' r w d c = w c
 cause_more (DiskFault stmt) R W D R' W' D' r w d c = d c
 cause_more Memory R W D R' W' D' r w d c = tt
-
--- ---- words that are no form
-
-told_usage : (R W D : Type 0) (text : List ℕ) (files : Files) (old new : List ℕ) (SR WR DR : Type 0) → (W → new ≡ old ++ usage_text)
-    → Told Refuse Usage R W D text files files old new SR WR DR
-told_usage R W D text files old new SR WR DR output = record {
-  replied = λ a t u. record { reply = usage_reply (files_in files); is = refl; answer = refl; files_left = refl; output = output };
-  usage = λ q. refl;
-  no_form = λ q. inl refl;
-  ended = λ t. tt;
-  refused = λ t. tt;
-  fault = λ t u. tt;
-  front = λ t u w. tt;
-  cause = tt;
-  fine = λ x y z. inr tt;
-}
-
-told_lost : (status : Status) (R W D : Type 0) (text : List ℕ) (files : Files) (old new : List ℕ) (SR WR DR : Type 0) → IsLost status
-    → HasCause ⊥ WR ⊥ status → Told Refuse status R W D text files files old new SR WR DR
-told_lost Ended R W D text files old new SR WR DR lost c = absurd lost
-told_lost (ErrorStop stmt code) R W D text files old new SR WR DR lost c = absurd lost
-told_lost (Prohibited stmt rule) R W D text files old new SR WR DR lost c = absurd lost
-told_lost (DeckRefused line reason) R W D text files old new SR WR DR lost c = absurd lost
-told_lost Usage R W D text files old new SR WR DR lost c = absurd lost
-told_lost ReadFault R W D text files old new SR WR DR lost c = absurd lost
-told_lost WriteFault R W D text files old new SR WR DR lost c = record {
-  replied = λ a t u. absurd a;
-  usage = λ q. refl;
-  no_form = λ q. inr tt;
-  ended = λ t. tt;
-  refused = λ t. tt;
-  fault = λ t u. tt;
-  front = λ t u w. tt;
-  cause = c;
-  fine = λ x y z. absurd (y c);
-}
-told_lost (DiskFault stmt) R W D text files old new SR WR DR lost c = absurd lost
-told_lost Memory R W D text files old new SR WR DR lost c = record {
-  replied = λ a t u. absurd a;
-  usage = λ q. refl;
-  no_form = λ q. inr tt;
-  ended = λ t. tt;
-  refused = λ t. tt;
-  fault = λ t u. tt;
-  front = λ t u w. tt;
-  cause = tt;
-  fine = λ x y z. inl refl;
-}
-
-pub told_refused : (status : Status) (R W D : Type 0) (text : List ℕ) (files : Files) (old new : List ℕ) (SR WR DR : Type 0) → (status ≡ Usage) ⊎ IsLost status
-    → (IsAnswer status → W → new ≡ old ++ usage_text) → HasCause ⊥ WR ⊥ status
-    → Told Refuse status R W D text files files old new SR WR DR
-told_refused status R W D text files old new SR WR DR (inl e) output c =
-    subst (λ (x : Status). Told Refuse x R W D text files files old new SR WR DR) (sym e)
-    (told_usage R W D text files old new SR WR DR (output (subst (λ (x : Status). IsAnswer x) (sym e) tt)))
-told_refused status R W D text files old new SR WR DR (inr lost) output c = told_lost status R W D text files old new SR WR DR lost c
 
 -- ---- words that are a form
 
@@ -163,15 +108,7 @@ run_is_no_usage status r e = subst (λ (x : Status). IsOfRun x) e r
 
 -- an answer that was lost is one of a run
 pub lost_of_run : (status : Status) → IsLost status → IsOfRun status
-lost_of_run Ended l = absurd l
-lost_of_run (ErrorStop stmt code) l = absurd l
-lost_of_run (Prohibited stmt rule) l = absurd l
-lost_of_run (DeckRefused line reason) l = absurd l
-lost_of_run Usage l = absurd l
-lost_of_run ReadFault l = absurd l
-lost_of_run WriteFault l = tt
-lost_of_run (DiskFault stmt) l = absurd l
-lost_of_run Memory l = tt
+lost_of_run status l = lost_by status (λ s. IsOfRun s) l tt tt
 
 pub ending_of_run : (e : Ending) → IsOfRun (status_of e)
 ending_of_run ended = tt
@@ -179,15 +116,7 @@ ending_of_run (error_stop line code) = tt
 ending_of_run (prohibition line rule) = tt
 
 pub lost_is_no_answer : (status : Status) (P : Type 0) → IsLost status → IsAnswer status → P
-lost_is_no_answer Ended P l a = absurd l
-lost_is_no_answer (ErrorStop stmt code) P l a = absurd l
-lost_is_no_answer (Prohibited stmt rule) P l a = absurd l
-lost_is_no_answer (DeckRefused line reason) P l a = absurd l
-lost_is_no_answer Usage P l a = absurd l
-lost_is_no_answer ReadFault P l a = absurd l
-lost_is_no_answer WriteFault P l a = absurd a
-lost_is_no_answer (DiskFault stmt) P l a = absurd l
-lost_is_no_answer Memory P l a = absurd a
+lost_is_no_answer status P l a = absurd (lost_by status (λ s. IsAnswer s → ⊥) l (λ b. b) (λ b. b) a)
 
 -- an answer that was told or lost, where it is an answer
 pub answered : (status told : Status) (P : Type 0) → (status ≡ told) ⊎ IsLost status → IsAnswer status → (status ≡ told → P) → P
@@ -198,7 +127,51 @@ pub of_run : (status told : Status) → IsOfRun told → (status ≡ told) ⊎ I
 of_run status told r (inl e) = subst (λ (x : Status). IsOfRun x) (sym e) r
 of_run status told r (inr l) = lost_of_run status l
 
+-- ---- words that are no form
+
+told_usage : (R W D : Type 0) (text : List ℕ) (files : Files) (old new : List ℕ) (SR WR DR : Type 0) → (W → new ≡ old ++ usage_text) → (W → TakesFront old new usage_text)
+    → Told Refuse Usage R W D text files files old new SR WR DR
+told_usage R W D text files old new SR WR DR output front = record {
+  replied = λ a t u. record { reply = usage_reply (files_in files); is = refl; answer = refl; files_left = refl; output = output };
+  usage = λ q. refl;
+  no_form = λ q. inl refl;
+  ended = λ t. tt;
+  refused = λ t. tt;
+  fault = λ t u. tt;
+  front = λ t u w. inl (inr (usage_reply (files_in files), refl, front w));
+  cause = tt;
+  fine = λ x y z. inr tt;
+}
+
+-- the answer was lost
+told_lost : (status : Status) (R W D : Type 0) (text : List ℕ) (files : Files) (old new : List ℕ) (SR WR DR : Type 0) → IsLost status → (W → TakesFront old new usage_text)
+    → HasCause ⊥ WR ⊥ status → Told Refuse status R W D text files files old new SR WR DR
+told_lost status R W D text files old new SR WR DR lost front c = record {
+  replied = λ a t u. lost_is_no_answer status _ lost a;
+  usage = λ q. refl;
+  no_form = λ q. inr lost;
+  ended = λ t. lost_by status (λ s. IfEnded s (HasDeck Refuse text)) lost tt tt;
+  refused = λ t. lost_by status (λ s. IfRefused s (IsRefusal Refuse text)) lost tt tt;
+  fault = λ t u. fault_by status _ (λ line e. tt);
+  front = λ t u w. inl (inr (usage_reply (files_in files), refl, front w));
+  cause = cause_more status _ _ _ _ _ _ (λ x. absurd x) (λ x. x) (λ x. absurd x) c;
+  fine = λ x y z. fine_by status _ _ _ c (λ b. b) y (λ b. b);
+}
+
+pub told_refused : (status : Status) (R W D : Type 0) (text : List ℕ) (files : Files) (old new : List ℕ) (SR WR DR : Type 0) → (status ≡ Usage) ⊎ IsLost status
+    → (IsAnswer status → W → new ≡ old ++ usage_text) → (W → TakesFront old new usage_text) → HasCause ⊥ WR ⊥ status
+    → Told Refuse status R W D text files files old new SR WR DR
+told_refused status R W D text files old new SR WR DR (inl e) output front c =
+    subst (λ (x : Status). Told Refuse x R W D text files files old new SR WR DR) (sym e)
+    (told_usage R W D text files old new SR WR DR (output (subst (λ (x : Status). IsAnswer x) (sym e) tt)) front)
+told_refused status R W D text files old new SR WR DR (inr lost) output front c = told_lost status R W D text files old new SR WR DR lost front c
+
 -- ---- a text that is not carried out
+
+-- a front of the line of a refusal is one of the reply
+refusal_taken : (workers : ℕ) (trace : Bool) (text : List ℕ) (files : Files) (old new : List ℕ) → TookRefusal text old new → TookFor (Execute workers trace) text (files_in files) old new
+refusal_taken workers trace text files old new (inl same) = inl same
+refusal_taken workers trace text files old new (inr (line, reason, is, front)) = inr (refusal_reply line reason (files_in files), (Err (line, reason), is, refl), front)
 
 -- a refusal that is told, or what kept it from being told
 told_refusal : (workers : ℕ) (trace : Bool) (line : ℕ) (reason : Reason) (R W D : Type 0) (text : List ℕ) (files : Files) (old new : List ℕ) (SR WR : Type 0) → (R → IsRefused text line reason)
@@ -216,53 +189,29 @@ told_refusal workers trace line reason R W D text files old new SR WR is output 
   ended = λ t. tt;
   refused = is;
   fault = λ t u. tt;
-  front = λ t u w. inl (front t w);
+  front = λ t u w. inl (refusal_taken workers trace text files old new (front t w));
   cause = tt;
   fine = λ x y z. inr tt;
 }
 
+-- what holds of a fault of the source and of what is lost
+unread_by : (status : Status) (P : Status → Type 0) → IsLost status ⊎ (status ≡ ReadFault) → P ReadFault → P WriteFault → P Memory → P status
+unread_by status P (inl l) r w m = lost_by status P l w m
+unread_by status P (inr e) r w m = subst P (sym e) r
+
 told_none : (workers : ℕ) (trace : Bool) (status : Status) (R W D : Type 0) (text : List ℕ) (files : Files) (old new : List ℕ) (SR WR : Type 0) → IsLost status ⊎ (status ≡ ReadFault)
     → (R → W → TookRefusal text old new) → HasCause SR WR ⊥ status → Told (Execute workers trace) status R W D text files files old new SR WR ⊥
-told_none workers trace status R W D text files old new SR WR (inr e) front c = subst (λ (x : Status). Told (Execute workers trace) x R W D text files files old new SR WR ⊥) (sym e) (record {
-  replied = λ a t u. absurd a;
-  usage = λ q. cc;
+told_none workers trace status R W D text files old new SR WR none front c = record {
+  replied = λ a t u. absurd (unread_by status (λ s. IsAnswer s → ⊥) none (λ b. b) (λ b. b) (λ b. b) a);
+  usage = λ q. absurd (unread_by status (λ s. s ≡ Usage → ⊥) none (λ e. cc) (λ e. cc) (λ e. cc) q);
   no_form = λ q. cc;
-  ended = λ t. tt;
-  refused = λ t. tt;
-  fault = λ t u. tt;
-  front = λ t u w. inl (front t w);
-  cause = subst (λ (x : Status). HasCause SR WR ⊥ x) e c;
-  fine = λ x y z. absurd (x (subst (λ (x : Status). HasCause SR WR ⊥ x) e c));
-})
-told_none workers trace WriteFault R W D text files old new SR WR (inl l) front c = record {
-  replied = λ a t u. absurd a;
-  usage = λ q. cc;
-  no_form = λ q. cc;
-  ended = λ t. tt;
-  refused = λ t. tt;
-  fault = λ t u. tt;
-  front = λ t u w. inl (front t w);
+  ended = λ t. unread_by status (λ s. IfEnded s (HasDeck (Execute workers trace) text)) none tt tt tt;
+  refused = λ t. unread_by status (λ s. IfRefused s (IsRefusal (Execute workers trace) text)) none tt tt tt;
+  fault = λ t u. fault_by status _ (λ line e. absurd (unread_by status (λ s. s ≡ DiskFault line → ⊥) none (λ q. cc) (λ q. cc) (λ q. cc) e));
+  front = λ t u w. inl (refusal_taken workers trace text files old new (front t w));
   cause = c;
-  fine = λ x y z. absurd (y c);
+  fine = λ x y z. fine_by status _ _ _ c x y z;
 }
-told_none workers trace Memory R W D text files old new SR WR (inl l) front c = record {
-  replied = λ a t u. absurd a;
-  usage = λ q. cc;
-  no_form = λ q. cc;
-  ended = λ t. tt;
-  refused = λ t. tt;
-  fault = λ t u. tt;
-  front = λ t u w. inl (front t w);
-  cause = tt;
-  fine = λ x y z. inl refl;
-}
-told_none workers trace Ended R W D text files old new SR WR (inl l) front c = absurd l
-told_none workers trace (ErrorStop stmt code) R W D text files old new SR WR (inl l) front c = absurd l
-told_none workers trace (Prohibited stmt rule) R W D text files old new SR WR (inl l) front c = absurd l
-told_none workers trace (DeckRefused line reason) R W D text files old new SR WR (inl l) front c = absurd l
-told_none workers trace Usage R W D text files old new SR WR (inl l) front c = absurd l
-told_none workers trace ReadFault R W D text files old new SR WR (inl l) front c = absurd l
-told_none workers trace (DiskFault stmt) R W D text files old new SR WR (inl l) front c = absurd l
 
 pub told_unread : (workers : ℕ) (trace : Bool) (status : Status) (R W D : Type 0) (text : List ℕ) (files : Files) (old new : List ℕ) (SR WR : Type 0) → IsUnread status R text
     → IfRefused status (λ line reason. W → new ≡ old ++ status_text (DeckRefused line reason)) → (R → W → TookRefusal text old new) → HasCause SR WR ⊥ status
@@ -284,7 +233,7 @@ told_over task status R W text files old new SR WR DR t = record {
   ended = t.ended;
   refused = t.refused;
   fault = λ r d. t.fault r tt;
-  front = λ r d w. t.front r tt w;
+  front = λ r d w. elim (t.front r tt w) [ inl reply ↦ inl reply | inr fault ↦ absurd fault.0 ];
   cause = cause_more status _ _ _ _ _ _ (λ x. x) (λ x. x) (λ x. absurd x) t.cause;
   fine = λ x y z. t.fine x y (λ b. b);
 }
@@ -302,7 +251,7 @@ keeps_over task status S text r r' w w' d k = record {
 -- a deck was read, and carried out
 pub told_executed : (workers : ℕ) (trace : Bool) (deck : Deck) (status : Status) (R W D : Type 0) (text : List ℕ) (files left : Files) (old new : List ℕ) (SR WR DR : Type 0) → (R → IsDeck text deck)
     → (IsAnswer status → D → IsReplied deck trace files status left (λ output. W → new ≡ old ++ output))
-    → (D → IfFault status (λ line. ToldFault deck trace (files_in files) line W old new WR)) → (D → W → TookPart deck trace (files_in files) old new) → IsOfRun status → HasCause ⊥ WR DR status
+    → (D → IfFault status (λ line. ToldFault deck trace (files_in files) line W old new WR)) → (D → W → TookRun deck trace (files_in files) old new ⊎ (DR × TookReport deck trace (files_in files) status old new)) → IsOfRun status → HasCause ⊥ WR DR status
     → Told (Execute workers trace) status R W D text files left old new SR WR DR
 told_executed workers trace deck status R W D text files left old new SR WR DR is replied fault front r c = record {
   replied = λ a t u. let it = replied a u in record {
@@ -317,7 +266,7 @@ told_executed workers trace deck status R W D text files left old new SR WR DR i
   ended = λ t. ended_by status _ (deck, is t);
   refused = λ t. run_is_not_refused status _ r;
   fault = λ t d. fault_more status _ _ (λ line told. (deck, is t, told)) (fault d);
-  front = λ t d w. inr (deck, is t, front d w);
+  front = λ t d w. elim (front d w) [ inl run ↦ inl (inr (run.0, (Ok deck, is t, run.1), run.2)) | inr fault ↦ inr (fault.0, (deck, is t, fault.1)) ];
   cause = cause_more status _ _ _ _ _ _ (λ x. absurd x) (λ x. x) (λ x. x) c;
   fine = λ x y z. fine_by status _ _ _ c (λ b. b) y z;
 }

@@ -12,7 +12,7 @@ use Rattle.fj_report.specs.declared.status.Status.TheVariants.{Ended, ErrorStop,
 use Rattle.fj_job.specs.declared.task.Task.{Task}
 use Rattle.fj_job.specs.declared.task.Task.TheVariants.{Refuse, Check, Execute, Generate}
 use Rattle.fj_job.specs.Reply.{Reply, IsReplyTo, IsRefusal, files_in}
-use Rattle.fj_job.specs.Cut.{TookPart, ToldFault}
+use Rattle.fj_job.specs.Cut.{TookReport, ToldFault}
 
 -- neither a fault nor want of memory
 abbrev pub IsAnswer : Status → Type 0
@@ -93,9 +93,14 @@ pub record Replied (task : Task) (text : List ℕ) (files : Held) (status : Stat
   pub files_left : files_in left ≡ reply.files
   pub output : Taken reply.output
 
--- the sink took nothing, or a front of what a refused text is told, or of what carrying out a deck may come to print
-abbrev pub TookAtMost : List ℕ → Bool → Files → List ℕ → List ℕ → Type 0
-TookAtMost text trace files old new = TookRefusal text old new ⊎ ((deck : Deck) × IsDeck text deck × TookPart deck trace files old new)
+-- the sink took nothing, or a front of the reply to the words and the text
+abbrev pub TookFor : Task → List ℕ → Files → List ℕ → List ℕ → Type 0
+TookFor task text files old new = (new ≡ old) ⊎ ((reply : Reply) × IsReplyTo task text files reply × TakesFront old new reply.output)
+
+-- the text is a deck that is carried out, and the sink took a front of the report of a fault of the disk
+abbrev pub TookFault : Task → Status → List ℕ → Files → List ℕ → List ℕ → Type 0
+TookFault (Execute workers trace) status text files old new = (deck : Deck) × IsDeck text deck × TookReport deck trace files status old new
+TookFault _ status text files old new = ⊥
 
 -- What a run tells. Source, sink and disk each tell what they hold or do not, and their counts of faults rose or did not. The
 -- source has this text, the disk has these files before and those after, and the sink took this before and that after.
@@ -114,8 +119,9 @@ pub record Told (task : Task) (status : Status) (SourceTells SinkTells DiskTells
   -- says its line. The sink took all of it, unless it failed then.
   pub fault : SourceTells → DiskTells → IfFault status (λ line. IfExecute task (λ trace.
       (deck : Deck) × IsDeck text deck × ToldFault deck trace (files_in files) line SinkTells old new SinkRose))
-  -- Whatever is answered, the sink took a front of what may be printed.
-  pub front : SourceTells → DiskTells → SinkTells → IfExecute task (λ trace. TookAtMost text trace (files_in files) old new)
+  -- Whatever is answered, the sink took nothing or a front of the reply; or, where the disk failed while a deck was carried out, of
+  -- the report of that fault, which is then answered, unless memory was wanting.
+  pub front : SourceTells → DiskTells → SinkTells → TookFor task text (files_in files) old new ⊎ (DiskRose × TookFault task status text (files_in files) old new)
   -- Each fault has its cause.
   pub cause : HasCause SourceRose SinkRose DiskRose status
   -- Where no count rises the answer is that of a reply, or memory was wanting.

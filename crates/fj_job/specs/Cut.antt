@@ -6,7 +6,8 @@ use Rattle.fj_plain.specs.State.{State, Files, start}
 use Rattle.fj_plain.specs.Telling.{waited, after_tells}
 use Rattle.fj_plain.specs.Statement.{Stated, step, stated, cut}
 use Rattle.fj_report.specs.Lines.{status_text}
-use Rattle.fj_report.specs.declared.status.Status.TheVariants.{DiskFault}
+use Rattle.fj_report.specs.declared.status.Status.{Status}
+use Rattle.fj_report.specs.declared.status.Status.TheVariants.{DiskFault, Memory}
 use Rattle.fj_items.specs.Handing.{TakesFront}
 use Rattle.fj_job.specs.Reply.{Reply, IsRunReply, open_feed, trace_of}
 
@@ -49,25 +50,19 @@ pub record IsFaultReport (deck : Deck) (trace : Bool) (files : Files) (line : �
   pub line_is : comes.statement.0.line ≡ line
   pub output_is : output ≡ fault_report trace line (reached reach deck.variables comes.statement comes.before)
 
--- what unit `*` gets of the statements up to one of the deck
-pub record IsOutputSoFar (deck : Deck) (files : Files) (output : List ℕ) : Type 0 where
-  pub comes : ComesTo deck files
-  pub reach : Reach
-  pub output_is : output ≡ (reached reach deck.variables comes.statement comes.before).output.text
+-- a sink took a front of the reply to a deck that is carried out
+abbrev pub TookRun : Deck → Bool → Files → List ℕ → List ℕ → Type 0
+TookRun deck trace files old new = (reply : Reply) × IsRunReply deck trace files reply × TakesFront old new reply.output
 
--- a sink took a front of that
-abbrev pub TookSome : Deck → Files → List ℕ → List ℕ → Type 0
-TookSome deck files old new = (part rest : List ℕ) × IsOutputSoFar deck files (part ++ rest) × (new ≡ old ++ part)
+-- what is answered where a fault of the disk is reported: that fault, unless memory was wanting
+abbrev pub IsOfReport : Status → ℕ → Type 0
+IsOfReport (DiskFault stmt) line = stmt ≡ line
+IsOfReport Memory line = Unit {0}
+IsOfReport _ line = ⊥
 
--- What carrying out a deck may come to print: what its execution wrote up to one of its statements, that with a fault of the disk
--- behind it, or the reply.
-abbrev pub MayPrint : Deck → Bool → Files → List ℕ → Type 0
-MayPrint deck trace files output =
-    IsOutputSoFar deck files output ⊎ ((line : ℕ) × IsFaultReport deck trace files line output) ⊎ ((reply : Reply) × IsRunReply deck trace files reply × (output ≡ reply.output))
-
--- a sink took nothing, or a front of that
-abbrev pub TookPart : Deck → Bool → Files → List ℕ → List ℕ → Type 0
-TookPart deck trace files old new = (new ≡ old) ⊎ ((output : List ℕ) × MayPrint deck trace files output × TakesFront old new output)
+-- a sink took a front of the report of a fault of the disk
+abbrev pub TookReport : Deck → Bool → Files → Status → List ℕ → List ℕ → Type 0
+TookReport deck trace files status old new = (line : ℕ) × IsOfReport status line × (output : List ℕ) × IsFaultReport deck trace files line output × TakesFront old new output
 
 -- the fault of a line is reported, and a sink took that, unless it failed
 abbrev pub ToldFault : Deck → Bool → Files → ℕ → Type 0 → List ℕ → List ℕ → Type 0 → Type 0

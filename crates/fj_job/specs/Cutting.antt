@@ -27,6 +27,16 @@ pub record TookFront (old new : List ℕ) (deck : Deck) (files : Files) (comes :
   pub due : whole_records (reached reach deck.variables comes.statement comes.before).output ≡ part ++ rest
   pub taken : new ≡ old ++ part
 
+-- what unit `*` gets of the statements up to one of the deck
+pub record IsOutputSoFar (deck : Deck) (files : Files) (output : List ℕ) : Type 0 where
+  pub comes : ComesTo deck files
+  pub reach : Reach
+  pub output_is : output ≡ (reached reach deck.variables comes.statement comes.before).output.text
+
+-- the sink took a front of that
+abbrev pub TookSome : Deck → Files → List ℕ → List ℕ → Type 0
+TookSome deck files old new = (part rest : List ℕ) × IsOutputSoFar deck files (part ++ rest) × (new ≡ old ++ part)
+
 -- The run was cut at the statement at hand. What was told and written is exact where nothing is lost but by the disk.
 pub record IsCut {F : Type 0} {ghosts : Ghosts F} (Tells : Type 0) (old new : List ℕ) (deck : Deck) (files : Files) (m : Machine F ghosts) : Type 0 where
   pub comes : ComesTo deck files

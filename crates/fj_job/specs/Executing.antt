@@ -25,8 +25,8 @@ use Rattle.fj_runner.specs.Machine.{ending_of}
 use Rattle.fj_runner.specs.declared.ending.Ending.{Ending}
 use Rattle.fj_runner.specs.declared.machine.Machine.{Machine}
 use Rattle.fj_job.specs.Answers.{IsAnswer, IsOfRun, HasCause, IfFault}
-use Rattle.fj_job.specs.Cut.{TookPart, TookSome, ToldFault}
-use Rattle.fj_job.specs.Cutting.{IsLeftAt}
+use Rattle.fj_job.specs.Cut.{TookRun, TookReport, IsOfReport, ToldFault}
+use Rattle.fj_job.specs.Cutting.{IsLeftAt, TookSome}
 use Rattle.fj_job.specs.Concluding.{HasEnded, IsReplied, IsResult, run_text, fault_text}
 use Rattle.fj_job.specs.declared.ending.Carried.{Carried}
 
@@ -73,9 +73,10 @@ pub record IsFaultTold {F : Type 0} (trace : Bool) (it : Carried F) (line : ℕ)
   pub taken : Tells → (new ≡ old ++ fault_text trace line it.left.core.output (tells_of it.left.core.tells)) ⊎ Failed
 
 -- the sink took a front of the report of a fault
-pub record IsFaultBegun {F : Type 0} (trace : Bool) (it : Carried F) (old new : List ℕ) : Type 0 where
+pub record IsFaultBegun {F : Type 0} (trace : Bool) (it : Carried F) (status : Status) (old new : List ℕ) : Type 0 where
   pub settled : it.settled ≡ Err Disk
   pub line : ℕ
+  pub answer : IsOfReport status line
   pub line_is : (lined : Lined) → slice_get it.left.deck.statements it.left.at ≡ Some lined → line ≡ lined.line
   pub taken : TakesFront old new (fault_text trace line it.left.core.output (tells_of it.left.core.tells))
 
@@ -88,8 +89,8 @@ pub record IsEndBegun {F : Type 0} (trace : Bool) (it : Carried F) (old new : Li
   pub taken : TakesFront old new (open_record it.left.core.output ++ run_text it.left.deck.variables trace (ending_of ending) it.left.core)
 
 -- what the sink took of a report
-abbrev pub IsFrontTold : {F : Type 0} → Bool → Carried F → List ℕ → List ℕ → Type 0
-IsFrontTold trace it old new = (new ≡ old) ⊎ IsFaultBegun trace it old new ⊎ IsEndBegun trace it old new
+abbrev pub IsFrontTold : {F : Type 0} → Bool → Carried F → Status → List ℕ → List ℕ → Type 0
+IsFrontTold trace it status old new = (new ≡ old) ⊎ IsFaultBegun trace it status old new ⊎ IsEndBegun trace it old new
 
 -- What was carried out is reported.
 pub record IsConcluded {W F E : Type 0} (tells_out : W → Type 0) (taken : W → List ℕ) (count_out : W → ℕ)
@@ -100,7 +101,7 @@ pub record IsConcluded {W F E : Type 0} (tells_out : W → Type 0) (taken : W �
   pub of_run : IsOfRun status
   pub unfit : IfOk carried (λ it. it.settled ≡ Err Unfit → status ≡ Memory)
   pub fault : IfOk carried (λ it. (line : ℕ) → status ≡ DiskFault line → IsFaultTold trace it line (tells_out out) (taken out) (taken out') (Rose (count_out out) (count_out out')))
-  pub front : tells_out out → IfOk carried (λ it. IsFrontTold trace it (taken out) (taken out'))
+  pub front : tells_out out → IfOk carried (λ it. IsFrontTold trace it status (taken out) (taken out'))
   pub silent : IfErr carried (λ _. out' ≡ out)
   pub cause : HasCause ⊥ ((IfOk carried (λ it. it.settled ≡ Err Sink)) ⊎ Rose (count_out out) (count_out out')) (IfOk carried (λ it. it.settled ≡ Err Disk)) status
   pub telling_out : tells_out out ↔ tells_out out'
@@ -111,7 +112,8 @@ pub record IsExecuted {W D : Type 0} (tells_out : W → Type 0) (taken : W → L
     (deck : Deck) (trace : Bool) (out : W) (disk : D) (out' : W) (disk' : D) (status : Status) : Type 0 where
   pub replied : IsAnswer status → tells disk → IsReplied deck trace (held disk).files status (held disk').files (λ output. tells_out out → taken out' ≡ taken out ++ output)
   pub fault : tells disk → IfFault status (λ line. ToldFault deck trace (files_of (held disk)) line (tells_out out) (taken out) (taken out') (Rose (count_out out) (count_out out')))
-  pub front : tells disk → tells_out out → TookPart deck trace (files_of (held disk)) (taken out) (taken out')
+  pub front : tells disk → tells_out out → TookRun deck trace (files_of (held disk)) (taken out) (taken out')
+      ⊎ (Rose (count disk) (count disk') × TookReport deck trace (files_of (held disk)) status (taken out) (taken out'))
   pub of_run : IsOfRun status
   pub cause : HasCause ⊥ (Rose (count_out out) (count_out out')) (Rose (count disk) (count disk')) status
   pub in_use : tells disk → (status ≡ Memory) ⊎ ((held disk').in_use ≡ set.empty)

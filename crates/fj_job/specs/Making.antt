@@ -1,17 +1,18 @@
 -- How a deck that was made and carried out is summed up, and what is replied.
-use Rattle.std.specs.Prelude.{◌≡◌, ◌++◌, ℕ, false, List, length, Some}
+use Rattle.std.specs.Prelude.{◌≡◌, ◌⊎◌, ◌++◌, ℕ, false, List, length, Some, Ok}
 use Rattle.fj_statement.specs.declared.deck.Deck.{Deck}
 use Rattle.fj_plain.specs.State.{Files}
 use Rattle.fj_plain.specs.Statement.{Ending as PlainEnding, ended}
 use Rattle.fj_pending.specs.Plain.{tells_of}
 use Rattle.fj_report.specs.Lines.{summary_text}
 use Rattle.fj_report.specs.declared.status.Status.{Status}
-use Rattle.fj_items.specs.Handing.{open_record}
+use Rattle.fj_items.specs.Handing.{open_record, TakesFront}
 use Rattle.fj_runner.specs.Machine.{ending_of}
 use Rattle.fj_runner.specs.declared.ending.Ending.{Ending}
 use Rattle.fj_runner.specs.declared.left.Left.{Left}
 use Rattle.fj_job.specs.Concluding.{run_text}
 use Rattle.fj_job.specs.Reply.{Reply, IsMadeReply, status_of, summed}
+use Rattle.fj_job.specs.declared.ending.Carried.{Carried}
 
 -- the lines behind the output: the summary of a deck that ended, and of any other how it ended and its variables
 abbrev pub made_text : {F : Type 0} → ℕ → ℕ → PlainEnding → Left F → Files → List ℕ
@@ -25,6 +26,22 @@ pub record HasMade {F : Type 0} (seed count : ℕ) (left : Left F) (files : File
   pub ends : left.ending ≡ Some ending
   pub status_is : status ≡ status_of (ending_of ending)
   pub output : Tells → new ≡ old ++ (open_record left.core.output ++ made_text seed count (ending_of ending) left files)
+
+-- the deck ended, and the sink took a front of the open record and the lines behind it
+pub record IsMadeBegun {F : Type 0} (seed count : ℕ) (it : Carried F) (files : Files) (old new : List ℕ) : Type 0 where
+  pub settled : it.settled ≡ Ok tt
+  pub going : it.left.over ≡ false
+  pub ending : Ending
+  pub ends : it.left.ending ≡ Some ending
+  pub taken : TakesFront old new (open_record it.left.core.output ++ made_text seed count (ending_of ending) it.left files)
+
+-- what the sink took of a report
+abbrev pub IsMadeFront : {F : Type 0} → ℕ → ℕ → Carried F → Files → List ℕ → List ℕ → Type 0
+IsMadeFront seed count it files old new = (new ≡ old) ⊎ IsMadeBegun seed count it files old new
+
+-- the sink took a front of the reply to a deck that was made, which leaves the files
+abbrev pub TookMade : Deck → ℕ → ℕ → Files → List ℕ → List ℕ → Type 0
+TookMade deck seed count files old new = (reply : Reply) × IsMadeReply deck seed count files reply × TakesFront old new reply.output
 
 -- the answer is that of the reply to a deck that was made, which leaves the files, and its output was taken
 pub record IsMadeReplied (deck : Deck) (seed count : ℕ) (files : Files) (status : Status) (Taken : List ℕ → Type 0) : Type 0 where

@@ -5,8 +5,8 @@ ghost use Rattle.fj_outside.specs.Holdings.{Files};
 ghost use Rattle.fj_deck.specs.Deck.{IsDeck};
 ghost use Rattle.fj_statement.specs.Sound.{IsSound};
 ghost use Rattle.fj_report.specs.Lines.{status_text};
-ghost use Rattle.fj_job.specs.Answers.{IsAnswer, HasCause, IfEnded, IfRefused, HasDeck, Replied, TookRefusal};
-ghost use Rattle.fj_job.specs.Reply.{IsRefusal};
+ghost use Rattle.fj_job.specs.Answers.{IsAnswer, HasCause, IfEnded, IfRefused, HasDeck, Replied, TookFor, TookRefusal};
+ghost use Rattle.fj_job.specs.Reply.{IsRefusal, files_in};
 ghost use Rattle.fj_job.specs.Asking.{IsAsked, IsUnread};
 
 use crate::made::make;
@@ -33,6 +33,7 @@ pub enum Asked {
 fn check_source<R: Source, W: Sink>(alloc: Global, deck: &mut R, out: &mut W) -> Status
     ensures replied { (files : Files) → IsAnswer result → R.tells deck.old → Replied Task.Check (R.left deck.old) files result files
         (λ output. W.tells out.old → W.taken out.new ≡ W.taken out.old ++ output) }
+    ensures front { (files : Files) → R.tells deck.old → W.tells out.old → TookFor Task.Check (R.left deck.old) (files_in files) (W.taken out.old) (W.taken out.new) }
     ensures no_usage { result ≡ Status.Usage → ⊥ }
     ensures ended { R.tells deck.old → IfEnded result (HasDeck Task.Check (R.left deck.old)) }
     ensures refused { R.tells deck.old → IfRefused result (IsRefusal Task.Check (R.left deck.old)) }

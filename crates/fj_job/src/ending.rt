@@ -278,7 +278,7 @@ fn report<F: FileStore, W: Sink>(alloc: Global, trace: bool, it: Carried<F>, out
     ensures unfit { it.settled ≡ Err Lost.Unfit → result ≡ Status.Memory }
     ensures fault { (line : ℕ) → result ≡ Status.DiskFault line
         → IsFaultTold trace it line (W.tells out.old) (W.taken out.old) (W.taken out.new) (Rose (W.count out.old) (W.count out.new)) }
-    ensures front { W.tells out.old → IsFrontTold trace it (W.taken out.old) (W.taken out.new) }
+    ensures front { W.tells out.old → IsFrontTold trace it result (W.taken out.old) (W.taken out.new) }
     ensures cause { HasCause ⊥ ((it.settled ≡ Err Lost.Sink) ⊎ Rose (W.count out.old) (W.count out.new)) (it.settled ≡ Err Lost.Disk) result }
     ensures telling { W.tells out.old ↔ W.tells out.new }
     ensures later { W.count out.old ≤ W.count out.new }

@@ -6,12 +6,12 @@ ghost use Rattle.fj_statement.specs.Sound.{IsSound};
 ghost use Rattle.fj_pending.specs.Plain.{tells_of};
 ghost use Rattle.fj_deck.specs.Deck.{IsRefused};
 ghost use Rattle.fj_gen.specs.Generated.{generated_text};
-ghost use Rattle.fj_items.specs.Handing.{open_record};
+ghost use Rattle.fj_items.specs.Handing.{open_record, TakesFront};
 ghost use Rattle.fj_report.specs.Lines.{summary_text};
 ghost use Rattle.fj_runner.specs.Machine.{ending_of};
-ghost use Rattle.fj_job.specs.Answers.{IsAnswer, IsLost, IsOfRun, HasCause, IfRefused, Replied};
+ghost use Rattle.fj_job.specs.Answers.{IsAnswer, IsLost, IsOfRun, HasCause, IfRefused, Replied, TookFor};
 ghost use Rattle.fj_job.specs.Reply.{IsRefusal, is_condition, conditions_in, summed, files_in, status_of};
-ghost use Rattle.fj_job.specs.Making.{made_text, HasMade, IsMadeReplied};
+ghost use Rattle.fj_job.specs.Making.{made_text, HasMade, IsMadeFront, IsMadeReplied, TookMade};
 
 use crate::ending::{Carried, carry_out, ending_of};
 use crate::report::{run_report, status_of, summary_report};
@@ -137,6 +137,8 @@ fn tell_made<W: Sink>(
     ensures status { (result ≡ status_of (ending_of ending)) ⊎ IsLost result }
     ensures output { IsAnswer result → W.tells out.old → W.taken out.new ≡ W.taken out.old
         ++ (open_record left.old.core.output ++ made_text seed count (ending_of ending) left.old (files_in disk.now.files)) }
+    ensures front { W.tells out.old → TakesFront (W.taken out.old) (W.taken out.new)
+        (open_record left.old.core.output ++ made_text seed count (ending_of ending) left.old (files_in disk.now.files)) }
     ensures cause { HasCause ⊥ (Rose (W.count out.old) (W.count out.new)) ⊥ result }
     ensures telling { W.tells out.old ↔ W.tells out.new }
     ensures later { W.count out.old ≤ W.count out.new }
@@ -162,6 +164,7 @@ fn report_made<W: Sink>(
     requires { length it.left.deck.variables ≤ 4096 }
     ensures settled { IsAnswer result → it.settled ≡ Ok tt }
     ensures made { IsAnswer result → HasMade seed count it.left (files_in disk.now.files) result (W.tells out.old) (W.taken out.old) (W.taken out.new) }
+    ensures front { W.tells out.old → IsMadeFront seed count it (files_in disk.now.files) (W.taken out.old) (W.taken out.new) }
     ensures of_run { IsOfRun result }
     ensures cause { HasCause ⊥ ((it.settled ≡ Err Lost.Sink) ⊎ Rose (W.count out.old) (W.count out.new)) ⊥ result }
     ensures telling { W.tells out.old ↔ W.tells out.new }
@@ -184,6 +187,7 @@ fn run_made<W: Sink>(alloc: Global, seed: u32, count: u32, deck: Deck, out: &mut
     requires { IsSound deck }
     ensures replied { (files : Files) → IsAnswer result → IsMadeReplied deck seed count (files_in files) result
         (λ output. W.tells out.old → W.taken out.new ≡ W.taken out.old ++ output) }
+    ensures front { (files : Files) → W.tells out.old → TookMade deck seed count (files_in files) (W.taken out.old) (W.taken out.new) }
     ensures of_run { IsOfRun result }
     ensures cause { HasCause ⊥ (Rose (W.count out.old) (W.count out.new)) ⊥ result }
     ensures telling { W.tells out.old ↔ W.tells out.new }
@@ -200,6 +204,8 @@ fn run_made<W: Sink>(alloc: Global, seed: u32, count: u32, deck: Deck, out: &mut
 fn make_and_run<W: Sink>(alloc: Global, seed: u32, count: u32, out: &mut W) -> Status
     ensures replied { (text : List ℕ) (files : Files) → IsAnswer result → Replied (Task.Generate seed count false) text files result files
         (λ output. W.tells out.old → W.taken out.new ≡ W.taken out.old ++ output) }
+    ensures front { (text : List ℕ) (files : Files) → W.tells out.old
+        → TookFor (Task.Generate seed count false) text (files_in files) (W.taken out.old) (W.taken out.new) }
     ensures no_usage { result ≡ Status.Usage → ⊥ }
     ensures refused { IfRefused result (IsRefused (generated_text seed count)) }
     ensures cause { HasCause ⊥ (Rose (W.count out.old) (W.count out.new)) ⊥ result }
@@ -220,6 +226,7 @@ fn make_and_run<W: Sink>(alloc: Global, seed: u32, count: u32, out: &mut W) -> S
 fn make_and_show<W: Sink>(alloc: Global, seed: u32, count: u32, out: &mut W) -> Status
     ensures ended { (result ≡ Status.Ended) ⊎ IsLost result }
     ensures output { IsAnswer result → W.tells out.old → W.taken out.new ≡ W.taken out.old ++ generated_text seed count }
+    ensures front { W.tells out.old → TakesFront (W.taken out.old) (W.taken out.new) (generated_text seed count) }
     ensures cause { HasCause ⊥ (Rose (W.count out.old) (W.count out.new)) ⊥ result }
     ensures telling { W.tells out.old ↔ W.tells out.new }
     ensures later { W.count out.old ≤ W.count out.new }
@@ -237,6 +244,8 @@ fn make_and_show<W: Sink>(alloc: Global, seed: u32, count: u32, out: &mut W) -> 
 pub fn make<W: Sink>(alloc: Global, seed: u32, count: u32, shown: bool, out: &mut W) -> Status
     ensures replied { (text : List ℕ) (files : Files) → IsAnswer result → Replied (Task.Generate seed count shown) text files result files
         (λ output. W.tells out.old → W.taken out.new ≡ W.taken out.old ++ output) }
+    ensures front { (text : List ℕ) (files : Files) → W.tells out.old
+        → TookFor (Task.Generate seed count shown) text (files_in files) (W.taken out.old) (W.taken out.new) }
     ensures no_usage { result ≡ Status.Usage → ⊥ }
     ensures refused { IfRefused result (IsRefused (generated_text seed count)) }
     ensures cause { HasCause ⊥ (Rose (W.count out.old) (W.count out.new)) ⊥ result }

@@ -7,9 +7,9 @@ ghost use Rattle.fj_report.specs.Lines.{status_text, check_text, usage_text};
 ghost use Rattle.fj_deck.specs.Deck.{IsDeck};
 ghost use Rattle.fj_statement.specs.Sound.{IsSound};
 ghost use Rattle.fj_statement.specs.declared.reason.Reason.{Reason};
-ghost use Rattle.fj_job.specs.Answers.{IsAnswer, IsLost, HasCause, IfEnded, IfRefused, HasDeck, Replied, TookRefusal};
+ghost use Rattle.fj_job.specs.Answers.{IsAnswer, IsLost, HasCause, IfEnded, IfRefused, HasDeck, Replied, TookFor, TookRefusal};
 ghost use Rattle.fj_job.specs.Asking.{IsUnread};
-ghost use Rattle.fj_job.specs.Reply.{IsRefusal};
+ghost use Rattle.fj_job.specs.Reply.{IsRefusal, files_in};
 
 use crate::report::{check_report, status_report};
 use crate::task::Task;
@@ -42,6 +42,7 @@ pub fn refuse_line<W: Sink>(alloc: Global, line: u32, reason: Reason, out: &mut 
 pub fn refuse_words<W: Sink>(out: &mut W) -> Status
     ensures usage { (result ≡ Status.Usage) ⊎ IsLost result }
     ensures output { IsAnswer result → W.tells out.old → W.taken out.new ≡ W.taken out.old ++ usage_text }
+    ensures front { W.tells out.old → TakesFront (W.taken out.old) (W.taken out.new) usage_text }
     ensures cause { HasCause ⊥ (Rose (W.count out.old) (W.count out.new)) ⊥ result }
     ensures telling { W.tells out.old ↔ W.tells out.new }
     ensures later { W.count out.old ≤ W.count out.new }
@@ -73,6 +74,7 @@ pub fn read_deck<W: Sink>(alloc: Global, text: &[u8], out: &mut W) -> Result<Dec
 fn check_deck<W: Sink>(alloc: Global, deck: &Deck, out: &mut W) -> Status
     ensures ended { (result ≡ Status.Ended) ⊎ IsLost result }
     ensures output { IsAnswer result → W.tells out.old → W.taken out.new ≡ W.taken out.old ++ check_text (length deck.now.statements) }
+    ensures front { W.tells out.old → TakesFront (W.taken out.old) (W.taken out.new) (check_text (length deck.now.statements)) }
     ensures cause { HasCause ⊥ (Rose (W.count out.old) (W.count out.new)) ⊥ result }
     ensures telling { W.tells out.old ↔ W.tells out.new }
     ensures later { W.count out.old ≤ W.count out.new }
@@ -90,6 +92,7 @@ fn check_deck<W: Sink>(alloc: Global, deck: &Deck, out: &mut W) -> Status
 pub fn check_text<W: Sink>(alloc: Global, text: &[u8], out: &mut W) -> Status
     ensures replied { (files : Files) → IsAnswer result → Replied Task.Check text.now files result files
         (λ output. W.tells out.old → W.taken out.new ≡ W.taken out.old ++ output) }
+    ensures front { (files : Files) → W.tells out.old → TookFor Task.Check text.now (files_in files) (W.taken out.old) (W.taken out.new) }
     ensures no_usage { result ≡ Status.Usage → ⊥ }
     ensures ended { IfEnded result (HasDeck Task.Check text.now) }
     ensures refused { IfRefused result (IsRefusal Task.Check text.now) }

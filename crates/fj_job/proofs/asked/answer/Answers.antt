@@ -9,7 +9,7 @@ pub returns-in-Refuse : goal.returns-in-Refuse
 returns-in-Refuse g c = record {
   asked = record {
     told = λ files. told_for Refuse c.args.task _ _ _ _ _ _ _ _ _ _ _ _ (sym c.in-Refuse.is)
-        (told_refused c.refuse_words.result _ _ _ _ files _ _ _ _ _ c.refuse_words.ensures.usage c.refuse_words.ensures.output c.refuse_words.ensures.cause);
+        (told_refused c.refuse_words.result _ _ _ _ files _ _ _ _ _ c.refuse_words.ensures.usage c.refuse_words.ensures.output c.refuse_words.ensures.front c.refuse_words.ensures.cause);
     keeps = keeps_for Refuse c.args.task _ _ _ _ _ _ _ _ _ (sym c.in-Refuse.is) (record {
       aside = λ e. (refl, refl);
       check = λ e. refl;
@@ -38,7 +38,7 @@ returns-in-Check g c = record {
       ended = c.check_source.ensures.ended;
       refused = c.check_source.ensures.refused;
       fault = λ t u. fault_by c.check_source.result _ (λ line e. tt);
-      front = λ t u w. tt;
+      front = λ t u w. inl (c.check_source.ensures.front files t w);
       cause = c.check_source.ensures.cause;
       fine = λ x y z. fine_by c.check_source.result _ _ _ c.check_source.ensures.cause x y z;
     });
@@ -113,7 +113,7 @@ returns-in-Generate g c =
           ended = λ t. ended_by c.make.result _ tt;
           refused = λ t. c.make.ensures.refused;
           fault = λ t u. fault_by c.make.result _ (λ line e. tt);
-          front = λ t u w. tt;
+          front = λ t u w. inl (c.make.ensures.front (g.R.Source.left c.args.deck.now) files w);
           cause = cause_more c.make.result _ _ _ _ _ _ (λ x. absurd x) (λ x. x) (λ x. x) c.make.ensures.cause;
           fine = λ x y z. fine_by c.make.result _ _ _ c.make.ensures.cause (λ b. b) y (λ b. b);
         });

@@ -1,6 +1,8 @@
 use Rattle.fj_job.specs.Taken.{IsReadOf}
 use Rattle.fj_job.specs.declared.task.Task.TheVariants.{Check}
 use Rattle.fj_job.proofs.ReplyLaws.{replied_whole, refused_whole, ended_whole}
+use Rattle.fj_job.proofs.Told.{took_whole}
+use Rattle.fj_job.specs.Reply.{files_in}
 use Rattle.fj_job.proofs.asked.check_source.Given
 use Rattle.fj_job.proofs.asked.check_source.Goals as goal
 
@@ -16,3 +18,6 @@ returns-in-Ok-clause-refused g c = λ t. refused_whole Check _ _ c.check_text.re
 
 pub returns-in-Ok-clause-ended : goal.returns-in-Ok-clause-ended
 returns-in-Ok-clause-ended g c = λ t. ended_whole Check _ _ c.check_text.result (read g c t) c.check_text.ensures.ended
+
+pub returns-in-Ok-clause-front : goal.returns-in-Ok-clause-front
+returns-in-Ok-clause-front g c = λ files t w. took_whole Check _ _ (files_in files) _ _ (read g c t) (c.check_text.ensures.front files w)

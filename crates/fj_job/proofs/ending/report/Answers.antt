@@ -1,6 +1,7 @@
-use Rattle.std.proofs.Common.{inr}
+use Rattle.std.proofs.Common.{inl, inr, rules}
 use Rattle.fj_runner.specs.Machine.{ending_of}
 use Rattle.fj_job.specs.Reply.{status_of}
+use Rattle.fj_job.proofs.Told.{of_report}
 use Rattle.fj_job.proofs.ToldLaws.{answered}
 use Rattle.fj_job.proofs.ending.report.Goals as goal
 
@@ -20,4 +21,13 @@ returns-in-Some-clause-front g c = λ w. inr (inr (record {
   ending = c.in-Some.ending;
   ends = c.in-Some.ensures.1;
   taken = rw (← c.as_slice.ensures) (c.tell_run.ensures.front w);
+}))
+
+pub returns-in-Err-Disk-clause-front : goal.returns-in-Err-Disk-clause-front
+returns-in-Err-Disk-clause-front g c = λ w. inr (inl (record {
+  settled = search rules;
+  line = c.line_of.result;
+  answer = of_report c.tell_fault.result c.line_of.result c.tell_fault.ensures.status;
+  line_is = c.line_of.ensures;
+  taken = c.tell_fault.ensures.front w;
 }))

@@ -1,3 +1,4 @@
+use Rattle.std.proofs.Common.{inr}
 use Rattle.fj_runner.specs.Machine.{ending_of}
 use Rattle.fj_job.specs.Reply.{status_of}
 use Rattle.fj_job.proofs.ToldLaws.{answered}
@@ -11,3 +12,12 @@ returns-in-Some-clause-made g c = λ a. record {
   status_is = answered c.tell_made.result (status_of (ending_of c.in-Some.ending)) _ c.tell_made.ensures.status a (λ e. e);
   output = λ t. c.tell_made.ensures.output a t;
 }
+
+pub returns-in-Some-clause-front : goal.returns-in-Some-clause-front
+returns-in-Some-clause-front g c = λ w. inr (record {
+  settled = c.in-Ok.is;
+  going = c.in-Some.ensures.0;
+  ending = c.in-Some.ending;
+  ends = c.in-Some.ensures.1;
+  taken = c.tell_made.ensures.front w;
+})
