@@ -37,6 +37,7 @@ checks: build
 	checks/formats
 	checks/reads
 	checks/groups
+	checks/questions
 	checks/decks
 	checks/definitions
 	checks/worked

@@ -1,21 +1,11 @@
 /* Loaded before the C library: the allocation of the number AT, counted from 1, is refused, and the file COUNT gets how many were
    asked for. */
-#define _GNU_SOURCE
-#include <dlfcn.h>
+#include "count.h"
+
 #include <errno.h>
-#include <stdio.h>
-#include <stdlib.h>
-
-static long asked = 0;
-static long refused = 0;
-
-__attribute__((constructor)) static void begin(void) {
-  const char *number = getenv("AT");
-  refused = number ? atol(number) : 0;
-}
 
 static int is_refused(void) {
-  if (__atomic_add_fetch(&asked, 1, __ATOMIC_SEQ_CST) != refused) return 0;
+  if (!is_chosen()) return 0;
   errno = ENOMEM;
   return 1;
 }
@@ -42,13 +32,4 @@ int posix_memalign(void **out, size_t alignment, size_t size) {
   static int (*real)(void **, size_t, size_t);
   if (!real) real = dlsym(RTLD_NEXT, "posix_memalign");
   return is_refused() ? ENOMEM : real(out, alignment, size);
-}
-
-__attribute__((destructor)) static void tell(void) {
-  const char *path = getenv("COUNT");
-  long number = asked;
-  FILE *file = path ? fopen(path, "w") : NULL;
-  if (!file) return;
-  fprintf(file, "%ld\n", number);
-  fclose(file);
 }
