@@ -3,4 +3,4 @@ use Rattle.fj_outside.proofs.HoldingLaws.{free_of_empty}
 use Rattle.fj_bay.proofs.tests.connection.Goals as goal
 
 pub open_file-requires-clause-free : goal.open_file-requires-clause-free
-open_file-requires-clause-free c κs = λ _. free_of_empty (disk_held c.in_ok-disk.disk) _ c.in_ok-disk.ensures
+open_file-requires-clause-free c = λ _. free_of_empty (disk_held c.in_ok-disk.disk) _ c.in_ok-disk.ensures
