@@ -3,3 +3,4 @@ pub mod Differences
 pub mod BayProofs
 pub mod Controlled
 pub mod Performed
+pub mod Sends

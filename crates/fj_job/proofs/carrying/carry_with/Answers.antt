@@ -2,12 +2,13 @@ use denote.Exit.{no}
 use denote.Param.Send.{param_send, arg_send}
 use Rattle.std.proofs.Common.{sym, ap, ◌∙◌, refl}
 use Rattle.fj_bay.specs.Meaning.{bay_meaning}
+use Rattle.fj_bay.proofs.Sends.{job_sends}
 use Rattle.fj_plain.specs.Statement.{stated}
 use Rattle.fj_turns.specs.Serving.{first_run, fresh_slots}
 use Rattle.fj_units.specs.Files.{files_of}
 use Rattle.fj_job.proofs.Fresh.{few, owed, fresh_at, fit, sound_fresh}
 use Rattle.fj_job.proofs.Leading.{runner_rests}
-use Rattle.fj_job.proofs.Sends.{runner_sends, job_sends}
+use Rattle.fj_job.proofs.Sends.{runner_sends}
 use Rattle.fj_job.proofs.Carried.{showing, has_run}
 use Rattle.fj_job.proofs.CutRuns.{run_cut}
 use Rattle.fj_job.proofs.CutEnds.{has_ended}

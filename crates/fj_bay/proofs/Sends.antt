@@ -1,0 +1,117 @@
+-- A job and its answer may go to another thread, where the file may.
+-- A type that holds a format, or much else, is past the limits of one `search`. So each such type has a lemma here, from those of its parts.
+use denote.RattleType.{RattleType}
+use denote.Param.Send.{IsSend, view_send, sendable}
+use denote.Param.SendFields.{as_row_send, declared_send, variants_send}
+use Rattle.std.proofs.Crossing.{crosses}
+use Rattle.std.specs.contracts.option.Option as Option
+use Rattle.fj_value.specs.contracts.edit.EditModes as EditModes
+use Rattle.fj_value.specs.contracts.items.Items as Items
+use Rattle.fj_value.specs.contracts.text.Text as Text
+use Rattle.fj_value.specs.contracts.value.Cell as Cell
+use Rattle.fj_value.specs.contracts.value.Value as Value
+use Rattle.fj_outside.specs.contracts.buffered.Buffered as Buffered
+use Rattle.fj_outside.specs.declared.outside.FileStore as files
+use Rattle.fj_modes.specs.contracts.file_name.FileName as FileName
+use Rattle.fj_modes.specs.contracts.modes.Modes as Modes
+use Rattle.fj_format.proofs.item.FormatItem.TheLaws.TheKnot as knot
+use Rattle.fj_format.specs.contracts.format.Format as Format
+use Rattle.fj_format.specs.contracts.item.FormatItem as FormatItem
+use Rattle.fj_list.specs.contracts.moved.GroupMember as GroupMember
+use Rattle.fj_list.specs.contracts.moved.Moved as Moved
+use Rattle.fj_transfer.specs.contracts.change.EditChange as EditChange
+use Rattle.fj_transfer.specs.contracts.transfer.Layout as Layout
+use Rattle.fj_transfer.specs.contracts.transfer.Transfer as Transfer
+use Rattle.fj_transfer.specs.contracts.transfer.TransferSpec as Spec
+use Rattle.fj_connect.specs.contracts.connection.Connection as Connection
+use Rattle.fj_connect.specs.contracts.connection.Connection.TheInside as Inside
+use Rattle.fj_connect.specs.contracts.connection.Looked as Looked
+use Rattle.fj_connect.specs.contracts.spot.Look as Look
+use Rattle.fj_connect.specs.contracts.spot.Spot as Spot
+use Rattle.fj_bay.specs.contracts.job.Answer as Answer
+use Rattle.fj_bay.specs.contracts.job.Job as Job
+
+-- ---- values and names
+pub text_sends : IsSend Text.the_row
+text_sends = search (crosses, sendable) depth 20
+
+pub items_sends : (T : RattleType) → IsSend T → IsSend (Items.the_row T)
+items_sends T s = search (crosses, sendable) depth 20
+
+pub value_sends : IsSend Value.the_row
+value_sends = search (crosses, sendable) depth 20
+
+cell_sends : IsSend Cell.the_row
+cell_sends = declared_send Cell.the_type (search (as_row_send, value_sends, crosses, sendable) depth 20)
+
+pub file_name_sends : IsSend FileName.the_row
+file_name_sends = search (crosses, sendable) depth 20
+
+edit_modes_sends : IsSend EditModes.the_row
+edit_modes_sends = declared_send EditModes.the_type (search (as_row_send, crosses, sendable) depth 20)
+
+pub modes_sends : IsSend Modes.the_row
+modes_sends = declared_send Modes.the_type (search (as_row_send, edit_modes_sends, crosses, sendable) depth 20)
+
+-- ---- formats
+format_item_sends : IsSend FormatItem.the_row
+format_item_sends = search (crosses, knot.crosses, sendable) depth 60 fits 20000
+
+pub format_sends : IsSend Format.the_row
+format_sends = search (format_item_sends, items_sends, sendable) depth 12
+
+-- ---- what a job moves
+group_member_sends : IsSend GroupMember.the_row
+group_member_sends = declared_send GroupMember.the_type (search (as_row_send, text_sends, crosses, sendable) depth 20)
+
+moved_sends : IsSend Moved.the_row
+moved_sends = declared_send Moved.the_type (search (as_row_send, cell_sends, items_sends, crosses, sendable) depth 20)
+
+layout_sends : IsSend Layout.the_row
+layout_sends = variants_send Layout.enum (search (as_row_send, format_sends, text_sends, group_member_sends, items_sends, crosses, sendable) depth 20)
+
+edit_change_sends : IsSend EditChange.the_row
+edit_change_sends = declared_send EditChange.the_type (search (as_row_send, crosses, sendable) depth 20)
+
+spec_sends : IsSend Spec.the_row
+spec_sends = declared_send Spec.the_type (search (as_row_send, layout_sends, edit_change_sends, crosses, sendable) depth 20)
+
+pub transfer_sends : IsSend Transfer.the_row
+transfer_sends = declared_send Transfer.the_type (search (as_row_send, spec_sends, moved_sends, crosses, sendable) depth 20)
+
+-- ---- answers
+pub answer_sends : IsSend Answer.the_row
+answer_sends = variants_send Answer.enum (search (as_row_send, crosses, sendable) depth 20)
+
+spot_sends : IsSend Spot.the_row
+spot_sends = declared_send Spot.the_type (search (as_row_send, crosses, sendable) depth 20)
+
+look_sends : IsSend Look.the_row
+look_sends = declared_send Look.the_type (search (as_row_send, spot_sends, crosses, sendable) depth 20)
+
+looks_send : IsSend (Option.the_row Look.the_row)
+looks_send = search (look_sends, crosses, sendable) depth 20
+
+looked_sends : IsSend (Option.the_row Looked.the_row)
+looked_sends = search (crosses, sendable) depth 20
+
+-- ---- over files
+module _ (F : RattleType) (g : files.Ghosts F.Denot) (s : IsSend F) where
+  buffered_sends : IsSend (Buffered.the_row F g)
+  buffered_sends = search (crosses, sendable) depth 20
+
+  inside_sends : IsSend (Inside.the_row F g)
+  inside_sends = declared_send (Inside.the_type F g) (search (as_row_send, buffered_sends, modes_sends, file_name_sends, spot_sends, text_sends, looked_sends, crosses, sendable) depth 20)
+
+  pub connection_sends : IsSend (Connection.the_row F g)
+  connection_sends = view_send _ _ _ _ _ inside_sends
+
+  connections_send : IsSend (Option.the_row (Connection.the_row F g))
+  connections_send = search (connection_sends, crosses, sendable) depth 12
+
+  -- its variants by hand, since they are many and most have parts
+  pub job_sends : IsSend (Job.the_row F g)
+  job_sends = variants_send (Job.enum F g) (
+    (connections_send, tt),
+    ((connections_send, tt), ((transfer_sends, tt), ((search sendable depth 20, tt), ((edit_modes_sends, tt), (tt, ((looks_send, tt), (tt, tt))))))),
+  )
