@@ -23,6 +23,7 @@ use crate::carrying::{carry, carry_with};
 use crate::ready::{Ready, ready_for};
 use crate::report::{fault_report, run_report, status_of};
 use crate::telling::tell_behind;
+use crate::workers::workers_for;
 use fj_acts::Core;
 use fj_bay::Bay;
 use fj_closing::{Remains, finish};
@@ -335,7 +336,7 @@ pub fn execute<W: Sink, D: Disk>(
     conclude(alloc, trace, carried, out)
 }
 
-/// The same with so many threads besides.
+/// The same with so many threads besides, or with none where the deck leaves no transfer pending.
 pub fn execute_with<Rt: Threads + Wait + Sync, W: Sink + Send, D: Disk + Send>(
     rt: &Rt,
     alloc: Global,
@@ -351,6 +352,7 @@ where
     requires free { D.tells disk.old → (D.held disk.old).in_use ≡ set.empty }
     ensures executed { IsExecuted W.tells W.taken W.count D.tells D.held D.count deck trace out.old disk.old out.new disk.new result }
 {
+    let workers = workers_for(deck.statements.as_slice(), workers);
     let carried = carry_out_with(rt, alloc, workers, deck, out, disk);
     conclude(alloc, trace, carried, out)
 }

@@ -15,6 +15,7 @@ mod telling;
 #[cfg(test)]
 mod tests;
 mod text;
+mod workers;
 
 pub use fj_report::Status;
 pub use fj_statement::Reason;
