@@ -3,10 +3,14 @@ ghost use Rattle.std.specs.Prelude.{◌≡◌, IfOk};
 ghost use Rattle.std.specs.FinSet as set;
 
 use crate::{Reason, Status, alone_job, run_job};
-use fj_outside::{FailingDisk, FailingSink, FailingSource, MemoryDisk, MemorySink, MemorySource};
+use fj_outside::{
+    FailingDisk, FailingSink, FailingSource, GateDisk, MemoryDisk, MemorySink, MemorySource,
+};
 use fj_value::{Rule, Text};
 use std::alloc::{AllocError, Global};
+use std::sync::Wait;
 use std::test::Fail;
+use std::thread::Threads;
 
 /// The words, a deck, the answer, the output, and what the file G holds behind the run. Before it, it holds ` 12` and `x`.
 static ROWS: [(&str, &[u8], Status, &[u8], &[u8]); 37] = [
@@ -588,5 +592,43 @@ fn answers_faults(rt: HostRuntime) -> Result<(), Fail> {
         assert!(rt; answer == *status, "call {k} of object {object}");
         assert_eq!(rt; out.taken(), *output, "call {k} of object {object}");
     }
+    Ok(())
+}
+
+/// A deck with a transfer pending on each of two units.
+static TWO_UNITS: &[u8] = b"INTEGER A\nA = 7\nOPEN(10,FILE='H',STATUS='REPLACE',ASYNCHRONOUS='YES')\nOPEN(11,FILE='J',STATUS='REPLACE',ASYNCHRONOUS='YES')\nWRITE(10,'(I1)',ASYNCHRONOUS='YES') A\nWRITE(11,'(I1)',ASYNCHRONOUS='YES') A\nWAIT(10)\nWAIT(11)\nEND\n";
+
+/// What both files are to hold.
+static SEVEN: &[u8] = b"7\n";
+
+/// What carrying that deck out with these words comes to, where the writes to one file wait for the first to the other.
+fn gated<Rt: Threads + Wait + Sync>(
+    rt: &Rt,
+    alloc: Global,
+    words: &str,
+    held: &str,
+    until: &str,
+    turns: u64,
+) -> Result<(Status, GateDisk), AllocError> {
+    let words = words_of(alloc, words)?;
+    let mut deck = MemorySource::new(alloc, TWO_UNITS)?;
+    let mut out = MemorySink::new(alloc);
+    let mut disk = GateDisk::new(alloc, held, until, turns)?;
+    let answer = run_job(rt, alloc, &words, &mut deck, &mut out, &mut disk);
+    Ok((answer, disk))
+}
+
+#[test]
+fn transfers_of_two_units_overlap(rt: HostRuntime) -> Result<(), Fail> {
+    let alloc = rt.alloc();
+    for (held, until) in [("H", "J"), ("J", "H")] {
+        let (answer, disk) = gated(&rt, alloc, "run --workers 2", held, until, 1_000_000_000)?;
+        assert!(rt; answer == Status::Ended);
+        assert_eq!(rt; disk.bytes_of("H"), Some(SEVEN));
+        assert_eq!(rt; disk.bytes_of("J"), Some(SEVEN));
+    }
+    // One thread performs the first where the deck waits for it, before the other was begun.
+    let (answer, _) = gated(&rt, alloc, "alone", "H", "J", 3)?;
+    assert!(rt; answer == Status::DiskFault { stmt: 7 });
     Ok(())
 }
