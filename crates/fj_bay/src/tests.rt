@@ -25,12 +25,19 @@ fn bays_are_sent<F: FileStore + Send>(bay: Bay<F>, answer: Answer) {
     sent(answer);
 }
 
+/// So does a job.
+fn jobs_are_sent<F: FileStore + Send>(job: Job<F>) {
+    sent(job);
+}
+
 /// What a row does.
 #[derive(Clone, Copy)]
 enum Step {
     Attach,
     Detach,
+    /// A READ, awaited or pending.
     Read,
+    Pend,
     Go(Positioning),
     Change,
     Flush,
@@ -72,9 +79,10 @@ fn connection(alloc: Global, fails: u64) -> Result<Connection<FailingFile>, Open
     }
 }
 
-/// A READ or WRITE of no items.
+/// A READ or WRITE of no items. Its identifier is 0 where it is not pending.
 fn transfer(
     alloc: Global,
+    tag: u32,
     input: bool,
     advance: bool,
     format: &'static [u8],
@@ -84,7 +92,7 @@ fn transfer(
     };
     Ok(Transfer {
         stmt: 1,
-        tag: Tag(0),
+        tag: Tag(tag),
         spec: TransferSpec {
             input,
             layout: Layout::Explicit(format),
@@ -113,7 +121,8 @@ fn job_of(alloc: Global, step: Step) -> Result<Job<FailingFile>, OpenFault> {
         Step::Attach => Ok(Job::Attach(Some(connection(alloc, 0)?))),
         Step::Detach => Ok(Job::Detach(None)),
         // It passes over a record.
-        Step::Read => Ok(Job::Move(transfer(alloc, true, true, b"()")?)),
+        Step::Read => Ok(Job::Move(transfer(alloc, 0, true, true, b"()")?)),
+        Step::Pend => Ok(Job::Move(transfer(alloc, 1, true, true, b"()")?)),
         Step::Go(how) => Ok(Job::Go(how)),
         Step::Change => Ok(Job::Change(MODES)),
         Step::Flush => Ok(Job::Flush),
@@ -131,7 +140,7 @@ fn brings(job: &Job<FailingFile>) -> Option<u64> {
     }
 }
 
-use Step::{Attach, Change, Detach, Flush, Go, Look as LookAt, Read, Resume};
+use Step::{Attach, Change, Detach, Flush, Go, Look as LookAt, Pend, Read, Resume};
 
 // Each job in turn, its answer, and what it brings back: the place that was looked at, or 0 for a connection.
 static EMPTY: [(Step, Answer, Option<u64>); 8] = [
@@ -145,16 +154,26 @@ static EMPTY: [(Step, Answer, Option<u64>); 8] = [
     (Attach, Done(Fine), None),
 ];
 
-static FULL: [(Step, Answer, Option<u64>); 19] = [
+static FULL: [(Step, Answer, Option<u64>); 10] = [
     (Attach, Done(Fine), None),
     (Attach, Done(Error(7)), Some(0)),
     (LookAt, Done(Fine), Some(0)),
     (Read, Done(Fine), None),
+    (LookAt, Done(Fine), Some(2)),
+    (Go(Positioning::Rewind), Done(Fine), None),
     (Change, Done(Fine), None),
     (Flush, Done(Fine), None),
+    (Resume, Done(Fine), None),
+    (Detach, Done(Fine), Some(0)),
+];
+
+// An awaited transfer halts the bay, and the halt is ended.
+static HALTED: [(Step, Answer, Option<u64>); 15] = [
+    (Attach, Done(Fine), None),
+    (Pend, Done(Fine), None),
     (Read, Done(EndOfFile), None),
     (LookAt, Done(Fine), Some(2)),
-    (Read, Skipped(EndOfFile), None),
+    (Pend, Skipped(EndOfFile), None),
     (Go(Positioning::Rewind), Done(Fine), None),
     (Attach, Done(Error(7)), Some(0)),
     (Change, Done(Fine), None),
@@ -163,6 +182,16 @@ static FULL: [(Step, Answer, Option<u64>); 19] = [
     (LookAt, Done(Fine), Some(0)),
     (Resume, Done(Fine), None),
     (Read, Done(Fine), None),
+    (LookAt, Done(Fine), Some(2)),
+    (Detach, Done(Fine), Some(0)),
+];
+
+// A pending transfer halts the bay, and the connection goes out.
+static HALTED_BY_PENDING: [(Step, Answer, Option<u64>); 6] = [
+    (Attach, Done(Fine), None),
+    (Read, Done(Fine), None),
+    (Pend, Done(EndOfFile), None),
+    (Pend, Skipped(EndOfFile), None),
     (LookAt, Done(Fine), Some(2)),
     (Detach, Done(Fine), Some(0)),
 ];
@@ -187,6 +216,8 @@ fn differs(
 fn jobs_on_empty_full_and_halted_bays(rt: HostRuntime) -> Result<(), Fail> {
     assert_eq!(rt; differs(rt.alloc(), &EMPTY), Ok(None));
     assert_eq!(rt; differs(rt.alloc(), &FULL), Ok(None));
+    assert_eq!(rt; differs(rt.alloc(), &HALTED), Ok(None));
+    assert_eq!(rt; differs(rt.alloc(), &HALTED_BY_PENDING), Ok(None));
     Ok(())
 }
 
@@ -219,7 +250,7 @@ fn leaves_open(alloc: Global, fails: u64) -> Result<(bool, u64, bool), OpenFault
     let mut bay = Bay::empty(alloc);
     let mut first = Job::Attach(Some(connection(alloc, fails)?));
     bay.perform(&mut first)?;
-    let mut open = Job::Move(transfer(alloc, false, false, b"('b')")?);
+    let mut open = Job::Move(transfer(alloc, 0, false, false, b"('b')")?);
     let begun = bay.perform(&mut open) == Ok(Done(Fine));
     let mut last = Job::Detach(None);
     let stopped = bay.perform(&mut last) == Err(Stop::Failed);
