@@ -596,7 +596,8 @@ fn answers_faults(rt: HostRuntime) -> Result<(), Fail> {
 }
 
 /// A deck with a transfer pending on each of two units.
-static TWO_UNITS: &[u8] = b"INTEGER A\nA = 7\nOPEN(10,FILE='H',STATUS='REPLACE',ASYNCHRONOUS='YES')\nOPEN(11,FILE='J',STATUS='REPLACE',ASYNCHRONOUS='YES')\nWRITE(10,'(I1)',ASYNCHRONOUS='YES') A\nWRITE(11,'(I1)',ASYNCHRONOUS='YES') A\nWAIT(10)\nWAIT(11)\nEND\n";
+static TWO_UNITS: &[u8] =
+    b"INTEGER A\nA = 7\nOPEN(10,FILE='H',STATUS='REPLACE',ASYNCHRONOUS='YES')\nOPEN(11,FILE='J',STATUS='REPLACE',ASYNCHRONOUS='YES')\nWRITE(10,'(I1)',ASYNCHRONOUS='YES') A\nWRITE(11,'(I1)',ASYNCHRONOUS='YES') A\nWAIT(10)\nWAIT(11)\nEND\n";
 
 /// What both files are to hold.
 static SEVEN: &[u8] = b"7\n";
