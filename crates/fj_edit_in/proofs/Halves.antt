@@ -3,7 +3,7 @@ use Rattle.std.proofs.Common.{◌≡◌, ℕ, ◌-◌, ◌^◌, ◌<◌, ◌≤�
 use Rattle.std.proofs.Math.Nat.{pow-le-pow_right}
 use Rattle.std.proofs.lemmas.Bool.Decides.{nat_tests}
 use Rattle.fj_value.specs.Digits.{from_twos_complement}
-use Rattle.fj_value.specs.DigitLaws.{two_halves, from_low, from_high}
+use Rattle.fj_value.proofs.DigitLaws.{two_halves, from_low, from_high}
 use Rattle.fj_edit_in.specs.Scan.{from_bits}
 
 pub half_small : (bits : ℕ) → bits ≤ 64 → 2 ^ (bits - 1) ≤ 2 ^ 63

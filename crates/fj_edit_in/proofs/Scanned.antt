@@ -10,7 +10,7 @@ use Rattle.fj_value.specs.declared.condition.Condition.TheVariants.{Error}
 use Rattle.std.specs.Char.{digit_value, is_digit}
 use Rattle.std.specs.List.{list_all}
 use Rattle.fj_value.specs.Digits.{number_of, number_in}
-use Rattle.fj_value.specs.DigitLaws.{number_of-push, number_in-all, number_in-none}
+use Rattle.fj_value.proofs.DigitLaws.{number_of-push, number_in-all, number_in-none}
 use Rattle.fj_edit_in.specs.InputField.{blanks_read}
 use Rattle.fj_edit_in.specs.Scan.{below_64_bits, next_amount, amount_or_condition, Scanned}
 

@@ -7,7 +7,7 @@ use Rattle.std.proofs.lemmas.Bool.Decides.{nat_tests}
 use Rattle.std.proofs.lemmas.Grind.{common_steps}
 use Rattle.std.proofs.lemmas.List.{length-append, length-replicate, take_all}
 use Rattle.fj_value.specs.Digits.{number_in, numeral, twos_complement}
-use Rattle.fj_value.specs.DigitLaws.{below_bits, back_from_bits, fits_bits-true}
+use Rattle.fj_value.proofs.DigitLaws.{below_bits, back_from_bits, fits_bits-true}
 use Rattle.fj_value.specs.Kind.{FitsBits, IsOfKind, integer_bits, text_length}
 use Rattle.fj_value.specs.Edit.{bits_widths, width_of, is_bits_base}
 use Rattle.fj_value.specs.declared.edit.Edit.{Edit}

@@ -7,7 +7,7 @@ use Rattle.std.proofs.lemmas.List.Folds.{list_all-append}
 use Rattle.std.proofs.lemmas.Bool.{false≢true}
 use Rattle.std.proofs.lemmas.Bool.Decides.{nat_tests}
 use Rattle.fj_value.specs.Digits.{number_of, numeral, number_in}
-use Rattle.fj_value.specs.DigitLaws.{number_in-all, numeral_digits, numeral_values, numeral_some, number_of-zeros}
+use Rattle.fj_value.proofs.DigitLaws.{number_in-all, numeral_digits, numeral_values, numeral_some, number_of-zeros}
 use Rattle.fj_edit_in.specs.InputField.{blanks_read}
 use Rattle.fj_edit_out.specs.OutputField.{least_digits, zero_filled}
 

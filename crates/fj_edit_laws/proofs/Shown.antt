@@ -5,7 +5,7 @@ use Rattle.std.specs.Prelude.{unsigned_abs, replicate}
 use Rattle.std.specs.Fmt.{decimal}
 use Rattle.std.proofs.lemmas.Fmt.{decimal_digit, decimal_nonempty}
 use Rattle.fj_value.specs.Digits.{numeral}
-use Rattle.fj_value.specs.DigitLaws.{numeral-decimal}
+use Rattle.fj_value.proofs.DigitLaws.{numeral-decimal}
 use Rattle.fj_value.specs.Kind.{IsOfKind}
 use Rattle.fj_value.specs.declared.kind.Kind.{Kind}
 use Rattle.fj_value.specs.declared.kind.Kind.TheVariants.{Int4, Int8}

@@ -5,7 +5,7 @@ use Rattle.std.specs.Fmt.{digit_glyph}
 use Rattle.std.proofs.lemmas.Nat.{and_mask}
 use Rattle.std.proofs.lemmas.Grind.{drop-set_at}
 use Rattle.fj_value.specs.Digits.{numeral}
-use Rattle.fj_value.specs.DigitLaws.{numeral-step}
+use Rattle.fj_value.proofs.DigitLaws.{numeral-step}
 
 pub power_small : (shift : ℕ) → shift ≤ 4 → 2 ^ shift ≤ 16
 power_small shift few = pow-le-pow_right {n = 2} (omega arith) few

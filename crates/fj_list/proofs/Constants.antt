@@ -9,7 +9,7 @@ use Rattle.std.specs.Char.{is_digit, is_ascii_digit}
 use Rattle.std.specs.List.{list_all}
 use Rattle.std.specs.Option.{option_map}
 use Rattle.fj_value.specs.Digits.{number_in}
-use Rattle.fj_value.specs.DigitLaws.{fits_bits-true}
+use Rattle.fj_value.proofs.DigitLaws.{fits_bits-true}
 use Rattle.fj_value.specs.Kind.{FitsBits, IsOfKind, fits_bits}
 use Rattle.fj_value.specs.declared.kind.Kind.TheVariants.{Int4, Int8, Logical, Chars}
 use Rattle.fj_value.specs.declared.value.Cell.{Cell}

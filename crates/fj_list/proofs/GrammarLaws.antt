@@ -6,7 +6,7 @@ use Rattle.std.proofs.lemmas.Option.{none-some}
 use Rattle.std.specs.Char.{is_digit, is_ascii_digit}
 use Rattle.std.specs.List.{list_all}
 use Rattle.fj_value.specs.Digits.{number_in}
-use Rattle.fj_value.specs.DigitLaws.{number_in-none}
+use Rattle.fj_value.proofs.DigitLaws.{number_in-none}
 use Rattle.fj_value.specs.declared.condition.Condition.{Condition}
 use Rattle.fj_value.specs.declared.condition.Condition.TheVariants.{Fine, Error}
 use Rattle.fj_list.specs.declared.constant.Form.{Form}

@@ -8,7 +8,7 @@ use Rattle.std.specs.Char.{digit_value, is_digit, is_ascii_digit}
 use Rattle.std.specs.List.{list_all}
 use Rattle.std.specs.Option.{option_map}
 use Rattle.fj_value.specs.Digits.{number_of, number_in}
-use Rattle.fj_value.specs.DigitLaws.{number_of-push, number_in-all, number_in-none}
+use Rattle.fj_value.proofs.DigitLaws.{number_of-push, number_in-all, number_in-none}
 use Rattle.std.proofs.Math.Nat.{pow-le-pow_right}
 use Rattle.fj_value.specs.Kind.{fits_bits}
 use Rattle.fj_value.specs.declared.value.Value.TheVariants as value

@@ -8,7 +8,7 @@ use Rattle.std.proofs.lemmas.Fmt.{decimal_by_steps, decimal_nonempty, decimal_di
 use Rattle.std.specs.Fmt.{decimal}
 use Rattle.std.specs.Option.{option_map}
 use Rattle.fj_value.specs.Digits.{number_in}
-use Rattle.fj_value.specs.DigitLaws.{number_in-numeral, numeral-decimal}
+use Rattle.fj_value.proofs.DigitLaws.{number_in-numeral, numeral-decimal}
 use Rattle.fj_value.specs.Kind.{FitsBits, fits_bits}
 use Rattle.fj_value.specs.declared.value.Value.TheVariants as value'
 use Rattle.fj_value.specs.declared.condition.Condition.{Condition}

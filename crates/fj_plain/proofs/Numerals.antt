@@ -4,7 +4,7 @@ use Rattle.std.specs.Prelude.{◌==◌, if◌then◌else◌}
 use Rattle.std.specs.Fmt.{digit_glyph}
 use Rattle.std.proofs.lemmas.Bool.{eqb-true}
 use Rattle.std.proofs.lemmas.Bool.Decides.{eqb_tells}
-use Rattle.fj_value.specs.DigitLaws.{numeral-step, numeral-zero}
+use Rattle.fj_value.proofs.DigitLaws.{numeral-step, numeral-zero}
 use Rattle.fj_value.specs.Digits.{numeral}
 use Rattle.fj_statement.specs.declared.deck.Variable.{Variable}
 use Rattle.fj_plain.specs.State.{State}

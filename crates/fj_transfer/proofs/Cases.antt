@@ -2,7 +2,7 @@
 use Rattle.std.proofs.Common.{◌≡◌, ℕ, ◌<◌, ◌/◌, ◌%◌, lit<, lit≤, ℤ, Bool, true, false, List, [], ◌∷◌, ◌++◌, length, map, Some, None, Ok, Err, pos, negsuc, refl, ap, ◌∙◌}
 use Rattle.std.specs.Prelude.{codes}
 use Rattle.std.specs.Fmt.{digit_glyph}
-use Rattle.fj_value.specs.DigitLaws.{numeral-step, numeral-zero}
+use Rattle.fj_value.proofs.DigitLaws.{numeral-step, numeral-zero}
 use Rattle.fj_value.specs.Digits.{numeral, twos_complement}
 use Rattle.fj_value.specs.declared.edit.Edit.{Edit}
 use Rattle.fj_value.specs.declared.edit.Edit.TheVariants as edit

@@ -1,1 +1,2 @@
 mod DigitCases
+pub mod DigitLaws

@@ -3,6 +3,5 @@ pub mod Condition
 pub mod Edit
 pub mod Kind
 pub mod Digits
-pub mod DigitLaws
 pub mod Order
 pub mod Reading

@@ -1,6 +1,6 @@
 use Rattle.std.proofs.Common.{◌<◌, ◌≤◌, ◌-◌, ◌^◌, Some, ap, sym, ◌∙◌, arith}
 use Rattle.std.proofs.lemmas.Int.{ints}
-use Rattle.fj_value.specs.DigitLaws.{two_halves}
+use Rattle.fj_value.proofs.DigitLaws.{two_halves}
 use Rattle.fj_edit_in.proofs.Halves.{half_small, from_bits-low, from_bits-high, from_bits-none}
 use Rattle.fj_edit_in.proofs.bits.signed_of.Goals as goal
 

@@ -3,7 +3,7 @@ use Rattle.std.proofs.Math.ListN.{drop_of_length-le}
 use Rattle.std.proofs.Math.Nat.{div-lt_self}
 use Rattle.std.proofs.lemmas.Nat.{mod_below, pow_pos}
 use Rattle.fj_value.specs.Digits.{numeral}
-use Rattle.fj_value.specs.DigitLaws.{numeral-zero, numeral_some, length-numeral-le, length-numeral_step}
+use Rattle.fj_value.proofs.DigitLaws.{numeral-zero, numeral_some, length-numeral-le, length-numeral_step}
 use Rattle.fj_edit_out.proofs.Numerals.{power_small, power_base, digit_written}
 use Rattle.fj_edit_out.proofs.bits.write_digits.Goals as goal
 

@@ -1,5 +1,5 @@
 use Rattle.std.proofs.Common.{ap, length, ℕ, arith}
-use Rattle.fj_value.specs.DigitLaws.{numeral-zero, numeral-decimal}
+use Rattle.fj_value.proofs.DigitLaws.{numeral-zero, numeral-decimal}
 use Rattle.fj_edit_out.proofs.integer.digits_of.Goals as goal
 
 pub returns-then-amount-eq0 : goal.returns-then-amount-eq0

@@ -1,4 +1,4 @@
-use Rattle.fj_value.specs.DigitLaws.{digits_are, digits_only}
+use Rattle.fj_value.proofs.DigitLaws.{digits_are, digits_only}
 use Rattle.fj_value.proofs.digits.digits_are_unique.Goals as goal
 
 pub returns : goal.returns

@@ -1,4 +1,4 @@
-use Rattle.fj_value.specs.DigitLaws.{number_in-numeral}
+use Rattle.fj_value.proofs.DigitLaws.{number_in-numeral}
 use Rattle.fj_value.proofs.DigitCases.{AreRight, are_right}
 use Rattle.fj_value.proofs.digits.numerals_are_read.Goals as goal
 
