@@ -633,3 +633,40 @@ fn transfers_of_two_units_overlap(rt: HostRuntime) -> Result<(), Fail> {
     assert!(rt; answer == Status::DiskFault { stmt: 7 });
     Ok(())
 }
+
+/// A deck that reads a thousand numbers and leaves a transfer of them pending on each of four units.
+static FOUR_UNITS: &[u8] =
+    b"INTEGER V(1000)\nOPEN(10,FILE='V',ASYNCHRONOUS='YES')\nREAD(10,*,ASYNCHRONOUS='YES') V\nWAIT(10)\nOPEN(11,FILE='A',STATUS='REPLACE',ASYNCHRONOUS='YES')\nOPEN(12,FILE='B',STATUS='REPLACE',ASYNCHRONOUS='YES')\nOPEN(13,FILE='C',STATUS='REPLACE',ASYNCHRONOUS='YES',FORM='UNFORMATTED')\nOPEN(14,FILE='D',STATUS='REPLACE',ASYNCHRONOUS='YES',ACCESS='STREAM')\nWRITE(11,'(10I8)',ASYNCHRONOUS='YES') V\nWRITE(12,*,ASYNCHRONOUS='YES') V\nWRITE(13,ASYNCHRONOUS='YES') V\nWRITE(14,ASYNCHRONOUS='YES') V\nCLOSE(11)\nCLOSE(12)\nCLOSE(13)\nCLOSE(14)\nEND\n";
+
+/// What carrying that deck out with these words comes to.
+#[tactic(auto, using(fj_outside::proofs::HoldingLaws::free_of_empty))]
+fn four_units<Rt: Threads + Wait + Sync>(
+    rt: &Rt,
+    alloc: Global,
+    words: &str,
+) -> Result<(Status, MemoryDisk), AllocError> {
+    let words = words_of(alloc, words)?;
+    let mut deck = MemorySource::new(alloc, FOUR_UNITS)?;
+    let mut out = MemorySink::new(alloc);
+    let mut disk = MemoryDisk::new(alloc);
+    disk.add_file("V", b"400*-7 1 2 598*123456\n")?;
+    let answer = run_job(rt, alloc, &words, &mut deck, &mut out, &mut disk);
+    Ok((answer, disk))
+}
+
+#[test]
+fn four_units_hold_what_one_thread_leaves(rt: HostRuntime) -> Result<(), Fail> {
+    let alloc = rt.alloc();
+    let (answer, disk) = four_units(&rt, alloc, "run --workers 4")?;
+    let (alone, due) = four_units(&rt, alloc, "alone")?;
+    assert!(rt; answer == Status::Ended);
+    assert!(rt; alone == Status::Ended);
+    // A hundred records of ten fields; a record list-directed; a frame of four bytes a number; four bytes a number.
+    for (name, length) in [("A", 8100), ("C", 4008), ("D", 4000)] {
+        assert_eq!(rt; due.bytes_of(name).map(|bytes| bytes.len()), Some(length));
+    }
+    for name in ["A", "B", "C", "D"] {
+        assert_eq!(rt; disk.bytes_of(name), due.bytes_of(name));
+    }
+    Ok(())
+}
