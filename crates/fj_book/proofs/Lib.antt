@@ -2,3 +2,4 @@ pub mod AnyLemmas
 pub mod BookLemmas
 pub mod CountLemmas
 pub mod LawLemmas
+pub mod MeetLemmas

@@ -2,6 +2,9 @@ pub mod Cases
 pub mod Cells
 pub mod Counting
 pub mod Entries
+pub mod Firsts
 pub mod Laws
+pub mod Meeting
 pub mod Needs
 pub mod Prohibitions
+pub mod StatementCases

@@ -11,8 +11,11 @@ mod place_test;
 
 pub use book::Book;
 pub use laws::{
-    decks_are_told, each_is_told, lowest_is_broken, lowest_is_told, parts_meet,
-    places_are_held_until_told,
+    all_is_held, decks_are_told, each_is_told, first_is_least, lowest_is_broken, lowest_is_told,
+    parts_meet, places_are_held_until_told, places_meet, specifiers_meet, statements_are_told,
 };
 pub use need::Need;
 pub use pending::{Pending, Places};
+
+#[cfg(test)]
+mod tests;

@@ -155,6 +155,13 @@ item_back made start rows moved cell so_far was =
     ] in
     go (eqb (position_or_len (is_at cell.place) moved.cells) (length moved.cells)) refl
 
+some_is : {X : Type 0} → (o : Option X) → IsSome o → (x : X) × (o ≡ Some x)
+some_is None h = cc
+some_is (Some x) h = (x, refl)
+
+is_some : {X : Type 0} → (x : X) → IsSome (Some x)
+is_some x = cc
+
 some_value : (o : Option (Option Value)) → IsSome (option_flatten o) → (v : Value) × (o ≡ Some (Some v))
 some_value None h = cc
 some_value (Some None) h = cc
@@ -173,3 +180,28 @@ all_back s [] rows moved kinds homes so_far = so_far
 all_back s (p ∷ places) rows moved kinds homes so_far =
     all_back s places (with_element rows p None) (with_item moved (cell_at s p)) kinds (All-tail (λ q. IsSome (value_at s q)) p places homes)
     (item_back (returned s.kinds) s.values rows moved (cell_at s p) so_far (cell_back s p kinds (All-head (λ q. IsSome (value_at s q)) p places homes)))
+
+-- ---- what each place has once cells are put back
+
+pub stays_at : {T : Type 0} → (made : Cell → T) (cells : List Cell) (rows : List (List T)) (q : Place) → is_among (map (λ (c : Cell). c.place) cells) q ≡ false → element_at (with_cells made cells rows) q ≡ element_at rows q
+stays_at made [] rows q e = refl
+stays_at made (c ∷ cells) rows q e =
+    let parts = parts_false (same_place q c.place) (is_among (map (λ (z : Cell). z.place) cells) q) e in
+    stays_at made cells (with_element rows c.place (made c)) q parts.1 ∙ at_other rows c.place q (made c) (same_back c.place q ∙ parts.0)
+
+-- a place that is there is there after a write
+still_there : {T : Type 0} → (rows : List (List T)) (p q : Place) (x : T) → IsSome (element_at rows q) → IsSome (element_at (with_element rows p x) q)
+still_there {T} rows p q x there =
+    elim (places_tell p q) [
+      | inl same ↦
+          let P : Place → Type 0 = λ z. IsSome (element_at rows z) → IsSome (element_at (with_element rows p x) z) in
+          subst P same.1 (λ h. let found = some_is (element_at rows p) h in subst IsSome (sym (at_same rows p x found.0 found.1)) (is_some x)) there
+      | inr other ↦ subst IsSome (sym (at_other rows p q x other.0)) there
+    ]
+
+pub comes_at : {T : Type 0} → (made : Cell → T) (before behind : List Cell) (cell : Cell) (rows : List (List T)) → IsSome (element_at rows cell.place) → is_among (map (λ (c : Cell). c.place) behind) cell.place ≡ false
+    → element_at (with_cells made (before ++ cell ∷ behind) rows) cell.place ≡ Some (made cell)
+comes_at made [] behind cell rows there last =
+    let found = some_is (element_at rows cell.place) there in
+    stays_at made behind (with_element rows cell.place (made cell)) cell.place last ∙ at_same rows cell.place (made cell) found.0 found.1
+comes_at made (c ∷ before) behind cell rows there last = comes_at made before behind cell (with_element rows c.place (made c)) (still_there rows c.place cell.place (made c) there) last

@@ -54,3 +54,26 @@ pub record PlacesComeBack : Type 0 where
   pub largest : value_at (with_value variables (place 1 1) (Int (pos 2147483647))) (place 1 1) ≡ Some (Int (pos 2147483647))
   pub characters : value_at (with_value variables (place 4 1) (Text (65 ∷ 66 ∷ 67 ∷ []))) (place 4 1) ≡ Some (Text (65 ∷ 66 ∷ 67 ∷ []))
   pub characters_of_another_length : value_at (with_value variables (place 4 1) (Text (65 ∷ []))) (place 4 1) ≡ Some Undefined
+
+-- READs of which the items are out: one of A, one of B, and then of B alone
+abbrev pub out : Storage
+out = without (place 0 1 ∷ []) variables
+
+abbrev pub both_out : Storage
+both_out = without (place 1 1 ∷ []) out
+
+abbrev pub b : ℕ → Cell
+b n = cell 1 1 Int4 (Int (pos n))
+
+-- A is 7 and B undefined before these READs; the second one is told first
+pub record ReadsComeBack : Type 0 where
+  pub first_is_out : value_at both_out (place 0 1) ≡ None
+  pub second_is_out : value_at both_out (place 1 1) ≡ None
+  pub second_comes : value_at (given_back (b 2 ∷ []) both_out) (place 1 1) ≡ Some (Int (pos 2))
+  pub first_stays_out : value_at (given_back (b 2 ∷ []) both_out) (place 0 1) ≡ None
+  pub order_of_coming : given_back (b 2 ∷ []) (given_back (a ∷ []) both_out) ≡ given_back (a ∷ []) (given_back (b 2 ∷ []) both_out)
+  -- one READ of both, of which the record has no value for A
+  pub null_value : given_back (a ∷ b 5 ∷ []) (without (place 0 1 ∷ place 1 1 ∷ []) variables) ≡ with_value variables (place 1 1) (Int (pos 5))
+  -- one READ that has A twice gives it back once, and one of C with its second element too gives that back once
+  pub item_twice : given_back (cell 0 1 Int4 (Int (pos 9)) ∷ b 1 ∷ []) (without (place 0 1 ∷ place 1 1 ∷ place 0 1 ∷ []) variables) ≡ with_value (with_value variables (place 0 1) (Int (pos 9))) (place 1 1) (Int (pos 1))
+  pub array_with_element : given_back (c 2 (Int (pos 4)) ∷ c 1 (Int (pos 1)) ∷ c 3 Undefined ∷ []) (without (place 2 2 ∷ counted_from 2 1 3) variables) ≡ with_value (with_value variables (place 2 1) (Int (pos 1))) (place 2 2) (Int (pos 4))

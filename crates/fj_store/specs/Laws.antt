@@ -1,5 +1,5 @@
 -- What holds of variables that are moved out and come back, in words of their own.
-use Rattle.std.specs.Prelude.{◌≡◌, false, List, map, All, Some, None, IsSome, if◌then◌else◌}
+use Rattle.std.specs.Prelude.{◌≡◌, false, List, ◌∷◌, ◌++◌, map, All, Some, None, IsSome, if◌then◌else◌}
 use Rattle.fj_value.specs.declared.place.Place.{Place}
 use Rattle.fj_value.specs.declared.value.Cell.{Cell}
 use Rattle.fj_value.specs.declared.value.Value.{Value}
@@ -7,6 +7,7 @@ use Rattle.fj_store.specs.Kinds.{kind_at, of_kind}
 use Rattle.fj_store.specs.Places.{is_among, has_twice}
 use Rattle.fj_store.specs.Variables.{moved_of}
 use Rattle.fj_store.specs.Storage.{Storage, value_at, cell_at, without, given_back}
+use Rattle.fj_store.specs.Tables.{element_at}
 
 -- each value is of its variable's kind, or undefined
 abbrev pub AreOfKinds : Storage → Type 0
@@ -24,3 +25,13 @@ JustTheseAreOut = (s : Storage) (places : List Place) (p : Place) → value_at (
 abbrev pub AllComesBack : Type 0
 AllComesBack = (s : Storage) (places : List Place) → AreOfKinds s → All (λ p. IsSome (value_at s p)) places
     → given_back (moved_of (map (cell_at s) places)).cells (without places s) ≡ s
+
+abbrev pub places_of_cells : List Cell → List Place
+places_of_cells cells = map (λ (cell : Cell). cell.place) cells
+
+-- a place that a cell has gets what that cell then holds, as the variable's kind has it (of several cells the last one's); a place
+-- that no cell has keeps what it had
+pub record CellsComeBack : Type 0 where
+  pub comes : (s : Storage) (before behind : List Cell) (cell : Cell) → IsSome (element_at s.values cell.place) → is_among (places_of_cells behind) cell.place ≡ false
+      → value_at (given_back (before ++ cell ∷ behind) s) cell.place ≡ Some (of_kind (kind_at s.kinds cell.place.var) cell.value)
+  pub stays : (s : Storage) (cells : List Cell) (p : Place) → is_among (places_of_cells cells) p ≡ false → value_at (given_back cells s) p ≡ value_at s p

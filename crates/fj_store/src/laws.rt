@@ -1,6 +1,6 @@
 // What holds of variables that are moved out and come back, and worked cases, as contracts of functions with nothing to do.
-ghost use Rattle.fj_store.specs.Cases.{ItemsHaveCells, PlacesComeBack};
-ghost use Rattle.fj_store.specs.Laws.{AllComesBack, CellsAreDistinct, JustTheseAreOut};
+ghost use Rattle.fj_store.specs.Cases.{ItemsHaveCells, PlacesComeBack, ReadsComeBack};
+ghost use Rattle.fj_store.specs.Laws.{AllComesBack, CellsAreDistinct, CellsComeBack, JustTheseAreOut};
 
 /// The cells of a statement have distinct places, whatever its items are.
 pub fn cells_are_distinct()
@@ -17,6 +17,11 @@ pub fn all_comes_back()
     ensures { AllComesBack }
 {}
 
+/// A place comes back with the value that its cell then holds, and no other place changes.
+pub fn cells_come_back()
+    ensures { CellsComeBack }
+{}
+
 /// The cells of items, with an item twice, and an array with its element.
 pub fn items_have_cells()
     ensures { ItemsHaveCells }
@@ -25,4 +30,9 @@ pub fn items_have_cells()
 /// What is read before, while and after places are out.
 pub fn places_come_back()
     ensures { PlacesComeBack }
+{}
+
+/// READs whose items are out, and come back one statement after another.
+pub fn reads_come_back()
+    ensures { ReadsComeBack }
 {}

@@ -13,9 +13,13 @@ mod taken;
 
 pub use kinds::is_of_kind;
 pub use laws::{
-    all_comes_back, cells_are_distinct, items_have_cells, just_these_are_out, places_come_back,
+    all_comes_back, cells_are_distinct, cells_come_back, items_have_cells, just_these_are_out,
+    places_come_back, reads_come_back,
 };
 pub use piece::Piece;
 pub use run::Run;
 pub use store::Store;
 pub use table::Table;
+
+#[cfg(test)]
+mod tests;
