@@ -1,13 +1,17 @@
-//! Jobs that add their amounts, submitted, performed by two hands in turn and settled, in one thread; and a job that fails.
+//! Jobs that add their amounts, submitted and settled in one thread while two hands perform them in others; and a job that fails.
 ghost use Rattle.std.specs.Prelude.{◌≡◌, ◌+◌, ◌<◌, ◌≤◌, ◌^◌, true, None, IfSome, is_some};
-ghost use Rattle.fj_queue.specs.Knows.{knows, learned, IsOf, Serves};
+ghost use denote.Param.Send.{IsSync};
+ghost use Rattle.fj_queue.specs.Knows.{knows, IsOf, Serves};
 
 use crate::{Hand, Queue, Submitter};
 use fj_outside::Stop;
 use fj_slot::{Engine, Slot, Told};
 use std::alloc::Global;
 use std::sync::Wait;
+use std::sync::atomic::AtomicBool;
+use std::sync::atomic::Ordering::SeqCst;
 use std::test::Fail;
+use std::thread::{Threads, join_mut};
 
 // It adds until so many jobs are left, and then fails.
 #[derive(Drop)]
@@ -52,31 +56,43 @@ impl Engine for Counter {
     }
 }
 
-// Submits the amounts from 1 on. Of each three jobs one hand performs the first, the other the second, and no one the third yet.
+// Submits an amount, once more where memory was refused.
+fn give<R: Wait>(
+    rt: &R,
+    queue: &Queue<Counter>,
+    submitter: &mut Submitter<Counter>,
+    amount: u64,
+) -> bool
+    requires own { IsOf queue.now submitter.old }
+    requires plan { (knows submitter.old).plan ≡ None }
+    requires room { (knows submitter.old).sent < 2 ^ 32 }
+    ensures own { IsOf queue.now submitter.new }
+    ensures sent { result ≡ true → (knows submitter.new).sent ≡ (knows submitter.old).sent + 1 }
+    ensures same { ((knows submitter.new).heard ≡ (knows submitter.old).heard) × ((knows submitter.new).plan ≡ None) × ((knows submitter.new).hands ≡ (knows submitter.old).hands) }
+{
+    match queue.submit(rt, submitter, amount) {
+        Ok(_) => true,
+        Err(refused) => queue.submit(rt, submitter, refused.job).is_ok(),
+    }
+}
+
+// Submits the amounts from 1 on.
 fn submit_all<R: Wait>(
     rt: &R,
     queue: &Queue<Counter>,
     submitter: &mut Submitter<Counter>,
-    one: &mut Hand<Counter>,
-    two: &mut Hand<Counter>,
     jobs: u64,
 ) -> bool
-    requires own { IsOf queue.now submitter.old × Serves queue.now one.old × Serves queue.now two.old }
+    requires own { IsOf queue.now submitter.old }
     requires new { ((knows submitter.old).sent ≡ 0) × ((knows submitter.old).heard ≡ 0) × ((knows submitter.old).plan ≡ None) }
     requires few { jobs < 2 ^ 32 }
-    ensures own { IsOf queue.now submitter.new × Serves queue.now one.new × Serves queue.now two.new }
+    ensures own { IsOf queue.now submitter.new }
     ensures hands { (knows submitter.new).hands ≡ (knows submitter.old).hands }
     ensures sent { result ≡ true → ((knows submitter.new).sent ≡ jobs) × ((knows submitter.new).heard ≡ 0) }
 {
     for number in 0..jobs {
-        match queue.submit(rt, submitter, number + 1) {
-            Ok(_) => {}
-            Err(_) => return false,
-        }
-        if number % 3 == 0 {
-            queue.work_once(rt, one);
-        } else if number % 3 == 1 {
-            queue.work_where_due(rt, two);
+        if !give(rt, queue, submitter, number + 1) {
+            return false;
         }
     }
     true
@@ -115,8 +131,96 @@ fn settle_all<R: Wait>(
     (first, last, stops)
 }
 
+// Submits all and settles all.
+fn lead<R: Wait>(
+    rt: &R,
+    queue: &Queue<Counter>,
+    submitter: &mut Submitter<Counter>,
+    jobs: u64,
+    over: &AtomicBool,
+) -> (u64, u64, u64)
+    requires own { IsOf queue.now submitter.old }
+    requires new { ((knows submitter.old).sent ≡ 0) × ((knows submitter.old).heard ≡ 0) × ((knows submitter.old).plan ≡ None) }
+    requires few { jobs < 2 ^ 32 }
+    ensures own { IsOf queue.now submitter.new }
+    ensures hands { (knows submitter.new).hands ≡ (knows submitter.old).hands }
+{
+    let told = if submit_all(rt, queue, submitter, jobs) {
+        settle_all(rt, queue, submitter, jobs)
+    } else {
+        (0, 0, 0)
+    };
+    over.store(true, SeqCst);
+    told
+}
+
+// Works until the jobs are told.
+fn help<R: Wait>(rt: &R, queue: &Queue<Counter>, hand: &mut Hand<Counter>, over: &AtomicBool)
+    requires { Serves queue.now hand.old }
+    ensures { Serves queue.now hand.new }
+{
+    for _ in rt.forever() {
+        if !queue.work_once(rt, hand) && over.load(SeqCst) {
+            return;
+        }
+    }
+    unreachable!()
+}
+
+// The same, while another hand works.
+fn beside_one<R: Threads + Wait + Sync>(
+    rt: &R,
+    queue: &Queue<Counter>,
+    submitter: &mut Submitter<Counter>,
+    hand: &mut Hand<Counter>,
+    jobs: u64,
+    over: &AtomicBool,
+) -> (u64, u64, u64)
+    requires own { IsOf queue.now submitter.old × Serves queue.now hand.old }
+    requires new { ((knows submitter.old).sent ≡ 0) × ((knows submitter.old).heard ≡ 0) × ((knows submitter.old).plan ≡ None) }
+    requires few { jobs < 2 ^ 32 }
+    ensures own { IsOf queue.now submitter.new × Serves queue.now hand.new }
+    ensures hands { (knows submitter.new).hands ≡ (knows submitter.old).hands }
+{
+    let mut told = (0, 0, 0);
+    join_mut(
+        rt,
+        &mut || help(rt, queue, hand, over),
+        &mut || told = lead(rt, queue, submitter, jobs, over),
+    );
+    told
+}
+
+// The same, while two hands work.
+fn beside_two<R: Threads + Wait + Sync>(
+    rt: &R,
+    queue: &Queue<Counter>,
+    submitter: &mut Submitter<Counter>,
+    one: &mut Hand<Counter>,
+    two: &mut Hand<Counter>,
+    jobs: u64,
+) -> (u64, u64, u64)
+    requires own { IsOf queue.now submitter.old × Serves queue.now one.old × Serves queue.now two.old }
+    requires new { ((knows submitter.old).sent ≡ 0) × ((knows submitter.old).heard ≡ 0) × ((knows submitter.old).plan ≡ None) }
+    requires few { jobs < 2 ^ 32 }
+    ensures own { IsOf queue.now submitter.new × Serves queue.now one.new × Serves queue.now two.new }
+    ensures hands { (knows submitter.new).hands ≡ (knows submitter.old).hands }
+{
+    let over = AtomicBool::new(false);
+    let mut told = (0, 0, 0);
+    join_mut(
+        rt,
+        &mut || help(rt, queue, one, &over),
+        &mut ||
+            requires { IsSync R.row × IsOf queue.now submitter.now × Serves queue.now two.now × ((knows submitter.now).sent ≡ 0) × ((knows submitter.now).heard ≡ 0) × ((knows submitter.now).plan ≡ None) × (jobs < 2 ^ 32) }
+            ensures { IsOf queue.entry.now submitter.exit.now × Serves queue.entry.now two.exit.now × ((knows submitter.exit.now).hands ≡ (knows submitter.entry.now).hands) }
+        { told = beside_one(rt, queue, submitter, two, jobs, &over) },
+    );
+    told
+}
+
 // What so many jobs gave, and the slot.
-fn tally<R: Wait>(
+fn tally<R: Threads + Wait + Sync>(
     rt: &R,
     alloc: Global,
     left: u64,
@@ -133,27 +237,34 @@ fn tally<R: Wait>(
     let (queue, mut submitter) = Queue::new(alloc, counter).ok()?;
     let mut one = queue.hand(&mut submitter);
     let mut two = queue.hand(&mut submitter);
-    let told = if submit_all(rt, &queue, &mut submitter, &mut one, &mut two, jobs) {
-        settle_all(rt, &queue, &mut submitter, jobs)
-    } else {
-        (0, 0, 0)
-    };
+    let told = beside_two(rt, &queue, &mut submitter, &mut one, &mut two, jobs);
     queue.fold_in(&mut submitter, one);
     queue.fold_in(&mut submitter, two);
     Some((told, queue.close(submitter)))
 }
 
-// The number of the next job, once the slot was resumed.
-fn next_number<R: Wait>(rt: &R, alloc: Global, slot: Slot<Counter>) -> Option<u64>
+// The number and the answer of one job more, once the slot was resumed; no hand works.
+fn next_job<R: Wait>(rt: &R, alloc: Global, slot: Slot<Counter>) -> Option<(u64, u64)>
     requires { is_some slot.home ≡ true }
 {
-    if slot.submitted() >= 1 << 62 {
+    if slot.submitted() >= 1 << 62 || slot.submitted() < slot.told() {
         return None;
     }
     let (queue, mut submitter) = Queue::resume(alloc, slot).ok()?;
-    let number = queue.submit(rt, &mut submitter, 1).ok();
+    let answer = match queue.submit(rt, &mut submitter, 1) {
+        Ok(number) => match queue.settle(rt, &mut submitter) {
+            Told::Done { job: _, answer } => Some((number, answer)),
+            Told::Stopped {
+                job: _,
+                stop: _,
+                before: _,
+                after: _,
+            } => None,
+        },
+        Err(_) => None,
+    };
     let _slot = queue.close(submitter);
-    number
+    answer
 }
 
 #[test]
@@ -161,7 +272,7 @@ fn jobs_add_in_order(rt: HostRuntime) -> Result<(), Fail> {
     let (told, slot) = tally(&rt, rt.alloc(), 1000, 1000).ok_or("no memory")?;
     assert_eq!(rt; told, (1, 500500, 0));
     assert_eq!(rt; slot.done(), 1000);
-    assert_eq!(rt; next_number(&rt, rt.alloc(), slot), Some(1000));
+    assert_eq!(rt; next_job(&rt, rt.alloc(), slot), Some((1000, 500501)));
     Ok(())
 }
 

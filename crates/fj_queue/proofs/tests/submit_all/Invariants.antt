@@ -5,8 +5,6 @@ use Rattle.fj_queue.proofs.tests.submit_all.Given as goal
 abbrev pub invariant-loop-number : goal.invariant-loop-number
 invariant-loop-number g l = record {
   own : l.submitter.seat.table_id ≡ l.initial.submitter.seat.table_id;
-  one : l.one.seat.table_id ≡ l.initial.one.seat.table_id;
-  two : l.two.seat.table_id ≡ l.initial.two.seat.table_id;
   sent : (knows l.submitter).sent ≡ l.number;
   heard : (knows l.submitter).heard ≡ 0;
   plan : (knows l.submitter).plan ≡ None;
