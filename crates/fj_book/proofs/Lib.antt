@@ -1,4 +1,5 @@
 pub mod AnyLemmas
 pub mod BookLemmas
 pub mod CountLemmas
+pub mod SiftLemmas
 pub mod LawLemmas
