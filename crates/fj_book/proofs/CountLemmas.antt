@@ -10,7 +10,8 @@ use Rattle.fj_store.specs.Places.{same_place, is_among, has_twice}
 use Rattle.fj_store.specs.Tables.{element_in, element_at, with_element}
 use Rattle.fj_store.proofs.TableLemmas.{places_tell, at_same, at_other}
 use Rattle.fj_book.specs.declared.pending.Pending.{Pending}
-use Rattle.fj_book.specs.Counting.{occurrences, holds_in, IsCounted, IsKept}
+use Rattle.fj_book.specs.Counting.{occurrences, holds_in, IsCounted, AreCounted, IsKept}
+use Rattle.fj_book.specs.Entries.{IsAscending}
 
 -- ---- a table that is changed place by place
 
@@ -218,5 +219,6 @@ none_kept {A} f xs entries inputs outputs empty ins outs =
     let P : List Pending → Type 0 = λ es. IsKept es inputs outputs in
     subst P (sym empty) kept
 
-pub kept_as : (entries left : List Pending) (at : ℕ) (e : Pending) (inputs outputs : List (List ℕ)) → left ≡ remove entries at → IsKept (remove entries at) inputs outputs → IsKept left inputs outputs
-kept_as entries left at e inputs outputs same kept = let P : List Pending → Type 0 = λ es. IsKept es inputs outputs in subst P (sym same) kept
+pub kept_as : (entries left : List Pending) (inputs outputs : List (List ℕ)) → left ≡ entries → IsAscending entries → AreCounted entries inputs outputs → IsKept left inputs outputs
+kept_as entries left inputs outputs same up counted =
+    let P : List Pending → Type 0 = λ es. IsKept es inputs outputs in subst P (sym same) (record { ascending = up; inputs_counted = counted.0; outputs_counted = counted.1 })

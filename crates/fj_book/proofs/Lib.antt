@@ -1,5 +1,6 @@
 pub mod AnyLemmas
 pub mod BookLemmas
 pub mod CountLemmas
+pub mod SiftLemmas
 pub mod LawLemmas
 pub mod MeetLemmas

@@ -20,6 +20,9 @@ holds_in input place e = cond input e.input (not e.input) && is_among e.places p
 abbrev pub IsCounted : Bool → List (List ℕ) → List Pending → Type 0
 IsCounted input counts entries = (p : Place) (n : ℕ) → element_at counts p ≡ Some n → n ≡ count_by (holds_in input p) entries
 
+abbrev pub AreCounted : List Pending → List (List ℕ) → List (List ℕ) → Type 0
+AreCounted entries inputs outputs = IsCounted true inputs entries × IsCounted false outputs entries
+
 -- the entries ascend, and both tables have their numbers
 pub record IsKept (entries : List Pending) (inputs outputs : List (List ℕ)) : Type 0 where
   pub ascending : IsAscending entries

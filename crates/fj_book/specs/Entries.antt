@@ -1,5 +1,5 @@
 -- The pending transfers in ascending order of their identifiers.
-use Rattle.std.specs.Prelude.{ℕ, ◌==◌, ◌<◌, Bool, List, map, AllPairs}
+use Rattle.std.specs.Prelude.{ℕ, ◌==◌, ◌<◌, ◌&&◌, nat_le, Bool, true, List, map, AllPairs, Option, None, Some}
 use Rattle.fj_book.specs.declared.pending.Pending.{Pending}
 use Rattle.fj_book.specs.Prohibitions.{Holder}
 
@@ -11,6 +11,15 @@ has_tag tag e = tag_of e == tag
 
 abbrev pub is_of_unit : ℕ → Pending → Bool
 is_of_unit unit e = e.unit == unit
+
+-- of any unit where none is named
+abbrev pub is_of : Option ℕ → Pending → Bool
+is_of None e = true
+is_of (Some unit) e = is_of_unit unit e
+
+-- it has the identifier or a greater one, and is of the unit
+abbrev pub is_told : Option ℕ → ℕ → Pending → Bool
+is_told unit first e = nat_le first (tag_of e) && is_of unit e
 
 abbrev pub IsAscending : List Pending → Type 0
 IsAscending entries = AllPairs (λ (a b : Pending). tag_of a < tag_of b) entries

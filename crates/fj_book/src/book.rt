@@ -1,11 +1,12 @@
 // The book: the pending transfers in ascending order of their identifiers.
-ghost use Rattle.std.specs.Prelude.{◌≡◌, ◌<◌, ◌≢◌, not, List, [], ◌∷◌, ◌++◌, ℕ, length, filter, find, map, replicate, remove, All, HoldsAt, pos, ◌<ℤ◌, MatchOption, IfOk, IfSome, IfNone, OnOk, OnErr};
+ghost use Rattle.std.specs.Prelude.{◌≡◌, ◌<◌, ◌≤◌, ◌≢◌, not, List, [], ◌∷◌, ◌++◌, ℕ, length, filter, find, map, replicate, remove, take, drop, All, HoldsAt, pos, ◌<ℤ◌, MatchOption, IfOk, IfSome, IfNone, OnOk, OnErr};
+ghost use Rattle.std.specs.List.Sorted.{IsPartitionPoint};
 ghost use Rattle.std.specs.Option.{option_map};
 ghost use Rattle.fj_store.specs.Storage.{values_of};
 ghost use Rattle.fj_store.specs.Variables.{value_at, is_undefined};
 ghost use Rattle.fj_book.specs.declared.pending.Pending.{Pending};
-ghost use Rattle.fj_book.specs.Counting.{IsKept};
-ghost use Rattle.fj_book.specs.Entries.{holders, has_tag, is_of_unit, tag_of, IsAscending};
+ghost use Rattle.fj_book.specs.Counting.{AreCounted, IsKept};
+ghost use Rattle.fj_book.specs.Entries.{holders, has_tag, is_of_unit, is_of, is_told, tag_of, IsAscending};
 ghost use Rattle.fj_book.specs.Needs.{need_of};
 ghost use Rattle.fj_book.specs.Prohibitions.{prohibited, is_read, is_held, names_pending};
 
@@ -83,6 +84,26 @@ fn place_of(entries: &VecDeque<Pending>, id: u64) -> Option<usize>
     Some(at)
 }
 
+/// How many of the first transfers have lower identifiers than this one.
+fn below(entries: &VecDeque<Pending>, id: u64) -> usize
+    requires { IsAscending entries.now.items }
+    ensures bound { result ≤ length entries.now.items }
+    ensures parted { IsPartitionPoint (λ e. tag_of e < id) (λ e. id ≤ tag_of e) entries.now.items result }
+{
+    let at = entries.partition_point(|entry| (entry.tag.0 as u64) < id);
+    at
+}
+
+/// Whether a transfer is of the unit, or of any where none is named.
+fn is_of(unit: Option<u32>, entry: &Pending) -> bool
+    ensures { result ≡ is_of unit entry.now }
+{
+    match unit {
+        None => true,
+        Some(unit) => entry.unit == unit,
+    }
+}
+
 /// Counts a transfer more.
 fn count_in(
     entries: &VecDeque<Pending>,
@@ -102,12 +123,36 @@ fn count_in(
 
 /// Counts a transfer no more.
 fn count_out(inputs: &mut Table<u64>, outputs: &mut Table<u64>, pending: &Pending)
-    ensures { (entries : List Pending) (at : ℕ) → at < length entries → HoldsAt (λ e. e ≡ pending.now) entries at → IsKept entries inputs.old outputs.old → IsKept (remove entries at) inputs.new outputs.new }
+    ensures { (entries : List Pending) (at : ℕ) → at < length entries → HoldsAt (λ e. e ≡ pending.now) entries at → AreCounted entries inputs.old outputs.old → AreCounted (remove entries at) inputs.new outputs.new }
 {
     if pending.input {
         lower(inputs, pending.places.as_slice());
     } else {
         lower(outputs, pending.places.as_slice());
+    }
+}
+
+/// Goes over so many of the first transfers. Those of the unit are taken off, and the others go behind all that are left.
+fn sift(
+    entries: &mut VecDeque<Pending>,
+    inputs: &mut Table<u64>,
+    outputs: &mut Table<u64>,
+    unit: Option<u32>,
+    count: usize,
+)
+    requires { count ≤ length entries.old.items }
+    ensures left { entries.new.items ≡ drop count entries.old.items ++ filter (λ e. not (is_of unit e)) (take count entries.old.items) }
+    ensures counted { AreCounted entries.old.items inputs.old outputs.old → AreCounted entries.new.items inputs.new outputs.new }
+{
+    for _ in 0..count {
+        let Some(entry) = entries.pop_front() else {
+            return;
+        };
+        if is_of(unit, &entry) {
+            count_out(inputs, outputs, &entry);
+        } else {
+            entries.push_back_reserved(entry);
+        }
     }
 }
 
@@ -231,6 +276,23 @@ impl Book {
         let pending = self.entries.remove(at)?;
         count_out(&mut self.inputs, &mut self.outputs, &pending);
         Some(pending)
+    }
+
+    /// Takes the transfers off that have this identifier or a greater one and are of the unit, or of any where none is named. It goes
+    /// once over the transfers that have such identifiers, and takes no memory.
+    pub fn tell_from(&mut self, unit: Option<u32>, first: Tag)
+        ensures { self.new ≡ filter (λ e. not (is_told unit first.0 e)) self.old }
+    {
+        let at = below(&self.entries, u64::from(first.0));
+        let count = self.entries.len() - at;
+        self.entries.rotate_left(at);
+        sift(
+            &mut self.entries,
+            &mut self.inputs,
+            &mut self.outputs,
+            unit,
+            count,
+        );
     }
 }
 

@@ -1,7 +1,7 @@
-use Rattle.std.proofs.Common.{◌≡◌, not, filter, sym, ap, ◌∙◌}
+use Rattle.std.proofs.Common.{◌≡◌, not, filter, remove, sym, ap, ◌∙◌}
 use Rattle.std.specs.List.{find}
 use Rattle.fj_book.specs.Entries.{has_tag, tag_of}
-use Rattle.fj_book.proofs.BookLemmas.{find_absent, filter_absent, find_at, filter_at, same_read}
+use Rattle.fj_book.proofs.BookLemmas.{ascending_removed, find_absent, filter_absent, find_at, filter_at, same_read}
 use Rattle.fj_book.proofs.CountLemmas.{kept_as}
 use Rattle.fj_book.proofs.book.Book.tell.Goals as goal
 
@@ -17,9 +17,11 @@ returns-in_err-at-clause-left c =
 
 pub invariant_of-self-2 : goal.invariant_of-self-2
 invariant_of-self-2 c =
-    kept_as c.self.inside.entries.items c.remove.new.self.items c.in_ok-at.at c.in_ok-pending.pending c.count_out.new.inputs c.count_out.new.outputs c.in_ok-pending.ensures.items
-    (c.count_out.ensures c.self.inside.entries.items c.in_ok-at.at c.in_ok-at.ensures.some.0
-    (λ d. same_read c.self.inside.entries.items c.in_ok-at.at d c.in_ok-pending.pending c.in_ok-at.ensures.some.0 ∙ sym c.in_ok-pending.ensures.value) c.self.invariant)
+    let es = c.self.inside.entries.items in
+    let at = c.in_ok-at.at in
+    let low = c.in_ok-at.ensures.some.0 in
+    kept_as (remove es at) c.remove.new.self.items c.count_out.new.inputs c.count_out.new.outputs c.in_ok-pending.ensures.items (ascending_removed es at low c.self.invariant.ascending)
+    (c.count_out.ensures es at low (λ d. same_read es at d c.in_ok-pending.pending low ∙ sym c.in_ok-pending.ensures.value) (c.self.invariant.inputs_counted, c.self.invariant.outputs_counted))
 
 pub returns-clause-told : goal.returns-clause-told
 returns-clause-told c =
