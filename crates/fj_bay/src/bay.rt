@@ -17,6 +17,9 @@ use fj_transfer::{Transfer, undefine};
 use fj_value::{Condition, EditModes};
 use std::alloc::Global;
 
+/// So many cells take longer to transfer than a thread takes to wake.
+const MANY_CELLS: usize = 256;
+
 /// The place of one connection, with the halt that an error or the end of the file sets.
 #[derive(Drop)]
 pub struct Bay<F: FileStore> {
@@ -210,5 +213,12 @@ impl<F: FileStore> Engine for Bay<F> {
 
     fn faults(&self) -> u64 {
         self.faults
+    }
+
+    fn is_long(job: &Job<F>) -> bool {
+        match job {
+            Job::Move(transfer) => transfer.moved.cells.len() >= MANY_CELLS,
+            _ => false,
+        }
     }
 }

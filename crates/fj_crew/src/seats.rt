@@ -9,7 +9,7 @@ use fj_slot::{Engine, Refused, Told};
 use std::collections::VecDeque;
 use std::sync::Wait;
 
-/// Submits a job to the slot at that place, and rings.
+/// Submits a job to the slot at that place, and tells the workers.
 pub(crate) fn submit_at<E: Engine, R: Wait>(
     rt: &R,
     queues: &VecDeque<Queue<E>>,
@@ -27,8 +27,9 @@ pub(crate) fn submit_at<E: Engine, R: Wait>(
 {
     let queue = &queues[at];
     let seat = &mut seats[at];
+    let is_long = E::is_long(&job);
     let number = queue.submit(rt, seat, job);
-    signals.ring();
+    signals.submitted(at as u64, is_long);
     number
 }
 
@@ -49,6 +50,7 @@ pub(crate) fn settle_at<E: Engine, R: Wait>(
 {
     let queue = &queues[at];
     let seat = &mut seats[at];
+    signals.settling(at as u64);
     let told = queue.settle(rt, seat);
     signals.ring_if(queue.seems_due());
     told

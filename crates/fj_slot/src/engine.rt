@@ -30,4 +30,9 @@ pub trait Engine: Drop {
     /// How often something of the outside has failed.
     fn faults(&self) -> u64
         ensures { result ≡ meaning.faults self.now };
+
+    /// Whether a job may take so long that a thread is worth waking for it. It is a hint: no clause rests on it.
+    fn is_long(_job: &Self::Job) -> bool {
+        true
+    }
 }
