@@ -12,12 +12,13 @@ use Rattle.fj_turns.specs.Turns.{with_answer}
 use Rattle.fj_turns.specs.Turns as turns
 use Rattle.fj_book.specs.declared.pending.Pending.{Pending}
 use Rattle.fj_plain.proofs.Lists.{pairs_head, pairs_tail, no}
+use Rattle.fj_pending.specs.declared.busy.Busy.{Busy}
 use Rattle.fj_pending.specs.declared.held.Held.{Held}
 use Rattle.fj_pending.specs.declared.held.Told.{Told}
 use Rattle.fj_pending.specs.declared.mark.Mark.{Mark}
 use Rattle.fj_pending.specs.Plain.{held, held_of, outcome_of}
 use Rattle.fj_pending.specs.Answers.{is_at, waits_at, with_told, NoneWaits}
-use Rattle.fj_pending.specs.Busy.{is_busy}
+use Rattle.fj_pending.specs.Busy.{may_have}
 use Rattle.fj_pending.specs.Tied.{IsAscending, IsRising, IsMarked, IsSame, AreSame, IsTied, mark_at, answered_marks}
 use Rattle.fj_pending.proofs.Ids.{same_read}
 use Rattle.fj_pending.proofs.Tying.{seated, own_marked, remarked}
@@ -124,7 +125,7 @@ own_answer marks slot number m r n told y it same this =
     own_marked marks slot m (with_told told y) (subst (λ j. j < length marks) same (seated marks y it)) same (λ lt. refl) (λ some. omega (arith, this, r)) (omega (arith, under, n))
 
 -- an answer is put, and the numbers of the slot that have answers go so far
-answered_at : (told : Told) (y : Held) (hs : List Held) (es : List Pending) (marks : List Mark) (units : List ℕ) (slot number at : ℕ) → get_or hs at y ≡ y → at < length hs → is_at slot number y ≡ true
+answered_at : (told : Told) (y : Held) (hs : List Held) (es : List Pending) (marks : List Mark) (units : List Busy) (slot number at : ℕ) → get_or hs at y ≡ y → at < length hs → is_at slot number y ≡ true
     → IsTied hs es marks units → IsTied (set hs at (with_told told y)) es (answered_marks marks slot number) units
 answered_at told y hs es marks units slot number at is low here t =
     let m : Mark = record (mark_at marks slot) { reached = max (mark_at marks slot).reached number } in
@@ -135,14 +136,14 @@ answered_at told y hs es marks units slot number at is low here t =
       marked = All-set (IsMarked (set marks slot m)) hs at (with_told told y)
           (own_answer marks slot number m refl refl told y (subst (IsMarked marks) is (t.marked at y low)) (slot_is slot number y here) (number_is slot number y here))
           (All-weaker (IsMarked marks) (IsMarked (set marks slot m)) (λ x k. remarked marks slot m x k (λ same. answer_marked marks slot number m refl refl refl x k same)) hs t.marked);
-      busy = All-set (λ (h : Held). is_busy units h.unit ≡ true) hs at (with_told told y) (subst (λ (h : Held). is_busy units h.unit ≡ true) is (t.busy at y low)) t.busy;
+      busy = All-set (λ (h : Held). may_have units h.unit h.tag.0 ≡ true) hs at (with_told told y) (subst (λ (h : Held). may_have units h.unit h.tag.0 ≡ true) is (t.busy at y low)) t.busy;
     }
 
 any_of : {X P : Type 0} (xs : List X) (i : ℕ) → i < length xs → (X → P) → P
 any_of [] i low f = absurd (omega (arith, low))
 any_of (x ∷ xs) i low f = f x
 
-pub answered_is : (told : Told) (hs hs' : List Held) (es : List Pending) (marks : List Mark) (units : List ℕ) (slot number at : ℕ) → at < length hs → ((h : Held) → is_at slot number (get_or hs at h) ≡ true)
+pub answered_is : (told : Told) (hs hs' : List Held) (es : List Pending) (marks : List Mark) (units : List Busy) (slot number at : ℕ) → at < length hs → ((h : Held) → is_at slot number (get_or hs at h) ≡ true)
     → ((h : Held) → hs' ≡ set hs at (with_told told (get_or hs at h))) → IsTied hs es marks units → IsTied hs' es (answered_marks marks slot number) units
 answered_is told hs hs' es marks units slot number at low here put t =
     any_of hs at low (λ d.

@@ -1,38 +1,74 @@
--- No transfer is of a unit that is not busy; and the units stay those that transfers are of.
-use Rattle.std.proofs.Common.{◌≡◌, ◌≢◌, ℕ, ◌<◌, ◌&&◌, ◌||◌, not, Bool, true, false, List, [], ◌∷◌, ◌++◌, length, get_or, None, All, refl, sym, ap, subst, ◌∙◌, inl, inr}
-use Rattle.std.specs.Prelude.{if◌then◌else◌, filter, is_none, ◌==◌}
+-- No transfer is of a unit that may have none, and none before the lowest identifier of a unit is of it; and the units stay those that
+-- transfers are of.
+use Rattle.std.proofs.Common.{◌≡◌, ◌≢◌, ℕ, ◌<◌, ◌&&◌, ◌||◌, cond, not, Bool, true, false, List, [], ◌∷◌, ◌++◌, length, length-take, get_or, take, drop, Option, None, Some, All, refl, sym, ap, subst, ◌∙◌, inl, inr, arith}
+use Rattle.std.specs.Prelude.{if◌then◌else◌, filter, is_none, nat_le, max, ◌==◌}
+use Rattle.std.specs.Option.{option_map, option_map_or, option_or}
 use Rattle.std.specs.List.{list_any, find}
-use Rattle.std.proofs.lemmas.Bool.{ne_eqb, eq-eqb, eqb-true}
-use Rattle.std.proofs.lemmas.Bool.Decides.{eqb_tells}
-use Rattle.std.proofs.lemmas.List.Elements.{All-nil, All-cons, All-weaker, All-append, All-filter, filter_passes}
-use Rattle.std.proofs.lemmas.List.Folds.{list_any_none, list_any-append}
-use Rattle.std.proofs.lemmas.Map.Views.{any-filter_same}
+use Rattle.std.proofs.lemmas.Bool.{ne_eqb, eq-eqb, le-leb, leb-true, cases_lt}
+use Rattle.std.proofs.lemmas.Bool.Decides.{eqb_tells, nat_tests}
+use Rattle.std.proofs.lemmas.List.{get_or-take, take-append-drop}
+use Rattle.std.proofs.lemmas.List.Elements.{All-nil, All-cons, All-weaker, All-append, All-filter, filter_passes, filter-append}
+use Rattle.std.proofs.lemmas.List.Folds.{find-append, list_any_none, list_any-append}
+use Rattle.fj_value.specs.declared.place.Tag.{Tag}
 use Rattle.fj_plain.specs.State.{halts}
 use Rattle.fj_plain.proofs.Lists.{all_both, filter_false}
+use Rattle.fj_pending.specs.declared.busy.Busy.{Busy}
 use Rattle.fj_pending.specs.declared.held.Held.{Held}
 use Rattle.fj_pending.specs.declared.pick.Pick.{Pick}
 use Rattle.fj_pending.specs.declared.pick.Pick.TheVariants as pick
-use Rattle.fj_pending.specs.Busy.{is_busy, AreBusy, with_unit, without_told}
+use Rattle.fj_pending.specs.Busy.{first_of, may_have, AreBusy, without_unit, with_transfer, without_told}
 use Rattle.fj_pending.specs.Plain.{entry_of}
 use Rattle.fj_pending.specs.Tied.{IsAscending}
 use Rattle.fj_pending.specs.Waits.{picks, is_due, is_cause}
 use Rattle.fj_pending.proofs.Ids.{filter_absent, filter_one, none_taken}
 use Rattle.fj_pending.proofs.Waited.{any_filter, find_filter}
 
--- ---- a unit that is not one of them
+-- ---- where no transfer of a unit stands
 
-pub idle_absent : (units : List ℕ) (u : ℕ) (hs : List Held) → AreBusy units hs → is_busy units u ≡ false → All (λ (h : Held). h.unit ≢ u) hs
-idle_absent units u hs all idle =
-    All-weaker (λ (h : Held). is_busy units h.unit ≡ true) (λ (h : Held). h.unit ≢ u) (λ h k same. let never : false ≡ true = sym idle ∙ ap (is_busy units) (sym same) ∙ k in cc) hs all
+abbrev pub AreOthers : ℕ → List Held → Type 0
+AreOthers u hs = All (λ (h : Held). h.unit ≢ u) hs
 
-pub idle_due : (units : List ℕ) (u : ℕ) (hs : List Held) → AreBusy units hs → is_busy units u ≡ false → find (is_due (pick.OfUnit u)) hs ≡ None
-idle_due units u hs all idle =
+pub idle_absent : (busy : List Busy) (u : ℕ) (hs : List Held) → AreBusy busy hs → first_of busy u ≡ None → AreOthers u hs
+idle_absent busy u hs all idle =
+    All-weaker (λ (h : Held). may_have busy h.unit h.tag.0 ≡ true) (λ (h : Held). h.unit ≢ u)
+    (λ h k same. let never : false ≡ true = sym (ap (λ o. option_map_or (λ (first : Tag). nat_le first.0 h.tag.0) o false) (ap (first_of busy) same ∙ idle)) ∙ k in cc) hs all
+
+pub low_absent : (busy : List Busy) (u : ℕ) (first : Tag) (hs : List Held) (at : ℕ) → AreBusy busy hs → first_of busy u ≡ Some first → ((k : ℕ) (h : Held) → k < at → (get_or hs k h).tag.0 < first.0) → AreOthers u (take at hs)
+low_absent busy u first hs at all is low k d within = λ same.
+    let cut = length-take at hs in
+    let early : k < at = omega (arith, within, cut) in
+    let h : Held = get_or hs k d in
+    let of_it : h.unit ≡ u = ap (λ (x : Held). x.unit) (sym (get_or-take at hs k d early)) ∙ same in
+    let has : nat_le first.0 h.tag.0 ≡ true = sym (ap (λ o. option_map_or (λ (f : Tag). nat_le f.0 h.tag.0) o false) (ap (first_of busy) of_it ∙ is)) ∙ all k d (omega (arith, within, cut)) in
+    absurd (omega (arith, leb-true first.0 h.tag.0 has, low k d early))
+
+pub others_due : (u : ℕ) (hs : List Held) → AreOthers u hs → find (is_due (pick.OfUnit u)) hs ≡ None
+others_due u hs others =
     find_filter (λ (h : Held). h.unit == u) (λ (h : Held). is_none h.answer) hs
-    ∙ ap (find (λ (h : Held). is_none h.answer)) (filter_absent (λ (h : Held). h.unit) u hs (idle_absent units u hs all idle))
+    ∙ ap (find (λ (h : Held). is_none h.answer)) (filter_absent (λ (h : Held). h.unit) u hs others)
 
-pub idle_taken : (units : List ℕ) (u : ℕ) (hs : List Held) → AreBusy units hs → is_busy units u ≡ false
+pub at_later : (P : ℕ → Type 0) (a b : ℕ) → P a → P b → P (max a b)
+at_later P a b pa pb = elim (cases_lt a b) [
+  | inl lt ↦ let is : max a b ≡ b = omega (arith, lt) in subst P (sym is) pb
+  | inr ge ↦ let is : max a b ≡ a = omega (arith, ge) in subst P (sym is) pa
+]
+
+pub idle_taken : (busy : List Busy) (u : ℕ) (hs : List Held) → AreBusy busy hs → first_of busy u ≡ None
     → ([] ≡ filter (picks (pick.OfUnit u)) hs) × (hs ≡ filter (λ h. not (picks (pick.OfUnit u) h)) hs)
-idle_taken units u hs all idle = none_taken (λ (h : Held). h.unit) u hs (idle_absent units u hs all idle)
+idle_taken busy u hs all idle = none_taken (λ (h : Held). h.unit) u hs (idle_absent busy u hs all idle)
+
+-- before a place no transfer of a unit stands
+module _ (u at : ℕ) (hs : List Held) (others : AreOthers u (take at hs)) where
+  pub own_behind : filter (picks (pick.OfUnit u)) (drop at hs) ≡ filter (picks (pick.OfUnit u)) hs
+  own_behind =
+      sym (ap (filter (picks (pick.OfUnit u))) (sym (take-append-drop at hs)) ∙ filter-append (picks (pick.OfUnit u)) (take at hs) (drop at hs)
+      ∙ ap (λ l. l ++ filter (picks (pick.OfUnit u)) (drop at hs)) (filter_absent (λ (h : Held). h.unit) u (take at hs) others))
+
+  pub others_behind : take at hs ++ filter (λ h. not (picks (pick.OfUnit u) h)) (drop at hs) ≡ filter (λ h. not (picks (pick.OfUnit u) h)) hs
+  others_behind =
+      let other : Held → Bool = λ h. not (picks (pick.OfUnit u) h) in
+      sym (ap (filter other) (sym (take-append-drop at hs)) ∙ filter-append other (take at hs) (drop at hs)
+      ∙ ap (λ l. l ++ filter other (drop at hs)) (sym (none_taken (λ (h : Held). h.unit) u (take at hs) others).1))
 
 -- ---- which transfers can have halted a unit
 
@@ -40,10 +76,14 @@ and_false : (b c d : Bool) → c ≡ false → (b && (c && d)) ≡ false
 and_false true c d e = ap (λ x. x && d) e
 and_false false c d e = refl
 
-pub idle_causes : (units : List ℕ) (p : Pick) (u : ℕ) (hs : List Held) → AreBusy units hs → is_busy units u ≡ false → list_any (is_cause p u) hs ≡ false
-idle_causes units p u hs all idle =
+pub others_cause : (p : Pick) (u : ℕ) (hs : List Held) → AreOthers u hs → list_any (is_cause p u) hs ≡ false
+others_cause p u hs others =
     list_any_none (is_cause p u) hs
-    (All-weaker (λ (h : Held). h.unit ≢ u) (λ (h : Held). is_cause p u h ≡ false) (λ h other. and_false (picks p h) (h.unit == u) (halts (entry_of h).condition) (ne_eqb h.unit u other)) hs (idle_absent units u hs all idle))
+    (All-weaker (λ (h : Held). h.unit ≢ u) (λ (h : Held). is_cause p u h ≡ false) (λ h other. and_false (picks p h) (h.unit == u) (halts (entry_of h).condition) (ne_eqb h.unit u other)) hs others)
+
+pub any_behind : {X : Type 0} (f : X → Bool) (xs : List X) (at : ℕ) → list_any f (take at xs) ≡ false → list_any f (drop at xs) ≡ list_any f xs
+any_behind f xs at none =
+    sym (ap (list_any f) (sym (take-append-drop at xs)) ∙ list_any-append f (take at xs) (drop at xs) ∙ ap (λ b. b || list_any f (drop at xs)) none)
 
 pub none_causes : (u : ℕ) (hs : List Held) → list_any (is_cause pick.None u) hs ≡ false
 none_causes u [] = refl
@@ -76,41 +116,101 @@ one_causes t u hs i y up low is same =
     ∙ sym (ap (list_any halted) (ap (λ n. filter (λ (h : Held). h.tag.0 == n) hs) (sym same) ∙ filter_one (λ (h : Held). h.tag.0) hs i y up low is))
     ∙ any_filter halted (λ (h : Held). h.tag.0 == t) hs
 
+-- ---- the lowest identifiers of units that are added and taken off
+
+first_cons : (b : Busy) (xs ys : List Busy) (n : ℕ) → first_of xs n ≡ first_of ys n → first_of (b ∷ xs) n ≡ first_of (b ∷ ys) n
+first_cons b xs ys n same = by (b.unit == n)
+  where
+    by : (c : Bool) → option_map (λ (x : Busy). x.first) (cond c (Some b) (find (λ (x : Busy). x.unit == n) xs)) ≡ option_map (λ (x : Busy). x.first) (cond c (Some b) (find (λ (x : Busy). x.unit == n) ys))
+    by true = refl
+    by false = same
+
+first_skipped : (b : Busy) (xs : List Busy) (n : ℕ) → b.unit ≢ n → first_of (b ∷ xs) n ≡ first_of xs n
+first_skipped b xs n other = ap (λ c. option_map (λ (x : Busy). x.first) (cond c (Some b) (find (λ (x : Busy). x.unit == n) xs))) (ne_eqb b.unit n other)
+
+first_others : (u n : ℕ) (busy : List Busy) → n ≢ u → first_of (without_unit u busy) n ≡ first_of busy n
+first_others u n [] other = refl
+first_others u n (b ∷ busy) other = elim (eqb_tells b.unit u) [
+  | inl same ↦
+      ap (λ c. first_of (if not c then b ∷ without_unit u busy else without_unit u busy) n) same.0 ∙ first_others u n busy other
+      ∙ sym (first_skipped b busy n (λ e. other (sym e ∙ same.1)))
+  | inr apart ↦
+      ap (λ c. first_of (if not c then b ∷ without_unit u busy else without_unit u busy) n) apart.0 ∙ first_cons b (without_unit u busy) busy n (first_others u n busy other)
+]
+
+first_gone : (u : ℕ) (busy : List Busy) → first_of (without_unit u busy) u ≡ None
+first_gone u [] = refl
+first_gone u (b ∷ busy) = elim (eqb_tells b.unit u) [
+  | inl same ↦ ap (λ c. first_of (if not c then b ∷ without_unit u busy else without_unit u busy) u) same.0 ∙ first_gone u busy
+  | inr apart ↦
+      ap (λ c. first_of (if not c then b ∷ without_unit u busy else without_unit u busy) u) apart.0 ∙ first_skipped b (without_unit u busy) u apart.1 ∙ first_gone u busy
+]
+
+-- with one more behind them
+first_pushed : (busy : List Busy) (b : Busy) (n : ℕ) → first_of (busy ++ b ∷ []) n ≡ option_or (first_of busy n) (first_of (b ∷ []) n)
+first_pushed busy b n = ap (option_map (λ (x : Busy). x.first)) (find-append (λ (x : Busy). x.unit == n) busy (b ∷ [])) ∙ by (find (λ (x : Busy). x.unit == n) busy)
+  where
+    by : (o : Option Busy) → option_map (λ (x : Busy). x.first) (option_or o (find (λ (x : Busy). x.unit == n) (b ∷ []))) ≡ option_or (option_map (λ (x : Busy). x.first) o) (first_of (b ∷ []) n)
+    by None = refl
+    by (Some x) = refl
+
+or_none : {X : Type 0} (o : Option X) → option_or o None ≡ o
+or_none None = refl
+or_none (Some x) = refl
+
+module _ (busy : List Busy) (u : ℕ) (id : Tag) where
+  abbrev here : Busy
+  here = record { unit = u; first = id }
+
+  own_first : first_of (without_unit u busy ++ here ∷ []) u ≡ Some id
+  own_first =
+      first_pushed (without_unit u busy) here u ∙ ap (λ o. option_or o (first_of (here ∷ []) u)) (first_gone u busy)
+      ∙ ap (λ c. option_map (λ (x : Busy). x.first) (cond c (Some here) None)) (eq-eqb u u refl)
+
+  other_first : (n : ℕ) → n ≢ u → first_of (without_unit u busy ++ here ∷ []) n ≡ first_of busy n
+  other_first n other =
+      first_pushed (without_unit u busy) here n ∙ ap (option_or (first_of (without_unit u busy) n)) (first_skipped here [] n (λ e. other (sym e)))
+      ∙ or_none (first_of (without_unit u busy) n) ∙ first_others u n busy other
+
+  has_it : may_have (with_transfer busy u id) u id.0 ≡ true
+  has_it = by (may_have busy u id.0) refl
+    where
+      by : (b : Bool) → may_have busy u id.0 ≡ b → may_have (if b then busy else without_unit u busy ++ here ∷ []) u id.0 ≡ true
+      by true e = e
+      by false e = ap (λ o. option_map_or (λ (first : Tag). nat_le first.0 id.0) o false) own_first ∙ le-leb id.0 id.0 (omega arith)
+
+  above : (m : ℕ) (o : Option Tag) → option_map_or (λ (first : Tag). nat_le first.0 id.0) o false ≡ false → option_map_or (λ (first : Tag). nat_le first.0 m) o false ≡ true → nat_le id.0 m ≡ true
+  above m None e f = (let never : false ≡ true = f in cc)
+  above m (Some first) e f = grind (arith, nat_tests)
+
+  keeps_it : (n m : ℕ) → may_have busy n m ≡ true → may_have (with_transfer busy u id) n m ≡ true
+  keeps_it n m has = by (may_have busy u id.0) refl
+    where
+      by : (b : Bool) → may_have busy u id.0 ≡ b → may_have (if b then busy else without_unit u busy ++ here ∷ []) n m ≡ true
+      by true e = has
+      by false e = elim (eqb_tells n u) [
+        | inl same ↦
+            ap (λ k. may_have (without_unit u busy ++ here ∷ []) k m) same.1 ∙ ap (λ o. option_map_or (λ (first : Tag). nat_le first.0 m) o false) own_first
+            ∙ above m (first_of busy u) e (ap (λ k. may_have busy k m) (sym same.1) ∙ has)
+        | inr other ↦ ap (λ o. option_map_or (λ (first : Tag). nat_le first.0 m) o false) (other_first n other.1) ∙ has
+      ]
+
 -- ---- one more, and those that are left
 
-module _ (units : List ℕ) (u : ℕ) where
-  has_it : is_busy (with_unit units u) u ≡ true
-  has_it = by (is_busy units u) refl
-    where
-      by : (b : Bool) → is_busy units u ≡ b → is_busy (if b then units else units ++ u ∷ []) u ≡ true
-      by true e = e
-      by false e = list_any-append (λ n. n == u) units (u ∷ []) ∙ ap (λ b. b || is_busy (u ∷ []) u) e ∙ ap (λ b. b || false) (eq-eqb u u refl)
+pub busy_entered : (busy : List Busy) (hs : List Held) (h : Held) → AreBusy busy hs → AreBusy (with_transfer busy h.unit h.tag) (hs ++ h ∷ [])
+busy_entered busy hs h all =
+    let P : Held → Type 0 = λ x. may_have (with_transfer busy h.unit h.tag) x.unit x.tag.0 ≡ true in
+    All-append P hs (h ∷ []) (All-weaker (λ (x : Held). may_have busy x.unit x.tag.0 ≡ true) P (λ x k. keeps_it busy h.unit h.tag x.unit x.tag.0 k) hs all) (All-cons P h [] (has_it busy h.unit h.tag) (All-nil P))
 
-  keeps_it : (n : ℕ) → is_busy units n ≡ true → is_busy (with_unit units u) n ≡ true
-  keeps_it n has = by (is_busy units u)
-    where
-      by : (b : Bool) → is_busy (if b then units else units ++ u ∷ []) n ≡ true
-      by true = has
-      by false = list_any-append (λ m. m == n) units (u ∷ []) ∙ ap (λ b. b || is_busy (u ∷ []) n) has
+stays : (busy : List Busy) (u n m : ℕ) → not (n == u) ≡ true → may_have busy n m ≡ true → may_have (without_unit u busy) n m ≡ true
+stays busy u n m apart has =
+    ap (λ o. option_map_or (λ (first : Tag). nat_le first.0 m) o false) (first_others u n busy (λ same. let never : false ≡ true = ap not (sym (eq-eqb n u same)) ∙ apart in cc)) ∙ has
 
-pub busy_entered : (units : List ℕ) (hs : List Held) (h : Held) → AreBusy units hs → AreBusy (with_unit units h.unit) (hs ++ h ∷ [])
-busy_entered units hs h all =
-    let P : Held → Type 0 = λ x. is_busy (with_unit units h.unit) x.unit ≡ true in
-    All-append P hs (h ∷ []) (All-weaker (λ (x : Held). is_busy units x.unit ≡ true) P (λ x k. keeps_it units h.unit x.unit k) hs all) (All-cons P h [] (has_it units h.unit) (All-nil P))
-
-stays : (units : List ℕ) (u n : ℕ) → (n == u) ≡ false → is_busy units n ≡ true → is_busy (filter (λ m. not (m == u)) units) n ≡ true
-stays units u n other has =
-    any-filter_same (λ m. m == n) (λ m. not (m == u)) true (λ m same. ap (λ k. not (k == u)) (eqb-true m n same) ∙ ap not other) units ∙ has
-
-not_true : (b : Bool) → not b ≡ true → b ≡ false
-not_true true e = (let never : false ≡ true = e in cc)
-not_true false e = refl
-
-pub busy_left : (p : Pick) (units : List ℕ) (hs : List Held) → AreBusy units hs → AreBusy (without_told p units) (filter (λ h. not (picks p h)) hs)
-busy_left pick.None units hs all = All-filter (λ (h : Held). true) (λ (h : Held). is_busy units h.unit ≡ true) hs all
-busy_left (pick.OfUnit u) units hs all =
-    all_both (λ (h : Held). not (h.unit == u) ≡ true) (λ (h : Held). is_busy units h.unit ≡ true) (λ (h : Held). is_busy (filter (λ m. not (m == u)) units) h.unit ≡ true) (filter (λ (h : Held). not (h.unit == u)) hs)
-    (λ h apart k. stays units u h.unit (not_true (h.unit == u) apart) k) (filter_passes (λ (h : Held). not (h.unit == u)) hs)
-    (All-filter (λ (h : Held). not (h.unit == u)) (λ (h : Held). is_busy units h.unit ≡ true) hs all)
-busy_left (pick.One id) units hs all = All-filter (λ (h : Held). not (h.tag.0 == id)) (λ (h : Held). is_busy units h.unit ≡ true) hs all
-busy_left pick.All units hs all = subst (AreBusy []) (sym (filter_false hs)) (All-nil (λ (h : Held). is_busy [] h.unit ≡ true))
+pub busy_left : (p : Pick) (busy : List Busy) (hs : List Held) → AreBusy busy hs → AreBusy (without_told p busy) (filter (λ h. not (picks p h)) hs)
+busy_left pick.None busy hs all = All-filter (λ (h : Held). true) (λ (h : Held). may_have busy h.unit h.tag.0 ≡ true) hs all
+busy_left (pick.OfUnit u) busy hs all =
+    all_both (λ (h : Held). not (h.unit == u) ≡ true) (λ (h : Held). may_have busy h.unit h.tag.0 ≡ true) (λ (h : Held). may_have (without_unit u busy) h.unit h.tag.0 ≡ true) (filter (λ (h : Held). not (h.unit == u)) hs)
+    (λ h apart k. stays busy u h.unit h.tag.0 apart k) (filter_passes (λ (h : Held). not (h.unit == u)) hs)
+    (All-filter (λ (h : Held). not (h.unit == u)) (λ (h : Held). may_have busy h.unit h.tag.0 ≡ true) hs all)
+busy_left (pick.One id) busy hs all = All-filter (λ (h : Held). not (h.tag.0 == id)) (λ (h : Held). may_have busy h.unit h.tag.0 ≡ true) hs all
+busy_left pick.All busy hs all = subst (AreBusy []) (sym (filter_false hs)) (All-nil (λ (h : Held). may_have [] h.unit h.tag.0 ≡ true))

@@ -1,33 +1,36 @@
 -- What is kept of pending transfers hangs together, also after one is entered, answered or taken off.
-use Rattle.std.proofs.Common.{◌≡◌, ◌≢◌, ℕ, ◌+◌, ◌<◌, ◌≤◌, ◌&&◌, ◌||◌, eqb, not, Bool, true, false, List, [], ◌∷◌, ◌++◌, length, set, int_eq, pos, ℤ, Option, Some, None, All, refl, sym, ap, subst, ◌∙◌, inl, inr, arith}
-use Rattle.std.specs.Prelude.{if◌then◌else◌, filter, is_some, ◌==◌, min}
+use Rattle.std.proofs.Common.{◌≡◌, ◌≢◌, ℕ, ◌+◌, ◌<◌, ◌≤◌, ◌&&◌, ◌||◌, not, Bool, true, false, List, [], ◌∷◌, ◌++◌, length, set, int_eq, pos, ℤ, Option, Some, None, All, refl, sym, ap, subst, ◌∙◌, inl, inr, arith}
+use Rattle.std.specs.Prelude.{if◌then◌else◌, filter, is_some, nat_le, ◌==◌, min}
+use Rattle.std.specs.Option.{option_map_or}
 use Rattle.std.specs.List.{list_any}
-use Rattle.std.proofs.lemmas.Bool.{ne_eqb, eq-eqb, cases_lt}
+use Rattle.std.proofs.lemmas.Bool.{le-leb, cases_lt}
 use Rattle.std.proofs.lemmas.Bool.Decides.{eqb_tells}
 use Rattle.std.proofs.lemmas.List.{get_or-set_same, get_or-set_other, get_or_past}
 use Rattle.std.proofs.lemmas.List.Elements.{All-nil, All-cons, All-head, All-tail, All-weaker, All-append, All-filter}
 use Rattle.std.proofs.lemmas.List.Kept.{AllPairs-filter}
 use Rattle.std.proofs.lemmas.List.Quantifiers.{all_pairs_push}
 use Rattle.fj_value.specs.declared.place.Place.{Place}
+use Rattle.fj_value.specs.declared.place.Tag.{Tag}
 use Rattle.fj_value.specs.declared.condition.Rule.{Rule}
 use Rattle.fj_value.specs.declared.condition.Rule.TheVariants.{P1, P2, P3, P4, P5}
 use Rattle.fj_store.specs.Places.{is_among, places_in}
 use Rattle.fj_store.specs.Variables.{Variables, value_at, is_undefined}
 use Rattle.fj_book.specs.declared.pending.Pending.{Pending}
-use Rattle.fj_book.specs.Entries.{tag_of, has_tag}
+use Rattle.fj_book.specs.Entries.{tag_of, has_tag, is_told}
 use Rattle.fj_book.specs.Entries as book
 use Rattle.fj_book.specs.Prohibitions.{Need, is_read, is_held, has_id, names_pending, defines_twice, prohibited}
-use Rattle.fj_plain.proofs.Lists.{any_same}
+use Rattle.fj_plain.proofs.Lists.{any_same, filter_true, filter_false}
+use Rattle.fj_pending.specs.declared.busy.Busy.{Busy}
 use Rattle.fj_pending.specs.declared.held.Held.{Held}
 use Rattle.fj_pending.specs.declared.mark.Mark.{Mark}
 use Rattle.fj_pending.specs.declared.pick.Pick.{Pick}
-use Rattle.fj_pending.specs.Busy.{with_unit, without_told}
+use Rattle.fj_pending.specs.declared.pick.Pick.TheVariants as pick
+use Rattle.fj_pending.specs.Busy.{first_of, may_have, AreBusy, with_transfer, without_told}
 use Rattle.fj_pending.specs.Plain.{holders}
 use Rattle.fj_pending.specs.Taking.{without}
-use Rattle.fj_pending.specs.Tied.{IsAscending, IsMarked, IsSame, AreSame, IsTied, mark_at, no_mark, entered_marks}
+use Rattle.fj_pending.specs.Tied.{IsMarked, IsSame, AreSame, IsTied, mark_at, no_mark, entered_marks}
 use Rattle.fj_pending.specs.Waits.{picks}
-use Rattle.fj_pending.proofs.Waited.{among_chosen}
-use Rattle.fj_pending.proofs.Idle.{busy_entered, busy_left}
+use Rattle.fj_pending.proofs.Idle.{busy_entered, busy_left, idle_taken}
 
 -- ---- the book prohibits what the transfers prohibit
 
@@ -133,8 +136,8 @@ remarked marks slot m h old new = elim (eqb_tells h.slot slot) [
 all_one : {X : Type 0} (P : X → Type 0) (x : X) → P x → All P (x ∷ [])
 all_one P x h = All-cons P x [] h (All-nil P)
 
-pub entered_is : (hs : List Held) (es : List Pending) (marks : List Mark) (units : List ℕ) (h : Held) (e : Pending) → IsTied hs es marks units → h.answer ≡ None → IsSame e h → h.slot < length marks
-    → All (λ (x : Held). x.tag.0 < h.tag.0) hs → (mark_at marks h.slot).next ≤ h.number → IsTied (hs ++ h ∷ []) (es ++ e ∷ []) (entered_marks marks h) (with_unit units h.unit)
+pub entered_is : (hs : List Held) (es : List Pending) (marks : List Mark) (units : List Busy) (h : Held) (e : Pending) → IsTied hs es marks units → h.answer ≡ None → IsSame e h → h.slot < length marks
+    → All (λ (x : Held). x.tag.0 < h.tag.0) hs → (mark_at marks h.slot).next ≤ h.number → IsTied (hs ++ h ∷ []) (es ++ e ∷ []) (entered_marks marks h) (with_transfer units h.unit h.tag)
 entered_is hs es marks units h e t none this low above from =
     let m : Mark = record { passed = min (mark_at marks h.slot).passed h.tag.0; reached = (mark_at marks h.slot).reached; next = h.number + 1 } in
     let unanswered : is_some h.answer ≡ false = ap is_some none in
@@ -172,20 +175,20 @@ entered_is hs es marks units h e t none this low above from =
           next = subst (λ (y : Mark). h.number < y.next) (sym here) (let n : h.number < m.next = omega arith in n);
         }
 
-pub tied_as : (hs hs' : List Held) (es es' : List Pending) (ms ms' : List Mark) (us us' : List ℕ) → hs' ≡ hs → es' ≡ es → ms' ≡ ms → us' ≡ us → IsTied hs es ms us → IsTied hs' es' ms' us'
+pub tied_as : (hs hs' : List Held) (es es' : List Pending) (ms ms' : List Mark) (us us' : List Busy) → hs' ≡ hs → es' ≡ es → ms' ≡ ms → us' ≡ us → IsTied hs es ms us → IsTied hs' es' ms' us'
 tied_as hs hs' es es' ms ms' us us' a b m u t =
     subst (λ l. IsTied l es' ms' us') (sym a) (subst (λ l. IsTied hs l ms' us') (sym b) (subst (λ l. IsTied hs es l us') (sym m) (subst (IsTied hs es ms) (sym u) t)))
 
 -- ---- taken off
 
 same_filter : (f : Pending → Bool) (g : Held → Bool) (es : List Pending) (hs : List Held) → AreSame es hs
-    → All (λ (h : Held). (e : Pending) → tag_of e ≡ h.tag.0 → f e ≡ g h) hs → AreSame (filter f es) (filter g hs)
+    → All (λ (h : Held). (e : Pending) → IsSame e h → f e ≡ g h) hs → AreSame (filter f es) (filter g hs)
 same_filter f g [] [] s agree = tt
 same_filter f g [] (h ∷ hs) s agree = absurd s
 same_filter f g (e ∷ es) [] s agree = absurd s
 same_filter f g (e ∷ es) (h ∷ hs) s agree =
-    by (f e) (g h) (All-head (λ (x : Held). (y : Pending) → tag_of y ≡ x.tag.0 → f y ≡ g x) h hs agree e s.0.tag)
-    (same_filter f g es hs s.1 (All-tail (λ (x : Held). (y : Pending) → tag_of y ≡ x.tag.0 → f y ≡ g x) h hs agree))
+    by (f e) (g h) (All-head (λ (x : Held). (y : Pending) → IsSame y x → f y ≡ g x) h hs agree e s.0)
+    (same_filter f g es hs s.1 (All-tail (λ (x : Held). (y : Pending) → IsSame y x → f y ≡ g x) h hs agree))
   where
     by : (b c : Bool) → b ≡ c → AreSame (filter f es) (filter g hs) → AreSame (if b then e ∷ filter f es else filter f es) (if c then h ∷ filter g hs else filter g hs)
     by true true k rest = (s.0, rest)
@@ -193,49 +196,46 @@ same_filter f g (e ∷ es) (h ∷ hs) s agree =
     by false true k rest = (let never : false ≡ true = k in cc)
     by false false k rest = rest
 
-pub without_is : (told : List Held) (es : List Pending) → without told es ≡ filter (λ (e : Pending). not (list_any (λ (h : Held). h.tag.0 == tag_of e) told)) es
-without_is [] es = sym (all es)
-  where
-    all : (xs : List Pending) → filter (λ (e : Pending). true) xs ≡ xs
-    all [] = refl
-    all (x ∷ xs) = ap (λ l. x ∷ l) (all xs)
-without_is (h ∷ told) es = without_is told (filter (λ e. not (has_tag h.tag.0 e)) es) ∙ both es
-  where
-    both : (xs : List Pending) → filter (λ (e : Pending). not (list_any (λ (x : Held). x.tag.0 == tag_of e) told)) (filter (λ e. not (has_tag h.tag.0 e)) xs)
-        ≡ filter (λ (e : Pending). not ((h.tag.0 == tag_of e) || list_any (λ (x : Held). x.tag.0 == tag_of e) told)) xs
-    both [] = refl
-    both (x ∷ xs) = turn (h.tag.0 == tag_of x) (has_tag h.tag.0 x) (swapped (h.tag.0) (tag_of x)) (both xs)
-      where
-        swapped : (a b : ℕ) → eqb a b ≡ eqb b a
-        swapped a b = elim (eqb_tells a b) [
-          | inl same ↦ eq-eqb a b same.1 ∙ sym (eq-eqb b a (sym same.1))
-          | inr other ↦ ne_eqb a b other.1 ∙ sym (ne_eqb b a (λ k. other.1 (sym k)))
-        ]
+-- of all units from the first identifier on
+pub none_left : (es : List Pending) → filter (λ e. not (is_told None 0 e)) es ≡ []
+none_left [] = refl
+none_left (e ∷ es) = ap (λ b. if not (b && true) then e ∷ filter (λ x. not (is_told None 0 x)) es else filter (λ x. not (is_told None 0 x)) es) (le-leb 0 (tag_of e) (omega arith)) ∙ none_left es
 
-        turn : (a b : Bool) → a ≡ b
-            → filter (λ (e : Pending). not (list_any (λ (y : Held). y.tag.0 == tag_of e) told)) (filter (λ e. not (has_tag h.tag.0 e)) xs) ≡ filter (λ (e : Pending). not ((h.tag.0 == tag_of e) || list_any (λ (y : Held). y.tag.0 == tag_of e) told)) xs
-            → filter (λ (e : Pending). not (list_any (λ (y : Held). y.tag.0 == tag_of e) told)) (if not b then x ∷ filter (λ e. not (has_tag h.tag.0 e)) xs else filter (λ e. not (has_tag h.tag.0 e)) xs)
-            ≡ (if not (a || list_any (λ (y : Held). y.tag.0 == tag_of x) told) then x ∷ filter (λ (e : Pending). not ((h.tag.0 == tag_of e) || list_any (λ (y : Held). y.tag.0 == tag_of e) told)) xs
-            else filter (λ (e : Pending). not ((h.tag.0 == tag_of e) || list_any (λ (y : Held). y.tag.0 == tag_of e) told)) xs)
-        turn true true k rest = rest
-        turn true false k rest = (let never : true ≡ false = k in cc)
-        turn false true k rest = (let never : false ≡ true = k in cc)
-        turn false false k rest = ap (λ l. if not (list_any (λ (y : Held). y.tag.0 == tag_of x) told) then x ∷ l else l) rest
+and_false : (b : Bool) → (b && false) ≡ false
+and_false true = refl
+and_false false = refl
 
-taken_same : (q : Held → Bool) (hs : List Held) (es : List Pending) → IsAscending hs → AreSame es hs → AreSame (without (filter q hs) es) (filter (λ h. not (q h)) hs)
-taken_same q hs es up s =
-    subst (λ l. AreSame l (filter (λ h. not (q h)) hs)) (sym (without_is (filter q hs) es))
-    (same_filter (λ (e : Pending). not (list_any (λ (h : Held). h.tag.0 == tag_of e) (filter q hs))) (λ h. not (q h)) es hs s
-    (All-weaker (λ (h : Held). list_any (λ (x : Held). x.tag.0 == h.tag.0) (filter q hs) ≡ q h)
-    (λ (h : Held). (e : Pending) → tag_of e ≡ h.tag.0 → not (list_any (λ (x : Held). x.tag.0 == tag_of e) (filter q hs)) ≡ not (q h))
-    (λ h k e same. ap (λ n. not (list_any (λ (x : Held). x.tag.0 == n) (filter q hs))) same ∙ ap not k) hs (among_chosen q hs up)))
+-- of a unit no transfer is below its lowest identifier
+told_of_unit : (units : List Busy) (u : ℕ) (first : Tag) (h : Held) (e : Pending) → first_of units u ≡ Some first → may_have units h.unit h.tag.0 ≡ true → IsSame e h → is_told (Some u) first.0 e ≡ (h.unit == u)
+told_of_unit units u first h e is has s =
+    ap (λ n. nat_le first.0 n && (e.unit == u)) s.tag ∙ ap (λ n. nat_le first.0 h.tag.0 && (n == u)) s.unit
+    ∙ elim (eqb_tells h.unit u) [
+      | inl same ↦ ap (λ b. b && (h.unit == u)) (sym (ap (λ o. option_map_or (λ (f : Tag). nat_le f.0 h.tag.0) o false) (ap (first_of units) same.1 ∙ is)) ∙ has)
+      | inr apart ↦ ap (λ b. nat_le first.0 h.tag.0 && b) apart.0 ∙ and_false (nat_le first.0 h.tag.0) ∙ sym apart.0
+    ]
 
-pub taken_is : (p : Pick) (hs : List Held) (es : List Pending) (marks : List Mark) (units : List ℕ) → IsTied hs es marks units
-    → IsTied (filter (λ h. not (picks p h)) hs) (without (filter (picks p) hs) es) marks (without_told p units)
+unit_taken : (u : ℕ) (units : List Busy) (hs : List Held) (es : List Pending) → AreBusy units hs → AreSame es hs → (o : Option Tag) → first_of units u ≡ o
+    → AreSame (option_map_or (λ (first : Tag). filter (λ e. not (is_told (Some u) first.0 e)) es) o es) (filter (λ (h : Held). not (h.unit == u)) hs)
+unit_taken u units hs es all s None is = subst (AreSame es) (idle_taken units u hs all is).1 s
+unit_taken u units hs es all s (Some first) is =
+    same_filter (λ e. not (is_told (Some u) first.0 e)) (λ (h : Held). not (h.unit == u)) es hs s
+    (All-weaker (λ (h : Held). may_have units h.unit h.tag.0 ≡ true) (λ (h : Held). (e : Pending) → IsSame e h → not (is_told (Some u) first.0 e) ≡ not (h.unit == u))
+    (λ h has e same. ap not (told_of_unit units u first h e is has same)) hs all)
+
+taken_same : (p : Pick) (units : List Busy) (hs : List Held) (es : List Pending) → AreBusy units hs → AreSame es hs → AreSame (without p units es) (filter (λ h. not (picks p h)) hs)
+taken_same pick.None units hs es all s = subst (AreSame es) (sym (filter_true hs)) s
+taken_same (pick.OfUnit u) units hs es all s = unit_taken u units hs es all s (first_of units u) refl
+taken_same (pick.One id) units hs es all s =
+    same_filter (λ e. not (has_tag id e)) (λ (h : Held). not (h.tag.0 == id)) es hs s
+    (All-weaker (λ (h : Held). may_have units h.unit h.tag.0 ≡ true) (λ (h : Held). (e : Pending) → IsSame e h → not (has_tag id e) ≡ not (h.tag.0 == id)) (λ h has e same. ap (λ n. not (n == id)) same.tag) hs all)
+taken_same pick.All units hs es all s = subst (AreSame []) (sym (filter_false hs)) tt
+
+pub taken_is : (p : Pick) (hs : List Held) (es : List Pending) (marks : List Mark) (units : List Busy) → IsTied hs es marks units
+    → IsTied (filter (λ h. not (picks p h)) hs) (without p units es) marks (without_told p units)
 taken_is p hs es marks units t = record {
   ascending = AllPairs-filter (λ (a b : Held). a.tag.0 < b.tag.0) (λ h. not (picks p h)) hs t.ascending;
   rising = AllPairs-filter (λ (a b : Held). a.slot ≡ b.slot → a.number < b.number) (λ h. not (picks p h)) hs t.rising;
-  same = taken_same (picks p) hs es t.ascending t.same;
+  same = taken_same p units hs es t.busy t.same;
   marked = All-filter (λ h. not (picks p h)) (IsMarked marks) hs t.marked;
   busy = busy_left p units hs t.busy;
 }

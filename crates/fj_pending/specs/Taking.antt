@@ -1,9 +1,16 @@
 -- The book without transfers that are told.
-use Rattle.std.specs.Prelude.{not, List, [], ◌∷◌, filter}
+use Rattle.std.specs.Prelude.{not, List, [], filter, Some}
+use Rattle.std.specs.Option.{option_map_or}
+use Rattle.fj_value.specs.declared.place.Tag.{Tag}
 use Rattle.fj_book.specs.declared.pending.Pending.{Pending}
-use Rattle.fj_book.specs.Entries.{has_tag}
-use Rattle.fj_pending.specs.declared.held.Held.{Held}
+use Rattle.fj_book.specs.Entries.{has_tag, is_told}
+use Rattle.fj_pending.specs.declared.busy.Busy.{Busy}
+use Rattle.fj_pending.specs.declared.pick.Pick.{Pick}
+use Rattle.fj_pending.specs.declared.pick.Pick.TheVariants as pick
+use Rattle.fj_pending.specs.Busy.{first_of}
 
-abbrev pub without : List Held → List Pending → List Pending
-without [] es = es
-without (h ∷ hs) es = without hs (filter (λ e. not (has_tag h.tag.0 e)) es)
+abbrev pub without : Pick → List Busy → List Pending → List Pending
+without pick.None busy es = es
+without (pick.OfUnit u) busy es = option_map_or (λ (first : Tag). filter (λ e. not (is_told (Some u) first.0 e)) es) (first_of busy u) es
+without (pick.One id) busy es = filter (λ e. not (has_tag id e)) es
+without pick.All busy es = []

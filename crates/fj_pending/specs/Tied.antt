@@ -3,6 +3,7 @@ use Rattle.std.specs.Prelude.{◌≡◌, ℕ, ◌+◌, ◌<◌, ◌≤◌, min, 
 use Rattle.fj_value.specs.declared.place.Place.{Place}
 use Rattle.fj_store.specs.Places.{is_among, places_in}
 use Rattle.fj_book.specs.declared.pending.Pending.{Pending}
+use Rattle.fj_pending.specs.declared.busy.Busy.{Busy}
 use Rattle.fj_pending.specs.declared.held.Held.{Held}
 use Rattle.fj_pending.specs.declared.mark.Mark.{Mark}
 use Rattle.fj_pending.specs.Busy.{AreBusy}
@@ -46,7 +47,7 @@ AreSame [] [] = Unit {0}
 AreSame (e ∷ es) (h ∷ hs) = IsSame e h × AreSame es hs
 AreSame es hs = ⊥
 
-pub record IsTied (hs : List Held) (book : List Pending) (marks : List Mark) (units : List ℕ) : Type 0 where
+pub record IsTied (hs : List Held) (book : List Pending) (marks : List Mark) (units : List Busy) : Type 0 where
   pub ascending : IsAscending hs
   pub rising : IsRising hs
   pub same : AreSame book hs

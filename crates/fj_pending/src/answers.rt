@@ -48,9 +48,10 @@ fn is_at(held: &Held, slot: u32, number: u64) -> bool
 }
 
 /// How many of the first transfers have identifiers below this one.
-fn below(helds: &VecDeque<Held>, id: u64) -> usize
+pub(crate) fn below(helds: &VecDeque<Held>, id: u64) -> usize
     requires { IsAscending helds.now.items }
-    ensures { (k : ℕ) (h : Held) → k < result → (get_or helds.now.items k h).tag.0 < id }
+    ensures bound { result ≤ length helds.now.items }
+    ensures low { (k : ℕ) (h : Held) → k < result → (get_or helds.now.items k h).tag.0 < id }
 {
     let at = helds.partition_point(|held| (held.tag.0 as u64) < id);
     at

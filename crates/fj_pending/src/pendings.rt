@@ -1,5 +1,5 @@
 // The pending transfers of a run, in ascending order of their identifiers.
-ghost use Rattle.std.specs.Prelude.{◌≡◌, ◌<◌, ◌≤◌, ◌+◌, ◌^◌, true, ◌++◌, [], ◌∷◌, not, All, HoldsAt, length, map, filter, take, IfOk, IfSome, IfNone, IfErr, OnOk, OnErr};
+ghost use Rattle.std.specs.Prelude.{◌≡◌, ◌<◌, ◌≤◌, ◌+◌, ◌^◌, true, false, ◌++◌, [], ◌∷◌, not, All, HoldsAt, length, map, filter, take, IfOk, IfSome, IfNone, IfErr, OnOk, OnErr};
 ghost use Rattle.std.specs.Option.{option_map};
 ghost use Rattle.std.specs.List.{find, list_any};
 ghost use Rattle.fj_value.specs.declared.place.Place.{Place};
@@ -15,8 +15,8 @@ ghost use Rattle.fj_pending.specs.Busy.{AreBusy};
 ghost use Rattle.fj_pending.specs.Tied.{IsAscending, mark_at, entered_marks, answered_marks};
 ghost use Rattle.fj_pending.specs.Waits.{waited_of, IsPassed, is_due, is_cause};
 
-use crate::answers::{mark_at, pass, put_answer, put_mark, seek};
-use crate::busy::{add_unit, forget, is_busy};
+use crate::answers::{below, mark_at, pass, put_answer, put_mark, seek};
+use crate::busy::{Busy, add_transfer, first_of, forget};
 use crate::deliver::deliver;
 use crate::held::{Held, Told};
 use crate::lost::Lost;
@@ -44,8 +44,8 @@ pub struct Pendings {
     book: Book,
     /// By slot.
     marks: Vec<Mark>,
-    /// The units that may have transfers.
-    busy: Vec<u32>,
+    /// The units that may have transfers, with their lowest identifiers.
+    busy: Vec<Busy>,
 }
 
 impl Model for Pendings {
@@ -79,16 +79,23 @@ fn next_due(helds: &VecDeque<Held>, pick: Pick, from: usize) -> Option<(usize, u
     None
 }
 
-/// The same of the transfers of a unit, without a look where it can have none.
-fn unit_due(helds: &VecDeque<Held>, busy: &Vec<u32>, unit: u32, from: usize) -> Option<(usize, u32)>
-    requires { AreBusy busy.now.items helds.now.items }
+/// The same of the transfers of a unit, without a look where it can have none, or before its lowest identifier.
+fn unit_due(
+    helds: &VecDeque<Held>,
+    busy: &Vec<Busy>,
+    unit: u32,
+    from: usize,
+) -> Option<(usize, u32)>
+    requires ascending { IsAscending helds.now.items }
+    requires busy { AreBusy busy.now.items helds.now.items }
     ensures slot { find (is_due (Pick.OfUnit unit)) (take from helds.now.items) ≡ None → option_map (λ r. r.1) result ≡ option_map (λ h. h.slot) (find (is_due (Pick.OfUnit unit)) helds.now.items) }
     ensures passed { find (is_due (Pick.OfUnit unit)) (take from helds.now.items) ≡ None → IfSome result (λ r. find (is_due (Pick.OfUnit unit)) (take r.0 helds.now.items) ≡ None) }
 {
-    if !is_busy(busy, unit) {
+    let Some(first) = first_of(busy, unit) else {
         return None;
-    }
-    next_due(helds, Pick::OfUnit(unit), from)
+    };
+    let start = below(helds, u64::from(first.0));
+    next_due(helds, Pick::OfUnit(unit), start.max(from))
 }
 
 /// The slot of the transfer of an identifier, where it has no answer.
@@ -110,7 +117,7 @@ fn one_due(helds: &VecDeque<Held>, id: u32) -> Option<(usize, u32)>
 /// The slot of the first transfer without an answer among those that are waited for, and a place from which to look on.
 fn unsettled_in(
     helds: &VecDeque<Held>,
-    busy: &Vec<u32>,
+    busy: &Vec<Busy>,
     whose: Whose,
     from: usize,
 ) -> Option<(usize, u32)>
@@ -138,11 +145,12 @@ fn one_causes(helds: &VecDeque<Held>, id: u32, unit: u32) -> bool
     }
 }
 
-/// Whether one that is waited for halted the unit, by looking at each.
-fn any_causes(helds: &VecDeque<Held>, pick: Pick, unit: u32) -> bool
+/// Whether one that is waited for halted the unit, by looking at each from a place on, where none before it did.
+fn any_causes(helds: &VecDeque<Held>, pick: Pick, unit: u32, from: usize) -> bool
+    requires { list_any (is_cause pick unit) (take from helds.now.items) ≡ false }
     ensures { result ≡ list_any (is_cause pick unit) helds.now.items }
 {
-    for at in 0..helds.len() {
+    for at in from..helds.len() {
         if causes(pick, unit, &helds[at]) {
             return true;
         }
@@ -151,8 +159,8 @@ fn any_causes(helds: &VecDeque<Held>, pick: Pick, unit: u32) -> bool
 }
 
 /// Whether one that is waited for halted the unit: transfers of other units are not looked at where those of one are waited for, nor
-/// any where the unit can have none.
-fn ends_in(helds: &VecDeque<Held>, busy: &Vec<u32>, pick: Pick, unit: u32) -> bool
+/// any where the unit can have none, or before its lowest identifier.
+fn ends_in(helds: &VecDeque<Held>, busy: &Vec<Busy>, pick: Pick, unit: u32) -> bool
     requires ascending { IsAscending helds.now.items }
     requires busy { AreBusy busy.now.items helds.now.items }
     ensures { result ≡ list_any (is_cause pick unit) helds.now.items }
@@ -167,10 +175,10 @@ fn ends_in(helds: &VecDeque<Held>, busy: &Vec<u32>, pick: Pick, unit: u32) -> bo
         Pick::One(id) => return one_causes(helds, id, unit),
         Pick::All => {}
     }
-    if !is_busy(busy, unit) {
+    let Some(first) = first_of(busy, unit) else {
         return false;
-    }
-    any_causes(helds, pick, unit)
+    };
+    any_causes(helds, pick, unit, below(helds, u64::from(first.0)))
 }
 
 /// Whether the transfer that stands behind all others may come.
@@ -278,7 +286,7 @@ impl Pendings {
             number: entered.number,
         })?;
         mark_entered(&mut self.marks, &entered);
-        add_unit(&mut self.busy, entered.unit);
+        add_transfer(&mut self.busy, entered.unit, entered.tag);
         self.helds.push_back_reserved(entered);
         Ok(())
     }
@@ -343,7 +351,7 @@ impl Pendings {
     {
         let pick = picked(&self.helds, whose);
         let told = take_picked(alloc, &mut self.helds, &self.busy, pick)?;
-        leave(&mut self.book, &told);
+        leave(&mut self.book, &self.busy, pick);
         forget(&mut self.busy, pick);
         deliver(told, line, variables, store, tells)
     }

@@ -8,7 +8,7 @@ use Rattle.fj_pending.proofs.answers.seek.Goals as goal
 pub first_waiting-at-requires : goal.first_waiting-at-requires
 first_waiting-at-requires c =
     none_waits c.args.marks.now.items c.args.slot c.below.result c.args.helds.now.items c.requires.marked
-    (λ k h low. subst (λ (m : Mark). (get_or c.args.helds.now.items k h).tag.0 < m.passed) c.mark_at-mark.ensures (c.below.ensures k h low))
+    (λ k h low. subst (λ (m : Mark). (get_or c.args.helds.now.items k h).tag.0 < m.passed) c.mark_at-mark.ensures (c.below.ensures.low k h low))
 
 pub returns-then-number-waiting-clause-none : goal.returns-then-number-waiting-clause-none
 returns-then-number-waiting-clause-none c =

@@ -1,8 +1,7 @@
-use Rattle.std.proofs.Common.{◌≡◌, false, sym, ap, ◌∙◌, rules}
+use Rattle.std.proofs.Common.{◌<◌, get_or, take, subst, sym, ap, ◌∙◌}
 use Rattle.std.specs.List.{list_any}
-use Rattle.fj_pending.specs.Busy.{is_busy}
 use Rattle.fj_pending.specs.Waits.{is_cause}
-use Rattle.fj_pending.proofs.Idle.{idle_causes, none_causes, other_causes}
+use Rattle.fj_pending.proofs.Idle.{idle_absent, low_absent, none_causes, other_causes, others_cause}
 use Rattle.fj_pending.proofs.pendings.ends_in.Goals as goal
 
 pub returns-in-None : goal.returns-in-None
@@ -15,8 +14,13 @@ returns-then-told-unit c =
 pub returns-in-One : goal.returns-in-One
 returns-in-One c = c.one_causes.ensures ∙ ap (λ p. list_any (is_cause p c.args.unit) c.args.helds.now.items) (sym c.in-One.is)
 
-pub returns-then-not-is_busy : goal.returns-then-not-is_busy
-returns-then-not-is_busy c =
-    let no : c.is_busy.result ≡ false = search rules in
-    let idle : is_busy c.args.busy.now.items c.args.unit ≡ false = sym c.is_busy.ensures ∙ no in
-    sym (idle_causes c.args.busy.now.items c.args.pick c.args.unit c.args.helds.now.items c.requires.busy idle)
+pub returns-in_default : goal.returns-in_default
+returns-in_default c =
+    let others = idle_absent c.args.busy.now.items c.args.unit c.args.helds.now.items c.requires.busy (sym c.first_of.ensures ∙ c.in_default.is) in
+    sym (others_cause c.args.pick c.args.unit c.args.helds.now.items others)
+
+pub any_causes-requires : goal.any_causes-requires
+any_causes-requires c =
+    let hs = c.args.helds.now.items in
+    let others = low_absent c.args.busy.now.items c.args.unit c.in-Some.first hs c.below.result c.requires.busy (sym c.first_of.ensures ∙ c.in-Some.is) (λ k h lt. subst (λ t. (get_or hs k h).tag.0 < t) c.from.ensures (c.below.ensures.low k h lt)) in
+    others_cause c.match-pick.pick c.args.unit (take c.below.result hs) others

@@ -14,8 +14,8 @@ pub invariant_of-self-2 : goal.invariant_of-self-2
 invariant_of-self-2 c =
     let hs = c.self.inside.helds.items in
     let p = c.picked-pick.result in
-    tied_as (filter (λ (h : Held). not (picks p h)) hs) c.take_picked.new.helds.items (without (filter (picks p) hs) c.self.inside.book) c.leave.new.book c.self.inside.marks.items c.self.inside.marks.items (without_told p c.self.inside.busy.items) c.forget.new.busy.items
-    c.in_ok-told.ensures.left (c.leave.ensures ∙ ap (λ l. without l c.self.inside.book) c.in_ok-told.ensures.told) refl c.forget.ensures (taken_is p hs c.self.inside.book c.self.inside.marks.items c.self.inside.busy.items c.self.invariant)
+    tied_as (filter (λ (h : Held). not (picks p h)) hs) c.take_picked.new.helds.items (without p c.self.inside.busy.items c.self.inside.book) c.leave.new.book c.self.inside.marks.items c.self.inside.marks.items (without_told p c.self.inside.busy.items) c.forget.new.busy.items
+    c.in_ok-told.ensures.left c.leave.ensures refl c.forget.ensures (taken_is p hs c.self.inside.book c.self.inside.marks.items c.self.inside.busy.items c.self.invariant)
 
 pub returns-clause-left : goal.returns-clause-left
 returns-clause-left c =
