@@ -1,7 +1,7 @@
 -- Worked cases: the statements of a deck, one after another, beside the transfers that are then pending.
 use Rattle.std.specs.Prelude.{◌≡◌, ℕ, pos, List, [], ◌∷◌, ◌++◌, Some, None}
 use Rattle.fj_value.specs.declared.place.Place.{Place}
-use Rattle.fj_value.specs.declared.condition.Rule.TheVariants.{P1, P2, P5}
+use Rattle.fj_value.specs.declared.condition.Rule.TheVariants.{P1, P2, P4, P5}
 use Rattle.fj_book.specs.Cases.{a, b, c, reading, writing, nothing, references, defines, told}
 use Rattle.fj_book.specs.Prohibitions.{Need}
 
@@ -30,6 +30,8 @@ pub record StatementsAreTold : Type 0 where
   pub write : told [] (writes (a ∷ [])) ≡ None
   pub write_elsewhere : told (writing 1 (a ∷ []) ∷ []) (record (writes (a ∷ [])) { unit = None }) ≡ None
   pub item_is_defined : told (writing 1 (a ∷ []) ∷ []) (record (defines (a ∷ [])) { unit = None }) ≡ Some P2
+  -- a WAIT with ID= for a transfer of no unit
+  pub wait_for_no_unit : told (reading 1 (a ∷ []) ∷ []) (record (waits_for 1) { unit = None }) ≡ Some P4
   -- a WAIT without ID= where nothing is pending
   pub wait_for_all : told [] nothing ≡ None
   -- three WRITEs of A on one unit, and a READ of B on another one

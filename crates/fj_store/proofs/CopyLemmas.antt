@@ -1,5 +1,5 @@
 -- Taking pieces gives the cells of the items, and putting the cells back leaves the table as it was.
-use Rattle.std.proofs.Common.{◌≡◌, ℕ, zero, suc, ◌+◌, ◌<◌, ◌≤◌, eqb, cond, Bool, true, false, List, [], ◌∷◌, ◌++◌, length, map, Option, Some, None, IsSome, All, refl, sym, ap, subst, ◌∙◌, inl, inr, arith}
+use Rattle.std.proofs.Common.{◌≡◌, ℕ, zero, suc, ◌+◌, ◌<◌, ◌≤◌, eqb, cond, true, false, List, [], ◌∷◌, ◌++◌, length, map, Option, Some, None, IsSome, All, refl, sym, ap, subst, ◌∙◌, inl, inr, arith}
 use Rattle.std.proofs.lemmas.Bool.Decides.{eqb_tells, nat_tests}
 use Rattle.std.proofs.lemmas.List.Folds.{position_or_len_push}
 use Rattle.std.proofs.lemmas.List.Elements.{All-head, All-tail}
@@ -24,7 +24,7 @@ use Rattle.fj_store.specs.Tables.{element_at, with_element, with_cells}
 use Rattle.fj_store.specs.Variables.{is_at, with_item, moved_from, moved_of}
 use Rattle.fj_store.specs.Storage.{Storage, storage, value_in, value_at, cell_at}
 use Rattle.fj_store.specs.Taking.{Taking, taken_by, take_one, take_all, take_pieces, with_own, home_again}
-use Rattle.fj_store.proofs.TableLemmas.{places_tell, at_same, at_other, with_itself, with_missing, past_rows}
+use Rattle.fj_store.proofs.TableLemmas.{places_tell, with_itself, with_missing, past_rows}
 use Rattle.fj_store.proofs.StoreLemmas.{cells_more}
 use Rattle.fj_store.proofs.LawLemmas.{absorbed}
 use Rattle.fj_store.proofs.TakingLemmas.{slot_for, Marks, no_marks, mark_other, moved_in, Takes, takes_one, IsHome, home_at, cell_is, position_low}

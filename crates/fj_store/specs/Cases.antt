@@ -1,12 +1,15 @@
 -- Worked cases of variables that are read, moved out and given back.
-use Rattle.std.specs.Prelude.{◌≡◌, ℕ, pos, true, List, [], ◌∷◌, ◌++◌, map, Some, None}
+use Rattle.std.specs.Prelude.{◌≡◌, ℕ, pos, negsuc, true, List, [], ◌∷◌, ◌++◌, map, Some, None}
 use Rattle.fj_value.specs.declared.kind.Kind.{Kind}
 use Rattle.fj_value.specs.declared.kind.Kind.TheVariants.{Int4, Logical, Chars}
 use Rattle.fj_value.specs.declared.place.Place.{Place}
 use Rattle.fj_value.specs.declared.value.Cell.{Cell}
 use Rattle.fj_value.specs.declared.value.Value.{Value}
 use Rattle.fj_value.specs.declared.value.Value.TheVariants.{Undefined, Int, Log, Chars as Text}
-use Rattle.fj_store.specs.Places.{counted_from}
+use Rattle.fj_store.specs.declared.piece.Piece.TheVariants.{Places, Own}
+use Rattle.fj_store.specs.declared.run.Run.{Run}
+use Rattle.fj_store.specs.Pieces.{cells_in}
+use Rattle.fj_store.specs.Places.{counted_from, places_of}
 use Rattle.fj_store.specs.Variables.{moved_of}
 use Rattle.fj_store.specs.Storage.{Storage, all_undefined, value_at, cell_at, with_value, without, given_back}
 
@@ -51,9 +54,17 @@ pub record PlacesComeBack : Type 0 where
   pub comes_back_undefined : value_at (given_back (cell 0 1 Int4 Undefined ∷ []) (without (place 0 1 ∷ []) variables)) (place 0 1) ≡ Some Undefined
   pub another_kind : value_at (given_back (cell 0 1 Int4 (Log true) ∷ []) (without (place 0 1 ∷ []) variables)) (place 0 1) ≡ Some Undefined
   pub too_large : value_at (with_value variables (place 1 1) (Int (pos 2147483648))) (place 1 1) ≡ Some Undefined
+  pub lowest : value_at (with_value variables (place 1 1) (Int (negsuc 2147483647))) (place 1 1) ≡ Some (Int (negsuc 2147483647))
+  pub too_low : value_at (with_value variables (place 1 1) (Int (negsuc 2147483648))) (place 1 1) ≡ Some Undefined
   pub largest : value_at (with_value variables (place 1 1) (Int (pos 2147483647))) (place 1 1) ≡ Some (Int (pos 2147483647))
   pub characters : value_at (with_value variables (place 4 1) (Text (65 ∷ 66 ∷ 67 ∷ []))) (place 4 1) ≡ Some (Text (65 ∷ 66 ∷ 67 ∷ []))
   pub characters_of_another_length : value_at (with_value variables (place 4 1) (Text (65 ∷ []))) (place 4 1) ≡ Some Undefined
+
+-- what the cells of an output's items are: each value of its own has a cell by itself, and these are counted from 1
+pub record OutputsHaveCells : Type 0 where
+  pub own_values : cells_in variables (Own Int4 (Int (pos 5)) ∷ Own (Chars 1) (Text (65 ∷ [])) ∷ []) ≡ cell 4294967295 1 Int4 (Int (pos 5)) ∷ cell 4294967295 2 (Chars 1) (Text (65 ∷ [])) ∷ []
+  pub same_value_twice : moved_of (cells_in variables (Own Int4 (Int (pos 5)) ∷ Own Int4 (Int (pos 5)) ∷ [])) ≡ record { cells = cell 4294967295 1 Int4 (Int (pos 5)) ∷ cell 4294967295 2 Int4 (Int (pos 5)) ∷ []; order = 0 ∷ 1 ∷ [] }
+  pub between_places : (run : Run) → cells_in variables (Own Logical (Log true) ∷ Places run ∷ Own Int4 (Int (pos 5)) ∷ []) ≡ cell 4294967295 1 Logical (Log true) ∷ (cells (places_of run) ++ cell 4294967295 2 Int4 (Int (pos 5)) ∷ [])
 
 -- READs of which the items are out: one of A, one of B, and then of B alone
 abbrev pub out : Storage

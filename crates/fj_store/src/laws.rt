@@ -1,5 +1,5 @@
 // What holds of variables that are moved out and come back, and worked cases, as contracts of functions with nothing to do.
-ghost use Rattle.fj_store.specs.Cases.{ItemsHaveCells, PlacesComeBack, ReadsComeBack};
+ghost use Rattle.fj_store.specs.Cases.{ItemsHaveCells, OutputsHaveCells, PlacesComeBack, ReadsComeBack};
 ghost use Rattle.fj_store.specs.Laws.{AllComesBack, CellsAreDistinct, CellsComeBack, JustTheseAreOut};
 
 /// The cells of a statement have distinct places, whatever its items are.
@@ -25,6 +25,11 @@ pub fn cells_come_back()
 /// The cells of items, with an item twice, and an array with its element.
 pub fn items_have_cells()
     ensures { ItemsHaveCells }
+{}
+
+/// The cells of an output's items, with values of their own.
+pub fn outputs_have_cells()
+    ensures { OutputsHaveCells }
 {}
 
 /// What is read before, while and after places are out.

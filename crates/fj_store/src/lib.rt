@@ -14,7 +14,7 @@ mod taken;
 pub use kinds::is_of_kind;
 pub use laws::{
     all_comes_back, cells_are_distinct, cells_come_back, items_have_cells, just_these_are_out,
-    places_come_back, reads_come_back,
+    outputs_have_cells, places_come_back, reads_come_back,
 };
 pub use piece::Piece;
 pub use run::Run;

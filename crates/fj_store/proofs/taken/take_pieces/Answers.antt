@@ -1,4 +1,4 @@
-use Rattle.std.proofs.Common.{◌≡◌, ◌∷◌, ◌+◌, ◌≤◌, List, ap, subst, ◌∙◌, ℕ, arith}
+use Rattle.std.proofs.Common.{◌≡◌, ◌∷◌, ◌+◌, ap, subst, ◌∙◌, ℕ, arith}
 use Rattle.fj_store.specs.declared.piece.Piece.{Piece}
 use Rattle.fj_store.specs.declared.piece.Piece.TheVariants.{Places, Own}
 use Rattle.fj_store.specs.Pieces.{sizes}

@@ -1,4 +1,4 @@
-use Rattle.std.proofs.Common.{◌≡◌, List, sym, ap, ◌∙◌, ℕ, arith}
+use Rattle.std.proofs.Common.{List, ap, ◌∙◌, ℕ}
 use Rattle.fj_value.specs.declared.value.Cell.{Cell}
 use Rattle.fj_list.specs.declared.moved.Moved.{Moved}
 use Rattle.fj_store.specs.Pieces.{sizes}
