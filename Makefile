@@ -3,8 +3,8 @@
 # example: runs the deck of examples/first in a folder of its own
 # test: the gate
 # bench: the benchmarks, beside gfortran where it is on the machine
-# checks: what no gate asks for: refused allocations, failing calls, many runs with workers, random statements beside gfortran, the
-# lines of docs/DECKS.md, worked decks, and the modules of docs/DEFINITIONS.md
+# checks: what no gate asks for: refused allocations, failing calls, many runs with workers, random statements and decks beside gfortran,
+# the lines of docs/DECKS.md, worked decks, and the modules of docs/DEFINITIONS.md
 .PHONY: build install example examples test bench checks
 
 PREFIX ?= /usr/local
@@ -38,6 +38,7 @@ checks: build
 	checks/reads
 	checks/groups
 	checks/questions
+	checks/random
 	checks/decks
 	checks/definitions
 	checks/worked
