@@ -107,6 +107,14 @@ fn has_cells(moved: &Moved, want: &[(u32, u32, i64)]) -> bool {
     true
 }
 
+/// Puts a value into the cell of this number, which is that of this place.
+fn put(moved: &mut Moved, at: usize, place: Place, value: Value) {
+    if at < moved.cells.len() {
+        let kind = Kind::Int8;
+        let _ = moved.cells.replace(at, Cell { place, kind, value });
+    }
+}
+
 #[test]
 fn items_come_back(rt: HostRuntime) -> Result<(), Fail> {
     let alloc = rt.alloc();
@@ -127,26 +135,8 @@ fn items_come_back(rt: HostRuntime) -> Result<(), Fail> {
     // nothing more is taken out, and what is out comes back as its cells then are
     assert!(rt; take(&mut store, alloc).is_none());
     let mut moved = moved;
-    if moved.cells.len() == 3 {
-        let value = Value::Int(8);
-        let _ = moved.cells.replace(
-            1,
-            Cell {
-                place: C1,
-                kind: Kind::Int8,
-                value,
-            },
-        );
-        let value = Value::Log(true);
-        let _ = moved.cells.replace(
-            2,
-            Cell {
-                place: C2,
-                kind: Kind::Int8,
-                value,
-            },
-        );
-    }
+    put(&mut moved, 1, C1, Value::Int(8));
+    put(&mut moved, 2, C2, Value::Log(true));
     store.give_back(moved);
     assert!(rt; has(&store, A, 7) && has(&store, C1, 8));
     assert!(rt; is_undefined(&store, C2) && is_undefined(&store, C3));
