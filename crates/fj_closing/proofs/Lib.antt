@@ -1,3 +1,4 @@
 pub mod Performing
 pub mod Desking
 pub mod Returning
+pub mod Due

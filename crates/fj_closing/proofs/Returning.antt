@@ -11,6 +11,7 @@ use Rattle.fj_outside.specs.Holdings.{Holdings, given, without}
 use Rattle.fj_connect.specs.Connection.{Connection}
 use Rattle.fj_connect.specs.Linked.{Linked, connection_of}
 use Rattle.fj_connect.specs.Positions.{ended}
+use Rattle.fj_bay.specs.Bay.{Bay as PlainBay}
 use Rattle.fj_bay.specs.Plain.{place_of}
 use Rattle.fj_plain.specs.State.{Files, Unit as PlainUnit, left}
 use Rattle.fj_desk.specs.Both.{Both}
@@ -22,8 +23,8 @@ use Rattle.fj_units.specs.Names.{stands, left_of, AreInUse}
 use Rattle.fj_units.specs.Files.{files_of}
 use Rattle.fj_units.proofs.Files.{files-given, files-gone, names-given, names-gone}
 use Rattle.fj_closing.specs.Remains.{AreOfDesks}
-use Rattle.fj_closing.specs.Losing.{after, is_memory, lacks, may_want}
-use Rattle.fj_closing.specs.Closing.{Lessens, IsBack, AreBack, IsKept, returned, AreSeated, may_lack, SomeMayLack}
+use Rattle.fj_closing.specs.Losing.{after, is_memory, may_tell, lacks, may_want}
+use Rattle.fj_closing.specs.Closing.{Lessens, IsBack, AreBack, IsKept, returned, AreSeated, AreNamed, may_lack, SomeMayLack}
 use Rattle.fj_closing.specs.declared.remains.Remains.{Remains}
 use Rattle.fj_closing.proofs.Desking.{front_get, last_get}
 
@@ -44,7 +45,10 @@ either_lost (Err l) (Ok y) lost e = inl e
 either_lost (Err l) (Err (Memory error)) lost e = inr e
 either_lost (Err l) (Err Sink) lost e = inl e
 either_lost (Err l) (Err Disk) lost e = inl e
-either_lost (Err l) (Err Unfit) lost e = inl e
+either_lost (Err (Memory error)) (Err Unfit) lost e = inl e
+either_lost (Err Sink) (Err Unfit) lost e = inr e
+either_lost (Err Disk) (Err Unfit) lost e = inr e
+either_lost (Err Unfit) (Err Unfit) lost e = inl e
 
 pub memory_of : {T : Type 0} → (a b : Result T Lost) → is_memory (after a b) ≡ true → (is_memory a ≡ true) ⊎ (is_memory b ≡ true)
 memory_of (Ok x) b e = inr e
@@ -71,6 +75,30 @@ either_lacks {T} {X} a b r is first other e = by (memory_of a b (ap is_memory (s
     by : (is_memory a ≡ true) ⊎ (is_memory b ≡ true) → X
     by (inl m) = first m
     by (inr m) = other m
+
+-- what may be told of two steps may be told of each
+pub both_tell : {T : Type 0} → (a b r : Result T Lost) → r ≡ after a b → may_tell r ≡ true → (may_tell a ≡ true) × (may_tell b ≡ true)
+both_tell {T} a b r is e = by a b (ap may_tell (sym is) ∙ e)
+  where
+    by : (a b : Result T Lost) → may_tell (after a b) ≡ true → (may_tell a ≡ true) × (may_tell b ≡ true)
+    by (Ok x) b e = (refl, e)
+    by (Err l) (Ok y) e = (e, refl)
+    by (Err l) (Err (Memory error)) e = absurd (cc)
+    by (Err l) (Err Sink) e = (e, refl)
+    by (Err l) (Err Disk) e = (e, refl)
+    by (Err (Memory error)) (Err Unfit) e = absurd (cc)
+    by (Err Sink) (Err Unfit) e = absurd (cc)
+    by (Err Disk) (Err Unfit) e = absurd (cc)
+    by (Err Unfit) (Err Unfit) e = absurd (cc)
+
+-- what holds where something may be told holds where all went well
+pub fine_told : {T X : Type 0} → (r : Result T Lost) → (may_tell r ≡ true → X) → OnOk r X
+fine_told (Ok x) f = f refl
+fine_told (Err e) f = tt
+
+-- nothing is told where one of them does not fit
+pub unfit_untold : {T : Type 0} → (a r : Result T Lost) → r ≡ after a (Err Unfit) → may_tell r ≡ true → ⊥
+unfit_untold a r is e = let false_is : false ≡ true = (both_tell a (Err Unfit) r is e).1 in absurd (cc)
 
 pub no_more_memory : {T : Type 0} → (a : Result T Lost) → is_memory (after a (Err Unfit)) ≡ true → is_memory a ≡ true
 no_more_memory (Ok x) e = e
@@ -244,6 +272,18 @@ seated desks (u ∷ us) (v ∷ vs) b = (there (slice_get desks u.slot) _ b.0.bay
     there None x e = absurd (cc)
     there (Some d) x e = refl
 
+-- and the connections there have their names
+pub named : (desks : List Desk) (us : List Connected) (vs : List PlainUnit) → Both (IsSeen desks) us vs → AreNamed desks us
+named desks [] vs b = tt
+named desks (u ∷ us) [] b = absurd b
+named desks (u ∷ us) (v ∷ vs) b = (there (slice_get desks u.slot) b.0.bay, named desks us vs b.1)
+  where
+    there : (o : Option Desk) → bay_at o ≡ Some (record { connection = Some v.connection; halt = v.halt }) → IfSome (connection_at o) (λ c. c.name ≡ u.name)
+    there None e = tt
+    there (Some d) e =
+        let is : d.bay ≡ record { connection = Some v.connection; halt = v.halt } = cc in
+        subst (λ (p : Option Connection). IfSome p (λ c. c.name ≡ u.name)) (sym (ap (λ (bay : PlainBay). bay.connection) is)) (sym b.0.name)
+
 -- the connection of a unit's desk is closed
 pub closes_desk : {F T : Type 0} → (told : F → Bool) (bytes : F → List ℕ) (names : List (List ℕ)) (was now : List (Remains F)) (desks : List Desk) (at : ℕ) (it : Remains F) (c : Linked F) (d : Desk)
     (old new : Files) (result : Result T Lost) → Both (IsKept names) was now → AreOfDesks told bytes was desks → slice_get desks at ≡ Some d
@@ -255,7 +295,7 @@ closes_desk told bytes names was now desks at it c d old new (Ok x) b are at_d a
     let is = placed told bytes c d.bay.connection (ap (place_of told bytes) (sym some) ∙ place) in
     files is.0 ∙ ap (λ o. left_by o old) (sym is.1)
 
-some_in : {X : Type 0} → (o : Option X) → IsSome o → (x : X) × (o ≡ Some x)
+pub some_in : {X : Type 0} → (o : Option X) → IsSome o → (x : X) × (o ≡ Some x)
 some_in None e = absurd (cc)
 some_in (Some x) e = (x, refl)
 

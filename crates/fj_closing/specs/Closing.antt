@@ -1,5 +1,8 @@
 -- Files that go back to the disk, and names that are taken off.
-use Rattle.std.specs.Prelude.{◌≡◌, ◌⊎◌, ◌&&◌, ℕ, Bool, if◌then◌else◌, true, false, List, [], ◌∷◌, Some, None, IfSome, IsSome, is_some, slice_get, Result}
+use Rattle.std.specs.Prelude.{◌≡◌, ◌⊎◌, ◌&&◌, ℕ, Bool, if◌then◌else◌, true, false, List, [], ◌∷◌, Option, Some, None, IfSome, IsSome, is_some, slice_get, Result}
+use Rattle.std.specs.FinSet as set
+use Rattle.fj_outside.specs.Faults.{Rose}
+use Rattle.fj_outside.specs.Holdings.{Holdings, SameAt}
 use Rattle.fj_slot.specs.Serving.{Meaning}
 use Rattle.fj_world.specs.Rack.{Rack}
 use Rattle.fj_bay.specs.Bay.{Bay as PlainBay}
@@ -12,7 +15,9 @@ use Rattle.fj_plain.specs.State.{Files, with_file, without_file}
 use Rattle.fj_desk.specs.Core.{Connected}
 use Rattle.fj_desk.specs.Both.{Both}
 use Rattle.fj_desk.specs.Desks.{Desk}
+use Rattle.fj_desk.specs.Desking.{connection_at}
 use Rattle.fj_units.specs.Names.{stands, left_of}
+use Rattle.fj_units.specs.Files.{files_of}
 use Rattle.fj_closing.specs.Losing.{is_memory, may_want}
 use Rattle.fj_closing.specs.Remains.{IsWhatRemains}
 use Rattle.fj_closing.specs.declared.remains.Remains.{Remains}
@@ -38,6 +43,20 @@ IsKept names was now = (now ≡ was) ⊎ ((now.connection ≡ None) × IsBack na
 abbrev pub returned : List ℕ → List ℕ → Bool → Files → Files
 returned name bytes keep files = if keep then with_file name bytes files else without_file name files
 
+-- The file is as it was to be. One that was to be gone may be there where the disk's own number rose: then its removal may have
+-- been refused.
+abbrev pub IsAsDue : ℕ → ℕ → Option (List ℕ) → Option (List ℕ) → Type 0
+IsAsDue before now found due = (found ≡ due) ⊎ ((due ≡ None) × Rose before now)
+
+-- so is each whose name is not hurt, or is still one of those whose files are out
+abbrev pub AreAsDue : ℕ → ℕ → List (List ℕ) → Holdings → Files → Type 0
+AreAsDue before now names held due = (name : List ℕ) → (set.contains held.hurt name ≡ false) ⊎ (stands names name ≡ true)
+    → IsAsDue before now (files_of held name) (due name)
+
+-- of a name that was not taken off the disk tells the same as before
+abbrev pub AreOthersSame : List (List ℕ) → List (List ℕ) → Holdings → Holdings → Type 0
+AreOthersSame old_names new_names old new = (name : List ℕ) → stands new_names name ≡ stands old_names name → SameAt old new name
+
 -- the names of the units are taken off
 abbrev pub names_left : List Connected → List (List ℕ) → List (List ℕ)
 names_left [] names = names
@@ -47,6 +66,11 @@ names_left (u ∷ us) names = names_left us (left_of names u.name)
 abbrev pub AreSeated : List Desk → List Connected → Type 0
 AreSeated desks [] = Unit {0}
 AreSeated desks (u ∷ us) = IsSome (slice_get desks u.slot) × AreSeated desks us
+
+-- the connection at its desk, if there is one, has the unit's name
+abbrev pub AreNamed : List Desk → List Connected → Type 0
+AreNamed desks [] = Unit {0}
+AreNamed desks (u ∷ us) = IfSome (connection_at (slice_get desks u.slot)) (λ c. c.name ≡ u.name) × AreNamed desks us
 
 -- it has a connection, and no fault stopped its slot
 abbrev pub may_lack : {F : Type 0} → Remains F → Bool

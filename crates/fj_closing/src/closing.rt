@@ -1,6 +1,8 @@
 // Connections are closed: open records are ended, and the files go back to the disk.
-ghost use Rattle.std.specs.Prelude.{◌≡◌, ◌≢◌, ◌↔◌, ◌≤◌, true, false, not, List, map, Some, None, Err, IfErr, IfSome, OnOk, OnErr, slice_get};
+ghost use Rattle.std.specs.Prelude.{◌≡◌, ◌≢◌, ◌↔◌, ◌≤◌, ◌==◌, ℕ, true, false, not, List, map, Some, None, Err, IfErr, IfSome, OnOk, OnErr, slice_get};
+ghost use Rattle.std.specs.FinSet as set;
 ghost use Rattle.fj_outside.specs.Faults.{Rose};
+ghost use Rattle.fj_outside.specs.Holdings.{SameAt};
 ghost use Rattle.fj_connect.specs.Linked.{connection_of};
 ghost use Rattle.fj_connect.specs.Positions.{ended};
 ghost use Rattle.fj_plain.specs.State.{left};
@@ -10,9 +12,9 @@ ghost use Rattle.fj_desk.specs.Desking.{all_left, left_by};
 ghost use Rattle.fj_units.specs.Names.{stands, left_of, AreInUse};
 ghost use Rattle.fj_units.specs.Files.{files_of};
 ghost use Rattle.fj_units.specs.Units.{connected_of};
-ghost use Rattle.fj_closing.specs.Losing.{is_memory, may_want};
+ghost use Rattle.fj_closing.specs.Losing.{is_memory, may_tell, may_want};
 ghost use Rattle.fj_closing.specs.Remains.{AreOfDesks};
-ghost use Rattle.fj_closing.specs.Closing.{Lessens, IsBack, AreBack, IsKept, returned, names_left, AreSeated, may_lack, SomeMayLack};
+ghost use Rattle.fj_closing.specs.Closing.{Lessens, IsBack, AreBack, IsKept, returned, IsAsDue, AreAsDue, AreOthersSame, names_left, AreSeated, AreNamed, may_lack, SomeMayLack};
 ghost use Rattle.fj_closing.specs.declared.remains.Remains.{Remains as Remaining};
 
 use crate::losing::{after, lost_by};
@@ -50,6 +52,11 @@ fn give_back<D: Disk>(
     ensures off { names.new ≡ left_of names.old connection.name }
     ensures files { D.tells disk.old → OnOk result
         (files_of (D.held disk.new) ≡ returned connection.name (D.File.bytes connection.file) keep (files_of (D.held disk.old))) }
+    ensures due { D.tells disk.old → (name : List ℕ) → IsAsDue (D.refusals disk.old) (D.refusals disk.new) (files_of (D.held disk.new) name)
+        (returned connection.name (D.File.bytes connection.file) keep (files_of (D.held disk.old)) name) }
+    ensures count { D.tells disk.old → set.contains (D.held disk.new).hurt connection.name ≡ not (D.File.count connection.file == 0) }
+    ensures others { D.tells disk.old → (name : List ℕ) → name ≢ connection.name → SameAt (D.held disk.old) (D.held disk.new) name }
+    ensures own { D.tells disk.old → D.refusals disk.old ≤ D.refusals disk.new }
     ensures telling { D.tells disk.old ↔ D.tells disk.new }
     ensures later { D.count disk.old ≤ D.count disk.new }
     ensures hurt { D.File.count connection.file ≢ 0 → Rose (D.count disk.old) (D.count disk.new) }
@@ -72,6 +79,12 @@ fn close<D: Disk>(
     ensures names { D.tells disk.old → AreInUse names.new (D.held disk.new).in_use }
     ensures files { D.tells disk.old → D.File.told connection.file ≡ true → OnOk result
         (files_of (D.held disk.new) ≡ left (connection_of D.File.bytes connection) keep (files_of (D.held disk.old))) }
+    ensures due { D.tells disk.old → may_tell result ≡ true → set.contains (D.held disk.new).hurt connection.name ≡ false
+        → (stop ≡ None) × (D.File.told connection.file ≡ true → (name : List ℕ) → IsAsDue (D.refusals disk.old) (D.refusals disk.new) (files_of (D.held disk.new) name)
+        (left (connection_of D.File.bytes connection) keep (files_of (D.held disk.old)) name)) }
+    ensures others { D.tells disk.old → (name : List ℕ) → name ≢ connection.name → SameAt (D.held disk.old) (D.held disk.new) name }
+    ensures same { D.tells disk.old → AreOthersSame names.old names.new (D.held disk.old) (D.held disk.new) }
+    ensures own { D.tells disk.old → D.refusals disk.old ≤ D.refusals disk.new }
 
     // Told or not.
     ensures telling { D.tells disk.old ↔ D.tells disk.new }
@@ -106,6 +119,11 @@ fn close_unit<D: Disk>(
     ensures files { D.tells disk.old → (was : List (Remaining D.File)) (desks : List Desk) (d : Desk) → Both (IsKept names.old) was all.old.items
         → AreOfDesks D.File.told D.File.bytes was desks → slice_get desks unit.now.slot ≡ Some d
         → OnOk result (files_of (D.held disk.new) ≡ left_by d.bay.connection (files_of (D.held disk.old))) }
+    ensures due { D.tells disk.old → may_tell result ≡ true → (was : List (Remaining D.File)) (desks : List Desk) (d : Desk) → Both (IsKept names.old) was all.old.items
+        → AreOfDesks D.File.told D.File.bytes was desks → slice_get desks unit.now.slot ≡ Some d → IfSome d.bay.connection (λ c. c.name ≡ unit.now.name)
+        → AreAsDue (D.refusals disk.old) (D.refusals disk.new) names.new (D.held disk.new) (left_by d.bay.connection (files_of (D.held disk.old))) }
+    ensures same { D.tells disk.old → AreOthersSame names.old names.new (D.held disk.old) (D.held disk.new) }
+    ensures own { D.tells disk.old → D.refusals disk.old ≤ D.refusals disk.new }
 
     // Told or not.
     ensures telling { D.tells disk.old ↔ D.tells disk.new }
@@ -115,6 +133,7 @@ fn close_unit<D: Disk>(
     ensures off { OnOk result (names.new ≡ left_of names.old unit.now.name) }
     ensures kept { (was : List (Remaining D.File)) → Both (IsKept names.old) was all.old.items → Both (IsKept names.new) was all.new.items }
     ensures memory { (was : List (Remaining D.File)) → Both (IsKept names.old) was all.old.items → is_memory result ≡ true → SomeMayLack was }
+    ensures lessens { Lessens names.old names.new }
 {
     let at = unit.slot as usize;
     if at >= all.len() {
@@ -147,6 +166,11 @@ fn close_each<D: Disk>(
     ensures files { D.tells disk.old → (was : List (Remaining D.File)) (desks : List Desk) → Both (IsKept names.old) was all.old.items
         → AreOfDesks D.File.told D.File.bytes was desks → AreSeated desks (map connected_of units.now)
         → OnOk result (files_of (D.held disk.new) ≡ all_left desks (map connected_of units.now) (files_of (D.held disk.old))) }
+    ensures due { D.tells disk.old → may_tell result ≡ true → (was : List (Remaining D.File)) (desks : List Desk) → Both (IsKept names.old) was all.old.items
+        → AreOfDesks D.File.told D.File.bytes was desks → AreSeated desks (map connected_of units.now) → AreNamed desks (map connected_of units.now)
+        → AreAsDue (D.refusals disk.old) (D.refusals disk.new) names.new (D.held disk.new) (all_left desks (map connected_of units.now) (files_of (D.held disk.old))) }
+    ensures same { D.tells disk.old → AreOthersSame names.old names.new (D.held disk.old) (D.held disk.new) }
+    ensures own { D.tells disk.old → D.refusals disk.old ≤ D.refusals disk.new }
 
     // Told or not.
     ensures telling { D.tells disk.old ↔ D.tells disk.new }
@@ -156,6 +180,7 @@ fn close_each<D: Disk>(
     ensures off { OnOk result (names.new ≡ names_left (map connected_of units.now) names.old) }
     ensures kept { (was : List (Remaining D.File)) → Both (IsKept names.old) was all.old.items → Both (IsKept names.new) was all.new.items }
     ensures memory { (was : List (Remaining D.File)) → Both (IsKept names.old) was all.old.items → is_memory result ≡ true → SomeMayLack was }
+    ensures lessens { Lessens names.old names.new }
 {
     let [unit, more @ ..] = units else {
         return Ok(());
@@ -169,7 +194,9 @@ fn close_each<D: Disk>(
 fn close_left<D: Disk>(it: Remains<D::File>, names: &mut Names, disk: &mut D) -> Result<(), Lost>
     requires names { D.tells disk.old → AreInUse names.old (D.held disk.old).in_use }
     ensures names { D.tells disk.old → AreInUse names.new (D.held disk.new).in_use }
-    ensures none { OnOk result ((disk.new ≡ disk.old) × (names.new ≡ names.old)) }
+    ensures none { may_tell result ≡ true → (disk.new ≡ disk.old) × (names.new ≡ names.old) }
+    ensures same { D.tells disk.old → AreOthersSame names.old names.new (D.held disk.old) (D.held disk.new) }
+    ensures own { D.tells disk.old → D.refusals disk.old ≤ D.refusals disk.new }
     ensures telling { D.tells disk.old ↔ D.tells disk.new }
     ensures later { D.count disk.old ≤ D.count disk.new }
     ensures disk { result ≡ Err Lost.Disk → Rose (D.count disk.old) (D.count disk.new) }
@@ -194,7 +221,9 @@ fn close_rest<D: Disk>(
 ) -> Result<(), Lost>
     requires names { D.tells disk.old → AreInUse names.old (D.held disk.old).in_use }
     ensures names { D.tells disk.old → AreInUse names.new (D.held disk.new).in_use }
-    ensures none { OnOk result ((disk.new ≡ disk.old) × (names.new ≡ names.old)) }
+    ensures none { may_tell result ≡ true → (disk.new ≡ disk.old) × (names.new ≡ names.old) }
+    ensures same { D.tells disk.old → AreOthersSame names.old names.new (D.held disk.old) (D.held disk.new) }
+    ensures own { D.tells disk.old → D.refusals disk.old ≤ D.refusals disk.new }
     ensures telling { D.tells disk.old ↔ D.tells disk.new }
     ensures later { D.count disk.old ≤ D.count disk.new }
     ensures disk { result ≡ Err Lost.Disk → Rose (D.count disk.old) (D.count disk.new) }
@@ -212,7 +241,7 @@ fn close_rest<D: Disk>(
 }
 
 /// Closes what remains of slots: the connections of units, in ascending order of these, and then those that no unit has. A loss
-/// does not keep the others from being closed: want of memory is answered, else the first loss.
+/// does not keep the others from being closed: want of memory is answered, else what does not fit, else the first fault.
 pub fn close_units<D: Disk>(
     units: &Units,
     all: Vec<Remains<D::File>>,
@@ -223,6 +252,11 @@ pub fn close_units<D: Disk>(
     ensures names { D.tells disk.old → AreInUse names.new (D.held disk.new).in_use }
     ensures files { D.tells disk.old → (desks : List Desk) → AreOfDesks D.File.told D.File.bytes all.items desks → AreSeated desks units.now
         → OnOk result (files_of (D.held disk.new) ≡ all_left desks units.now (files_of (D.held disk.old))) }
+    ensures due { D.tells disk.old → may_tell result ≡ true → (desks : List Desk) → AreOfDesks D.File.told D.File.bytes all.items desks
+        → AreSeated desks units.now → AreNamed desks units.now
+        → AreAsDue (D.refusals disk.old) (D.refusals disk.new) names.new (D.held disk.new) (all_left desks units.now (files_of (D.held disk.old))) }
+    ensures same { D.tells disk.old → AreOthersSame names.old names.new (D.held disk.old) (D.held disk.new) }
+    ensures own { D.tells disk.old → D.refusals disk.old ≤ D.refusals disk.new }
 
     // Told or not.
     ensures telling { D.tells disk.old ↔ D.tells disk.new }

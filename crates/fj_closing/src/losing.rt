@@ -1,19 +1,20 @@
 // Why closing was not carried to its end.
 ghost use Rattle.std.specs.Prelude.{◌≡◌, ◌≢◌, ◌⊎◌, true, Err, IsOk, OnOk, is_err};
-ghost use Rattle.fj_closing.specs.Losing.{after, is_memory, lacks};
+ghost use Rattle.fj_closing.specs.Losing.{after, is_memory, may_tell, lacks};
 
 use fj_items::Lost;
 use fj_outside::{Failed, Stop};
 
-/// Want of memory, else the first of two that was lost.
+/// Of two steps: want of memory, else what does not fit, else what was lost first.
 pub(crate) fn after(first: Result<(), Lost>, then: Result<(), Lost>) -> Result<(), Lost>
     ensures { result ≡ after first then }
 {
     let Err(lost) = first else {
         return then;
     };
-    match then {
-        Err(Lost::Memory(error)) => Err(Lost::Memory(error)),
+    match (lost, then) {
+        (_, Err(Lost::Memory(error))) => Err(Lost::Memory(error)),
+        (Lost::Sink | Lost::Disk, Err(Lost::Unfit)) => Err(Lost::Unfit),
         _ => Err(lost),
     }
 }
@@ -28,19 +29,16 @@ pub(crate) fn lost_by(
     ensures disk { result ≡ Err Lost.Disk → (hurt ≡ true) ⊎ (is_err given ≡ true) }
     ensures sink { result ≢ Err Lost.Sink }
     ensures memory { is_memory result ≡ true → lacks ended ≡ true }
+    ensures told { may_tell result ≡ true → (hurt ≡ true) ⊎ IsOk ended }
 {
     if let Err(Stop::Memory(error)) = ended {
         return Err(Lost::Memory(error));
     }
-    if given.is_err() {
+    if ended.is_err() && !hurt {
+        return Err(Lost::Unfit);
+    }
+    if ended.is_err() || given.is_err() {
         return Err(Lost::Disk);
     }
-    if ended.is_ok() {
-        return Ok(());
-    }
-    if hurt {
-        Err(Lost::Disk)
-    } else {
-        Err(Lost::Unfit)
-    }
+    Ok(())
 }

@@ -1,6 +1,7 @@
 use Rattle.fj_units.specs.Files.{files_of}
 use Rattle.fj_units.specs.Units.{connected_of}
-use Rattle.fj_closing.proofs.Returning.{each_closed, either_lacks}
+use Rattle.fj_closing.proofs.Returning.{each_closed, either_lacks, both_tell}
+use Rattle.fj_closing.proofs.Due.{each_due, others_on}
 use Rattle.fj_closing.proofs.closing.+close_each.Goals as goal
 
 pub returns-clause-files : goal.returns-clause-files
@@ -14,3 +15,19 @@ pub returns-clause-memory : goal.returns-clause-memory
 returns-clause-memory g t c = λ was b.
     either_lacks c.close_unit-first.result c.close_each-then.result c.after.result c.after.ensures
     (c.close_unit-first.ensures.memory was b) (c.close_each-then.ensures.memory was (c.close_unit-first.ensures.kept was b))
+
+pub returns-clause-due : goal.returns-clause-due
+returns-clause-due g t c = λ tells may was desks b are seats named.
+    let told = both_tell c.close_unit-first.result c.close_each-then.result c.after.result c.after.ensures may in
+    let still = c.close_unit-first.ensures.telling.0 tells in
+    each_due connected_of desks c.args.units.now c.unit-item.result (g.D.Disk.held c.args.disk.now) (g.D.Disk.held c.close_unit-first.new.disk) (g.D.Disk.held c.close_each-then.new.disk)
+    c.close_unit-first.new.names c.close_each-then.new.names (g.D.Disk.refusals c.args.disk.now) (g.D.Disk.refusals c.close_unit-first.new.disk) (g.D.Disk.refusals c.close_each-then.new.disk)
+    c.in-len1-up.len_at_least c.unit-item.is seats named (c.close_unit-first.ensures.own tells) (c.close_each-then.ensures.own still)
+    c.close_each-then.ensures.lessens (c.close_each-then.ensures.same still)
+    (λ d e n. c.close_unit-first.ensures.due tells told.0 was desks d b are e n)
+    (λ s n. c.close_each-then.ensures.due still told.1 was desks (c.close_unit-first.ensures.kept was b) are s n)
+
+pub returns-clause-same : goal.returns-clause-same
+returns-clause-same g t c = λ tells.
+    others_on c.args.names.now c.close_unit-first.new.names c.close_each-then.new.names (g.D.Disk.held c.args.disk.now) (g.D.Disk.held c.close_unit-first.new.disk) (g.D.Disk.held c.close_each-then.new.disk)
+    c.close_unit-first.ensures.lessens c.close_each-then.ensures.lessens (c.close_unit-first.ensures.same tells) (c.close_each-then.ensures.same (c.close_unit-first.ensures.telling.0 tells))

@@ -1,6 +1,8 @@
-use Rattle.std.proofs.Common.{sym, ap, ◌∙◌}
+use Rattle.std.proofs.Common.{sym, ap, ◌∙◌, arith}
 use Rattle.fj_units.specs.Names.{stands, left_of}
+use Rattle.fj_units.specs.Files.{files_of}
 use Rattle.fj_closing.proofs.Returning.{name_off, off_lessens, wanted}
+use Rattle.fj_closing.proofs.Due.{due_closed, others_of_one}
 use Rattle.fj_closing.proofs.closing.close.Goals as goal
 
 pub returns-clause-back : goal.returns-clause-back
@@ -15,3 +17,20 @@ returns-clause-lessens g c = λ q e.
 
 pub returns-clause-memory : goal.returns-clause-memory
 returns-clause-memory g c = λ e. wanted c.end_open-ended.result c.args.stop c.end_open-ended.ensures.stopped (c.lost_by.ensures.memory e)
+
+pub returns-clause-due : goal.returns-clause-due
+returns-clause-due g c = λ tells may.
+    due_closed g.D.File.FileStore.told g.D.File.FileStore.bytes c.args.connection c.end_open-ended.new.connection c.end_open-ended.result c.args.stop c.args.keep c.faults-hurt.result _
+    (g.D.Disk.refusals c.args.disk.now) (g.D.Disk.refusals c.give_back-given.new.disk) (files_of (g.D.Disk.held c.args.disk.now)) (g.D.Disk.held c.give_back-given.new.disk)
+    c.end_open-ended.ensures.name c.end_open-ended.ensures.ended c.end_open-ended.ensures.running
+    c.faults-hurt.ensures (c.give_back-given.ensures.count tells) (c.give_back-given.ensures.due tells) (c.lost_by.ensures.told may)
+
+pub returns-clause-others : goal.returns-clause-others
+returns-clause-others g c = λ tells name other. c.give_back-given.ensures.others tells name (λ same. other (same ∙ c.end_open-ended.ensures.name))
+
+pub returns-clause-same : goal.returns-clause-same
+returns-clause-same g c = λ tells.
+    let off = c.give_back-given.ensures.off ∙ ap (left_of c.args.names.now) c.end_open-ended.ensures.name in
+    others_of_one c.args.names.now c.give_back-given.new.names (g.D.Disk.held c.args.disk.now) (g.D.Disk.held c.give_back-given.new.disk) c.args.connection.name
+    (sym (ap (stands c.args.names.now) c.name.ensures) ∙ sym c.holds.ensures ∙ c.if-not-holds.false) (ap (λ ns. stands ns c.args.connection.name) off ∙ name_off c.args.names.now c.args.connection.name)
+    (λ name other. c.give_back-given.ensures.others tells name (λ same. other (same ∙ c.end_open-ended.ensures.name)))

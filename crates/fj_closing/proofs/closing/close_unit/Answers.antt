@@ -1,11 +1,14 @@
-use Rattle.std.proofs.Common.{◌≡◌, ◌<◌, false, not, length, IfSome, OnOk, refl, sym, ap, ◌∙◌, subst, arith}
+use Rattle.std.proofs.Common.{◌≡◌, ◌<◌, ℕ, List, true, false, not, length, IfSome, OnOk, refl, sym, ap, ◌∙◌, subst, arith}
 use Rattle.std.proofs.lemmas.Option.{slice_get_read}
+use Rattle.std.proofs.lemmas.Slice.Eq.{bytes_eq-Decides}
 use Rattle.fj_connect.specs.Linked.{Linked, connection_of}
 use Rattle.fj_plain.specs.State.{left}
 use Rattle.fj_units.specs.Names.{stands}
 use Rattle.fj_units.specs.Files.{files_of}
 use Rattle.fj_closing.specs.Losing.{is_memory}
-use Rattle.fj_closing.proofs.Returning.{kept_gone, closes_desk, lack_at, no_more_memory}
+use Rattle.fj_closing.specs.Closing.{IsAsDue}
+use Rattle.fj_closing.proofs.Returning.{kept_gone, closes_desk, lack_at, no_more_memory, unfit_untold}
+use Rattle.fj_closing.proofs.Due.{due_at_desk}
 use Rattle.fj_closing.proofs.closing.close_unit.Goals as goal
 
 pub returns-then-due-clause-files : goal.returns-then-due-clause-files
@@ -45,3 +48,23 @@ returns-else-due-clause-memory g c = λ was b e.
     let found = slice_get_read c.args.all.now.items (length c.args.all.now.items) c.args.unit.now.slot c.index_mut-it.result.now refl within c.index_mut-it.ensures.value in
     lack_at c.args.names.now was c.args.all.now.items c.args.unit.now.slot c.index_mut-it.result.now c.in-Some.connection b found
     (sym c.in-Some.ensures.value) (c.close-closed.ensures.memory (no_more_memory c.close-closed.result (ap is_memory (sym c.after.ensures) ∙ e)))
+
+pub returns-then-due-clause-due : goal.returns-then-due-clause-due
+returns-then-due-clause-due g c = λ tells may was desks d b are at_d named.
+    let within : c.args.unit.now.slot < length c.args.all.now.items = omega (arith, c.if-at-len.false, c.len.ensures, c.args.all.now.ok.0) in
+    let found = slice_get_read c.args.all.now.items (length c.args.all.now.items) c.args.unit.now.slot c.index_mut-it.result.now refl within c.index_mut-it.ensures.value in
+    let due = (bytes_eq-Decides c.as_str.result.now c.as_str-2.result.now).0 (sym c.eq-due.ensures ∙ c.if-due.true) in
+    let name = sym c.name.ensures ∙ sym c.as_str.ensures.text ∙ due ∙ c.as_str-2.ensures.text in
+    due_at_desk g.D.File.FileStore.told g.D.File.FileStore.bytes c.args.names.now c.close-closed.new.names was c.args.all.now.items desks c.args.unit.now.slot c.index_mut-it.result.now c.in-Some.connection d
+    c.args.unit.now.name (g.D.Disk.refusals c.args.disk.now) (g.D.Disk.refusals c.close-closed.new.disk) (g.D.Disk.held c.args.disk.now) (g.D.Disk.held c.close-closed.new.disk) b are at_d found
+    (sym c.in-Some.ensures.value) named name c.close-closed.ensures.back (c.close-closed.ensures.others tells)
+    (λ clear.
+    let closed = c.close-closed.ensures.due tells may clear in (
+      closed.0,
+      subst (λ m. g.D.File.FileStore.told c.in-Some.connection.file ≡ true → (name : List ℕ) → IsAsDue (g.D.Disk.refusals c.args.disk.now) (g.D.Disk.refusals c.close-closed.new.disk)
+          (files_of (g.D.Disk.held c.close-closed.new.disk) name) (left (connection_of g.D.File.FileStore.bytes c.in-Some.connection) (not m.scratch) (files_of (g.D.Disk.held c.args.disk.now)) name))
+          c.modes.ensures.value closed.1,
+    ))
+
+pub returns-else-due-clause-due : goal.returns-else-due-clause-due
+returns-else-due-clause-due g c = λ tells may. absurd (unfit_untold c.close-closed.result c.after.result c.after.ensures may)

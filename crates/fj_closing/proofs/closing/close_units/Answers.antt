@@ -1,8 +1,10 @@
-use Rattle.std.proofs.Common.{◌≡◌, OnOk, sym, ap, ◌∙◌, subst}
+use Rattle.std.proofs.Common.{◌≡◌, OnOk, map, sym, ap, ◌∙◌, subst}
 use Rattle.fj_desk.specs.Desking.{all_left}
 use Rattle.fj_units.specs.Files.{files_of}
-use Rattle.fj_closing.specs.Closing.{AreSeated, names_left}
-use Rattle.fj_closing.proofs.Returning.{both_ok, either_lacks, kept_all, lack_kept, back_all}
+use Rattle.fj_units.specs.Units.{connected_of}
+use Rattle.fj_closing.specs.Closing.{AreSeated, AreNamed, AreAsDue, names_left}
+use Rattle.fj_closing.proofs.Returning.{both_ok, both_tell, fine_told, either_lacks, kept_all, lack_kept, back_all}
+use Rattle.fj_closing.proofs.Due.{others_on}
 use Rattle.fj_closing.proofs.closing.close_units.Goals as goal
 
 pub returns-clause-files : goal.returns-clause-files
@@ -10,7 +12,7 @@ returns-clause-files g c = λ tells desks are seats.
     subst (λ z. OnOk z (files_of (g.D.Disk.held c.close_rest-then.new.disk) ≡ all_left desks c.args.units.now (files_of (g.D.Disk.held c.args.disk.now)))) (sym c.after.ensures)
     (both_ok c.close_each-first.result c.close_rest-then.result
     (c.close_each-first.ensures.files tells c.args.all.items desks (kept_all c.args.names.now c.args.all.items) are (subst (AreSeated desks) (sym c.as_slice.ensures) seats))
-    c.close_rest-then.ensures.none
+    (fine_told c.close_rest-then.result c.close_rest-then.ensures.none)
     (λ p q. ap (λ d. files_of (g.D.Disk.held d)) q.0 ∙ p ∙ ap (λ us. all_left desks us (files_of (g.D.Disk.held c.args.disk.now))) c.as_slice.ensures))
 
 pub returns-clause-telling : goal.returns-clause-telling
@@ -22,7 +24,7 @@ returns-clause-telling g c = (
 pub returns-clause-off : goal.returns-clause-off
 returns-clause-off g c =
     subst (λ z. OnOk z (c.close_rest-then.new.names ≡ names_left c.args.units.now c.args.names.now)) (sym c.after.ensures)
-    (both_ok c.close_each-first.result c.close_rest-then.result c.close_each-first.ensures.off c.close_rest-then.ensures.none
+    (both_ok c.close_each-first.result c.close_rest-then.result c.close_each-first.ensures.off (fine_told c.close_rest-then.result c.close_rest-then.ensures.none)
     (λ p q. q.1 ∙ p ∙ ap (λ us. names_left us c.args.names.now) c.as_slice.ensures))
 
 pub returns-clause-back : goal.returns-clause-back
@@ -36,3 +38,19 @@ returns-clause-memory g c =
     either_lacks c.close_each-first.result c.close_rest-then.result c.after.result c.after.ensures
     (c.close_each-first.ensures.memory c.args.all.items kept)
     (λ e. lack_kept c.close_each-first.new.names c.args.all.items c.close_each-first.new.all.items (c.close_each-first.ensures.kept c.args.all.items kept) (c.close_rest-then.ensures.memory e))
+
+pub returns-clause-due : goal.returns-clause-due
+returns-clause-due g c = λ tells may desks are seats named.
+    let told = both_tell c.close_each-first.result c.close_rest-then.result c.after.result c.after.ensures may in
+    let rest = c.close_rest-then.ensures.none told.1 in
+    let due = c.close_each-first.ensures.due tells told.0 c.args.all.items desks (kept_all c.args.names.now c.args.all.items) are
+    (subst (AreSeated desks) (sym c.as_slice.ensures) seats) (subst (AreNamed desks) (sym c.as_slice.ensures) named) in
+    subst (λ us. AreAsDue (g.D.Disk.refusals c.args.disk.now) (g.D.Disk.refusals c.close_rest-then.new.disk) c.close_rest-then.new.names (g.D.Disk.held c.close_rest-then.new.disk)
+    (all_left desks us (files_of (g.D.Disk.held c.args.disk.now)))) c.as_slice.ensures
+    (subst (λ d. AreAsDue (g.D.Disk.refusals c.args.disk.now) (g.D.Disk.refusals d) c.close_rest-then.new.names (g.D.Disk.held d) (all_left desks (map connected_of c.as_slice.result.now) (files_of (g.D.Disk.held c.args.disk.now)))) (sym rest.0)
+    (subst (λ ns. AreAsDue (g.D.Disk.refusals c.args.disk.now) (g.D.Disk.refusals c.close_each-first.new.disk) ns (g.D.Disk.held c.close_each-first.new.disk) (all_left desks (map connected_of c.as_slice.result.now) (files_of (g.D.Disk.held c.args.disk.now)))) (sym rest.1) due))
+
+pub returns-clause-same : goal.returns-clause-same
+returns-clause-same g c = λ tells.
+    others_on c.args.names.now c.close_each-first.new.names c.close_rest-then.new.names (g.D.Disk.held c.args.disk.now) (g.D.Disk.held c.close_each-first.new.disk) (g.D.Disk.held c.close_rest-then.new.disk)
+    c.close_each-first.ensures.lessens c.close_rest-then.ensures.lessens (c.close_each-first.ensures.same tells) (c.close_rest-then.ensures.same (c.close_each-first.ensures.telling.0 tells))

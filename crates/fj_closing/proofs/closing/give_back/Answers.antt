@@ -1,6 +1,7 @@
 use Rattle.std.proofs.Common.{ℕ, List, sym, ap, ◌∙◌, subst}
 use Rattle.fj_units.specs.Names.{left_of, AreInUse}
 use Rattle.fj_closing.proofs.Returning.{names_back, files_back}
+use Rattle.fj_closing.proofs.Due.{due_back, hurt_back, others_back, never_falls}
 use Rattle.fj_closing.proofs.closing.give_back.Goals as goal
 
 pub returns-clause-names : goal.returns-clause-names
@@ -13,3 +14,22 @@ pub returns-clause-files : goal.returns-clause-files
 returns-clause-files g c = λ tells.
     files_back (g.D.Disk.held c.args.disk.now) (g.D.Disk.held c.close_file.new.disk) c.args.connection.name (g.D.File.FileStore.bytes c.args.connection.file) _ c.args.keep
     c.close_file.result (c.close_file.ensures.back tells)
+
+pub returns-clause-due : goal.returns-clause-due
+returns-clause-due g c = λ tells.
+    due_back (g.D.Disk.held c.args.disk.now) (g.D.Disk.held c.close_file.new.disk) c.args.connection.name (g.D.File.FileStore.bytes c.args.connection.file) _ c.args.keep
+    c.close_file.result (g.D.Disk.refusals c.args.disk.now) (g.D.Disk.refusals c.close_file.new.disk)
+    (c.close_file.ensures.back tells) (c.close_file.ensures.err tells) c.close_file.ensures.kept (c.close_file.ensures.own tells)
+
+pub returns-clause-count : goal.returns-clause-count
+returns-clause-count g c = λ tells.
+    hurt_back (g.D.Disk.held c.args.disk.now) (g.D.Disk.held c.close_file.new.disk) c.args.connection.name (g.D.File.FileStore.bytes c.args.connection.file) _ c.args.keep
+    c.close_file.result (c.close_file.ensures.back tells) (c.close_file.ensures.err tells)
+
+pub returns-clause-others : goal.returns-clause-others
+returns-clause-others g c = λ tells.
+    others_back (g.D.Disk.held c.args.disk.now) (g.D.Disk.held c.close_file.new.disk) c.args.connection.name (g.D.File.FileStore.bytes c.args.connection.file) _ c.args.keep
+    c.close_file.result (c.close_file.ensures.back tells) (c.close_file.ensures.err tells)
+
+pub returns-clause-own : goal.returns-clause-own
+returns-clause-own g c = λ tells. never_falls _ (g.D.Disk.refusals c.args.disk.now) (g.D.Disk.refusals c.close_file.new.disk) (c.close_file.ensures.own tells)

@@ -10,3 +10,6 @@ returns-clause-remains g c = record {
   back = c.close_units.ensures.back;
   memory = c.close_units.ensures.memory;
 }
+
+pub returns-clause-due : goal.returns-clause-due
+returns-clause-due g c = λ tells may desks holds. c.close_units.ensures.due tells may desks (c.what_remains-all.ensures.desks desks holds)

@@ -1,0 +1,5 @@
+use Rattle.fj_closing.proofs.Returning.{unfit_untold}
+use Rattle.fj_closing.proofs.closing.close_left.Goals as goal
+
+pub returns-clause-none : goal.returns-clause-none
+returns-clause-none g c = λ may. absurd (unfit_untold c.close-closed.result c.after.result c.after.ensures may)
