@@ -83,7 +83,7 @@ class Connections:
     def open_again(self, unit, name, left, was):
         """Connects a file that is there, in the access that it was written in or as a stream."""
         del self.files[name]
-        made = Connection(unit, name, left.access, left.form, asynchronous=self.maybe(0.35), exact=left.exact, recl=left.recl)
+        made = Connection(unit, name, left.access, left.form, asynchronous=self.maybe(0.35), exact=left.exact, recl=left.recl if left.access == "DIRECT" else 0)
         content = left.file
         if left.exact and self.maybe(0.25):
             made.access, made.form, made.recl, content = "STREAM", "UNFORMATTED", 0, Bytes(content.letters())

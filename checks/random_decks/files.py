@@ -14,13 +14,14 @@ def letters_of(parts):
 @dataclasses.dataclass
 class Record:
     """A record: its fields, or none where its characters are a processor's own; what list-directed input may read of it, each a kind with
-    its length; the group that it and the records behind it are, with the places that get values; the bytes of one without a format."""
+    its characters, and whether there is more of it, or a slash; the group that it and the records behind it are, with the places that get values; the bytes of one without a format."""
 
     pieces: list = None
     listed: list = None
     group: tuple = ()
     comma: bool = None
     slash: bool = False
+    more: bool = False
     letters: str = ""
 
     def width(self):

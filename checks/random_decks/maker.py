@@ -135,15 +135,19 @@ class Deck(Connections, Transfers, Reads, Unformatted):
         due, is_stream = "fine", isinstance(unit.file, Bytes)
         if verb != "FLUSH" and unit.access == "DIRECT" or verb == "BACKSPACE" and is_stream:
             due = "an error"
-        elif verb == "BACKSPACE" and unit.action == "WRITE":
-            return self.leave("BACKSPACE with ACTION='WRITE'")
+        elif verb == "BACKSPACE" and (unit.action == "WRITE" or unit.access == "STREAM"):
+            return self.leave("BACKSPACE with ACTION='WRITE' or of a formatted stream")
         elif verb == "ENDFILE" and unit.action == "READ":
             due = "an error"
         elif verb == "ENDFILE" and not is_stream and unit.access == "STREAM":
             return self.leave("ENDFILE of a formatted stream")
         elif verb == "ENDFILE" and not is_stream and (unit.file.ended or unit.file.inside is not None or unit.file.short):
-            return self.leave("ENDFILE behind the endfile record, within a record, or behind the end of a record")
+            return self.leave("ENDFILE behind the endfile record, in a record, behind the end of one or a list")
+        cuts = isinstance(unit.file, Records) and unit.file.at < len(unit.file.records)
         self.motion(unit, verb, due)
+        if verb == "ENDFILE" and cuts and due == "fine":
+            self.leave("BACKSPACE behind an ENDFILE that cuts")
+            self.motion(unit, "REWIND")
         if due != "fine" and verb == "ENDFILE" and unit.access != "DIRECT":
             self.motion(unit, "REWIND")
 
@@ -185,8 +189,25 @@ class Deck(Connections, Transfers, Reads, Unformatted):
                 asked += [("SIZE", "N")] if unit.exact and not (isinstance(unit.file, Records) and unit.file.writing) else []
         asked = self.rng.sample(asked, self.rng.randint(1, min(4, len(asked))))
         about = f"FILE='{unit.name}'" if unit and unit.name and self.maybe(0.3) else str(number)
-        self.say(self.call("INQUIRE", about, [f"{what}={self.fresh(ANSWERS[kind])}" for what, kind in asked] + self.status())
-                 .replace("UNIT=FILE=", "FILE="))
+        places = {what: self.fresh(ANSWERS[kind]) for what, kind in asked}
+        line = self.call("INQUIRE", about, [f"{what}={place}" for what, place in places.items()] + self.status())
+        self.say(line.replace("UNIT=FILE=", "FILE="))
+        self.counts.update((place, str(self.answer(unit, what))) for what, place in places.items() if what in ("NEXTREC", "POS", "SIZE"))
+        if "NEXTREC" in places and unit.form == "FORMATTED":
+            self.leave("NEXTREC= behind a READ with a format, in gfortran")
+            self.own.add(places["NEXTREC"])
+
+    def answer(self, unit, what):
+        """What the model says of a number that INQUIRE tells."""
+        file = unit.file
+        if what == "NEXTREC":
+            return file.next
+        if what == "SIZE":
+            return len(file.letters())
+        if isinstance(file, Bytes):
+            return file.at + 1
+        inside = sum(piece.width for piece in file.records[file.at].pieces[: file.inside or 0]) if file.at < len(file.records) else 0
+        return file.offset(file.at) + (file.records[file.at].width() if file.writing else inside) + 1
 
     def unconnected(self):
         """A statement on a unit that is not connected, or about a file that is not."""
@@ -202,8 +223,10 @@ class Deck(Connections, Transfers, Reads, Unformatted):
 
     def stop(self):
         """A last statement whose condition nothing catches."""
+        self.end_star()
         for unit in self.units.values():
             self.end_record(unit)
+            self.end_record(unit, "SEQUENTIAL")
         self.catches = False
         self.rng.choice([self.misfit] * 2 + [self.transfer] * 3)(self.rng.choice(list(self.units.values())))
 
@@ -229,8 +252,8 @@ class Deck(Connections, Transfers, Reads, Unformatted):
             self.close(unit)
         elif choice < 0.46:
             self.reopen(unit)
-        elif choice < 0.475 and isinstance(unit.file, Records) and unit.file.writing:
-            self.leave("OPEN of another file for a unit with an open record")
+        elif choice < 0.475 and isinstance(unit.file, Records) and (unit.file.writing or unit.file.inside is not None):
+            self.leave("OPEN of another file for a unit within a record")
         elif choice < 0.475:
             self.open(unit.unit)
         elif choice < 0.49:

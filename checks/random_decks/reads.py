@@ -21,7 +21,7 @@ class Reads:
         file = unit.file
         if file.writing:
             self.leave("READ behind nonadvancing output")
-            return self.motion(unit, "REWIND" if unit.action == "WRITE" or self.maybe(0.5) else "BACKSPACE")
+            return self.motion(unit, "REWIND" if unit.access == "STREAM" or self.maybe(0.5) else "BACKSPACE")
         if file.at >= len(file.records):
             return self.read_at_end(unit)
         record, choice = file.records[file.at], self.rng.random()
@@ -122,7 +122,7 @@ class Reads:
 
     def read_fields(self, unit, specs=None):
         """A READ that goes on to the next record."""
-        file, texts, reads = unit.file, [], []
+        file, texts, reads, tabs = unit.file, [], [], unit.access != "STREAM" and not unit.file.short
         modes, pads = self.input_modes(unit)
         specs = self.from_here(unit) if specs is None else specs
         specs = specs + modes + ([f"ADVANCE={self.word('YES')}"] if self.maybe(0.1) else [])
@@ -132,13 +132,13 @@ class Reads:
         while True:
             record = file.records[file.at]
             first = file.inside or 0
-            self.read_pieces(record.pieces[first:], texts, reads, first == 0 and unit.access != "STREAM" and not file.short, unit.access != "STREAM")
+            self.read_pieces(record.pieces[first:], texts, reads, first == 0 and tabs, unit.access != "STREAM")
             file.skip()
             if not more or file.at >= len(file.records) or file.records[file.at].pieces is None:
                 break
             texts.append("/")
             more -= 1
-        if pads and texts and texts[-1] != "/" and unit.access != "STREAM" and self.maybe(0.08):
+        if pads and texts and texts[-1] != "/" and tabs and self.maybe(0.08):
             self.read_beyond(record.width(), texts, reads)
         self.say_transfer("READ", unit, specs, quoted(f"({','.join(texts)})"), Items([place for place, _ in reads]), reads=reads)
 
@@ -222,12 +222,12 @@ class Reads:
         if record.slash and whole and self.maybe(0.5):
             more = [place for place in self.variables.free() if place.defined and place not in [it for it, _ in reads]]
             reads += [(place, (True, place.chars, place.plain)) for place in more[:2]]
-        elif whole and behind and behind.listed and record.listed[-1][0][:1] not in ("", "?") and record.comma == behind.comma and self.maybe(0.5):
+        elif whole and not record.more and behind and behind.listed and record.listed[-1][0][:1] not in ("", "?") and record.comma == behind.comma and self.maybe(0.5):
             before = len(reads)
             self.list_places(behind.listed[: self.rng.randint(1, len(behind.listed))], reads)
             file.at += len(reads) > before
         self.say_transfer("READ", unit, specs, "*", Items([place for place, _ in reads]), reads=reads)
-        file.skip()
+        file.skip(short=True)
 
     def read_group(self, unit, record):
         """Namelist input of the records at hand."""

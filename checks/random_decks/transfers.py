@@ -78,12 +78,18 @@ class Transfers:
 
     # records that are written
 
+    def end_star(self):
+        """Ends an open record of unit *."""
+        if self.star_open:
+            self.say("WRITE(*,'()')")
+            self.star_open = False
+
     def write_star(self):
         """A WRITE on unit *."""
         specs, modes = self.changed(None, ["SIGN", "DELIM"])
         if self.star_listed and self.maybe(0.5):
             known = all(place.defined and place.held != "in" and place.plain for place in self.variables.group("G"))
-            if known and self.maybe(0.3):
+            if known and not self.star_open and self.maybe(0.3):
                 delim = [f"DELIM={self.word('QUOTE')}"]
                 self.say_transfer("WRITE", None, delim + [spec for spec in specs if "SIGN" in spec] + ["NML=G"], None, Items())
             else:
@@ -91,8 +97,8 @@ class Transfers:
             self.star_open = False
             return
         items = self.output(5)
-        text, _ = format_out(self.rng, items.parts, modes["SIGN"] == "PLUS")
         stays = self.maybe(0.25)
+        text, _ = format_out(self.rng, items.parts, modes["SIGN"] == "PLUS", ends=not stays)
         advance = [f"ADVANCE={self.word('NO' if stays else 'YES')}"] if stays or self.maybe(0.1) else []
         self.say_transfer("WRITE", None, [spec for spec in specs if "SIGN" in spec] + advance, quoted(text), items)
         self.star_open = stays
@@ -125,18 +131,19 @@ class Transfers:
             items = Items()
         where = self.place_of_write(unit)
         at_end = unit.file.writing or unit.file.at == len(unit.file.records)
-        if unit.access == "STREAM":
-            self.leave("moves in the format of a stream")
-        text, records = format_out(self.rng, items.parts, modes["SIGN"] == "PLUS", unit.access != "STREAM") if items.parts else ("()", [[]])
+        if unit.access == "STREAM" or unit.file.short:
+            self.leave("moves in the format of a stream, or behind the end of a record or a list")
         stays = self.maybe(0.2) and bool(items.parts) and (unit.access != "STREAM" or at_end)
+        moves, plus = unit.access != "STREAM" and not unit.file.short, modes["SIGN"] == "PLUS"
+        text, records = format_out(self.rng, items.parts, plus, moves, not stays) if items.parts else ("()", [[]])
         advance = [f"ADVANCE={self.word('NO' if stays else 'YES')}"] if stays or self.maybe(0.1) else []
         self.say_transfer("WRITE", unit, specs + advance + where, quoted(text), items)
         unit.file.put([Record(list(pieces)) for pieces in records], stays)
 
-    def end_record(self, unit):
+    def end_record(self, unit, access="STREAM"):
         """Ends the open record of a stream by a WRITE, since gfortran's other statements do not."""
-        if unit.access == "STREAM" and unit.form == "FORMATTED" and unit.file.writing:
-            self.leave("an open record of a stream that no WRITE ends")
+        if unit.access == access and unit.form == "FORMATTED" and unit.file.writing:
+            self.leave("an open record of a stream that no WRITE ends, or of any unit where the deck stops")
             self.say_transfer("WRITE", unit, [], "'()'", Items())
             unit.file.put([Record([])])
 
@@ -174,17 +181,18 @@ class Transfers:
         if not writing and self.maybe(0.4) and all(place in self.variables.known() and place.plain for place in group):
             items = Items()
             items.parts = list(group)
+            if modes["DELIM"] == "NONE":
+                self.leave("namelist output under DELIM='NONE'")
+                specs = [spec for spec in specs if "DELIM" not in spec] + [f"DELIM={self.word('QUOTE')}"]
             self.say_transfer("WRITE", unit, specs + [f"NML={name}"], None, items)
-            records = [Record() for _ in range(len(GROUPS[name]) + 2)]
-            if modes["DELIM"] != "NONE":
-                records[0].group = (name, records, {place: place.chars for place in group})
-                records[0].comma = modes["DECIMAL"] == "COMMA"
+            records = [Record(comma=modes["DECIMAL"] == "COMMA") for _ in range(len(GROUPS[name]) + 2)]
+            records[0].group = (name, records, {place: place.chars for place in group})
             return unit.file.put(records)
         if writing and (unit.file.records[-1].pieces is None or unit.file.records[-1].width() > 10):
             return self.write_fields(unit)
         items = self.output(4, width=60)
         self.say_transfer("WRITE", unit, specs, "*", items)
         listed = [(part.kind, part.chars) for part in items.parts]
-        if modes["DELIM"] == "NONE" or writing:
+        if modes["DELIM"] == "NONE":
             listed = listed[: next((at for at, (kind, _) in enumerate(listed) if kind == "C"), len(listed))]
-        return unit.file.put([Record(None, listed=None if writing else listed)])
+        return unit.file.put([Record(None, listed=None if writing else listed, more=len(listed) < len(items.parts))])

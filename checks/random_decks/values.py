@@ -6,7 +6,7 @@ MOST = {"I4": 11, "I8": 20}
 DIGITS = {"I4": {"Z": 8, "O": 11, "B": 32}, "I8": {"Z": 16, "O": 22, "B": 64}}
 TYPES = {"I4": "INTEGER", "I8": "INTEGER(8)", "L": "LOGICAL", "C": "CHARACTER({})"}
 # name, kind, number of elements; the lengths of characters are drawn
-DECLARED = [("A", "I4", 0), ("B", "I4", 0), ("V", "I4", 5), ("K", "I8", 0), ("W", "I8", 3), ("P", "L", 0), ("Q", "L", 2),
+DECLARED = [("A", "I4", 0), ("B", "I4", 0), ("V", "I4", 4), ("K", "I8", 0), ("W", "I8", 3), ("P", "L", 0), ("Q", "L", 2),
             ("C", "C", 0), ("D", "C", 2), ("E", "C", 0)]
 GROUPS = {"G": ["A", "W", "D", "P"], "H": ["C", "V", "Q"]}
 WORDS = ["a", "abc", "hello", "x y z", "  lead", "it's", 'say "no"', "A1;B2,", "back\\slash", "3*4", "/", "&g", "!", "tail  ", "Fortran 2003"]
@@ -110,7 +110,7 @@ def integer_field(rng, part, plus):
     if rng.random() < 0.2:
         letter = rng.choice("ZOB")
         width = DIGITS[part.kind][letter] + rng.randint(0, 2)
-        least = f".{rng.randint(0, width)}" if rng.random() < 0.3 else ""
+        least = f".{rng.randint(part.kind == 'I8', width)}" if rng.random() < 0.3 else ""
         return f"{letter}{width}{least}", Piece(width, part.kind, f"{letter}{width}", part.chars)
     width = part.chars + plus + rng.randint(0, 3)
     if rng.random() < 0.15:
@@ -191,9 +191,9 @@ def again(rng, parts, plus):
     return f"({text},{group})" if first else f"({group})", records
 
 
-def format_out(rng, parts, plus, moves=True):
-    """A format for these parts, with moves or without, and its records."""
-    if alike(parts) and moves and rng.random() < 0.35:
+def format_out(rng, parts, plus, moves=True, ends=True):
+    """A format for these parts, with moves or without, and its records, of which the last one ends or stays open."""
+    if alike(parts) and moves and ends and rng.random() < 0.35:
         return again(rng, parts, plus)
     form = Format(rng, moves)
     if rng.random() < 0.1:
