@@ -269,7 +269,7 @@ fn next_job<R: Wait>(rt: &R, alloc: Global, slot: Slot<Counter>) -> Option<(u64,
 
 #[test]
 fn jobs_add_in_order(rt: HostRuntime) -> Result<(), Fail> {
-    let (told, slot) = tally(&rt, rt.alloc(), 1000, 1000).ok_or("no memory")?;
+    let (told, slot) = tally(&rt, rt.alloc(), 1001, 1000).ok_or("no memory")?;
     assert_eq!(rt; told, (1, 500500, 0));
     assert_eq!(rt; slot.done(), 1000);
     assert_eq!(rt; next_job(&rt, rt.alloc(), slot), Some((1000, 500501)));
