@@ -272,7 +272,7 @@ fn any_order_tells_what_one_thread_does(rt: HostRuntime) -> Result<(), Fail> {
     // 1 + 3 + .. + 99, 2 + 4 + .. + 100
     let sums = Some((2500, 2550, false));
     assert_eq!(rt; alone(rt.alloc(), 100, u64::MAX), sums);
-    assert_eq!(rt; in_some_order(rt.alloc(), 100, u64::MAX, 20_000), sums);
+    assert_eq!(rt; in_some_order(rt.alloc(), 100, u64::MAX, 500), sums);
     Ok(())
 }
 
