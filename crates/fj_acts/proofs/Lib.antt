@@ -6,3 +6,4 @@ pub mod StepLemmas
 pub mod BeginningLemmas
 pub mod TransferLemmas
 pub mod InquiryLemmas
+pub mod FailingLemmas

@@ -1,9 +1,8 @@
 -- Places of runs, each once.
-use Rattle.std.proofs.Common.{◌≡◌, ℕ, zero, suc, ◌+◌, ◌-◌, ◌<◌, ◌≤◌, ◌⊎◌, max, length, take, get_or, All, Result, Ok, Err, IfOk, ◌||◌, ◌&&◌, inl, inr, Bool, true, false, List, [], ◌∷◌, ◌++◌, refl, sym, ap, subst, append_assoc, append-nil, ◌∙◌, arith}
+use Rattle.std.proofs.Common.{◌≡◌, ℕ, zero, suc, ◌+◌, ◌-◌, ◌<◌, ◌≤◌, ◌⊎◌, max, length, take, get_or, All, ◌||◌, ◌&&◌, inl, inr, Bool, true, false, List, [], ◌∷◌, ◌++◌, refl, sym, ap, subst, append_assoc, append-nil, ◌∙◌, arith}
 use Rattle.std.specs.Prelude.{◌==◌, min, nat_lt, if◌then◌else◌}
 use Rattle.std.specs.List.{sum_by}
 use Rattle.std.specs.List.Sorted.{IsNonDecreasingBy, IsPermutation}
-use Rattle.std.specs.declared.alloc.AllocError.{AllocError}
 use Rattle.std.proofs.lemmas.Bool.{eq-eqb, ne_eqb, eqb-true, lt-ltb}
 use Rattle.std.proofs.lemmas.Grind.{flat_map-append}
 use Rattle.std.proofs.lemmas.List.{take_more, get_or-take, get_or_default, length-take}
@@ -283,11 +282,10 @@ among_weight p (r ∷ runs) =
 moved_same : (runs others : List Run) (p : Place) → IsPermutation runs others → is_among (places_in others) p ≡ is_among (places_in runs) p
 moved_same runs others p moves = among_weight p others ∙ ap (λ n. nat_lt 0 n) (sum_by-IsPermutation (weight p) runs others moves) ∙ sym (among_weight p runs)
 
-pub gathered_all : (r : Result (List Place) AllocError) (runs ordered : List Run) (i var end : ℕ) (places given : List Place) → IsPermutation runs ordered → length ordered ≤ i
-    → AreGathered (take i ordered) var end places → given ≡ places → IfOk r (λ it. it ≡ given) → IfOk r (λ it. (p : Place) → is_among it p ≡ is_among (places_in runs) p)
-gathered_all (Ok it) runs ordered i var end places given moves past h e is =
-    λ p. ap (λ l. is_among l p) (is ∙ e) ∙ h.once.same p ∙ ap (λ rs. is_among (places_in rs) p) (whole ordered i past) ∙ moved_same runs ordered p moves
-gathered_all (Err x) runs ordered i var end places given moves past h e is = tt
+pub gathered_all : (it : List Place) (runs ordered : List Run) (i var end : ℕ) (places : List Place) → IsPermutation runs ordered → length ordered ≤ i
+    → AreGathered (take i ordered) var end places → it ≡ places → (p : Place) → is_among it p ≡ is_among (places_in runs) p
+gathered_all it runs ordered i var end places moves past h is p =
+    ap (λ l. is_among l p) is ∙ h.once.same p ∙ ap (λ rs. is_among (places_in rs) p) (whole ordered i past) ∙ moved_same runs ordered p moves
 
 -- ---- the places of a run, one after another
 

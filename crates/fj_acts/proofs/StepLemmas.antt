@@ -1,15 +1,13 @@
 -- How a statement goes on, and what a connection leaves that is closed.
-use Rattle.std.proofs.Common.{◌≡◌, ℕ, Bool, true, false, not, ◌&&◌, ◌||◌, List, [], ◌∷◌, Option, Some, None, refl, sym, ap, subst, ◌∙◌}
+use Rattle.std.proofs.Common.{◌≡◌, ℕ, Bool, true, false, ◌&&◌, List, Option, Some, None, refl, sym, ap, subst, ◌∙◌}
 use Rattle.std.specs.Prelude.{if◌then◌else◌, option_map}
 use Rattle.std.specs.Str.{bytes_eq}
-use Rattle.std.specs.FinSet as set
 use Rattle.std.proofs.lemmas.Slice.Eq.{bytes_eq-Decides}
 use Rattle.fj_value.specs.declared.condition.Condition.TheVariants.{Fine}
 use Rattle.fj_modes.specs.declared.specifiers.OpenSpec.{OpenSpec}
 use Rattle.fj_modes.specs.declared.unit.UnitRef.{UnitRef}
 use Rattle.fj_value.specs.declared.place.Place.{Place}
-use Rattle.fj_outside.specs.Holdings as disk
-use Rattle.fj_outside.specs.Holdings.{Holdings, IsFree}
+use Rattle.fj_outside.specs.Holdings.{Holdings}
 use Rattle.fj_connect.specs.Connection.{Connection}
 use Rattle.fj_connect.specs.Linked.{Linked, connection_of}
 use Rattle.fj_statement.specs.declared.deck.Variable.{Variable}
@@ -29,41 +27,14 @@ use Rattle.fj_desk.specs.Desks.{Outcome}
 use Rattle.fj_desk.specs.Doing.{finishes}
 use Rattle.fj_desk.specs.Acting.{left}
 use Rattle.fj_units.specs.Files.{files_of}
-use Rattle.fj_units.specs.Names.{AreInUse, left_of, stands}
-use Rattle.fj_units.proofs.Files.{files-given, files-gone, names-given, names-gone}
-use Rattle.fj_acts.specs.Doing.{AsksToOpen, carries, closed, entered, next_of, pends}
+use Rattle.fj_units.specs.Names.{stands}
+use Rattle.fj_units.proofs.Returning.{given_back, given_files}
+use Rattle.fj_acts.specs.Doing.{AsksToOpen, carries, closed, entered, goes_on, next_of, pends}
+use Rattle.fj_acts.specs.declared.doing.After.{After}
 use Rattle.fj_acts.specs.declared.doing.Given.{Given}
 use Rattle.fj_acts.specs.declared.doing.Given.TheVariants as given
 use Rattle.fj_acts.specs.Steps.{is_due}
 use Rattle.fj_acts.proofs.ClosingLemmas.{found_number}
-
--- ---- the file of a connection is back
-
--- what the disk holds then
-abbrev pub given_back : Bool → Holdings → List ℕ → List ℕ → Bool → Holdings
-given_back keep h name bytes sound = if keep then disk.given h name bytes sound else disk.without (disk.given h name bytes sound) name
-
-back_in_use : (keep : Bool) (names : List (List ℕ)) (h : Holdings) (name bytes : List ℕ) (sound : Bool) → AreInUse names h.in_use → AreInUse (left_of names name) (given_back keep h name bytes sound).in_use
-back_in_use true names h name bytes sound are = names-given names h name bytes sound are
-back_in_use false names h name bytes sound are = names-gone names h name bytes sound are
-
-pub names_closed : (keep : Bool) (names fewer : List (List ℕ)) (h new : Holdings) (name bytes : List ℕ) (sound : Bool) → fewer ≡ left_of names name → new ≡ given_back keep h name bytes sound
-    → AreInUse names h.in_use → AreInUse fewer new.in_use
-names_closed keep names fewer h new name bytes sound is_fewer is_new are q =
-    ap (λ (s : Holdings). set.contains s.in_use q) is_new ∙ back_in_use keep names h name bytes sound are q ∙ ap (λ l. stands l q) (sym is_fewer)
-
-gone_by : (o : List ℕ) (os : List (List ℕ)) (name : List ℕ) (b : Bool) → bytes_eq o name ≡ b → stands (left_of os name) name ≡ false → stands (if not b then o ∷ left_of os name else left_of os name) name ≡ false
-gone_by o os name true e rest = rest
-gone_by o os name false e rest = ap (λ x. x || stands (left_of os name) name) e ∙ rest
-
-left_gone : (names : List (List ℕ)) (name : List ℕ) → stands (left_of names name) name ≡ false
-left_gone [] name = refl
-left_gone (o ∷ os) name = gone_by o os name (bytes_eq o name) refl (left_gone os name)
-
-pub name_freed : (keep : Bool) (names fewer : List (List ℕ)) (h new : Holdings) (name bytes : List ℕ) (sound : Bool) → fewer ≡ left_of names name → new ≡ given_back keep h name bytes sound
-    → AreInUse names h.in_use → IsFree new name
-name_freed keep names fewer h new name bytes sound is_fewer is_new are =
-    ap not (names_closed keep names fewer h new name bytes sound is_fewer is_new are name ∙ ap (λ l. stands l name) is_fewer ∙ left_gone names name)
 
 -- ---- the connection of a unit is closed
 
@@ -74,10 +45,6 @@ both false b e = absurd (let bad : ⊥ = cc in bad)
 pub due_stands : (found : Option Connected) (names : List (List ℕ)) (name : List ℕ) → is_due found names name ≡ true → stands names name ≡ true
 due_stands None names name e = absurd (let bad : ⊥ = cc in bad)
 due_stands (Some u) names name e = (both (bytes_eq u.name name) (stands names name) e).1
-
-files_back : (keep : Bool) (h : Holdings) (name bytes : List ℕ) (sound : Bool) → files_of (given_back keep h name bytes sound) ≡ (if keep then with_file name bytes (files_of h) else without_file name (files_of h))
-files_back true h name bytes sound = files-given h name bytes sound
-files_back false h name bytes sound = files-gone h name bytes sound
 
 told_is : {F : Type 0} (told : F → Bool) (bytes : F → List ℕ) (conn : Linked F) (c : Connection) (b : Bool) → told conn.file ≡ b → told_of told bytes conn ≡ Some c → connection_of bytes conn ≡ c
 told_is told bytes conn c true t e = let same : Some (connection_of bytes conn) ≡ Some c = sym (ap (λ b. if b then Some (connection_of bytes conn) else None) t) ∙ e in cc
@@ -92,13 +59,23 @@ disconnects_is told bytes core h new number names conn c sound keep answer (Some
     let same : connection_of bytes conn ≡ c = told_is told bytes conn c (told conn.file) refl is_told in
     let files : files_of new ≡ left u.name (Some c) keep core.files =
     ap (λ (x : Holdings). files_of x) is_new
-    ∙ files_back keep h conn.name (bytes conn.file) sound
+    ∙ given_files keep h conn.name (bytes conn.file) sound
     ∙ ap (λ (f : Files). if keep then with_file conn.name (bytes conn.file) f else without_file conn.name f) (sym home)
     ∙ ap (λ n. if keep then with_file n (bytes conn.file) core.files else without_file n core.files) (sym name)
     ∙ ap (λ (x : Connection). left u.name (Some x) keep core.files) same in
     ap (λ (f : Files). let new : Core = record core { units = without_connected number core.units; files = f } in new) files
     ∙ ap (λ n. let new : Core = record core { units = without_connected n core.units; files = left u.name (Some c) keep core.files } in new) (sym (found_number core.units number u found))
     ∙ ap (λ o. closed core o keep (detach (Some c), answer)) (sym found)
+
+-- how the statement goes on from there
+pub closed_goes_on : {F : Type 0} (told : F → Bool) (bytes : F → List ℕ) (core : Core) (h new : Holdings) (number : ℕ) (names : List (List ℕ)) (conn : Linked F) (c : Connection) (sound keep : Bool) (answer : Answer)
+    (what : Statement) (next : After) (units : List Connected)
+    → is_due (connected_at core.units number) names conn.name ≡ true → told_of told bytes conn ≡ Some c → core.files ≡ files_of h → new ≡ given_back keep h conn.name (bytes conn.file) sound
+    → units ≡ without_connected number core.units
+    → goes_on what (record core { units = units; files = files_of new }) next ≡ goes_on what (closed core (connected_at core.units number) keep (detach (Some c), answer)) next
+closed_goes_on told bytes core h new number names conn c sound keep answer what next units due is_told home is_new is_units =
+    ap (λ (us : List Connected). goes_on what (record core { units = us; files = files_of new }) next) is_units
+    ∙ ap (λ (x : Core). goes_on what x next) (disconnects_is told bytes core h new number names conn c sound keep answer (connected_at core.units number) refl due is_told home is_new)
 
 -- ---- kinds of statements
 

@@ -1,4 +1,5 @@
 pub mod State
+pub mod Failing
 pub mod Doing
 pub mod Answers
 pub mod Steps

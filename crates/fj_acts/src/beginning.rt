@@ -11,6 +11,7 @@ ghost use Rattle.fj_items.specs.Kinds.{kinds_of};
 ghost use Rattle.fj_items.specs.Handing.{HandsOver, HandsFront};
 ghost use Rattle.fj_units.specs.Names.{AreInUse};
 ghost use Rattle.fj_acts.specs.State.{KeepsAnswers, core_of, core_at};
+ghost use Rattle.fj_acts.specs.Failing.{FailsWhere};
 ghost use Rattle.fj_units.specs.Files.{files_of};
 ghost use Rattle.fj_acts.specs.Doing.{IsDoing};
 
@@ -71,6 +72,10 @@ fn own<W: Sink, D: Disk>(
     ensures doing { D.tells disk.old → IfOk result (λ next. IsDoing D.File.told D.File.bytes variables.now (lined.now, control_by lined.now.what)
         (core_of (files_of (D.held disk.new)) core.new) next
         (own (control_by lined.now.what) variables.now lined.now.line (core_of (files_of (D.held disk.old)) core.old) lined.now.what)) }
+    ensures fault { D.tells disk.old → result ≡ Err Lost.Disk → FailsWhere
+        (own (control_by lined.now.what) variables.now lined.now.line (core_of (files_of (D.held disk.old)) core.old) lined.now.what)
+        core.new (D.held disk.new) (D.refusals disk.old) (D.refusals disk.new) }
+    ensures own { D.tells disk.old → D.refusals disk.old ≤ D.refusals disk.new }
     ensures names { D.tells disk.old → AreInUse core.new.names (D.held disk.new).in_use }
     ensures kinds { core.new.store.kinds ≡ core.old.store.kinds }
     ensures telling { D.tells disk.old ↔ D.tells disk.new }
@@ -167,6 +172,10 @@ pub fn begin<W: Sink, D: Disk>(
     ensures doing { D.tells disk.old → IfOk result (λ next. IsDoing D.File.told D.File.bytes variables.now (lined.now, control_by lined.now.what)
         (core_of (files_of (D.held disk.new)) core.new) next
         (doing (control_by lined.now.what) variables.now lined.now.line (core_of (files_of (D.held disk.old)) core.old) lined.now.what condition)) }
+    ensures fault { D.tells disk.old → result ≡ Err Lost.Disk → FailsWhere
+        (doing (control_by lined.now.what) variables.now lined.now.line (core_of (files_of (D.held disk.old)) core.old) lined.now.what condition)
+        core.new (D.held disk.new) (D.refusals disk.old) (D.refusals disk.new) }
+    ensures own { D.tells disk.old → D.refusals disk.old ≤ D.refusals disk.new }
     ensures names { D.tells disk.old → AreInUse core.new.names (D.held disk.new).in_use }
     ensures kinds { core.new.store.kinds ≡ core.old.store.kinds }
     ensures telling { D.tells disk.old ↔ D.tells disk.new }

@@ -21,6 +21,7 @@ ghost use Rattle.fj_pending.specs.Plain.{holders};
 ghost use Rattle.fj_acts.specs.Answers.{AnswersAlike, is_meant};
 ghost use Rattle.fj_units.specs.Names.{AreInUse};
 ghost use Rattle.fj_acts.specs.State.{KeepsAnswers, core_of};
+ghost use Rattle.fj_acts.specs.Failing.{FailsWhere};
 ghost use Rattle.fj_units.specs.Files.{files_of};
 ghost use Rattle.fj_acts.specs.Doing.{IsDoing, AsksAbout, looks_at};
 
@@ -158,6 +159,8 @@ fn is_there<D: Disk>(name: &FileName, names: &Names, disk: &mut D) -> Result<boo
     requires { D.tells disk.old → AreInUse names.now (D.held disk.old).in_use }
     ensures there { D.tells disk.old → IfOk result (λ there. there ≡ is_some (files_of (D.held disk.old) name.now)) }
     ensures held { D.tells disk.old → D.held disk.new ≡ D.held disk.old }
+    ensures rose { D.tells disk.old → result ≡ Err Lost.Disk → Rose (D.refusals disk.old) (D.refusals disk.new) }
+    ensures own { D.tells disk.old → D.refusals disk.old ≤ D.refusals disk.new }
     ensures telling { D.tells disk.old ↔ D.tells disk.new }
     ensures later { D.count disk.old ≤ D.count disk.new }
     ensures failed { result ≡ Err Lost.Disk → Rose (D.count disk.old) (D.count disk.new) }
@@ -187,6 +190,10 @@ fn answer_other<D: Disk>(
     ensures doing { D.tells disk.old → (st : Stated) → IfOk result (λ next. IsDoing D.File.told D.File.bytes variables.now st
         (core_of (files_of (D.held disk.new)) core.new) next
         (answers (core_of (files_of (D.held disk.old)) core.old) (about_other (files_of (D.held disk.old)) (file_asked subject.now)) asked.now)) }
+    ensures fault { D.tells disk.old → result ≡ Err Lost.Disk → FailsWhere
+        (answers (core_of (files_of (D.held disk.old)) core.old) (about_other (files_of (D.held disk.old)) (file_asked subject.now)) asked.now)
+        core.new (D.held disk.new) (D.refusals disk.old) (D.refusals disk.new) }
+    ensures own { D.tells disk.old → D.refusals disk.old ≤ D.refusals disk.new }
     ensures held { D.tells disk.old → D.held disk.new ≡ D.held disk.old }
     ensures kinds { core.new.store.kinds ≡ core.old.store.kinds }
     ensures names { core.new.names ≡ core.old.names }
@@ -292,6 +299,11 @@ pub(crate) fn inquire<D: Disk>(
         (core_of (files_of (D.held disk.new)) core.new) next
         (inquires (core_of (files_of (D.held disk.old)) core.old) (unit_about (unit_named core.old.units) subject.now) (file_asked subject.now) asked.now
         (number_given (values_of core.old.store) (option_copied id.entry)) (unit_at (core_of (files_of (D.held disk.old)) core.old) (unit_about (unit_named core.old.units) subject.now)))) }
+    ensures fault { D.tells disk.old → result ≡ Err Lost.Disk → FailsWhere
+        (inquires (core_of (files_of (D.held disk.old)) core.old) (unit_about (unit_named core.old.units) subject.now) (file_asked subject.now) asked.now
+        (number_given (values_of core.old.store) (option_copied id.entry)) (unit_at (core_of (files_of (D.held disk.old)) core.old) (unit_about (unit_named core.old.units) subject.now)))
+        core.new (D.held disk.new) (D.refusals disk.old) (D.refusals disk.new) }
+    ensures own { D.tells disk.old → D.refusals disk.old ≤ D.refusals disk.new }
     ensures held { D.tells disk.old → D.held disk.new ≡ D.held disk.old }
     ensures kinds { core.new.store.kinds ≡ core.old.store.kinds }
     ensures names { core.new.names ≡ core.old.names }

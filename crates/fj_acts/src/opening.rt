@@ -17,6 +17,7 @@ ghost use Rattle.fj_connect.specs.Opening.{opened_file};
 ghost use Rattle.fj_value.specs.declared.condition.Condition.{Condition};
 ghost use Rattle.fj_units.specs.Names.{AreInUse};
 ghost use Rattle.fj_acts.specs.State.{core_of};
+ghost use Rattle.fj_acts.specs.Failing.{FailsWhere};
 ghost use Rattle.fj_units.specs.Files.{files_of};
 ghost use Rattle.fj_units.specs.Units.{connected_of};
 ghost use Rattle.fj_acts.specs.Doing.{IsDoing, AsksToOpen};
@@ -76,6 +77,10 @@ fn attach<D: Disk>(
     ensures doing { D.tells disk.old → (variables : List Variable) (st : Stated) → IfOk result (λ next. IsDoing D.File.told D.File.bytes variables st
         (core_of (files_of (D.held disk.new)) core.new) next
         (attaches (core_of (files_of (D.held disk.old)) core.old) number slot (opened_file (files_of (D.held disk.old) name) name spec.now modes))) }
+    ensures fault { D.tells disk.old → result ≡ Err Lost.Disk → FailsWhere
+        (attaches (core_of (files_of (D.held disk.old)) core.old) number slot (opened_file (files_of (D.held disk.old) name) name spec.now modes))
+        core.new (D.held disk.new) (D.refusals disk.old) (D.refusals disk.new) }
+    ensures own { D.tells disk.old → D.refusals disk.old ≤ D.refusals disk.new }
     ensures names { D.tells disk.old → AreInUse core.new.names (D.held disk.new).in_use }
     ensures store { core.new.store ≡ core.old.store }
     ensures output { core.new.output ≡ core.old.output }
@@ -115,6 +120,10 @@ pub(crate) fn connect<D: Disk>(
     requires modes { settled spec.now ≡ Ok modes }
     ensures doing { D.tells disk.old → (variables : List Variable) (st : Stated) → IfOk result (λ next. IsDoing D.File.told D.File.bytes variables st
         (core_of (files_of (D.held disk.new)) core.new) next (connects number spec.now modes (core_of (files_of (D.held disk.old)) core.old))) }
+    ensures fault { D.tells disk.old → result ≡ Err Lost.Disk → FailsWhere
+        (connects number spec.now modes (core_of (files_of (D.held disk.old)) core.old))
+        core.new (D.held disk.new) (D.refusals disk.old) (D.refusals disk.new) }
+    ensures own { D.tells disk.old → D.refusals disk.old ≤ D.refusals disk.new }
     ensures names { D.tells disk.old → AreInUse core.new.names (D.held disk.new).in_use }
     ensures store { core.new.store ≡ core.old.store }
     ensures output { core.new.output ≡ core.old.output }
@@ -162,6 +171,10 @@ fn open_other<D: Disk>(
     ensures doing { D.tells disk.old → (variables : List Variable) (st : Stated) → AsksToOpen st.0.what spec.now → IfOk result (λ next. IsDoing D.File.told D.File.bytes variables st
         (core_of (files_of (D.held disk.new)) core.new) next
         (opens_with (core_of (files_of (D.held disk.old)) core.old) number spec.now (connected_at core.old.units number) (settled spec.now))) }
+    ensures fault { D.tells disk.old → result ≡ Err Lost.Disk → FailsWhere
+        (opens_with (core_of (files_of (D.held disk.old)) core.old) number spec.now (connected_at core.old.units number) (settled spec.now))
+        core.new (D.held disk.new) (D.refusals disk.old) (D.refusals disk.new) }
+    ensures own { D.tells disk.old → D.refusals disk.old ≤ D.refusals disk.new }
     ensures names { D.tells disk.old → AreInUse core.new.names (D.held disk.new).in_use }
     ensures store { core.new.store ≡ core.old.store }
     ensures output { core.new.output ≡ core.old.output }
@@ -200,6 +213,11 @@ pub(crate) fn open<D: Disk>(
         (core_of (files_of (D.held disk.new)) core.new) next
         (if_numbered (core_of (files_of (D.held disk.old)) core.old) (number_of unit)
         (λ n. opens (core_of (files_of (D.held disk.old)) core.old) n spec.now (connected_at core.old.units n)))) }
+    ensures fault { D.tells disk.old → result ≡ Err Lost.Disk → FailsWhere
+        (if_numbered (core_of (files_of (D.held disk.old)) core.old) (number_of unit)
+        (λ n. opens (core_of (files_of (D.held disk.old)) core.old) n spec.now (connected_at core.old.units n)))
+        core.new (D.held disk.new) (D.refusals disk.old) (D.refusals disk.new) }
+    ensures own { D.tells disk.old → D.refusals disk.old ≤ D.refusals disk.new }
     ensures names { D.tells disk.old → AreInUse core.new.names (D.held disk.new).in_use }
     ensures store { core.new.store ≡ core.old.store }
     ensures output { core.new.output ≡ core.old.output }

@@ -2,13 +2,12 @@
 ghost use Rattle.std.specs.Prelude.{◌≡◌, ◌+◌, ◌-◌, ◌<◌, ◌++◌, min, IfOk, OnOk};
 ghost use Rattle.std.specs.List.Sorted.{IsNonDecreasingBy, IsPermutation};
 ghost use Rattle.fj_value.specs.declared.place.Place.{Place};
-ghost use Rattle.fj_book.specs.Cells.{cell_places};
 ghost use Rattle.fj_store.specs.Places.{counted_from, is_among, places_in};
 ghost use Rattle.fj_acts.specs.Places.{key_of, reached_at};
 
 use fj_book::Places;
 use fj_store::Run;
-use fj_value::{Cell, Kind, Value};
+use fj_value::{Items, Place};
 use std::alloc::{AllocError, Global};
 
 /// Runs in the order of their variables and, of one variable, of their first elements.
@@ -40,17 +39,13 @@ fn skipped(run: Run, end: u64) -> u32
     passed.min(u64::from(run.count)) as u32
 }
 
-/// Adds a cell for each place of a run but so many of the first.
-fn add_rest(cells: &mut Vec<Cell>, run: Run, skipped: u32) -> Result<(), AllocError>
-    ensures { OnOk result (cell_places cells.new.items ≡ cell_places cells.old.items ++ counted_from run.var (run.first + skipped) (run.count - skipped)) }
+/// Adds the places of a run but so many of the first.
+fn add_rest(places: &mut Items<Place>, run: Run, skipped: u32) -> Result<(), AllocError>
+    ensures { OnOk result (places.new ≡ places.old ++ counted_from run.var (run.first + skipped) (run.count - skipped)) }
 {
+    places.reserve(run.count.saturating_sub(skipped) as usize)?;
     for at in skipped..run.count {
-        let place = run.place_at(at);
-        cells.push(Cell {
-            place,
-            kind: Kind::Logical,
-            value: Value::Undefined,
-        })?;
+        places.push(run.place_at(at))?;
     }
     Ok(())
 }
@@ -60,16 +55,16 @@ pub(crate) fn distinct_places(alloc: Global, runs: &[Run]) -> Result<Places, All
     ensures { IfOk result (λ places. (p : Place) → is_among places p ≡ is_among (places_in runs.now) p) }
 {
     let ordered = in_order(alloc, runs)?;
-    let mut cells = Vec::new(alloc);
+    let mut places = Items::new(alloc);
     let mut var = 0;
     let mut end = 0;
     for at in 0..ordered.len() {
         let run = ordered[at];
         let front = reached(run, var, end);
         let count = skipped(run, front);
-        add_rest(&mut cells, run, count)?;
+        add_rest(&mut places, run, count)?;
         var = run.var;
         end = front.max(u64::from(run.first) + u64::from(run.count));
     }
-    Places::of_cells(alloc, &cells)
+    Ok(Places::of_items(places))
 }

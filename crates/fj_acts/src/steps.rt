@@ -14,6 +14,7 @@ ghost use Rattle.fj_desk.specs.Desks.{condition_in};
 ghost use Rattle.fj_items.specs.Kinds.{kinds_of};
 ghost use Rattle.fj_units.specs.Names.{AreInUse};
 ghost use Rattle.fj_acts.specs.State.{KeepsAnswers, core_of};
+ghost use Rattle.fj_acts.specs.Failing.{FailsWhere};
 ghost use Rattle.fj_units.specs.Files.{files_of};
 ghost use Rattle.fj_acts.specs.Steps.{held_in, is_due};
 ghost use Rattle.fj_acts.specs.Doing.{IsDoing, next_of, then_of, goes_on, closed, carries, looks};
@@ -75,48 +76,41 @@ fn connection_in<F: FileStore>(job: Job<F>) -> Option<Connection<F>>
     }
 }
 
-/// Gives the file of a connection back where its name is out, without what is due.
-fn give_back<D: Disk>(connection: Connection<D::File>, core: &mut Core, disk: &mut D) -> Lost
+/// Gives the file of a connection back where its name is out, without what is due. What the disk answers is not told.
+fn give_back<D: Disk>(connection: Connection<D::File>, core: &mut Core, disk: &mut D)
     requires names { D.tells disk.old → AreInUse core.old.names (D.held disk.old).in_use }
     ensures names { D.tells disk.old → AreInUse core.new.names (D.held disk.new).in_use }
     ensures back { D.tells disk.old → IsFree (D.held disk.new) connection.name }
+    ensures own { D.tells disk.old → D.refusals disk.old ≤ D.refusals disk.new }
     ensures store { core.new.store ≡ core.old.store }
     ensures output { core.new.output ≡ core.old.output }
     ensures tells { core.new.tells ≡ core.old.tells }
     ensures telling { D.tells disk.old ↔ D.tells disk.new }
     ensures later { D.count disk.old ≤ D.count disk.new }
-    ensures failed { result ≡ Lost.Disk → Rose (D.count disk.old) (D.count disk.new) }
-    ensures sink { result ≢ Lost.Sink }
     ensures pending { core.new.pending ≡ core.old.pending }
 {
-    if !core.names.holds(connection.name()) {
-        return Lost::Unfit;
-    }
-    let keep = !connection.modes().scratch;
-    core.names.remove(connection.name());
-    match connection.close_file(disk, keep) {
-        Ok(()) => Lost::Unfit,
-        Err(_) => Lost::Disk,
+    if core.names.holds(connection.name()) {
+        let keep = !connection.modes().scratch;
+        core.names.remove(connection.name());
+        let _ = connection.close_file(disk, keep);
     }
 }
 
 /// What came back is not what is due: a connection that it has gives its file back.
-fn give_up<D: Disk>(job: Job<D::File>, core: &mut Core, disk: &mut D) -> Lost
+fn give_up<D: Disk>(job: Job<D::File>, core: &mut Core, disk: &mut D)
     requires names { D.tells disk.old → AreInUse core.old.names (D.held disk.old).in_use }
     ensures names { D.tells disk.old → AreInUse core.new.names (D.held disk.new).in_use }
     ensures back { D.tells disk.old → IfSome (held_in job) (λ connection. IsFree (D.held disk.new) connection.name) }
+    ensures own { D.tells disk.old → D.refusals disk.old ≤ D.refusals disk.new }
     ensures store { core.new.store ≡ core.old.store }
     ensures output { core.new.output ≡ core.old.output }
     ensures tells { core.new.tells ≡ core.old.tells }
     ensures telling { D.tells disk.old ↔ D.tells disk.new }
     ensures later { D.count disk.old ≤ D.count disk.new }
-    ensures failed { result ≡ Lost.Disk → Rose (D.count disk.old) (D.count disk.new) }
-    ensures sink { result ≢ Lost.Sink }
     ensures pending { core.new.pending ≡ core.old.pending }
 {
-    match connection_in(job) {
-        Some(connection) => give_back(connection, core, disk),
-        None => Lost::Unfit,
+    if let Some(connection) = connection_in(job) {
+        give_back(connection, core, disk);
     }
 }
 
@@ -132,6 +126,10 @@ fn go_on<D: Disk>(
     requires names { D.tells disk.old → AreInUse core.old.names (D.held disk.old).in_use }
     ensures doing { D.tells disk.old → IfOk result (λ goes. IsDoing D.File.told D.File.bytes variables.now (lined.now, control_by lined.now.what)
         (core_of (files_of (D.held disk.new)) core.new) goes (goes_on lined.now.what (core_of (files_of (D.held disk.old)) core.old) after)) }
+    ensures fault { D.tells disk.old → result ≡ Err Lost.Disk → FailsWhere
+        (goes_on lined.now.what (core_of (files_of (D.held disk.old)) core.old) after)
+        core.new (D.held disk.new) (D.refusals disk.old) (D.refusals disk.new) }
+    ensures own { D.tells disk.old → D.refusals disk.old ≤ D.refusals disk.new }
     ensures names { D.tells disk.old → AreInUse core.new.names (D.held disk.new).in_use }
     ensures store { core.new.store ≡ core.old.store }
     ensures output { core.new.output ≡ core.old.output }
@@ -190,6 +188,11 @@ fn closed<D: Disk>(
         IfOk result (λ goes. IsDoing D.File.told D.File.bytes variables.now (lined.now, control_by lined.now.what)
         (core_of (files_of (D.held disk.new)) core.new) goes
         (goes_on lined.now.what (closed (core_of (files_of (D.held disk.old)) core.old) (connected_at core.old.units number) keep (job.detach (Some c), answer)) after)) }
+    ensures fault { D.tells disk.old → (c : PlainConnection) (answer : PlainAnswer) → told_of D.File.told D.File.bytes connection ≡ Some c →
+        result ≡ Err Lost.Disk → FailsWhere
+        (goes_on lined.now.what (closed (core_of (files_of (D.held disk.old)) core.old) (connected_at core.old.units number) keep (job.detach (Some c), answer)) after)
+        core.new (D.held disk.new) (D.refusals disk.old) (D.refusals disk.new) }
+    ensures own { D.tells disk.old → D.refusals disk.old ≤ D.refusals disk.new }
     ensures names { D.tells disk.old → AreInUse core.new.names (D.held disk.new).in_use }
     ensures store { core.new.store ≡ core.old.store }
     ensures output { core.new.output ≡ core.old.output }
@@ -201,7 +204,8 @@ fn closed<D: Disk>(
     ensures pending { core.new.pending ≡ core.old.pending }
 {
     if !is_due(&connection, number, core) {
-        return Err(give_back(connection, core, disk));
+        give_back(connection, core, disk);
+        return Err(Lost::Unfit);
     }
     core.names.remove(connection.name());
     core.units.remove(number);
@@ -291,6 +295,10 @@ pub fn answered<D: Disk>(
         IfOk result (λ goes. IsDoing D.File.told D.File.bytes variables.now (lined.now, control_by lined.now.what)
         (core_of (files_of (D.held disk.new)) core.new) goes
         (then_of variables.now (lined.now, control_by lined.now.what) (core_of (files_of (D.held disk.old)) core.old) then (task, reply_of answer))) }
+    ensures fault { D.tells disk.old → (task : Task) → task_of D.File.told D.File.bytes job ≡ Some task → result ≡ Err Lost.Disk → FailsWhere
+        (then_of variables.now (lined.now, control_by lined.now.what) (core_of (files_of (D.held disk.old)) core.old) then (task, reply_of answer))
+        core.new (D.held disk.new) (D.refusals disk.old) (D.refusals disk.new) }
+    ensures own { D.tells disk.old → D.refusals disk.old ≤ D.refusals disk.new }
     ensures names { D.tells disk.old → AreInUse core.new.names (D.held disk.new).in_use }
     ensures output { core.new.output ≡ core.old.output }
     ensures tells { core.new.tells ≡ core.old.tells }
@@ -326,6 +334,9 @@ pub fn answered<D: Disk>(
             Ok(Doing::Finishes(condition))
         }
         (Then::Finishes, Job::Go(_) | Job::Flush) => Ok(Doing::Finishes(condition)),
-        (_, job) => Err(give_up(job, core, disk)),
+        (_, job) => {
+            give_up(job, core, disk);
+            Err(Lost::Unfit)
+        }
     }
 }

@@ -1,5 +1,4 @@
 pub mod Cases
-pub mod Cells
 pub mod Counting
 pub mod Entries
 pub mod Firsts

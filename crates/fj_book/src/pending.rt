@@ -1,10 +1,8 @@
 // A pending transfer, and the places that it holds.
-ghost use Rattle.std.specs.Prelude.{◌≡◌, false, IfOk};
+ghost use Rattle.std.specs.Prelude.{◌≡◌, false};
 ghost use Rattle.fj_store.specs.Places.{is_among, has_twice};
-ghost use Rattle.fj_book.specs.Cells.{cell_places};
 
-use fj_value::{Cell, Items, Place, Tag};
-use std::alloc::{AllocError, Global};
+use fj_value::{Items, Place, Tag};
 use std::marker::Model;
 
 /// Whether a place is one of some places.
@@ -33,17 +31,12 @@ impl Model for Places {
 }
 
 impl Places {
-    /// The places of cells.
-    pub fn of_cells(alloc: Global, cells: &[Cell]) -> Result<Places, AllocError>
-        requires { has_twice (cell_places cells.now) ≡ false }
-        ensures { IfOk result (λ places. places ≡ cell_places cells.now) }
+    /// These places.
+    pub fn of_items(items: Items<Place>) -> Places
+        requires { has_twice items ≡ false }
+        ensures { result ≡ items }
     {
-        let mut items = Items::new(alloc);
-        items.reserve(cells.len())?;
-        for cell in cells {
-            items.push(cell.place)?;
-        }
-        Ok(Places { items })
+        Places { items }
     }
 
     pub fn as_slice(&self) -> &[Place]

@@ -4,7 +4,7 @@ ghost use Rattle.fj_book.specs.Entries.{tag_of};
 
 use crate::{Book, Need, Pending, Places};
 use fj_store::{Run, Store};
-use fj_value::{Cell, Kind, Place, Rule, Tag, Value};
+use fj_value::{Items, Kind, Place, Rule, Tag, Value};
 use std::alloc::{AllocError, Global};
 use std::test::Fail;
 
@@ -37,17 +37,13 @@ fn pending(
 ) -> Result<Pending, AllocError>
     ensures { IfOk result (λ p. tag_of p ≡ id) }
 {
-    let cell = Cell {
-        place,
-        kind: Kind::Int4,
-        value: Value::Undefined,
-    };
-    let places = Places::of_cells(alloc, &[cell])?;
+    let mut places = Items::new(alloc);
+    places.push(place)?;
     Ok(Pending {
         tag: Tag(id),
         unit,
         input,
-        places,
+        places: Places::of_items(places),
         number: 0,
     })
 }

@@ -19,7 +19,7 @@ use Rattle.fj_turns.specs.Executing.{HoldsDesk, HoldsDesks}
 use Rattle.fj_closing.specs.Remains.{IsWhatRemains, AreOfDesks}
 use Rattle.fj_closing.specs.declared.remains.Remains.{Remains}
 
-not_halted : (halt : Option Halt) → option_map (λ (h : Halt). h.stop) halt ≡ None → halt ≡ None
+pub not_halted : (halt : Option Halt) → option_map (λ (h : Halt). h.stop) halt ≡ None → halt ≡ None
 not_halted None e = refl
 not_halted (Some h) e = absurd (cc)
 
@@ -47,7 +47,7 @@ module _ {F : Type 0} (told : F → Bool) (bytes : F → List ℕ) (count : F �
       let bay = at_home is.ledger holds.jobs.start holds.jobs.jobs is.bay (is.serves.sound holds.jobs.start holds.jobs.jobs holds.sound) going (is.finished going) is.home in
       ap (place_of told bytes) is.connection ∙ place_in (place_of told bytes is.bay.connection) is.bay.halt d.bay (bay ∙ ap (λ (x : Desk). Some x.bay) (sym holds.desk))
 
-  of_both : (slots : List (Ledger (Bay F) (Job F) Answer)) (all : List (Remains F)) → Both (IsWhatRemains (bay_meaning told bytes count)) slots all
+  pub of_both : (slots : List (Ledger (Bay F) (Job F) Answer)) (all : List (Remains F)) → Both (IsWhatRemains (bay_meaning told bytes count)) slots all
       → (at : ℕ) (it : Remains F) → slice_get all at ≡ Some it → (l : Ledger (Bay F) (Job F) Answer) × (slice_get slots at ≡ Some l) × IsWhatRemains (bay_meaning told bytes count) l it
   of_both [] [] b zero it e = absurd (cc)
   of_both [] [] b (suc at) it e = absurd (cc)

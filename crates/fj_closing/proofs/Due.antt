@@ -21,11 +21,11 @@ use Rattle.fj_desk.specs.Desks.{Desk}
 use Rattle.fj_desk.specs.Desking.{all_left, connection_at, left_by}
 use Rattle.fj_units.specs.Names.{stands}
 use Rattle.fj_units.specs.Files.{files_of}
-use Rattle.fj_units.proofs.Files.{files-given}
+use Rattle.fj_units.specs.Returning.{returned, IsAsDue}
 use Rattle.fj_closing.specs.Remains.{AreOfDesks}
-use Rattle.fj_closing.specs.Closing.{Lessens, IsKept, returned, IsAsDue, AreAsDue, AreOthersSame, AreSeated, AreNamed}
+use Rattle.fj_closing.specs.Closing.{Lessens, IsKept, AreAsDue, AreOthersSame, AreSeated, AreNamed}
 use Rattle.fj_closing.specs.declared.remains.Remains.{Remains}
-use Rattle.fj_closing.proofs.Returning.{files_back, left_with, placed, kept_get, fewer, some_in}
+use Rattle.fj_closing.proofs.Returning.{left_with, placed, kept_get, fewer, some_in}
 
 clash : true ≡ false → ⊥
 clash e = cc
@@ -47,21 +47,9 @@ pub others_of_one : (a b : List (List ℕ)) (x y : Holdings) (n : List ℕ) → 
 others_of_one a b x y n before after others name e =
     others name (λ same. clash (sym before ∙ sym (ap (stands a) same) ∙ sym e ∙ ap (stands b) same ∙ after))
 
--- ---- a file that came back, and maybe was removed
+-- ---- a file that came back, and maybe was removed: its name, and other names
 
 module _ (h new : Holdings) (n bytes : List ℕ) (sound keep : Bool) where
-  pub due_back : {A B : Type 0} → (result : Result A B) (before now : ℕ) → OnOk result (new ≡ (if keep then given h n bytes sound else without (given h n bytes sound) n))
-      → OnErr result (new ≡ given h n bytes sound) → OnErr result (keep ≡ false) → CountsFailure (is_err result) before now
-      → (name : List ℕ) → IsAsDue before now (files_of new name) (returned n bytes keep (files_of h) name)
-  due_back {A} {B} (Ok x) before now ok err kept own name = inl (ap (λ (files : Files). files name) (files_back {A = A} {B = B} h new n bytes sound keep (Ok x) ok))
-  due_back (Err x) before now ok err kept own name =
-      subst (λ k. IsAsDue before now (files_of new name) (returned n bytes k (files_of h) name)) (sym kept)
-      (by (bytes_eq name n) refl (ap (λ (files : Files). files name) (ap files_of err ∙ files-given h n bytes sound)))
-    where
-      by : (same : Bool) → bytes_eq name n ≡ same → files_of new name ≡ with_file n bytes (files_of h) name → IsAsDue before now (files_of new name) (without_file n (files_of h) name)
-      by true e found = inr (ap (λ b. if b then None else files_of h name) e, own.1)
-      by false e found = inl (found ∙ ap (λ b. if b then Some bytes else files_of h name) e ∙ sym (ap (λ b. if b then None else files_of h name) e))
-
   gone_others : (k : Bool) → new ≡ (if k then given h n bytes sound else without (given h n bytes sound) n) → (name : List ℕ) → name ≢ n → SameAt h new name
   gone_others true is name d = subst (λ z. SameAt h z name) (sym is) ((steps h n bytes sound).3 name d).1
   gone_others false is name d =
@@ -81,10 +69,6 @@ module _ (h new : Holdings) (n bytes : List ℕ) (sound keep : Bool) where
       → OnErr result (new ≡ given h n bytes sound) → set.contains new.hurt n ≡ not sound
   hurt_back (Ok x) ok err = gone_hurt keep ok
   hurt_back (Err x) ok err = gone_hurt true err
-
-pub never_falls : (failed : Bool) (before now : ℕ) → CountsFailure failed before now → before ≤ now
-never_falls true before now own = own.0
-never_falls false before now own = omega (arith, own)
 
 -- ---- one connection
 
@@ -139,7 +123,7 @@ due_at_desk told bytes names new_names was all desks at it c d n before now old 
 
 -- ---- one unit closed, and then the others
 
-due_on : (a b c : ℕ) (x y z : Option (List ℕ)) → a ≤ b → b ≤ c → IsAsDue b c x y → IsAsDue a b y z → IsAsDue a c x z
+pub due_on : (a b c : ℕ) (x y z : Option (List ℕ)) → a ≤ b → b ≤ c → IsAsDue b c x y → IsAsDue a b y z → IsAsDue a c x z
 due_on a b c x y z ab bc (inl p) (inl q) = inl (p ∙ q)
 due_on a b c x y z ab bc (inl p) (inr q) = let r = q.1 in inr (q.0, omega (arith, r, bc))
 due_on a b c x y z ab bc (inr p) (inl q) = let r = p.1 in inr (sym q ∙ p.0, omega (arith, r, ab))
@@ -158,7 +142,7 @@ module _ (before now : ℕ) where
       by true = put (Some (ended p).bytes) (bytes_eq name p.name)
       by false = put None (bytes_eq name p.name)
 
-  all_due : (desks : List Desk) (us : List Connected) (f g : Files) (name : List ℕ) → IsAsDue before now (f name) (g name) → IsAsDue before now (all_left desks us f name) (all_left desks us g name)
+  pub all_due : (desks : List Desk) (us : List Connected) (f g : Files) (name : List ℕ) → IsAsDue before now (f name) (g name) → IsAsDue before now (all_left desks us f name) (all_left desks us g name)
   all_due desks [] f g name h = h
   all_due desks (u ∷ us) f g name h =
       let o = connection_at (slice_get desks u.slot) in all_due desks us (left_by o f) (left_by o g) name (one_due o f g name h)

@@ -2,3 +2,4 @@ pub mod Performing
 pub mod Desking
 pub mod Returning
 pub mod Due
+pub mod Running

@@ -7,7 +7,6 @@ use Rattle.fj_outside.specs.declared.errors.Stop.{Stop}
 use Rattle.fj_outside.specs.declared.errors.Stop.TheVariants as stops
 use Rattle.fj_items.specs.declared.lost.Lost.{Lost}
 use Rattle.fj_items.specs.declared.lost.Lost.TheVariants.{Memory, Sink, Disk, Unfit}
-use Rattle.fj_outside.specs.Holdings.{Holdings, given, without}
 use Rattle.fj_connect.specs.Connection.{Connection}
 use Rattle.fj_connect.specs.Linked.{Linked, connection_of}
 use Rattle.fj_connect.specs.Positions.{ended}
@@ -19,12 +18,11 @@ use Rattle.fj_desk.specs.Core.{Connected}
 use Rattle.fj_desk.specs.Desks.{Desk}
 use Rattle.fj_desk.specs.Desking.{all_left, connection_at, left_by}
 use Rattle.fj_desk.specs.Forgetting.{IsSeen, bay_at}
-use Rattle.fj_units.specs.Names.{stands, left_of, AreInUse}
-use Rattle.fj_units.specs.Files.{files_of}
-use Rattle.fj_units.proofs.Files.{files-given, files-gone, names-given, names-gone}
+use Rattle.fj_units.specs.Names.{stands, left_of}
+use Rattle.fj_units.specs.Returning.{returned}
 use Rattle.fj_closing.specs.Remains.{AreOfDesks}
 use Rattle.fj_closing.specs.Losing.{after, is_memory, may_tell, lacks, may_want}
-use Rattle.fj_closing.specs.Closing.{Lessens, IsBack, AreBack, IsKept, returned, AreSeated, AreNamed, may_lack, SomeMayLack}
+use Rattle.fj_closing.specs.Closing.{Lessens, IsBack, AreBack, IsKept, AreSeated, AreNamed, may_lack, SomeMayLack}
 use Rattle.fj_closing.specs.declared.remains.Remains.{Remains}
 use Rattle.fj_closing.proofs.Desking.{front_get, last_get}
 
@@ -127,35 +125,10 @@ any_filter : {X : Type 0} → (p q : X → Bool) (xs : List X) → list_any p (f
 any_filter p q [] e = e
 any_filter p q (x ∷ xs) e = filter_by p q x xs (p x) (q x) refl refl (any_filter p q xs) e
 
-left_by_one : {X : Type 0} → (p : X → Bool) (x : X) (xs : List X) (a : Bool) → p x ≡ a → list_any p (filter (λ y. not (p y)) xs) ≡ false
-    → list_any p (filter (λ y. not (p y)) (x ∷ xs)) ≡ false
-left_by_one p x xs true pa rest = rw pa rest
-left_by_one p x xs false pa rest = rw (pa, pa) rest
-
-none_left : {X : Type 0} → (p : X → Bool) (xs : List X) → list_any p (filter (λ x. not (p x)) xs) ≡ false
-none_left p [] = refl
-none_left p (x ∷ xs) = left_by_one p x xs (p x) refl (none_left p xs)
-
-pub name_off : (names : List (List ℕ)) (name : List ℕ) → stands (left_of names name) name ≡ false
-name_off names name = none_left (λ (other : List ℕ). bytes_eq other name) names
-
 pub off_lessens : (names : List (List ℕ)) (name : List ℕ) → Lessens names (left_of names name)
 off_lessens names name q e = any_filter (λ (other : List ℕ). bytes_eq other q) (λ (other : List ℕ). not (bytes_eq other name)) names e
 
-pub names_back : {A B : Type 0} → (names : List (List ℕ)) (h new : Holdings) (n bytes : List ℕ) (sound keep : Bool) (result : Result A B)
-    → OnOk result (new ≡ (if keep then given h n bytes sound else without (given h n bytes sound) n)) → OnErr result (new ≡ given h n bytes sound)
-    → AreInUse names h.in_use → AreInUse (left_of names n) new.in_use
-names_back names h new n bytes sound true (Ok x) ok err are = subst (λ (z : Holdings). AreInUse (left_of names n) z.in_use) (sym ok) (names-given names h n bytes sound are)
-names_back names h new n bytes sound false (Ok x) ok err are = subst (λ (z : Holdings). AreInUse (left_of names n) z.in_use) (sym ok) (names-gone names h n bytes sound are)
-names_back names h new n bytes sound keep (Err x) ok err are = subst (λ (z : Holdings). AreInUse (left_of names n) z.in_use) (sym err) (names-given names h n bytes sound are)
-
 -- ---- files
-
-pub files_back : {A B : Type 0} → (h new : Holdings) (n bytes : List ℕ) (sound keep : Bool) (result : Result A B)
-    → OnOk result (new ≡ (if keep then given h n bytes sound else without (given h n bytes sound) n)) → OnOk result (files_of new ≡ returned n bytes keep (files_of h))
-files_back h new n bytes sound true (Ok x) ok = ap files_of ok ∙ files-given h n bytes sound
-files_back h new n bytes sound false (Ok x) ok = ap files_of ok ∙ files-gone h n bytes sound
-files_back h new n bytes sound keep (Err x) ok = tt
 
 pub left_with : (c : Connection) (name bytes : List ℕ) (keep : Bool) (old new : Files) → name ≡ c.name → bytes ≡ (ended c).bytes
     → new ≡ returned name bytes keep old → new ≡ left c keep old

@@ -1,7 +1,6 @@
 -- Files that go back to the disk, and names that are taken off.
 use Rattle.std.specs.Prelude.{◌≡◌, ◌⊎◌, ◌&&◌, ℕ, Bool, if◌then◌else◌, true, false, List, [], ◌∷◌, Option, Some, None, IfSome, IsSome, is_some, slice_get, Result}
 use Rattle.std.specs.FinSet as set
-use Rattle.fj_outside.specs.Faults.{Rose}
 use Rattle.fj_outside.specs.Holdings.{Holdings, SameAt}
 use Rattle.fj_slot.specs.Serving.{Meaning}
 use Rattle.fj_world.specs.Rack.{Rack}
@@ -11,13 +10,14 @@ use Rattle.fj_bay.specs.declared.bay.Bay.{Bay}
 use Rattle.fj_bay.specs.declared.job.Job.{Job}
 use Rattle.fj_bay.specs.declared.job.Answer.{Answer}
 use Rattle.fj_items.specs.declared.lost.Lost.{Lost}
-use Rattle.fj_plain.specs.State.{Files, with_file, without_file}
+use Rattle.fj_plain.specs.State.{Files}
 use Rattle.fj_desk.specs.Core.{Connected}
 use Rattle.fj_desk.specs.Both.{Both}
 use Rattle.fj_desk.specs.Desks.{Desk}
 use Rattle.fj_desk.specs.Desking.{connection_at}
 use Rattle.fj_units.specs.Names.{stands, left_of}
 use Rattle.fj_units.specs.Files.{files_of}
+use Rattle.fj_units.specs.Returning.{IsAsDue}
 use Rattle.fj_closing.specs.Losing.{is_memory, may_want}
 use Rattle.fj_closing.specs.Remains.{IsWhatRemains}
 use Rattle.fj_closing.specs.declared.remains.Remains.{Remains}
@@ -39,16 +39,7 @@ AreBack names (it ∷ its) = IsBack names it × AreBack names its
 abbrev pub IsKept : {F : Type 0} → List (List ℕ) → Remains F → Remains F → Type 0
 IsKept names was now = (now ≡ was) ⊎ ((now.connection ≡ None) × IsBack names was)
 
--- a file is among the others again, or removed
-abbrev pub returned : List ℕ → List ℕ → Bool → Files → Files
-returned name bytes keep files = if keep then with_file name bytes files else without_file name files
-
--- The file is as it was to be. One that was to be gone may be there where the disk's own number rose: then its removal may have
--- been refused.
-abbrev pub IsAsDue : ℕ → ℕ → Option (List ℕ) → Option (List ℕ) → Type 0
-IsAsDue before now found due = (found ≡ due) ⊎ ((due ≡ None) × Rose before now)
-
--- so is each whose name is not hurt, or is still one of those whose files are out
+-- each file is as it was to be whose name is not hurt, or is still one of those whose files are out
 abbrev pub AreAsDue : ℕ → ℕ → List (List ℕ) → Holdings → Files → Type 0
 AreAsDue before now names held due = (name : List ℕ) → (set.contains held.hurt name ≡ false) ⊎ (stands names name ≡ true)
     → IsAsDue before now (files_of held name) (due name)
@@ -71,6 +62,11 @@ AreSeated desks (u ∷ us) = IsSome (slice_get desks u.slot) × AreSeated desks 
 abbrev pub AreNamed : List Desk → List Connected → Type 0
 AreNamed desks [] = Unit {0}
 AreNamed desks (u ∷ us) = IfSome (connection_at (slice_get desks u.slot)) (λ c. c.name ≡ u.name) × AreNamed desks us
+
+-- of each unit whose name is not hurt, that there is such a thing at its slot
+abbrev pub IfClear : {X : Type 0} → Holdings → List Connected → List X → (X → Type 0) → Type 0
+IfClear held [] all P = Unit {0}
+IfClear {X} held (u ∷ us) all P = (set.contains held.hurt u.name ≡ false → (x : X) × (slice_get all u.slot ≡ Some x) × P x) × IfClear held us all P
 
 -- it has a connection, and no fault stopped its slot
 abbrev pub may_lack : {F : Type 0} → Remains F → Bool

@@ -11,10 +11,11 @@ ghost use Rattle.fj_desk.specs.Desks.{Desk};
 ghost use Rattle.fj_desk.specs.Desking.{all_left, left_by};
 ghost use Rattle.fj_units.specs.Names.{stands, left_of, AreInUse};
 ghost use Rattle.fj_units.specs.Files.{files_of};
+ghost use Rattle.fj_units.specs.Returning.{returned, IsAsDue};
 ghost use Rattle.fj_units.specs.Units.{connected_of};
 ghost use Rattle.fj_closing.specs.Losing.{is_memory, may_tell, may_want};
 ghost use Rattle.fj_closing.specs.Remains.{AreOfDesks};
-ghost use Rattle.fj_closing.specs.Closing.{Lessens, IsBack, AreBack, IsKept, returned, IsAsDue, AreAsDue, AreOthersSame, names_left, AreSeated, AreNamed, may_lack, SomeMayLack};
+ghost use Rattle.fj_closing.specs.Closing.{Lessens, IsBack, AreBack, IsKept, AreAsDue, AreOthersSame, names_left, AreSeated, AreNamed, IfClear, may_lack, SomeMayLack};
 ghost use Rattle.fj_closing.specs.declared.remains.Remains.{Remains as Remaining};
 
 use crate::losing::{after, lost_by};
@@ -122,6 +123,9 @@ fn close_unit<D: Disk>(
     ensures due { D.tells disk.old → may_tell result ≡ true → (was : List (Remaining D.File)) (desks : List Desk) (d : Desk) → Both (IsKept names.old) was all.old.items
         → AreOfDesks D.File.told D.File.bytes was desks → slice_get desks unit.now.slot ≡ Some d → IfSome d.bay.connection (λ c. c.name ≡ unit.now.name)
         → AreAsDue (D.refusals disk.old) (D.refusals disk.new) names.new (D.held disk.new) (left_by d.bay.connection (files_of (D.held disk.old))) }
+    ensures running { D.tells disk.old → may_tell result ≡ true → (was : List (Remaining D.File)) → Both (IsKept names.old) was all.old.items
+        → set.contains (D.held disk.new).hurt unit.now.name ≡ false → (it : Remaining D.File) × (slice_get was unit.now.slot ≡ Some it) × (it.stop ≡ None) }
+    ensures back { may_tell result ≡ true → stands names.new unit.now.name ≡ false }
     ensures same { D.tells disk.old → AreOthersSame names.old names.new (D.held disk.old) (D.held disk.new) }
     ensures own { D.tells disk.old → D.refusals disk.old ≤ D.refusals disk.new }
 
@@ -169,6 +173,8 @@ fn close_each<D: Disk>(
     ensures due { D.tells disk.old → may_tell result ≡ true → (was : List (Remaining D.File)) (desks : List Desk) → Both (IsKept names.old) was all.old.items
         → AreOfDesks D.File.told D.File.bytes was desks → AreSeated desks (map connected_of units.now) → AreNamed desks (map connected_of units.now)
         → AreAsDue (D.refusals disk.old) (D.refusals disk.new) names.new (D.held disk.new) (all_left desks (map connected_of units.now) (files_of (D.held disk.old))) }
+    ensures running { D.tells disk.old → may_tell result ≡ true → (was : List (Remaining D.File)) → Both (IsKept names.old) was all.old.items
+        → IfClear (D.held disk.new) (map connected_of units.now) was (λ it. it.stop ≡ None) }
     ensures same { D.tells disk.old → AreOthersSame names.old names.new (D.held disk.old) (D.held disk.new) }
     ensures own { D.tells disk.old → D.refusals disk.old ≤ D.refusals disk.new }
 
@@ -255,6 +261,7 @@ pub fn close_units<D: Disk>(
     ensures due { D.tells disk.old → may_tell result ≡ true → (desks : List Desk) → AreOfDesks D.File.told D.File.bytes all.items desks
         → AreSeated desks units.now → AreNamed desks units.now
         → AreAsDue (D.refusals disk.old) (D.refusals disk.new) names.new (D.held disk.new) (all_left desks units.now (files_of (D.held disk.old))) }
+    ensures running { D.tells disk.old → may_tell result ≡ true → IfClear (D.held disk.new) units.now all.items (λ it. it.stop ≡ None) }
     ensures same { D.tells disk.old → AreOthersSame names.old names.new (D.held disk.old) (D.held disk.new) }
     ensures own { D.tells disk.old → D.refusals disk.old ≤ D.refusals disk.new }
 

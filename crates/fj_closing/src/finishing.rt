@@ -1,5 +1,5 @@
 // A run is brought to its end on its slots and its disk.
-ghost use Rattle.std.specs.Prelude.{◌≡◌, ◌≢◌, ◌↔◌, ◌≤◌, [], true, List, length, vec_capacity, Err, OnOk};
+ghost use Rattle.std.specs.Prelude.{◌≡◌, ◌≢◌, ◌↔◌, ◌≤◌, [], true, List, None, length, vec_capacity, Err, OnOk};
 ghost use Rattle.fj_outside.specs.Faults.{Rose};
 ghost use Rattle.fj_world.specs.Alone.{AllHome};
 ghost use Rattle.fj_bay.specs.Meaning.{bay_meaning};
@@ -9,7 +9,7 @@ ghost use Rattle.fj_turns.specs.Executing.{HoldsDesks};
 ghost use Rattle.fj_units.specs.Names.{AreInUse};
 ghost use Rattle.fj_units.specs.Files.{files_of};
 ghost use Rattle.fj_closing.specs.Losing.{may_tell};
-ghost use Rattle.fj_closing.specs.Closing.{AreAsDue, AreOthersSame, names_left, AreSeated, AreNamed, IsFinished};
+ghost use Rattle.fj_closing.specs.Closing.{AreAsDue, AreOthersSame, names_left, AreSeated, AreNamed, IfClear, IsFinished};
 
 use crate::closing::close_units;
 use crate::remains::{Remains, what_remains};
@@ -39,6 +39,7 @@ pub fn finish<D: Disk>(
     ensures due { D.tells disk.old → may_tell result ≡ true → (desks : List Desk) → HoldsDesks (bay_meaning D.File.told D.File.bytes D.File.count) slots desks
         → AreSeated desks units.now → AreNamed desks units.now
         → AreAsDue (D.refusals disk.old) (D.refusals disk.new) names.new (D.held disk.new) (all_left desks units.now (files_of (D.held disk.old))) }
+    ensures running { D.tells disk.old → may_tell result ≡ true → IfClear (D.held disk.new) units.now slots.slots (λ l. l.halt ≡ None) }
     ensures same { D.tells disk.old → AreOthersSame names.old names.new (D.held disk.old) (D.held disk.new) }
     ensures own { D.tells disk.old → D.refusals disk.old ≤ D.refusals disk.new }
 

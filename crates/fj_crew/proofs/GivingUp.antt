@@ -9,7 +9,7 @@ use Rattle.fj_slot.specs.Serving.{Meaning}
 use Rattle.fj_slot.specs.Sound.{outcome}
 use Rattle.fj_world.specs.declared.ask.Ask.{Ask}
 use Rattle.fj_world.specs.declared.ask.Ask.TheVariants.{Submit, Settle}
-use Rattle.fj_world.specs.Conduct.{Conduct, Asks, Takes, Tells, IsAsk}
+use Rattle.fj_world.specs.Conduct.{Conduct, Submitting, Settling, Asks, Takes, Tells, IsAsk}
 use Rattle.fj_world.specs.Leading.{LeadsTo}
 use Rattle.fj_world.specs.Plain.{Plain, PlainSlot, asked_next, after}
 use Rattle.fj_world.proofs.Places.{slice_get_set, slice_get_in}
@@ -67,9 +67,9 @@ module _ {S C G J A P T R : Type 0} (m : Meaning G J A P T R) (c : Conduct S T R
 
   -- by a submit or the ask behind it
   pub submit_gave_up : {ever : Bool} {level : Type 0} (s : c.State) (qs : List (PlainSlot P T)) (most : ℕ) (first script mid new : S) (hand hand' : Ask J) (seats seats' : List (SubmitterOf C G T)) (at : ℕ) (job : J) (number : Result ℕ (Refused J)) (x : SubmitterOf C G T)
-      → LeadsTo c.leads first script → CrewGoes m c ever level (asked_next m c s qs) most script hand seats → c.over script ≡ false → hand ≡ Submit at job → slice_get seats at ≡ Some x
+      → LeadsTo c.leads first script → CrewGoes m c ever level (asked_next m c s qs) most script hand seats → c.over script ≡ false → hand ≡ Submit at job → c.due script ≡ Submitting at → slice_get seats at ≡ Some x
       → Submits seats at number seats' → Takes c script number mid → Asks m c mid hand' new → c.over new ≡ true → CrewGaveUp m c most s qs first new seats'
-  submit_gave_up s qs most first script mid new hand hand' seats seats' at job (Ok k) x path goes going is found did takes asks over =
+  submit_gave_up s qs most first script mid new hand hand' seats seats' at job (Ok k) x path goes going is due found did takes asks over =
       let n = goes.entries in
       let now = after m c n (asked_next m c s qs) in
       let fits = goes.fits in
@@ -91,7 +91,7 @@ module _ {S C G J A P T R : Type 0} (m : Meaning G J A P T R) (c : Conduct S T R
         slots = subst (λ z. SeatsHold z.1 seats') (sym then) (hold_set now.slots seats seats' at q' did.seat (fits_hold now script hand seats fits) did.after
             (sends.1.numbers.sent_is ∙ ap (λ z. z + 1) fit.sent ∙ sym (length-append q.jobs (t ∷ []))));
       }
-  submit_gave_up s qs most first script mid new hand hand' seats seats' at job (Err e) x path goes going is found did takes asks over =
+  submit_gave_up s qs most first script mid new hand hand' seats seats' at job (Err e) x path goes going is due found did takes asks over =
       let n = goes.entries in
       let now = after m c n (asked_next m c s qs) in
       let told = goes.fits.script_is going in
@@ -100,16 +100,16 @@ module _ {S C G J A P T R : Type 0} (m : Meaning G J A P T R) (c : Conduct S T R
       record {
         asks = n;
         few = omega (arith, goes.few);
-        call = by_answer m c s qs n first script mid new hand' path going told.0 (λ z. absurd (let no = sym plain.1 ∙ z in cc)) takes.leads takes.refused asks;
+        call = by_answer m c s qs n first script mid new hand' path going told.0 (λ z. absurd (let no = sym plain.1 ∙ z in cc)) (λ z. absurd (let no = sym due ∙ z in cc)) takes.leads takes.refused asks;
         slots = subst (λ z. SeatsHold z seats') (before_slots m c n s qs)
             (hold_here now.slots seats seats' at x did.seat (fits_hold now script hand seats goes.fits) found did.after sends.numbers.sent_is);
       }
 
   -- by a settle or the ask behind it
   pub settle_gave_up : {ever : Bool} {level : Type 0} (s : c.State) (qs : List (PlainSlot P T)) (most : ℕ) (old : List (SubmitterOf C G T)) (first script mid new : S) (hand hand' : Ask J) (seats seats' : List (SubmitterOf C G T)) (at : ℕ) (it : Told G J A P T R) (x : SubmitterOf C G T)
-      → Planned m c (asked_next m c s qs) most old → SeatsSame old seats → LeadsTo c.leads first script → CrewGoes m c ever level (asked_next m c s qs) most script hand seats → c.over script ≡ false → 0 < c.left script → hand ≡ Settle at → slice_get seats at ≡ Some x
+      → Planned m c (asked_next m c s qs) most old → SeatsSame old seats → LeadsTo c.leads first script → CrewGoes m c ever level (asked_next m c s qs) most script hand seats → c.over script ≡ false → 0 < c.left script → hand ≡ Settle at → c.due script ≡ Settling at → slice_get seats at ≡ Some x
       → (knows x).heard < (knows x).sent → Settles m seats at it seats' → Tells m c script it mid → Asks m c mid hand' new → c.over new ≡ true → CrewGaveUp m c most s qs first new seats'
-  settle_gave_up {ever} {level} s qs most old first script mid new hand hand' seats seats' at it x planned kept path goes going left is found waits did tells asks over = go it refl
+  settle_gave_up {ever} {level} s qs most old first script mid new hand hand' seats seats' at it x planned kept path goes going left is due found waits did tells asks over = go it refl
     where
       now : Plain P c
       now = after m c goes.entries (asked_next m c s qs)
@@ -124,7 +124,7 @@ module _ {S C G J A P T R : Type 0} (m : Meaning G J A P T R) (c : Conduct S T R
       by_it e = record {
         asks = goes.entries;
         few = omega (arith, goes.few);
-        call = by_answer m c s qs goes.entries first script mid new hand' path going told.0 (λ z. absurd (let no = sym plain ∙ z in cc)) tells.leads e asks;
+        call = by_answer m c s qs goes.entries first script mid new hand' path going told.0 (λ z. absurd (let no = sym plain ∙ z in cc)) (λ z. absurd (let no = sym due ∙ z in cc)) tells.leads e asks;
         slots = subst (λ z. SeatsHold z seats') (before_slots m c goes.entries s qs)
             (hold_here now.slots seats seats' at x did.seat (fits_hold now script hand seats goes.fits) found did.after (did.numbers x found).sent_is);
       }

@@ -11,6 +11,8 @@ const NONE: u64 = u64::MAX;
 pub(crate) struct Signals {
     over: AtomicBool,
     work: EventCount,
+    /// How many workers look for work. While one does, a ring is for no one: it looks once more before it waits.
+    looking: AtomicU64,
     /// The slot of a short job of which no worker was told yet: the script itself performs it where it settles it next, and waking a
     /// worker would take longer.
     short: AtomicU64,
@@ -21,13 +23,16 @@ impl Signals {
         Signals {
             over: AtomicBool::new(false),
             work: EventCount::new(),
+            looking: AtomicU64::new(0),
             short: AtomicU64::new(NONE),
         }
     }
 
     /// There is a job more.
     pub(crate) fn ring(&self) {
-        self.work.notify_one();
+        if self.looking.load(SeqCst) == 0 {
+            self.work.notify_one();
+        }
     }
 
     /// There may be a job more.
@@ -43,13 +48,28 @@ impl Signals {
             self.ring();
             return;
         }
-        self.ring_if(self.short.swap(slot, SeqCst) != NONE);
+        let earlier = self.short.load(SeqCst);
+        self.short.store(slot, SeqCst);
+        self.ring_if(earlier != NONE);
     }
 
     /// The script settles a job of a slot.
     pub(crate) fn settling(&self, slot: u64) {
-        let short = self.short.swap(NONE, SeqCst);
-        self.ring_if(short != NONE && short != slot);
+        let short = self.short.load(SeqCst);
+        if short != NONE {
+            self.short.store(NONE, SeqCst);
+            self.ring_if(short != slot);
+        }
+    }
+
+    /// A worker looks for work.
+    pub(crate) fn looks(&self) {
+        self.looking.fetch_add(1, SeqCst);
+    }
+
+    /// A worker looks for work no more. Tells whether it was the last one.
+    pub(crate) fn found(&self) -> bool {
+        self.looking.fetch_sub(1, SeqCst) == 1
     }
 
     /// The script has finished.

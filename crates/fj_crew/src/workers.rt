@@ -1,5 +1,5 @@
 //! Workers, who go over all queues.
-ghost use Rattle.std.specs.Prelude.{◌≡◌, ◌+◌, ◌<◌, ◌≤◌, ℕ, [], length, vec_capacity, OnOk, slice_index_or};
+ghost use Rattle.std.specs.Prelude.{◌≡◌, ◌+◌, ◌<◌, ◌≤◌, ℕ, [], length, vec_capacity, IfSome, OnOk, slice_index_or};
 ghost use Rattle.std.specs.VecDeque.{deque_capacity};
 ghost use Rattle.fj_crew.specs.Seats.{Paired};
 ghost use Rattle.fj_crew.specs.Team.{AllServe, HandsAre, SeatsLike};
@@ -57,24 +57,59 @@ fn fold<E: Engine>(
     team.destroy_empty();
 }
 
-// Works once on each queue of which a job seems due, and tells whether there was anything.
-fn round<E: Engine, R: Wait>(
+// The first of these queues of which a job seems due.
+fn first_due<E: Engine>(queues: &VecDeque<Queue<E>>, from: usize, to: usize) -> Option<usize>
+    requires { to ≤ length queues.now.items }
+    ensures { IfSome result (λ at. at < length queues.now.items) }
+{
+    for at in from..to {
+        if queues[at].seems_due() {
+            return Some(at);
+        }
+    }
+    None
+}
+
+// The first queue from a place on of which a job seems due, or else one of the first so many.
+fn next_due<E: Engine>(queues: &VecDeque<Queue<E>>, from: usize, rest: usize) -> Option<usize>
+    requires { rest ≤ length queues.now.items }
+    ensures { IfSome result (λ at. at < length queues.now.items) }
+{
+    match first_due(queues, from, queues.len()) {
+        Some(at) => Some(at),
+        None => first_due(queues, 0, rest),
+    }
+}
+
+// Works once on the queue at that place. Another worker is to look on where this was the last one that did.
+fn work_at<E: Engine, R: Wait>(
     rt: &R,
     queues: &VecDeque<Queue<E>>,
     team: &mut VecDeque<Hand<E>>,
+    signals: &Signals,
+    at: usize,
 ) -> bool
+    requires within { at < length queues.now.items }
     requires serves { AllServe queues.now.items team.old.items }
     ensures serves { AllServe queues.now.items team.new.items }
 {
-    let mut worked = false;
-    for at in 0..queues.len() {
-        let queue = &queues[at];
-        let hand = &mut team[at];
-        if queue.work_where_due(rt, hand) {
-            worked = true;
-        }
+    if signals.found() {
+        signals.ring_if(next_due(queues, at + 1, at).is_some());
     }
+    let hand = &mut team[at];
+    let worked = queues[at].work_where_due(rt, hand);
+    signals.looks();
     worked
+}
+
+// Waits for work, unless there is some at the last look. It is not counted as looking then: a job that comes later is rung for.
+fn pause<E: Engine, R: Wait>(rt: &R, queues: &VecDeque<Queue<E>>, signals: &Signals) {
+    let wait = signals.prepare();
+    let _last = signals.found();
+    if first_due(queues, 0, queues.len()).is_none() && !signals.is_over() {
+        wait.wait(rt);
+    }
+    signals.looks();
 }
 
 /// Works until the script has finished.
@@ -87,22 +122,30 @@ pub(crate) fn work<E: Engine, R: Wait>(
     requires serves { AllServe queues.now.items team.old.items }
     ensures serves { AllServe queues.now.items team.new.items }
 {
+    signals.looks();
     let backoff = Backoff::new();
+    let mut from = 0usize;
     for _ in rt.forever() {
         if signals.is_over() {
             return;
         }
-        if round(rt, queues, team) {
-            backoff.reset();
-        } else if !backoff.is_completed() {
-            backoff.snooze();
-        } else {
-            let wait = signals.prepare();
-            let worked = round(rt, queues, team);
-            if !worked && !signals.is_over() {
-                wait.wait(rt);
+        match next_due(queues, from, from.min(queues.len())) {
+            Some(at) => {
+                from = at + 1;
+                if work_at(rt, queues, team, signals, at) {
+                    backoff.reset();
+                } else {
+                    backoff.snooze();
+                }
             }
-            backoff.reset();
+            None => {
+                if backoff.is_completed() {
+                    pause(rt, queues, signals);
+                    backoff.reset();
+                } else {
+                    backoff.snooze();
+                }
+            }
         }
     }
     unreachable!()

@@ -32,29 +32,30 @@ cause_by : (P Q : Type 0) (a b c : ℕ) → a ≤ b → b ≤ c → (P → Q ⊎
 cause_by P Q a b c l k one none (inr rose) = rose_earlier a b c l rose
 cause_by P Q a b c l k one none (inl p) = elim (one p) [ inl q ↦ absurd (none q) | inr rose ↦ rose_later a b c rose k ]
 
-module _ {W D F : Type 0} (tells_out : W → Type 0) (taken : W → List ℕ) (count_out : W → ℕ) (tells : D → Type 0) (held : D → Holdings) (count : D → ℕ) where
+module _ {W D F : Type 0} (tells_out : W → Type 0) (taken : W → List ℕ) (count_out : W → ℕ) (tells : D → Type 0) (held : D → Holdings) (count refusals : D → ℕ) where
   pub carried_out : {ghosts : Ghosts F} {E J A X : Type 0} (meaning : Meaning E J A Bay Job Answer) (told : F → Bool) (bytes : F → List ℕ) (deck : Deck) (out : W) (disk : D) (out' : W) (disk' disk'' : D) (m m' : Machine F ghosts) (rack' : Rack E J A) (it : Carried F)
-      → HasNotBegun told bytes m → m.deck ≡ deck → Leaves tells_out taken count_out tells count out disk m out' disk' m'
+      → HasNotBegun told bytes m → m.deck ≡ deck → Leaves tells_out taken count_out tells count refusals out disk m out' disk' m'
       → (tells disk → m'.tally.over ≡ false → HasRun meaning told bytes m.deck (files_of (held disk)) (files_of (held disk')) m' rack')
-      → (tells disk → IsSound m.deck → m'.tally.over ≡ true → IsCut (tells_out out) (taken out) (taken out') m.deck (files_of (held disk)) m')
+      → (tells disk → IsSound m.deck → m'.tally.over ≡ true → IsCut meaning rack' (held disk') (refusals disk) (refusals disk') (tells_out out) (taken out) (taken out') m.deck (files_of (held disk)) m')
       → (tells disk → m'.tally.over ≡ false → (ending : Code) → m'.state.ending ≡ Some ending → EndsHere m.deck (files_of (held disk)) m')
-      → IsSound deck → IsSettled tells held count meaning m' rack' disk' disk'' it
-      → (let r : Result (Carried F) X = Ok it in IsCarriedOut tells_out taken count_out tells held count deck out disk out' disk'' r)
+      → IsSound deck → IsSettled tells held count refusals meaning m' rack' disk' disk'' it
+      → (let r : Result (Carried F) X = Ok it in IsCarriedOut tells_out taken count_out tells held count refusals deck out disk out' disk'' r)
   carried_out meaning told bytes deck out disk out' disk' disk'' m m' rack' it begun same leaves ran cut ended is_sound settled =
       let sound : m.tally.lost ≡ None = begun.sound in
       let own : IsSound m.deck = subst IsSound (sym same) is_sound in
       let nothing : whole_records m.state.core.output ≡ [] = nothing_written told bytes (files_of (held disk)) m begun in
       let there = λ (t : tells disk).
-      at_statement meaning told bytes m.deck (files_of (held disk)) (files_of (held disk')) m' rack' (tells_out out) (taken out) (taken out') own (ran t) (ended t) (cut t own)
+      at_statement meaning told bytes m.deck (files_of (held disk)) (held disk') (refusals disk) (refusals disk') m' rack' (tells_out out) (taken out) (taken out') own (ran t) (ended t) (cut t own)
       (λ going w. all_taken _ _ m.state.core.output m'.state.core.output m'.state.core.output nothing (leaves.output w (inl (not_lost m'.tally.lost m'.tally.over m'.tally.lost_over going))) refl) in
       record {
         deck_is = settled.deck ∙ leaves.deck ∙ same;
         taken_is = λ w s. all_taken _ _ m.state.core.output m'.state.core.output it.left.core.output nothing
             (leaves.output w (elim s [ inl e ↦ inl (settled.nothing e) | inr e ↦ settled.alone e ])) (ap (λ k. k.output) settled.core);
-        at_fault = λ t e. subst (λ (d : Deck). IsLeftAt d (files_of (held disk)) it.left) same
-            (left_at (tells_out out) (taken out) (taken out') m.deck (files_of (held disk)) m' it.left (there t) (settled.alone e) settled.core settled.at);
+        at_fault = λ t e. subst (λ (d : Deck). IsLeftAt d (files_of (held disk)) it.left (held disk'') (refusals disk) (refusals disk'')) same
+            (left_at meaning rack' (held disk') (held disk'') (refusals disk) (refusals disk') (refusals disk'') (tells_out out) (taken out) (taken out') m.deck (files_of (held disk)) m' it.left (there t)
+            (settled.alone e) settled.core settled.at (leaves.own t) (settled.own (leaves.telling.0 t)) (settled.due (leaves.telling.0 t) e) (settled.running (leaves.telling.0 t) e));
         part = λ t w. subst (λ (d : Deck). TookSome d (files_of (held disk)) (taken out) (taken out')) same
-            (took_some (tells_out out) (taken out) (taken out') m.deck (files_of (held disk)) m' (there t) w);
+            (took_some meaning rack' (held disk') (refusals disk) (refusals disk') (tells_out out) (taken out) (taken out') m.deck (files_of (held disk)) m' (there t) w);
         result_is = λ t s going. came meaning told bytes deck m.deck (files_of (held disk)) (files_of (held disk')) (files_of (held disk'')) m' rack' it.left
             (ran t (sym settled.over ∙ going)) same settled.core settled.ending (λ desks h seats. settled.files (leaves.telling.0 t) s desks h seats);
         sink = λ e. elim (leaves.of_sink (settled.sink e)) [ inl q ↦ absurd (let z : Some Sink ≡ None = sym q ∙ sound in cc) | inr rose ↦ rose ];
@@ -69,24 +70,24 @@ module _ {W D F : Type 0} (tells_out : W → Type 0) (taken : W → List ℕ) (c
 
   conclude_ok : {X : Type 0} (deck : Deck) (trace : Bool) (out : W) (disk : D) (out' : W) (disk' : D) (out'' : W) (it : Carried F) (status : Status)
       → IsSound deck
-      → (let r : Result (Carried F) X = Ok it in IsCarriedOut tells_out taken count_out tells held count deck out disk out' disk' r)
+      → (let r : Result (Carried F) X = Ok it in IsCarriedOut tells_out taken count_out tells held count refusals deck out disk out' disk' r)
       → (let r : Result (Carried F) X = Ok it in IsConcluded tells_out taken count_out trace r out' out'' status)
-      → IsExecuted tells_out taken count_out tells held count deck trace out disk out'' disk' status
+      → IsExecuted tells_out taken count_out tells held count refusals deck trace out disk out'' disk' status
   conclude_ok deck trace out disk out' disk' out'' it status sound carried h = record {
     replied = λ a t. let ended = h.ended a in let settled = h.settled a in
         replies deck trace it.left (held disk).files (held disk').files status (tells_out out) (tells_out out') _ _ _ carried.telling_out.0 carried.deck_is
         (carried.result_is t settled ended.going) ended (λ w. carried.taken_is w (inl settled));
     fault = λ t. fault_by status _ (λ line e. let told = h.fault line e in
-        told_fault deck trace it (held disk).files (held disk').files (taken out) (taken out') (taken out'') carried.deck_is line (tells_out out) (tells_out out') (Rose (count_out out') (count_out out''))
+        told_fault deck trace it (held disk).files (held disk').files (held disk') (refusals disk) (refusals disk') (taken out) (taken out') (taken out'') carried.deck_is line (tells_out out) (tells_out out') (Rose (count_out out') (count_out out''))
         (Rose (count_out out) (count_out out'')) carried.telling_out.0 (rose_earlier _ _ _ carried.later_out) (carried.at_fault t told.settled) told (λ w. carried.taken_is w (inr told.settled)));
     front = λ t w. elim (h.front (carried.telling_out.0 w)) [
       | inl e ↦ inl (part_of_run deck trace (files_of (held disk)) (taken out) (taken out'') sound
           (λ lines. front_so_far deck (files_of (held disk)) (taken out) (taken out'') lines (subst (λ (x : List ℕ). TookSome deck (files_of (held disk)) (taken out) x) (sym e) (carried.part t w))))
       | inr (inl f) ↦ inr (
         carried.of_disk f.settled,
-        report_of_fault deck trace it (held disk).files (held disk').files (taken out) (taken out') (taken out'') carried.deck_is status (carried.at_fault t f.settled) f (carried.taken_is w (inr f.settled)),
+        report_of_fault deck trace it (held disk).files (held disk').files (held disk') (refusals disk) (refusals disk') (taken out) (taken out') (taken out'') carried.deck_is status (carried.at_fault t f.settled) f (carried.taken_is w (inr f.settled)),
       )
-      | inr (inr f) ↦ inl (part_of_end deck trace it (held disk).files (held disk').files (taken out) (taken out') (taken out'') carried.deck_is (carried.result_is t f.settled f.going) f (carried.taken_is w (inl f.settled)))
+      | inr (inr f) ↦ inl (part_of_end deck trace it (held disk).files (held disk').files (held disk') (refusals disk) (refusals disk') (taken out) (taken out') (taken out'') carried.deck_is (carried.result_is t f.settled f.going) f (carried.taken_is w (inl f.settled)))
     ];
     of_run = h.of_run;
     cause = cause_more status _ _ _ _ _ _ (λ x. x) (rose_of _ _ _ _ carried.later_out h.later_out carried.sink) carried.of_disk h.cause;
@@ -99,9 +100,9 @@ module _ {W D F : Type 0} (tells_out : W → Type 0) (taken : W → List ℕ) (c
 
   conclude_err : {X : Type 0} (deck : Deck) (trace : Bool) (out : W) (disk : D) (out' : W) (disk' : D) (out'' : W) (e : X) (status : Status)
       → IsSound deck
-      → (let r : Result (Carried F) X = Err e in IsCarriedOut tells_out taken count_out tells held count deck out disk out' disk' r)
+      → (let r : Result (Carried F) X = Err e in IsCarriedOut tells_out taken count_out tells held count refusals deck out disk out' disk' r)
       → (let r : Result (Carried F) X = Err e in IsConcluded tells_out taken count_out trace r out' out'' status)
-      → IsExecuted tells_out taken count_out tells held count deck trace out disk out'' disk' status
+      → IsExecuted tells_out taken count_out tells held count refusals deck trace out disk out'' disk' status
   conclude_err deck trace out disk out' disk' out'' e status sound carried h = record {
     replied = λ a t. absurd (subst (λ (s : Status). IsAnswer s) h.begun a);
     fault = λ t. fault_by status _ (λ line f. absurd (let z : Memory ≡ DiskFault line = sym h.begun ∙ f in cc));
@@ -117,8 +118,8 @@ module _ {W D F : Type 0} (tells_out : W → Type 0) (taken : W → List ℕ) (c
   }
 
   pub executed : {X : Type 0} (deck : Deck) (trace : Bool) (out : W) (disk : D) (out' : W) (disk' : D) (out'' : W) (carried : Result (Carried F) X) (status : Status)
-      → IsSound deck → IsCarriedOut tells_out taken count_out tells held count deck out disk out' disk' carried → IsConcluded tells_out taken count_out trace carried out' out'' status
-      → IsExecuted tells_out taken count_out tells held count deck trace out disk out'' disk' status
+      → IsSound deck → IsCarriedOut tells_out taken count_out tells held count refusals deck out disk out' disk' carried → IsConcluded tells_out taken count_out trace carried out' out'' status
+      → IsExecuted tells_out taken count_out tells held count refusals deck trace out disk out'' disk' status
   executed deck trace out disk out' disk' out'' (Ok it) status sound carried h = conclude_ok deck trace out disk out' disk' out'' it status sound carried h
   executed deck trace out disk out' disk' out'' (Err e) status sound carried h = conclude_err deck trace out disk out' disk' out'' e status sound carried h
 

@@ -1,8 +1,13 @@
 -- What the machine and its sink are where a run was cut.
 use Rattle.std.proofs.Common.{◌≡◌, ◌≢◌, ◌⊎◌, ℕ, Bool, true, false, cond, List, [], ◌++◌, map, drop, Option, Some, None, unwrap_or, sym, ap, ◌∙◌, inl, inr, append_assoc, append-nil}
 use Rattle.std.specs.Option.{option_map}
+use Rattle.fj_outside.specs.Holdings.{Holdings}
 use Rattle.fj_outside.specs.declared.outside.FileStore.{Ghosts}
 use Rattle.fj_statement.specs.declared.deck.Deck.{Deck}
+use Rattle.fj_slot.specs.Serving.{Meaning}
+use Rattle.fj_world.specs.Rack.{Rack}
+use Rattle.fj_bay.specs.Bay.{Bay}
+use Rattle.fj_bay.specs.Jobs.{Job, Answer}
 use Rattle.fj_plain.specs.State.{Files}
 use Rattle.fj_plain.specs.Statement.{stated}
 use Rattle.fj_plain.specs.Telling.{tell_of}
@@ -23,6 +28,7 @@ use Rattle.fj_runner.specs.declared.machine.Machine.{Machine}
 use Rattle.fj_job.specs.Cut.{Untold, Told, Carried, ComesTo}
 use Rattle.fj_job.specs.Cutting.{IsExact, TookFront, IsCut}
 use Rattle.fj_job.proofs.CutTexts.{at_hand}
+use Rattle.fj_job.proofs.Holding.{HoldsAt, holds_there, holds_told}
 use Rattle.fj_job.proofs.Learning.{LearnsAt}
 
 -- ---- what is shown
@@ -43,30 +49,33 @@ module _ {F : Type 0} {ghosts : Ghosts F} (told : F → Bool) (bytes : F → Lis
 
 -- ---- at a statement
 
-module _ {F : Type 0} {ghosts : Ghosts F} (Tells : Type 0) (old new : List ℕ) (deck : Deck) (files : Files) (m : Machine F ghosts) (same : m.deck ≡ deck) where
+module _ {E J A F : Type 0} {ghosts : Ghosts F} (meaning : Meaning E J A Bay Job Answer) (rack : Rack E J A) (held : Holdings) (before now : ℕ) (Tells : Type 0) (old new : List ℕ)
+    (deck : Deck) (files : Files) (m : Machine F ghosts) (same : m.deck ≡ deck) where
   hand : (comes : ComesTo deck files) (run : Run) → run.rest ≡ rest_of m → run.rest ≡ drop comes.index (stated deck.statements)
       → drop m.at (stated deck.statements) ≡ drop comes.index (stated deck.statements)
   hand comes run rest place = ap (λ (d : Deck). drop m.at (stated d.statements)) (sym same) ∙ sym rest ∙ place
 
   -- a job was refused there, or a stop was told: nothing was done
   pub cut_asking : (run : Run) (left : Files) → AsksAt deck.variables (stated deck.statements) (fresh deck.variables files) run → run.core ≡ core_of left m.state.core → run.rest ≡ rest_of m
-      → (Tells → new ≡ old ++ whole_records m.state.core.output) → IsCut Tells old new deck files m
-  cut_asking run left x core rest took =
+      → (Tells → new ≡ old ++ whole_records m.state.core.output) → HoldsAt meaning rack held before now deck files m run.rest → IsCut meaning rack held before now Tells old new deck files m
+  cut_asking run left x core rest took holds =
       let it : IsCutOf deck.variables (stated deck.statements) files x.index x.statement x.before = cuts_agree deck.variables (stated deck.statements) files x.index x.statement x.before x.reached in
       let comes : ComesTo deck files = record { index = x.index; statement = x.statement; before = it.state; there = it.cut_is } in
       let output : m.state.core.output ≡ it.state.output = sym (ap (λ (c : Core). c.output) core) ∙ x.output ∙ it.same.output in
       let tells : tells_of m.state.core.tells ≡ run.core.tells = sym (ap (λ (c : Core). c.tells) core) in
+      let there = holds_there meaning rack held before now deck files m run.rest holds comes x.rest in
       record {
         comes = comes;
         at = at_hand deck files comes m.at (hand comes run rest x.rest);
         exact = λ _. elim x.tells [
-          | inl e ↦ record { reach = Untold; may = tt; output = output; tells = tells ∙ e ∙ it.same.tells; taken = took }
+          | inl e ↦ record { reach = Untold; may = tt; output = output; tells = tells ∙ e ∙ it.same.tells; taken = took; files_are = there }
           | inr e ↦ record {
             reach = Told;
             may = tt;
             output = output;
             tells = tells ∙ e ∙ ap (λ ts. ts ++ map (tell_of x.statement.0.line) (waited_at x.statement x.before)) it.same.tells ∙ ap (λ es. it.state.tells ++ map (tell_of x.statement.0.line) es) it.waited_is;
             taken = took;
+            files_are = holds_told meaning rack held before now deck files m comes there;
           }
         ];
         front = λ t. record { reach = Untold; part = whole_records m.state.core.output; rest = []; due = ap whole_records (sym output) ∙ sym (append-nil _); taken = took t };
@@ -77,20 +86,23 @@ module _ {F : Type 0} {ghosts : Ghosts F} (Tells : Type 0) (old new : List ℕ) 
   more_taken : (taken before part : List ℕ) → taken ≡ old ++ before → new ≡ taken ++ part → new ≡ old ++ (before ++ part)
   more_taken taken before part a b = b ∙ ap (λ x. x ++ part) a ∙ append_assoc old before part
 
-  module _ (taken : List ℕ) (was : Machine F ghosts) (TellsThen : Type 0) (on : Tells → TellsThen) (took : Tells → taken ≡ old ++ whole_records was.state.core.output) where
+  module _ (taken : List ℕ) (was : Machine F ghosts) (early late : ℕ) (TellsThen : Type 0) (on : Tells → TellsThen) (took : Tells → taken ≡ old ++ whole_records was.state.core.output) where
     exact_fails : (run : Run) (x : LearnsAt deck.variables (stated deck.statements) (fresh deck.variables files) run)
-        → (it : IsCutOf deck.variables (stated deck.statements) files x.index x.statement x.before) → FailsAtDisk TellsThen taken new run was m
-        → IsExact Tells old new deck files (record { index = x.index; statement = x.statement; before = it.state; there = it.cut_is }) m
-    exact_fails run x it k =
+        → (it : IsCutOf deck.variables (stated deck.statements) files x.index x.statement x.before) → FailsAtDisk TellsThen taken new held early late run was m
+        → HoldsAt meaning rack held before now deck files m run.rest → IsExact meaning rack held before now Tells old new deck files (record { index = x.index; statement = x.statement; before = it.state; there = it.cut_is }) m
+    exact_fails run x it k holds =
+        let comes : ComesTo deck files = record { index = x.index; statement = x.statement; before = it.state; there = it.cut_is } in
+        let there = holds_there meaning rack held before now deck files m run.rest holds comes x.rest in
         let output : m.state.core.output ≡ it.state.output = k.output ∙ x.output ∙ it.same.output in
         elim (x.tells k.known) [
-          | inl e ↦ record { reach = Untold; may = tt; output = output; tells = k.tells ∙ e ∙ it.same.tells; taken = all }
+          | inl e ↦ record { reach = Untold; may = tt; output = output; tells = k.tells ∙ e ∙ it.same.tells; taken = all; files_are = there }
           | inr e ↦ record {
             reach = Told;
             may = tt;
             output = output;
             tells = k.tells ∙ e ∙ ap (λ ts. ts ++ map (tell_of x.statement.0.line) (waited_at x.statement x.before)) it.same.tells ∙ ap (λ es. it.state.tells ++ map (tell_of x.statement.0.line) es) it.waited_is;
             taken = all;
+            files_are = holds_told meaning rack held before now deck files m comes there;
           }
         ]
       where
@@ -118,14 +130,14 @@ module _ {F : Type 0} {ghosts : Ghosts F} (Tells : Type 0) (old new : List ℕ) 
       taken = more_taken taken (whole_records was.state.core.output) part (took t) is;
     }
 
-    pub cut_failing : (r : Run) (f : FailsCall (m.tally.lost ≡ Some Disk) TellsThen taken new r was m) → LearnsAt deck.variables (stated deck.statements) (fresh deck.variables files) f.run → m.tally.lost ≢ None
-        → IsCut Tells old new deck files m
-    cut_failing r f x lost =
+    pub cut_failing : (r : Run) (f : FailsCall (m.tally.lost ≡ Some Disk) TellsThen taken new held early late r was m) → LearnsAt deck.variables (stated deck.statements) (fresh deck.variables files) f.run → m.tally.lost ≢ None
+        → (m.tally.lost ≡ Some Disk → HoldsAt meaning rack held before now deck files m f.run.rest) → IsCut meaning rack held before now Tells old new deck files m
+    cut_failing r f x lost holds =
         let it : IsCutOf deck.variables (stated deck.statements) files x.index x.statement x.before = cuts_agree deck.variables (stated deck.statements) files x.index x.statement x.before x.reached in
         let comes : ComesTo deck files = record { index = x.index; statement = x.statement; before = it.state; there = it.cut_is } in
         record {
           comes = comes;
           at = at_hand deck files comes m.at (hand comes f.run (sym f.rest) x.rest);
-          exact = λ how. elim how [ inl none ↦ absurd (lost none) | inr disk ↦ exact_fails f.run x it (f.disk disk) ];
+          exact = λ how. elim how [ inl none ↦ absurd (lost none) | inr disk ↦ exact_fails f.run x it (f.disk disk) (holds disk) ];
           front = λ t. front_fails f.run x it t (f.front (on t));
         }

@@ -1,6 +1,7 @@
 -- Where a run was not cut and its deck ended: the statement at hand is the one at which it ended.
 use Rattle.std.proofs.Common.{◌≡◌, ℕ, Bool, false, cond, List, ◌++◌, drop, Option, Some, None, IsSome, refl, sym, ap, ◌∙◌, subst}
 use Rattle.std.specs.Option.{option_map}
+use Rattle.fj_outside.specs.Holdings.{Holdings}
 use Rattle.fj_outside.specs.declared.outside.FileStore.{Ghosts}
 use Rattle.fj_statement.specs.declared.deck.Deck.{Deck}
 use Rattle.fj_slot.specs.Serving.{Meaning}
@@ -8,7 +9,7 @@ use Rattle.fj_world.specs.Alone.{ServedAlone}
 use Rattle.fj_world.specs.Rack.{Rack}
 use Rattle.fj_bay.specs.Bay.{Bay}
 use Rattle.fj_bay.specs.Jobs.{Job, Answer}
-use Rattle.fj_plain.specs.State.{Files}
+use Rattle.fj_plain.specs.State.{Files, all_closed}
 use Rattle.fj_plain.specs.Statement.{stated, Ran, Ending, plain_execution}
 use Rattle.fj_turns.specs.Run.{Run}
 use Rattle.fj_turns.specs.Serving.{over_bays, Shows, run_conduct, begins}
@@ -20,7 +21,7 @@ use Rattle.fj_runner.specs.Machine.{rest_of, run_of, ending_of}
 use Rattle.fj_runner.specs.declared.ending.Ending.{Ending as Code}
 use Rattle.fj_runner.specs.declared.machine.Machine.{Machine}
 use Rattle.fj_job.specs.Cut.{Carried, ComesTo}
-use Rattle.fj_job.specs.Cutting.{IsExact, EndsHere}
+use Rattle.fj_job.specs.Cutting.{HoldsFiles, IsExact, EndsHere}
 use Rattle.fj_job.proofs.Cut.{shown, rest_is}
 use Rattle.fj_job.proofs.CutTexts.{at_hand}
 use Rattle.fj_job.proofs.Executed.{parts}
@@ -35,6 +36,7 @@ module _ {F : Type 0} {ghosts : Ghosts F} (deck : Deck) (files : Files) (m : Mac
         at = at_hand deck files comes m.at (ap (λ (d : Deck). drop m.at (stated d.statements)) (sym same) ∙ sym rest ∙ x.rest);
         output = ap (λ (r : Ran). r.state.output) x.executed_is;
         tells = ap (λ (r : Ran). r.state.tells) x.executed_is;
+        files_are = ap (λ (r : Ran). (all_closed r.state).files) x.executed_is;
       }
 
 ending_some : (o : Option Code) (e : Code) (p : Option Ending) → o ≡ Some e → p ≡ option_map ending_of o → IsSome p
@@ -53,7 +55,9 @@ has_ended meaning s told bytes deck files left m rack script b alone going state
     (rest_is told bytes left m _ is) same
 
 -- what is told and written there is exact, where the machine came to what executing the deck does
-pub ended_exact : {F : Type 0} {ghosts : Ghosts F} (Tells : Type 0) (old new : List ℕ) (deck : Deck) (files : Files) (m : Machine F ghosts) (e : EndsHere deck files m)
+pub ended_exact : {E J A F : Type 0} {ghosts : Ghosts F} (meaning : Meaning E J A Bay Job Answer) (rack : Rack E J A) (held : Holdings) (before now : ℕ) (Tells : Type 0) (old new : List ℕ)
+    (deck : Deck) (files : Files) (m : Machine F ghosts) (e : EndsHere deck files m) → HoldsFiles meaning rack held before now deck files e.comes Carried m
     → (plain_execution deck.variables deck.statements files).output ≡ m.state.core.output → (plain_execution deck.variables deck.statements files).tells ≡ tells_of m.state.core.tells
-    → (Tells → new ≡ old ++ whole_records m.state.core.output) → IsExact Tells old new deck files e.comes m
-ended_exact Tells old new deck files m e output tells taken = record { reach = Carried; may = e.ends; output = sym output ∙ e.output; tells = sym tells ∙ e.tells; taken = taken }
+    → (Tells → new ≡ old ++ whole_records m.state.core.output) → IsExact meaning rack held before now Tells old new deck files e.comes m
+ended_exact meaning rack held before now Tells old new deck files m e holds output tells taken =
+    record { reach = Carried; may = e.ends; output = sym output ∙ e.output; tells = sym tells ∙ e.tells; taken = taken; files_are = holds }

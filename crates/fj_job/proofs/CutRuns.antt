@@ -1,5 +1,6 @@
 -- A script of runners that is over: its run was cut.
-use Rattle.std.proofs.Common.{◌≡◌, ◌≢◌, ℕ, Bool, true, false, cond, List, ◌++◌, Option, Some, None, IsSome, refl, sym, ap, ◌∙◌, subst, inl, inr}
+use Rattle.std.proofs.Common.{◌≡◌, ◌≢◌, ℕ, Bool, true, false, cond, List, [], ◌++◌, Option, Some, None, IsSome, refl, sym, ap, ◌∙◌, subst, inl, inr, arith}
+use Rattle.fj_outside.specs.Holdings.{Holdings}
 use Rattle.fj_outside.specs.declared.outside.FileStore.{Ghosts}
 use Rattle.fj_statement.specs.declared.deck.Deck.{Deck}
 use Rattle.fj_statement.specs.Sound.{IsSound}
@@ -9,7 +10,7 @@ use Rattle.fj_world.specs.Alone.{ServedAlone}
 use Rattle.fj_world.specs.Fits.{HasStopped}
 use Rattle.fj_world.specs.Leading.{LeadsTo}
 use Rattle.fj_world.specs.Losing.{before_ask, WasLost}
-use Rattle.fj_world.specs.Plain.{Plain, after}
+use Rattle.fj_world.specs.Plain.{Plain, PlainSlot, after}
 use Rattle.fj_world.specs.Rack.{Rack}
 use Rattle.fj_bay.specs.Bay.{Bay}
 use Rattle.fj_bay.specs.Jobs.{Job, Answer}
@@ -17,32 +18,43 @@ use Rattle.fj_plain.specs.State.{Files}
 use Rattle.fj_plain.specs.Statement.{stated}
 use Rattle.fj_desk.specs.Desking.{fresh}
 use Rattle.fj_turns.specs.Run.{Run}
-use Rattle.fj_turns.specs.Serving.{over_bays, Shows, run_conduct, first_run, fresh_slots, begins}
+use Rattle.fj_turns.specs.Cutting.{IsCutRun}
+use Rattle.fj_turns.specs.Serving.{over_bays, Shows, run_conduct, desks_of, first_run, fresh_slots, begins}
 use Rattle.fj_turns.proofs.Before.{each_asks}
+use Rattle.fj_turns.proofs.Cutting.{world_is_cut}
+use Rattle.fj_cut.specs.Turning.{TurnLeavesOthers}
+use Rattle.fj_cut.proofs.Stops.{stops_leave_others}
+use Rattle.fj_cut.proofs.Turns.{each_turn}
 use Rattle.fj_items.specs.Handing.{whole_records}
 use Rattle.fj_items.specs.declared.lost.Lost.{Lost}
 use Rattle.fj_items.specs.declared.lost.Lost.TheVariants.{Disk}
-use Rattle.fj_runner.specs.Failing.{FailsCall, IsGivenUp, Stays, HasReason}
+use Rattle.fj_units.specs.Files.{files_of}
+use Rattle.fj_runner.specs.Failing.{FailsCall, IsGivenUp, FailsAsking, Stays, HasReason}
 use Rattle.fj_runner.specs.Leaving.{Leaves}
 use Rattle.fj_runner.specs.Machine.{run_of}
+use Rattle.fj_runner.specs.Tallying.{due_of}
 use Rattle.fj_runner.specs.declared.machine.Machine.{Machine}
 use Rattle.fj_job.specs.Carrying.{HasNotBegun}
 use Rattle.fj_job.specs.Cutting.{IsCut}
 use Rattle.fj_job.proofs.Cut.{shown, rest_is, cut_asking, cut_failing}
 use Rattle.fj_job.proofs.Executed.{parts, nothing_written, all_taken}
 use Rattle.fj_job.proofs.Leading.{led_to, leaves_same, leaves_on}
-use Rattle.fj_job.proofs.Learning.{LearnsAt, learns_before, learns_at}
+use Rattle.fj_job.proofs.Holding.{stop_holds, disk_holds}
+use Rattle.fj_job.proofs.Leaving.{slots_hold}
+use Rattle.fj_job.proofs.Learning.{LearnsAt, none_left, at_before, learns_before, learns_at}
 use Rattle.fj_job.proofs.Passes.{ends_so, some_statement}
 
 -- What a script shows is that of its machine, and what its calls may leave are those of a runner.
-pub record IsRunner {S W D F : Type 0} {ghosts : Ghosts F} (s : Shows S) (tells_out : W → Type 0) (taken : W → List ℕ) (count_out : W → ℕ) (tells : D → Type 0) (count : D → ℕ)
-    (disk_told : D → Bool) (files_in : D → Files) (told : F → Bool) (bytes : F → List ℕ) (out : S → W) (disk : S → D) (machine : S → Machine F ghosts) : Type 0 where
+pub record IsRunner {S W D F : Type 0} {ghosts : Ghosts F} (s : Shows S) (tells_out : W → Type 0) (taken : W → List ℕ) (count_out : W → ℕ) (tells : D → Type 0) (count refusals : D → ℕ)
+    (disk_told : D → Bool) (held : D → Holdings) (told : F → Bool) (bytes : F → List ℕ) (out : S → W) (disk : S → D) (machine : S → Machine F ghosts) : Type 0 where
   pub over : (a : S) → s.over a ≡ (machine a).tally.over
   pub stopped : (a : S) → s.stopped a ≡ (machine a).tally.stopped
-  pub state : (a : S) → s.state a ≡ cond (disk_told (disk a)) (run_of told bytes (files_in (disk a)) (machine a)) None
-  pub leaves : (a b : S) → s.leads a b → Leaves tells_out taken count_out tells count (out a) (disk a) (machine a) (out b) (disk b) (machine b)
-  pub gives_up : (a b : S) → s.leads a b → IsGivenUp (tells_out (out a)) (taken (out a)) (taken (out b)) (s.state a) (machine a) (machine b)
-  pub stays : (a b : S) → s.leads a b → Stays (taken (out a)) (taken (out b)) (machine a) (machine b)
+  pub state : (a : S) → s.state a ≡ cond (disk_told (disk a)) (run_of told bytes (files_of (held (disk a))) (machine a)) None
+  pub due : (a : S) → s.due a ≡ due_of (machine a).tally.hand
+  pub leaves : (a b : S) → s.leads a b → Leaves tells_out taken count_out tells count refusals (out a) (disk a) (machine a) (out b) (disk b) (machine b)
+  pub gives_up : (a b : S) → s.leads a b → IsGivenUp (tells_out (out a)) (taken (out a)) (taken (out b)) (held (disk b)) (refusals (disk a)) (refusals (disk b)) (s.state a) (machine a) (machine b)
+  pub asking : (a b : S) → s.leads a b → FailsAsking (machine a) (machine b)
+  pub stays : (a b : S) → s.leads a b → Stays (taken (out a)) (taken (out b)) (disk a) (disk b) (machine a) (machine b)
   pub reason : (a b : S) → s.leads a b → HasReason (machine a) (machine b)
 
 -- where it is not over nothing is lost
@@ -53,32 +65,32 @@ none_lost (Some lost) over some going = absurd (let z : true ≡ false = sym (so
 some_not : (lost : Option Lost) → IsSome lost → lost ≢ None
 some_not lost some none = let z : false ≡ true = subst IsSome none some in cc
 
-module _ {S W D F : Type 0} {ghosts : Ghosts F} (s : Shows S) (tells_out : W → Type 0) (taken : W → List ℕ) (count_out : W → ℕ) (tells : D → Type 0) (count : D → ℕ)
-    (disk_told : D → Bool) (files_in : D → Files) (told : F → Bool) (bytes : F → List ℕ) (out : S → W) (disk : S → D) (machine : S → Machine F ghosts)
-    (r : IsRunner s tells_out taken count_out tells count disk_told files_in told bytes out disk machine) where
+module _ {S W D F : Type 0} {ghosts : Ghosts F} (s : Shows S) (tells_out : W → Type 0) (taken : W → List ℕ) (count_out : W → ℕ) (tells : D → Type 0) (count refusals : D → ℕ)
+    (disk_told : D → Bool) (held : D → Holdings) (told : F → Bool) (bytes : F → List ℕ) (out : S → W) (disk : S → D) (machine : S → Machine F ghosts)
+    (r : IsRunner s tells_out taken count_out tells count refusals disk_told held told bytes out disk machine) where
   -- many calls leave what one may
   abbrev AllLeave : S → S → Type 0
-  AllLeave a b = Leaves tells_out taken count_out tells count (out a) (disk a) (machine a) (out b) (disk b) (machine b)
+  AllLeave a b = Leaves tells_out taken count_out tells count refusals (out a) (disk a) (machine a) (out b) (disk b) (machine b)
 
   all_leave : (a b : S) → LeadsTo s.leads a b → AllLeave a b
   all_leave a b many =
-      led_to s.leads AllLeave r.leaves (λ x. leaves_same tells_out taken count_out tells count (out x) (disk x) (machine x))
-      (λ x y z. leaves_on tells_out taken count_out tells count (out x) (out y) (out z) (disk x) (disk y) (disk z) (machine x) (machine y) (machine z)) a b many
+      led_to s.leads AllLeave r.leaves (λ x. leaves_same tells_out taken count_out tells count refusals (out x) (disk x) (machine x))
+      (λ x y z. leaves_on tells_out taken count_out tells count refusals (out x) (out y) (out z) (disk x) (disk y) (disk z) (machine x) (machine y) (machine z)) a b many
 
   -- and none, once it is over
   abbrev AllStay : S → S → Type 0
-  AllStay a b = Stays (taken (out a)) (taken (out b)) (machine a) (machine b)
+  AllStay a b = Stays (taken (out a)) (taken (out b)) (disk a) (disk b) (machine a) (machine b)
 
   stay_on : (a b c : S) → AllStay a b → AllStay b c → AllStay a c
   stay_on a b c one two over =
       let first = one over in
       let then = two (ap (λ (m : Machine F ghosts). m.tally.over) first.0 ∙ over) in
-      (then.0 ∙ first.0, then.1 ∙ first.1)
+      (then.0 ∙ first.0, then.1 ∙ first.1, then.2 ∙ first.2)
 
   all_stay : (a b : S) → LeadsTo s.leads a b → AllStay a b
-  all_stay a b many = led_to s.leads AllStay r.stays (λ x over. (refl, refl)) stay_on a b many
+  all_stay a b many = led_to s.leads AllStay r.stays (λ x over. (refl, refl, refl)) stay_on a b many
 
-  module _ {E J A : Type 0} (meaning : Meaning E J A Bay Job Answer) (deck : Deck) (files : Files) (sound : IsSound deck) (first last : S)
+  module _ {E J A : Type 0} (meaning : Meaning E J A Bay Job Answer) (deck : Deck) (files : Files) (sound : IsSound deck) (first last : S) (on : tells (disk first))
       (begun : HasNotBegun told bytes (machine first)) (same : (machine first).deck ≡ deck) where
     -- the sink took all records that ended, until a call behind which nothing is lost
     took : (x : S) → AllLeave first x → (machine x).tally.lost ≡ None → tells_out (out first) → taken (out x) ≡ taken (out first) ++ whole_records (machine x).state.core.output
@@ -88,17 +100,23 @@ module _ {S W D F : Type 0} {ghosts : Ghosts F} (s : Shows S) (tells_out : W →
 
     -- a stop was told
     stopped_cut : (rack : Rack E J A) → AllLeave first last → ServedAlone (over_bays meaning) (run_conduct s) (begins meaning s deck.variables (stated deck.statements) files) last rack
-        → (machine last).tally.stopped ≡ true → (machine last).tally.lost ≡ None → IsCut (tells_out (out first)) (taken (out first)) (taken (out last)) deck files (machine last)
+        → (machine last).tally.stopped ≡ true → (machine last).tally.lost ≡ None
+        → IsCut meaning rack (held (disk last)) (refusals (disk first)) (refusals (disk last)) (tells_out (out first)) (taken (out first)) (taken (out last)) deck files (machine last)
     stopped_cut rack l alone stop none =
         let x : Plain Bay (run_conduct s) = after (over_bays meaning) (run_conduct s) alone.entries (begins meaning s deck.variables (stated deck.statements) files) in
         let it : HasStopped (run_conduct s) x last rack = alone.fits.stop (r.stopped last ∙ stop) in
-        let is : run_of told bytes (files_in (disk last)) (machine last) ≡ Some x.script = shown (disk_told (disk last)) (run_of told bytes (files_in (disk last)) (machine last)) x.script (sym (r.state last) ∙ it.state) in
-        let both = parts told bytes (files_in (disk last)) (machine last) x.script is in
+        let left : Files = files_of (held (disk last)) in
+        let is : run_of told bytes left (machine last) ≡ Some x.script = shown (disk_told (disk last)) (run_of told bytes left (machine last)) x.script (sym (r.state last) ∙ it.state) in
+        let both = parts told bytes left (machine last) x.script is in
+        let cut : IsCutRun meaning s deck.variables (stated deck.statements) files x.script rack =
+        world_is_cut meaning s deck.variables (stated deck.statements) files alone.entries (record { start = last; script = last; hand = Finished; rack = rack; workers = [] }) x.script alone.fits (r.stopped last ∙ stop) it.state in
         elim (each_asks meaning s deck.variables (stated deck.statements) files alone.entries) [
           | inl done ↦ absurd (let z : Settle it.slot ≡ Finished = sym it.hand ∙ done in cc)
           | inr y ↦
-              cut_asking (tells_out (out first)) (taken (out first)) (taken (out last)) deck files (machine last) (l.deck ∙ same) x.script (files_in (disk last)) y both.0
-              (rest_is told bytes (files_in (disk last)) (machine last) x.script is) (took last l none)
+              cut_asking meaning rack (held (disk last)) (refusals (disk first)) (refusals (disk last)) (tells_out (out first)) (taken (out first)) (taken (out last)) deck files (machine last) (l.deck ∙ same) x.script left y both.0
+              (rest_is told bytes left (machine last) x.script is) (took last l none)
+              (stop_holds meaning rack (held (disk last)) (refusals (disk first)) (refusals (disk last)) deck files (machine last) s x.script both.0 cut
+              (stops_leave_others deck.variables (stated deck.statements) files cut.slot x.script cut.desks cut.stop))
         ]
 
     module _ (rack : Rack E J A) (w : WasLost (over_bays meaning) (run_conduct s) (first_run deck.variables (stated deck.statements) files) fresh_slots first last rack) where
@@ -117,57 +135,80 @@ module _ {S W D F : Type 0} {ghosts : Ghosts F} (s : Shows S) (tells_out : W →
       over : (machine gone).tally.over ≡ true
       over = sym (r.over gone) ∙ w.call.over
 
-      -- what it was before the call, where that gave up: it stood at a statement
-      gave_up : (stop : (machine gone).tally.stopped ≡ false)
-          → (at : Run) × (f : FailsCall ((machine gone).tally.lost ≡ Some Disk) (tells_out (out before)) (taken (out before)) (taken (out gone)) at (machine before) (machine gone))
-          × LearnsAt deck.variables (stated deck.statements) (fresh deck.variables files) f.run
+      abbrev script_then : Run
+      script_then = (before_ask (over_bays meaning) (run_conduct s) w.asks (first_run deck.variables (stated deck.statements) files) fresh_slots).0
+
+      abbrev slots_then : List (PlainSlot Bay Job)
+      slots_then = (before_ask (over_bays meaning) (run_conduct s) w.asks (first_run deck.variables (stated deck.statements) files) fresh_slots).1
+
+      -- What it was before the call, where that gave up: it stood at a statement. Where the disk failed, the slots had the jobs until then.
+      record GaveUpAt : Type 0 where
+        at : Run
+        call : FailsCall ((machine gone).tally.lost ≡ Some Disk) (tells_out (out before)) (taken (out before)) (taken (out gone)) (held (disk gone)) (refusals (disk before)) (refusals (disk gone)) at (machine before) (machine gone)
+        learns : LearnsAt deck.variables (stated deck.statements) (fresh deck.variables files) call.run
+        turn : (machine gone).tally.lost ≡ Some Disk → TurnLeavesOthers deck.variables (stated deck.statements) files call.run (desks_of meaning slots_then)
+
+      gave_up : (machine gone).tally.stopped ≡ false → GaveUpAt
       gave_up stop =
           elim w.call.stood [
             | inl (asked, state) ↦
-                let f = r.gives_up before gone w.call.leads (before_ask (over_bays meaning) (run_conduct s) w.asks (first_run deck.variables (stated deck.statements) files) fresh_slots).0 state going over stop in (
-                  (before_ask (over_bays meaning) (run_conduct s) w.asks (first_run deck.variables (stated deck.statements) files) fresh_slots).0,
-                  f,
-                  learns_before meaning s deck.variables (stated deck.statements) files (ends_so deck sound) (some_statement deck sound) w.asks f.count f.run asked f.passed,
-                )
-            | inr (hand, state) ↦
-                let f = r.gives_up before gone w.call.leads (after (over_bays meaning) (run_conduct s) w.asks (begins meaning s deck.variables (stated deck.statements) files)).script state going over stop in (
-                  (after (over_bays meaning) (run_conduct s) w.asks (begins meaning s deck.variables (stated deck.statements) files)).script,
-                  f,
-                  learns_at meaning s deck.variables (stated deck.statements) files (ends_so deck sound) (some_statement deck sound) w.asks f.count f.run hand f.passed,
-                )
+                let f = r.gives_up before gone w.call.leads script_then state going over stop in
+                let x = learns_before meaning s deck.variables (stated deck.statements) files (ends_so deck sound) (some_statement deck sound) w.asks f.count f.run asked f.passed in
+                record {
+                  at = script_then;
+                  call = f;
+                  learns = x;
+                  turn = λ d. elim (each_turn meaning s deck.variables (stated deck.statements) files w.asks f.count f.run
+                      (at_before meaning s deck.variables (stated deck.statements) files (ends_so deck sound) (some_statement deck sound) w.asks asked).going f.passed) [
+                        | inl none ↦ absurd (none_left deck.variables (stated deck.statements) (fresh deck.variables files) f.run x none)
+                        | inr t ↦ t
+                      ];
+                }
+            | inr (hand, state, due) ↦
+                let f = r.gives_up before gone w.call.leads (after (over_bays meaning) (run_conduct s) w.asks (begins meaning s deck.variables (stated deck.statements) files)).script state going over stop in
+                record {
+                  at = (after (over_bays meaning) (run_conduct s) w.asks (begins meaning s deck.variables (stated deck.statements) files)).script;
+                  call = f;
+                  learns = learns_at meaning s deck.variables (stated deck.statements) files (ends_so deck sound) (some_statement deck sound) w.asks f.count f.run hand f.passed;
+                  turn = λ d. absurd (due (r.due before ∙ ap due_of (r.asking before gone w.call.leads going d)));
+                }
           ]
 
-      failed_cut : (machine gone).tally.stopped ≡ false → IsSome (machine gone).tally.lost → IsCut (tells_out (out first)) (taken (out first)) (taken (out gone)) deck files (machine gone)
+      failed_cut : (machine gone).tally.stopped ≡ false → IsSome (machine gone).tally.lost
+          → IsCut meaning rack (held (disk gone)) (refusals (disk first)) (refusals (disk gone)) (tells_out (out first)) (taken (out first)) (taken (out gone)) deck files (machine gone)
       failed_cut stop some =
           let g = gave_up stop in
-          cut_failing (tells_out (out first)) (taken (out first)) (taken (out gone)) deck files (machine gone) ((r.leaves before gone w.call.leads).deck ∙ led.deck ∙ same)
-          (taken (out before)) (machine before) (tells_out (out before)) led.telling_out.0
-          (took before led (none_lost (machine before).tally.lost (machine before).tally.over (machine before).tally.lost_over going)) g.0 g.1 g.2 (some_not (machine gone).tally.lost some)
+          cut_failing meaning rack (held (disk gone)) (refusals (disk first)) (refusals (disk gone)) (tells_out (out first)) (taken (out first)) (taken (out gone)) deck files (machine gone)
+          ((r.leaves before gone w.call.leads).deck ∙ led.deck ∙ same) (taken (out before)) (machine before) (refusals (disk before)) (refusals (disk gone)) (tells_out (out before)) led.telling_out.0
+          (took before led (none_lost (machine before).tally.lost (machine before).tally.over (machine before).tally.lost_over going)) g.at g.call g.learns (some_not (machine gone).tally.lost some)
+          (λ d. disk_holds meaning rack (held (disk gone)) (refusals (disk first)) (refusals (disk gone)) deck files (machine gone) (tells_out (out before)) (taken (out before)) (taken (out gone))
+          (refusals (disk before)) (refusals (disk gone)) g.call.run (machine before) (desks_of meaning slots_then) (led.own on) (omega arith) (g.call.disk d) (g.turn d) (slots_hold meaning slots_then rack w.slots))
 
       all_led : AllLeave first last
       all_led =
-          leaves_on tells_out taken count_out tells count (out first) (out before) (out last) (disk first) (disk before) (disk last) (machine first) (machine before) (machine last) led
-          (leaves_on tells_out taken count_out tells count (out before) (out gone) (out last) (disk before) (disk gone) (disk last) (machine before) (machine gone) (machine last)
+          leaves_on tells_out taken count_out tells count refusals (out first) (out before) (out last) (disk first) (disk before) (disk last) (machine first) (machine before) (machine last) led
+          (leaves_on tells_out taken count_out tells count refusals (out before) (out gone) (out last) (disk before) (disk gone) (disk last) (machine before) (machine gone) (machine last)
           (r.leaves before gone w.call.leads) (all_leave gone last w.call.rests))
 
-      pub is_cut : (rack' : Rack E J A) → ServedAlone (over_bays meaning) (run_conduct s) (begins meaning s deck.variables (stated deck.statements) files) last rack'
-          → IsCut (tells_out (out first)) (taken (out first)) (taken (out last)) deck files (machine last)
-      is_cut rack' alone =
+      pub is_cut : ServedAlone (over_bays meaning) (run_conduct s) (begins meaning s deck.variables (stated deck.statements) files) last rack
+          → IsCut meaning rack (held (disk last)) (refusals (disk first)) (refusals (disk last)) (tells_out (out first)) (taken (out first)) (taken (out last)) deck files (machine last)
+      is_cut alone =
           let still = all_stay gone last w.call.rests over in
           elim (r.reason before gone w.call.leads going over) [
             | inl (stop, none) ↦
-                stopped_cut rack' all_led alone (ap (λ (m : Machine F ghosts). m.tally.stopped) still.0 ∙ stop) (ap (λ (m : Machine F ghosts). m.tally.lost) still.0 ∙ none)
+                stopped_cut rack all_led alone (ap (λ (m : Machine F ghosts). m.tally.stopped) still.0 ∙ stop) (ap (λ (m : Machine F ghosts). m.tally.lost) still.0 ∙ none)
             | inr (stop, some) ↦
-                subst (λ n. IsCut (tells_out (out first)) (taken (out first)) n deck files (machine last)) (sym still.1)
-                (subst (λ (m : Machine F ghosts). IsCut (tells_out (out first)) (taken (out first)) (taken (out gone)) deck files m) (sym still.0) (failed_cut stop some))
+                subst (λ (d : D). IsCut meaning rack (held d) (refusals (disk first)) (refusals d) (tells_out (out first)) (taken (out first)) (taken (out last)) deck files (machine last)) (sym still.2)
+                (subst (λ n. IsCut meaning rack (held (disk gone)) (refusals (disk first)) (refusals (disk gone)) (tells_out (out first)) (taken (out first)) n deck files (machine last)) (sym still.1)
+                (subst (λ (m : Machine F ghosts). IsCut meaning rack (held (disk gone)) (refusals (disk first)) (refusals (disk gone)) (tells_out (out first)) (taken (out first)) (taken (out gone)) deck files m) (sym still.0) (failed_cut stop some)))
           ]
 
 -- A script that was served until it was over: its run was cut.
-pub run_cut : {S W D F E J A : Type 0} {ghosts : Ghosts F} (meaning : Meaning E J A Bay Job Answer) (s : Shows S) (tells_out : W → Type 0) (taken : W → List ℕ) (count_out : W → ℕ) (tells : D → Type 0) (count : D → ℕ)
-    (disk_told : D → Bool) (files_in : D → Files) (told : F → Bool) (bytes : F → List ℕ) (out : S → W) (disk : S → D) (machine : S → Machine F ghosts) (deck : Deck) (files : Files) (first last : S) (rack : Rack E J A)
+pub run_cut : {S W D F E J A : Type 0} {ghosts : Ghosts F} (meaning : Meaning E J A Bay Job Answer) (s : Shows S) (tells_out : W → Type 0) (taken : W → List ℕ) (count_out : W → ℕ) (tells : D → Type 0) (count refusals : D → ℕ)
+    (disk_told : D → Bool) (held : D → Holdings) (told : F → Bool) (bytes : F → List ℕ) (out : S → W) (disk : S → D) (machine : S → Machine F ghosts) (deck : Deck) (files : Files) (first last : S) (rack : Rack E J A)
     → ServedAlone (over_bays meaning) (run_conduct s) (begins meaning s deck.variables (stated deck.statements) files) last rack
     → WasLost (over_bays meaning) (run_conduct s) (first_run deck.variables (stated deck.statements) files) fresh_slots first last rack
-    → IsRunner s tells_out taken count_out tells count disk_told files_in told bytes out disk machine → IsSound deck → HasNotBegun told bytes (machine first) → (machine first).deck ≡ deck
-    → IsCut (tells_out (out first)) (taken (out first)) (taken (out last)) deck files (machine last)
-run_cut meaning s tells_out taken count_out tells count disk_told files_in told bytes out disk machine deck files first last rack alone lost runner sound begun same =
-    is_cut s tells_out taken count_out tells count disk_told files_in told bytes out disk machine runner meaning deck files sound first last begun same rack lost rack alone
+    → IsRunner s tells_out taken count_out tells count refusals disk_told held told bytes out disk machine → IsSound deck → HasNotBegun told bytes (machine first) → (machine first).deck ≡ deck → tells (disk first)
+    → IsCut meaning rack (held (disk last)) (refusals (disk first)) (refusals (disk last)) (tells_out (out first)) (taken (out first)) (taken (out last)) deck files (machine last)
+run_cut meaning s tells_out taken count_out tells count refusals disk_told held told bytes out disk machine deck files first last rack alone lost runner sound begun same on =
+    is_cut s tells_out taken count_out tells count refusals disk_told held told bytes out disk machine runner meaning deck files sound first last on begun same rack lost alone

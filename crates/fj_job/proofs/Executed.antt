@@ -27,7 +27,8 @@ use Rattle.fj_items.specs.Handing.{HandsOver, whole_records, open_record}
 use Rattle.fj_pending.specs.Plain.{tells_of}
 use Rattle.fj_acts.specs.State.{core_of}
 use Rattle.fj_acts.specs.declared.state.Core.{Core as Kept}
-use Rattle.fj_closing.specs.Closing.{AreSeated}
+use Rattle.fj_closing.specs.Closing.{AreSeated, AreNamed}
+use Rattle.fj_closing.proofs.Returning.{named}
 use Rattle.fj_report.specs.declared.status.Status.{Status}
 use Rattle.fj_runner.specs.Machine.{run_of, run_at, stage_at, ending_of}
 use Rattle.fj_runner.specs.declared.ending.Ending.{Ending as Code}
@@ -116,6 +117,9 @@ module _ {E J A F : Type 0} {ghosts : Ghosts F} (meaning : Meaning E J A Bay Job
 
   pub are_seated : AreSeated desks m.state.core.units
   are_seated = subst (λ (us : List Connected). AreSeated desks us) (ap (λ (c : Core). c.units) both.0) (seated desks h.run.core.units _ h.leaves.same.same.units)
+
+  pub are_named : AreNamed desks m.state.core.units
+  are_named = subst (λ (us : List Connected). AreNamed desks us) (ap (λ (c : Core). c.units) both.0) (named desks h.run.core.units _ h.leaves.same.same.units)
 
   -- what is left behind the run and the files are those of the result
   pub results : (l : Left F) (now : Files) → l.core ≡ record (m.state.core) { names = l.core.names } → l.ending ≡ m.state.ending → now ≡ all_left desks m.state.core.units left

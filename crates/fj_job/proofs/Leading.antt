@@ -54,11 +54,12 @@ cause_on : (P Q : Type 0) (a b c : ℕ) → a ≤ b → b ≤ c → (P → Q ⊎
 cause_on P Q a b c l k one (inr rose) = inr (rose_earlier a b c l rose)
 cause_on P Q a b c l k one (inl p) = elim (one p) [ inl q ↦ inl q | inr rose ↦ inr (rose_later a b c rose k) ]
 
-module _ {W D F : Type 0} {ghosts : Ghosts F} (tells_out : W → Type 0) (taken : W → List ℕ) (count_out : W → ℕ) (tells : D → Type 0) (count : D → ℕ) where
-  pub leaves_same : (w : W) (d : D) (m : Machine F ghosts) → Leaves tells_out taken count_out tells count w d m w d m
+module _ {W D F : Type 0} {ghosts : Ghosts F} (tells_out : W → Type 0) (taken : W → List ℕ) (count_out : W → ℕ) (tells : D → Type 0) (count refusals : D → ℕ) where
+  pub leaves_same : (w : W) (d : D) (m : Machine F ghosts) → Leaves tells_out taken count_out tells count refusals w d m w d m
   leaves_same w d m = record {
     telling = ((λ t. t), (λ t. t));
     later = omega arith;
+    own = λ t. omega arith;
     telling_out = ((λ t. t), (λ t. t));
     later_out = omega arith;
     output = λ t e. hands_same (taken w) m.state.core.output;
@@ -69,11 +70,12 @@ module _ {W D F : Type 0} {ghosts : Ghosts F} (tells_out : W → Type 0) (taken 
     deck = refl;
   }
 
-  pub leaves_on : (w w' w'' : W) (d d' d'' : D) (m m' m'' : Machine F ghosts) → Leaves tells_out taken count_out tells count w d m w' d' m'
-      → Leaves tells_out taken count_out tells count w' d' m' w'' d'' m'' → Leaves tells_out taken count_out tells count w d m w'' d'' m''
+  pub leaves_on : (w w' w'' : W) (d d' d'' : D) (m m' m'' : Machine F ghosts) → Leaves tells_out taken count_out tells count refusals w d m w' d' m'
+      → Leaves tells_out taken count_out tells count refusals w' d' m' w'' d'' m'' → Leaves tells_out taken count_out tells count refusals w d m w'' d'' m''
   leaves_on w w' w'' d d' d'' m m' m'' a b = record {
     telling = ((λ t. b.telling.0 (a.telling.0 t)), (λ t. a.telling.1 (b.telling.1 t)));
     later = let x = a.later in let y = b.later in omega (arith, x, y);
+    own = λ t. let x = a.own t in let y = b.own (a.telling.0 t) in omega (arith, x, y);
     telling_out = ((λ t. b.telling_out.0 (a.telling_out.0 t)), (λ t. a.telling_out.1 (b.telling_out.1 t)));
     later_out = let x = a.later_out in let y = b.later_out in omega (arith, x, y);
     output = λ t e. hands_on _ _ _ m.state.core.output m'.state.core.output m''.state.core.output (a.output t (fine_before _ _ b.first e)) (b.output (a.telling_out.0 t) e);
@@ -102,21 +104,21 @@ pub record Rested {N : Type 0} (out disk machine out' disk' machine' : N) (left_
   pub same_machine : machine' ≡ machine
   pub leaves : left_so
 
-module _ {S N W D F : Type 0} {ghosts : Ghosts F} (tells_out : W → Type 0) (taken : W → List ℕ) (count_out : W → ℕ) (tells : D → Type 0) (count : D → ℕ)
+module _ {S N W D F : Type 0} {ghosts : Ghosts F} (tells_out : W → Type 0) (taken : W → List ℕ) (count_out : W → ℕ) (tells : D → Type 0) (count refusals : D → ℕ)
     (out_name disk_name machine_name : S → N) (out : S → W) (disk : S → D) (machine : S → Machine F ghosts) where
   abbrev pub Rests : S → S → Type 0
   Rests a b = Rested (out_name a) (disk_name a) (machine_name a) (out_name b) (disk_name b) (machine_name b)
-      (Leaves tells_out taken count_out tells count (out a) (disk a) (machine a) (out b) (disk b) (machine b))
+      (Leaves tells_out taken count_out tells count refusals (out a) (disk a) (machine a) (out b) (disk b) (machine b))
 
   rests_same : (s : S) → Rests s s
-  rests_same s = record { same_out = refl; same_disk = refl; same_machine = refl; leaves = leaves_same tells_out taken count_out tells count (out s) (disk s) (machine s) }
+  rests_same s = record { same_out = refl; same_disk = refl; same_machine = refl; leaves = leaves_same tells_out taken count_out tells count refusals (out s) (disk s) (machine s) }
 
   rests_on : (a b c : S) → Rests a b → Rests b c → Rests a c
   rests_on a b c one two = record {
     same_out = two.same_out ∙ one.same_out;
     same_disk = two.same_disk ∙ one.same_disk;
     same_machine = two.same_machine ∙ one.same_machine;
-    leaves = leaves_on tells_out taken count_out tells count (out a) (out b) (out c) (disk a) (disk b) (disk c) (machine a) (machine b) (machine c) one.leaves two.leaves;
+    leaves = leaves_on tells_out taken count_out tells count refusals (out a) (out b) (out c) (disk a) (disk b) (disk c) (machine a) (machine b) (machine c) one.leaves two.leaves;
   }
 
   pub runner_rests : (leads : S → S → Type 0) → ((a b : S) → leads a b → Rests a b) → (first last : S) → LeadsTo leads first last → Rests first last

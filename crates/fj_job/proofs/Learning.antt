@@ -21,6 +21,7 @@ use Rattle.fj_turns.specs.Turns.{Turn, Pauses, Passes, Stops, Asked, finish_by, 
 use Rattle.fj_turns.specs.Serving.{over_bays, Shows, run_conduct, first_run, fresh_slots, begins}
 use Rattle.fj_turns.specs.Inside.{waited_at, cut_desks}
 use Rattle.fj_turns.specs.Passing.{passed_by, passed_on, passes, output_of, output_due, turn_output, knows_at, known_due, KnowsAnswers, told_at, tells_due, turn_tells}
+use Rattle.fj_turns.proofs.Decks.{cut_here}
 use Rattle.fj_turns.proofs.Slots.{same_some}
 use Rattle.fj_turns.proofs.Passed.{At, stands_at, tells_at, output_at, Led, asked_leads}
 use Rattle.fj_turns.proofs.Before.{fares_after}
@@ -141,6 +142,12 @@ pub record LearnsAt (variables : List Variable) (deck : List Stated) (first : De
   pub due : turn_output run ≡ (desk_step variables statement before).0.core.output
   pub tells : KnowsAnswers run → (turn_tells run ≡ before.core.tells) ⊎ (turn_tells run ≡ before.core.tells ++ map (tell_of statement.0.line) (waited_at statement before))
 
+-- statements are left then
+pub none_left : (variables : List Variable) (deck : List Stated) (first : Desked) (run : Run) → LearnsAt variables deck first run → run.rest ≡ [] → ⊥
+none_left variables deck first run x none =
+    let here : drop x.index deck ≡ x.statement ∷ drop (suc x.index) deck = cut_here variables x.index deck first x.statement x.before x.reached in
+    let z : [] ≡ x.statement ∷ drop (suc x.index) deck = sym none ∙ x.rest ∙ here in cc
+
 module _ {E J A S : Type 0} (m : Meaning E J A Bay Job Answer) (s : Shows S) (variables : List Variable) (deck : List Stated) (files : Files) (so : EndsSo deck) (some : deck ≡ [] → ⊥) where
   abbrev c : Conduct S Job Answer
   c = run_conduct s
@@ -172,7 +179,7 @@ module _ {E J A S : Type 0} (m : Meaning E J A Bay Job Answer) (s : Shows S) (va
       subst (λ z. At m variables deck first z.0 z.1) (sym (ap (λ z. given_outcome (over_bays m) c z slot x) is ∙ ap (λ z. given_reply (over_bays m) c z q slot x) out)) y.stands
   led_at Finished run qs over n = absurd (n refl)
 
-  at_before : (n : ℕ) → HasAsked (over_bays m) c n (first_run variables deck files) fresh_slots → At m variables deck first (before n).0 (before n).1
+  pub at_before : (n : ℕ) → HasAsked (over_bays m) c n (first_run variables deck files) fresh_slots → At m variables deck first (before n).0 (before n).1
   at_before zero h =
       elim (fares_after m s variables deck files 0) [
         | inl (e, y) ↦ y

@@ -12,6 +12,8 @@ pub mod CarriedOut
 pub mod Passes
 pub mod Learning
 pub mod CutTexts
+pub mod Leaving
+pub mod Holding
 pub mod Cut
 pub mod CutEnds
 pub mod CutReports

@@ -1,20 +1,29 @@
 -- What was told and written where a run met a fault, and what is reported then.
-use Rattle.std.proofs.Common.{◌≡◌, ◌⊎◌, inl, inr, ℕ, Bool, true, false, List, [], ◌++◌, Option, Some, None, IsSome, Ok, slice_get, refl, ap, sym, ◌∙◌, subst}
+use Rattle.std.proofs.Common.{◌≡◌, ◌⊎◌, inl, inr, ℕ, ◌≤◌, Bool, true, false, List, [], ◌++◌, Option, Some, None, IsSome, Ok, slice_get, refl, ap, sym, ◌∙◌, subst}
 use Rattle.std.specs.FinMap as map
+use Rattle.std.specs.FinSet as set
 use Rattle.std.specs.Option.{option_map}
 use Rattle.fj_outside.specs.declared.outside.FileStore.{Ghosts}
-use Rattle.fj_outside.specs.Holdings.{Files as Held}
+use Rattle.fj_outside.specs.Holdings.{Holdings, Files as Held}
 use Rattle.fj_statement.specs.Sound.{IsSound}
 use Rattle.fj_statement.specs.declared.deck.Deck.{Deck}
+use Rattle.fj_slot.specs.Ledger.{Ledger}
 use Rattle.fj_slot.specs.Serving.{Meaning}
 use Rattle.fj_bay.specs.Bay.{Bay}
 use Rattle.fj_bay.specs.Jobs.{Job, Answer}
 use Rattle.fj_world.specs.Rack.{Rack}
 use Rattle.fj_plain.specs.State.{State, Files, Output, Tell}
 use Rattle.fj_plain.specs.Statement.{plain_execution}
+use Rattle.fj_desk.specs.Desks.{Desk}
+use Rattle.fj_desk.specs.Desking.{all_left}
+use Rattle.fj_turns.specs.Executing.{HoldsDesks}
 use Rattle.fj_pending.specs.Plain.{tells_of}
 use Rattle.fj_items.specs.Handing.{TakesFront, whole_records, open_record}
 use Rattle.fj_items.specs.declared.lost.Lost.TheVariants.{Disk}
+use Rattle.fj_units.specs.Files.{files_of}
+use Rattle.fj_units.specs.Returning.{IsAsDue}
+use Rattle.fj_closing.specs.Closing.{AreSeated, AreNamed, IfClear}
+use Rattle.fj_closing.proofs.Due.{due_on}
 use Rattle.fj_report.specs.Lines.{status_text}
 use Rattle.fj_report.specs.declared.status.Status.{Status}
 use Rattle.fj_report.specs.declared.status.Status.TheVariants.{DiskFault}
@@ -25,8 +34,8 @@ use Rattle.fj_runner.specs.declared.machine.Machine.{Machine}
 use Rattle.fj_acts.specs.declared.state.Core.{Core as Kept}
 use Rattle.fj_job.specs.Carrying.{HasRun}
 use Rattle.fj_job.specs.Concluding.{HasEnded, IsResult, run_text, fault_text}
-use Rattle.fj_job.specs.Cut.{reached, IsFaultReport, TookRun, TookReport, ToldFault}
-use Rattle.fj_job.specs.Cutting.{IsCut, EndsHere, IsLeftAt, TookSome}
+use Rattle.fj_job.specs.Cut.{Carried as At, reached, IsFaultReport, TookRun, TookReport, ToldFault}
+use Rattle.fj_job.specs.Cutting.{HoldsFiles, IsCut, EndsHere, IsLeftAt, TookSome}
 use Rattle.fj_job.specs.Executing.{IsFaultTold, IsFaultBegun, IsEndBegun}
 use Rattle.fj_job.specs.Making.{HasMade, IsMadeFront, TookMade, made_text}
 use Rattle.fj_job.specs.Reply.{open_feed, trace_of, variable_lines, report_of, made_lines, made_report, no_files, files_in, status_of}
@@ -34,39 +43,54 @@ use Rattle.fj_job.specs.declared.ending.Carried.{Carried}
 use Rattle.fj_job.proofs.CutEnds.{ended_exact}
 use Rattle.fj_job.proofs.CutReports.{front_of_output, front_of_exact}
 use Rattle.fj_job.proofs.CutTexts.{text_and_feed, goes_on_behind}
-use Rattle.fj_job.proofs.Executed.{ending_is, output_is, tells_are, replies, makes, none_there, taken_both}
+use Rattle.fj_job.proofs.Leaving.{seated_of, named_of, housed_of, served_of}
+use Rattle.fj_job.proofs.Executed.{desks, ending_is, output_is, tells_are, files_are, holds, are_seated, are_named, replies, makes, none_there, taken_both}
 use Rattle.fj_job.proofs.Told.{front_behind, front_more, deck_ends, some_by}
 
 -- ---- where a run ended or was cut, at the statement at hand
 
-module _ {E J A F : Type 0} {ghosts : Ghosts F} (meaning : Meaning E J A Bay Job Answer) (told : F → Bool) (bytes : F → List ℕ) (deck : Deck) (files left : Files)
+module _ {E J A F : Type 0} {ghosts : Ghosts F} (meaning : Meaning E J A Bay Job Answer) (told : F → Bool) (bytes : F → List ℕ) (deck : Deck) (files : Files) (held : Holdings) (before now : ℕ)
     (m : Machine F ghosts) (rack : Rack E J A) (Tells : Type 0) (old new : List ℕ) where
+  abbrev left : Files
+  left = files_of held
+
   at_end : IsSound deck → m.tally.over ≡ false → HasRun meaning told bytes deck files left m rack
-      → ((ending : Code) → m.state.ending ≡ Some ending → EndsHere deck files m) → (Tells → new ≡ old ++ whole_records m.state.core.output) → IsCut Tells old new deck files m
+      → ((ending : Code) → m.state.ending ≡ Some ending → EndsHere deck files m) → (Tells → new ≡ old ++ whole_records m.state.core.output) → IsCut meaning rack held before now Tells old new deck files m
   at_end sound going ran ended taken =
       let some : IsSome (option_map ending_of m.state.ending) = subst IsSome (ending_is meaning told bytes deck files left m rack ran) (deck_ends deck files sound) in
       let code = some_by ending_of m.state.ending some in
       let e = ended code.0 code.1 in
-      let exact = ended_exact Tells old new deck files m e (output_is meaning told bytes deck files left m rack ran) (tells_are meaning told bytes deck files left m rack ran) taken in
-      record { comes = e.comes; at = e.at; exact = λ _. exact; front = λ t. front_of_exact Tells old new deck files e.comes m exact t }
+      let holds : HoldsFiles meaning rack held before now deck files e.comes At m = record {
+        desks = desks meaning told bytes deck files left m rack ran;
+        slots = holds meaning told bytes deck files left m rack ran;
+        units = housed_of (desks meaning told bytes deck files left m rack ran) m.state.core.units (are_seated meaning told bytes deck files left m rack ran) (are_named meaning told bytes deck files left m rack ran);
+        others = λ name served about. inl (sym (ap (λ (f : Files). f name) (files_are meaning told bytes deck files left m rack ran)) ∙ ap (λ (f : Files). f name) e.files_are);
+      } in
+      let exact = ended_exact meaning rack held before now Tells old new deck files m e holds (output_is meaning told bytes deck files left m rack ran) (tells_are meaning told bytes deck files left m rack ran) taken in
+      record { comes = e.comes; at = e.at; exact = λ _. exact; front = λ t. front_of_exact meaning rack held before now Tells old new deck files e.comes m exact t }
 
   at_hand_by : (over : Bool) → m.tally.over ≡ over → IsSound deck → (m.tally.over ≡ false → HasRun meaning told bytes deck files left m rack)
       → (m.tally.over ≡ false → (ending : Code) → m.state.ending ≡ Some ending → EndsHere deck files m)
-      → (m.tally.over ≡ true → IsCut Tells old new deck files m) → (m.tally.over ≡ false → Tells → new ≡ old ++ whole_records m.state.core.output) → IsCut Tells old new deck files m
+      → (m.tally.over ≡ true → IsCut meaning rack held before now Tells old new deck files m) → (m.tally.over ≡ false → Tells → new ≡ old ++ whole_records m.state.core.output) → IsCut meaning rack held before now Tells old new deck files m
   at_hand_by true e sound ran ended cut taken = cut e
   at_hand_by false e sound ran ended cut taken = at_end sound e (ran e) (ended e) (taken e)
 
   -- the statement at hand is one to which the execution comes
   pub at_statement : IsSound deck → (m.tally.over ≡ false → HasRun meaning told bytes deck files left m rack)
       → (m.tally.over ≡ false → (ending : Code) → m.state.ending ≡ Some ending → EndsHere deck files m)
-      → (m.tally.over ≡ true → IsCut Tells old new deck files m) → (m.tally.over ≡ false → Tells → new ≡ old ++ whole_records m.state.core.output) → IsCut Tells old new deck files m
+      → (m.tally.over ≡ true → IsCut meaning rack held before now Tells old new deck files m) → (m.tally.over ≡ false → Tells → new ≡ old ++ whole_records m.state.core.output) → IsCut meaning rack held before now Tells old new deck files m
   at_statement sound ran ended cut taken = at_hand_by m.tally.over refl sound ran ended cut taken
 
--- what is left there
-pub left_at : {F : Type 0} {ghosts : Ghosts F} (Tells : Type 0) (old new : List ℕ) (deck : Deck) (files : Files) (m : Machine F ghosts) (l : Left F) → IsCut Tells old new deck files m
-    → (m.tally.lost ≡ None) ⊎ (m.tally.lost ≡ Some Disk) → l.core ≡ record (m.state.core) { names = l.core.names } → l.at ≡ m.at → IsLeftAt deck files l
-left_at Tells old new deck files m l cut lost core at =
+-- what is left there, once the files went back
+pub left_at : {E J A F : Type 0} {ghosts : Ghosts F} (meaning : Meaning E J A Bay Job Answer) (rack : Rack E J A) (held last : Holdings) (before now end : ℕ) (Tells : Type 0) (old new : List ℕ)
+    (deck : Deck) (files : Files) (m : Machine F ghosts) (l : Left F) → IsCut meaning rack held before now Tells old new deck files m
+    → (m.tally.lost ≡ None) ⊎ (m.tally.lost ≡ Some Disk) → l.core ≡ record (m.state.core) { names = l.core.names } → l.at ≡ m.at → before ≤ now → now ≤ end
+    → ((desks : List Desk) → HoldsDesks meaning rack desks → AreSeated desks m.state.core.units → AreNamed desks m.state.core.units → (name : List ℕ) → set.contains last.hurt name ≡ false
+    → IsAsDue now end (files_of last name) (all_left desks m.state.core.units (files_of held) name))
+    → IfClear last m.state.core.units rack.slots (λ (k : Ledger E J A). k.halt ≡ None) → IsLeftAt deck files l last before end
+left_at meaning rack held last before now end Tells old new deck files m l cut lost core at early late due running =
     let x = cut.exact lost in
+    let h = x.files_are in
     record {
       comes = cut.comes;
       reach = x.reach;
@@ -74,18 +98,22 @@ left_at Tells old new deck files m l cut lost core at =
       at = ap (λ n. slice_get deck.statements n) at ∙ cut.at;
       output = ap (λ (k : Kept). k.output) core ∙ x.output;
       tells = ap (λ (k : Kept). tells_of k.tells) core ∙ x.tells;
+      files_are = λ name clear about.
+          due_on before now end _ _ _ early late (due h.desks h.slots (seated_of h.desks m.state.core.units h.units) (named_of h.desks m.state.core.units h.units) name clear)
+          (h.others name (served_of rack last name m.state.core.units running clear) about);
     }
 
 -- and what the sink took until there
-pub took_some : {F : Type 0} {ghosts : Ghosts F} (Tells : Type 0) (old new : List ℕ) (deck : Deck) (files : Files) (m : Machine F ghosts) → IsCut Tells old new deck files m → Tells → TookSome deck files old new
-took_some Tells old new deck files m cut t = front_of_output old new deck files cut.comes (cut.front t)
+pub took_some : {E J A F : Type 0} {ghosts : Ghosts F} (meaning : Meaning E J A Bay Job Answer) (rack : Rack E J A) (held : Holdings) (before now : ℕ) (Tells : Type 0) (old new : List ℕ)
+    (deck : Deck) (files : Files) (m : Machine F ghosts) → IsCut meaning rack held before now Tells old new deck files m → Tells → TookSome deck files old new
+took_some meaning rack held before now Tells old new deck files m cut t = front_of_output old new deck files cut.comes (cut.front t)
 
 -- ---- reports
 
 -- the records that ended with that behind them are the report of a fault
-pub fault_reported : {F : Type 0} (deck : Deck) (files : Files) (l : Left F) (at : IsLeftAt deck files l) (trace : Bool) (line : ℕ) → at.comes.statement.0.line ≡ line
+pub fault_reported : {F : Type 0} (deck : Deck) (files : Files) (l : Left F) (held : Holdings) (before now : ℕ) (at : IsLeftAt deck files l held before now) (trace : Bool) (line : ℕ) → at.comes.statement.0.line ≡ line
     → IsFaultReport deck trace files line (whole_records l.core.output ++ fault_text trace line l.core.output (tells_of l.core.tells))
-fault_reported deck files l at trace line is =
+fault_reported deck files l held before now at trace line is =
     let s : State = reached at.reach deck.variables at.comes.statement at.comes.before in
     record {
       comes = at.comes;
@@ -97,27 +125,32 @@ fault_reported deck files l at trace line is =
           ∙ ap (λ (ts : List Tell). s.output.text ++ (open_feed s.output ++ (trace_of trace ts ++ status_text (DiskFault line)))) at.tells;
     }
 
-module _ {F : Type 0} (deck : Deck) (trace : Bool) (it : Carried F) (before now : Held) (old mid new : List ℕ) (same : it.left.deck ≡ deck) where
+module _ {F : Type 0} (deck : Deck) (trace : Bool) (it : Carried F) (before now : Held) (left : Holdings) (own own' : ℕ) (old mid new : List ℕ) (same : it.left.deck ≡ deck) where
   -- its line is that of the statement at hand
-  line_by : (at : IsLeftAt deck (files_in before) it.left) (line : ℕ) → ((lined : _) → slice_get it.left.deck.statements it.left.at ≡ Some lined → line ≡ lined.line) → at.comes.statement.0.line ≡ line
+  line_by : (at : IsLeftAt deck (files_in before) it.left left own own') (line : ℕ) → ((lined : _) → slice_get it.left.deck.statements it.left.at ≡ Some lined → line ≡ lined.line) → at.comes.statement.0.line ≡ line
   line_by at line is = sym (is at.comes.statement.0 (ap (λ (d : Deck). slice_get d.statements it.left.at) same ∙ at.at))
 
   -- a fault that was told
-  pub told_fault : (line : ℕ) (Tells Now Failed Failed' : Type 0) → (Tells → Now) → (Failed → Failed') → IsLeftAt deck (files_in before) it.left
-      → IsFaultTold trace it line Now mid new Failed → (Tells → mid ≡ old ++ whole_records it.left.core.output) → ToldFault deck trace (files_in before) line Tells old new Failed'
+  pub told_fault : (line : ℕ) (Tells Now Failed Failed' : Type 0) → (Tells → Now) → (Failed → Failed') → IsLeftAt deck (files_in before) it.left left own own'
+      → IsFaultTold trace it line Now mid new Failed → (Tells → mid ≡ old ++ whole_records it.left.core.output) → ToldFault deck trace (files_in before) line Tells old new Failed' left own own'
+  unfolding fault_reported
   told_fault line Tells Now Failed Failed' on later at fault one = (
     whole_records it.left.core.output ++ fault_text trace line it.left.core.output (tells_of it.left.core.tells),
-    fault_reported deck (files_in before) it.left at trace line (line_by at line fault.line_is),
-    λ t. elim (fault.taken (on t)) [ inl e ↦ inl (taken_both old mid new _ _ (one t) e) | inr f ↦ inr (later f) ],
+    fault_reported deck (files_in before) it.left left own own' at trace line (line_by at line fault.line_is),
+    at.files_are,
+    λ t. (
+      front_behind old mid new _ _ (one t) (fault.front (on t)),
+      elim (fault.taken (on t)) [ inl e ↦ inl (taken_both old mid new _ _ (one t) e) | inr f ↦ inr (later f) ],
+    ),
   )
 
-  pub report_of_fault : (status : Status) → IsLeftAt deck (files_in before) it.left → IsFaultBegun trace it status mid new → mid ≡ old ++ whole_records it.left.core.output
+  pub report_of_fault : (status : Status) → IsLeftAt deck (files_in before) it.left left own own' → IsFaultBegun trace it status mid new → mid ≡ old ++ whole_records it.left.core.output
       → TookReport deck trace (files_in before) status old new
   report_of_fault status at fault one = (
     fault.line,
     fault.answer,
     whole_records it.left.core.output ++ fault_text trace fault.line it.left.core.output (tells_of it.left.core.tells),
-    fault_reported deck (files_in before) it.left at trace fault.line (line_by at fault.line fault.line_is),
+    fault_reported deck (files_in before) it.left left own own' at trace fault.line (line_by at fault.line fault.line_is),
     front_behind old mid new _ _ one fault.taken,
   )
 

@@ -1,5 +1,5 @@
 -- Names of files that are out, and what was lost first.
-use Rattle.std.proofs.Common.{◌≡◌, ◌≢◌, ◌⊎◌, inl, inr, ◌==◌, ◌≤◌, ℕ, List, [], ◌∷◌, length, true, Option, Some, None, IfNone, Result, Ok, Err, OnOk, refl, ap, sym, ◌∙◌, subst, arith}
+use Rattle.std.proofs.Common.{◌≡◌, ◌≢◌, ◌⊎◌, inl, inr, ◌==◌, ◌≤◌, ℕ, List, [], ◌∷◌, length, true, false, Option, Some, None, IfNone, Result, Ok, Err, OnOk, IfErr, refl, ap, sym, ◌∙◌, subst, arith}
 use Rattle.std.specs.Ordering.{nat_cmp}
 use Rattle.std.specs.Cmp.Lexicographic.{slice_cmp, nat_list_cmp_total}
 use Rattle.std.specs.FinMap.{slice_cmp-IsAntisymmetric, nat_cmp-IsAntisymmetric}
@@ -7,8 +7,9 @@ use Rattle.std.specs.FinSet as set
 use Rattle.fj_outside.specs.Holdings.{Names}
 use Rattle.fj_units.specs.Names.{stands, AreInUse}
 use Rattle.fj_items.specs.declared.lost.Lost.{Lost}
-use Rattle.fj_items.specs.declared.lost.Lost.TheVariants.{Sink, Disk}
+use Rattle.fj_items.specs.declared.lost.Lost.TheVariants.{Sink, Disk, Unfit}
 use Rattle.fj_outside.specs.Faults.{Rose}
+use Rattle.fj_closing.specs.Losing.{is_fault, may_tell}
 use Rattle.fj_job.proofs.Closed.{not_none}
 use Rattle.fj_job.proofs.Leading.{rose_later, rose_earlier}
 
@@ -50,3 +51,21 @@ lost_then same (inr q) = inr q
 pub lost_alone : (Q : Type 0) (lost first : Option Lost) → IfNone first ((lost ≡ None) × Q) → (first ≡ Some Disk → (lost ≡ None) ⊎ (lost ≡ Some Disk)) → (first ≡ None) ⊎ (first ≡ Some Disk) → (lost ≡ None) ⊎ (lost ≡ Some Disk)
 lost_alone Q lost first none by (inl e) = inl (where_none first ((lost ≡ None) × Q) e none).0
 lost_alone Q lost first none by (inr e) = by e
+
+-- what does not fit is no loss of the outside
+pub not_sink : (given : Result (Unit {0}) Lost) → IfErr given (λ lost. lost ≡ Unfit) → given ≡ Err Sink → ⊥
+not_sink (Ok x) h e = cc
+not_sink (Err lost) h e = let is : lost ≡ Sink = cc in let z : Unfit ≡ Sink = sym h ∙ is in cc
+
+pub not_disk : (given : Result (Unit {0}) Lost) → IfErr given (λ lost. lost ≡ Unfit) → given ≡ Err Disk → ⊥
+not_disk (Ok x) h e = cc
+not_disk (Err lost) h e = let is : lost ≡ Disk = cc in let z : Unfit ≡ Disk = sym h ∙ is in cc
+
+-- nor may it be told
+pub told_ok : (given : Result (Unit {0}) Lost) → IfErr given (λ lost. lost ≡ Unfit) → may_tell given ≡ true → given ≡ Ok tt
+told_ok (Ok x) h e = refl
+told_ok (Err lost) h e = let z : false ≡ true = sym (ap is_fault h) ∙ e in cc
+
+pub by_first : (first : Option Lost) (given : Result (Unit {0}) Lost) → IfErr given (λ lost. lost ≡ Unfit) → (first ≡ Some Disk) ⊎ (given ≡ Err Disk) → first ≡ Some Disk
+by_first first given h (inl e) = e
+by_first first given h (inr e) = absurd (not_disk given h e)

@@ -136,3 +136,8 @@ some_by f (Some a) s = (a, refl)
 pub not_lost : (lost : Option Lost) (over : Bool) → (IsSome lost → over ≡ true) → over ≡ false → lost ≡ None
 not_lost None over h e = refl
 not_lost (Some l) over h e = let z : true ≡ false = sym (h refl) ∙ e in cc
+
+-- the line of a fault that is answered
+pub line_of_fault : (status : Status) (at line : ℕ) → (status ≡ DiskFault at) ⊎ (status ≡ Memory) → status ≡ DiskFault line → at ≡ line
+line_of_fault status at line (inl e) f = let same : DiskFault at ≡ DiskFault line = sym e ∙ f in cc
+line_of_fault status at line (inr e) f = cc

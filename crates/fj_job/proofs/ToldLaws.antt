@@ -1,6 +1,6 @@
 -- What a run tells, by what the words ask for.
 use Rattle.std.proofs.Common.{◌≡◌, ◌⊎◌, inl, inr, ℕ, Bool, List, ◌++◌, Result, Ok, Err, IfErr, refl, sym, subst}
-use Rattle.fj_outside.specs.Holdings.{Files}
+use Rattle.fj_outside.specs.Holdings.{Holdings, Files}
 use Rattle.fj_statement.specs.declared.reason.Reason.{Reason}
 use Rattle.fj_plain.specs.Statement.{Ending, ended, error_stop, prohibition}
 use Rattle.fj_statement.specs.declared.deck.Deck.{Deck}
@@ -20,9 +20,9 @@ use Rattle.fj_job.specs.Reply.{IsRefusal, usage_reply, refusal_reply, files_in, 
 use Rattle.fj_job.specs.declared.task.Task.{Task}
 use Rattle.fj_job.specs.declared.task.Task.TheVariants.{Refuse, Check, Execute, Generate}
 
-pub told_for : (task other : Task) (status : Status) (R W D : Type 0) (text : List ℕ) (files left : Files) (old new : List ℕ) (SR WR DR : Type 0) → task ≡ other
-    → Told task status R W D text files left old new SR WR DR → Told other status R W D text files left old new SR WR DR
-told_for task other status R W D text files left old new SR WR DR e t = subst (λ (x : Task). Told x status R W D text files left old new SR WR DR) e t
+pub told_for : (task other : Task) (status : Status) (R W D : Type 0) (text : List ℕ) (files : Files) (left : Holdings) (before now : ℕ) (old new : List ℕ) (SR WR DR : Type 0) → task ≡ other
+    → Told task status R W D text files left before now old new SR WR DR → Told other status R W D text files left before now old new SR WR DR
+told_for task other status R W D text files left before now old new SR WR DR e t = subst (λ (x : Task). Told x status R W D text files left before now old new SR WR DR) e t
 
 pub keeps_for : {R W D : Type 0} (task other : Task) (status : Status) (S : Type 0) (text : List ℕ) (r r' : R) (w w' : W) (d d' : D) → task ≡ other
     → Keeps task status S text r r' w w' d d' → Keeps other status S text r r' w w' d d'
@@ -129,42 +129,42 @@ of_run status told r (inr l) = lost_of_run status l
 
 -- ---- words that are no form
 
-told_usage : (R W D : Type 0) (text : List ℕ) (files : Files) (old new : List ℕ) (SR WR DR : Type 0) → (W → new ≡ old ++ usage_text) → (W → TakesFront old new usage_text)
-    → Told Refuse Usage R W D text files files old new SR WR DR
-told_usage R W D text files old new SR WR DR output front = record {
-  replied = λ a t u. record { reply = usage_reply (files_in files); is = refl; answer = refl; files_left = refl; output = output };
+told_usage : (R W D : Type 0) (text : List ℕ) (held : Holdings) (before now : ℕ) (old new : List ℕ) (SR WR DR : Type 0) → (W → new ≡ old ++ usage_text) → (W → TakesFront old new usage_text)
+    → Told Refuse Usage R W D text held.files held before now old new SR WR DR
+told_usage R W D text held before now old new SR WR DR output front = record {
+  replied = λ a t u. record { reply = usage_reply (files_in held.files); is = refl; answer = refl; files_left = refl; output = output };
   usage = λ q. refl;
   no_form = λ q. inl refl;
   ended = λ t. tt;
   refused = λ t. tt;
   fault = λ t u. tt;
-  front = λ t u w. inl (inr (usage_reply (files_in files), refl, front w));
+  front = λ t u w. inl (inr (usage_reply (files_in held.files), refl, front w));
   cause = tt;
   fine = λ x y z. inr tt;
 }
 
 -- the answer was lost
-told_lost : (status : Status) (R W D : Type 0) (text : List ℕ) (files : Files) (old new : List ℕ) (SR WR DR : Type 0) → IsLost status → (W → TakesFront old new usage_text)
-    → HasCause ⊥ WR ⊥ status → Told Refuse status R W D text files files old new SR WR DR
-told_lost status R W D text files old new SR WR DR lost front c = record {
+told_lost : (status : Status) (R W D : Type 0) (text : List ℕ) (held : Holdings) (before now : ℕ) (old new : List ℕ) (SR WR DR : Type 0) → IsLost status → (W → TakesFront old new usage_text)
+    → HasCause ⊥ WR ⊥ status → Told Refuse status R W D text held.files held before now old new SR WR DR
+told_lost status R W D text held before now old new SR WR DR lost front c = record {
   replied = λ a t u. lost_is_no_answer status _ lost a;
   usage = λ q. refl;
   no_form = λ q. inr lost;
   ended = λ t. lost_by status (λ s. IfEnded s (HasDeck Refuse text)) lost tt tt;
   refused = λ t. lost_by status (λ s. IfRefused s (IsRefusal Refuse text)) lost tt tt;
   fault = λ t u. fault_by status _ (λ line e. tt);
-  front = λ t u w. inl (inr (usage_reply (files_in files), refl, front w));
+  front = λ t u w. inl (inr (usage_reply (files_in held.files), refl, front w));
   cause = cause_more status _ _ _ _ _ _ (λ x. absurd x) (λ x. x) (λ x. absurd x) c;
   fine = λ x y z. fine_by status _ _ _ c (λ b. b) y (λ b. b);
 }
 
-pub told_refused : (status : Status) (R W D : Type 0) (text : List ℕ) (files : Files) (old new : List ℕ) (SR WR DR : Type 0) → (status ≡ Usage) ⊎ IsLost status
+pub told_refused : (status : Status) (R W D : Type 0) (text : List ℕ) (held : Holdings) (before now : ℕ) (old new : List ℕ) (SR WR DR : Type 0) → (status ≡ Usage) ⊎ IsLost status
     → (IsAnswer status → W → new ≡ old ++ usage_text) → (W → TakesFront old new usage_text) → HasCause ⊥ WR ⊥ status
-    → Told Refuse status R W D text files files old new SR WR DR
-told_refused status R W D text files old new SR WR DR (inl e) output front c =
-    subst (λ (x : Status). Told Refuse x R W D text files files old new SR WR DR) (sym e)
-    (told_usage R W D text files old new SR WR DR (output (subst (λ (x : Status). IsAnswer x) (sym e) tt)) front)
-told_refused status R W D text files old new SR WR DR (inr lost) output front c = told_lost status R W D text files old new SR WR DR lost front c
+    → Told Refuse status R W D text held.files held before now old new SR WR DR
+told_refused status R W D text held before now old new SR WR DR (inl e) output front c =
+    subst (λ (x : Status). Told Refuse x R W D text held.files held before now old new SR WR DR) (sym e)
+    (told_usage R W D text held before now old new SR WR DR (output (subst (λ (x : Status). IsAnswer x) (sym e) tt)) front)
+told_refused status R W D text held before now old new SR WR DR (inr lost) output front c = told_lost status R W D text held before now old new SR WR DR lost front c
 
 -- ---- a text that is not carried out
 
@@ -174,11 +174,11 @@ refusal_taken workers trace text files old new (inl same) = inl same
 refusal_taken workers trace text files old new (inr (line, reason, is, front)) = inr (refusal_reply line reason (files_in files), (Err (line, reason), is, refl), front)
 
 -- a refusal that is told, or what kept it from being told
-told_refusal : (workers : ℕ) (trace : Bool) (line : ℕ) (reason : Reason) (R W D : Type 0) (text : List ℕ) (files : Files) (old new : List ℕ) (SR WR : Type 0) → (R → IsRefused text line reason)
-    → (W → new ≡ old ++ status_text (DeckRefused line reason)) → (R → W → TookRefusal text old new) → Told (Execute workers trace) (DeckRefused line reason) R W D text files files old new SR WR ⊥
-told_refusal workers trace line reason R W D text files old new SR WR is output front = record {
+told_refusal : (workers : ℕ) (trace : Bool) (line : ℕ) (reason : Reason) (R W D : Type 0) (text : List ℕ) (held : Holdings) (before now : ℕ) (old new : List ℕ) (SR WR : Type 0) → (R → IsRefused text line reason)
+    → (W → new ≡ old ++ status_text (DeckRefused line reason)) → (R → W → TookRefusal text old new) → Told (Execute workers trace) (DeckRefused line reason) R W D text held.files held before now old new SR WR ⊥
+told_refusal workers trace line reason R W D text held before now old new SR WR is output front = record {
   replied = λ a t u. record {
-    reply = refusal_reply line reason (files_in files);
+    reply = refusal_reply line reason (files_in held.files);
     is = (Err (line, reason), is t, refl);
     answer = refl;
     files_left = refl;
@@ -189,7 +189,7 @@ told_refusal workers trace line reason R W D text files old new SR WR is output 
   ended = λ t. tt;
   refused = is;
   fault = λ t u. tt;
-  front = λ t u w. inl (refusal_taken workers trace text files old new (front t w));
+  front = λ t u w. inl (refusal_taken workers trace text held.files old new (front t w));
   cause = tt;
   fine = λ x y z. inr tt;
 }
@@ -199,34 +199,34 @@ unread_by : (status : Status) (P : Status → Type 0) → IsLost status ⊎ (sta
 unread_by status P (inl l) r w m = lost_by status P l w m
 unread_by status P (inr e) r w m = subst P (sym e) r
 
-told_none : (workers : ℕ) (trace : Bool) (status : Status) (R W D : Type 0) (text : List ℕ) (files : Files) (old new : List ℕ) (SR WR : Type 0) → IsLost status ⊎ (status ≡ ReadFault)
-    → (R → W → TookRefusal text old new) → HasCause SR WR ⊥ status → Told (Execute workers trace) status R W D text files files old new SR WR ⊥
-told_none workers trace status R W D text files old new SR WR none front c = record {
+told_none : (workers : ℕ) (trace : Bool) (status : Status) (R W D : Type 0) (text : List ℕ) (held : Holdings) (before now : ℕ) (old new : List ℕ) (SR WR : Type 0) → IsLost status ⊎ (status ≡ ReadFault)
+    → (R → W → TookRefusal text old new) → HasCause SR WR ⊥ status → Told (Execute workers trace) status R W D text held.files held before now old new SR WR ⊥
+told_none workers trace status R W D text held before now old new SR WR none front c = record {
   replied = λ a t u. absurd (unread_by status (λ s. IsAnswer s → ⊥) none (λ b. b) (λ b. b) (λ b. b) a);
   usage = λ q. absurd (unread_by status (λ s. s ≡ Usage → ⊥) none (λ e. cc) (λ e. cc) (λ e. cc) q);
   no_form = λ q. cc;
   ended = λ t. unread_by status (λ s. IfEnded s (HasDeck (Execute workers trace) text)) none tt tt tt;
   refused = λ t. unread_by status (λ s. IfRefused s (IsRefusal (Execute workers trace) text)) none tt tt tt;
   fault = λ t u. fault_by status _ (λ line e. absurd (unread_by status (λ s. s ≡ DiskFault line → ⊥) none (λ q. cc) (λ q. cc) (λ q. cc) e));
-  front = λ t u w. inl (refusal_taken workers trace text files old new (front t w));
+  front = λ t u w. inl (refusal_taken workers trace text held.files old new (front t w));
   cause = c;
   fine = λ x y z. fine_by status _ _ _ c x y z;
 }
 
-pub told_unread : (workers : ℕ) (trace : Bool) (status : Status) (R W D : Type 0) (text : List ℕ) (files : Files) (old new : List ℕ) (SR WR : Type 0) → IsUnread status R text
+pub told_unread : (workers : ℕ) (trace : Bool) (status : Status) (R W D : Type 0) (text : List ℕ) (held : Holdings) (before now : ℕ) (old new : List ℕ) (SR WR : Type 0) → IsUnread status R text
     → IfRefused status (λ line reason. W → new ≡ old ++ status_text (DeckRefused line reason)) → (R → W → TookRefusal text old new) → HasCause SR WR ⊥ status
-    → Told (Execute workers trace) status R W D text files files old new SR WR ⊥
-told_unread workers trace status R W D text files old new SR WR (inl (line, reason, e, is)) output front c =
-    subst (λ (x : Status). Told (Execute workers trace) x R W D text files files old new SR WR ⊥) (sym e)
-    (told_refusal workers trace line reason R W D text files old new SR WR is (subst (λ (x : Status). IfRefused x (λ line reason. W → new ≡ old ++ status_text (DeckRefused line reason))) e output) front)
-told_unread workers trace status R W D text files old new SR WR (inr (inl l)) output front c = told_none workers trace status R W D text files old new SR WR (inl l) front c
-told_unread workers trace status R W D text files old new SR WR (inr (inr e)) output front c = told_none workers trace status R W D text files old new SR WR (inr e) front c
+    → Told (Execute workers trace) status R W D text held.files held before now old new SR WR ⊥
+told_unread workers trace status R W D text held before now old new SR WR (inl (line, reason, e, is)) output front c =
+    subst (λ (x : Status). Told (Execute workers trace) x R W D text held.files held before now old new SR WR ⊥) (sym e)
+    (told_refusal workers trace line reason R W D text held before now old new SR WR is (subst (λ (x : Status). IfRefused x (λ line reason. W → new ≡ old ++ status_text (DeckRefused line reason))) e output) front)
+told_unread workers trace status R W D text held before now old new SR WR (inr (inl l)) output front c = told_none workers trace status R W D text held before now old new SR WR (inl l) front c
+told_unread workers trace status R W D text held before now old new SR WR (inr (inr e)) output front c = told_none workers trace status R W D text held before now old new SR WR (inr e) front c
 
 -- ---- what is asked for, over a disk
 
-pub told_over : {D : Type 0} (task : Task) (status : Status) (R W : Type 0) (text : List ℕ) (files : Files) (old new : List ℕ) (SR WR DR : Type 0)
-    → Told task status R W (Unit {0}) text files files old new SR WR ⊥ → Told task status R W D text files files old new SR WR DR
-told_over task status R W text files old new SR WR DR t = record {
+pub told_over : {D : Type 0} (task : Task) (status : Status) (R W : Type 0) (text : List ℕ) (held : Holdings) (before now : ℕ) (old new : List ℕ) (SR WR DR : Type 0)
+    → Told task status R W (Unit {0}) text held.files held before now old new SR WR ⊥ → Told task status R W D text held.files held before now old new SR WR DR
+told_over task status R W text held before now old new SR WR DR t = record {
   replied = λ a r d. t.replied a r tt;
   usage = t.usage;
   no_form = t.no_form;
@@ -249,11 +249,11 @@ keeps_over task status S text r r' w w' d k = record {
 }
 
 -- a deck was read, and carried out
-pub told_executed : (workers : ℕ) (trace : Bool) (deck : Deck) (status : Status) (R W D : Type 0) (text : List ℕ) (files left : Files) (old new : List ℕ) (SR WR DR : Type 0) → (R → IsDeck text deck)
-    → (IsAnswer status → D → IsReplied deck trace files status left (λ output. W → new ≡ old ++ output))
-    → (D → IfFault status (λ line. ToldFault deck trace (files_in files) line W old new WR)) → (D → W → TookRun deck trace (files_in files) old new ⊎ (DR × TookReport deck trace (files_in files) status old new)) → IsOfRun status → HasCause ⊥ WR DR status
-    → Told (Execute workers trace) status R W D text files left old new SR WR DR
-told_executed workers trace deck status R W D text files left old new SR WR DR is replied fault front r c = record {
+pub told_executed : (workers : ℕ) (trace : Bool) (deck : Deck) (status : Status) (R W D : Type 0) (text : List ℕ) (files : Files) (left : Holdings) (before now : ℕ) (old new : List ℕ) (SR WR DR : Type 0) → (R → IsDeck text deck)
+    → (IsAnswer status → D → IsReplied deck trace files status left.files (λ output. W → new ≡ old ++ output))
+    → (D → IfFault status (λ line. ToldFault deck trace (files_in files) line W old new WR left before now)) → (D → W → TookRun deck trace (files_in files) old new ⊎ (DR × TookReport deck trace (files_in files) status old new)) → IsOfRun status → HasCause ⊥ WR DR status
+    → Told (Execute workers trace) status R W D text files left before now old new SR WR DR
+told_executed workers trace deck status R W D text files left before now old new SR WR DR is replied fault front r c = record {
   replied = λ a t u. let it = replied a u in record {
     reply = it.reply;
     is = (Ok deck, is t, it.is);

@@ -1,6 +1,6 @@
 -- What a run tells: its answer, what the sink took, what the disk is left with, and the cause of each fault.
 use Rattle.std.specs.Prelude.{◌≡◌, ◌⊎◌, ◌↔◌, ◌≤◌, ℕ, Bool, List, ◌++◌}
-use Rattle.fj_outside.specs.Holdings.{Files as Held}
+use Rattle.fj_outside.specs.Holdings.{Holdings, Files as Held}
 use Rattle.fj_statement.specs.declared.reason.Reason.{Reason}
 use Rattle.fj_statement.specs.declared.deck.Deck.{Deck}
 use Rattle.fj_deck.specs.Deck.{IsDeck, IsRefused}
@@ -103,12 +103,13 @@ TookFault (Execute workers trace) status text files old new = (deck : Deck) × I
 TookFault _ status text files old new = ⊥
 
 -- What a run tells. Source, sink and disk each tell what they hold or do not, and their counts of faults rose or did not. The
--- source has this text, the disk has these files before and those after, and the sink took this before and that after.
-pub record Told (task : Task) (status : Status) (SourceTells SinkTells DiskTells : Type 0) (text : List ℕ) (files left : Held)
+-- source has this text, the disk has these files before and holds that after, its own number was `before` and is `now`, and the sink
+-- took this before and that after.
+pub record Told (task : Task) (status : Status) (SourceTells SinkTells DiskTells : Type 0) (text : List ℕ) (files : Held) (left : Holdings) (before now : ℕ)
     (old new : List ℕ) (SourceRose SinkRose DiskRose : Type 0) : Type 0 where
   -- An answer that is no fault and no want of memory is that of a reply to the words and the text, whose output is taken and
   -- whose files are left.
-  pub replied : IsAnswer status → SourceTells → DiskTells → Replied task text files status left (λ output. SinkTells → new ≡ old ++ output)
+  pub replied : IsAnswer status → SourceTells → DiskTells → Replied task text files status left.files (λ output. SinkTells → new ≡ old ++ output)
   -- Words that are no form, and they alone, are refused, unless the sink or memory fails.
   pub usage : status ≡ Usage → task ≡ Refuse
   pub no_form : task ≡ Refuse → (status ≡ Usage) ⊎ IsLost status
@@ -116,9 +117,10 @@ pub record Told (task : Task) (status : Status) (SourceTells SinkTells DiskTells
   pub ended : SourceTells → IfEnded status (HasDeck task text)
   pub refused : SourceTells → IfRefused status (IsRefusal task text)
   -- A fault of the disk is that of the statement which learnt of it: behind what executing the deck tells up to there, the report
-  -- says its line. The sink took all of it, unless it failed then.
+  -- says its line. The sink took all of it; or it failed then, and took a front of it. Each file that the disk does not tell as hurt,
+  -- and that the statement is not about, is left as closing all units leaves it there.
   pub fault : SourceTells → DiskTells → IfFault status (λ line. IfExecute task (λ trace.
-      (deck : Deck) × IsDeck text deck × ToldFault deck trace (files_in files) line SinkTells old new SinkRose))
+      (deck : Deck) × IsDeck text deck × ToldFault deck trace (files_in files) line SinkTells old new SinkRose left before now))
   -- Whatever is answered, the sink took nothing or a front of the reply; or, where the disk failed while a deck was carried out, of
   -- the report of that fault, which is then answered, unless memory was wanting.
   pub front : SourceTells → DiskTells → SinkTells → TookFor task text (files_in files) old new ⊎ (DiskRose × TookFault task status text (files_in files) old new)

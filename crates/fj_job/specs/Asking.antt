@@ -1,7 +1,7 @@
 -- What is asked for is answered, or is a deck that is to be carried out.
 use Rattle.std.specs.Prelude.{◌≡◌, ◌⊎◌, ◌↔◌, ◌≤◌, ℕ, Bool, List}
 use Rattle.fj_outside.specs.Faults.{Rose}
-use Rattle.fj_outside.specs.Holdings.{Files}
+use Rattle.fj_outside.specs.Holdings.{Holdings}
 use Rattle.fj_deck.specs.Deck.{IsDeck, IsRefused}
 use Rattle.fj_statement.specs.Sound.{IsSound}
 use Rattle.fj_statement.specs.declared.deck.Deck.{Deck as Decked}
@@ -29,7 +29,7 @@ IsUnread status Tells text = ((line : ℕ) × (reason : Reason) × (status ≡ D
 -- Of a source and a sink, whatever the disk is: nothing is done with it.
 pub record IsAsked {R W : Type 0} (tells : R → Type 0) (left : R → List ℕ) (count : R → ℕ) (tells_out : W → Type 0) (taken : W → List ℕ) (count_out : W → ℕ)
     (task : Task) (deck : R) (out : W) (deck' : R) (out' : W) (asked : Asked) : Type 0 where
-  pub told : (files : Files) → IfAnswered asked (λ status. Told task status (tells deck) (tells_out out) (Unit {0}) (left deck) files files (taken out) (taken out')
+  pub told : (held : Holdings) (before now : ℕ) → IfAnswered asked (λ status. Told task status (tells deck) (tells_out out) (Unit {0}) (left deck) held.files held before now (taken out) (taken out')
       (Rose (count deck) (count deck')) (Rose (count_out out) (count_out out')) ⊥)
   pub keeps : IfAnswered asked (λ status. Keeps {D = Unit {0}} task status (tells deck) (left deck) deck deck' out out' tt tt)
   -- a deck is that of the source, and is to be carried out

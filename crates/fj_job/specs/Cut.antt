@@ -1,10 +1,15 @@
 -- What a run that met a fault has told: what executing the deck tells, up to one of its statements.
-use Rattle.std.specs.Prelude.{◌≡◌, ◌⊎◌, ℕ, Bool, List, ◌++◌, Some, IsSome}
+use Rattle.std.specs.Prelude.{◌≡◌, ◌≢◌, ◌⊎◌, ℕ, Bool, false, List, ◌++◌, Some, IsSome}
+use Rattle.std.specs.FinSet as set
+use Rattle.fj_outside.specs.Holdings.{Holdings}
 use Rattle.fj_statement.specs.declared.deck.Variable.{Variable}
 use Rattle.fj_statement.specs.declared.deck.Deck.{Deck}
-use Rattle.fj_plain.specs.State.{State, Files, start}
+use Rattle.fj_plain.specs.State.{State, Files, all_closed, start}
 use Rattle.fj_plain.specs.Telling.{waited, after_tells}
 use Rattle.fj_plain.specs.Statement.{Stated, step, stated, cut}
+use Rattle.fj_cut.specs.Others.{names_in, file_about}
+use Rattle.fj_units.specs.Files.{files_of}
+use Rattle.fj_units.specs.Returning.{IsAsDue}
 use Rattle.fj_report.specs.Lines.{status_text}
 use Rattle.fj_report.specs.declared.status.Status.{Status}
 use Rattle.fj_report.specs.declared.status.Status.TheVariants.{DiskFault, Memory}
@@ -50,6 +55,12 @@ pub record IsFaultReport (deck : Deck) (trace : Bool) (files : Files) (line : �
   pub line_is : comes.statement.0.line ≡ line
   pub output_is : output ≡ fault_report trace line (reached reach deck.variables comes.statement comes.before)
 
+-- Each file that is not hurt, and that the statement is not about, is left as closing all units leaves it there. One that is gone then
+-- may be there, where the disk's own number rose from `before` to `now`.
+abbrev pub AreLeft : (deck : Deck) (files : Files) → ComesTo deck files → Reach → Holdings → ℕ → ℕ → Type 0
+AreLeft deck files comes reach left before now = (name : List ℕ) → set.contains left.hurt name ≡ false → file_about (names_in comes.before.units) comes.statement.0.what ≢ Some name
+    → IsAsDue before now (files_of left name) ((all_closed (reached reach deck.variables comes.statement comes.before)).files name)
+
 -- a sink took a front of the reply to a deck that is carried out
 abbrev pub TookRun : Deck → Bool → Files → List ℕ → List ℕ → Type 0
 TookRun deck trace files old new = (reply : Reply) × IsRunReply deck trace files reply × TakesFront old new reply.output
@@ -64,6 +75,7 @@ IsOfReport _ line = ⊥
 abbrev pub TookReport : Deck → Bool → Files → Status → List ℕ → List ℕ → Type 0
 TookReport deck trace files status old new = (line : ℕ) × IsOfReport status line × (output : List ℕ) × IsFaultReport deck trace files line output × TakesFront old new output
 
--- the fault of a line is reported, and a sink took that, unless it failed
-abbrev pub ToldFault : Deck → Bool → Files → ℕ → Type 0 → List ℕ → List ℕ → Type 0 → Type 0
-ToldFault deck trace files line Tells old new Failed = (output : List ℕ) × IsFaultReport deck trace files line output × (Tells → (new ≡ old ++ output) ⊎ Failed)
+-- The fault of a line is reported, and the files are left as they are there. A sink took the report; or it failed, and took a front of it.
+abbrev pub ToldFault : Deck → Bool → Files → ℕ → Type 0 → List ℕ → List ℕ → Type 0 → Holdings → ℕ → ℕ → Type 0
+ToldFault deck trace files line Tells old new Failed left before now = (output : List ℕ) × (report : IsFaultReport deck trace files line output)
+    × AreLeft deck files report.comes report.reach left before now × (Tells → TakesFront old new output × ((new ≡ old ++ output) ⊎ Failed))

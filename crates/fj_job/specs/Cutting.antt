@@ -1,23 +1,52 @@
 -- What the machine and its sink are where a run was cut, and where a deck ended.
-use Rattle.std.specs.Prelude.{◌≡◌, ◌⊎◌, ℕ, List, ◌++◌, Some, None, slice_get}
+use Rattle.std.specs.Prelude.{◌≡◌, ◌≢◌, ◌⊎◌, ℕ, true, List, ◌++◌, Some, None, slice_get}
+use Rattle.fj_outside.specs.Holdings.{Holdings}
 use Rattle.fj_outside.specs.declared.outside.FileStore.{Ghosts}
 use Rattle.fj_statement.specs.declared.deck.Deck.{Deck}
-use Rattle.fj_plain.specs.State.{Files}
+use Rattle.fj_slot.specs.Ledger.{Ledger}
+use Rattle.fj_slot.specs.Serving.{Meaning}
+use Rattle.fj_world.specs.Rack.{Rack}
+use Rattle.fj_bay.specs.Bay.{Bay}
+use Rattle.fj_bay.specs.Jobs.{Job, Answer}
+use Rattle.fj_plain.specs.State.{Files, all_closed}
 use Rattle.fj_plain.specs.Statement.{plain_execution}
+use Rattle.fj_desk.specs.Core.{Connected}
+use Rattle.fj_desk.specs.Desks.{Desk}
+use Rattle.fj_desk.specs.Desking.{all_left}
+use Rattle.fj_turns.specs.Executing.{HoldsDesks}
+use Rattle.fj_cut.specs.Others.{names_in, file_about, has_file, AreHoused}
 use Rattle.fj_pending.specs.Plain.{tells_of}
+use Rattle.fj_units.specs.Files.{files_of}
+use Rattle.fj_units.specs.Returning.{IsAsDue}
 use Rattle.fj_items.specs.Handing.{whole_records}
 use Rattle.fj_items.specs.declared.lost.Lost.TheVariants.{Disk}
 use Rattle.fj_runner.specs.declared.left.Left.{Left}
 use Rattle.fj_runner.specs.declared.machine.Machine.{Machine}
-use Rattle.fj_job.specs.Cut.{Reach, Carried, reached, MayReach, ComesTo}
+use Rattle.fj_job.specs.Cut.{Reach, Carried, reached, MayReach, ComesTo, AreLeft}
 
--- Output and tells are what the execution tells up to that statement, and the sink took the records that ended.
-pub record IsExact {F : Type 0} {ghosts : Ghosts F} (Tells : Type 0) (old new : List ℕ) (deck : Deck) (files : Files) (comes : ComesTo deck files) (m : Machine F ghosts) : Type 0 where
+-- each slot at which a unit has the file is there, and has not stopped
+abbrev pub IsServed : {E J A : Type 0} → Rack E J A → List Connected → List ℕ → Type 0
+IsServed {E} {J} {A} rack units name = (slot : ℕ) → has_file units slot name ≡ true → (l : Ledger E J A) × (slice_get rack.slots slot ≡ Some l) × (l.halt ≡ None)
+
+-- The slots hold desks, one for each unit. Were all units closed then, each file that is at no slot that has stopped, and that the
+-- statement is not about, would be as closing all units leaves it there. The disk holds `held`, and its own number rose or not.
+pub record HoldsFiles {E J A F : Type 0} {ghosts : Ghosts F} (meaning : Meaning E J A Bay Job Answer) (rack : Rack E J A) (held : Holdings) (before now : ℕ)
+    (deck : Deck) (files : Files) (comes : ComesTo deck files) (reach : Reach) (m : Machine F ghosts) : Type 0 where
+  pub desks : List Desk
+  pub slots : HoldsDesks meaning rack desks
+  pub units : AreHoused desks m.state.core.units
+  pub others : (name : List ℕ) → IsServed rack m.state.core.units name → file_about (names_in comes.before.units) comes.statement.0.what ≢ Some name
+      → IsAsDue before now (all_left desks m.state.core.units (files_of held) name) ((all_closed (reached reach deck.variables comes.statement comes.before)).files name)
+
+-- Output and tells are what the execution tells up to that statement, the sink took the records that ended, and so it is of the files.
+pub record IsExact {E J A F : Type 0} {ghosts : Ghosts F} (meaning : Meaning E J A Bay Job Answer) (rack : Rack E J A) (held : Holdings) (before now : ℕ) (Tells : Type 0) (old new : List ℕ)
+    (deck : Deck) (files : Files) (comes : ComesTo deck files) (m : Machine F ghosts) : Type 0 where
   pub reach : Reach
   pub may : MayReach reach deck.variables comes.statement comes.before
   pub output : m.state.core.output ≡ (reached reach deck.variables comes.statement comes.before).output
   pub tells : tells_of m.state.core.tells ≡ (reached reach deck.variables comes.statement comes.before).tells
   pub taken : Tells → new ≡ old ++ whole_records m.state.core.output
+  pub files_are : HoldsFiles meaning rack held before now deck files comes reach m
 
 -- The sink took a front of the records that the output has before or behind that statement.
 pub record TookFront (old new : List ℕ) (deck : Deck) (files : Files) (comes : ComesTo deck files) : Type 0 where
@@ -38,25 +67,28 @@ abbrev pub TookSome : Deck → Files → List ℕ → List ℕ → Type 0
 TookSome deck files old new = (part rest : List ℕ) × IsOutputSoFar deck files (part ++ rest) × (new ≡ old ++ part)
 
 -- The run was cut at the statement at hand. What was told and written is exact where nothing is lost but by the disk.
-pub record IsCut {F : Type 0} {ghosts : Ghosts F} (Tells : Type 0) (old new : List ℕ) (deck : Deck) (files : Files) (m : Machine F ghosts) : Type 0 where
+pub record IsCut {E J A F : Type 0} {ghosts : Ghosts F} (meaning : Meaning E J A Bay Job Answer) (rack : Rack E J A) (held : Holdings) (before now : ℕ) (Tells : Type 0) (old new : List ℕ)
+    (deck : Deck) (files : Files) (m : Machine F ghosts) : Type 0 where
   pub comes : ComesTo deck files
   pub at : slice_get deck.statements m.at ≡ Some comes.statement.0
-  pub exact : (m.tally.lost ≡ None) ⊎ (m.tally.lost ≡ Some Disk) → IsExact Tells old new deck files comes m
+  pub exact : (m.tally.lost ≡ None) ⊎ (m.tally.lost ≡ Some Disk) → IsExact meaning rack held before now Tells old new deck files comes m
   pub front : Tells → TookFront old new deck files comes
 
--- The deck ended at the statement at hand, and tells what the execution tells up to there.
+-- The deck ended at the statement at hand, and tells and leaves what the execution tells and leaves up to there.
 pub record EndsHere {F : Type 0} {ghosts : Ghosts F} (deck : Deck) (files : Files) (m : Machine F ghosts) : Type 0 where
   pub comes : ComesTo deck files
   pub ends : MayReach Carried deck.variables comes.statement comes.before
   pub at : slice_get deck.statements m.at ≡ Some comes.statement.0
   pub output : (plain_execution deck.variables deck.statements files).output ≡ (reached Carried deck.variables comes.statement comes.before).output
   pub tells : (plain_execution deck.variables deck.statements files).tells ≡ (reached Carried deck.variables comes.statement comes.before).tells
+  pub files_are : (plain_execution deck.variables deck.statements files).files ≡ (all_closed (reached Carried deck.variables comes.statement comes.before)).files
 
--- What is left of a run is what the execution told and wrote up to a statement of the deck, the one at hand.
-pub record IsLeftAt {F : Type 0} (deck : Deck) (files : Files) (left : Left F) : Type 0 where
+-- What is left of a run is what the execution told and wrote up to a statement of the deck, the one at hand; and so it is of the files.
+pub record IsLeftAt {F : Type 0} (deck : Deck) (files : Files) (left : Left F) (held : Holdings) (before now : ℕ) : Type 0 where
   pub comes : ComesTo deck files
   pub reach : Reach
   pub may : MayReach reach deck.variables comes.statement comes.before
   pub at : slice_get deck.statements left.at ≡ Some comes.statement.0
   pub output : left.core.output ≡ (reached reach deck.variables comes.statement comes.before).output
   pub tells : tells_of left.core.tells ≡ (reached reach deck.variables comes.statement comes.before).tells
+  pub files_are : AreLeft deck files comes reach held before now

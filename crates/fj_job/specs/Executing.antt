@@ -18,7 +18,8 @@ use Rattle.fj_items.specs.Handing.{whole_records, open_record, TakesFront}
 use Rattle.fj_pending.specs.Plain.{tells_of}
 use Rattle.fj_items.specs.declared.lost.Lost.TheVariants.{Sink, Disk, Unfit}
 use Rattle.fj_units.specs.Files.{files_of}
-use Rattle.fj_closing.specs.Closing.{AreSeated}
+use Rattle.fj_units.specs.Returning.{IsAsDue}
+use Rattle.fj_closing.specs.Closing.{AreSeated, AreNamed, IfClear}
 use Rattle.fj_report.specs.declared.status.Status.{Status}
 use Rattle.fj_report.specs.declared.status.Status.TheVariants.{DiskFault, Memory}
 use Rattle.fj_runner.specs.Machine.{ending_of}
@@ -31,7 +32,7 @@ use Rattle.fj_job.specs.Concluding.{HasEnded, IsReplied, IsResult, run_text, fau
 use Rattle.fj_job.specs.declared.ending.Carried.{Carried}
 
 -- Files went back to the disk behind a machine and its slots. What is left is the machine's, but for the names.
-pub record IsSettled {D F E J A : Type 0} {ghosts : Ghosts F} (tells : D → Type 0) (held : D → Holdings) (count : D → ℕ) (meaning : Meaning E J A Bay Job Answer)
+pub record IsSettled {D F E J A : Type 0} {ghosts : Ghosts F} (tells : D → Type 0) (held : D → Holdings) (count refusals : D → ℕ) (meaning : Meaning E J A Bay Job Answer)
     (m : Machine F ghosts) (rack : Rack E J A) (disk disk' : D) (it : Carried F) : Type 0 where
   pub deck : it.left.deck ≡ m.deck
   pub core : it.left.core ≡ record (m.state.core) { names = it.left.core.names }
@@ -41,6 +42,11 @@ pub record IsSettled {D F E J A : Type 0} {ghosts : Ghosts F} (tells : D → Typ
   pub nothing : it.settled ≡ Ok tt → m.tally.lost ≡ None
   pub files : tells disk → it.settled ≡ Ok tt → (desks : List Desk) → HoldsDesks meaning rack desks → AreSeated desks m.state.core.units
       → files_of (held disk') ≡ all_left desks m.state.core.units (files_of (held disk))
+  -- where the disk failed it is so of each file that is not hurt, unless one that was to be removed is there; and its slot had not stopped
+  pub due : tells disk → it.settled ≡ Err Disk → (desks : List Desk) → HoldsDesks meaning rack desks → AreSeated desks m.state.core.units → AreNamed desks m.state.core.units
+      → (name : List ℕ) → set.contains (held disk').hurt name ≡ false → IsAsDue (refusals disk) (refusals disk') (files_of (held disk') name) (all_left desks m.state.core.units (files_of (held disk)) name)
+  pub running : tells disk → it.settled ≡ Err Disk → IfClear (held disk') m.state.core.units rack.slots (λ l. l.halt ≡ None)
+  pub own : tells disk → refusals disk ≤ refusals disk'
   pub sink : it.settled ≡ Err Sink → m.tally.lost ≡ Some Sink
   pub of_disk : it.settled ≡ Err Disk → (m.tally.lost ≡ Some Disk) ⊎ Rose (count disk) (count disk')
   pub alone : it.settled ≡ Err Disk → (m.tally.lost ≡ None) ⊎ (m.tally.lost ≡ Some Disk)
@@ -49,13 +55,13 @@ pub record IsSettled {D F E J A : Type 0} {ghosts : Ghosts F} (tells : D → Typ
   pub later : count disk ≤ count disk'
 
 -- A deck was carried out, or there was no memory to begin it.
-pub record IsCarriedOut {W D F E : Type 0} (tells_out : W → Type 0) (taken : W → List ℕ) (count_out : W → ℕ) (tells : D → Type 0) (held : D → Holdings) (count : D → ℕ)
+pub record IsCarriedOut {W D F E : Type 0} (tells_out : W → Type 0) (taken : W → List ℕ) (count_out : W → ℕ) (tells : D → Type 0) (held : D → Holdings) (count refusals : D → ℕ)
     (deck : Deck) (out : W) (disk : D) (out' : W) (disk' : D) (result : Result (Carried F) E) : Type 0 where
   pub deck_is : IfOk result (λ it. it.left.deck ≡ deck)
   pub taken_is : tells_out out → IfOk result (λ it. (it.settled ≡ Ok tt) ⊎ (it.settled ≡ Err Disk) → taken out' ≡ taken out ++ whole_records it.left.core.output)
   pub result_is : tells disk → IfOk result (λ it. it.settled ≡ Ok tt → it.left.over ≡ false
       → IsResult (plain_execution deck.variables deck.statements (files_of (held disk))) (files_of (held disk')) it.left)
-  pub at_fault : tells disk → IfOk result (λ it. it.settled ≡ Err Disk → IsLeftAt deck (files_of (held disk)) it.left)
+  pub at_fault : tells disk → IfOk result (λ it. it.settled ≡ Err Disk → IsLeftAt deck (files_of (held disk)) it.left (held disk') (refusals disk) (refusals disk'))
   pub part : tells disk → tells_out out → IfOk result (λ it. TookSome deck (files_of (held disk)) (taken out) (taken out'))
   pub sink : IfOk result (λ it. it.settled ≡ Err Sink → Rose (count_out out) (count_out out'))
   pub of_disk : IfOk result (λ it. it.settled ≡ Err Disk → Rose (count disk) (count disk'))
@@ -70,6 +76,7 @@ pub record IsCarriedOut {W D F E : Type 0} (tells_out : W → Type 0) (taken : W
 pub record IsFaultTold {F : Type 0} (trace : Bool) (it : Carried F) (line : ℕ) (Tells : Type 0) (old new : List ℕ) (Failed : Type 0) : Type 0 where
   pub settled : it.settled ≡ Err Disk
   pub line_is : (lined : Lined) → slice_get it.left.deck.statements it.left.at ≡ Some lined → line ≡ lined.line
+  pub front : Tells → TakesFront old new (fault_text trace line it.left.core.output (tells_of it.left.core.tells))
   pub taken : Tells → (new ≡ old ++ fault_text trace line it.left.core.output (tells_of it.left.core.tells)) ⊎ Failed
 
 -- the sink took a front of the report of a fault
@@ -108,10 +115,11 @@ pub record IsConcluded {W F E : Type 0} (tells_out : W → Type 0) (taken : W �
   pub later_out : count_out out ≤ count_out out'
 
 -- A deck was carried out and reported.
-pub record IsExecuted {W D : Type 0} (tells_out : W → Type 0) (taken : W → List ℕ) (count_out : W → ℕ) (tells : D → Type 0) (held : D → Holdings) (count : D → ℕ)
+pub record IsExecuted {W D : Type 0} (tells_out : W → Type 0) (taken : W → List ℕ) (count_out : W → ℕ) (tells : D → Type 0) (held : D → Holdings) (count refusals : D → ℕ)
     (deck : Deck) (trace : Bool) (out : W) (disk : D) (out' : W) (disk' : D) (status : Status) : Type 0 where
   pub replied : IsAnswer status → tells disk → IsReplied deck trace (held disk).files status (held disk').files (λ output. tells_out out → taken out' ≡ taken out ++ output)
-  pub fault : tells disk → IfFault status (λ line. ToldFault deck trace (files_of (held disk)) line (tells_out out) (taken out) (taken out') (Rose (count_out out) (count_out out')))
+  pub fault : tells disk → IfFault status (λ line. ToldFault deck trace (files_of (held disk)) line (tells_out out) (taken out) (taken out') (Rose (count_out out) (count_out out'))
+      (held disk') (refusals disk) (refusals disk'))
   pub front : tells disk → tells_out out → TookRun deck trace (files_of (held disk)) (taken out) (taken out')
       ⊎ (Rose (count disk) (count disk') × TookReport deck trace (files_of (held disk)) status (taken out) (taken out'))
   pub of_run : IsOfRun status

@@ -38,11 +38,11 @@ pub fn carry<W: Sink, D: Disk>(
     ensures names { D.tells disk.old → AreInUse machine.new.state.core.names (D.held disk.new).in_use }
     ensures home { AllHome slots.new }
     ensures same { length slots.new.slots ≡ length slots.old.slots }
-    ensures leaves { Leaves W.tells W.taken W.count D.tells D.count out.old disk.old machine.old out.new disk.new machine.new }
+    ensures leaves { Leaves W.tells W.taken W.count D.tells D.count D.refusals out.old disk.old machine.old out.new disk.new machine.new }
     ensures ran { D.tells disk.old → machine.new.tally.over ≡ false → HasRun (bay_meaning D.File.told D.File.bytes D.File.count) D.File.told D.File.bytes
         machine.old.deck (files_of (D.held disk.old)) (files_of (D.held disk.new)) machine.new slots.new }
     ensures cut { D.tells disk.old → IsSound machine.old.deck → machine.new.tally.over ≡ true
-        → IsCut (W.tells out.old) (W.taken out.old) (W.taken out.new) machine.old.deck (files_of (D.held disk.old)) machine.new }
+        → IsCut (bay_meaning D.File.told D.File.bytes D.File.count) slots.new (D.held disk.new) (D.refusals disk.old) (D.refusals disk.new) (W.tells out.old) (W.taken out.old) (W.taken out.new) machine.old.deck (files_of (D.held disk.old)) machine.new }
     ensures ended { D.tells disk.old → machine.new.tally.over ≡ false → (ending : Ending) → machine.new.state.ending ≡ Some ending
         → EndsHere machine.old.deck (files_of (D.held disk.old)) machine.new }
 {
@@ -73,11 +73,11 @@ where
     ensures names { D.tells disk.old → AreInUse machine.new.state.core.names (D.held disk.new).in_use }
     ensures home { AllHome slots.new }
     ensures same { length slots.new.slots ≡ length slots.old.slots }
-    ensures leaves { Leaves W.tells W.taken W.count D.tells D.count out.old disk.old machine.old out.new disk.new machine.new }
+    ensures leaves { Leaves W.tells W.taken W.count D.tells D.count D.refusals out.old disk.old machine.old out.new disk.new machine.new }
     ensures ran { D.tells disk.old → machine.new.tally.over ≡ false → HasRun (bay_meaning D.File.told D.File.bytes D.File.count) D.File.told D.File.bytes
         machine.old.deck (files_of (D.held disk.old)) (files_of (D.held disk.new)) machine.new slots.new }
     ensures cut { D.tells disk.old → IsSound machine.old.deck → machine.new.tally.over ≡ true
-        → IsCut (W.tells out.old) (W.taken out.old) (W.taken out.new) machine.old.deck (files_of (D.held disk.old)) machine.new }
+        → IsCut (bay_meaning D.File.told D.File.bytes D.File.count) slots.new (D.held disk.new) (D.refusals disk.old) (D.refusals disk.new) (W.tells out.old) (W.taken out.old) (W.taken out.new) machine.old.deck (files_of (D.held disk.old)) machine.new }
     ensures ended { D.tells disk.old → machine.new.tally.over ≡ false → (ending : Ending) → machine.new.state.ending ≡ Some ending
         → EndsHere machine.old.deck (files_of (D.held disk.old)) machine.new }
 {

@@ -1,5 +1,5 @@
 // A deck is carried out on slots, its files go back to the disk, and it is reported.
-ghost use Rattle.std.specs.Prelude.{◌≡◌, ◌≢◌, ◌⊎◌, ◌≤◌, ◌++◌, ◌↔◌, ℕ, [], Some, None, Ok, Err, IfNone, IfOk, IfSome, OnOk, false, length, slice_get, vec_capacity, List};
+ghost use Rattle.std.specs.Prelude.{◌≡◌, ◌⊎◌, ◌≤◌, ◌++◌, ◌↔◌, ℕ, [], Some, None, Ok, Err, IfNone, IfOk, IfErr, IfSome, OnOk, true, false, length, slice_get, vec_capacity, List};
 ghost use Rattle.std.specs.FinSet as set;
 ghost use Rattle.fj_outside.specs.Faults.{Rose};
 ghost use Rattle.fj_statement.specs.Sound.{IsSound};
@@ -13,7 +13,9 @@ ghost use Rattle.fj_pending.specs.Plain.{tells_of};
 ghost use Rattle.fj_units.specs.Names.{AreInUse};
 ghost use Rattle.fj_units.specs.Files.{files_of};
 ghost use Rattle.fj_runner.specs.Machine.{ending_of};
-ghost use Rattle.fj_closing.specs.Closing.{AreSeated};
+ghost use Rattle.fj_units.specs.Returning.{IsAsDue};
+ghost use Rattle.fj_closing.specs.Losing.{may_tell};
+ghost use Rattle.fj_closing.specs.Closing.{AreSeated, AreNamed, IfClear};
 ghost use Rattle.fj_job.specs.Answers.{IsAnswer, IsLost, IsOfRun, HasCause};
 ghost use Rattle.fj_job.specs.Reply.{status_of};
 ghost use Rattle.fj_job.specs.Concluding.{HasEnded, run_text, fault_text};
@@ -39,16 +41,21 @@ use std::alloc::{AllocError, Global};
 use std::sync::Wait;
 use std::thread::Threads;
 
-/// Want of memory, else what was lost first.
+/// Want of memory, else what does not fit, else what was lost first.
 fn first_lost(lost: Option<Lost>, closed: Result<(), Lost>) -> Option<Lost>
     ensures none { IfNone result ((lost ≡ None) × (closed ≡ Ok tt)) }
     ensures sink { result ≡ Some Lost.Sink → (lost ≡ Some Lost.Sink) ⊎ (closed ≡ Err Lost.Sink) }
     ensures disk { result ≡ Some Lost.Disk → (lost ≡ Some Lost.Disk) ⊎ (closed ≡ Err Lost.Disk) }
     ensures alone { result ≡ Some Lost.Disk → (lost ≡ None) ⊎ (lost ≡ Some Lost.Disk) }
+    ensures fits { result ≡ Some Lost.Disk → may_tell closed ≡ true }
 {
     match closed {
         Ok(()) => lost,
         Err(Lost::Memory(error)) => Some(Lost::Memory(error)),
+        Err(Lost::Unfit) => match lost {
+            Some(Lost::Memory(error)) => Some(Lost::Memory(error)),
+            _ => Some(Lost::Unfit),
+        },
         Err(other) => match lost {
             Some(first) => Some(first),
             None => Some(other),
@@ -135,7 +142,7 @@ fn line_of<F: FileStore>(left: &Left<F>) -> u32
     line_at(left.deck.statements.as_slice(), left.at)
 }
 
-/// Gives a connection back whose job was refused. A run that has one was given up.
+/// Gives a connection back whose job was refused. A run that has one was given up, and what it leaves is not known.
 fn give_kept<D: Disk>(
     kept: Option<Connection<D::File>>,
     names: &mut Names,
@@ -144,8 +151,8 @@ fn give_kept<D: Disk>(
     requires names { D.tells disk.old → AreInUse names.old (D.held disk.old).in_use }
     ensures names { D.tells disk.old → AreInUse names.new (D.held disk.new).in_use }
     ensures none { OnOk result (disk.new ≡ disk.old) }
-    ensures sink { result ≢ Err Lost.Sink }
-    ensures disk { result ≡ Err Lost.Disk → Rose (D.count disk.old) (D.count disk.new) }
+    ensures unfit { IfErr result (λ lost. lost ≡ Lost.Unfit) }
+    ensures own { D.tells disk.old → D.refusals disk.old ≤ D.refusals disk.new }
     ensures telling { D.tells disk.old ↔ D.tells disk.new }
     ensures later { D.count disk.old ≤ D.count disk.new }
 {
@@ -156,10 +163,8 @@ fn give_kept<D: Disk>(
         return Err(Lost::Unfit);
     }
     names.remove(connection.name());
-    match connection.close_file(disk, true) {
-        Ok(()) => Err(Lost::Unfit),
-        Err(_) => Err(Lost::Disk),
-    }
+    let _given = connection.close_file(disk, true);
+    Err(Lost::Unfit)
 }
 
 /// Gives the files of a run back, and answers what was lost first. Where a name would stay in use the run does not fit: it is
@@ -178,6 +183,11 @@ fn give_back<D: Disk>(
     ensures nothing { OnOk result (left.old.lost ≡ None) }
     ensures files { D.tells disk.old → OnOk result ((desks : List Desk) → HoldsDesks (bay_meaning D.File.told D.File.bytes D.File.count) slots desks
         → AreSeated desks left.old.core.units → files_of (D.held disk.new) ≡ all_left desks left.old.core.units (files_of (D.held disk.old))) }
+    ensures due { D.tells disk.old → result ≡ Err Lost.Disk → (desks : List Desk) → HoldsDesks (bay_meaning D.File.told D.File.bytes D.File.count) slots desks
+        → AreSeated desks left.old.core.units → AreNamed desks left.old.core.units → (name : List ℕ) → set.contains (D.held disk.new).hurt name ≡ false
+        → IsAsDue (D.refusals disk.old) (D.refusals disk.new) (files_of (D.held disk.new) name) (all_left desks left.old.core.units (files_of (D.held disk.old)) name) }
+    ensures running { D.tells disk.old → result ≡ Err Lost.Disk → IfClear (D.held disk.new) left.old.core.units slots.slots (λ l. l.halt ≡ None) }
+    ensures own { D.tells disk.old → D.refusals disk.old ≤ D.refusals disk.new }
     ensures sink { result ≡ Err Lost.Sink → left.old.lost ≡ Some Lost.Sink }
     ensures disk { result ≡ Err Lost.Disk → (left.old.lost ≡ Some Lost.Disk) ⊎ Rose (D.count disk.old) (D.count disk.new) }
     ensures alone { result ≡ Err Lost.Disk → (left.old.lost ≡ None) ⊎ (left.old.lost ≡ Some Lost.Disk) }
@@ -217,7 +227,7 @@ fn settle<D: Disk>(
     requires empty { room.items ≡ [] }
     requires room { length slots.slots ≤ vec_capacity room }
     requires names { D.tells disk.old → AreInUse machine.state.core.names (D.held disk.old).in_use }
-    ensures settled { IsSettled D.tells D.held D.count (bay_meaning D.File.told D.File.bytes D.File.count) machine slots disk.old disk.new result }
+    ensures settled { IsSettled D.tells D.held D.count D.refusals (bay_meaning D.File.told D.File.bytes D.File.count) machine slots disk.old disk.new result }
 {
     let mut left = machine.into_left();
     let settled = give_back(&mut left, slots, room, disk);
@@ -233,7 +243,7 @@ pub fn carry_out<W: Sink, D: Disk>(
 ) -> Result<Carried<D::File>, AllocError>
     requires sound { IsSound deck }
     requires free { D.tells disk.old → (D.held disk.old).in_use ≡ set.empty }
-    ensures carried { IsCarriedOut W.tells W.taken W.count D.tells D.held D.count deck out.old disk.old out.new disk.new result }
+    ensures carried { IsCarriedOut W.tells W.taken W.count D.tells D.held D.count D.refusals deck out.old disk.old out.new disk.new result }
 {
     let Ready {
         machine,
@@ -258,7 +268,7 @@ where
     D::File: Send,
     requires sound { IsSound deck }
     requires free { D.tells disk.old → (D.held disk.old).in_use ≡ set.empty }
-    ensures carried { IsCarriedOut W.tells W.taken W.count D.tells D.held D.count deck out.old disk.old out.new disk.new result }
+    ensures carried { IsCarriedOut W.tells W.taken W.count D.tells D.held D.count D.refusals deck out.old disk.old out.new disk.new result }
 {
     let Ready {
         machine,
@@ -330,7 +340,7 @@ pub fn execute<W: Sink, D: Disk>(
 ) -> Status
     requires sound { IsSound deck }
     requires free { D.tells disk.old → (D.held disk.old).in_use ≡ set.empty }
-    ensures executed { IsExecuted W.tells W.taken W.count D.tells D.held D.count deck trace out.old disk.old out.new disk.new result }
+    ensures executed { IsExecuted W.tells W.taken W.count D.tells D.held D.count D.refusals deck trace out.old disk.old out.new disk.new result }
 {
     let carried = carry_out(alloc, deck, out, disk);
     conclude(alloc, trace, carried, out)
@@ -350,7 +360,7 @@ where
     D::File: Send,
     requires sound { IsSound deck }
     requires free { D.tells disk.old → (D.held disk.old).in_use ≡ set.empty }
-    ensures executed { IsExecuted W.tells W.taken W.count D.tells D.held D.count deck trace out.old disk.old out.new disk.new result }
+    ensures executed { IsExecuted W.tells W.taken W.count D.tells D.held D.count D.refusals deck trace out.old disk.old out.new disk.new result }
 {
     let workers = workers_for(deck.statements.as_slice(), workers);
     let carried = carry_out_with(rt, alloc, workers, deck, out, disk);

@@ -24,7 +24,7 @@ pub fn alone_job<R: Source, W: Sink, D: Disk>(
 ) -> Status
     requires { D.tells disk.old → (D.held disk.old).in_use ≡ set.empty }
     ensures told { Told (asked_alone words.now) result (R.tells deck.old) (W.tells out.old) (D.tells disk.old) (R.left deck.old)
-        (D.held disk.old).files (D.held disk.new).files (W.taken out.old) (W.taken out.new)
+        (D.held disk.old).files (D.held disk.new) (D.refusals disk.old) (D.refusals disk.new) (W.taken out.old) (W.taken out.new)
         (Rose (R.count deck.old) (R.count deck.new)) (Rose (W.count out.old) (W.count out.new)) (Rose (D.count disk.old) (D.count disk.new)) }
     ensures keeps { Keeps (asked_alone words.now) result (R.tells deck.old) (R.left deck.old) deck.old deck.new out.old out.new disk.old disk.new }
     ensures in_use { D.tells disk.old → (result ≡ Status.Memory) ⊎ ((D.held disk.new).in_use ≡ set.empty) }
@@ -59,7 +59,7 @@ where
     D::File: Send,
     requires { D.tells disk.old → (D.held disk.old).in_use ≡ set.empty }
     ensures told { Told (asked words.now) result (R.tells deck.old) (W.tells out.old) (D.tells disk.old) (R.left deck.old)
-        (D.held disk.old).files (D.held disk.new).files (W.taken out.old) (W.taken out.new)
+        (D.held disk.old).files (D.held disk.new) (D.refusals disk.old) (D.refusals disk.new) (W.taken out.old) (W.taken out.new)
         (Rose (R.count deck.old) (R.count deck.new)) (Rose (W.count out.old) (W.count out.new)) (Rose (D.count disk.old) (D.count disk.new)) }
     ensures keeps { Keeps (asked words.now) result (R.tells deck.old) (R.left deck.old) deck.old deck.new out.old out.new disk.old disk.new }
     ensures in_use { D.tells disk.old → (result ≡ Status.Memory) ⊎ ((D.held disk.new).in_use ≡ set.empty) }

@@ -629,8 +629,10 @@ fn transfers_of_two_units_overlap(rt: HostRuntime) -> Result<(), Fail> {
         assert_eq!(rt; disk.bytes_of("J"), Some(SEVEN));
     }
     // One thread performs the first where the deck waits for it, before the other was begun.
-    let (answer, _) = gated(&rt, alloc, "alone", "H", "J", 3)?;
+    let (answer, disk) = gated(&rt, alloc, "alone", "H", "J", 3)?;
     assert!(rt; answer == Status::DiskFault { stmt: 7 });
+    // The other file is as closing both units before that statement leaves it.
+    assert_eq!(rt; disk.bytes_of("J"), Some(SEVEN));
     Ok(())
 }
 

@@ -7,6 +7,9 @@ ghost use Rattle.fj_namelist.specs.GroupText.{IsWithin};
 ghost use Rattle.fj_outside.specs.Holdings.{IsInUse};
 ghost use Rattle.fj_transfer.specs.Moving.{HasValues, members_of};
 
+mod faults;
+mod sizes;
+
 use crate::perform;
 use fj_connect::{Connection, OpenFault, open_file};
 use fj_format::parse;
@@ -185,23 +188,35 @@ fn perform_again<F: FileStore>(
     perform_again(alloc, c, more - 1, job)
 }
 
-/// Carries out a statement once, and so many times more, and answers the condition and the position of the last.
+/// What the last of some statements answers, and the position then; in direct access the next record's number.
+type Came = (Result<Condition, Stop>, u64);
+
+/// Carries out a statement at a place of the file once, and so many times more.
 fn carried_out<D: Disk>(
     alloc: Global,
     disk: &mut D,
     spec: &OpenSpec,
+    place: u64,
     more: u32,
     job: &mut Transfer,
-) -> Result<(Condition, u64), OpenFault>
+) -> Result<Came, OpenFault>
     requires { D.tells disk.old → (D.held disk.old).in_use ≡ set.empty }
 {
     let mut c = connect(alloc, disk, spec)?;
-    let condition = perform_again(alloc, &mut c, more, job);
+    if place <= c.file_len() {
+        c.go_between(place);
+    }
+    let answer = perform_again(alloc, &mut c, more, job);
     let spot = c.spot();
+    let stands = if c.modes().access == Access::Direct {
+        spot.next_number
+    } else {
+        spot.at
+    };
     if c.close_file(disk, true).is_err() {
         return Err(OpenFault::Stop(Stop::Failed));
     }
-    Ok((condition?, spot.at))
+    Ok((answer, stands))
 }
 
 /// Whether the item has a text; none stands for no value.
@@ -225,7 +240,7 @@ use Verb::{BareInput, Input, OpenInput, OpenOutput, Output};
 const A: Form = Format(b"(A)");
 
 /// Access, FORM='FORMATTED', ACTION=, the file and the statement with how often it is carried out once more; and the condition, what
-/// SIZE= gets, the file, the position and the item then.
+/// SIZE= gets, the file, the position (in direct access the next record's number) and the item then.
 type Row = (
     (Access, bool, Action, &'static [u8]),
     (Said, u32),
@@ -233,7 +248,7 @@ type Row = (
     (&'static [u8], u64, Option<&'static [u8]>),
 );
 
-static ROWS: [Row; 30] = [
+static ROWS: [Row; 42] = [
     // Each layout by access and direction.
     (
         (Sequential, true, ReadWrite, b"old\n"),
@@ -293,19 +308,38 @@ static ROWS: [Row; 30] = [
         (Direct, true, ReadWrite, b"AAAAAA"),
         ((Output, A, Some(2), b"xy"), 0),
         (Fine, None),
-        (b"AAAAAAxy    ", 0, Some(b"xy")),
+        (b"AAAAAAxy    ", 3, Some(b"xy")),
     ),
     (
         (Direct, true, ReadWrite, b"AAAAAABBBBBB"),
         ((Input, A, Some(2), b"__"), 0),
         (Fine, Some(2)),
-        (b"AAAAAABBBBBB", 0, Some(b"BB")),
+        (b"AAAAAABBBBBB", 3, Some(b"BB")),
     ),
     (
         (Direct, false, ReadWrite, b"AAAAAABBBBBB"),
         ((Input, Stored, Some(2), b"__"), 0),
         (Fine, None),
-        (b"AAAAAABBBBBB", 0, Some(b"BB")),
+        (b"AAAAAABBBBBB", 3, Some(b"BB")),
+    ),
+    // A slash goes to the record of the next number, which an input has to find.
+    (
+        (Direct, true, ReadWrite, b"AAAAAABBBBBBCCCCCC"),
+        ((Output, Format(b"(/A)"), Some(1), b"xy"), 0),
+        (Fine, None),
+        (b"      xy    CCCCCC", 3, Some(b"xy")),
+    ),
+    (
+        (Direct, true, ReadWrite, b"AAAAAABBBBBB"),
+        ((Input, Format(b"(/A)"), Some(1), b"__"), 0),
+        (Fine, Some(2)),
+        (b"AAAAAABBBBBB", 3, Some(b"BB")),
+    ),
+    (
+        (Direct, true, ReadWrite, b"AAAAAABBBBBB"),
+        ((Input, Format(b"(A/)"), Some(2), b"__"), 0),
+        (Error(17), None),
+        (b"AAAAAABBBBBB", 1, None),
     ),
     // POS= before, at and behind the end.
     (
@@ -343,6 +377,18 @@ static ROWS: [Row; 30] = [
         ((Input, Stored, Some(3), b"_"), 0),
         (Fine, None),
         (b"abc", 3, Some(b"c")),
+    ),
+    (
+        (Stream, false, ReadWrite, b"abc"),
+        ((Input, Stored, Some(4), b"_"), 0),
+        (EndOfFile, None),
+        (b"abc", 0, None),
+    ),
+    (
+        (Stream, false, ReadWrite, b"abc"),
+        ((Input, Stored, Some(5), b"_"), 0),
+        (Error(21), None),
+        (b"abc", 0, None),
     ),
     // SIZE= does not count what was padded, nor does it get anything at an error.
     (
@@ -401,12 +447,12 @@ static ROWS: [Row; 30] = [
         (Error(16), None),
         (b"a\n", 0, None),
     ),
-    // No such record, one that is too long, and one behind the limit of the file.
+    // A record of as many bytes as it may have, and of one more.
     (
-        (Direct, true, ReadWrite, b"AAAAAA"),
-        ((Input, A, Some(2), b"__"), 0),
-        (Error(17), None),
-        (b"AAAAAA", 0, None),
+        (Sequential, true, ReadWrite, b""),
+        ((Output, A, None, b"123456"), 0),
+        (Fine, None),
+        (b"123456\n", 7, Some(b"123456")),
     ),
     (
         (Sequential, true, ReadWrite, b"a\n"),
@@ -415,30 +461,76 @@ static ROWS: [Row; 30] = [
         (b"a\n", 0, Some(b"1234567")),
     ),
     (
+        (Sequential, true, ReadWrite, b"123456\n"),
+        ((Input, A, None, b"_"), 0),
+        (Fine, Some(1)),
+        (b"123456\n", 7, Some(b"1")),
+    ),
+    (
+        (Sequential, true, ReadWrite, b"1234567\n"),
+        ((Input, A, None, b"_"), 0),
+        (Error(15), None),
+        (b"1234567\n", 0, None),
+    ),
+    (
+        (Sequential, false, ReadWrite, b""),
+        ((Output, Stored, None, b"123456"), 0),
+        (Fine, None),
+        (b"\x06\0\0\0123456\x06\0\0\0", 14, Some(b"123456")),
+    ),
+    (
+        (Sequential, false, ReadWrite, b"abc"),
+        ((Output, Stored, None, b"1234567"), 0),
+        (Error(15), None),
+        (b"abc", 0, Some(b"1234567")),
+    ),
+    (
+        (Direct, false, ReadWrite, b""),
+        ((Output, Stored, Some(1), b"123456"), 0),
+        (Fine, None),
+        (b"123456", 2, Some(b"123456")),
+    ),
+    (
+        (Direct, false, ReadWrite, b"AAAAAA"),
+        ((Output, Stored, Some(1), b"1234567"), 0),
+        (Error(15), None),
+        (b"AAAAAA", 1, Some(b"1234567")),
+    ),
+    // No such record, and one behind the limit of the file.
+    (
+        (Direct, true, ReadWrite, b"AAAAAA"),
+        ((Input, A, Some(2), b"__"), 0),
+        (Error(17), None),
+        (b"AAAAAA", 1, None),
+    ),
+    (
         (Direct, false, ReadWrite, b"AAAAAA"),
         ((Output, Stored, Some(44_739_243), b"x"), 0),
         (Error(25), None),
-        (b"AAAAAA", 0, Some(b"x")),
+        (b"AAAAAA", 1, Some(b"x")),
     ),
 ];
 
+/// Whether a statement comes to what its row says.
+fn holds(alloc: Global, row: &Row) -> Result<bool, Fail> {
+    let ((access, formatted, action, before), (said, more), (condition, count), (after, at, item)) =
+        *row;
+    let mut disk = disk_of(alloc, before)?;
+    let mut job = transfer(alloc, said, access)?;
+    let spec = statement(access, formatted, action);
+    let came = carried_out(alloc, &mut disk, &spec, 0, more, &mut job)?;
+    Ok(
+        came == (Ok(condition), at)
+            && job.count == count
+            && is_text(&job.moved, item)
+            && disk.bytes_of(NAME) == Some(after),
+    )
+}
+
 #[test]
 fn statements(rt: HostRuntime) -> Result<(), Fail> {
-    let alloc = rt.alloc();
-    for (
-        (access, formatted, action, before),
-        (said, more),
-        (condition, count),
-        (after, at, item),
-    ) in ROWS {
-        let mut disk = disk_of(alloc, before)?;
-        let mut job = transfer(alloc, said, access)?;
-        let spec = statement(access, formatted, action);
-        let came = carried_out(alloc, &mut disk, &spec, more, &mut job)?;
-        assert_eq!(rt; came, (condition, at));
-        assert_eq!(rt; job.count, count);
-        assert!(rt; is_text(&job.moved, item));
-        assert_eq!(rt; disk.bytes_of(NAME), Some(after));
+    for (number, row) in ROWS.iter().enumerate() {
+        assert!(rt; holds(rt.alloc(), row)?, "row {number}");
     }
     Ok(())
 }

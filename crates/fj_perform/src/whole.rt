@@ -100,7 +100,7 @@ fn perform_fit<F: FileStore>(
 
 /// Carries out a READ or WRITE. The condition, the values, what SIZE= gets and the connection are those of the transfer. After
 /// a `Stop` nothing is said of the values, of what SIZE= gets and of the position, and the file's bytes are as before up to the
-/// first that was to change. Want of memory comes before any byte is written, but where the file itself wants it.
+/// first that was to change.
 pub fn perform<F: FileStore>(
     alloc: Global,
     connection: &mut Connection<F>,

@@ -23,7 +23,7 @@ use Rattle.fj_slot.specs.declared.told.Told.TheVariants.{Done, Stopped}
 use Rattle.fj_queue.specs.declared.view.View.{View}
 use Rattle.fj_queue.specs.Rule.{Ruled, first_view}
 use Rattle.fj_queue.specs.declared.view.Start.{Start}
-use Rattle.fj_queue.specs.Steps.{Mine, put_cell}
+use Rattle.fj_queue.specs.Steps.{Mine, put_cell, Carries, carrying}
 use Rattle.fj_queue.proofs.Moves.{puts_cell}
 use Rattle.fj_queue.proofs.Counts.{code_some, stops_one}
 use Rattle.fj_queue.specs.Tokens.{Begins, IsLast}
@@ -70,17 +70,29 @@ module _ {E J A T : Type 0} where
   pub at_progress : (x y : Mine E J A T) → x ≡ y → x.0.progress ≡ y.0.progress
   at_progress x y e = ap (λ (m : Mine E J A T). m.0.progress) e
 
-  -- a slot that was taken can be exchanged
+  -- a slot that was taken may be looked at
   pub carries : (x : Mine E J A T) (v : View E T) (cs : List (ℕ × Option (Ledger E J A))) (o : Option (Ledger E J A)) → x ≡ (v, (0, o) ∷ cs) → (p : Option (Ledger E J A)) × (x.1 ≡ (0, p) ∷ rest x.1)
   carries x v cs o e = let is : x.1 ≡ (0, o) ∷ cs = ap (λ (m : Mine E J A T). m.1) e in (o, is ∙ ap (λ ds. (0, o) ∷ rest ds) (sym is))
 
+  -- a slot in hand may be written
+  pub lends : (x : Mine E J A T) (c : Ledger E J A) → Carries x c → (p : Option (Ledger E J A)) × (x.1 ≡ (0, p) ∷ rest x.1)
+  lends x c is = (Some c, is ∙ ap (λ ds. (0, Some c) ∷ rest ds) (sym is))
+
+  pub at_list : (x : Mine E J A T) (v : View E T) (cs : List (ℕ × Option (Ledger E J A))) → x ≡ (v, cs) → x.1 ≡ cs
+  at_list x v cs e = ap (λ (m : Mine E J A T). m.1) e
+
+  -- the same cell is in hand with a view that is the same
+  pub reviewed : (x : Mine E J A T) (v w : View E T) (c : Ledger E J A) → x ≡ carrying v c → v ≡ w → x ≡ carrying w c
+  reviewed x v w c e f = e ∙ ap (λ (u : View E T). carrying u c) f
+
+  -- the same view has the same cell in hand
+  pub recarried : (x : Mine E J A T) (v : View E T) (c d : Ledger E J A) → x ≡ carrying v c → c ≡ d → x ≡ carrying v d
+  recarried x v c d e f = e ∙ ap (carrying v) f
+
 module _ {E J A S T R : Type 0} (mean : Meaning E J A S T R) (key : Option (Agenda E T)) where
   -- the seat that had the cell in hand gives it back
-  pub puts_back : (slots id : ℕ) (x y : Mine E J A T) (c : Ledger E J A) → IsInside mean x c → y ≡ (x.0, (0, Some c) ∷ rest x.1)
-      → Allows (Ruled mean key) slots id y 1 (λ n. n) (put_cell (step slots 1 0 0 none) y)
-  puts_back slots id x y c i is = let view = at_view y (x.0, (0, Some c) ∷ rest x.1) is in
-      puts_cell mean key slots id y c (at_holds _ _ is ∙ i.holds) (ap (λ (m : Mine E J A T). m.1) is ∙ ap (λ cs. (0, Some c) ∷ rest cs) i.carried) i.sized (subst (λ (v : View E T). IsFor mean v.plan c) (sym view) i.sound)
-      (ap (λ (v : View E T). v.submissions) view ∙ i.submissions) (ap (λ (v : View E T). v.progress) view ∙ i.progress_is) (ap (λ (v : View E T). v.tells) view ∙ i.tells) (ap (λ (v : View E T). v.stop) view ∙ i.stop)
+  pub puts_back : (slots id : ℕ) (x : Mine E J A T) (c : Ledger E J A) → IsInside mean x c → Allows (Ruled mean key) slots id x 1 (λ n. n) (put_cell (step slots 1 0 0 none) x)
+  puts_back slots id x c i = puts_cell mean key slots id x c i.holds i.carried i.sized i.sound i.submissions i.progress_is i.tells i.stop
 
 stop_none : (o : Option Halt) → stop_code o ≡ 0 → o ≡ None
 stop_none None e = refl
@@ -100,7 +112,7 @@ module _ {E J A : Type 0} where
 
 module _ {E J A S T R : Type 0} (mean : Meaning E J A S T R) where
   -- the cell that was taken out while its job runs
-  pub runs_on : (v : View E T) (m : Mine E J A T) (c : Ledger E J A) (k : ℕ) → m ≡ (entered v c, (0, None) ∷ []) → v.sends || v.works ≡ true → v.runs ≡ Some k → IsSized c → IsFor mean v.plan c
+  pub runs_on : (v : View E T) (m : Mine E J A T) (c : Ledger E J A) (k : ℕ) → m ≡ carrying (entered v c) c → v.sends || v.works ≡ true → v.runs ≡ Some k → IsSized c → IsFor mean v.plan c
       → (progress c ≡ 2 * k + 1) × (stop_code c.halt ≡ 0) → IsRunning mean m c × (c.done ≡ k)
   runs_on v m c k is live runs sized sound odd = let o = job_out c k odd.0 odd.1 in (
     subst (λ z. IsRunning mean z c) (sym is) record {
@@ -145,10 +157,10 @@ module _ {E J A S T R : Type 0} (mean : Meaning E J A S T R) where
   performed m c new e e' j j' got r d serves cause start jobs ok err = sound_end mean m.0.plan c new e e' j j' got r.sound r.sized r.is_out d serves cause start jobs ok err
 
   -- the cell with the answer may be put back
-  pub finishes : (m n : Mine E J A T) (c d : Ledger E J A) (e : E) (j : J) (a : A) → IsRunning mean m c → IsFor mean m.0.plan (with_answer c e j a) → n ≡ (ending m.0 c.done, m.1) → d ≡ with_answer c e j a → IsInside mean n d
+  pub finishes : (m n : Mine E J A T) (c d : Ledger E J A) (e : E) (j : J) (a : A) → IsRunning mean m c → IsFor mean m.0.plan (with_answer c e j a) → n ≡ carrying (ending m.0 c.done) d → d ≡ with_answer c e j a → IsInside mean n d
   finishes m n c d e j a r sound is after = let b : Ledger E J A = with_answer c e j a in let s : stops_of c.halt ≡ 0 = ap stops_of r.going in
-      let P : Mine E J A T × Ledger E J A → Type 0 = λ z. IsInside mean z.0 z.1 in subst P (λ i. (sym is i, sym after i)) record {
-        carried = r.carried;
+      let P : Mine E J A T × Ledger E J A → Type 0 = λ z. IsInside mean z.0 z.1 in subst P (λ i. (sym (recarried _ _ _ _ is after) i, sym after i)) record {
+        carried = refl;
         holds = r.holds;
         out = r.out;
         submissions = r.submissions;
@@ -160,10 +172,10 @@ module _ {E J A S T R : Type 0} (mean : Meaning E J A S T R) where
       }
 
   -- the cell with the stop may be put back
-  pub halts : (m n : Mine E J A T) (c d : Ledger E J A) (e : E) (h : Halt) → IsRunning mean m c → IsFor mean m.0.plan (with_halt c e h) → n ≡ (record (ending m.0 c.done) { stop = Some (code_of h.stop) }, m.1) → d ≡ with_halt c e h → IsInside mean n d
+  pub halts : (m n : Mine E J A T) (c d : Ledger E J A) (e : E) (h : Halt) → IsRunning mean m c → IsFor mean m.0.plan (with_halt c e h) → n ≡ carrying (record (ending m.0 c.done) { stop = Some (code_of h.stop) }) d → d ≡ with_halt c e h → IsInside mean n d
   halts m n c d e h r sound is after = let b : Ledger E J A = with_halt c e h in
-      let P : Mine E J A T × Ledger E J A → Type 0 = λ z. IsInside mean z.0 z.1 in subst P (λ i. (sym is i, sym after i)) record {
-        carried = r.carried;
+      let P : Mine E J A T × Ledger E J A → Type 0 = λ z. IsInside mean z.0 z.1 in subst P (λ i. (sym (recarried _ _ _ _ is after) i, sym after i)) record {
+        carried = refl;
         holds = r.holds;
         out = r.out;
         submissions = r.submissions;
@@ -175,10 +187,10 @@ module _ {E J A S T R : Type 0} (mean : Meaning E J A S T R) where
       }
 
   -- the cell with one job more may be put back
-  pub appends : (v : View E T) (m : Mine E J A T) (c c' : Ledger E J A) (j : J) → m ≡ (record (entered v c) { submissions = Some (v.sent + 1); sent = v.sent + 1 }, (0, None) ∷ []) → IsSized c → IsFor mean v.plan c
+  pub appends : (v : View E T) (m : Mine E J A T) (c c' : Ledger E J A) (j : J) → m ≡ carrying (record (entered v c) { submissions = Some (v.sent + 1); sent = v.sent + 1 }) c' → IsSized c → IsFor mean v.plan c
       → submitted c ≡ v.sent → v.sent < 2 ^ 62 → IsNext mean v.plan v.sent j → c' ≡ with_job c j → IsInside mean m c'
   appends v m c c' j is sized sound sent small next after = let d : Ledger E J A = with_job c j in let P : Mine E J A T × Ledger E J A → Type 0 = λ z. IsInside mean z.0 z.1 in
-      subst P (λ i. (sym is i, sym after i)) record {
+      subst P (λ i. (sym (recarried _ _ _ _ is after) i, sym after i)) record {
         carried = refl;
         holds = refl;
         out = refl;
@@ -191,10 +203,10 @@ module _ {E J A S T R : Type 0} (mean : Meaning E J A S T R) where
       }
 
   -- the cell whose first job was begun
-  pub begins : (v : View E T) (m : Mine E J A T) (c d : Ledger E J A) (e : E) (j : J) (n : ℕ) → m ≡ (entered v c, (0, None) ∷ []) → v.sends || v.works ≡ true → IsSized c → IsFor mean v.plan c
+  pub begins : (v : View E T) (m : Mine E J A T) (c d : Ledger E J A) (e : E) (j : J) (n : ℕ) → m ≡ carrying (entered v c) d → v.sends || v.works ≡ true → IsSized c → IsFor mean v.plan c
       → can_begin c ≡ true → c.home ≡ Some e → slice_get c.jobs c.done ≡ Some j → d ≡ with_out c → n ≡ c.done → Began mean m d × IsDueFor mean m.0.plan d.done e j × (n ≡ d.done)
   begins v m c d e j n is live sized sound can home first after number = let may = may_begin c can in let o : out_of c.home ≡ 0 = ap out_of home in let s : stops_of c.halt ≡ 0 = ap stops_of may.running in let b : Ledger E J A = with_out c in
-      let P : Mine E J A T × Ledger E J A → Type 0 = λ z. Began mean z.0 z.1 × IsDueFor mean z.0.0.plan z.1.done e j × (n ≡ z.1.done) in subst P (λ i. (sym is i, sym after i)) (
+      let P : Mine E J A T × Ledger E J A → Type 0 = λ z. Began mean z.0 z.1 × IsDueFor mean z.0.0.plan z.1.done e j × (n ≡ z.1.done) in subst P (λ i. (sym (recarried _ _ _ _ is after) i, sym after i)) (
         record {
           carried = refl;
           live = live;
@@ -264,10 +276,10 @@ left_then {E} {J} {A} {T} x y v cs e f = at_view y (left x.0, []) f ∙ (λ i. l
 module _ {E J A S T R : Type 0} (mean : Meaning E J A S T R) where
   -- the cell with one answer more told may be put back
   pub tells_one : (m n : Mine E J A T) (c d : Ledger E J A) → IsInside mean m c → told c ≡ m.0.heard → can_tell c ≡ true → d ≡ with_tell c
-      → n ≡ (record m.0 { tells = Some (m.0.heard + 1); heard = m.0.heard + 1 }, m.1) → IsInside mean n d
+      → n ≡ carrying (record m.0 { tells = Some (m.0.heard + 1); heard = m.0.heard + 1 }) d → IsInside mean n d
   tells_one m n c d i heard can after is = let b : Ledger E J A = with_tell c in
-      let P : Mine E J A T × Ledger E J A → Type 0 = λ z. IsInside mean z.0 z.1 in subst P (λ k. (sym is k, sym after k)) record {
-        carried = i.carried;
+      let P : Mine E J A T × Ledger E J A → Type 0 = λ z. IsInside mean z.0 z.1 in subst P (λ k. (sym (recarried _ _ _ _ is after) k, sym after k)) record {
+        carried = refl;
         holds = i.holds;
         out = i.out;
         submissions = i.submissions;
@@ -280,10 +292,10 @@ module _ {E J A S T R : Type 0} (mean : Meaning E J A S T R) where
 
   -- the cell with one stop more told may be put back
   pub tells_stop : (m n : Mine E J A T) (c d : Ledger E J A) (u v : ℕ) → IsInside mean m c → told c ≡ m.0.heard → can_tell c ≡ true → d ≡ with_tell c
-      → n ≡ (record m.0 { tells = Some (m.0.heard + 1); heard = m.0.heard + 1; answered = false; stopped = u; stopped_at = v }, m.1) → IsInside mean n d
+      → n ≡ carrying (record m.0 { tells = Some (m.0.heard + 1); heard = m.0.heard + 1; answered = false; stopped = u; stopped_at = v }) d → IsInside mean n d
   tells_stop m n c d u v i heard can after is = let b : Ledger E J A = with_tell c in
-      let P : Mine E J A T × Ledger E J A → Type 0 = λ z. IsInside mean z.0 z.1 in subst P (λ k. (sym is k, sym after k)) record {
-        carried = i.carried;
+      let P : Mine E J A T × Ledger E J A → Type 0 = λ z. IsInside mean z.0 z.1 in subst P (λ k. (sym (recarried _ _ _ _ is after) k, sym after k)) record {
+        carried = refl;
         holds = i.holds;
         out = i.out;
         submissions = i.submissions;
@@ -322,19 +334,33 @@ module _ {E J A S T R : Type 0} (mean : Meaning E J A S T R) where
     behind = λ lt p s js at named st. behind_is mean m.0.plan c m.0.heard j i.sound (subst (λ k. slice_get c.jobs k ≡ Some j) heard (t.3 (omega (arith, heard, place)))) p s js at named st;
   }
 
+module _ {E J A T : Type 0} where
+  -- the seat after a tell was counted
+  pub told_at : (x y : Mine E J A T) (v : View E T) (d : Ledger E J A) → x ≡ carrying v d → y ≡ (record x.0 { tells = Some (x.0.heard + 1); heard = x.0.heard + 1 }, x.1) → y ≡ carrying (record v { tells = Some (v.heard + 1); heard = v.heard + 1 }) d
+  told_at x y v d e f = f ∙ (λ i. let m : Mine E J A T = e i in let w : Mine E J A T = (record m.0 { tells = Some (m.0.heard + 1); heard = m.0.heard + 1 }, m.1) in w)
+
+  -- the seat after the tell of a stop was counted
+  pub stopped_at : (x y : Mine E J A T) (v : View E T) (d : Ledger E J A) (h k : ℕ) → x ≡ carrying v d → y ≡ (record x.0 { tells = Some (x.0.heard + 1); heard = x.0.heard + 1; answered = false; stopped = h; stopped_at = k }, x.1)
+      → y ≡ carrying (record v { tells = Some (v.heard + 1); heard = v.heard + 1; answered = false; stopped = h; stopped_at = k }) d
+  stopped_at x y v d h k e f = f ∙ (λ i. let m : Mine E J A T = e i in let w : Mine E J A T = (record m.0 { tells = Some (m.0.heard + 1); heard = m.0.heard + 1; answered = false; stopped = h; stopped_at = k }, m.1) in w)
+
+  -- what it learned then of the jobs told before
+  pub exact_at : (x : Mine E J A T) (v : View E T) (d : Ledger E J A) (h k : ℕ) → x ≡ carrying v d → (x.0.answered ≡ true → h ≢ 0 → x.0.heard ≤ k) → v.answered ≡ true → h ≢ 0 → v.heard ≤ k
+  exact_at x v d h k e f a z = subst (λ n. n ≤ k) (at_heard _ _ e) (f (at_answered _ _ e ∙ a) z)
+
 -- the seat after an answer was told
-pub told_then : {E J A T : Type 0} (x y z : Mine E J A T) → y ≡ (record x.0 { tells = Some (x.0.heard + 1); heard = x.0.heard + 1 }, x.1) → z ≡ (left y.0, []) → TellsOne x z × ((z.0.stopped ≡ x.0.stopped) × (z.0.stopped_at ≡ x.0.stopped_at) × (z.0.answered ≡ x.0.answered))
-told_then {E} {J} {A} {T} x y z e f = let P : Mine E J A T → Type 0 = λ w. TellsOne x w × ((w.0.stopped ≡ x.0.stopped) × (w.0.stopped_at ≡ x.0.stopped_at) × (w.0.answered ≡ x.0.answered)) in
+pub told_then : {E J A T : Type 0} (x y z : Mine E J A T) (d : Ledger E J A) → y ≡ carrying (record x.0 { tells = Some (x.0.heard + 1); heard = x.0.heard + 1 }) d → z ≡ (left y.0, []) → TellsOne x z × ((z.0.stopped ≡ x.0.stopped) × (z.0.stopped_at ≡ x.0.stopped_at) × (z.0.answered ≡ x.0.answered))
+told_then {E} {J} {A} {T} x y z d e f = let P : Mine E J A T → Type 0 = λ w. TellsOne x w × ((w.0.stopped ≡ x.0.stopped) × (w.0.stopped_at ≡ x.0.stopped_at) × (w.0.answered ≡ x.0.answered)) in
     subst P (sym (f ∙ (λ i. let m : Mine E J A T = e i in let w : Mine E J A T = (left m.0, []) in w))) (record { empty = refl; same = (refl, refl, refl, refl, refl, refl); rests = refl; home = refl; heard = refl }, (refl, refl, refl))
 
 -- the seat after a stop was told
-pub stopped_then : {E J A T : Type 0} (x y z : Mine E J A T) (u v : ℕ) → y ≡ (record x.0 { tells = Some (x.0.heard + 1); heard = x.0.heard + 1; answered = false; stopped = u; stopped_at = v }, x.1) → z ≡ (left y.0, [])
+pub stopped_then : {E J A T : Type 0} (x y z : Mine E J A T) (d : Ledger E J A) (u v : ℕ) → y ≡ carrying (record x.0 { tells = Some (x.0.heard + 1); heard = x.0.heard + 1; answered = false; stopped = u; stopped_at = v }) d → z ≡ (left y.0, [])
     → TellsOne x z × ((z.0.stopped ≡ u) × (z.0.stopped_at ≡ v))
-stopped_then {E} {J} {A} {T} x y z u v e f = let P : Mine E J A T → Type 0 = λ w. TellsOne x w × ((w.0.stopped ≡ u) × (w.0.stopped_at ≡ v)) in
+stopped_then {E} {J} {A} {T} x y z d u v e f = let P : Mine E J A T → Type 0 = λ w. TellsOne x w × ((w.0.stopped ≡ u) × (w.0.stopped_at ≡ v)) in
     subst P (sym (f ∙ (λ i. let m : Mine E J A T = e i in let w : Mine E J A T = (left m.0, []) in w))) (record { empty = refl; same = (refl, refl, refl, refl, refl, refl); rests = refl; home = refl; heard = refl }, (refl, refl))
 
 -- the seat that has just taken the cell out
-pub inside_is : {E J A S T R : Type 0} (mean : Meaning E J A S T R) (v : View E T) (m : Mine E J A T) (c : Ledger E J A) → m ≡ (entered v c, (0, None) ∷ []) → IsSized c → IsFor mean v.plan c → IsInside mean m c
+pub inside_is : {E J A S T R : Type 0} (mean : Meaning E J A S T R) (v : View E T) (m : Mine E J A T) (c : Ledger E J A) → m ≡ carrying (entered v c) c → IsSized c → IsFor mean v.plan c → IsInside mean m c
 inside_is mean v m c is sized sound = subst (λ z. IsInside mean z c) (sym is) record { carried = refl; holds = refl; out = refl; submissions = refl; progress_is = refl; tells = refl; stop = refl; sized = sized; sound = sound }
 
 -- the view before may be another that agrees

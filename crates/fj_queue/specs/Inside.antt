@@ -1,5 +1,5 @@
 -- How a seat stands while it has the cell.
-use Rattle.std.specs.Prelude.{◌≡◌, ◌+◌, ◌*◌, ℕ, true, false, [], ◌∷◌, Option, Some, None}
+use Rattle.std.specs.Prelude.{◌≡◌, ◌+◌, ◌*◌, ℕ, true, false, [], Some, None}
 use Rattle.fj_slot.specs.Serving.{Meaning}
 use Rattle.fj_slot.specs.Ledger.{Ledger}
 use Rattle.fj_queue.specs.Cell.{progress, submitted, told}
@@ -8,7 +8,7 @@ use Rattle.fj_queue.specs.Cell.{IsFor, stop_code}
 use Rattle.fj_slot.specs.declared.told.Told.{Told}
 use Rattle.fj_queue.specs.declared.view.View.{View}
 use Rattle.fj_queue.specs.Rule.{is_live}
-use Rattle.fj_queue.specs.Steps.{Mine}
+use Rattle.fj_queue.specs.Steps.{Mine, Carries}
 use Rattle.fj_queue.specs.Answers.{Settles}
 
 module _ {E T : Type 0} where
@@ -36,7 +36,7 @@ module _ {E J A T : Type 0} where
 module _ {E J A S T R : Type 0} (mean : Meaning E J A S T R) where
   -- the seat has the cell c in hand, and may put it back
   pub record IsInside (m : Mine E J A T) (c : Ledger E J A) : Type 0 where
-    pub carried : m.1 ≡ (0, None) ∷ []
+    pub carried : Carries m c
     pub holds : m.0.holds ≡ true
     pub out : m.0.out ≡ true
     pub submissions : m.0.submissions ≡ Some (submitted c)
@@ -48,7 +48,7 @@ module _ {E J A S T R : Type 0} (mean : Meaning E J A S T R) where
 
   -- the seat has the cell c in hand, of which a job was begun in this turn and is not counted yet
   pub record Began (m : Mine E J A T) (c : Ledger E J A) : Type 0 where
-    pub carried : m.1 ≡ (0, None) ∷ []
+    pub carried : Carries m c
     pub live : is_live m.0 ≡ true
     pub holds : m.0.holds ≡ true
     pub out : m.0.out ≡ true
@@ -70,7 +70,7 @@ ending v k = record v { runs = None; ended = v.ended + 1; progress = Some (2 * k
 
 -- the seat has the cell c in hand, and runs its job
 pub record IsRunning {E J A S T R : Type 0} (mean : Meaning E J A S T R) (m : Mine E J A T) (c : Ledger E J A) : Type 0 where
-  pub carried : m.1 ≡ (0, None) ∷ []
+  pub carried : Carries m c
   pub live : is_live m.0 ≡ true
   pub holds : m.0.holds ≡ true
   pub out : m.0.out ≡ true

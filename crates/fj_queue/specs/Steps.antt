@@ -1,5 +1,5 @@
 -- What each step tells: of the step, the seat before, the number found and the seat after.
-use Rattle.std.specs.Prelude.{◌≡◌, ◌≢◌, ℕ, ◌+◌, ◌*◌, ◌≤◌, true, false, ◌∷◌, Option, Some, None}
+use Rattle.std.specs.Prelude.{◌≡◌, ◌≢◌, ℕ, ◌+◌, ◌*◌, ◌≤◌, true, false, [], ◌∷◌, Option, Some, None}
 use Rattle.atomic_table.specs.Table.{Me, Step, rest}
 use Rattle.fj_slot.specs.Serving.{Meaning}
 use Rattle.fj_slot.specs.Ledger.{Ledger}
@@ -22,6 +22,14 @@ turning v = record v { holds = true; turns = v.turns + 1; submissions = None; pr
 
 abbrev pub Mine : (E J A T : Type 0) → Type 0
 Mine E J A T = Me (Option (Ledger E J A)) (View E T)
+
+-- the seat has this cell in hand, and nothing else
+abbrev pub Carries : {E J A T : Type 0} → Mine E J A T → Ledger E J A → Type 0
+Carries m c = m.1 ≡ (0, Some c) ∷ []
+
+-- a view with this cell in hand
+abbrev pub carrying : {E J A T : Type 0} → View E T → Ledger E J A → Mine E J A T
+carrying v c = (v, (0, Some c) ∷ [])
 
 abbrev pub At : (E J A : Type 0) → Type 0
 At E J A = Step (Option (Ledger E J A))

@@ -8,6 +8,7 @@ ghost use Rattle.fj_queue.specs.Answers.{Settles};
 ghost use Rattle.fj_queue.specs.Knows.{knows, IsOf};
 ghost use Rattle.fj_queue.specs.Tokens.{Numbers, Keeps};
 
+use crate::cell::Cell;
 use crate::law::Law;
 use crate::plays::{CountStop, CountSubmission, CountTell};
 use crate::seats::{Place, QueueOf, Submitter};
@@ -32,36 +33,36 @@ impl<E: Engine> QueueOf<Slot<E>, E, E::Task, Law<E>> {
         ensures err { IfErr result (λ r. (r.job ≡ job) × Keeps (knows s.old) (knows s.new) (knows s.old).sent (knows s.old).heard (knows s.old).hands) }
         ensures performs_nothing { (knows s.new).ended ≡ (knows s.old).ended }
     {
-        let mut slot = self.enter(rt, &mut s.seat);
-        match slot.submit(job) {
+        let mut cell = self.enter(rt, &mut s.seat);
+        match self.append(&mut s.seat, &mut cell, job) {
             Ok(_) => {
                 let number = self
                     .table
                     .shared
                     .fetch_add::<CountSubmission>(&mut s.seat, 1, 1);
-                self.leave(&mut s.seat, slot);
+                self.leave(&mut s.seat, cell);
                 Ok(number)
             }
             Err(refused) => {
-                self.leave(&mut s.seat, slot);
+                self.leave(&mut s.seat, cell);
                 Err(refused)
             }
         }
     }
 
     // Tells the first answer, and lets go of the cell.
-    fn tell(&self, seat: &mut Place<E>, mut slot: Slot<E>) -> Told<E>
+    fn tell(&self, seat: &mut Place<E>, mut cell: Cell<E>) -> Told<E>
         requires own { seat.old.table_id ≡ self.now.table.shared.table_id }
-        requires inside { IsInside E.meaning seat.old.me slot }
-        requires sends { (seat.old.me.0.sends ≡ true) × (told slot ≡ seat.old.me.0.heard) × (seat.old.me.0.heard < 2 ^ 63) }
-        requires ready { can_tell slot ≡ true }
+        requires inside { IsInside E.meaning seat.old.me cell.value }
+        requires sends { (seat.old.me.0.sends ≡ true) × (told cell.value ≡ seat.old.me.0.heard) × (seat.old.me.0.heard < 2 ^ 63) }
+        requires ready { can_tell cell.value ≡ true }
         ensures own { (seat.new.table_id ≡ seat.old.table_id) × (seat.new.id ≡ seat.old.id) }
         ensures told { Tells E.meaning seat.old.me seat.new.me result }
     {
-        match slot.tell() {
+        match self.tell_next(seat, &mut cell) {
             Told::Done { job, answer } => {
                 let _tells = self.table.shared.fetch_add::<CountTell>(seat, 3, 1);
-                self.leave(seat, slot);
+                self.leave(seat, cell);
                 Told::Done { job, answer }
             }
             Told::Stopped {
@@ -71,7 +72,7 @@ impl<E: Engine> QueueOf<Slot<E>, E, E::Task, Law<E>> {
                 after,
             } => {
                 let _tells = self.table.shared.fetch_add::<CountStop>(seat, 3, 1);
-                self.leave(seat, slot);
+                self.leave(seat, cell);
                 Told::Stopped {
                     job,
                     stop,
@@ -83,22 +84,22 @@ impl<E: Engine> QueueOf<Slot<E>, E, E::Task, Law<E>> {
     }
 
     // Takes the turn, and performs the job in front where it is not done and no one has begun it; the cell is in hand at the end.
-    fn reach<R: Wait>(&self, rt: &R, seat: &mut Place<E>) -> Slot<E>
+    fn reach<R: Wait>(&self, rt: &R, seat: &mut Place<E>) -> Cell<E>
         requires own { seat.old.table_id ≡ self.now.table.shared.table_id }
         requires submitter { IsSubmitter seat.old.me }
         ensures own { (seat.new.table_id ≡ seat.old.table_id) × (seat.new.id ≡ seat.old.id) }
-        ensures inside { IsInside E.meaning seat.new.me result }
+        ensures inside { IsInside E.meaning seat.new.me result.value }
         ensures same { IsSame seat.old.me.0 seat.new.me.0 }
         ensures idle { seat.new.me.0.runs ≡ None }
-        ensures told { told result ≡ seat.old.me.0.heard }
+        ensures told { told result.value ≡ seat.old.me.0.heard }
     {
-        let mut slot = self.enter(rt, seat);
-        if slot.ready() {
-            return slot;
+        let mut cell = self.enter(rt, seat);
+        if self.is_ready(seat, &cell) {
+            return cell;
         }
-        match slot.begin() {
-            Some(out) => self.perform(rt, seat, slot, out),
-            None => slot,
+        match self.begin(seat, &mut cell) {
+            Some(out) => self.perform(rt, seat, cell, out),
+            None => cell,
         }
     }
 
@@ -117,11 +118,11 @@ impl<E: Engine> QueueOf<Slot<E>, E, E::Task, Law<E>> {
                 backoff.snooze();
                 continue;
             }
-            let slot = self.reach(rt, &mut s.seat);
-            if slot.ready() {
-                return self.tell(&mut s.seat, slot);
+            let cell = self.reach(rt, &mut s.seat);
+            if self.is_ready(&mut s.seat, &cell) {
+                return self.tell(&mut s.seat, cell);
             }
-            self.leave(&mut s.seat, slot);
+            self.leave(&mut s.seat, cell);
             backoff.snooze();
         }
         unreachable!()

@@ -2,6 +2,7 @@
 #![tactic(auto)]
 
 mod asks;
+mod cell;
 mod jobs;
 mod law;
 mod laws;

@@ -4,8 +4,9 @@ ghost use Rattle.fj_slot.specs.Ledger.{IsSized};
 ghost use Rattle.fj_queue.specs.Cell.{IsFor, progress, submitted, told, stop_code};
 ghost use Rattle.fj_queue.specs.Seats.{IsResting};
 ghost use Rattle.fj_queue.specs.Inside.{IsInside, entered, left};
-ghost use Rattle.fj_queue.specs.Steps.{turning};
+ghost use Rattle.fj_queue.specs.Steps.{turning, carrying};
 
+use crate::cell::Cell;
 use crate::law::Law;
 use crate::plays::{
     GiveTurn, PutCell, SeeProgress, SeeStop, SeeSubmissions, SeeTells, TakeCell, TakeTurn,
@@ -13,6 +14,7 @@ use crate::plays::{
 use crate::seats::{Place, QueueOf};
 use crossbeam_utils::Backoff;
 use fj_slot::{Engine, Slot};
+use std::snapshot::Snapshot;
 use std::sync::Wait;
 
 impl<E: Engine> QueueOf<Slot<E>, E, E::Task, Law<E>> {
@@ -36,16 +38,16 @@ impl<E: Engine> QueueOf<Slot<E>, E, E::Task, Law<E>> {
         unreachable!()
     }
 
-    /// Takes the turn, looks at the words and takes the cell out.
-    pub(crate) fn enter<R: Wait>(&self, rt: &R, seat: &mut Place<E>) -> Slot<E>
+    /// Takes the turn, looks at the words and takes the cell in hand.
+    pub(crate) fn enter<R: Wait>(&self, rt: &R, seat: &mut Place<E>) -> Cell<E>
         requires own { seat.old.table_id ≡ self.now.table.shared.table_id }
         requires rests { IsResting seat.old.me }
         ensures own { (seat.new.table_id ≡ seat.old.table_id) × (seat.new.id ≡ seat.old.id) }
-        ensures seat { seat.new.me ≡ (entered seat.old.me.0 result, (0, None) ∷ []) }
-        ensures sized { IsSized result }
-        ensures sound { IsFor E.meaning seat.old.me.0.plan result }
-        ensures sends { seat.old.me.0.sends ≡ true → (submitted result ≡ seat.old.me.0.sent) × (told result ≡ seat.old.me.0.heard) }
-        ensures runs { (k : ℕ) → seat.old.me.0.runs ≡ Some k → (progress result ≡ 2 * k + 1) × (stop_code result.halt ≡ 0) }
+        ensures seat { seat.new.me ≡ carrying (entered seat.old.me.0 result.value) result.value }
+        ensures sized { IsSized result.value }
+        ensures sound { IsFor E.meaning seat.old.me.0.plan result.value }
+        ensures sends { seat.old.me.0.sends ≡ true → (submitted result.value ≡ seat.old.me.0.sent) × (told result.value ≡ seat.old.me.0.heard) }
+        ensures runs { (k : ℕ) → seat.old.me.0.runs ≡ Some k → (progress result.value ≡ 2 * k + 1) × (stop_code result.value.halt ≡ 0) }
     {
         self.take_turn(rt, seat);
         let shared = &self.table.shared;
@@ -54,19 +56,21 @@ impl<E: Engine> QueueOf<Slot<E>, E, E::Task, Law<E>> {
         let _tells = shared.load::<SeeTells>(seat, 3);
         let _stop = shared.load::<SeeStop>(seat, 4);
         let _cell = shared.load::<TakeCell>(seat, 1);
-        shared.exchange(seat, 0, None).unwrap()
+        let Some(slot) = seat.slot_mut(shared, 0) else {
+            unreachable!()
+        };
+        Snapshot::of(&*slot)
     }
 
     /// Puts the cell back and gives the turn away.
-    pub(crate) fn leave(&self, seat: &mut Place<E>, slot: Slot<E>)
+    pub(crate) fn leave(&self, seat: &mut Place<E>, cell: Cell<E>)
         requires own { seat.old.table_id ≡ self.now.table.shared.table_id }
-        requires inside { IsInside E.meaning seat.old.me slot }
+        requires inside { IsInside E.meaning seat.old.me cell.value }
         ensures own { (seat.new.table_id ≡ seat.old.table_id) × (seat.new.id ≡ seat.old.id) }
         ensures seat { seat.new.me ≡ (left seat.old.me.0, []) }
     {
         let shared = &self.table.shared;
-        let nothing = shared.exchange(seat, 0, Some(slot));
-        let None = nothing else { unreachable!() };
+        let _ = cell;
         let _submissions = shared.load::<PutCell>(seat, 1);
         let _turn = shared.swap::<GiveTurn>(seat, 0, 0);
     }

@@ -13,7 +13,7 @@ use Rattle.fj_desk.specs.Acting.{doing}
 use Rattle.fj_desk.specs.Core.{Core, Pending, pending_holders, unit_named}
 use Rattle.fj_desk.specs.Desking.{told_core}
 use Rattle.fj_turns.specs.Run.{Run, Held, Waiting}
-use Rattle.fj_turns.specs.Turns.{turn_act, turn_tell, turn_wait, turn_start, with_tells, ends_halts, halted_slots, wait_by, waited_now, unsettled, settles, start_by, finish_by, rule_of}
+use Rattle.fj_turns.specs.Turns.{doing_told, turn_act, turn_tell, turn_wait, turn_start, with_tells, ends_halts, halted_slots, wait_by, waited_now, unsettled, settles, start_by, finish_by, rule_of}
 use Rattle.fj_pending.specs.Asks.{IsUnitAsked}
 use Rattle.fj_pending.specs.Plain.{held, holders, tells_of}
 use Rattle.fj_pending.specs.declared.held.Held as code_held
@@ -36,6 +36,15 @@ tells_turn st told r r' slots condition e s c =
     ap (λ (x : Run). turn_act st (ends_halts slots x.core (doing st.1 x.variables st.0.line x.core st.0.what condition)) x) e
     ∙ ap (λ xs. turn_act st (ends_halts xs new.core (doing st.1 r.variables st.0.line new.core st.0.what condition)) new) s
     ∙ ap (λ x. turn_act st (ends_halts (halted_slots told r.core.units) new.core (doing st.1 r.variables st.0.line new.core st.0.what x)) new) c
+
+-- so what it does is that
+pub tells_doing : (st : Stated) (told : List Entry) (r : Run) (slots : List ℕ) (condition : Condition) (core : Core) → core ≡ told_core r.variables st.0.line told r.core → slots ≡ halted_slots told r.core.units
+    → condition ≡ condition_of told → ends_halts slots core (doing st.1 r.variables st.0.line core st.0.what condition) ≡ doing_told r.variables st told r.core
+tells_doing st told r slots condition core e s c =
+    let new : Core = told_core r.variables st.0.line told r.core in
+    ap (λ (k : Core). ends_halts slots k (doing st.1 r.variables st.0.line k st.0.what condition)) e
+    ∙ ap (λ xs. ends_halts xs new (doing st.1 r.variables st.0.line new st.0.what condition)) s
+    ∙ ap (λ x. ends_halts (halted_slots told r.core.units) new (doing st.1 r.variables st.0.line new st.0.what x)) c
 
 pub told_core_is : (files : Files) (variables : List Variable) (line : ℕ) (told : List Entry) (old : code.Core) (store : Storage) (pending : List code_held.Held) (tells : List code_tell.Tell)
     → values_of store ≡ with_inputs variables told (values_of old.store) → held pending ≡ filter (λ (h : Held). not (tells_id told h.pending.id)) (held old.pending)

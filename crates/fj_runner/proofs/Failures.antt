@@ -2,6 +2,7 @@
 use Rattle.std.proofs.Common.{◌≡◌, ◌≢◌, ℕ, Bool, List, [], ◌++◌, Option, Some, None, Result, Ok, Err, OnErr, inl, inr, refl, sym, ap, ◌∙◌, subst}
 use Rattle.std.specs.Prelude.{◌⊎◌}
 use Rattle.std.proofs.lemmas.List.{append-nil}
+use Rattle.fj_outside.specs.Holdings.{Holdings}
 use Rattle.fj_statement.specs.declared.deck.Variable.{Variable}
 use Rattle.fj_items.specs.Handing.{HandsOver, HandsFront, whole_records}
 use Rattle.fj_items.specs.declared.lost.Lost.{Lost}
@@ -19,7 +20,7 @@ use Rattle.fj_acts.specs.Doing.{IsDoing}
 use Rattle.fj_acts.specs.declared.doing.Doing.{Doing}
 use Rattle.fj_acts.specs.declared.doing.Doing.TheVariants as doing
 use Rattle.fj_acts.specs.declared.state.Core.{Core}
-use Rattle.fj_runner.specs.Failing.{FailsTurn, FailsStage}
+use Rattle.fj_runner.specs.Failing.{FailsTurn, FailsStage, FailsDoing}
 
 -- ---- what a sink took
 
@@ -50,57 +51,62 @@ doing_output told bytes variables st core (doing.Awaits slot job next) plain d =
 
 -- ---- turns
 
-module _ {W : Type 0} {tells_out : W → Type 0} {taken : W → List ℕ} where
+module _ {W : Type 0} {tells_out : W → Type 0} {taken : W → List ℕ} {held : Holdings} {before now : ℕ} where
   -- it is not for the disk, and nothing is written
-  pub fails_still : {X : Type 0} → (out : W) (core core' : Core) (r : Result X Lost) (due : Output) (Known : Type 0) (told : List Tell) → r ≢ Err Disk
-      → FailsTurn tells_out taken out core r out core' due Known told
+  pub fails_still : {X : Type 0} → (out : W) (core core' : Core) (r : Result X Lost) (due : Output) (Known : Type 0) (told : List Tell) {does : Option PlainDoing} → r ≢ Err Disk
+      → FailsTurn tells_out taken out core r out core' held before now due Known told does
   fails_still out core core' r due Known told n = record {
     front = λ t. on_err r (HandsFront (taken out) (taken out) core.output due ⊎ (taken out ≡ taken out)) (inr refl);
     known = λ e. absurd (n e);
     output = λ e. absurd (n e);
     tells = λ e. absurd (n e);
+    fault = λ e. absurd (n e);
   }
 
   -- it is not for the disk, and all is written
-  pub fails_acting : {X : Type 0} → (out out' : W) (core core' : Core) (r : Result X Lost) (due : Output) (Known : Type 0) (told : List Tell) → r ≢ Err Disk
-      → (tells_out out → HandsOver (taken out) (taken out') core.output due) → FailsTurn tells_out taken out core r out' core' due Known told
+  pub fails_acting : {X : Type 0} → (out out' : W) (core core' : Core) (r : Result X Lost) (due : Output) (Known : Type 0) (told : List Tell) {does : Option PlainDoing} → r ≢ Err Disk
+      → (tells_out out → HandsOver (taken out) (taken out') core.output due) → FailsTurn tells_out taken out core r out' core' held before now due Known told does
   fails_acting out out' core core' r due Known told n h = record {
     front = λ t. on_err r (HandsFront (taken out) (taken out') core.output due ⊎ (taken out' ≡ taken out)) (inl (hands_front (taken out) (taken out') core.output due (h t)));
     known = λ e. absurd (n e);
     output = λ e. absurd (n e);
     tells = λ e. absurd (n e);
+    fault = λ e. absurd (n e);
   }
 
   -- its own action is given up
-  pub fails_begun : {X : Type 0} → (out out' : W) (core core' : Core) (r : Result X Lost) (due : Output) → (tells_out out → OnErr r (HandsFront (taken out) (taken out') core.output due))
-      → (r ≡ Err Disk → core'.output ≡ core.output) → core'.tells ≡ core.tells → FailsTurn tells_out taken out core r out' core' due (Unit {0}) (tells_of core.tells)
-  fails_begun out out' core core' r due h o t = record { front = λ k. by r (h k); known = λ e. tt; output = o; tells = λ e. ap tells_of t }
+  pub fails_begun : {X : Type 0} → (out out' : W) (core core' : Core) (r : Result X Lost) (due : Output) {does : Option PlainDoing} → (tells_out out → OnErr r (HandsFront (taken out) (taken out') core.output due))
+      → (r ≡ Err Disk → core'.output ≡ core.output) → core'.tells ≡ core.tells → (r ≡ Err Disk → FailsDoing does core' held before now)
+      → FailsTurn tells_out taken out core r out' core' held before now due (Unit {0}) (tells_of core.tells) does
+  fails_begun out out' core core' r due h o t f = record { front = λ k. by r (h k); known = λ e. tt; output = o; tells = λ e. ap tells_of t; fault = f }
     where
       by : {Y : Type 0} → (x : Result Y Lost) → OnErr x (HandsFront (taken out) (taken out') core.output due) → OnErr x (HandsFront (taken out) (taken out') core.output due ⊎ (taken out' ≡ taken out))
       by (Ok it) k = tt
       by (Err lost) k = inl k
 
   -- nothing is written, and what is told stays
-  pub fails_quiet : {X : Type 0} → (out : W) (core core' : Core) (r : Result X Lost) (due : Output) → core'.output ≡ core.output → core'.tells ≡ core.tells
-      → FailsTurn tells_out taken out core r out core' due (Unit {0}) (tells_of core.tells)
-  fails_quiet out core core' r due o t = record {
+  pub fails_quiet : {X : Type 0} → (out : W) (core core' : Core) (r : Result X Lost) (due : Output) {does : Option PlainDoing} → core'.output ≡ core.output → core'.tells ≡ core.tells
+      → (r ≡ Err Disk → FailsDoing does core' held before now) → FailsTurn tells_out taken out core r out core' held before now due (Unit {0}) (tells_of core.tells) does
+  fails_quiet out core core' r due o t f = record {
     front = λ k. on_err r (HandsFront (taken out) (taken out) core.output due ⊎ (taken out ≡ taken out)) (inr refl);
     known = λ e. tt;
     output = λ e. o;
     tells = λ e. ap tells_of t;
+    fault = f;
   }
 
   -- by another word for what was due
-  pub fails_from : {X : Type 0} → (out out' : W) (core half core' : Core) (r : Result X Lost) (due due' : Output) (Known Known' : Type 0) (told told' : List Tell) → half.output ≡ core.output → due ≡ due' → (Known → Known')
-      → told ≡ told' → FailsTurn tells_out taken out half r out' core' due Known told → FailsTurn tells_out taken out core r out' core' due' Known' told'
-  fails_from out out' core half core' r due due' Known Known' told told' o d k t f = record {
+  pub fails_from : {X : Type 0} → (out out' : W) (core half core' : Core) (r : Result X Lost) (due due' : Output) (Known Known' : Type 0) (told told' : List Tell) {does does' : Option PlainDoing} → half.output ≡ core.output → due ≡ due' → (Known → Known')
+      → told ≡ told' → does ≡ does' → FailsTurn tells_out taken out half r out' core' held before now due Known told does → FailsTurn tells_out taken out core r out' core' held before now due' Known' told' does'
+  fails_from out out' core half core' r due due' Known Known' told told' o d k t w f = record {
     front = λ s. subst (λ x. OnErr r (HandsFront (taken out) (taken out') x due' ⊎ (taken out' ≡ taken out))) o
         (subst (λ x. OnErr r (HandsFront (taken out) (taken out') half.output x ⊎ (taken out' ≡ taken out))) d (f.front s));
     known = λ e. k (f.known e);
     output = λ e. f.output e ∙ o;
     tells = λ e. f.tells e ∙ t;
+    fault = λ e. subst (λ x. FailsDoing x core' held before now) w (f.fault e);
   }
 
   -- by another word for the stage
-  pub fails_at : {X : Type 0} → (out out' : W) (core core' : Core) (r : Result X Lost) (st : Stated) (x y : Stage) (run : Run) → x ≡ y → FailsStage tells_out taken out core r out' core' st x run → FailsStage tells_out taken out core r out' core' st y run
-  fails_at out out' core core' r st x y run e f = subst (λ z. FailsStage tells_out taken out core r out' core' st z run) e f
+  pub fails_at : {X : Type 0} → (out out' : W) (core core' : Core) (r : Result X Lost) (st : Stated) (x y : Stage) (run : Run) → x ≡ y → FailsStage tells_out taken out core r out' core' held before now st x run → FailsStage tells_out taken out core r out' core' held before now st y run
+  fails_at out out' core core' r st x y run e f = subst (λ z. FailsStage tells_out taken out core r out' core' held before now st z run) e f

@@ -1,7 +1,8 @@
 -- Calls that give up, behind statements that are passed.
-use Rattle.std.proofs.Common.{◌≡◌, ◌≢◌, ℕ, zero, suc, ◌+◌, Bool, true, false, List, [], ◌∷◌, ◌++◌, drop, Option, Some, None, is_some, Result, Ok, Err, OnErr, IsSome, inl, inr, refl, sym, ap, ◌∙◌, subst, arith, append_assoc}
+use Rattle.std.proofs.Common.{◌≡◌, ◌≢◌, ℕ, zero, suc, ◌+◌, ◌≤◌, Bool, true, false, List, [], ◌∷◌, ◌++◌, drop, Option, Some, None, is_some, Result, Ok, Err, OnErr, IsSome, inl, inr, refl, sym, ap, ◌∙◌, subst, arith, append_assoc}
 use Rattle.std.specs.Prelude.{◌⊎◌, if◌then◌else◌}
 use Rattle.std.specs.Option.{option_and_then}
+use Rattle.fj_outside.specs.Holdings.{Holdings}
 use Rattle.fj_outside.specs.declared.outside.FileStore.{Ghosts}
 use Rattle.fj_items.specs.Handing.{HandsOver, HandsFront, whole_records}
 use Rattle.fj_items.specs.declared.lost.Lost.{Lost}
@@ -17,18 +18,24 @@ use Rattle.fj_desk.specs.Doing.{Doing, finishes, gives, awaits}
 use Rattle.fj_turns.specs.Run.{Run, Stage, Start, Waiting, Acting, Awaiting}
 use Rattle.fj_turns.specs.Turns.{Turn, Pauses, Passes, Stops, Asked, finish_by, with_core, with_iostat, turn_act, with_tells, doing_told, wait_by, waited_now, unsettled, start_by, rule_of, turn_start, turn, goes, by_turn, asked_on, asked}
 use Rattle.fj_turns.specs.Passing.{passed_by, passed_on, passes, output_of, output_due, turn_output, known_due, tells_due}
+use Rattle.fj_cut.specs.Turning.{doing_due, turn_doing}
+use Rattle.fj_units.specs.Files.{files_of}
+use Rattle.fj_units.specs.Returning.{IsAsDue}
 use Rattle.fj_pending.specs.Plain.{tells_of}
+use Rattle.fj_acts.specs.Failing.{FailsWhere}
+use Rattle.fj_acts.specs.State.{core_at}
 use Rattle.fj_acts.specs.declared.state.Core.{Core}
-use Rattle.fj_runner.specs.Failing.{FailsStage, FailsCall, IsGivenUp}
+use Rattle.fj_runner.specs.Failing.{FailsStage, FailsDoing, FailsCall, IsGivenUp, FailsAsking}
 use Rattle.fj_runner.specs.Leaving.{Rests}
 use Rattle.fj_runner.specs.Machine.{rest_of, run_in, run_at, run_of, stage_at}
 use Rattle.fj_runner.specs.Tallying.{first_lost}
 use Rattle.fj_runner.specs.Turned.{IsTask, IsAsked}
+use Rattle.fj_runner.specs.declared.hand.Hand.TheVariants.{Idle}
 use Rattle.fj_runner.specs.declared.machine.Machine.{Machine}
 use Rattle.fj_runner.proofs.Failures.{hands_front}
 use Rattle.fj_runner.proofs.NextAsks.{goes_turn, run_known, some_same}
 use Rattle.fj_runner.proofs.Runs.{hands_none}
-use Rattle.fj_runner.proofs.Stepping.{hands_both}
+use Rattle.fj_runner.proofs.Stepping.{hands_both, rose_before}
 use Rattle.fj_runner.proofs.Tallies.{not_both}
 
 -- ---- statements that are passed
@@ -58,13 +65,30 @@ hands_then a b c x y due h k = (
   k.3 ∙ ap (λ w. w ++ k.0) h.2 ∙ append_assoc a h.0 k.0,
 )
 
+-- ---- what was done on the disk
+
+due_before : (before mid now : ℕ) (found due : Option (List ℕ)) → before ≤ mid → IsAsDue mid now found due → IsAsDue before now found due
+due_before before mid now found due h (inl same) = inl same
+due_before before mid now found due h (inr (none, rose)) = inr (none, rose_before before mid now h rose)
+
+-- the disk's own number having been less before
+where_before : (due : Doing) (core : Core) (held : Holdings) (before mid now : ℕ) → before ≤ mid → FailsWhere due core held mid now → FailsWhere due core held before now
+where_before due core held before mid now h f = record {
+  rose = rose_before before mid now h f.rose;
+  units = f.units;
+  files = λ name other. due_before before mid now (files_of held name) ((core_at due).files name) h (f.files name other);
+}
+
+doing_before : (due : Option Doing) (core : Core) (held : Holdings) (before mid now : ℕ) → before ≤ mid → FailsDoing due core held mid now → FailsDoing due core held before now
+doing_before due core held before mid now h f = record { does = f.does; is = f.is; fault = where_before f.does core held before mid now h f.fault }
+
 -- ---- calls
 
 module _ {F : Type 0} {ghosts : Ghosts F} where
   -- behind statements that were passed
-  pub fails_behind : (OfDisk TellsOut TellsMid : Type 0) (a b c : List ℕ) (n : ℕ) (r half : Run) (m mid m' : Machine F ghosts) → passes n r ≡ Some half → (TellsOut → TellsMid)
-      → (TellsOut → HandsOver a b m.state.core.output mid.state.core.output) → FailsCall OfDisk TellsMid b c half mid m' → FailsCall OfDisk TellsOut a c r m m'
-  fails_behind OfDisk TellsOut TellsMid a b c n r half m mid m' p tells h f = record {
+  pub fails_behind : (OfDisk TellsOut TellsMid : Type 0) (a b c : List ℕ) {held : Holdings} {before between now : ℕ} (n : ℕ) (r half : Run) (m mid m' : Machine F ghosts) → passes n r ≡ Some half → (TellsOut → TellsMid)
+      → (TellsOut → HandsOver a b m.state.core.output mid.state.core.output) → before ≤ between → FailsCall OfDisk TellsMid b c held between now half mid m' → FailsCall OfDisk TellsOut a c held before now r m m'
+  fails_behind OfDisk TellsOut TellsMid a b c {held = held} {before = before} {between = between} {now = now} n r half m mid m' p tells h own f = record {
     count = n + f.count;
     run = f.run;
     passed = passes_both n f.count r half f.run p f.passed;
@@ -75,6 +99,7 @@ module _ {F : Type 0} {ghosts : Ghosts F} where
       output = k.output;
       handed = λ t. hands_both a b c m.state.core.output mid.state.core.output f.run.core.output (h t) (k.handed (tells t));
       tells = k.tells;
+      fault = doing_before (turn_doing f.run) m'.state.core held before between now own k.fault;
     };
   }
     where
@@ -84,34 +109,44 @@ module _ {F : Type 0} {ghosts : Ghosts F} where
       by t (inr k) = inr (hands_both a b c m.state.core.output mid.state.core.output f.run.core.output (h t) k)
 
   -- from another machine with the same output
-  pub fails_like : (OfDisk TellsOut : Type 0) (a b : List ℕ) (r : Run) (m mid m' : Machine F ghosts) → mid.state.core.output ≡ m.state.core.output → FailsCall OfDisk TellsOut a b r mid m' → FailsCall OfDisk TellsOut a b r m m'
-  fails_like OfDisk TellsOut a b r m mid m' e f = fails_behind OfDisk TellsOut TellsOut a a b 0 r r m mid m' refl (λ t. t) (λ t. hands_none a a m.state.core.output mid.state.core.output refl e) f
+  pub fails_like : (OfDisk TellsOut : Type 0) (a b : List ℕ) {held : Holdings} {before now : ℕ} (r : Run) (m mid m' : Machine F ghosts) → mid.state.core.output ≡ m.state.core.output
+      → FailsCall OfDisk TellsOut a b held before now r mid m' → FailsCall OfDisk TellsOut a b held before now r m m'
+  fails_like OfDisk TellsOut a b r m mid m' e f =
+      fails_behind OfDisk TellsOut TellsOut a a b 0 r r m mid m' refl (λ t. t) (λ t. hands_none a a m.state.core.output mid.state.core.output refl e) (omega arith) f
 
   -- to another machine with the same state
-  pub fails_to : (OfDisk TellsOut : Type 0) (a b : List ℕ) (r : Run) (m m' m'' : Machine F ghosts) → rest_of m'' ≡ rest_of m' → m''.state.core ≡ m'.state.core → FailsCall OfDisk TellsOut a b r m m' → FailsCall OfDisk TellsOut a b r m m''
-  fails_to OfDisk TellsOut a b r m m' m'' rest core f = record {
+  pub fails_to : (OfDisk TellsOut : Type 0) (a b : List ℕ) {held : Holdings} {before now : ℕ} (r : Run) (m m' m'' : Machine F ghosts) → rest_of m'' ≡ rest_of m' → m''.state.core ≡ m'.state.core
+      → FailsCall OfDisk TellsOut a b held before now r m m' → FailsCall OfDisk TellsOut a b held before now r m m''
+  fails_to OfDisk TellsOut a b {held = held} {before = before} {now = now} r m m' m'' rest core f = record {
     count = f.count;
     run = f.run;
     passed = f.passed;
     rest = rest ∙ f.rest;
     front = f.front;
-    disk = λ d. let k = f.disk d in record { known = k.known; output = ap (λ (x : Core). x.output) core ∙ k.output; handed = k.handed; tells = ap (λ (x : Core). tells_of x.tells) core ∙ k.tells };
+    disk = λ d. let k = f.disk d in record {
+      known = k.known;
+      output = ap (λ (x : Core). x.output) core ∙ k.output;
+      handed = k.handed;
+      tells = ap (λ (x : Core). tells_of x.tells) core ∙ k.tells;
+      fault = subst (λ (x : Core). FailsDoing (turn_doing f.run) x held before now) (sym core) k.fault;
+    };
   }
 
   -- by another word for the run
-  pub fails_run : (OfDisk TellsOut : Type 0) (a b : List ℕ) (r r' : Run) (m m' : Machine F ghosts) → r ≡ r' → FailsCall OfDisk TellsOut a b r m m' → FailsCall OfDisk TellsOut a b r' m m'
-  fails_run OfDisk TellsOut a b r r' m m' e f = subst (λ x. FailsCall OfDisk TellsOut a b x m m') e f
+  pub fails_run : (OfDisk TellsOut : Type 0) (a b : List ℕ) {held : Holdings} {before now : ℕ} (r r' : Run) (m m' : Machine F ghosts) → r ≡ r' → FailsCall OfDisk TellsOut a b held before now r m m' → FailsCall OfDisk TellsOut a b held before now r' m m'
+  fails_run OfDisk TellsOut a b {held = held} {before = before} {now = now} r r' m m' e f = subst (λ x. FailsCall OfDisk TellsOut a b held before now x m m') e f
 
   -- by another word for the fault of the disk
-  pub fails_for : (OfDisk OfDisk' TellsOut : Type 0) (a b : List ℕ) (r : Run) (m m' : Machine F ghosts) → (OfDisk' → OfDisk) → FailsCall OfDisk TellsOut a b r m m' → FailsCall OfDisk' TellsOut a b r m m'
+  pub fails_for : (OfDisk OfDisk' TellsOut : Type 0) (a b : List ℕ) {held : Holdings} {before now : ℕ} (r : Run) (m m' : Machine F ghosts) → (OfDisk' → OfDisk) → FailsCall OfDisk TellsOut a b held before now r m m'
+      → FailsCall OfDisk' TellsOut a b held before now r m m'
   fails_for OfDisk OfDisk' TellsOut a b r m m' go f = record { count = f.count; run = f.run; passed = f.passed; rest = f.rest; front = f.front; disk = λ d. f.disk (go d) }
 
   -- in the turn of the statement at hand
-  pub fails_turn : {W X : Type 0} (tells_out : W → Type 0) (taken : W → List ℕ) (out out' : W) (m m' : Machine F ghosts) (x : Result X Lost) (lost : Lost) (st : Stated) (more : List Stated) (r : Run) → x ≡ Err lost
+  pub fails_turn : {W X : Type 0} (tells_out : W → Type 0) (taken : W → List ℕ) (out out' : W) {held : Holdings} {before now : ℕ} (m m' : Machine F ghosts) (x : Result X Lost) (lost : Lost) (st : Stated) (more : List Stated) (r : Run) → x ≡ Err lost
       → r.rest ≡ st ∷ more → r.core.output ≡ m.state.core.output → rest_of m' ≡ r.rest
       → (tells_out out → x ≡ Err Disk → HandsOver (taken out) (taken out') m.state.core.output m'.state.core.output)
-      → FailsStage tells_out taken out m.state.core x out' m'.state.core st r.stage r → FailsCall (x ≡ Err Disk) (tells_out out) (taken out) (taken out') r m m'
-  fails_turn {X = X} tells_out taken out out' m m' x lost st more r is h o rest still f = record {
+      → FailsStage tells_out taken out m.state.core x out' m'.state.core held before now st r.stage r → FailsCall (x ≡ Err Disk) (tells_out out) (taken out) (taken out') held before now r m m'
+  fails_turn {X = X} tells_out taken out out' {held = held} {before = before} {now = now} m m' x lost st more r is h o rest still f = record {
     count = 0;
     run = r;
     passed = refl;
@@ -122,6 +157,7 @@ module _ {F : Type 0} {ghosts : Ghosts F} where
       output = f.output d ∙ sym o;
       handed = λ t. subst (λ y. HandsOver (taken out) (taken out') m.state.core.output y) (f.output d ∙ sym o) (still t d);
       tells = f.tells d ∙ ap (λ rest. tells_due rest r) (sym h);
+      fault = subst (λ rest. FailsDoing (doing_due rest r) m'.state.core held before now) (sym h) (f.fault d);
     };
   }
     where
@@ -134,7 +170,7 @@ module _ {F : Type 0} {ghosts : Ghosts F} where
       by (inr k) = inr (hands_none (taken out) (taken out') m.state.core.output r.core.output k o)
 
   -- nothing was done
-  pub fails_none : (OfDisk TellsOut : Type 0) (a : List ℕ) (r : Run) (m m' : Machine F ghosts) → rest_of m' ≡ r.rest → r.core.output ≡ m.state.core.output → (OfDisk → ⊥) → FailsCall OfDisk TellsOut a a r m m'
+  pub fails_none : (OfDisk TellsOut : Type 0) (a : List ℕ) {held : Holdings} {before now : ℕ} (r : Run) (m m' : Machine F ghosts) → rest_of m' ≡ r.rest → r.core.output ≡ m.state.core.output → (OfDisk → ⊥) → FailsCall OfDisk TellsOut a a held before now r m m'
   fails_none OfDisk TellsOut a r m m' rest o n = record {
     count = 0;
     run = r;
@@ -233,8 +269,8 @@ task_finished told bytes Finished (Settle slot) t n e = absurd t
 task_finished told bytes Finished Finished t n e = absurd (n refl)
 
 module _ {F : Type 0} {ghosts : Ghosts F} where
-  pub refused_fails : (told : F → Bool) (bytes : F → List ℕ) (OfDisk TellsOut : Type 0) (a b : List ℕ) (files : Files) (r : Run) (m mid m' : Machine F ghosts) (ask : Ask (Job F)) → IsAsked told bytes files mid ask (asked r) → ask ≢ Finished
-      → mid.deck ≡ m'.deck → mid.at ≡ m'.at → (TellsOut → HandsOver a b m.state.core.output mid.state.core.output) → (OfDisk → ⊥) → FailsCall OfDisk TellsOut a b r m m'
+  pub refused_fails : (told : F → Bool) (bytes : F → List ℕ) (OfDisk TellsOut : Type 0) (a b : List ℕ) {held : Holdings} {before now : ℕ} (files : Files) (r : Run) (m mid m' : Machine F ghosts) (ask : Ask (Job F)) → IsAsked told bytes files mid ask (asked r) → ask ≢ Finished
+      → mid.deck ≡ m'.deck → mid.at ≡ m'.at → (TellsOut → HandsOver a b m.state.core.output mid.state.core.output) → (OfDisk → ⊥) → FailsCall OfDisk TellsOut a b held before now r m m'
   refused_fails told bytes OfDisk TellsOut a b files r m mid m' ask it n deck at h none =
       let p = asked_pauses r (task_finished told bytes (asked r).ask ask it.asks n) in
       let k = run_known (run_at files mid) (stage_at told bytes files mid) (asked r).run it.run in
@@ -269,7 +305,7 @@ disk_lost o o' b lost h f e (inr d) = disk_first o b lost h f (sym e ∙ d)
 
 module _ {F : Type 0} {ghosts : Ghosts F} where
   -- a call that touches neither disk nor sink
-  pub rests_give_up : (told : F → Bool) (bytes : F → List ℕ) (TellsOut : Type 0) (a : List ℕ) (files : Files) (m m' : Machine F ghosts) → Rests m m' → IsGivenUp TellsOut a a (run_of told bytes files m) m m'
+  pub rests_give_up : (told : F → Bool) (bytes : F → List ℕ) (TellsOut : Type 0) (a : List ℕ) {held : Holdings} {before now : ℕ} (files : Files) (m m' : Machine F ghosts) → Rests m m' → IsGivenUp TellsOut a a held before now (run_of told bytes files m) m m'
   rests_give_up told bytes TellsOut a files m m' s r e going over stopped =
       let k = run_known (run_at files m) (stage_at told bytes files m) r e in
       let rest : rest_of m' ≡ rest_of m = ap (λ d. drop m'.at (stated d.statements)) s.deck ∙ ap (λ i. drop i (stated m.deck.statements)) s.at in
@@ -279,9 +315,15 @@ module _ {F : Type 0} {ghosts : Ghosts F} where
       none_disk : (o : Option Lost) → o ≡ None → o ≡ Some Disk → ⊥
       none_disk o n d = cc
 
+  pub rests_ask : (m m' : Machine F ghosts) → Rests m m' → FailsAsking m m'
+  rests_ask m m' s going d = none_disk m.tally.lost (first_some m.tally.lost m.tally.over m.tally.lost_over going) (s.of_disk d)
+    where
+      none_disk : (o : Option Lost) → o ≡ None → o ≡ Some Disk → m.tally.hand ≡ Idle
+      none_disk o n d = cc
+
   -- where the disk tells
-  pub given_up_told : (TellsOut : Type 0) (a b : List ℕ) (decided : Bool) (o : Option Run) (m m' : Machine F ghosts) → (decided ≡ true → IsGivenUp TellsOut a b o m m')
-      → IsGivenUp TellsOut a b (if decided then o else None) m m'
+  pub given_up_told : (TellsOut : Type 0) (a b : List ℕ) {held : Holdings} {before now : ℕ} (decided : Bool) (o : Option Run) (m m' : Machine F ghosts) → (decided ≡ true → IsGivenUp TellsOut a b held before now o m m')
+      → IsGivenUp TellsOut a b held before now (if decided then o else None) m m'
   given_up_told TellsOut a b true o m m' go = go refl
   given_up_told TellsOut a b false o m m' go = λ r e going over stopped. cc
 

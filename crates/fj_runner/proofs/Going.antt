@@ -13,10 +13,10 @@ use Rattle.fj_runner.specs.declared.machine.Machine.{Machine}
 use Rattle.fj_runner.proofs.GivingUp.{passes_both, passes_one}
 use Rattle.fj_runner.proofs.Stepping.{went, kept_steps, ok_keeps, then_steps, ok_steps}
 
-module _ {W D F : Type 0} {ghosts : Ghosts F} (tells_out : W → Type 0) (taken : W → List ℕ) (count_out : W → ℕ) (tells : D → Type 0) (held : D → Holdings) (count : D → ℕ) where
+module _ {W D F : Type 0} {ghosts : Ghosts F} (tells_out : W → Type 0) (taken : W → List ℕ) (count_out : W → ℕ) (tells : D → Type 0) (held : D → Holdings) (count refusals : D → ℕ) where
   -- what is asked from here on is what was to be asked
   pub record GoesOn (out : W) (disk : D) (m : Machine F ghosts) (out' : W) (disk' : D) (m' : Machine F ghosts) : Type 0 where
-    pub steps : Steps tells_out taken count_out tells held count out disk m.state.core (went (tt {0})) out' disk' m'.state.core
+    pub steps : Steps tells_out taken count_out tells held count refusals out disk m.state.core (went (tt {0})) out' disk' m'.state.core
     pub goes : tells disk → m.state.stage ≡ stage.Start
         → (m'.state.stage ≡ stage.Start) × (goes (rest_of m) (run_at (files_of (held disk)) m Start) ≡ goes (rest_of m') (run_at (files_of (held disk')) m' Start))
     pub passed : tells disk → (count : ℕ) × (passes count (run_at (files_of (held disk)) m Start) ≡ Some (run_at (files_of (held disk')) m' Start))
@@ -35,7 +35,7 @@ module _ {W D F : Type 0} {ghosts : Ghosts F} (tells_out : W → Type 0) (taken 
   }
 
   pub goes_more : {X : Type 0} → (out mid out' : W) (disk between disk' : D) (m half m' : Machine F ghosts) (x : X) → GoesOn out disk m mid between half
-      → Steps tells_out taken count_out tells held count mid between half.state.core (went x) out' disk' m'.state.core
+      → Steps tells_out taken count_out tells held count refusals mid between half.state.core (went x) out' disk' m'.state.core
       → (tells between → (m'.state.stage ≡ stage.Start) × (goes (rest_of half) (run_at (files_of (held between)) half Start) ≡ goes (rest_of m') (run_at (files_of (held disk')) m' Start)))
       → (tells between → passed_on (rest_of half) (run_at (files_of (held between)) half Start) ≡ Some (run_at (files_of (held disk')) m' Start))
       → m'.deck ≡ half.deck → m'.tally ≡ half.tally → m'.kept ≡ half.kept → GoesOn out disk m out' disk' m'

@@ -45,11 +45,12 @@ took_by (Ok n) P p = p
 took_by (Err e) P p = tt
 
 -- a call that touches neither disk nor sink
-pub rests_leaves : {W D F : Type 0} {ghosts : Ghosts F} {tells_out : W → Type 0} {taken : W → List ℕ} {count_out : W → ℕ} {tells : D → Type 0} {count : D → ℕ} → (out : W) (disk : D) (m m' : Machine F ghosts)
-    → Rests m m' → Leaves tells_out taken count_out tells count out disk m out disk m'
+pub rests_leaves : {W D F : Type 0} {ghosts : Ghosts F} {tells_out : W → Type 0} {taken : W → List ℕ} {count_out : W → ℕ} {tells : D → Type 0} {count refusals : D → ℕ} → (out : W) (disk : D) (m m' : Machine F ghosts)
+    → Rests m m' → Leaves tells_out taken count_out tells count refusals out disk m out disk m'
 rests_leaves {taken = taken} out disk m m' r = record {
   telling = (λ t. t, λ t. t);
   later = omega arith;
+  own = λ t. omega arith;
   telling_out = (λ t. t, λ t. t);
   later_out = omega arith;
   output = λ t none. hands_none (taken out) (taken out) m.state.core.output m'.state.core.output refl r.output;

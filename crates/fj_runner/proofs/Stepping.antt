@@ -51,7 +51,7 @@ on_any (Err lost) P p = tt
 
 -- ---- faults
 
-rose_before : (a b c : ℕ) → a ≤ b → Rose b c → Rose a c
+pub rose_before : (a b c : ℕ) → a ≤ b → Rose b c → Rose a c
 rose_before a b c h r = omega arith
 
 pub rose_behind : (a b c : ℕ) → b ≤ c → Rose a b → Rose a c
@@ -76,14 +76,15 @@ same_keeps core core' r e d s = record {
 pub ok_keeps : {X : Type 0} → (core core' : Core) (x : X) → core' ≡ core → Keeps core (went x) core'
 ok_keeps core core' x e = same_keeps core core' (went x) e (λ q. cc) (λ q. cc)
 
-module _ {W D : Type 0} {tells_out : W → Type 0} {taken : W → List ℕ} {count_out : W → ℕ} {tells : D → Type 0} {held : D → Holdings} {count : D → ℕ} where
+module _ {W D : Type 0} {tells_out : W → Type 0} {taken : W → List ℕ} {count_out : W → ℕ} {tells : D → Type 0} {held : D → Holdings} {count refusals : D → ℕ} where
   -- it calls nothing of the outside
-  pub kept_steps : {X : Type 0} → (out : W) (disk : D) (core core' : Core) (r : Result X Lost) → Keeps core r core' → Steps tells_out taken count_out tells held count out disk core r out disk core'
+  pub kept_steps : {X : Type 0} → (out : W) (disk : D) (core core' : Core) (r : Result X Lost) → Keeps core r core' → Steps tells_out taken count_out tells held count refusals out disk core r out disk core'
   kept_steps out disk core core' r k = record {
     kinds = k.kinds;
     names = λ t. in_use_still core.names core'.names (held disk).in_use k.names;
     telling = (λ t. t, λ t. t);
     later = omega arith;
+    own = λ t. omega arith;
     failed = λ e. absurd (k.disk e);
     telling_out = (λ t. t, λ t. t);
     later_out = omega arith;
@@ -95,13 +96,14 @@ module _ {W D : Type 0} {tells_out : W → Type 0} {taken : W → List ℕ} {cou
 
   -- two in a row are one
   pub then_steps : {X Y : Type 0} → (out mid out' : W) (disk between disk' : D) (core half core' : Core) (x : X) (r : Result Y Lost)
-      → Steps tells_out taken count_out tells held count out disk core (went x) mid between half → Steps tells_out taken count_out tells held count mid between half r out' disk' core'
-      → Steps tells_out taken count_out tells held count out disk core r out' disk' core'
+      → Steps tells_out taken count_out tells held count refusals out disk core (went x) mid between half → Steps tells_out taken count_out tells held count refusals mid between half r out' disk' core'
+      → Steps tells_out taken count_out tells held count refusals out disk core r out' disk' core'
   then_steps out mid out' disk between disk' core half core' x r a b = record {
     kinds = b.kinds ∙ a.kinds;
     names = λ t n. b.names (a.telling.0 t) (a.names t n);
     telling = (λ t. b.telling.0 (a.telling.0 t), λ t. a.telling.1 (b.telling.1 t));
     later = let p = a.later in let q = b.later in omega arith;
+    own = λ t. let p = a.own t in let q = b.own (a.telling.0 t) in omega arith;
     failed = λ e. rose_before (count disk) (count between) (count disk') a.later (b.failed e);
     telling_out = (λ t. b.telling_out.0 (a.telling_out.0 t), λ t. a.telling_out.1 (b.telling_out.1 t));
     later_out = let p = a.later_out in let q = b.later_out in omega arith;
@@ -114,12 +116,13 @@ module _ {W D : Type 0} {tells_out : W → Type 0} {taken : W → List ℕ} {cou
 
   -- the same, where what it comes to is another word for it
   pub err_steps : {X Y : Type 0} → (out out' : W) (disk disk' : D) (core core' : Core) (r : Result X Lost) (lost : Lost) → r ≡ Err lost
-      → Steps tells_out taken count_out tells held count out disk core r out' disk' core' → Steps tells_out taken count_out tells held count out disk core (given_up {X = Y} lost) out' disk' core'
+      → Steps tells_out taken count_out tells held count refusals out disk core r out' disk' core' → Steps tells_out taken count_out tells held count refusals out disk core (given_up {X = Y} lost) out' disk' core'
   err_steps out out' disk disk' core core' r lost is a = record {
     kinds = a.kinds;
     names = a.names;
     telling = a.telling;
     later = a.later;
+    own = a.own;
     failed = λ e. a.failed (cc (is, e));
     telling_out = a.telling_out;
     later_out = a.later_out;
@@ -130,12 +133,13 @@ module _ {W D : Type 0} {tells_out : W → Type 0} {taken : W → List ℕ} {cou
   }
 
   pub ok_steps : {X Y : Type 0} → (out out' : W) (disk disk' : D) (core core' : Core) (r : Result X Lost) (x : X) (y : Y) → r ≡ Ok x
-      → Steps tells_out taken count_out tells held count out disk core r out' disk' core' → Steps tells_out taken count_out tells held count out disk core (went y) out' disk' core'
+      → Steps tells_out taken count_out tells held count refusals out disk core r out' disk' core' → Steps tells_out taken count_out tells held count refusals out disk core (went y) out' disk' core'
   ok_steps {X = X} out out' disk disk' core core' r x y is a = record {
     kinds = a.kinds;
     names = a.names;
     telling = a.telling;
     later = a.later;
+    own = a.own;
     failed = λ e. cc;
     telling_out = a.telling_out;
     later_out = a.later_out;
@@ -147,14 +151,15 @@ module _ {W D : Type 0} {tells_out : W → Type 0} {taken : W → List ℕ} {cou
 
   -- its own action is given up
   pub begun_steps : {X Y : Type 0} → (out out' : W) (disk disk' : D) (core core' : Core) (r : Result X Lost) (lost : Lost) (due : Output) → r ≡ Err lost → core'.store.kinds ≡ core.store.kinds → (tells disk → AreInUse core'.names (held disk').in_use)
-      → (tells disk ↔ tells disk') → count disk ≤ count disk' → (r ≡ Err Disk → Rose (count disk) (count disk')) → (tells_out out ↔ tells_out out') → count_out out ≤ count_out out' → (r ≡ Err Sink → Rose (count_out out) (count_out out'))
+      → (tells disk ↔ tells disk') → count disk ≤ count disk' → (tells disk → refusals disk ≤ refusals disk') → (r ≡ Err Disk → Rose (count disk) (count disk')) → (tells_out out ↔ tells_out out') → count_out out ≤ count_out out' → (r ≡ Err Sink → Rose (count_out out) (count_out out'))
       → (tells_out out → OnErr r (HandsFront (taken out) (taken out') core.output due)) → (r ≡ Err Disk → (out' ≡ out) × (core'.output ≡ core.output))
-      → Steps tells_out taken count_out tells held count out disk core (given_up {X = Y} lost) out' disk' core'
-  begun_steps {X = X} out out' disk disk' core core' r lost due is kinds names telling later failed telling_out later_out failed_out front still = record {
+      → Steps tells_out taken count_out tells held count refusals out disk core (given_up {X = Y} lost) out' disk' core'
+  begun_steps {X = X} out out' disk disk' core core' r lost due is kinds names telling later own failed telling_out later_out failed_out front still = record {
     kinds = kinds;
     names = λ t _. names t;
     telling = telling;
     later = later;
+    own = own;
     failed = λ e. failed (cc (is, e));
     telling_out = telling_out;
     later_out = later_out;
@@ -166,12 +171,13 @@ module _ {W D : Type 0} {tells_out : W → Type 0} {taken : W → List ℕ} {cou
 
   -- it calls the disk alone
   pub disk_steps : {X : Type 0} → (out : W) (disk disk' : D) (core core' : Core) (x : X) → core'.store.kinds ≡ core.store.kinds → (tells disk → AreInUse core'.names (held disk').in_use)
-      → core'.output ≡ core.output → (tells disk ↔ tells disk') → count disk ≤ count disk' → Steps tells_out taken count_out tells held count out disk core (went x) out disk' core'
-  disk_steps out disk disk' core core' x kinds names output telling later = record {
+      → core'.output ≡ core.output → (tells disk ↔ tells disk') → count disk ≤ count disk' → (tells disk → refusals disk ≤ refusals disk') → Steps tells_out taken count_out tells held count refusals out disk core (went x) out disk' core'
+  disk_steps out disk disk' core core' x kinds names output telling later own = record {
     kinds = kinds;
     names = λ t _. names t;
     telling = telling;
     later = later;
+    own = own;
     failed = λ e. cc;
     telling_out = (λ t. t, λ t. t);
     later_out = omega arith;

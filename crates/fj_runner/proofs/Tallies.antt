@@ -1,5 +1,6 @@
 -- The ask at hand, and whether it is over.
 use Rattle.std.proofs.Common.{◌≡◌, ℕ, Bool, true, false, List, refl}
+use Rattle.fj_world.specs.Conduct as conduct
 use Rattle.fj_world.specs.Conduct.{IsSubmitting, IsSettling}
 use Rattle.fj_runner.specs.Tallying.{due_of, MaySubmit, MaySettle}
 use Rattle.fj_runner.specs.declared.hand.Hand.{Hand}
@@ -14,6 +15,11 @@ pub submitting_runs : (hand : Hand) (over : Bool) (left : ℕ) → MaySubmit han
 submitting_runs Idle over left may s = absurd s
 submitting_runs (Submitting slot) over left may s = (may slot refl).0
 submitting_runs (Settling slot) over left may s = absurd s
+
+pub asking : (hand : Hand) → due_of hand ≡ conduct.Idle → hand ≡ Idle
+asking Idle e = refl
+asking (Submitting slot) e = cc
+asking (Settling slot) e = cc
 
 pub not_both : (b : Bool) → b ≡ true → b ≡ false → ⊥
 not_both true t f = cc

@@ -1,68 +1,88 @@
 -- What was told and written until a turn was given up, and until a call was.
 use Rattle.std.specs.Prelude.{◌≡◌, ◌⊎◌, ℕ, true, false, List, Option, Some, None, IsSome, Result, Err, OnErr}
+use Rattle.fj_outside.specs.Holdings.{Holdings}
 use Rattle.fj_outside.specs.declared.outside.FileStore.{Ghosts}
 use Rattle.fj_items.specs.Handing.{HandsOver, HandsFront}
 use Rattle.fj_items.specs.declared.lost.Lost.{Lost}
 use Rattle.fj_items.specs.declared.lost.Lost.TheVariants.{Disk}
 use Rattle.fj_plain.specs.State.{Output, Tell}
 use Rattle.fj_plain.specs.Statement.{Stated}
+use Rattle.fj_desk.specs.Doing.{Doing}
 use Rattle.fj_turns.specs.Run.{Run, Stage}
 use Rattle.fj_turns.specs.Turns.{turn}
 use Rattle.fj_turns.specs.Passing.{passes, output_of, turn_output, knows_at, told_at, KnowsAnswers, turn_tells}
+use Rattle.fj_cut.specs.Turning.{doing_at, turn_doing}
 use Rattle.fj_pending.specs.Plain.{tells_of}
+use Rattle.fj_acts.specs.Failing.{FailsWhere}
 use Rattle.fj_acts.specs.declared.state.Core.{Core}
 use Rattle.fj_runner.specs.Machine.{rest_of}
+use Rattle.fj_runner.specs.declared.hand.Hand.TheVariants.{Idle}
 use Rattle.fj_runner.specs.declared.machine.Machine.{Machine}
+
+-- ---- what was done on the disk
+
+-- The disk failed where the statement does this: units and files are those that were due.
+pub record FailsDoing (due : Option Doing) (core : Core) (held : Holdings) (before now : ℕ) : Type 0 where
+  pub does : Doing
+  pub is : due ≡ Some does
+  pub fault : FailsWhere does core held before now
 
 -- ---- one turn
 
 -- Where it is given up, the sink took a front of the records that the output due has, or nothing. Where that is for the disk, the
--- answers that it needs are known, that is told, and nothing of it is written.
+-- answers that it needs are known, that is told, and nothing of it is written; units and files are those due of what it does.
 pub record FailsTurn {W X : Type 0} (tells_out : W → Type 0) (taken : W → List ℕ) (out : W) (core : Core) (result : Result X Lost) (out' : W) (core' : Core)
-    (due : Output) (Known : Type 0) (told : List Tell) : Type 0 where
+    (held : Holdings) (before now : ℕ) (due : Output) (Known : Type 0) (told : List Tell) (does : Option Doing) : Type 0 where
   pub front : tells_out out → OnErr result (HandsFront (taken out) (taken out') core.output due ⊎ (taken out' ≡ taken out))
   pub known : result ≡ Err Disk → Known
   pub output : result ≡ Err Disk → core'.output ≡ core.output
   pub tells : result ≡ Err Disk → tells_of core'.tells ≡ told
+  pub fault : result ≡ Err Disk → FailsDoing does core' held before now
 
 -- the turn of a statement from a stage
-abbrev pub FailsStage : {W X : Type 0} → (W → Type 0) → (W → List ℕ) → W → Core → Result X Lost → W → Core → Stated → Stage → Run → Type 0
-FailsStage tells_out taken out core result out' core' st stage r =
-    FailsTurn tells_out taken out core result out' core' (output_of (turn st stage r)) (knows_at st stage r) (told_at st stage r)
+abbrev pub FailsStage : {W X : Type 0} → (W → Type 0) → (W → List ℕ) → W → Core → Result X Lost → W → Core → Holdings → ℕ → ℕ → Stated → Stage → Run → Type 0
+FailsStage tells_out taken out core result out' core' held before now st stage r =
+    FailsTurn tells_out taken out core result out' core' held before now (output_of (turn st stage r)) (knows_at st stage r) (told_at st stage r) (doing_at st stage r)
 
 -- ---- one call
 
--- The disk failed in the turn of that run: its transfers are told, and nothing of it is written.
-pub record FailsAtDisk {F : Type 0} {ghosts : Ghosts F} (TellsOut : Type 0) (taken taken' : List ℕ) (run : Run) (m m' : Machine F ghosts) : Type 0 where
+-- The disk failed in the turn of that run: its transfers are told, and nothing of it is written. Units and files are those due of what
+-- the turn does; `held` is what the disk holds then, and its own number was `before` and is `now`.
+pub record FailsAtDisk {F : Type 0} {ghosts : Ghosts F} (TellsOut : Type 0) (taken taken' : List ℕ) (held : Holdings) (before now : ℕ) (run : Run) (m m' : Machine F ghosts) : Type 0 where
   pub known : KnowsAnswers run
   pub output : m'.state.core.output ≡ run.core.output
   pub handed : TellsOut → HandsOver taken taken' m.state.core.output run.core.output
   pub tells : tells_of m'.state.core.tells ≡ turn_tells run
+  pub fault : FailsDoing (turn_doing run) m'.state.core held before now
 
 -- A call gave up: it was in the turn of a statement, behind so many that it passed, and the sink took a front of the records that this
 -- turn's output has.
-pub record FailsCall {F : Type 0} {ghosts : Ghosts F} (OfDisk TellsOut : Type 0) (taken taken' : List ℕ) (r : Run) (m m' : Machine F ghosts) : Type 0 where
+pub record FailsCall {F : Type 0} {ghosts : Ghosts F} (OfDisk TellsOut : Type 0) (taken taken' : List ℕ) (held : Holdings) (before now : ℕ) (r : Run) (m m' : Machine F ghosts) : Type 0 where
   pub count : ℕ
   pub run : Run
   pub passed : passes count r ≡ Some run
   pub rest : rest_of m' ≡ run.rest
   pub front : TellsOut → HandsFront taken taken' m.state.core.output (turn_output run) ⊎ HandsOver taken taken' m.state.core.output run.core.output
-  pub disk : OfDisk → FailsAtDisk TellsOut taken taken' run m m'
+  pub disk : OfDisk → FailsAtDisk TellsOut taken taken' held before now run m m'
 
 -- where it is over then
-abbrev pub GivesUp : {F : Type 0} {ghosts : Ghosts F} → Type 0 → List ℕ → List ℕ → Run → Machine F ghosts → Machine F ghosts → Type 0
-GivesUp TellsOut taken taken' r m m' = FailsCall (m'.tally.lost ≡ Some Disk) TellsOut taken taken' r m m'
+abbrev pub GivesUp : {F : Type 0} {ghosts : Ghosts F} → Type 0 → List ℕ → List ℕ → Holdings → ℕ → ℕ → Run → Machine F ghosts → Machine F ghosts → Type 0
+GivesUp TellsOut taken taken' held before now r m m' = FailsCall (m'.tally.lost ≡ Some Disk) TellsOut taken taken' held before now r m m'
 
 -- a call by which it is over, and no stop was told
-abbrev pub IsGivenUp : {F : Type 0} {ghosts : Ghosts F} → Type 0 → List ℕ → List ℕ → Option Run → Machine F ghosts → Machine F ghosts → Type 0
-IsGivenUp TellsOut taken taken' state m m' =
-    (r : Run) → state ≡ Some r → m.tally.over ≡ false → m'.tally.over ≡ true → m'.tally.stopped ≡ false → GivesUp TellsOut taken taken' r m m'
+abbrev pub IsGivenUp : {F : Type 0} {ghosts : Ghosts F} → Type 0 → List ℕ → List ℕ → Holdings → ℕ → ℕ → Option Run → Machine F ghosts → Machine F ghosts → Type 0
+IsGivenUp TellsOut taken taken' held before now state m m' =
+    (r : Run) → state ≡ Some r → m.tally.over ≡ false → m'.tally.over ≡ true → m'.tally.stopped ≡ false → GivesUp TellsOut taken taken' held before now r m m'
+
+-- until it is over, the disk fails in an ask alone
+abbrev pub FailsAsking : {F : Type 0} {ghosts : Ghosts F} → Machine F ghosts → Machine F ghosts → Type 0
+FailsAsking m m' = m.tally.over ≡ false → m'.tally.lost ≡ Some Disk → m.tally.hand ≡ Idle
 
 -- ---- once it is over
 
--- a call of a machine that is over leaves it and its sink
-abbrev pub Stays : {F : Type 0} {ghosts : Ghosts F} → List ℕ → List ℕ → Machine F ghosts → Machine F ghosts → Type 0
-Stays taken taken' m m' = m.tally.over ≡ true → (m' ≡ m) × (taken' ≡ taken)
+-- a call of a machine that is over leaves it, its sink and its disk
+abbrev pub Stays : {D F : Type 0} {ghosts : Ghosts F} → List ℕ → List ℕ → D → D → Machine F ghosts → Machine F ghosts → Type 0
+Stays taken taken' disk disk' m m' = m.tally.over ≡ true → (m' ≡ m) × (taken' ≡ taken) × (disk' ≡ disk)
 
 -- a call by which it is over told a stop, and then nothing is lost; or something was lost
 abbrev pub HasReason : {F : Type 0} {ghosts : Ghosts F} → Machine F ghosts → Machine F ghosts → Type 0

@@ -7,10 +7,11 @@ use Rattle.fj_items.specs.declared.lost.Lost.TheVariants.{Disk, Sink}
 use Rattle.fj_runner.specs.Taking.{TakesMore}
 use Rattle.fj_runner.specs.declared.machine.Machine.{Machine}
 
-pub record Leaves {W D F : Type 0} {ghosts : Ghosts F} (tells_out : W → Type 0) (taken : W → List ℕ) (count_out : W → ℕ) (tells : D → Type 0) (count : D → ℕ)
+pub record Leaves {W D F : Type 0} {ghosts : Ghosts F} (tells_out : W → Type 0) (taken : W → List ℕ) (count_out : W → ℕ) (tells : D → Type 0) (count refusals : D → ℕ)
     (out : W) (disk : D) (m : Machine F ghosts) (out' : W) (disk' : D) (m' : Machine F ghosts) : Type 0 where
   pub telling : tells disk ↔ tells disk'
   pub later : count disk ≤ count disk'
+  pub own : tells disk → refusals disk ≤ refusals disk'
   pub telling_out : tells_out out ↔ tells_out out'
   pub later_out : count_out out ≤ count_out out'
   -- the sink took the records that ended, where nothing is lost but by the disk; and else it took more behind what it had
@@ -34,11 +35,12 @@ pub record Rests {F : Type 0} {ghosts : Ghosts F} (m m' : Machine F ghosts) : Ty
   pub deck : m'.deck ≡ m.deck
 
 -- one call of a runner, whose sink, disk and machine go by these names: they are the same ones
-pub record Leads {N : Type 0} (out disk machine out' disk' machine' : N) (left_so given_up_so stays_so reason_so : Type 0) : Type 0 where
+pub record Leads {N : Type 0} (out disk machine out' disk' machine' : N) (left_so given_up_so asking_so stays_so reason_so : Type 0) : Type 0 where
   pub same_out : out' ≡ out
   pub same_disk : disk' ≡ disk
   pub same_machine : machine' ≡ machine
   pub leaves : left_so
   pub gives_up : given_up_so
+  pub asking : asking_so
   pub stays : stays_so
   pub reason : reason_so

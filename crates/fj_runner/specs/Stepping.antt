@@ -17,13 +17,14 @@ pub record Keeps {X : Type 0} (core : Core) (result : Result X Lost) (core' : Co
   pub disk : result ≢ Err Disk
   pub sink : result ≢ Err Sink
 
-pub record Steps {W D X : Type 0} (tells_out : W → Type 0) (taken : W → List ℕ) (count_out : W → ℕ) (tells : D → Type 0) (held : D → Holdings) (count : D → ℕ)
+pub record Steps {W D X : Type 0} (tells_out : W → Type 0) (taken : W → List ℕ) (count_out : W → ℕ) (tells : D → Type 0) (held : D → Holdings) (count refusals : D → ℕ)
     (out : W) (disk : D) (core : Core) (result : Result X Lost) (out' : W) (disk' : D) (core' : Core) : Type 0 where
   pub kinds : core'.store.kinds ≡ core.store.kinds
   -- the names that it keeps are still those in use
   pub names : tells disk → AreInUse core.names (held disk).in_use → AreInUse core'.names (held disk').in_use
   pub telling : tells disk ↔ tells disk'
   pub later : count disk ≤ count disk'
+  pub own : tells disk → refusals disk ≤ refusals disk'
   pub failed : result ≡ Err Disk → Rose (count disk) (count disk')
   pub telling_out : tells_out out ↔ tells_out out'
   pub later_out : count_out out ≤ count_out out'

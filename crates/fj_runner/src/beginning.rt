@@ -10,7 +10,7 @@ ghost use Rattle.fj_desk.specs.Core.{unit_named};
 ghost use Rattle.fj_desk.specs.Desking.{told_core};
 ghost use Rattle.fj_turns.specs.Run.{Stage as PlainStage, Start, Waiting};
 ghost use Rattle.fj_turns.specs.Passing.{output_of};
-ghost use Rattle.fj_turns.specs.Turns.{settles, turn_tell, turn_wait, turn_start};
+ghost use Rattle.fj_turns.specs.Turns.{settles, doing_told, turn_tell, turn_wait, turn_start};
 ghost use Rattle.fj_pending.specs.Asks.{IsUnitAsked};
 ghost use Rattle.fj_pending.specs.Plain.{held, entries, tells_of};
 ghost use Rattle.fj_pending.specs.Waits.{waited_of};
@@ -100,12 +100,13 @@ impl<F: FileStore> State<F> {
             → IfOk result (λ t. IsTurn F.told F.bytes variables.now ((lined.now, control_by lined.now.what) ∷ more) (files_of (D.held disk.new)) self.new t
             (turn_tell (lined.now, control_by lined.now.what) (waited_of whose (entries self.old.core.pending))
             (run_in variables.now ((lined.now, control_by lined.now.what) ∷ more) (files_of (D.held disk.old)) self.old stage))) }
-        ensures steps { Steps W.tells W.taken W.count D.tells D.held D.count out.old disk.old self.old.core result out.new disk.new self.new.core }
+        ensures steps { Steps W.tells W.taken W.count D.tells D.held D.count D.refusals out.old disk.old self.old.core result out.new disk.new self.new.core }
         ensures fails { D.tells disk.old → (more : List Stated) (stage : PlainStage)
-            → FailsTurn W.tells W.taken out.old self.old.core result out.new self.new.core
+            → FailsTurn W.tells W.taken out.old self.old.core result out.new self.new.core (D.held disk.new) (D.refusals disk.old) (D.refusals disk.new)
             (output_of (turn_tell (lined.now, control_by lined.now.what) (waited_of whose (entries self.old.core.pending))
             (run_in variables.now ((lined.now, control_by lined.now.what) ∷ more) (files_of (D.held disk.old)) self.old stage))) (Unit {0})
-            (tells_of self.old.core.tells ++ map (tell_of lined.now.line) (waited_of whose (entries self.old.core.pending))) }
+            (tells_of self.old.core.tells ++ map (tell_of lined.now.line) (waited_of whose (entries self.old.core.pending)))
+            (Some (doing_told variables.now (lined.now, control_by lined.now.what) (waited_of whose (entries self.old.core.pending)) (core_of (files_of (D.held disk.old)) self.old.core))) }
     {
         put_stage(&mut self.stage, Stage::Start);
         let units = self.core.units.as_slice();
@@ -153,9 +154,9 @@ impl<F: FileStore> State<F> {
             → IfOk result (λ t. IsTurn F.told F.bytes variables.now ((lined.now, control_by lined.now.what) ∷ more) (files_of (D.held disk.new)) self.new t
             (turn_wait (lined.now, control_by lined.now.what)
             (run_in variables.now ((lined.now, control_by lined.now.what) ∷ more) (files_of (D.held disk.old)) self.old stage))) }
-        ensures steps { Steps W.tells W.taken W.count D.tells D.held D.count out.old disk.old self.old.core result out.new disk.new self.new.core }
+        ensures steps { Steps W.tells W.taken W.count D.tells D.held D.count D.refusals out.old disk.old self.old.core result out.new disk.new self.new.core }
         ensures fails { D.tells disk.old → (more : List Stated) (stage : PlainStage)
-            → FailsStage W.tells W.taken out.old self.old.core result out.new self.new.core (lined.now, control_by lined.now.what) Waiting
+            → FailsStage W.tells W.taken out.old self.old.core result out.new self.new.core (D.held disk.new) (D.refusals disk.old) (D.refusals disk.new) (lined.now, control_by lined.now.what) Waiting
             (run_in variables.now ((lined.now, control_by lined.now.what) ∷ more) (files_of (D.held disk.old)) self.old stage) }
     {
         match self.core.pending.next_unsettled(whose, from) {
@@ -182,9 +183,9 @@ impl<F: FileStore> State<F> {
             → IfOk result (λ t. IsTurn F.told F.bytes variables.now ((lined.now, control_by lined.now.what) ∷ more) (files_of (D.held disk.new)) self.new t
             (turn_wait (lined.now, control_by lined.now.what)
             (run_in variables.now ((lined.now, control_by lined.now.what) ∷ more) (files_of (D.held disk.old)) self.old stage))) }
-        ensures steps { Steps W.tells W.taken W.count D.tells D.held D.count out.old disk.old self.old.core result out.new disk.new self.new.core }
+        ensures steps { Steps W.tells W.taken W.count D.tells D.held D.count D.refusals out.old disk.old self.old.core result out.new disk.new self.new.core }
         ensures fails { D.tells disk.old → (more : List Stated) (stage : PlainStage)
-            → FailsStage W.tells W.taken out.old self.old.core result out.new self.new.core (lined.now, control_by lined.now.what) Waiting
+            → FailsStage W.tells W.taken out.old self.old.core result out.new self.new.core (D.held disk.new) (D.refusals disk.old) (D.refusals disk.new) (lined.now, control_by lined.now.what) Waiting
             (run_in variables.now ((lined.now, control_by lined.now.what) ∷ more) (files_of (D.held disk.old)) self.old stage) }
     {
         let whose = waits_for(&lined.what, &self.core.store);
@@ -207,9 +208,9 @@ impl<F: FileStore> State<F> {
             → IfOk result (λ t. IsTurn F.told F.bytes variables.now ((lined.now, control_by lined.now.what) ∷ more) (files_of (D.held disk.new)) self.new t
             (turn_start (lined.now, control_by lined.now.what)
             (run_in variables.now ((lined.now, control_by lined.now.what) ∷ more) (files_of (D.held disk.old)) self.old stage))) }
-        ensures steps { Steps W.tells W.taken W.count D.tells D.held D.count out.old disk.old self.old.core result out.new disk.new self.new.core }
+        ensures steps { Steps W.tells W.taken W.count D.tells D.held D.count D.refusals out.old disk.old self.old.core result out.new disk.new self.new.core }
         ensures fails { D.tells disk.old → (more : List Stated) (stage : PlainStage)
-            → FailsStage W.tells W.taken out.old self.old.core result out.new self.new.core (lined.now, control_by lined.now.what) Start
+            → FailsStage W.tells W.taken out.old self.old.core result out.new self.new.core (D.held disk.new) (D.refusals disk.old) (D.refusals disk.new) (lined.now, control_by lined.now.what) Start
             (run_in variables.now ((lined.now, control_by lined.now.what) ∷ more) (files_of (D.held disk.old)) self.old stage) }
     {
         let named = unit_asked(&self.core.units, &lined.what);

@@ -9,7 +9,7 @@ ghost use Rattle.fj_turns.specs.Run.{Run};
 ghost use Rattle.fj_turns.specs.Turns.{asked};
 ghost use Rattle.fj_runner.specs.Admitting.{IsDue};
 ghost use Rattle.fj_runner.specs.Turned.{IsAsked};
-ghost use Rattle.fj_runner.specs.Failing.{IsGivenUp, Stays, HasReason};
+ghost use Rattle.fj_runner.specs.Failing.{IsGivenUp, FailsAsking, Stays, HasReason};
 ghost use Rattle.fj_runner.specs.Leaving.{Leaves, Leads};
 ghost use Rattle.fj_runner.specs.Machine.{run_of};
 ghost use Rattle.fj_runner.specs.Tallying.{due_of, owed_at};
@@ -47,8 +47,8 @@ fn next_of<W: Sink, D: Disk>(
     ensures asks { D.tells disk.old → (r : Run) → run_of D.File.told D.File.bytes (files_of (D.held disk.old)) machine.old ≡ Some r → machine.new.tally.over ≡ false
         → IsAsked D.File.told D.File.bytes (files_of (D.held disk.new)) machine.new result (asked r) }
     ensures names { D.tells disk.old → AreInUse machine.new.state.core.names (D.held disk.new).in_use }
-    ensures leaves { Leaves W.tells W.taken W.count D.tells D.count out.old disk.old machine.old out.new disk.new machine.new }
-    ensures fails { D.tells disk.old → IsGivenUp (W.tells out.old) (W.taken out.old) (W.taken out.new)
+    ensures leaves { Leaves W.tells W.taken W.count D.tells D.count D.refusals out.old disk.old machine.old out.new disk.new machine.new }
+    ensures fails { D.tells disk.old → IsGivenUp (W.tells out.old) (W.taken out.old) (W.taken out.new) (D.held disk.new) (D.refusals disk.old) (D.refusals disk.new)
         (run_of D.File.told D.File.bytes (files_of (D.held disk.old)) machine.old) machine.old machine.new }
 {
     machine.ask(alloc, disk, out)
@@ -65,10 +65,10 @@ impl<'a, 'b, 'c, W: Sink, D: Disk> Script for Runner<'a, 'b, 'c, W, D> {
       over = λ r. r.machine.now.tally.over;
       stopped = λ r. r.machine.now.tally.stopped;
       leads = λ old new. Leads old.out.ghost_name old.disk.ghost_name old.machine.ghost_name new.out.ghost_name new.disk.ghost_name new.machine.ghost_name
-          (Leaves W.tells W.taken W.count D.tells D.count old.out.now old.disk.now old.machine.now new.out.now new.disk.now new.machine.now)
-          (IsGivenUp (W.tells old.out.now) (W.taken old.out.now) (W.taken new.out.now)
+          (Leaves W.tells W.taken W.count D.tells D.count D.refusals old.out.now old.disk.now old.machine.now new.out.now new.disk.now new.machine.now)
+          (IsGivenUp (W.tells old.out.now) (W.taken old.out.now) (W.taken new.out.now) (D.held new.disk.now) (D.refusals old.disk.now) (D.refusals new.disk.now)
           (if D.told old.disk.now then run_of D.File.told D.File.bytes (files_of (D.held old.disk.now)) old.machine.now else None) old.machine.now new.machine.now)
-          (Stays (W.taken old.out.now) (W.taken new.out.now) old.machine.now new.machine.now) (HasReason old.machine.now new.machine.now);
+          (FailsAsking old.machine.now new.machine.now) (Stays (W.taken old.out.now) (W.taken new.out.now) old.disk.now new.disk.now old.machine.now new.machine.now) (HasReason old.machine.now new.machine.now);
       state = λ r. if D.told r.disk.now then run_of D.File.told D.File.bytes (files_of (D.held r.disk.now)) r.machine.now else None;
     }) };
 

@@ -98,8 +98,8 @@ impl<F: FileStore> Machine<F> {
         ensures asks { D.tells disk.old → (r : Run) → run_of F.told F.bytes (files_of (D.held disk.old)) self.old ≡ Some r → self.new.tally.over ≡ false
             → IsAsked F.told F.bytes (files_of (D.held disk.new)) self.new result (asked r) }
         ensures names { D.tells disk.old → AreInUse self.new.state.core.names (D.held disk.new).in_use }
-        ensures leaves { Leaves W.tells W.taken W.count D.tells D.count out.old disk.old self.old out.new disk.new self.new }
-        ensures fails { D.tells disk.old → IsGivenUp (W.tells out.old) (W.taken out.old) (W.taken out.new)
+        ensures leaves { Leaves W.tells W.taken W.count D.tells D.count D.refusals out.old disk.old self.old out.new disk.new self.new }
+        ensures fails { D.tells disk.old → IsGivenUp (W.tells out.old) (W.taken out.old) (W.taken out.new) (D.held disk.new) (D.refusals disk.old) (D.refusals disk.new)
             (run_of F.told F.bytes (files_of (D.held disk.old)) self.old) self.old self.new }
     {
         if self.tally.over {

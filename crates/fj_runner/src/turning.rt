@@ -39,10 +39,10 @@ impl<F: FileStore> State<F> {
             → IfOk result (λ t. IsTurn F.told F.bytes variables.now ((lined.now, control_by lined.now.what) ∷ more) (files_of (D.held disk.new)) self.new t
             (turns.turn (lined.now, control_by lined.now.what) stage
             (run_in variables.now ((lined.now, control_by lined.now.what) ∷ more) (files_of (D.held disk.old)) self.old stage))) }
-        ensures steps { Steps W.tells W.taken W.count D.tells D.held D.count out.old disk.old self.old.core result out.new disk.new self.new.core }
+        ensures steps { Steps W.tells W.taken W.count D.tells D.held D.count D.refusals out.old disk.old self.old.core result out.new disk.new self.new.core }
         ensures fails { D.tells disk.old → (more : List Stated) (stage : PlainStage)
             → stage_of F.told F.bytes variables.now ((lined.now, control_by lined.now.what) ∷ more) (core_of (files_of (D.held disk.old)) self.old.core) self.old.stage ≡ Some stage
-            → FailsStage W.tells W.taken out.old self.old.core result out.new self.new.core (lined.now, control_by lined.now.what) stage
+            → FailsStage W.tells W.taken out.old self.old.core result out.new self.new.core (D.held disk.new) (D.refusals disk.old) (D.refusals disk.new) (lined.now, control_by lined.now.what) stage
             (run_in variables.now ((lined.now, control_by lined.now.what) ∷ more) (files_of (D.held disk.old)) self.old stage) }
     {
         match mem::replace(&mut self.stage, Stage::Start) {

@@ -152,13 +152,15 @@ impl<F: FileStore> State<F> {
             (ends_halts (drop next slots) (core_of (files_of (D.held disk.old)) self.old.core)
             (doing (control_by lined.now.what) variables.now lined.now.line (core_of (files_of (D.held disk.old)) self.old.core) lined.now.what condition))
             (run_in variables.now ((lined.now, control_by lined.now.what) ∷ more) (files_of (D.held disk.old)) self.old stage))) }
-        ensures steps { Steps W.tells W.taken W.count D.tells D.held D.count out.old disk.old self.old.core result out.new disk.new self.new.core }
+        ensures steps { Steps W.tells W.taken W.count D.tells D.held D.count D.refusals out.old disk.old self.old.core result out.new disk.new self.new.core }
         ensures fails { D.tells disk.old → (more : List Stated) (stage : PlainStage)
-            → FailsTurn W.tells W.taken out.old self.old.core result out.new self.new.core
+            → FailsTurn W.tells W.taken out.old self.old.core result out.new self.new.core (D.held disk.new) (D.refusals disk.old) (D.refusals disk.new)
             (output_of (turn_act (lined.now, control_by lined.now.what)
             (ends_halts (drop next slots) (core_of (files_of (D.held disk.old)) self.old.core)
             (doing (control_by lined.now.what) variables.now lined.now.line (core_of (files_of (D.held disk.old)) self.old.core) lined.now.what condition))
-            (run_in variables.now ((lined.now, control_by lined.now.what) ∷ more) (files_of (D.held disk.old)) self.old stage))) (Unit {0}) (tells_of self.old.core.tells) }
+            (run_in variables.now ((lined.now, control_by lined.now.what) ∷ more) (files_of (D.held disk.old)) self.old stage))) (Unit {0}) (tells_of self.old.core.tells)
+            (Some (ends_halts (drop next slots) (core_of (files_of (D.held disk.old)) self.old.core)
+            (doing (control_by lined.now.what) variables.now lined.now.line (core_of (files_of (D.held disk.old)) self.old.core) lined.now.what condition))) }
     {
         if let Some(slot) = slots.get(next) {
             let slot = *slot;

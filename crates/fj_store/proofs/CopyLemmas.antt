@@ -1,5 +1,5 @@
 -- Taking pieces gives the cells of the items, and putting the cells back leaves the table as it was.
-use Rattle.std.proofs.Common.{◌≡◌, ℕ, zero, suc, ◌+◌, ◌<◌, ◌≤◌, eqb, cond, true, false, List, [], ◌∷◌, ◌++◌, length, map, Option, Some, None, IsSome, All, refl, sym, ap, subst, ◌∙◌, inl, inr, arith}
+use Rattle.std.proofs.Common.{◌≡◌, ℕ, zero, suc, ◌+◌, ◌-◌, ◌<◌, ◌≤◌, eqb, cond, true, false, List, [], ◌∷◌, ◌++◌, length, map, Option, Some, None, IsSome, All, refl, sym, ap, subst, ◌∙◌, inl, inr, arith}
 use Rattle.std.proofs.lemmas.Bool.Decides.{eqb_tells, nat_tests}
 use Rattle.std.proofs.lemmas.List.Folds.{position_or_len_push}
 use Rattle.std.proofs.lemmas.List.Elements.{All-head, All-tail}
@@ -11,6 +11,8 @@ use Rattle.fj_value.specs.declared.kind.Kind.{Kind}
 use Rattle.fj_value.specs.declared.place.Place.{Place}
 use Rattle.fj_value.specs.declared.value.Cell.{Cell}
 use Rattle.fj_value.specs.declared.value.Value.{Value}
+use Rattle.fj_value.specs.declared.value.Value.TheVariants.{Undefined}
+use Rattle.std.specs.Prelude.{unwrap_or}
 use Rattle.fj_list.specs.declared.moved.Moved.{Moved}
 use Rattle.fj_store.specs.declared.piece.Piece.{Piece}
 use Rattle.fj_store.specs.declared.piece.Piece.TheVariants.{Places, Own}
@@ -229,4 +231,54 @@ copy_is kinds ks start new pieces s cells order t view same none empty few homes
     let done = copied kinds start pieces rows (subst P (sym view) homes) in (
       ap moved_in whole ∙ done.0 ∙ ap (λ z. moved_of (cells_from z 1 pieces)) view,
       ap (storage kinds) (put ∙ ap (λ x. with_cells home_again x.cells x.slots) whole ∙ done.1) ∙ view,
+    )
+
+-- ---- a run alone
+
+-- no cell has one of these places of a variable, from an index on
+abbrev pub AreFree : ℕ → ℕ → List Cell → Type 0
+AreFree var from cells = (k : ℕ) → from ≤ k → let p : Place = record { var = var; index = k } in position_or_len (is_at p) cells ≡ length cells
+
+pub none_is_taken : (var from : ℕ) → AreFree var from []
+none_is_taken var from k high = refl
+
+still_free : (var at : ℕ) (cells : List Cell) (cell : Cell) → cell.place ≡ record { var = var; index = at } → AreFree var at cells → AreFree var (at + 1) (cells ++ cell ∷ [])
+still_free var at cells cell there free k high =
+    let p : Place = record { var = var; index = k } in
+    let later : eqb k at ≡ false = grind (arith, nat_tests) in
+    let apart : same_place p cell.place ≡ false = ap (same_place p) there ∙ grind (arith, nat_tests) in
+    not_found cells cell p (free k (omega arith)) apart
+
+-- a cell whose place is free comes behind the others
+free_item : (moved : Moved) (cell : Cell) → position_or_len (is_at cell.place) moved.cells ≡ length moved.cells
+    → with_item moved cell ≡ record { cells = moved.cells ++ cell ∷ []; order = moved.order ++ length moved.cells ∷ [] }
+free_item moved cell new =
+    let test : eqb (position_or_len (is_at cell.place) moved.cells) (length moved.cells) ≡ true = rw new (grind (arith, nat_tests)) in
+    ap (λ b. let it : Moved = record { cells = cond b (moved.cells ++ cell ∷ []) moved.cells; order = moved.order ++ position_or_len (is_at cell.place) moved.cells ∷ [] } in it) test
+    ∙ ap (λ n. let it : Moved = record { cells = moved.cells ++ cell ∷ []; order = moved.order ++ n ∷ [] } in it) new
+
+-- the cell of a place that was read
+pub cell_read : (s : Storage) (p q : Place) (kind : Kind) (v : Value) → p ≡ q → kind ≡ kind_at s.kinds q.var → Some v ≡ value_at s q → record { place = p; kind = kind; value = v } ≡ cell_at s q
+cell_read s p q kind v place kind_is value =
+    ap (λ x. let it : Cell = record { place = x; kind = kind; value = v } in it) place
+    ∙ ap (λ k. let it : Cell = record { place = q; kind = k; value = v } in it) kind_is
+    ∙ ap (λ o. let it : Cell = record { place = q; kind = kind_at s.kinds q.var; value = unwrap_or o Undefined } in it) value
+
+-- one place more of a run that is copied
+pub run_item : (s : Storage) (var first count at : ℕ) (t t' : Taking) (want : Moved) (cell : Cell) → at < count → (let p : Place = record { var = var; index = first + at } in cell ≡ cell_at s p) → t' ≡ with_own t cell
+    → AreFree var (first + at) t.cells → moved_from (moved_in t) (map (cell_at s) (counted_from var (first + at) (count - at))) ≡ want
+    → AreFree var (first + (at + 1)) t'.cells × (moved_from (moved_in t') (map (cell_at s) (counted_from var (first + (at + 1)) (count - (at + 1)))) ≡ want)
+run_item s var first count at t t' want cell low cell_is step free so_far =
+    let p : Place = record { var = var; index = first + at } in
+    let left : count - at ≡ suc (count - (at + 1)) = omega arith in
+    let next : first + (at + 1) ≡ (first + at) + 1 = omega arith in
+    let there : cell.place ≡ p = ap (λ (c : Cell). c.place) cell_is in
+    let new : position_or_len (is_at cell.place) t.cells ≡ length t.cells = ap (λ q. position_or_len (is_at q) t.cells) there ∙ free (first + at) (omega arith) in
+    let item : moved_in t' ≡ with_item (moved_in t) (cell_at s p) = ap moved_in step ∙ sym (free_item (moved_in t) cell new) ∙ ap (with_item (moved_in t)) cell_is in
+    let rest : List Cell = map (cell_at s) (counted_from var ((first + at) + 1) (count - (at + 1))) in (
+      subst (λ (x : Taking). AreFree var (first + (at + 1)) x.cells) (sym step) (subst (λ n. AreFree var n (t.cells ++ cell ∷ [])) (sym next) (still_free var (first + at) t.cells cell there free)),
+      ap (λ n. moved_from (moved_in t') (map (cell_at s) (counted_from var n (count - (at + 1))))) next
+          ∙ ap (λ moved. moved_from moved rest) item
+          ∙ sym (ap (λ n. moved_from (moved_in t) (map (cell_at s) (counted_from var (first + at) n))) left)
+          ∙ so_far,
     )

@@ -1,5 +1,5 @@
 -- The places of runs.
-use Rattle.std.proofs.Common.{◌≡◌, ℕ, zero, suc, ◌+◌, ◌-◌, ◌<◌, ◌≤◌, eqb, ltb, true, false, List, [], ◌∷◌, length, take, get_or, refl, ap, ◌∙◌, inl, inr, arith, length-append}
+use Rattle.std.proofs.Common.{◌≡◌, ℕ, zero, suc, ◌+◌, ◌-◌, ◌<◌, ◌≤◌, eqb, ltb, true, false, List, [], ◌∷◌, length, take, get_or, All, refl, ap, subst, ◌∙◌, inl, inr, arith, length-append}
 use Rattle.std.proofs.lemmas.Bool.{ne_eqb, eq-eqb}
 use Rattle.std.proofs.lemmas.Bool.Decides.{eqb_tells, nat_tests}
 use Rattle.std.proofs.lemmas.List.{take_more}
@@ -42,3 +42,15 @@ places_more runs i d h =
     ∙ ap length (flat_map-append places_of (take i runs) (get_or runs i d ∷ []))
     ∙ length-append (places_in (take i runs)) (places_in (get_or runs i d ∷ []))
     ∙ ap (λ n. length (places_in (take i runs)) + n) (length-append (places_of (get_or runs i d)) [] ∙ (let e = length-counted_from (get_or runs i d).var (get_or runs i d).first (get_or runs i d).count in omega arith))
+
+-- each place of a run is read at its number
+pub counted_at : (var first n k : ℕ) (d : Place) → k < n → get_or (counted_from var first n) k d ≡ record { var = var; index = first + k }
+counted_at var first zero k d low = absurd (let never : ⊥ = omega (arith, low) in never)
+counted_at var first (suc n) zero d low = ap (λ i. let p : Place = record { var = var; index = i } in p) (omega arith)
+counted_at var first (suc n) (suc k) d low =
+    counted_at var (first + 1) n k d (omega (arith, low)) ∙ ap (λ i. let p : Place = record { var = var; index = i } in p) (omega arith)
+
+pub all_at : (P : Place → Type 0) (var first n k : ℕ) → All P (counted_from var first n) → k < n → P (record { var = var; index = first + k })
+all_at P var first n k h low =
+    let d : Place = record { var = var; index = first } in
+    subst P (counted_at var first n k d low) (h k d (omega (arith, low, length-counted_from var first n)))

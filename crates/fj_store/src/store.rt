@@ -1,13 +1,14 @@
 // The variables of a deck: what their places hold, and taking values out and giving them back.
-ghost use Rattle.std.specs.Prelude.{◌≡◌, ◌<◌, ◌≤◌, length, All, map, replicate, IsSome, IfOk, OnOk, OnErr};
+ghost use Rattle.std.specs.Prelude.{◌≡◌, ◌<◌, ◌≤◌, ◌∷◌, [], length, All, map, replicate, IsSome, IfSome, IfOk, OnOk, OnErr};
 ghost use Rattle.std.specs.Option.{option_copied};
-ghost use Rattle.fj_store.specs.Places.{places_in};
+ghost use Rattle.fj_store.specs.Places.{places_of, places_in};
 ghost use Rattle.fj_store.specs.Tables.{with_element, with_cells};
 ghost use Rattle.fj_store.specs.Kinds.{kind_at, of_kind};
 ghost use Rattle.fj_store.specs.Storage.{all_undefined, value_at, cell_at, with_value, without, given_back};
 ghost use Rattle.fj_store.specs.Variables.{moved_of};
 ghost use Rattle.fj_store.specs.Pieces.{no_variable, cells_in, places_among, sizes};
 ghost use Rattle.fj_store.specs.Taking.{home, home_again};
+ghost use Rattle.fj_store.specs.declared.piece.Piece.TheVariants.{Places};
 ghost use Rattle.fj_store.specs.declared.slot.Slot.TheVariants.{Home};
 ghost use Rattle.fj_value.specs.declared.value.Value.TheVariants.{Undefined};
 
@@ -16,7 +17,7 @@ use crate::piece::Piece;
 use crate::run::Run;
 use crate::slot::Slot;
 use crate::table::Table;
-use crate::taken::{count_of, room_for, take_pieces, take_places};
+use crate::taken::{add_cell, count_of, room_for, take_pieces, take_places};
 use fj_list::Moved;
 use fj_value::{Cell, Items, Kind, Place, Value};
 use std::alloc::{AllocError, Global};
@@ -96,6 +97,19 @@ fn copies(alloc: Global, cells: &[Cell]) -> Result<Items<Cell>, AllocError>
     Ok(copies)
 }
 
+/// The run that the items are, where they are one run.
+fn only_run(pieces: &VecDeque<Piece>) -> Option<Run>
+    ensures { IfSome result (λ run. pieces.now.items ≡ Places run ∷ []) }
+{
+    if pieces.len() != 1 {
+        return None;
+    }
+    match pieces.front() {
+        Some(Piece::Places(run)) => Some(*run),
+        Some(Piece::Own(_, _)) | None => None,
+    }
+}
+
 impl Store {
     /// Variables of these kinds, each with so many elements (a scalar has one), all undefined.
     pub fn new(alloc: Global, variables: &[(Kind, u32)]) -> Result<Store, AllocError>
@@ -151,6 +165,27 @@ impl Store {
         self.slots.count()
     }
 
+    /// Copies the values of a run, whose places are distinct, in their order.
+    fn copy_of_run(&self, alloc: Global, run: Run) -> Result<Moved, AllocError>
+        requires { All (λ place. IsSome (value_at self.now place)) (places_of run) }
+        ensures { IfOk result (λ moved. moved ≡ moved_of (map (cell_at self.now) (places_of run))) }
+    {
+        let kind = kind_in(&self.kinds, run.var);
+        let mut taken = room_for(alloc, run.count as usize)?;
+        for at in 0..run.count {
+            let place = run.place_at(at);
+            let Some(value) = self.read(place) else {
+                unreachable!();
+            };
+            let value = value.try_clone()?;
+            add_cell(Cell { place, kind, value }, &mut taken);
+        }
+        Ok(Moved {
+            cells: Items::from_vec(taken.cells),
+            order: Items::from_vec(taken.order),
+        })
+    }
+
     /// Copies the values of so many items, each place once, in the order of the items. It changes nothing.
     pub fn copy_of(
         &mut self,
@@ -164,6 +199,9 @@ impl Store {
         ensures moved { IfOk result (λ moved. moved ≡ moved_of (cells_in self.old pieces.items)) }
         ensures same { self.new ≡ self.old }
     {
+        if let Some(run) = only_run(&pieces) {
+            return self.copy_of_run(alloc, run);
+        }
         let mut taken = room_for(alloc, size as usize)?;
         take_pieces(&mut self.slots, &self.kinds, pieces, &mut taken);
         let cells = copies(alloc, &taken.cells);

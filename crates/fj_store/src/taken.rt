@@ -91,6 +91,16 @@ pub(crate) fn count_of(runs: &[Run]) -> usize
 /// The variable of values that have no place.
 const NO_VARIABLE: u32 = 4294967295;
 
+/// Adds a cell that stands for one item.
+pub(crate) fn add_cell(cell: Cell, taken: &mut Taken)
+    requires { HasRoom taken.old 1 }
+    ensures taken { (slots : List (List Slot)) → taking slots taken.new ≡ with_own (taking slots taken.old) cell }
+    ensures room { (n : ℕ) → HasRoom taken.old (n + 1) → HasRoom taken.new n }
+{
+    taken.order.push_reserved(taken.cells.len() as u32);
+    taken.cells.push_reserved(cell);
+}
+
 /// Adds a value of its own, by its number among these.
 fn add_own(number: u32, kind: Kind, value: Value, taken: &mut Taken)
     requires { HasRoom taken.old 1 }
@@ -101,8 +111,7 @@ fn add_own(number: u32, kind: Kind, value: Value, taken: &mut Taken)
         var: NO_VARIABLE,
         index: number,
     };
-    taken.order.push_reserved(taken.cells.len() as u32);
-    taken.cells.push_reserved(Cell { place, kind, value });
+    add_cell(Cell { place, kind, value }, taken);
 }
 
 /// Takes pieces one behind the other: their places out, and their own values.

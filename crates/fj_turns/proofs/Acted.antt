@@ -77,7 +77,7 @@ module _ {E J A S : Type 0} (m : Meaning E J A Bay Job Answer) (s : Shows S) (P 
   -- jobs of its slot are told until it is
   own_out : (k : ℕ) (st : Stated) (rest : List Stated) (r : Run) (qs : List (PlainSlot Bay Job)) (p : Desked) (slot number : ℕ) (q : PlainSlot Bay Job) (next : Outcome → Doing) (o : Outcome)
       → Ties m r qs p → r.ending ≡ None → r.rest ≡ st ∷ rest
-      → ((r' : Run) (qs' : List (PlainSlot Bay Job)) → Ties m r' qs' p → P (turned rest (settles slot (Awaiting slot number next) r') qs'))
+      → ((r' : Run) (qs' : List (PlainSlot Bay Job)) → r'.rest ≡ st ∷ rest → Ties m r' qs' p → P (turned rest (settles slot (Awaiting slot number next) r') qs'))
       → slice_get qs slot ≡ Some q → q.told + k ≡ number → number < length q.jobs → log_at (slice_get p.desks slot) number ≡ Some o
       → OwnTold st rest r p next o (turned rest (settles slot (Awaiting slot number next) r) qs)
   own_out zero st rest r qs p slot number q next o t none is ok at here below logged =
@@ -96,7 +96,7 @@ module _ {E J A S : Type 0} (m : Meaning E J A Bay Job Answer) (s : Shows S) (P 
         rest_is = is;
         variables = refl;
         reaches = reach_next m s P (turned rest (settles slot (Awaiting slot number next) r) qs) (turned rest (turn_act st (next o) r2) (set qs slot (more q))) (turned rest (turn_act st (next o) r2) (set qs slot (more q)))
-            (ok r qs t)
+            (ok r qs is t)
             (settle_next m s P st rest (Awaiting slot number next) r qs slot q o none is at out ∙ ap (λ g. turned rest (turn st g r2) (set qs slot (more q))) is_own)
             (0, refl, tt);
       }
@@ -118,7 +118,7 @@ module _ {E J A S : Type 0} (m : Meaning E J A Bay Job Answer) (s : Shows S) (P 
         rest_is = later.rest_is;
         variables = later.variables;
         reaches = reach_next m s P (turned rest (settles slot (Awaiting slot number next) r) qs) (turned rest (settles slot (Awaiting slot number next) r2) (set qs slot (more q))) (turned rest (turn_act st (next o) later.run) later.slots)
-            (ok r qs t)
+            (ok r qs is t)
             (settle_next m s P st rest (Awaiting slot number next) r qs slot q answer.0 none is at answer.1 ∙ ap (λ g. turned rest (turn st g r2) (set qs slot (more q))) other)
             later.reaches;
       }
@@ -165,7 +165,7 @@ module _ {E J A S : Type 0} (m : Meaning E J A Bay Job Answer) (s : Shows S) (P 
   -- what a statement does, job after job
   pub act_reaches : (d : Doing) (from : Core) (k : ℕ) (variables : List Variable) (st : Stated) (before : Desked) (rest : List Stated) (r : Run) (qs : List (PlainSlot Bay Job)) (p : Desked)
       → Ties m r qs p → r.core.book ≡ from.book → Keeps from d → walked k before.desks (does variables st before) ≡ (p.desks, d)
-      → from.tells ≡ before.core.tells ++ map (tell_of st.0.line) (waited_at st before) → MayStand m s P variables st before → r.ending ≡ None → r.rest ≡ st ∷ rest
+      → from.tells ≡ before.core.tells ++ map (tell_of st.0.line) (waited_at st before) → MayStand m s P variables st rest before → r.ending ≡ None → r.rest ≡ st ∷ rest
       → ActedTo st rest r (acted p.desks d) (turned rest (turn_act st d r) qs)
   act_reaches (finishes core condition) from k variables st before rest r qs p t book keeps walk made ok none is = record {
     run = r;
@@ -195,7 +195,7 @@ module _ {E J A S : Type 0} (m : Meaning E J A Bay Job Answer) (s : Shows S) (P 
       let y : Plain Bay c = turned rest (turn st stage r2) qs2 in
       subst (λ n. ActedTo st rest r (acted (carry p.desks slot job) (next n)) x) logged
       (acted_first st rest r r2 (acted (carry p.desks slot job) (next number)) x y
-      (reach_next m s P x y y (ok x (record { told = t.told; asks = record { tells = keeps.1 ∙ made; jobs = k; desks_are = t.desks ∙ sym (ap (λ z. z.0) walk); gives = subst (λ d. GivesNext d slot job core) (sym (ap (λ z. z.1) walk)) (refl, refl, refl) } }))
+      (reach_next m s P x y y (ok x is (record { told = t.told; asks = record { tells = keeps.1 ∙ made; jobs = k; desks_are = t.desks ∙ sym (ap (λ z. z.0) walk); gives = subst (λ d. GivesNext d slot job core) (sym (ap (λ z. z.1) walk)) (refl, refl, refl) } }))
       (submit_next m s P st rest stage r1 qs slot q job none is at.1) (0, refl, tt))
       refl later)
   act_reaches (gives slot job core next) from k variables st before rest r qs p t book (inside, keeps, inr onward) walk made ok none is =
@@ -218,7 +218,7 @@ module _ {E J A S : Type 0} (m : Meaning E J A Bay Job Answer) (s : Shows S) (P 
       let y : Plain Bay c = turned rest (turn st stage r2) qs2 in
       subst (λ n. ActedTo st rest r (acted (carry p.desks slot job) (next n)) x) logged
       (acted_first st rest r r2 (acted (carry p.desks slot job) (next number)) x y
-      (reach_next m s P x y y (ok x (record { told = t.told; asks = record { tells = keeps.1 ∙ made; jobs = k; desks_are = t.desks ∙ sym (ap (λ z. z.0) walk); gives = subst (λ d. GivesNext d slot job core) (sym (ap (λ z. z.1) walk)) (refl, refl, refl) } }))
+      (reach_next m s P x y y (ok x is (record { told = t.told; asks = record { tells = keeps.1 ∙ made; jobs = k; desks_are = t.desks ∙ sym (ap (λ z. z.0) walk); gives = subst (λ d. GivesNext d slot job core) (sym (ap (λ z. z.1) walk)) (refl, refl, refl) } }))
       (submit_next m s P st rest stage r1 qs slot q job none is at.1) (0, refl, tt))
       refl later)
   act_reaches (awaits slot job core next) from k variables st before rest r qs p t book (inside, keeps, onward) walk made ok none is =
@@ -239,7 +239,7 @@ module _ {E J A S : Type 0} (m : Meaning E J A Bay Job Answer) (s : Shows S) (P 
       let walk2 : walked (suc k) before.desks (does variables st before) ≡ (carry p.desks slot job, next o) =
       walked_more k before.desks (does variables st before) ∙ ap (λ z. walked 1 z.0 z.1) walk in
       let own = own_out (number - q.told) st rest r2 qs2 p2 slot number (given q job) next o t2 none is
-      (λ r' qs' t'. ok (turned rest (settles slot (Awaiting slot number next) r') qs') (record {
+      (λ r' qs' is' t'. ok (turned rest (settles slot (Awaiting slot number next) r') qs') is' (record {
         told = t'.told;
         asks = inr (record {
           tells = ap (λ z. z.tells) t'.core ∙ keeps.1 ∙ made;
@@ -257,7 +257,7 @@ module _ {E J A S : Type 0} (m : Meaning E J A Bay Job Answer) (s : Shows S) (P 
       let y : Plain Bay c = turned rest (turn st stage r2) qs2 in
       let z : Plain Bay c = turned rest (turn_act st (next o) own.run) own.slots in
       acted_first st rest r own.run (acted (carry p.desks slot job) (next o)) x z
-      (reach_next m s P x y z (ok x (record { told = t.told; asks = record { tells = keeps.1 ∙ made; jobs = k; desks_are = t.desks ∙ sym (ap (λ w. w.0) walk); gives = subst (λ d. GivesNext d slot job core) (sym (ap (λ w. w.1) walk)) (refl, refl, refl) } }))
+      (reach_next m s P x y z (ok x is (record { told = t.told; asks = record { tells = keeps.1 ∙ made; jobs = k; desks_are = t.desks ∙ sym (ap (λ w. w.0) walk); gives = subst (λ d. GivesNext d slot job core) (sym (ap (λ w. w.1) walk)) (refl, refl, refl) } }))
       (submit_next m s P st rest stage r1 qs slot q job none is at.1) own.reaches)
       own.variables later
     where

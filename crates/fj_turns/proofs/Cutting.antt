@@ -65,6 +65,7 @@ module _ {E J A S : Type 0} (m : Meaning E J A Bay Job Answer) (s : Shows S) whe
           statement = t.statement;
           before = t.before;
           reached = t.reached;
+          rest = t.rest;
           allowed = t.allowed;
           learnt = inl w;
           jobs = 0;
@@ -76,6 +77,7 @@ module _ {E J A S : Type 0} (m : Meaning E J A Bay Job Answer) (s : Shows S) whe
           statement = t.statement;
           before = t.before;
           reached = t.reached;
+          rest = t.rest;
           allowed = t.allowed;
           learnt = inr a;
           jobs = suc a.jobs;

@@ -1,5 +1,5 @@
 -- The runner served alone, through a whole deck.
-use Rattle.std.proofs.Common.{◌≡◌, ℕ, suc, ◌≤◌, List, [], ◌∷◌, length, Option, Some, None, refl, sym, ap, ◌∙◌, subst, arith}
+use Rattle.std.proofs.Common.{◌≡◌, ℕ, zero, suc, ◌≤◌, List, [], ◌∷◌, length, drop, Option, Some, None, unwrap_or, refl, sym, ap, ◌∙◌, subst, arith}
 use Rattle.fj_statement.specs.declared.deck.Variable.{Variable}
 use Rattle.fj_slot.specs.Serving.{Meaning}
 use Rattle.fj_world.specs.declared.ask.Ask.TheVariants.{Finished}
@@ -45,6 +45,17 @@ pub cut_on : (variables : List Variable) (index : ℕ) (st : Stated) (more : Lis
 cut_on variables index st more p e =
     ap (λ o. elim o as (λ _. Option (Stated × Desked)) [ None ↦ cut_desks variables index more (desk_step variables st p).0 | Some x ↦ None ]) e
 
+-- it is the one in front there
+pub cut_here : (variables : List Variable) (index : ℕ) (deck : List Stated) (p : Desked) (st : Stated) (before : Desked) → cut_desks variables index deck p ≡ Some (st, before) → drop index deck ≡ st ∷ drop (suc index) deck
+cut_here variables index [] p st before e = cc
+cut_here variables zero (x ∷ more) p st before e = let is : x ≡ st = ap (λ (o : Option (Stated × Desked)). (unwrap_or o (x, p)).0) e in ap (λ y. y ∷ more) is
+cut_here variables (suc index) (x ∷ more) p st before e = by (cut_here variables index more (desk_step variables x p).0 st before) (desk_step variables x p).1 e
+  where
+    by : (cut_desks variables index more (desk_step variables x p).0 ≡ Some (st, before) → drop index more ≡ st ∷ drop (suc index) more) → (o : Option Ending)
+        → elim o as (λ _. Option (Stated × Desked)) [ None ↦ cut_desks variables index more (desk_step variables x p).0 | Some ending ↦ None ] ≡ Some (st, before) → drop index more ≡ st ∷ drop (suc index) more
+    by later None e = later e
+    by later (Some ending) e = let z : None ≡ Some (st, before) = e in cc
+
 -- ---- the start
 
 pub first_ties : {E J A : Type 0} (m : Meaning E J A Bay Job Answer) (variables : List Variable) (deck : List Stated) (files : Files) → Ties m (first_run variables deck files) fresh_slots (fresh variables files)
@@ -69,7 +80,7 @@ module _ {E J A S : Type 0} (m : Meaning E J A Bay Job Answer) (s : Shows S) (P 
 
   -- the states inside each statement that the execution comes to have the property
   abbrev pub MayGo : List Variable → List Stated → Desked → Type 0
-  MayGo variables sts p = (index : ℕ) (st : Stated) (before : Desked) → cut_desks variables index sts p ≡ Some (st, before) → rule_of variables st before.core ≡ None → MayStand m s P variables st before
+  MayGo variables sts p = (index : ℕ) (st : Stated) (before : Desked) → cut_desks variables index sts p ≡ Some (st, before) → rule_of variables st before.core ≡ None → MayStand m s P variables st (drop (suc index) sts) before
 
   comes_first : (ran : DesksRan) (x y : Plain Bay c) → Reaches (over_bays m) c P x y → ComesTo m s P ran y → ComesTo m s P ran x
   comes_first ran x y h k = record {
@@ -90,7 +101,7 @@ module _ {E J A S : Type 0} (m : Meaning E J A Bay Job Answer) (s : Shows S) (P 
       let first : Stepped m s P st more r1 (desk_step variables st p) (turned m s P more (turn_start st r1) qs) =
       subst (λ v. Stepped m s P st more r1 (desk_step v st p) (turned m s P more (turn_start st r1) qs)) vs
       (step_reaches m s P st more r1 qs p (record { core = t.core; desks = t.desks; sent = t.sent; told = t.told; within = t.within; slots = t.slots; housed = t.housed; same = t.same; kept = t.kept }) none refl
-      (λ rule. subst (λ v. MayStand m s P v st p) (sym vs) (ok 0 st p refl (ap (λ v. rule_of v st p.core) (sym vs) ∙ rule)))) in
+      (λ rule. subst (λ v. MayStand m s P v st more p) (sym vs) (ok 0 st p refl (ap (λ v. rule_of v st p.core) (sym vs) ∙ rule)))) in
       subst (λ a. ComesTo m s P (over_desks variables (st ∷ more) p) (record { script = a.run; hand = a.ask; slots = qs })) (sym (goes_is_turn st more r))
       (by first (desk_step variables st p).1 refl
       (λ e. deck_reaches variables more (record first.run { stage = Start }) first.slots (desk_step variables st p).0 (restart first.run first.slots (desk_step variables st p).0 first.ties) first.ending (first.variables ∙ vs)
@@ -127,4 +138,4 @@ module _ {E J A S : Type 0} (m : Meaning E J A Bay Job Answer) (s : Shows S) whe
       let P = StandsIn m s variables deck (fresh variables files) in
       subst (ComesTo m s P (over_desks variables deck (fresh variables files))) (begins_is variables deck files P)
       (deck_reaches m s P variables deck (first_run variables deck files) fresh_slots (fresh variables files) (first_ties m variables deck files) refl refl
-      (λ index st before reached allowed x inside. record { index = index; statement = st; before = before; reached = reached; allowed = allowed; inside = inside }))
+      (λ index st before reached allowed x rest inside. record { index = index; statement = st; before = before; reached = reached; rest = rest ∙ sym (cut_here variables index deck (fresh variables files) st before reached); allowed = allowed; inside = inside }))

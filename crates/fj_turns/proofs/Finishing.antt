@@ -40,7 +40,7 @@ module _ {S G J A P T R : Type 0} (mean : Meaning G J A P T R) (c : Conduct S T 
   asks_no_more a h = ask_over a h
 
 module _ {E J A : Type 0} (m : Meaning E J A Bay Job Answer) where
-  desk_from : (qs : List (PlainSlot Bay Job)) (at : ℕ) (d : Desk) → slice_get (desks_of m qs) at ≡ Some d → (q : PlainSlot Bay Job) × (slice_get qs at ≡ Some q) × (d ≡ desk_of m q)
+  pub desk_from : (qs : List (PlainSlot Bay Job)) (at : ℕ) (d : Desk) → slice_get (desks_of m qs) at ≡ Some d → (q : PlainSlot Bay Job) × (slice_get qs at ≡ Some q) × (d ≡ desk_of m q)
   desk_from [] zero d e = cc
   desk_from [] (suc at) d e = cc
   desk_from (q ∷ qs) zero d e = (q, refl, (let s : desk_of m q ≡ d = cc in sym s))

@@ -192,8 +192,8 @@ module _ {E J A S : Type 0} (m : Meaning E J A Bay Job Answer) (s : Shows S) (P 
   reach_then x y z h k = (h.0 + k.0, after_more h.0 k.0 x ∙ ap (after (over_bays m) c k.0) h.1 ∙ k.1, along_more h.0 k.0 x h.2 (subst (λ w. Along (over_bays m) c P k.0 w) (sym h.1) k.2))
 
   -- the states inside a statement have the property
-  abbrev pub MayStand : List Variable → Stated → Desked → Type 0
-  MayStand variables st before = (x : Plain Bay c) → IsInside m s variables st before x → P x
+  abbrev pub MayStand : List Variable → Stated → List Stated → Desked → Type 0
+  MayStand variables st rest before = (x : Plain Bay c) → x.script.rest ≡ st ∷ rest → IsInside m s variables st before x → P x
 
   -- all that it waits for was told: what the runner and its slots are then
   pub record Settling (st : Stated) (rest : List Stated) (r : Run) (p : Desked) (x : Plain Bay c) : Type 0 where
@@ -224,7 +224,7 @@ module _ {E J A S : Type 0} (m : Meaning E J A Bay Job Answer) (s : Shows S) (P 
       }
 
   waits_out : (n : ℕ) (st : Stated) (rest : List Stated) (r : Run) (qs : List (PlainSlot Bay Job)) (p : Desked)
-      → Ties m r qs p → r.ending ≡ None → r.rest ≡ st ∷ rest → MayStand r.variables st p → untold qs ≡ n
+      → Ties m r qs p → r.ending ≡ None → r.rest ≡ st ∷ rest → MayStand r.variables st rest p → untold qs ≡ n
       → (o : Option ℕ) → unsettled (waited_now st r) r.book ≡ o
       → Settling st rest r p (at_turn rest (wait_by st (waited_now st r) o r) qs)
   waits_out n st rest r qs p t none is ok left None e = record {
@@ -254,11 +254,11 @@ module _ {E J A S : Type 0} (m : Meaning E J A Bay Job Answer) (s : Shows S) (P 
         rest_is = later.rest_is;
         variables = later.variables;
         reaches = reach_next (at_turn rest (settles slot Waiting r) qs) (at_turn rest (turn st Waiting r2) (set qs slot (more q))) (at_turn rest (turn_tell st (waited_at st p) later.run) later.slots)
-            (ok (at_turn rest (settles slot Waiting r) qs) (waiting st rest r qs p slot t e))
+            (ok (at_turn rest (settles slot Waiting r) qs) is (waiting st rest r qs p slot t e))
             (settle_next st rest Waiting r qs slot q answer.0 none is found.1 answer.1) later.reaches;
       }
 
   pub wait_reaches : (st : Stated) (rest : List Stated) (r : Run) (qs : List (PlainSlot Bay Job)) (p : Desked)
-      → Ties m r qs p → r.ending ≡ None → r.rest ≡ st ∷ rest → MayStand r.variables st p
+      → Ties m r qs p → r.ending ≡ None → r.rest ≡ st ∷ rest → MayStand r.variables st rest p
       → Settling st rest r p (at_turn rest (turn_wait st r) qs)
   wait_reaches st rest r qs p t none is ok = waits_out (untold qs) st rest r qs p t none is ok refl (unsettled (waited_now st r) r.book) refl

@@ -132,7 +132,7 @@ module _ {E J A S : Type 0} (m : Meaning E J A Bay Job Answer) (s : Shows S) (P 
 
   -- a statement that is not prohibited
   goes_reaches : (st : Stated) (rest : List Stated) (r : Run) (qs : List (PlainSlot Bay Job)) (p : Desked)
-      → Ties m r qs p → r.ending ≡ None → r.rest ≡ st ∷ rest → MayStand m s P r.variables st p
+      → Ties m r qs p → r.ending ≡ None → r.rest ≡ st ∷ rest → MayStand m s P r.variables st rest p
       → Stepped st rest r (completed r.variables st.0.line st.0.what (acts st.1 r.variables st.0.line st.0.what p (waited_at st p))) (turned rest (turn_wait st r) qs)
   goes_reaches st rest r qs p t none is ok =
       let w = wait_reaches m s P st rest r qs p t none is ok in
@@ -153,7 +153,7 @@ module _ {E J A S : Type 0} (m : Meaning E J A Bay Job Answer) (s : Shows S) (P 
       (subst (λ vs. Stepped st rest run2 (completed vs st.0.line st.0.what done) y) w.variables (finishes_step st rest run2 done y acted_to)))
 
   pub step_reaches : (st : Stated) (rest : List Stated) (r : Run) (qs : List (PlainSlot Bay Job)) (p : Desked)
-      → Ties m r qs p → r.ending ≡ None → r.rest ≡ st ∷ rest → (rule_of r.variables st p.core ≡ None → MayStand m s P r.variables st p)
+      → Ties m r qs p → r.ending ≡ None → r.rest ≡ st ∷ rest → (rule_of r.variables st p.core ≡ None → MayStand m s P r.variables st rest p)
       → Stepped st rest r (desk_step r.variables st p) (turned rest (turn_start st r) qs)
   step_reaches st rest r qs p t none is ok =
       subst (λ d. Stepped st rest r d (turned rest (turn_start st r) qs)) (sym (step_is r.variables st p))

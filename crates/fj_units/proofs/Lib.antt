@@ -1,2 +1,3 @@
 pub mod UnitLemmas
 pub mod Files
+pub mod Returning

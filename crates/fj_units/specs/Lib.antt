@@ -1,3 +1,4 @@
 pub mod Units
 pub mod Names
 pub mod Files
+pub mod Returning

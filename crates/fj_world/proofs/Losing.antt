@@ -12,7 +12,7 @@ use Rattle.fj_slot.specs.Telling as telling
 use Rattle.fj_slot.proofs.Sound.{tell_keeps, told_is_outcome, length_mapped}
 use Rattle.fj_world.specs.declared.ask.Ask.{Ask}
 use Rattle.fj_world.specs.declared.ask.Ask.TheVariants.{Submit, Settle, Finished}
-use Rattle.fj_world.specs.Conduct.{Conduct, Asks, Takes, Tells, IsAsk}
+use Rattle.fj_world.specs.Conduct.{Conduct, Idle, Submitting, Settling, Asks, Takes, Tells, IsAsk}
 use Rattle.fj_world.specs.Rack.{Rack}
 use Rattle.fj_world.specs.Leading.{LeadsTo}
 use Rattle.fj_world.specs.Plain.{Plain, PlainSlot, asked_next, submitted_to, settled_from, told_from, served, next, after}
@@ -95,9 +95,9 @@ module _ {S G J A P T R : Type 0} (m : Meaning G J A P T R) (c : Conduct S T R) 
   -- by the answer to the ask at hand
   pub by_answer : (s : c.State) (qs : List (PlainSlot P T)) (n : ℕ) (first script mid new : S) (hand : Ask J)
       → LeadsTo c.leads first script → c.over script ≡ false → c.state script ≡ Some (after m c n (asked_next m c s qs)).script → (after m c n (asked_next m c s qs)).hand ≢ Finished
-      → c.leads script mid → c.over mid ≡ true → Asks m c mid hand new → GaveUp m c n s qs first new
-  by_answer s qs n first script mid new hand path going state asked leads over asks =
-      record { before = script; gone = mid; led = path; going = going; leads = leads; over = over; rests = led_once c.leads mid new asks.leads; stood = inr (asked, state) }
+      → c.due script ≢ Idle → c.leads script mid → c.over mid ≡ true → Asks m c mid hand new → GaveUp m c n s qs first new
+  by_answer s qs n first script mid new hand path going state asked due leads over asks =
+      record { before = script; gone = mid; led = path; going = going; leads = leads; over = over; rests = led_once c.leads mid new asks.leads; stood = inr (asked, state, due) }
 
   -- by the ask behind it
   pub by_ask : (s : c.State) (qs : List (PlainSlot P T)) (n : ℕ) (first script mid new : S) (hand : Ask J)
@@ -117,10 +117,10 @@ module _ {S G J A P T R : Type 0} (m : Meaning G J A P T R) (c : Conduct S T R) 
   -- by a submit or the ask behind it
   pub submit_lost : (s : c.State) (qs : List (PlainSlot P T)) (n : ℕ) (first script mid new : S) (hand hand' : Ask J) (rack rack' : Rack G J A) (at : ℕ) (job : J) (number : Result ℕ (Refused J)) (l : Ledger G J A)
       → LeadsTo c.leads first script → Fits m c (after m c n (asked_next m c s qs)) (record { start = script; script = script; hand = hand; rack = rack; workers = [] })
-      → c.over script ≡ false → hand ≡ Submit at job → slice_get rack.slots at ≡ Some l
+      → c.over script ≡ false → hand ≡ Submit at job → c.due script ≡ Submitting at → slice_get rack.slots at ≡ Some l
       → IfOk number (λ k. k ≡ length l.jobs) → IfOk number (λ _. rack'.slots ≡ set rack.slots at (with_job l job)) → OnErr number (rack' ≡ rack)
       → Takes c script number mid → Asks m c mid hand' new → c.over new ≡ true → WasLost m c s qs first new rack'
-  submit_lost s qs n first script mid new hand hand' rack rack' at job (Ok k) l path fits going is found count after_ok same takes asks over =
+  submit_lost s qs n first script mid new hand hand' rack rack' at job (Ok k) l path fits going is due found count after_ok same takes asks over =
       let now = after m c n (asked_next m c s qs) in
       let told = fits.script going in
       let plain = ask_submit m now.hand at job (subst (IsAsk m now.hand) is told.1) in
@@ -138,22 +138,22 @@ module _ {S G J A P T R : Type 0} (m : Meaning G J A P T R) (c : Conduct S T R) 
             (takes.took now.script told.0 going' ∙ ap (λ z. Some (c.took now.script z)) number ∙ ap (λ z. Some z.0) (sym then)) asks over;
         slots = subst (λ z. SlotsHold m z rack') (served_slots now.hand now) (fits_hold (next m c now) script new hand' rack' next_fits);
       }
-  submit_lost s qs n first script mid new hand hand' rack rack' at job (Err e) l path fits going is found count after_ok same takes asks over =
+  submit_lost s qs n first script mid new hand hand' rack rack' at job (Err e) l path fits going is due found count after_ok same takes asks over =
       let now = after m c n (asked_next m c s qs) in
       let told = fits.script going in
       let plain = ask_submit m now.hand at job (subst (IsAsk m now.hand) is told.1) in
       record {
         asks = n;
-        call = by_answer s qs n first script mid new hand' path going told.0 (λ z. absurd (let no = sym plain.1 ∙ z in cc)) takes.leads takes.refused asks;
+        call = by_answer s qs n first script mid new hand' path going told.0 (λ z. absurd (let no = sym plain.1 ∙ z in cc)) (λ z. absurd (let no = sym due ∙ z in cc)) takes.leads takes.refused asks;
         slots = subst (λ z. SlotsHold m z rack') (before_slots n s qs) (subst (λ r. SlotsHold m now.slots r) (sym same) (fits_hold now script script hand rack fits));
       }
 
   -- by a settle or the ask behind it
   pub settle_lost : (s : c.State) (qs : List (PlainSlot P T)) (n : ℕ) (first script mid new : S) (hand hand' : Ask J) (rack rack' : Rack G J A) (at : ℕ) (l : Ledger G J A) (it : Told G J A P T R)
       → LeadsTo c.leads first script → Fits m c (after m c n (asked_next m c s qs)) (record { start = script; script = script; hand = hand; rack = rack; workers = [] })
-      → c.over script ≡ false → hand ≡ Settle at → slice_get rack.slots at ≡ Some l → Settles m rack at l it rack'
+      → c.over script ≡ false → hand ≡ Settle at → c.due script ≡ Settling at → slice_get rack.slots at ≡ Some l → Settles m rack at l it rack'
       → Tells m c script it mid → Asks m c mid hand' new → c.over new ≡ true → WasLost m c s qs first new rack'
-  settle_lost s qs n first script mid new hand hand' rack rack' at l it path fits going is found settles tells asks over = go it refl
+  settle_lost s qs n first script mid new hand hand' rack rack' at l it path fits going is due found settles tells asks over = go it refl
     where
       now : Plain P c
       now = after m c n (asked_next m c s qs)
@@ -171,7 +171,7 @@ module _ {S G J A P T R : Type 0} (m : Meaning G J A P T R) (c : Conduct S T R) 
       by_it : c.over mid ≡ true → WasLost m c s qs first new rack'
       by_it e = record {
         asks = n;
-        call = by_answer s qs n first script mid new hand' path going told.0 (λ z. absurd (let no = sym plain ∙ z in cc)) tells.leads e asks;
+        call = by_answer s qs n first script mid new hand' path going told.0 (λ z. absurd (let no = sym plain ∙ z in cc)) (λ z. absurd (let no = sym due ∙ z in cc)) tells.leads e asks;
         slots = subst (λ z. SlotsHold m z rack') (before_slots n s qs) holds;
       }
 

@@ -11,6 +11,7 @@ use Rattle.fj_units.specs.Files.{files_of}
 use Rattle.fj_acts.specs.Doing.{IsDoing}
 use Rattle.fj_acts.specs.State.{core_of}
 use Rattle.fj_acts.proofs.BeginningLemmas.{asks_about, own_is, assign_front, open_front, inquire_front, takes_as}
+use Rattle.fj_acts.proofs.FailingLemmas.{fails_as}
 use Rattle.fj_acts.proofs.OpeningLemmas.{meant}
 use Rattle.fj_acts.proofs.StateLemmas.{keeps_answers}
 use Rattle.fj_acts.proofs.StepLemmas.{asks_to_open}
@@ -35,6 +36,13 @@ returns-in-OpenUnit-clause-doing g c = λ tells.
     meant g.D.File.FileStore.told g.D.File.FileStore.bytes c.args.variables.now st _ c.open.result _ _
     (own_is c.args.variables.now c.args.lined.now.line core what (statement.OpenUnit c.in-OpenUnit.unit c.in-OpenUnit.spec c.in-OpenUnit.iostat) c.in-OpenUnit.is)
     (c.open.ensures.doing tells c.args.variables.now st (asks_to_open what c.in-OpenUnit.unit c.in-OpenUnit.spec c.in-OpenUnit.iostat c.in-OpenUnit.is))
+
+pub returns-in-OpenUnit-clause-fault : goal.returns-in-OpenUnit-clause-fault
+returns-in-OpenUnit-clause-fault g c = λ tells lost.
+    fails_as _ _ c.open.new.core (g.D.Disk.held c.open.new.disk) (g.D.Disk.refusals c.args.disk.now) (g.D.Disk.refusals c.open.new.disk)
+    (own_is c.args.variables.now c.args.lined.now.line (core_of (files_of (g.D.Disk.held c.args.disk.now)) c.args.core.now) c.args.lined.now.what
+    (statement.OpenUnit c.in-OpenUnit.unit c.in-OpenUnit.spec c.in-OpenUnit.iostat) c.in-OpenUnit.is)
+    (c.open.ensures.fault tells lost)
 
 pub returns-in-OpenUnit-clause-front : goal.returns-in-OpenUnit-clause-front
 returns-in-OpenUnit-clause-front g c = λ tells.
@@ -82,6 +90,15 @@ returns-in-Inquire-clause-doing g c = λ tells.
     (ap (λ (id : Option Operand). own (control_by what) c.args.variables.now c.args.lined.now.line core (statement.Inquire c.in-Inquire.about c.in-Inquire.asked id c.in-Inquire.iostat)) c.as_ref.ensures.value
     ∙ own_is c.args.variables.now c.args.lined.now.line core what (statement.Inquire c.in-Inquire.about c.in-Inquire.asked c.in-Inquire.id c.in-Inquire.iostat) c.in-Inquire.is)
     (c.inquire.ensures.doing tells st (asks_about what c.in-Inquire.about c.in-Inquire.asked c.in-Inquire.id _ c.in-Inquire.iostat c.in-Inquire.is c.as_ref.ensures.value))
+
+pub returns-in-Inquire-clause-fault : goal.returns-in-Inquire-clause-fault
+returns-in-Inquire-clause-fault g c = λ tells lost.
+    let core : Core = core_of (files_of (g.D.Disk.held c.args.disk.now)) c.args.core.now in
+    let what : Statement = c.args.lined.now.what in
+    fails_as _ _ c.inquire.new.core (g.D.Disk.held c.inquire.new.disk) (g.D.Disk.refusals c.args.disk.now) (g.D.Disk.refusals c.inquire.new.disk)
+    (ap (λ (id : Option Operand). own (control_by what) c.args.variables.now c.args.lined.now.line core (statement.Inquire c.in-Inquire.about c.in-Inquire.asked id c.in-Inquire.iostat)) c.as_ref.ensures.value
+    ∙ own_is c.args.variables.now c.args.lined.now.line core what (statement.Inquire c.in-Inquire.about c.in-Inquire.asked c.in-Inquire.id c.in-Inquire.iostat) c.in-Inquire.is)
+    (c.inquire.ensures.fault tells lost)
 
 pub returns-in-Inquire-clause-front : goal.returns-in-Inquire-clause-front
 returns-in-Inquire-clause-front g c = λ tells.

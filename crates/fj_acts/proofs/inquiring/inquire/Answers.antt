@@ -1,4 +1,4 @@
-use Rattle.std.proofs.Common.{ℕ, List, Option, None}
+use Rattle.std.proofs.Common.{ℕ, List, Option, None, sym}
 use Rattle.std.specs.Prelude.{ℤ}
 use Rattle.std.specs.Option.{option_copied}
 use Rattle.fj_store.specs.Storage.{values_of}
@@ -11,6 +11,7 @@ use Rattle.fj_units.specs.Files.{files_of}
 use Rattle.fj_units.specs.Units.{connected_of}
 use Rattle.fj_acts.specs.Doing.{looks_at}
 use Rattle.fj_acts.specs.State.{core_of}
+use Rattle.fj_acts.proofs.FailingLemmas.{fails_as}
 use Rattle.fj_acts.proofs.TransferLemmas.{ok_same}
 use Rattle.fj_acts.proofs.InquiryLemmas.{inquires_none, inquires_unknown, inquires_later, inquires_at_once}
 use Rattle.fj_acts.proofs.inquiring.inquire.Goals as goal
@@ -38,6 +39,20 @@ returns-in_default-find-clause-doing g c = λ tells st asks.
     ok_same g.D.File.FileStore.told g.D.File.FileStore.bytes c.args.variables.now st (core_of (files_of (g.D.Disk.held c.answer_other-in_default-find.new.disk)) c.answer_other-in_default-find.new.core)
     c.answer_other-in_default-find.result (answers (core_of files old) (about_other files file) asked) (inquires (core_of files old) o file asked id (unit_at (core_of files old) o))
     (inquires_unknown (core_of files old) o c.in-Some.number file asked id c.in-Some.ensures c.in_default-find.ensures) (c.answer_other-in_default-find.ensures.doing tells st)
+
+pub returns-in_default-clause-fault : goal.returns-in_default-clause-fault
+returns-in_default-clause-fault g c = λ tells lost.
+    fails_as _ _ c.answer_other.new.core (g.D.Disk.held c.answer_other.new.disk) (g.D.Disk.refusals c.args.disk.now) (g.D.Disk.refusals c.answer_other.new.disk)
+    (sym (inquires_none (core_of (files_of (g.D.Disk.held c.args.disk.now)) c.args.core.now) (unit_about (unit_named c.args.core.now.units) c.args.subject.now) (file_asked c.args.subject.now) c.args.asked.now
+    (number_given (values_of c.args.core.now.store) (option_copied c.args.id)) c.in_default.ensures))
+    (c.answer_other.ensures.fault tells lost)
+
+pub returns-in_default-find-clause-fault : goal.returns-in_default-find-clause-fault
+returns-in_default-find-clause-fault g c = λ tells lost.
+    fails_as _ _ c.answer_other-in_default-find.new.core (g.D.Disk.held c.answer_other-in_default-find.new.disk) (g.D.Disk.refusals c.args.disk.now) (g.D.Disk.refusals c.answer_other-in_default-find.new.disk)
+    (sym (inquires_unknown (core_of (files_of (g.D.Disk.held c.args.disk.now)) c.args.core.now) (unit_about (unit_named c.args.core.now.units) c.args.subject.now) c.in-Some.number (file_asked c.args.subject.now) c.args.asked.now
+    (number_given (values_of c.args.core.now.store) (option_copied c.args.id)) c.in-Some.ensures c.in_default-find.ensures))
+    (c.answer_other-in_default-find.ensures.fault tells lost)
 
 pub returns-then-needs_look-clause-doing : goal.returns-then-needs_look-clause-doing
 returns-then-needs_look-clause-doing g c = λ tells st asks.

@@ -1,4 +1,4 @@
-use Rattle.std.proofs.Common.{ap, ◌∙◌}
+use Rattle.std.proofs.Common.{refl, ap, ◌∙◌}
 use Rattle.fj_connect.specs.Linked.{connection_of}
 use Rattle.fj_connect.specs.Opening.{opened_file}
 use Rattle.fj_outside.specs.Holdings.{Holdings}
@@ -6,6 +6,7 @@ use Rattle.fj_units.specs.Files.{files_of}
 use Rattle.fj_units.proofs.Files.{files-out_of}
 use Rattle.fj_acts.specs.State.{core_of}
 use Rattle.fj_acts.proofs.OpeningLemmas.{opened_is, names_taken, names_back, refusal_of, stop_of}
+use Rattle.fj_acts.proofs.FailingLemmas.{fails_open, open_rose}
 use Rattle.fj_acts.proofs.opening.attach.Goals as goal
 
 pub returns-in-Ok-clause-doing : goal.returns-in-Ok-clause-doing
@@ -34,3 +35,12 @@ returns-clause-names g c = λ tells.
     let held : Holdings = g.D.Disk.held c.args.disk.now in
     names_back c.args.core.now.names c.add.new.self c.remove.new.self held (g.D.Disk.held c.open_file.new.disk) c.args.name c.holds.result c.if-holds.false c.holds.ensures c.in_ok-add.ensures.ok c.remove.ensures
     (stop_of _ c.in-Err.fault c.in-Stop.stop c.in-Stop.is (c.in-Err.ensures.stopped tells)).in_use (c.requires.names tells)
+
+pub returns-clause-fault : goal.returns-clause-fault
+returns-clause-fault g c = λ tells lost.
+    let held : Holdings = g.D.Disk.held c.args.disk.now in
+    fails_open (core_of (files_of held) c.args.core.now) c.args.number c.args.slot c.args.name c.args.spec.now c.args.modes _ held (g.D.Disk.held c.open_file.new.disk)
+    (g.D.Disk.refusals c.args.disk.now) (g.D.Disk.refusals c.open_file.new.disk) refl refl
+    (open_rose c.open_file.result c.in-Err.fault c.in-Stop.stop c.lost_by_stop.result (g.D.Disk.refusals c.args.disk.now) (g.D.Disk.refusals c.open_file.new.disk) c.in-Err.is c.in-Stop.is c.lost_by_stop.ensures.disk lost
+    (c.open_file.ensures.own tells))
+    (stop_of _ c.in-Err.fault c.in-Stop.stop c.in-Stop.is (c.in-Err.ensures.stopped tells))

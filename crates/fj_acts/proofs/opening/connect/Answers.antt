@@ -2,6 +2,7 @@ use Rattle.std.proofs.Common.{sym, ◌∙◌}
 use Rattle.fj_units.specs.Files.{files_of}
 use Rattle.fj_acts.specs.State.{core_of}
 use Rattle.fj_acts.proofs.OpeningLemmas.{connects_is, meant}
+use Rattle.fj_acts.proofs.FailingLemmas.{fails_as}
 use Rattle.fj_acts.proofs.opening.connect.Goals as goal
 
 pub returns-in_ok-name-in-Some-clause-doing : goal.returns-in_ok-name-in-Some-clause-doing
@@ -10,3 +11,10 @@ returns-in_ok-name-in-Some-clause-doing g c = λ tells variables st.
     (connects_is (core_of (files_of (g.D.Disk.held c.args.disk.now)) c.args.core.now) c.args.number c.in-Some.slot c.in_ok-name-in-Some.name c.args.spec.now c.args.modes
     (sym c.free_slot.ensures ∙ c.in-Some.is) c.in_ok-name-in-Some.ensures)
     (c.attach.ensures.doing tells variables st)
+
+pub returns-in_ok-name-in-Some-clause-fault : goal.returns-in_ok-name-in-Some-clause-fault
+returns-in_ok-name-in-Some-clause-fault g c = λ tells lost.
+    fails_as _ _ c.attach.new.core (g.D.Disk.held c.attach.new.disk) (g.D.Disk.refusals c.args.disk.now) (g.D.Disk.refusals c.attach.new.disk)
+    (connects_is (core_of (files_of (g.D.Disk.held c.args.disk.now)) c.args.core.now) c.args.number c.in-Some.slot c.in_ok-name-in-Some.name c.args.spec.now c.args.modes
+    (sym c.free_slot.ensures ∙ c.in-Some.is) c.in_ok-name-in-Some.ensures)
+    (c.attach.ensures.fault tells lost)

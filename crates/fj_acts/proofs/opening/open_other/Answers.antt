@@ -5,6 +5,7 @@ use Rattle.fj_units.specs.Files.{files_of}
 use Rattle.fj_units.specs.Units.{connected_of}
 use Rattle.fj_acts.specs.State.{core_of}
 use Rattle.fj_acts.proofs.OpeningLemmas.{opens_behind, opens_new, meant}
+use Rattle.fj_acts.proofs.FailingLemmas.{fails_as}
 use Rattle.fj_acts.proofs.opening.open_other.Goals as goal
 
 pub returns-in-Some-clause-doing : goal.returns-in-Some-clause-doing
@@ -22,3 +23,10 @@ returns-clause-doing g c = λ tells variables st asks.
     (opens_new (core_of (files_of (g.D.Disk.held c.args.disk.now)) c.args.core.now) c.args.number c.in_ok-name.name c.args.spec.now c.in-Ok.modes (connected_at c.args.core.now.units c.args.number) (settled c.args.spec.now) found
     (sym c.settle_open.ensures.settled ∙ c.in-Ok.is) c.in_ok-name.ensures (sym c.is_taken.ensures ∙ c.if-is_taken.false))
     (c.connect.ensures.doing tells variables st)
+
+pub returns-clause-fault : goal.returns-clause-fault
+returns-clause-fault g c = λ tells lost.
+    fails_as _ _ c.connect.new.core (g.D.Disk.held c.connect.new.disk) (g.D.Disk.refusals c.args.disk.now) (g.D.Disk.refusals c.connect.new.disk)
+    (opens_new (core_of (files_of (g.D.Disk.held c.args.disk.now)) c.args.core.now) c.args.number c.in_ok-name.name c.args.spec.now c.in-Ok.modes (connected_at c.args.core.now.units c.args.number) (settled c.args.spec.now)
+    (sym c.in_default.ensures) (sym c.settle_open.ensures.settled ∙ c.in-Ok.is) c.in_ok-name.ensures (sym c.is_taken.ensures ∙ c.if-is_taken.false))
+    (c.connect.ensures.fault tells lost)

@@ -1,7 +1,6 @@
 use Rattle.std.proofs.Common.{take}
-use Rattle.fj_book.specs.Cells.{cell_places}
 use Rattle.fj_acts.proofs.PlaceLemmas.{AreGathered}
 use Rattle.fj_acts.proofs.places.distinct_places.Given as goal
 
 abbrev pub invariant-loop-at : goal.invariant-loop-at
-invariant-loop-at l = AreGathered (take l.at l.ordered.items) l.var l.end (cell_places l.cells.items)
+invariant-loop-at l = AreGathered (take l.at l.ordered.items) l.var l.end l.places

@@ -10,6 +10,7 @@ use Rattle.fj_units.specs.Files.{files_of}
 use Rattle.fj_acts.specs.Doing.{carries, closed, goes_on, looks, then_of}
 use Rattle.fj_acts.specs.State.{core_of}
 use Rattle.fj_acts.specs.declared.doing.Then.{Then}
+use Rattle.fj_acts.proofs.FailingLemmas.{fails_as}
 use Rattle.fj_acts.proofs.OpeningLemmas.{meant}
 use Rattle.fj_acts.proofs.StateLemmas.{keeps_answers}
 use Rattle.fj_acts.proofs.StepLemmas.{detached_is, looked_is, moved_is}
@@ -44,6 +45,20 @@ returns-in-Closes-Detach-Some-clause-doing g c = λ tells task is.
     (ap (λ (t : Task). goes_on what (closed core (connected_at core.units number) c.in-Closes-Detach-Some.keep (t, reply)) c.in-Closes-Detach-Some.after) out.2
     ∙ ap (λ (t : Then). then_of c.args.variables.now st core t (task, reply)) (sym c.in-Closes-Detach-Some.is-0))
     (c.closed.ensures.doing tells out.0 reply out.1)
+
+pub returns-in-Closes-Detach-Some-clause-fault : goal.returns-in-Closes-Detach-Some-clause-fault
+returns-in-Closes-Detach-Some-clause-fault g c = λ tells task is lost.
+    let core : Core = core_of (files_of (g.D.Disk.held c.args.disk.now)) c.args.core.now in
+    let what : Statement = c.args.lined.now.what in
+    let st : Stated = (c.args.lined.now, control_by what) in
+    let reply : Answer = reply_of c.args.answer in
+    let number : ℕ = c.in-Closes-Detach-Some.number in
+    let has : c.args.job ≡ job.Detach (Some c.in-Closes-Detach-Some.connection) = cc in
+    let out = detached_is g.D.File.FileStore.told g.D.File.FileStore.bytes c.args.job c.in-Closes-Detach-Some.connection task has is in
+    fails_as _ _ c.closed.new.core (g.D.Disk.held c.closed.new.disk) (g.D.Disk.refusals c.args.disk.now) (g.D.Disk.refusals c.closed.new.disk)
+    (ap (λ (t : Task). goes_on what (closed core (connected_at core.units number) c.in-Closes-Detach-Some.keep (t, reply)) c.in-Closes-Detach-Some.after) out.2
+    ∙ ap (λ (t : Then). then_of c.args.variables.now st core t (task, reply)) (sym c.in-Closes-Detach-Some.is-0))
+    (c.closed.ensures.fault tells out.0 reply out.1 lost)
 
 pub returns-in-Closes-Detach-Some-clause-pending : goal.returns-in-Closes-Detach-Some-clause-pending
 returns-in-Closes-Detach-Some-clause-pending g c = keeps_answers c.args.core.now c.closed.new.core c.closed.ensures.pending

@@ -1,15 +1,16 @@
-use Rattle.std.proofs.Common.{true, List, refl, sym, ap, ◌∙◌}
+use Rattle.std.proofs.Common.{refl, sym, ap, ◌∙◌}
 use Rattle.fj_outside.specs.Holdings.{Holdings}
 use Rattle.fj_statement.specs.declared.statement.Statement.{Statement}
-use Rattle.fj_plain.specs.Statement.{Stated, control_by}
-use Rattle.fj_desk.specs.Core.{Core, Connected, connected_at}
+use Rattle.fj_plain.specs.Statement.{control_by}
+use Rattle.fj_desk.specs.Core.{connected_at}
 use Rattle.fj_units.specs.Files.{files_of}
 use Rattle.fj_units.specs.Names.{left_of}
 use Rattle.fj_units.proofs.Files.{used_name}
-use Rattle.fj_acts.specs.Doing.{goes_on}
+use Rattle.fj_units.proofs.Returning.{due_back, names_back}
 use Rattle.fj_acts.specs.State.{core_of}
+use Rattle.fj_acts.proofs.FailingLemmas.{fails_as, fails_since, fails_closing}
 use Rattle.fj_acts.proofs.OpeningLemmas.{meant}
-use Rattle.fj_acts.proofs.StepLemmas.{disconnects_is, due_stands, names_closed}
+use Rattle.fj_acts.proofs.StepLemmas.{closed_goes_on, due_stands}
 use Rattle.fj_acts.proofs.steps.closed.Goals as goal
 
 pub close_file-requires : goal.close_file-requires
@@ -21,25 +22,40 @@ pub go_on-requires : goal.go_on-requires
 go_on-requires g c = record {
   names = λ tells.
       let told : g.D.Disk.tells c.args.disk.now = c.in-Ok.ensures.telling.1 tells in
-      names_closed c.args.keep c.args.core.now.names c.remove.new.self (g.D.Disk.held c.args.disk.now) (g.D.Disk.held c.close_file.new.disk) c.args.connection.name (g.D.File.FileStore.bytes c.args.connection.file) _
-      (c.remove.ensures ∙ ap (left_of c.args.core.now.names) c.name.ensures) (c.in-Ok.ensures.back told) (c.requires.names told);
+      names_back c.args.core.now.names c.remove.new.self (g.D.Disk.held c.args.disk.now) (g.D.Disk.held c.close_file.new.disk) c.args.connection.name (g.D.File.FileStore.bytes c.args.connection.file) _ c.args.keep
+      c.close_file.result (c.remove.ensures ∙ ap (left_of c.args.core.now.names) c.name.ensures) (c.close_file.ensures.back told) (c.close_file.ensures.err told) (c.requires.names told);
 }
 
 pub returns-in-Ok-clause-doing : goal.returns-in-Ok-clause-doing
 returns-in-Ok-clause-doing g c = λ tells conn answer is.
     let held : Holdings = g.D.Disk.held c.args.disk.now in
-    let left : Holdings = g.D.Disk.held c.close_file.new.disk in
-    let core : Core = core_of (files_of held) c.args.core.now in
     let what : Statement = c.args.lined.now.what in
-    let st : Stated = (c.args.lined.now, control_by what) in
-    meant g.D.File.FileStore.told g.D.File.FileStore.bytes c.args.variables.now st _ c.go_on.result _ _
-    (ap (λ (us : List Connected). goes_on what (record core { units = us; files = files_of left }) c.args.after) c.remove-2.ensures
-    ∙ ap (λ (x : Core). goes_on what x c.args.after)
-    (disconnects_is g.D.File.FileStore.told g.D.File.FileStore.bytes core held left c.args.number c.args.core.now.names c.args.connection conn _ c.args.keep answer (connected_at c.args.core.now.units c.args.number)
-    refl (sym c.if-not-is_due.ensures) is refl (c.in-Ok.ensures.back tells)))
+    meant g.D.File.FileStore.told g.D.File.FileStore.bytes c.args.variables.now (c.args.lined.now, control_by what) _ c.go_on.result _ _
+    (closed_goes_on g.D.File.FileStore.told g.D.File.FileStore.bytes (core_of (files_of held) c.args.core.now) held (g.D.Disk.held c.close_file.new.disk) c.args.number c.args.core.now.names c.args.connection conn _ c.args.keep answer
+    what c.args.after _ (sym c.if-not-is_due.ensures) is refl (c.in-Ok.ensures.back tells) c.remove-2.ensures)
     (c.go_on.ensures.doing (c.in-Ok.ensures.telling.0 tells))
 
 pub returns-in-Err-clause-names : goal.returns-in-Err-clause-names
 returns-in-Err-clause-names g c = λ tells.
-    names_closed true c.args.core.now.names c.remove.new.self (g.D.Disk.held c.args.disk.now) (g.D.Disk.held c.close_file.new.disk) c.args.connection.name (g.D.File.FileStore.bytes c.args.connection.file) _
-    (c.remove.ensures ∙ ap (left_of c.args.core.now.names) c.name.ensures) (c.in-Err.ensures.err tells) (c.requires.names tells)
+    names_back c.args.core.now.names c.remove.new.self (g.D.Disk.held c.args.disk.now) (g.D.Disk.held c.close_file.new.disk) c.args.connection.name (g.D.File.FileStore.bytes c.args.connection.file) _ c.args.keep
+    c.close_file.result (c.remove.ensures ∙ ap (left_of c.args.core.now.names) c.name.ensures) (c.close_file.ensures.back tells) (c.close_file.ensures.err tells) (c.requires.names tells)
+
+pub returns-in-Ok-clause-fault : goal.returns-in-Ok-clause-fault
+returns-in-Ok-clause-fault g c = λ tells conn answer is lost.
+    let held : Holdings = g.D.Disk.held c.args.disk.now in
+    let what : Statement = c.args.lined.now.what in
+    fails_since _ c.go_on.new.core (g.D.Disk.held c.go_on.new.disk) (g.D.Disk.refusals c.args.disk.now) (g.D.Disk.refusals c.close_file.new.disk) (g.D.Disk.refusals c.go_on.new.disk) (c.in-Ok.ensures.own tells)
+    (fails_as _ _ c.go_on.new.core (g.D.Disk.held c.go_on.new.disk) (g.D.Disk.refusals c.close_file.new.disk) (g.D.Disk.refusals c.go_on.new.disk)
+    (closed_goes_on g.D.File.FileStore.told g.D.File.FileStore.bytes (core_of (files_of held) c.args.core.now) held (g.D.Disk.held c.close_file.new.disk) c.args.number c.args.core.now.names c.args.connection conn _ c.args.keep answer
+    what c.args.after _ (sym c.if-not-is_due.ensures) is refl (c.in-Ok.ensures.back tells) c.remove-2.ensures)
+    (c.go_on.ensures.fault (c.in-Ok.ensures.telling.0 tells) lost))
+
+pub returns-in-Err-clause-fault : goal.returns-in-Err-clause-fault
+returns-in-Err-clause-fault g c = λ tells conn answer is lost.
+    let held : Holdings = g.D.Disk.held c.args.disk.now in
+    let left : Holdings = g.D.Disk.held c.close_file.new.disk in
+    fails_closing g.D.File.FileStore.told g.D.File.FileStore.bytes (core_of (files_of held) c.args.core.now) held left c.args.number c.args.core.now.names c.args.connection conn c.args.keep answer
+    c.args.lined.now.what c.args.after _ (g.D.Disk.refusals c.args.disk.now) (g.D.Disk.refusals c.close_file.new.disk)
+    (sym c.if-not-is_due.ensures) is refl c.remove-2.ensures (c.in-Err.ensures.own tells).1
+    (due_back held left c.args.connection.name (g.D.File.FileStore.bytes c.args.connection.file) _ c.args.keep c.close_file.result (g.D.Disk.refusals c.args.disk.now) (g.D.Disk.refusals c.close_file.new.disk)
+    (c.close_file.ensures.back tells) (c.close_file.ensures.err tells) c.close_file.ensures.kept (c.close_file.ensures.own tells))

@@ -8,6 +8,7 @@ use Rattle.fj_acts.specs.Doing.{IsDoing, goes_on}
 use Rattle.fj_acts.specs.State.{core_of}
 use Rattle.fj_acts.specs.declared.doing.After.{After}
 use Rattle.fj_acts.proofs.ClosingLemmas.{connects_is}
+use Rattle.fj_acts.proofs.FailingLemmas.{fails_as}
 use Rattle.fj_acts.proofs.OpeningLemmas.{meant}
 use Rattle.fj_acts.proofs.StepLemmas.{asks_to_open}
 use Rattle.fj_acts.proofs.steps.go_on.Goals as goal
@@ -31,3 +32,12 @@ returns-in-Ok-clause-doing g c = λ tells.
     (sym (connects_is what c.in-Connects.number c.in-OpenUnit.spec c.in-Ok.modes core (asks_to_open what c.in-OpenUnit.unit c.in-OpenUnit.spec c.in-OpenUnit.iostat c.in-OpenUnit.is) (sym c.settle_open.ensures.settled ∙ c.in-Ok.is))
     ∙ ap (goes_on what core) (sym c.in-Connects.is))
     (c.connect.ensures.doing tells c.args.variables.now st)
+
+pub returns-in-Ok-clause-fault : goal.returns-in-Ok-clause-fault
+returns-in-Ok-clause-fault g c = λ tells lost.
+    let core : Core = core_of (files_of (g.D.Disk.held c.args.disk.now)) c.args.core.now in
+    let what : Statement = c.args.lined.now.what in
+    fails_as _ _ c.connect.new.core (g.D.Disk.held c.connect.new.disk) (g.D.Disk.refusals c.args.disk.now) (g.D.Disk.refusals c.connect.new.disk)
+    (sym (connects_is what c.in-Connects.number c.in-OpenUnit.spec c.in-Ok.modes core (asks_to_open what c.in-OpenUnit.unit c.in-OpenUnit.spec c.in-OpenUnit.iostat c.in-OpenUnit.is) (sym c.settle_open.ensures.settled ∙ c.in-Ok.is))
+    ∙ ap (goes_on what core) (sym c.in-Connects.is))
+    (c.connect.ensures.fault tells lost)

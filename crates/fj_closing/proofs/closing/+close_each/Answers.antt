@@ -1,7 +1,9 @@
+use Rattle.std.proofs.Common.{◌≡◌, None}
 use Rattle.fj_units.specs.Files.{files_of}
 use Rattle.fj_units.specs.Units.{connected_of}
 use Rattle.fj_closing.proofs.Returning.{each_closed, either_lacks, both_tell}
 use Rattle.fj_closing.proofs.Due.{each_due, others_on}
+use Rattle.fj_closing.proofs.Running.{each_running}
 use Rattle.fj_closing.proofs.closing.+close_each.Goals as goal
 
 pub returns-clause-files : goal.returns-clause-files
@@ -31,3 +33,11 @@ pub returns-clause-same : goal.returns-clause-same
 returns-clause-same g t c = λ tells.
     others_on c.args.names.now c.close_unit-first.new.names c.close_each-then.new.names (g.D.Disk.held c.args.disk.now) (g.D.Disk.held c.close_unit-first.new.disk) (g.D.Disk.held c.close_each-then.new.disk)
     c.close_unit-first.ensures.lessens c.close_each-then.ensures.lessens (c.close_unit-first.ensures.same tells) (c.close_each-then.ensures.same (c.close_unit-first.ensures.telling.0 tells))
+
+pub returns-clause-running : goal.returns-clause-running
+returns-clause-running g t c = λ tells may was b.
+    let told = both_tell c.close_unit-first.result c.close_each-then.result c.after.result c.after.ensures may in
+    let still = c.close_unit-first.ensures.telling.0 tells in
+    each_running connected_of was (λ it. it.stop ≡ None) c.args.units.now c.unit-item.result (g.D.Disk.held c.close_unit-first.new.disk) (g.D.Disk.held c.close_each-then.new.disk)
+    c.close_unit-first.new.names c.close_each-then.new.names c.in-len1-up.len_at_least c.unit-item.is c.close_each-then.ensures.lessens (c.close_each-then.ensures.same still) (c.close_unit-first.ensures.back told.0)
+    (c.close_unit-first.ensures.running tells told.0 was b) (c.close_each-then.ensures.running still told.1 was (c.close_unit-first.ensures.kept was b))

@@ -1,7 +1,8 @@
 use Rattle.std.proofs.Common.{sym, ap, ◌∙◌, arith}
 use Rattle.fj_units.specs.Names.{stands, left_of}
 use Rattle.fj_units.specs.Files.{files_of}
-use Rattle.fj_closing.proofs.Returning.{name_off, off_lessens, wanted}
+use Rattle.fj_units.proofs.Returning.{name_off}
+use Rattle.fj_closing.proofs.Returning.{off_lessens, wanted}
 use Rattle.fj_closing.proofs.Due.{due_closed, others_of_one}
 use Rattle.fj_closing.proofs.closing.close.Goals as goal
 

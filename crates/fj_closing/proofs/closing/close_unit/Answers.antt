@@ -1,13 +1,14 @@
 use Rattle.std.proofs.Common.{◌≡◌, ◌<◌, ℕ, List, true, false, not, length, IfSome, OnOk, refl, sym, ap, ◌∙◌, subst, arith}
 use Rattle.std.proofs.lemmas.Option.{slice_get_read}
+use Rattle.std.specs.FinSet as set
 use Rattle.std.proofs.lemmas.Slice.Eq.{bytes_eq-Decides}
 use Rattle.fj_connect.specs.Linked.{Linked, connection_of}
 use Rattle.fj_plain.specs.State.{left}
 use Rattle.fj_units.specs.Names.{stands}
 use Rattle.fj_units.specs.Files.{files_of}
+use Rattle.fj_units.specs.Returning.{IsAsDue}
 use Rattle.fj_closing.specs.Losing.{is_memory}
-use Rattle.fj_closing.specs.Closing.{IsAsDue}
-use Rattle.fj_closing.proofs.Returning.{kept_gone, closes_desk, lack_at, no_more_memory, unfit_untold}
+use Rattle.fj_closing.proofs.Returning.{kept_gone, kept_get, closes_desk, lack_at, no_more_memory, unfit_untold}
 use Rattle.fj_closing.proofs.Due.{due_at_desk}
 use Rattle.fj_closing.proofs.closing.close_unit.Goals as goal
 
@@ -68,3 +69,26 @@ returns-then-due-clause-due g c = λ tells may was desks d b are at_d named.
 
 pub returns-else-due-clause-due : goal.returns-else-due-clause-due
 returns-else-due-clause-due g c = λ tells may. absurd (unfit_untold c.close-closed.result c.after.result c.after.ensures may)
+
+pub returns-then-due-clause-running : goal.returns-then-due-clause-running
+returns-then-due-clause-running g c = λ tells may was b clear.
+    let within : c.args.unit.now.slot < length c.args.all.now.items = omega (arith, c.if-at-len.false, c.len.ensures, c.args.all.now.ok.0) in
+    let found = slice_get_read c.args.all.now.items (length c.args.all.now.items) c.args.unit.now.slot c.index_mut-it.result.now refl within c.index_mut-it.ensures.value in
+    let due = (bytes_eq-Decides c.as_str.result.now c.as_str-2.result.now).0 (sym c.eq-due.ensures ∙ c.if-due.true) in
+    let name = sym c.name.ensures ∙ sym c.as_str.ensures.text ∙ due ∙ c.as_str-2.ensures.text in (
+      c.index_mut-it.result.now,
+      kept_get c.args.names.now was c.args.all.now.items c.args.unit.now.slot c.index_mut-it.result.now c.in-Some.connection b found (sym c.in-Some.ensures.value),
+      (c.close-closed.ensures.due tells may (ap (set.contains (g.D.Disk.held c.close-closed.new.disk).hurt) name ∙ clear)).0,
+    )
+
+pub returns-else-due-clause-running : goal.returns-else-due-clause-running
+returns-else-due-clause-running g c = λ tells may. absurd (unfit_untold c.close-closed.result c.after.result c.after.ensures may)
+
+pub returns-then-due-clause-back : goal.returns-then-due-clause-back
+returns-then-due-clause-back g c = λ may.
+    let due = (bytes_eq-Decides c.as_str.result.now c.as_str-2.result.now).0 (sym c.eq-due.ensures ∙ c.if-due.true) in
+    let name = sym c.name.ensures ∙ sym c.as_str.ensures.text ∙ due ∙ c.as_str-2.ensures.text in
+    ap (stands c.close-closed.new.names) (sym name) ∙ c.close-closed.ensures.back
+
+pub returns-else-due-clause-back : goal.returns-else-due-clause-back
+returns-else-due-clause-back g c = λ may. absurd (unfit_untold c.close-closed.result c.after.result c.after.ensures may)

@@ -1,8 +1,8 @@
-use Rattle.std.proofs.Common.{◌≡◌, OnOk, map, sym, ap, ◌∙◌, subst}
+use Rattle.std.proofs.Common.{◌≡◌, None, OnOk, map, sym, ap, ◌∙◌, subst}
 use Rattle.fj_desk.specs.Desking.{all_left}
 use Rattle.fj_units.specs.Files.{files_of}
 use Rattle.fj_units.specs.Units.{connected_of}
-use Rattle.fj_closing.specs.Closing.{AreSeated, AreNamed, AreAsDue, names_left}
+use Rattle.fj_closing.specs.Closing.{AreSeated, AreNamed, AreAsDue, IfClear, names_left}
 use Rattle.fj_closing.proofs.Returning.{both_ok, both_tell, fine_told, either_lacks, kept_all, lack_kept, back_all}
 use Rattle.fj_closing.proofs.Due.{others_on}
 use Rattle.fj_closing.proofs.closing.close_units.Goals as goal
@@ -54,3 +54,10 @@ pub returns-clause-same : goal.returns-clause-same
 returns-clause-same g c = λ tells.
     others_on c.args.names.now c.close_each-first.new.names c.close_rest-then.new.names (g.D.Disk.held c.args.disk.now) (g.D.Disk.held c.close_each-first.new.disk) (g.D.Disk.held c.close_rest-then.new.disk)
     c.close_each-first.ensures.lessens c.close_rest-then.ensures.lessens (c.close_each-first.ensures.same tells) (c.close_rest-then.ensures.same (c.close_each-first.ensures.telling.0 tells))
+
+pub returns-clause-running : goal.returns-clause-running
+returns-clause-running g c = λ tells may.
+    let told = both_tell c.close_each-first.result c.close_rest-then.result c.after.result c.after.ensures may in
+    let running = c.close_each-first.ensures.running tells told.0 c.args.all.items (kept_all c.args.names.now c.args.all.items) in
+    subst (λ d. IfClear (g.D.Disk.held d) c.args.units.now c.args.all.items (λ it. it.stop ≡ None)) (sym (c.close_rest-then.ensures.none told.1).0)
+    (subst (λ us. IfClear (g.D.Disk.held c.close_each-first.new.disk) us c.args.all.items (λ it. it.stop ≡ None)) c.as_slice.ensures running)

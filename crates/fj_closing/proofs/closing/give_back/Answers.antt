@@ -1,14 +1,13 @@
-use Rattle.std.proofs.Common.{ℕ, List, sym, ap, ◌∙◌, subst}
-use Rattle.fj_units.specs.Names.{left_of, AreInUse}
-use Rattle.fj_closing.proofs.Returning.{names_back, files_back}
-use Rattle.fj_closing.proofs.Due.{due_back, hurt_back, others_back, never_falls}
+use Rattle.std.proofs.Common.{ap, ◌∙◌}
+use Rattle.fj_units.specs.Names.{left_of}
+use Rattle.fj_units.proofs.Returning.{names_back, files_back, due_back, never_falls}
+use Rattle.fj_closing.proofs.Due.{hurt_back, others_back}
 use Rattle.fj_closing.proofs.closing.give_back.Goals as goal
 
 pub returns-clause-names : goal.returns-clause-names
 returns-clause-names g c = λ tells.
-    subst (λ (ns : List (List ℕ)). AreInUse ns (g.D.Disk.held c.close_file.new.disk).in_use) (sym (c.remove.ensures ∙ ap (left_of c.args.names.now) c.name.ensures))
-    (names_back c.args.names.now (g.D.Disk.held c.args.disk.now) (g.D.Disk.held c.close_file.new.disk) c.args.connection.name (g.D.File.FileStore.bytes c.args.connection.file) _ c.args.keep
-    c.close_file.result (c.close_file.ensures.back tells) (c.close_file.ensures.err tells) (c.requires.names tells))
+    names_back c.args.names.now c.remove.new.self (g.D.Disk.held c.args.disk.now) (g.D.Disk.held c.close_file.new.disk) c.args.connection.name (g.D.File.FileStore.bytes c.args.connection.file) _ c.args.keep
+    c.close_file.result (c.remove.ensures ∙ ap (left_of c.args.names.now) c.name.ensures) (c.close_file.ensures.back tells) (c.close_file.ensures.err tells) (c.requires.names tells)
 
 pub returns-clause-files : goal.returns-clause-files
 returns-clause-files g c = λ tells.

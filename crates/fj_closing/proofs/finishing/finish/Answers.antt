@@ -1,3 +1,4 @@
+use Rattle.fj_closing.proofs.Running.{slots_running}
 use Rattle.fj_closing.proofs.finishing.finish.Goals as goal
 
 pub returns-clause-files : goal.returns-clause-files
@@ -13,3 +14,8 @@ returns-clause-remains g c = record {
 
 pub returns-clause-due : goal.returns-clause-due
 returns-clause-due g c = λ tells may desks holds. c.close_units.ensures.due tells may desks (c.what_remains-all.ensures.desks desks holds)
+
+pub returns-clause-running : goal.returns-clause-running
+returns-clause-running g c = λ tells may.
+    slots_running g.D.File.FileStore.told g.D.File.FileStore.bytes g.D.File.FileStore.count c.args.slots.slots c.what_remains-all.result.items c.what_remains-all.ensures.each
+    (g.D.Disk.held c.close_units.new.disk) c.args.units.now (c.close_units.ensures.running tells may)

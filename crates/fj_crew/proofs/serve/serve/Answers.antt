@@ -71,7 +71,7 @@ loop-slot-preserved-in-Submit g c =
       leads = led_twice k.leads c.args.script.now c.loop-slot.script c.took.new.self c.ask-hand-in-Submit.new.self inv.leads c.took.ensures.leads asks.leads;
       stopped = λ was is. submit_told m k c.loop-slot.script c.took.new.self c.ask-hand-in-Submit.new.self c.ask-hand-in-Submit.result new c.submit_at-number.result (λ e. (inv.stopped was e).0) going c.took.ensures asks is;
       gave_up = λ b start over. submit_gave_up m k b.state b.slots (k.left c.args.script.now) c.args.script.now c.loop-slot.script c.took.new.self c.ask-hand-in-Submit.new.self c.loop-slot.hand c.ask-hand-in-Submit.result
-          old new c.in-Submit.slot c.in-Submit.job c.submit_at-number.result found.0 inv.leads (inv.goes b) going hand found.1 did c.took.ensures asks over;
+          old new c.in-Submit.slot c.in-Submit.job c.submit_at-number.result found.0 inv.leads (inv.goes b) going hand due found.1 did c.took.ensures asks over;
       goes = λ b. submit_goes m k (asked_next m k b.state b.slots) (k.left c.args.script.now) c.loop-slot.script c.took.new.self c.ask-hand-in-Submit.new.self c.loop-slot.hand c.ask-hand-in-Submit.result
           old new c.in-Submit.slot c.in-Submit.job c.submit_at-number.result found.0 (inv.goes b) going hand found.1 did c.took.ensures asks;
     }
@@ -106,7 +106,7 @@ loop-slot-preserved g c =
       leads = led_twice k.leads c.args.script.now c.loop-slot.script c.told.new.self c.ask-hand-in-Settle.new.self inv.leads c.told.ensures.leads asks.leads;
       stopped = λ was is. settle_told m k c.loop-slot.script c.told.new.self c.ask-hand-in-Settle.new.self c.ask-hand-in-Settle.result old new c.in-Settle.slot c.settle_at-told.result found.0 found.1 did c.told.ensures asks is;
       gave_up = λ b start over. settle_gave_up m k b.state b.slots (k.left c.args.script.now) c.args.seats.now.items c.args.script.now c.loop-slot.script c.told.new.self c.ask-hand-in-Settle.new.self c.loop-slot.hand c.ask-hand-in-Settle.result
-          old new c.in-Settle.slot c.settle_at-told.result found.0 b.planned inv.same inv.leads (inv.goes b) going keeps.1 hand found.1 (omega (arith, owes, keeps.2)) did c.told.ensures asks over;
+          old new c.in-Settle.slot c.settle_at-told.result found.0 b.planned inv.same inv.leads (inv.goes b) going keeps.1 hand due found.1 (omega (arith, owes, keeps.2)) did c.told.ensures asks over;
       goes = λ b. settle_goes m k (asked_next m k b.state b.slots) (k.left c.args.script.now) c.args.seats.now.items c.loop-slot.script c.told.new.self c.ask-hand-in-Settle.new.self c.loop-slot.hand c.ask-hand-in-Settle.result
           old new c.in-Settle.slot c.settle_at-told.result found.0 b.planned inv.same (inv.goes b) going keeps.1 hand found.1 (omega (arith, owes, keeps.2)) (λ all. inv.answered all going c.in-Settle.slot found.0 found.1) did c.told.ensures asks;
     }

@@ -34,7 +34,7 @@ serve_with-requires-clause-home g c κs within = λ at l e.
 
 pub returns-clause-leaves : goal.returns-clause-leaves
 returns-clause-leaves g c =
-    let rests = runner_rests g.W.Sink.tells g.W.Sink.taken g.W.Sink.count g.D.Disk.tells g.D.Disk.count (λ r. r.out.ghost_name) (λ r. r.disk.ghost_name) (λ r. r.machine.ghost_name) (λ r. r.out.now) (λ r. r.disk.now) (λ r. r.machine.now)
+    let rests = runner_rests g.W.Sink.tells g.W.Sink.taken g.W.Sink.count g.D.Disk.tells g.D.Disk.count g.D.Disk.refusals (λ r. r.out.ghost_name) (λ r. r.disk.ghost_name) (λ r. r.machine.ghost_name) (λ r. r.out.now) (λ r. r.disk.now) (λ r. r.machine.now)
     _ (λ a b h. record { same_out = h.same_out; same_disk = h.same_disk; same_machine = h.same_machine; leaves = h.leaves }) _ c.serve_with.new.script c.serve_with.ensures.leads in
     let m = c.machine-1.given.1 (sym rests.same_machine) in
     let d = c.disk-1.given.1 (sym rests.same_disk) in
@@ -43,7 +43,7 @@ returns-clause-leaves g c =
 
 pub returns-clause-names : goal.returns-clause-names
 returns-clause-names g c = λ t.
-    let rests = runner_rests g.W.Sink.tells g.W.Sink.taken g.W.Sink.count g.D.Disk.tells g.D.Disk.count (λ r. r.out.ghost_name) (λ r. r.disk.ghost_name) (λ r. r.machine.ghost_name) (λ r. r.out.now) (λ r. r.disk.now) (λ r. r.machine.now)
+    let rests = runner_rests g.W.Sink.tells g.W.Sink.taken g.W.Sink.count g.D.Disk.tells g.D.Disk.count g.D.Disk.refusals (λ r. r.out.ghost_name) (λ r. r.disk.ghost_name) (λ r. r.machine.ghost_name) (λ r. r.out.now) (λ r. r.disk.now) (λ r. r.machine.now)
     _ (λ a b h. record { same_out = h.same_out; same_disk = h.same_disk; same_machine = h.same_machine; leaves = h.leaves }) _ c.serve_with.new.script c.serve_with.ensures.leads in
     let m = c.machine-1.given.1 (sym rests.same_machine) in
     let d = c.disk-1.given.1 (sym rests.same_disk) in
@@ -51,7 +51,7 @@ returns-clause-names g c = λ t.
 
 pub returns-clause-ran : goal.returns-clause-ran
 returns-clause-ran g c = λ t over.
-    let rests = runner_rests g.W.Sink.tells g.W.Sink.taken g.W.Sink.count g.D.Disk.tells g.D.Disk.count (λ r. r.out.ghost_name) (λ r. r.disk.ghost_name) (λ r. r.machine.ghost_name) (λ r. r.out.now) (λ r. r.disk.now) (λ r. r.machine.now)
+    let rests = runner_rests g.W.Sink.tells g.W.Sink.taken g.W.Sink.count g.D.Disk.tells g.D.Disk.count g.D.Disk.refusals (λ r. r.out.ghost_name) (λ r. r.disk.ghost_name) (λ r. r.machine.ghost_name) (λ r. r.out.now) (λ r. r.disk.now) (λ r. r.machine.now)
     _ (λ a b h. record { same_out = h.same_out; same_disk = h.same_disk; same_machine = h.same_machine; leaves = h.leaves }) _ c.serve_with.new.script c.serve_with.ensures.leads in
     let m = c.machine-1.given.1 (sym rests.same_machine) in
     let d = c.disk-1.given.1 (sym rests.same_disk) in
@@ -73,7 +73,7 @@ serve_with-requires-clause-sound g c κs within = λ at l e s ts is jobs.
 
 pub returns-clause-ended : goal.returns-clause-ended
 returns-clause-ended g c = λ t over ending ends.
-    let rests = runner_rests g.W.Sink.tells g.W.Sink.taken g.W.Sink.count g.D.Disk.tells g.D.Disk.count (λ r. r.out.ghost_name) (λ r. r.disk.ghost_name) (λ r. r.machine.ghost_name) (λ r. r.out.now) (λ r. r.disk.now) (λ r. r.machine.now)
+    let rests = runner_rests g.W.Sink.tells g.W.Sink.taken g.W.Sink.count g.D.Disk.tells g.D.Disk.count g.D.Disk.refusals (λ r. r.out.ghost_name) (λ r. r.disk.ghost_name) (λ r. r.machine.ghost_name) (λ r. r.out.now) (λ r. r.disk.now) (λ r. r.machine.now)
     _ (λ a b h. record { same_out = h.same_out; same_disk = h.same_disk; same_machine = h.same_machine; leaves = h.leaves }) _ c.serve_with.new.script c.serve_with.ensures.leads in
     let m = c.machine-1.given.1 (sym rests.same_machine) in
     let meaning = bay_meaning g.D.File.FileStore.told g.D.File.FileStore.bytes g.D.File.FileStore.count in
@@ -86,10 +86,11 @@ returns-clause-ended g c = λ t over ending ends.
 
 pub returns-clause-cut : goal.returns-clause-cut
 returns-clause-cut g c = λ t sound over.
-    let rests = runner_rests g.W.Sink.tells g.W.Sink.taken g.W.Sink.count g.D.Disk.tells g.D.Disk.count (λ r. r.out.ghost_name) (λ r. r.disk.ghost_name) (λ r. r.machine.ghost_name) (λ r. r.out.now) (λ r. r.disk.now) (λ r. r.machine.now)
+    let rests = runner_rests g.W.Sink.tells g.W.Sink.taken g.W.Sink.count g.D.Disk.tells g.D.Disk.count g.D.Disk.refusals (λ r. r.out.ghost_name) (λ r. r.disk.ghost_name) (λ r. r.machine.ghost_name) (λ r. r.out.now) (λ r. r.disk.now) (λ r. r.machine.now)
     _ (λ a b h. record { same_out = h.same_out; same_disk = h.same_disk; same_machine = h.same_machine; leaves = h.leaves }) _ c.serve_with.new.script c.serve_with.ensures.leads in
     let m = c.machine-1.given.1 (sym rests.same_machine) in
     let o = c.out-1.given.1 (sym rests.same_out) in
+    let d = c.disk-1.given.1 (sym rests.same_disk) in
     let meaning = bay_meaning g.D.File.FileStore.told g.D.File.FileStore.bytes g.D.File.FileStore.count in
     let old = c.args.machine.now in
     let files = files_of (g.D.Disk.held c.args.disk.now) in
@@ -97,6 +98,6 @@ returns-clause-cut g c = λ t sound over.
     let known = showing (g.D.Disk.told c.args.disk.now) _ first (c.tells_so.ensures t) (c.requires.begins.run files) in
     let alone = c.serve_with.ensures.alone first fresh_slots known c.requires.begins.running (fit meaning c.args.slots.now c.requires.fresh) in
     let lost = c.serve_with.ensures.gave_up first fresh_slots known c.requires.begins.running c.requires.begins.going (fit meaning c.args.slots.now c.requires.fresh) (sym (ap (λ k. k.tally.over) m) ∙ over) in
-    rw (o, m) (run_cut meaning _ g.W.Sink.tells g.W.Sink.taken g.W.Sink.count g.D.Disk.tells g.D.Disk.count g.D.Disk.told (λ d. files_of (g.D.Disk.held d)) g.D.File.FileStore.told g.D.File.FileStore.bytes
+    rw (o, d, m) (run_cut meaning _ g.W.Sink.tells g.W.Sink.taken g.W.Sink.count g.D.Disk.tells g.D.Disk.count g.D.Disk.refusals g.D.Disk.told g.D.Disk.held g.D.File.FileStore.told g.D.File.FileStore.bytes
     (λ r. r.out.now) (λ r. r.disk.now) (λ r. r.machine.now) old.deck files _ c.serve_with.new.script c.serve_with.new.slots alone lost
-    (record { over = λ a. refl; stopped = λ a. refl; state = λ a. refl; leaves = λ a b h. h.leaves; gives_up = λ a b h. h.gives_up; stays = λ a b h. h.stays; reason = λ a b h. h.reason }) sound c.requires.begins refl)
+    (record { over = λ a. refl; stopped = λ a. refl; state = λ a. refl; due = λ a. refl; leaves = λ a b h. h.leaves; gives_up = λ a b h. h.gives_up; asking = λ a b h. h.asking; stays = λ a b h. h.stays; reason = λ a b h. h.reason }) sound c.requires.begins refl t)

@@ -1,7 +1,11 @@
-use Rattle.std.proofs.Common.{◌≡◌, ◌∙◌, Some, inr, ap, sym}
+use Rattle.std.proofs.Common.{◌≡◌, ◌∙◌, false, Some, None, inl, inr, ap, sym, subst, arith}
+use Rattle.std.specs.FinSet as set
+use Rattle.fj_desk.specs.Desking.{all_left}
 use Rattle.fj_units.specs.Files.{files_of}
+use Rattle.fj_units.specs.Returning.{IsAsDue}
+use Rattle.fj_closing.specs.Closing.{IfClear}
 use Rattle.fj_items.specs.declared.lost.Lost.TheVariants.{Sink, Disk}
-use Rattle.fj_job.proofs.Settling.{none_in_use, empty_by, where_ok, where_none, before, lost_disk, lost_alone}
+use Rattle.fj_job.proofs.Settling.{none_in_use, empty_by, where_ok, where_none, before, lost_disk, lost_alone, not_sink, not_disk, told_ok, by_first}
 use Rattle.fj_job.proofs.ending.give_back.Goals as goal
 
 pub give_kept-given-requires : goal.give_kept-given-requires
@@ -14,12 +18,12 @@ returns-then-not-is_empty-clause-telling g c =
 pub returns-in-Some-clause-sink : goal.returns-in-Some-clause-sink
 returns-in-Some-clause-sink g c = λ e.
     let s : Some c.in-Some.lost ≡ Some Sink = cc in
-    before _ _ c.finish-closed.ensures.sink (c.first_lost.ensures.sink (before _ _ c.give_kept-given.ensures.sink (c.in-Some.ensures.sink s)))
+    before _ _ c.finish-closed.ensures.sink (c.first_lost.ensures.sink (before _ _ (not_sink c.give_kept-given.result c.give_kept-given.ensures.unfit) (c.in-Some.ensures.sink s)))
 
 pub returns-in-Some-clause-disk : goal.returns-in-Some-clause-disk
 returns-in-Some-clause-disk g c = λ e.
     let s : Some c.in-Some.lost ≡ Some Disk = cc in
-    lost_disk _ _ _ _ _ _ _ c.finish-closed.ensures.later c.give_kept-given.ensures.later c.finish-closed.ensures.disk c.give_kept-given.ensures.disk
+    lost_disk _ _ _ _ _ _ _ c.finish-closed.ensures.later c.give_kept-given.ensures.later c.finish-closed.ensures.disk (λ e. absurd (not_disk c.give_kept-given.result c.give_kept-given.ensures.unfit e))
     c.first_lost.ensures.disk (c.in-Some.ensures.disk s)
 
 pub returns-in-Some-clause-in_use : goal.returns-in-Some-clause-in_use
@@ -48,3 +52,27 @@ pub returns-in-Some-clause-alone : goal.returns-in-Some-clause-alone
 returns-in-Some-clause-alone g c = λ e.
     let s : Some c.in-Some.lost ≡ Some Disk = cc in
     lost_alone _ _ _ c.first_lost.ensures.none c.first_lost.ensures.alone (c.in-Some.ensures.alone s)
+
+pub returns-then-not-is_empty-clause-own : goal.returns-then-not-is_empty-clause-own
+returns-then-not-is_empty-clause-own g c = λ t. let a = c.finish-closed.ensures.own t in let b = c.give_kept-given.ensures.own (c.finish-closed.ensures.telling.0 t) in omega (arith, a, b)
+
+pub returns-in-Some-clause-own : goal.returns-in-Some-clause-own
+returns-in-Some-clause-own g c = λ t. let a = c.finish-closed.ensures.own t in let b = c.give_kept-given.ensures.own (c.finish-closed.ensures.telling.0 t) in omega (arith, a, b)
+
+pub returns-in-None-clause-own : goal.returns-in-None-clause-own
+returns-in-None-clause-own g c = λ t. let a = c.finish-closed.ensures.own t in let b = c.give_kept-given.ensures.own (c.finish-closed.ensures.telling.0 t) in omega (arith, a, b)
+
+pub returns-in-Some-clause-due : goal.returns-in-Some-clause-due
+returns-in-Some-clause-due g c = λ t e desks h seats named name clear.
+    let s : Some c.in-Some.lost ≡ Some Disk = cc in
+    let same = where_ok _ _ (told_ok c.give_kept-given.result c.give_kept-given.ensures.unfit (c.in-Some.ensures.fits s)) c.give_kept-given.ensures.none in
+    let may = c.first_lost.ensures.fits (by_first c.first_lost.result c.give_kept-given.result c.give_kept-given.ensures.unfit (c.in-Some.ensures.disk s)) in
+    subst (λ d. IsAsDue (g.D.Disk.refusals c.args.disk.now) (g.D.Disk.refusals d) (files_of (g.D.Disk.held d) name) (all_left desks c.args.left.now.core.units (files_of (g.D.Disk.held c.args.disk.now)) name)) (sym same)
+    (c.finish-closed.ensures.due t may desks h seats named name (inl (subst (λ d. set.contains (g.D.Disk.held d).hurt name ≡ false) same clear)))
+
+pub returns-in-Some-clause-running : goal.returns-in-Some-clause-running
+returns-in-Some-clause-running g c = λ t e.
+    let s : Some c.in-Some.lost ≡ Some Disk = cc in
+    let same = where_ok _ _ (told_ok c.give_kept-given.result c.give_kept-given.ensures.unfit (c.in-Some.ensures.fits s)) c.give_kept-given.ensures.none in
+    let may = c.first_lost.ensures.fits (by_first c.first_lost.result c.give_kept-given.result c.give_kept-given.ensures.unfit (c.in-Some.ensures.disk s)) in
+    subst (λ d. IfClear (g.D.Disk.held d) c.args.left.now.core.units c.args.slots.slots (λ l. l.halt ≡ None)) (sym same) (c.finish-closed.ensures.running t may)

@@ -1,7 +1,8 @@
-use Rattle.std.proofs.Common.{inl, inr, rules}
+use Rattle.std.proofs.Common.{◌≡◌, inl, inr, sym, ap, ◌∙◌, rules}
 use Rattle.fj_runner.specs.Machine.{ending_of}
 use Rattle.fj_job.specs.Reply.{status_of}
-use Rattle.fj_job.proofs.Told.{of_report}
+use Rattle.fj_report.specs.declared.status.Status.TheVariants.{DiskFault}
+use Rattle.fj_job.proofs.Told.{of_report, line_of_fault}
 use Rattle.fj_job.proofs.ToldLaws.{answered}
 use Rattle.fj_job.proofs.ending.report.Goals as goal
 
@@ -31,3 +32,13 @@ returns-in-Err-Disk-clause-front g c = λ w. inr (inl (record {
   line_is = c.line_of.ensures;
   taken = c.tell_fault.ensures.front w;
 }))
+
+pub returns-in-Err-Disk-clause-fault : goal.returns-in-Err-Disk-clause-fault
+returns-in-Err-Disk-clause-fault g c = λ line e.
+    let same : c.line_of.result ≡ line = line_of_fault c.tell_fault.result c.line_of.result line c.tell_fault.ensures.status e in
+    record {
+      settled = search rules;
+      line_is = λ lined at. sym same ∙ c.line_of.ensures lined at;
+      front = λ w. rw (← same) (c.tell_fault.ensures.front w);
+      taken = λ w. rw (← same) (c.tell_fault.ensures.whole (e ∙ ap (λ n. DiskFault n) (sym same)) w);
+    }

@@ -3,8 +3,9 @@ use Rattle.fj_items.specs.declared.lost.Lost.{Lost}
 use Rattle.fj_items.specs.declared.lost.Lost.TheVariants.{Disk}
 use Rattle.fj_acts.specs.declared.state.Core.{Core}
 use Rattle.fj_desk.specs.Desking.{all_left}
-use Rattle.fj_closing.specs.Closing.{AreSeated}
+use Rattle.fj_closing.specs.Closing.{AreSeated, AreNamed, IfClear}
 use Rattle.fj_units.specs.Files.{files_of}
+use Rattle.fj_units.specs.Returning.{IsAsDue}
 use Rattle.fj_units.specs.Names.{stands}
 use Rattle.fj_job.proofs.Settling.{where_ok, lost_then}
 use Rattle.fj_job.proofs.ending.settle.Goals as goal
@@ -27,6 +28,13 @@ returns g c = record {
     sink = λ e. sym c.into_left-left.ensures.lost ∙ c.give_back-settled.ensures.sink e;
     of_disk = λ e. lost_then c.into_left-left.ensures.lost (c.give_back-settled.ensures.disk e);
     alone = λ e. subst (λ (o : Option Lost). (o ≡ None) ⊎ (o ≡ Some Disk)) c.into_left-left.ensures.lost (c.give_back-settled.ensures.alone e);
+    due = λ t e desks h seats named name clear.
+        let us = ap (λ k. k.units) c.into_left-left.ensures.core in
+        subst (λ us. IsAsDue (g.D.Disk.refusals c.args.disk.now) (g.D.Disk.refusals c.give_back-settled.new.disk) (files_of (g.D.Disk.held c.give_back-settled.new.disk) name)
+        (all_left desks us (files_of (g.D.Disk.held c.args.disk.now)) name)) us
+        (c.give_back-settled.ensures.due t e desks h (subst (λ us. AreSeated desks us) (sym us) seats) (subst (λ us. AreNamed desks us) (sym us) named) name clear);
+    running = λ t e. subst (λ us. IfClear (g.D.Disk.held c.give_back-settled.new.disk) us c.args.slots.slots (λ l. l.halt ≡ None)) (ap (λ k. k.units) c.into_left-left.ensures.core) (c.give_back-settled.ensures.running t e);
+    own = c.give_back-settled.ensures.own;
     in_use = c.give_back-settled.ensures.in_use;
     telling = c.give_back-settled.ensures.telling;
     later = c.give_back-settled.ensures.later;

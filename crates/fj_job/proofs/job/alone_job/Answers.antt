@@ -6,23 +6,23 @@ use Rattle.fj_job.proofs.job.alone_job.Goals as goal
 pub returns-in-Answered-clause-told : goal.returns-in-Answered-clause-told
 returns-in-Answered-clause-told g c =
     let asked = rw c.in-Answered.is at c.answer.ensures.asked in
-    answered_told g.R.Source.tells g.R.Source.left g.R.Source.count g.W.Sink.tells g.W.Sink.taken g.W.Sink.count g.D.Disk.tells g.D.Disk.held g.D.Disk.count _ _
+    answered_told g.R.Source.tells g.R.Source.left g.R.Source.count g.W.Sink.tells g.W.Sink.taken g.W.Sink.count g.D.Disk.tells g.D.Disk.held g.D.Disk.count g.D.Disk.refusals _ _
     (c.alone_task.ensures ∙ ap alone_task c.in-Ok.ensures) _ _ _ _ _ _ asked
 
 pub returns-in-Answered-clause-keeps : goal.returns-in-Answered-clause-keeps
 returns-in-Answered-clause-keeps g c =
     let asked = rw c.in-Answered.is at c.answer.ensures.asked in
-    answered_keeps g.R.Source.tells g.R.Source.left g.R.Source.count g.W.Sink.tells g.W.Sink.taken g.W.Sink.count g.D.Disk.tells g.D.Disk.held g.D.Disk.count _ _
+    answered_keeps g.R.Source.tells g.R.Source.left g.R.Source.count g.W.Sink.tells g.W.Sink.taken g.W.Sink.count g.D.Disk.tells g.D.Disk.held g.D.Disk.count g.D.Disk.refusals _ _
     (c.alone_task.ensures ∙ ap alone_task c.in-Ok.ensures) _ _ _ _ _ _ asked
 
 pub returns-in-Deck-clause-told : goal.returns-in-Deck-clause-told
 returns-in-Deck-clause-told g c =
     let asked = rw c.in-Deck.is at c.answer.ensures.asked in
-    executed_told g.R.Source.tells g.R.Source.left g.R.Source.count g.W.Sink.tells g.W.Sink.taken g.W.Sink.count g.D.Disk.tells g.D.Disk.held g.D.Disk.count _ _
+    executed_told g.R.Source.tells g.R.Source.left g.R.Source.count g.W.Sink.tells g.W.Sink.taken g.W.Sink.count g.D.Disk.tells g.D.Disk.held g.D.Disk.count g.D.Disk.refusals _ _
     (c.alone_task.ensures ∙ ap alone_task c.in-Ok.ensures) _ _ _ _ _ _ _ _ asked _ _ _ c.execute.ensures.executed
 
 pub returns-in-Deck-clause-keeps : goal.returns-in-Deck-clause-keeps
 returns-in-Deck-clause-keeps g c =
     let asked = rw c.in-Deck.is at c.answer.ensures.asked in
-    executed_keeps g.R.Source.tells g.R.Source.left g.R.Source.count g.W.Sink.tells g.W.Sink.taken g.W.Sink.count g.D.Disk.tells g.D.Disk.held g.D.Disk.count _ _
+    executed_keeps g.R.Source.tells g.R.Source.left g.R.Source.count g.W.Sink.tells g.W.Sink.taken g.W.Sink.count g.D.Disk.tells g.D.Disk.held g.D.Disk.count g.D.Disk.refusals _ _
     (c.alone_task.ensures ∙ ap alone_task c.in-Ok.ensures) _ _ _ _ _ _ _ _ asked _ _ _ c.execute.ensures.executed

@@ -67,7 +67,7 @@ loop-slot-preserved-in-Submit g c =
       gave_up = λ s qs state on start fit over.
           let before = inv.fits s qs state on fit in
           submit_lost m k s qs before.0 c.args.script.now c.loop-slot.script c.took.new.self c.ask-hand-in-Submit.new.self c.loop-slot.hand c.ask-hand-in-Submit.result c.loop-slot.slots c.submit-number.new.self
-          c.in-Submit.slot c.in-Submit.job c.submit-number.result found.0 inv.leads before.1 going hand found.1 (c.submit-number.ensures.ok found.0 found.1) (c.submit-number.ensures.after found.0 found.1) c.submit-number.ensures.err
+          c.in-Submit.slot c.in-Submit.job c.submit-number.result found.0 inv.leads before.1 going hand due found.1 (c.submit-number.ensures.ok found.0 found.1) (c.submit-number.ensures.after found.0 found.1) c.submit-number.ensures.err
           c.took.ensures asks over;
       fits = λ s qs state on fit.
           let before = inv.fits s qs state on fit in
@@ -108,7 +108,7 @@ loop-slot-preserved g c =
       gave_up = λ s qs state on start fit over.
           let before = inv.fits s qs state on fit in
           settle_lost m k s qs before.0 c.args.script.now c.loop-slot.script c.told.new.self c.ask-hand-in-Settle.new.self c.loop-slot.hand c.ask-hand-in-Settle.result c.loop-slot.slots c.settle-told.new.slots
-          c.in-Settle.slot found.0 c.settle-told.result inv.leads before.1 going hand found.1 settled c.told.ensures asks over;
+          c.in-Settle.slot found.0 c.settle-told.result inv.leads before.1 going hand due found.1 settled c.told.ensures asks over;
       fits = λ s qs state on fit.
           let before = inv.fits s qs state on fit in
           let moved = settle_alone m k (after m k before.0 (asked_next m k s qs)) c.loop-slot.script c.told.new.self c.ask-hand-in-Settle.new.self c.loop-slot.hand c.ask-hand-in-Settle.result c.loop-slot.slots c.settle-told.new.slots

@@ -25,16 +25,16 @@ load-cell-requires g c = let a = at_holds _ _ c.take_turn.ensures.turn in let b 
     let o = at_out _ _ c.load-stop.ensures.2.0 ∙ (at_out _ _ c.load-tells.ensures.2.0 ∙ (at_out _ _ c.load-progress.ensures.2.0 ∙ (at_out _ _ c.load-submissions.ensures.2.0 ∙ (at_out _ _ c.take_turn.ensures.turn ∙ c.requires.rests.home)))) in
     (search rules, search rules, takes_cell g.E.Engine.meaning _ _ _ _ f o)
 
-pub exchange-requires : goal.exchange-requires
-exchange-requires g c = let t = c.load-cell.ensures.2 in (search rules, carries _ _ _ (Some t.0) t.1)
+pub slot_mut-requires : goal.slot_mut-requires
+slot_mut-requires g c = let t = c.load-cell.ensures.2 in (search rules, carries _ _ _ (Some t.0) t.1)
 
 pub returns-clause-sound : goal.returns-clause-sound
-returns-clause-sound g c = let t = c.load-cell.ensures.2 in let same : t.0 ≡ c.unwrap.result = search rules in
+returns-clause-sound g c = let t = c.load-cell.ensures.2 in let same : t.0 ≡ c.of.result.value = search rules in
     let plan = at_plan _ _ c.load-stop.ensures.2.0 ∙ (at_plan _ _ c.load-tells.ensures.2.0 ∙ (at_plan _ _ c.load-progress.ensures.2.0 ∙ (at_plan _ _ c.load-submissions.ensures.2.0 ∙ at_plan _ _ c.take_turn.ensures.turn))) in
     subst (λ z. IsFor g.E.Engine.meaning c.args.seat.now.me.0.plan z) same (subst (λ q. IsFor g.E.Engine.meaning q t.0) plan t.3)
 
 pub returns-clause-runs : goal.returns-clause-runs
-returns-clause-runs g c = λ k runs. let t = c.load-cell.ensures.2 in let same : t.0 ≡ c.unwrap.result = search rules in
+returns-clause-runs g c = λ k runs. let t = c.load-cell.ensures.2 in let same : t.0 ≡ c.of.result.value = search rules in
     let r1 = at_runs _ _ c.load-submissions.ensures.2.0 ∙ (at_runs _ _ c.take_turn.ensures.turn ∙ runs) in
     let r3 = at_runs _ _ c.load-tells.ensures.2.0 ∙ (at_runs _ _ c.load-progress.ensures.2.0 ∙ r1) in
     let prog = t.4.progress_is _ (at_progress _ _ c.load-stop.ensures.2.0 ∙ (at_progress _ _ c.load-tells.ensures.2.0 ∙ at_progress _ _ c.load-progress.ensures.2.0)) ∙ c.load-progress.ensures.2.1 k r1 in

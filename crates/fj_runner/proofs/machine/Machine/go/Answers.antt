@@ -8,7 +8,7 @@ use Rattle.fj_runner.proofs.machine.Machine.go.Goals as goal
 
 pub loop-self-preserved : goal.loop-self-preserved
 loop-self-preserved g c =
-    goes_more g.W.Sink.tells g.W.Sink.taken g.W.Sink.count g.D.Disk.tells g.D.Disk.held g.D.Disk.count c.args.out.now c.loop-self.out c.begin_next.new.out c.args.disk.now c.loop-self.disk c.begin_next.new.disk
+    goes_more g.W.Sink.tells g.W.Sink.taken g.W.Sink.count g.D.Disk.tells g.D.Disk.held g.D.Disk.count g.D.Disk.refusals c.args.out.now c.loop-self.out c.begin_next.new.out c.args.disk.now c.loop-self.disk c.begin_next.new.disk
     c.args.self.now c.loop-self.self c.begin_next.new.self c.in-Ok.asked c.loop-self.invariant c.in-Ok.ensures.steps (λ t. none_has c.in-Ok.asked _ c.in_default.is (c.in-Ok.ensures.passes t))
     (λ t. none_has c.in-Ok.asked _ c.in_default.is (c.in-Ok.ensures.passed t)) c.begin_next.ensures.deck c.begin_next.ensures.tally c.begin_next.ensures.kept
 
@@ -20,7 +20,7 @@ returns-in-Err-clause-fails g c = λ tells.
     let p = it.passed tells in
     let taken = g.W.Sink.taken in
     fails_behind _ (g.W.Sink.tells c.args.out.now) (g.W.Sink.tells c.loop-self.out) (taken c.args.out.now) (taken c.loop-self.out) (taken c.begin_next.new.out) p.0
-    (run_at (files_of (g.D.Disk.held c.args.disk.now)) m Start) (run_at (files_of (g.D.Disk.held c.loop-self.disk)) half Start) m half c.begin_next.new.self p.1 it.steps.telling_out.0 it.steps.output
+    (run_at (files_of (g.D.Disk.held c.args.disk.now)) m Start) (run_at (files_of (g.D.Disk.held c.loop-self.disk)) half Start) m half c.begin_next.new.self p.1 it.steps.telling_out.0 it.steps.output (it.steps.own tells)
     (fails_for _ _ (g.W.Sink.tells c.loop-self.out) (taken c.loop-self.out) (taken c.begin_next.new.out) (run_at (files_of (g.D.Disk.held c.loop-self.disk)) half Start) half c.begin_next.new.self
     (λ e. cc) (c.in-Err.ensures.fails (it.steps.telling.0 tells)))
 

@@ -61,7 +61,7 @@ returns-in-Ok-clause-fails g c = λ tells r known.
     let out' = c.turn.new.out in
     on_err_by c.ask_or_go.result _ _
     (λ f. fails_behind _ (tells_out out) (tells_out out') (taken out) (taken out') (taken c.ask_or_go.new.out) 1 r f.0 m _ c.ask_or_go.new.self
-    (passes_one r f.0 (passed_at files m k.0 st more r k.2 h ∙ f.1)) c.turn.ensures.steps.telling_out.0 c.in-Ok.ensures.steps.output f.2)
+    (passes_one r f.0 (passed_at files m k.0 st more r k.2 h ∙ f.1)) c.turn.ensures.steps.telling_out.0 c.in-Ok.ensures.steps.output (c.turn.ensures.steps.own tells) f.2)
     (c.ask_or_go.ensures.fails (c.turn.ensures.steps.telling.0 tells) t it)
 
 pub returns-in-Err-clause-fails : goal.returns-in-Err-clause-fails
@@ -81,7 +81,7 @@ returns-in-Err-clause-fails g c = λ tells r known.
     let taken = g.W.Sink.taken in
     let out = c.args.out.now in
     let out' = c.turn.new.out in
-    let f = subst (λ (rest : List Stated). FailsStage tells_out taken out m.state.core c.turn.result out' c.turn.new.self.core st k.0 (run_in m.deck.variables rest files m.state k.0)) (sym h)
+    let f = subst (λ (rest : List Stated). FailsStage tells_out taken out m.state.core c.turn.result out' c.turn.new.self.core (g.D.Disk.held c.turn.new.disk) (g.D.Disk.refusals c.args.disk.now) (g.D.Disk.refusals c.turn.new.disk) st k.0 (run_in m.deck.variables rest files m.state k.0)) (sym h)
     (c.turn.ensures.fails tells more k.0 stands) in
     fails_run _ (tells_out out) (taken out) (taken out') (run_at files m k.0) r m _ k.2
     (fails_for _ _ (tells_out out) (taken out) (taken out') (run_at files m k.0) m _ (λ e. cc (c.in-Err.is, e))

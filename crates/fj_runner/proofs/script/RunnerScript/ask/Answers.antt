@@ -5,6 +5,7 @@ use Rattle.fj_runner.specs.Machine.{run_of}
 use Rattle.fj_runner.specs.Tallying.{owed_at}
 use Rattle.fj_runner.proofs.GivingUp.{given_up_told}
 use Rattle.fj_runner.proofs.Scripting.{asks_of, asked_told}
+use Rattle.fj_runner.proofs.Tallies.{asking}
 use Rattle.fj_runner.proofs.script.RunnerScript.ask.Goals as goal
 
 pub returns : goal.returns
@@ -34,7 +35,8 @@ returns g c =
       leaves = it.leaves;
       gives_up = given_up_told (g.W.Sink.tells old.out.now) (g.W.Sink.taken old.out.now) (g.W.Sink.taken c.next_of.new.out) (g.D.Disk.told disk) (run_of told bytes files m) m new
           (λ t. it.fails ((g.met.D.Disk.decided disk).0 t));
-      stays = λ over. let still = it.rests over in (still.0, ap g.W.Sink.taken still.2);
+      asking = λ going d. asking m.tally.hand c.requires;
+      stays = λ over. let still = it.rests over in (still.0, ap g.W.Sink.taken still.2, still.1);
       reason = it.reason;
     })
     (λ r e over. asked_told told bytes count files_after new (g.D.Disk.told disk) (g.D.Disk.told after) (run_of told bytes files m) r c.next_of.result e

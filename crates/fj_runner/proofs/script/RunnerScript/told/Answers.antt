@@ -4,7 +4,7 @@ use Rattle.fj_turns.specs.Turns.{told_of}
 use Rattle.fj_units.specs.Files.{files_of}
 use Rattle.fj_runner.specs.Machine.{run_of}
 use Rattle.fj_runner.specs.Tallying.{due_of}
-use Rattle.fj_runner.proofs.GivingUp.{given_up_told, rests_give_up}
+use Rattle.fj_runner.proofs.GivingUp.{given_up_told, rests_give_up, rests_ask}
 use Rattle.fj_runner.proofs.Scripting.{run_same, if_told, rests_leaves}
 use Rattle.fj_runner.proofs.Tallies.{settling_runs, not_both}
 use Rattle.fj_runner.proofs.script.RunnerScript.told.Goals as goal
@@ -34,6 +34,7 @@ returns g c =
         leaves = rests_leaves old.out.now old.disk.now m new it.rests;
         gives_up = given_up_told (g.W.Sink.tells old.out.now) (g.W.Sink.taken old.out.now) (g.W.Sink.taken old.out.now) (g.D.Disk.told old.disk.now) (run_of told bytes files m) m new
             (λ _. rests_give_up told bytes (g.W.Sink.tells old.out.now) (g.W.Sink.taken old.out.now) files m new it.rests);
+        asking = rests_ask m new it.rests;
         stays = λ over. absurd (not_both m.tally.over over (settling_runs m.tally.hand m.tally.over m.tally.left m.tally.owed.items m.tally.settles c.requires));
         reason = it.reason;
       };

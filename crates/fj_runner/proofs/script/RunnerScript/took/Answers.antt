@@ -3,7 +3,7 @@ use Rattle.fj_plain.specs.State.{Files}
 use Rattle.fj_units.specs.Files.{files_of}
 use Rattle.fj_runner.specs.Machine.{run_of}
 use Rattle.fj_runner.specs.Tallying.{due_of}
-use Rattle.fj_runner.proofs.GivingUp.{given_up_told, rests_give_up}
+use Rattle.fj_runner.proofs.GivingUp.{given_up_told, rests_give_up, rests_ask}
 use Rattle.fj_runner.proofs.Scripting.{run_same, rests_leaves, took_by}
 use Rattle.fj_runner.proofs.Tallies.{submitting_runs, not_both}
 use Rattle.fj_runner.proofs.script.RunnerScript.took.Goals as goal
@@ -34,6 +34,7 @@ returns g c =
         leaves = rests_leaves old.out.now old.disk.now m new it.rests;
         gives_up = given_up_told (g.W.Sink.tells old.out.now) (g.W.Sink.taken old.out.now) (g.W.Sink.taken old.out.now) (g.D.Disk.told old.disk.now) (run_of told bytes files m) m new
             (λ _. rests_give_up told bytes (g.W.Sink.tells old.out.now) (g.W.Sink.taken old.out.now) files m new it.rests);
+        asking = rests_ask m new it.rests;
         stays = λ over. absurd (not_both m.tally.over over (submitting_runs m.tally.hand m.tally.over m.tally.left m.tally.submits c.requires));
         reason = it.reason;
       };

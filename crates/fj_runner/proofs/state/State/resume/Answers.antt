@@ -1,4 +1,4 @@
-use Rattle.std.proofs.Common.{◌≡◌, ◌+◌, ◌∷◌, drop, IfOk, refl, sym, subst, ap, ◌∙◌}
+use Rattle.std.proofs.Common.{◌≡◌, ◌+◌, ◌∷◌, drop, Some, IfOk, refl, sym, subst, ap, ◌∙◌}
 use Rattle.fj_bay.specs.Jobs.{resume}
 use Rattle.fj_plain.specs.State.{Files}
 use Rattle.fj_plain.specs.Statement.{Stated, control_by}
@@ -91,6 +91,7 @@ returns-clause-fails g c = λ tells more stage.
     let taken = g.W.Sink.taken in
     fails_begun c.args.out.now c.begin.new.out s.core c.begin.new.core _ _ (λ t. subst (λ o. HandsFront (taken c.args.out.now) (taken c.begin.new.out) s.core.output o) (sym due) (c.in-Err.ensures.front t))
     (λ e. (c.begin.ensures.still (cc (c.in-Err.is, e))).1) c.begin.ensures.tells
+    (λ d. record { does = does; is = ap (λ xs. Some (ends_halts xs core does)) e; fault = c.begin.ensures.fault tells (cc (c.in-Err.is, d)) })
 
 pub returns-clause-steps : goal.returns-clause-steps
 returns-clause-steps g c =
@@ -99,5 +100,5 @@ returns-clause-steps g c =
     let st : Stated = (c.args.lined.now, control_by c.args.lined.now.what) in
     let core : Core = core_of (files_of (g.D.Disk.held c.args.disk.now)) s.core in
     let due = (core_at (doing st.1 c.args.variables.now st.0.line core st.0.what c.args.condition)).output in
-    begun_steps c.args.out.now c.begin.new.out c.args.disk.now c.begin.new.disk c.args.self.now.core c.begin.new.core c.begin.result c.in-Err.lost due c.in-Err.is it.kinds it.names it.telling it.later it.failed it.telling_out
+    begun_steps c.args.out.now c.begin.new.out c.args.disk.now c.begin.new.disk c.args.self.now.core c.begin.new.core c.begin.result c.in-Err.lost due c.in-Err.is it.kinds it.names it.telling it.later it.own it.failed it.telling_out
     it.later_out it.failed_out it.front it.still

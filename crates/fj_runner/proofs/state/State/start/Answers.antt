@@ -48,4 +48,4 @@ returns-in-None-clause-fails g c = λ tells more stage.
     let run : Run = run_in variables (st ∷ more) files s stage in
     let rule = rule_by variables c.as_slice.result.now st files s.core c.unit_asked-named.result c.check-broken.result c.in-Ok.broken None c.as_slice.ensures c.check-broken.ensures c.in-Ok.is
     c.in-None.is c.unit_asked-named.ensures in
-    fails_from c.args.out.now c.wait.new.out s.core s.core c.wait.new.self.core c.wait.result _ _ _ _ _ _ refl (ap output_of (sym (starts_free st run rule))) (λ k. k) refl (c.wait.ensures.fails tells more stage)
+    fails_from c.args.out.now c.wait.new.out s.core s.core c.wait.new.self.core c.wait.result _ _ _ _ _ _ refl (ap output_of (sym (starts_free st run rule))) (λ k. k) refl refl (c.wait.ensures.fails tells more stage)

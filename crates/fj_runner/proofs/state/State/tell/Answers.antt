@@ -1,4 +1,4 @@
-use Rattle.std.proofs.Common.{List, ◌∷◌, IfOk, ap, ◌∙◌, subst}
+use Rattle.std.proofs.Common.{List, ◌∷◌, Some, IfOk, ap, ◌∙◌, subst}
 use Rattle.fj_plain.specs.State.{Files, Entry}
 use Rattle.fj_plain.specs.Statement.{Stated, control_by}
 use Rattle.fj_desk.specs.Core.{Core, Connected}
@@ -10,7 +10,7 @@ use Rattle.fj_acts.specs.State.{core_of}
 use Rattle.fj_units.specs.Files.{files_of}
 use Rattle.fj_runner.specs.Machine.{run_in}
 use Rattle.fj_runner.specs.Turned.{IsTurn}
-use Rattle.fj_runner.proofs.Beginnings.{told_run, tells_turn}
+use Rattle.fj_runner.proofs.Beginnings.{told_run, tells_turn, tells_doing}
 use Rattle.fj_turns.specs.Passing.{output_of}
 use Rattle.fj_runner.proofs.Failures.{fails_from}
 use Rattle.fj_runner.proofs.state.State.tell.Goals as goal
@@ -49,4 +49,6 @@ returns-in-Ok-tell_all-clause-fails g c = λ tells more stage.
     (told_run st es run (core_of files new) (held new.pending) (c.in-Ok-tell_all.ensures.core files) c.in-Ok-tell_all.ensures.left)
     (c.in-Ok.ensures ∙ ap (λ (us : List Connected). halted_slots es us) c.as_slice-units.ensures) c.in-Ok-tell_all.ensures.condition in
     fails_from c.args.out.now c.resume.new.out s.core new c.resume.new.self.core c.resume.result _ _ _ _ _ _ c.tell_all.ensures.keeps.output (ap output_of due) (λ k. k)
-    (ap (λ (k : Core). k.tells) (c.in-Ok-tell_all.ensures.core files)) (c.resume.ensures.fails tells more stage)
+    (ap (λ (k : Core). k.tells) (c.in-Ok-tell_all.ensures.core files))
+    (ap Some (tells_doing st es run c.in-Ok.slots c.in-Ok-tell_all.condition (core_of files new) (c.in-Ok-tell_all.ensures.core files)
+    (c.in-Ok.ensures ∙ ap (λ (us : List Connected). halted_slots es us) c.as_slice-units.ensures) c.in-Ok-tell_all.ensures.condition)) (c.resume.ensures.fails tells more stage)

@@ -133,7 +133,7 @@ returns-in-Ok-doing-clause-steps g c =
     let new = c.act-in-Ok-doing.new.self.core in
     let told = c.answered-doing.ensures in
     then_steps out out out disk after after s.core half new c.in-Ok-doing.doing c.act-in-Ok-doing.result
-    (disk_steps out disk after s.core half c.in-Ok-doing.doing told.kinds told.names told.output told.telling told.later)
+    (disk_steps out disk after s.core half c.in-Ok-doing.doing told.kinds told.names told.output told.telling told.later told.own)
     (kept_steps out after half new c.act-in-Ok-doing.result c.act-in-Ok-doing.ensures.keeps)
 
 pub returns-in-Start-clause-fails : goal.returns-in-Start-clause-fails
@@ -147,7 +147,7 @@ returns-in-Start-clause-fails g c = λ tells more stage e.
     let run : Run = run_in variables (st ∷ more) files s stage in
     let core : Core = core_of files s.core in
     let known = subst (λ x. stage_of told bytes variables (st ∷ more) core x ≡ Some stage) (sym c.replace.ensures.value ∙ c.in-Start.is) e in
-    subst (λ x. FailsStage g.W.Sink.tells g.W.Sink.taken c.args.out.now s.core c.start.result c.start.new.out c.start.new.self.core st x run) (some_same Start stage known)
+    subst (λ x. FailsStage g.W.Sink.tells g.W.Sink.taken c.args.out.now s.core c.start.result c.start.new.out c.start.new.self.core (g.D.Disk.held c.start.new.disk) (g.D.Disk.refusals c.args.disk.now) (g.D.Disk.refusals c.start.new.disk) st x run) (some_same Start stage known)
     (c.start.ensures.fails tells more stage)
 
 pub returns-in-Waiting-clause-fails : goal.returns-in-Waiting-clause-fails
@@ -161,7 +161,7 @@ returns-in-Waiting-clause-fails g c = λ tells more stage e.
     let run : Run = run_in variables (st ∷ more) files s stage in
     let core : Core = core_of files s.core in
     let known = subst (λ x. stage_of told bytes variables (st ∷ more) core x ≡ Some stage) (sym c.replace.ensures.value ∙ c.in-Waiting.is) e in
-    subst (λ x. FailsStage g.W.Sink.tells g.W.Sink.taken c.args.out.now s.core c.wait.result c.wait.new.out c.wait.new.self.core st x run) (some_same Waiting stage known)
+    subst (λ x. FailsStage g.W.Sink.tells g.W.Sink.taken c.args.out.now s.core c.wait.result c.wait.new.out c.wait.new.self.core (g.D.Disk.held c.wait.new.disk) (g.D.Disk.refusals c.args.disk.now) (g.D.Disk.refusals c.wait.new.disk) st x run) (some_same Waiting stage known)
     (c.wait.ensures.fails tells more stage)
 
 pub returns-in-Resuming-clause-fails : goal.returns-in-Resuming-clause-fails
@@ -175,7 +175,7 @@ returns-in-Resuming-clause-fails g c = λ tells more stage e.
     let run : Run = run_in variables (st ∷ more) files s stage in
     let core : Core = core_of files s.core in
     let known = subst (λ x. stage_of told bytes variables (st ∷ more) core x ≡ Some stage) (sym c.replace.ensures.value ∙ c.in-Resuming.is) e in
-    subst (λ x. FailsStage g.W.Sink.tells g.W.Sink.taken c.args.out.now s.core c.resume.result c.resume.new.out c.resume.new.self.core st x run) (some_same _ stage known)
+    subst (λ x. FailsStage g.W.Sink.tells g.W.Sink.taken c.args.out.now s.core c.resume.result c.resume.new.out c.resume.new.self.core (g.D.Disk.held c.resume.new.disk) (g.D.Disk.refusals c.args.disk.now) (g.D.Disk.refusals c.resume.new.disk) st x run) (some_same _ stage known)
     (c.resume.ensures.fails tells more stage)
 
 pub returns-in-Ok-clause-fails : goal.returns-in-Ok-clause-fails
@@ -205,4 +205,5 @@ returns-in-Err-doing-clause-fails g c = λ tells more stage e.
     let k = run_known (λ task. Acting (then_of variables st core c.in-Answered.then (task, reply_of c.in-Answered.answer))) (task_of told bytes c.in-Answered.job) stage known in
     let does : Doing = then_of variables st core c.in-Answered.then (k.0, reply_of c.in-Answered.answer) in
     fails_at c.args.out.now c.args.out.now s.core c.answered-doing.new.core (given_up c.in-Err-doing.lost) st (Acting does) stage run k.2
-    (fails_quiet c.args.out.now s.core c.answered-doing.new.core (given_up c.in-Err-doing.lost) (output_of (turn st (Acting does) run)) c.answered-doing.ensures.output c.answered-doing.ensures.tells)
+    (fails_quiet c.args.out.now s.core c.answered-doing.new.core (given_up c.in-Err-doing.lost) (output_of (turn st (Acting does) run)) c.answered-doing.ensures.output c.answered-doing.ensures.tells
+    (λ d. record { does = does; is = refl; fault = c.answered-doing.ensures.fault tells k.0 k.1 (cc (c.in-Err-doing.is, d)) }))

@@ -1,4 +1,4 @@
-use Rattle.std.proofs.Common.{◌≡◌, List, ◌∷◌, Ok, IfOk, refl, sym, subst, ap, ◌∙◌, ◌++◌, map, None}
+use Rattle.std.proofs.Common.{◌≡◌, List, ◌∷◌, Ok, IfOk, refl, sym, subst, ap, ◌∙◌, ◌++◌, map, Some, None}
 use Rattle.fj_plain.specs.State.{Files, Entry}
 use Rattle.fj_plain.specs.Statement.{Stated, control_by}
 use Rattle.fj_turns.specs.Run.{Run, Waiting}
@@ -11,7 +11,7 @@ use Rattle.fj_runner.proofs.Beginnings.{none_of, waits_more, waits_none}
 use Rattle.fj_runner.proofs.Stepping.{kept_steps, ok_keeps}
 use Rattle.fj_plain.specs.Telling.{tell_of}
 use Rattle.fj_turns.specs.Passing.{output_of}
-use Rattle.fj_turns.specs.Turns.{unsettled, waited_now}
+use Rattle.fj_turns.specs.Turns.{doing_told, unsettled, waited_now}
 use Rattle.fj_pending.specs.Plain.{tells_of}
 use Rattle.fj_runner.proofs.Failures.{fails_from}
 use Rattle.fj_runner.proofs.state.State.wait_for.Goals as goal
@@ -61,4 +61,5 @@ returns-in-None-clause-fails g c = λ tells more stage.
     let w : waited_now st run ≡ es = sym (c.requires.whose (entries s.core.pending)) in
     let u : unsettled es (held s.core.pending) ≡ None = sym (c.in-None.ensures.slot (none_of _ c.requires.from)) in
     fails_from c.args.out.now c.tell.new.out s.core s.core c.tell.new.self.core c.tell.result _ _ _ _ _ _ refl (ap output_of (sym (waits_none st run es w u)))
-    (λ k. ap (λ xs. unsettled xs run.book) w ∙ u) (ap (λ xs. tells_of s.core.tells ++ map (tell_of st.0.line) xs) (sym w)) (c.tell.ensures.fails tells more stage)
+    (λ k. ap (λ xs. unsettled xs run.book) w ∙ u) (ap (λ xs. tells_of s.core.tells ++ map (tell_of st.0.line) xs) (sym w))
+    (ap (λ xs. Some (doing_told variables st xs run.core)) (sym w)) (c.tell.ensures.fails tells more stage)

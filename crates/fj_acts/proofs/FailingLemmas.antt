@@ -1,0 +1,162 @@
+-- Where the disk fails in a statement's own call.
+use Rattle.std.proofs.Common.{◌≡◌, ◌⊎◌, ℕ, Bool, true, List, [], ◌∷◌, Option, Some, None, Result, Ok, Err, inl, inr, refl, sym, ap, subst, ◌∙◌}
+use Rattle.std.specs.Prelude.{◌≢◌, ◌↔◌, if◌then◌else◌, unwrap_or}
+use Rattle.std.specs.FinMap as map
+use Rattle.fj_value.specs.declared.condition.Condition.{Condition}
+use Rattle.fj_value.specs.declared.condition.Condition.TheVariants.{Fine}
+use Rattle.fj_modes.specs.Modes.{settled}
+use Rattle.fj_modes.specs.declared.modes.Modes.{Modes}
+use Rattle.fj_modes.specs.declared.specifiers.FileStatus.TheVariants.{Unknown}
+use Rattle.fj_modes.specs.declared.specifiers.OpenSpec.{OpenSpec}
+use Rattle.fj_outside.specs.Faults.{Rose}
+use Rattle.fj_outside.specs.Refusals.{CountsFailure}
+use Rattle.fj_outside.specs.declared.errors.Stop.{Stop}
+use Rattle.fj_outside.specs.declared.errors.Stop.TheVariants.{Failed}
+use Rattle.fj_outside.specs.Holdings as disk
+use Rattle.fj_outside.specs.Holdings.{Holdings}
+use Rattle.fj_outside.proofs.HoldingLaws.{steps}
+use Rattle.fj_connect.specs.Connection.{Connection}
+use Rattle.fj_connect.specs.Faults.{LeavesAtHome, has_failed}
+use Rattle.fj_connect.specs.declared.connection.opening.OpenFault.{OpenFault}
+use Rattle.fj_connect.specs.declared.connection.opening.OpenFault.TheVariants as fault
+use Rattle.fj_connect.specs.Linked.{Linked}
+use Rattle.fj_connect.specs.Opening.{bytes_opened, connected_to, opened_file}
+use Rattle.fj_statement.specs.declared.statement.Statement.{Statement}
+use Rattle.fj_statement.specs.declared.statement.Statement.TheVariants as statement
+use Rattle.fj_bay.specs.Jobs.{Answer, detach}
+use Rattle.fj_bay.specs.Plain.{told_of}
+use Rattle.fj_plain.specs.Connecting.{file_due}
+use Rattle.fj_plain.specs.State.{Files}
+use Rattle.fj_plain.proofs.Units.{bytes_differ}
+use Rattle.fj_desk.specs.Acting.{all_closed, attaches, connects_at, free_from}
+use Rattle.fj_desk.specs.Core.{Core as PlainCore, Connected, connected_at, without_connected}
+use Rattle.fj_desk.specs.Desks.{most_slots}
+use Rattle.fj_desk.specs.Doing.{Doing, finishes}
+use Rattle.fj_items.specs.declared.lost.Lost.{Lost}
+use Rattle.fj_items.specs.declared.lost.Lost.TheVariants.{Disk}
+use Rattle.fj_units.specs.Files.{files_of}
+use Rattle.fj_units.specs.Returning.{IsAsDue, returned}
+use Rattle.fj_units.proofs.Returning.{given_back, given_files}
+use Rattle.fj_acts.specs.Doing.{closed, connects_by, connects_in, goes_on}
+use Rattle.fj_acts.specs.Failing.{FailsWhere, connected_next}
+use Rattle.fj_acts.specs.State.{core_at}
+use Rattle.fj_acts.specs.Steps.{is_due}
+use Rattle.fj_acts.specs.declared.doing.After.{After}
+use Rattle.fj_acts.specs.declared.doing.After.TheVariants as after
+use Rattle.fj_acts.specs.declared.state.Core.{Core}
+use Rattle.fj_acts.proofs.StepLemmas.{disconnects_is}
+
+-- ---- the units and files of what is due are these, but for the file that is to be connected
+
+pub record Leaves (core : PlainCore) (due : Doing) : Type 0 where
+  pub units : (core_at due).units ≡ core.units
+  pub files : (name : List ℕ) → connected_next due ≢ Some name → (core_at due).files name ≡ core.files name
+
+ends_there : (core : PlainCore) (condition : Condition) → Leaves core (finishes core condition)
+ends_there core condition = record { units = refl; files = λ name other. refl }
+
+attaches_there : (core : PlainCore) (number slot : ℕ) (r : Result Connection Condition) → Leaves core (attaches core number slot r)
+attaches_there core number slot (Err condition) = ends_there core condition
+attaches_there core number slot (Ok c) = record {
+  units = refl;
+  files = λ name other. ap (λ b. if b then None else core.files name) (bytes_differ name c.name (λ same. other (ap Some (sym same))));
+}
+
+connects_there : (number : ℕ) (spec : OpenSpec) (modes : Modes) (core : PlainCore) (slot : Option ℕ) → Leaves core (connects_at number spec modes core slot)
+connects_there number spec modes core None = ends_there core _
+connects_there number spec modes core (Some slot) = attaches_there core number slot (opened_file (core.files (file_due spec number)) (file_due spec number) spec modes)
+
+settled_there : (number : ℕ) (spec : OpenSpec) (core : PlainCore) (r : Result Modes Condition) → Leaves core (connects_by number spec core r)
+settled_there number spec core (Err condition) = ends_there core condition
+settled_there number spec core (Ok modes) = connects_there number spec modes core (free_from core.units 0 most_slots)
+
+opens_there : (what : Statement) (number : ℕ) (core : PlainCore) → Leaves core (connects_in what number core)
+opens_there (statement.OpenUnit unit spec iostat) number core = settled_there number spec core (settled spec)
+opens_there (statement.Assign to from) number core = ends_there core Fine
+opens_there (statement.CloseUnit unit keep iostat) number core = ends_there core Fine
+opens_there (statement.WaitFor unit id iostat) number core = ends_there core Fine
+opens_there (statement.Move how unit iostat) number core = ends_there core Fine
+opens_there (statement.Inquire subject asked id iostat) number core = ends_there core Fine
+opens_there (statement.Transfer t) number core = ends_there core Fine
+opens_there statement.End number core = ends_there core Fine
+
+closes_there : (units : List Connected) (core : PlainCore) (condition : Condition) → Leaves core (all_closed units core condition)
+closes_there [] core condition = ends_there core condition
+closes_there (u ∷ us) core condition = record { units = refl; files = λ name other. refl }
+
+pub goes_on_there : (what : Statement) (core : PlainCore) (next : After) → Leaves core (goes_on what core next)
+goes_on_there what core (after.Finishes condition) = ends_there core condition
+goes_on_there what core (after.ClosesAll condition) = closes_there core.units core condition
+goes_on_there what core (after.Connects number) = opens_there what number core
+
+-- ---- the disk failed there
+
+fails : (core : PlainCore) (due : Doing) (new : Core) (held : Holdings) (before now : ℕ) → Leaves core due → Rose before now → new.units ≡ core.units
+    → ((name : List ℕ) → connected_next due ≢ Some name → IsAsDue before now (files_of held name) (core.files name)) → FailsWhere due new held before now
+fails core due new held before now leaves rose units files = record {
+  rose = rose;
+  units = units ∙ sym leaves.units;
+  files = λ name other. subst (IsAsDue before now (files_of held name)) (sym (leaves.files name other)) (files name other);
+}
+
+-- the same by an equal meaning
+pub fails_as : (old due : Doing) (new : Core) (held : Holdings) (before now : ℕ) → old ≡ due → FailsWhere old new held before now → FailsWhere due new held before now
+fails_as old due new held before now e h = subst (λ (d : Doing). FailsWhere d new held before now) e h
+
+-- and where the number was the same before
+pub fails_since : (due : Doing) (new : Core) (held : Holdings) (start before now : ℕ) → before ≡ start → FailsWhere due new held before now → FailsWhere due new held start now
+fails_since due new held start before now e h = subst (λ n. FailsWhere due new held n now) e h
+
+-- ---- OPEN
+
+without_other : (h : Holdings) (n q : List ℕ) → q ≢ n → map.get (map.remove h.files n) q ≡ map.get h.files q
+unfolding disk.without
+without_other h n q other = ((steps h n [] true).3 q other).2.0
+
+with_other : (h : Holdings) (n q : List ℕ) → q ≢ n → map.get (map.insert h.files n []) q ≡ map.get h.files q
+unfolding disk.given
+with_other h n q other = ((steps h n [] true).3 q other).1.0
+
+lost_is : {T : Type 0} (lost other : Lost) → (let r : Result T Lost = Err lost in r) ≡ Err other → lost ≡ other
+lost_is lost other e = cc
+
+-- the call of the disk failed
+pub open_rose : {T X : Type 0} (opened : Result T OpenFault) (f : OpenFault) (stop : Stop) (lost : Lost) (before now : ℕ) → opened ≡ Err f → f ≡ fault.Stop stop → (lost ≡ Disk ↔ stop ≡ Failed)
+    → (let r : Result X Lost = Err lost in r) ≡ Err Disk → CountsFailure (has_failed opened) before now → Rose before now
+open_rose opened f stop lost before now is stops same e own =
+    let failed : opened ≡ Err (fault.Stop Failed) = is ∙ ap Err (stops ∙ ap fault.Stop (same.0 (lost_is lost Disk e))) in
+    (subst (λ b. CountsFailure b before now) (ap has_failed failed) own).1
+
+pub fails_open : (core : PlainCore) (number slot : ℕ) (name : List ℕ) (spec : OpenSpec) (modes : Modes) (new : Core) (h left : Holdings) (before now : ℕ)
+    → core.files ≡ files_of h → new.units ≡ core.units → Rose before now → LeavesAtHome (unwrap_or spec.status Unknown) h name left
+    → FailsWhere (attaches core number slot (opened_file (files_of h name) name spec modes)) new left before now
+fails_open core number slot name spec modes new h left before now home units rose leaves =
+    fails core due new left before now (attaches_there core number slot (opened_file (files_of h name) name spec modes)) rose units
+    (λ q other. inl (by leaves.files q other ∙ sym (ap (λ (f : Files). f q) home)))
+  where
+    due : Doing
+    due = attaches core number slot (opened_file (files_of h name) name spec modes)
+
+    opens : bytes_opened (unwrap_or spec.status Unknown) (map.get h.files name) ≡ Ok [] → connected_next due ≡ Some name
+    opens e = ap (λ (r : Result (List ℕ) Condition). connected_next (attaches core number slot (connected_to modes name r))) e
+
+    by : (left.files ≡ h.files) ⊎ ((bytes_opened (unwrap_or spec.status Unknown) (map.get h.files name) ≡ Ok []) × ((left.files ≡ map.remove h.files name) ⊎ (left.files ≡ map.insert h.files name [])))
+        → (q : List ℕ) → connected_next due ≢ Some q → files_of left q ≡ files_of h q
+    by (inl same) q other = ap (λ (f : disk.Files). map.get f q) same
+    by (inr (ok, inl gone)) q other = ap (λ (f : disk.Files). map.get f q) gone ∙ without_other h name q (λ same. other (opens ok ∙ ap Some (sym same)))
+    by (inr (ok, inr empty)) q other = ap (λ (f : disk.Files). map.get f q) empty ∙ with_other h name q (λ same. other (opens ok ∙ ap Some (sym same)))
+
+-- ---- the file of a connection went back
+
+pub fails_closing : {F : Type 0} (told : F → Bool) (bytes : F → List ℕ) (core : PlainCore) (h left : Holdings) (number : ℕ) (names : List (List ℕ)) (conn : Linked F) (c : Connection) (keep : Bool) (answer : Answer)
+    (what : Statement) (next : After) (new : Core) (before now : ℕ)
+    → is_due (connected_at core.units number) names conn.name ≡ true → told_of told bytes conn ≡ Some c → core.files ≡ files_of h → new.units ≡ without_connected number core.units → Rose before now
+    → ((name : List ℕ) → IsAsDue before now (files_of left name) (returned conn.name (bytes conn.file) keep (files_of h) name))
+    → FailsWhere (goes_on what (closed core (connected_at core.units number) keep (detach (Some c), answer)) next) new left before now
+fails_closing told bytes core h left number names conn c keep answer what next new before now due is_told home units rose back =
+    let there : PlainCore = closed core (connected_at core.units number) keep (detach (Some c), answer) in
+    let is : (let it : PlainCore = record core { units = without_connected number core.units; files = files_of (given_back keep h conn.name (bytes conn.file) true) } in it) ≡ there =
+    disconnects_is told bytes core h (given_back keep h conn.name (bytes conn.file) true) number names conn c true keep answer (connected_at core.units number) refl due is_told home refl in
+    fails there (goes_on what there next) new left before now (goes_on_there what there next) rose (units ∙ ap (λ (x : PlainCore). x.units) is)
+    (λ name other. subst (IsAsDue before now (files_of left name))
+    (ap (λ (f : Files). f name) (sym (given_files keep h conn.name (bytes conn.file) true)) ∙ ap (λ (x : PlainCore). x.files name) is) (back name))

@@ -1,0 +1,22 @@
+-- Where the disk failed in a statement's own call.
+use Rattle.std.specs.Prelude.{◌≡◌, ◌≢◌, ℕ, List, Option, Some, None}
+use Rattle.fj_outside.specs.Faults.{Rose}
+use Rattle.fj_outside.specs.Holdings.{Holdings}
+use Rattle.fj_bay.specs.Jobs.{attach}
+use Rattle.fj_desk.specs.Doing.{Doing, awaits}
+use Rattle.fj_units.specs.Files.{files_of}
+use Rattle.fj_units.specs.Returning.{IsAsDue}
+use Rattle.fj_acts.specs.State.{core_at}
+use Rattle.fj_acts.specs.declared.state.Core.{Core}
+
+-- the file that is to be connected next
+abbrev pub connected_next : Doing → Option (List ℕ)
+connected_next (awaits slot (attach (Some c)) core next) = Some c.name
+connected_next _ = None
+
+-- The disk's own number rose where this was due. The units are those that were due; and so is each file, but for the one that was to
+-- be connected.
+pub record FailsWhere (due : Doing) (core : Core) (held : Holdings) (before now : ℕ) : Type 0 where
+  pub rose : Rose before now
+  pub units : core.units ≡ (core_at due).units
+  pub files : (name : List ℕ) → connected_next due ≢ Some name → IsAsDue before now (files_of held name) ((core_at due).files name)

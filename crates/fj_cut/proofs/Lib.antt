@@ -1,0 +1,11 @@
+pub mod Through
+pub mod Units
+pub mod Carried
+pub mod Touching
+pub mod Housed
+pub mod Detached
+pub mod EachKind
+pub mod Deck
+pub mod Stops
+pub mod Connecting
+pub mod Turns

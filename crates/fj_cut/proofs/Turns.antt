@@ -1,0 +1,145 @@
+-- The turns of a runner: what each does is what the statement does behind so many of its jobs.
+use Rattle.std.proofs.Common.{◌≡◌, ◌⊎◌, ℕ, true, false, List, [], Option, Some, None, is_some, refl, sym, ap, ◌∙◌, subst, inl, inr}
+use Rattle.std.specs.Prelude.{option_and_then}
+use Rattle.fj_modes.specs.declared.unit.Motion.TheVariants as motion
+use Rattle.fj_statement.specs.declared.deck.Variable.{Variable}
+use Rattle.fj_statement.specs.declared.statement.Statement.{Statement}
+use Rattle.fj_statement.specs.declared.statement.Statement.TheVariants as statement
+use Rattle.fj_slot.specs.Serving.{Meaning}
+use Rattle.fj_world.specs.Losing.{before_ask}
+use Rattle.fj_world.specs.Plain.{PlainSlot, after}
+use Rattle.fj_world.specs.Conduct.{Conduct}
+use Rattle.fj_bay.specs.Bay.{Bay}
+use Rattle.fj_bay.specs.Jobs.{Job, Answer, attach}
+use Rattle.fj_plain.specs.Needs.{number_of}
+use Rattle.fj_plain.specs.State.{Files, start}
+use Rattle.fj_plain.specs.Statement.{Stated}
+use Rattle.fj_desk.specs.Desks.{Desk}
+use Rattle.fj_desk.specs.Doing.{Doing, awaits, Desked}
+use Rattle.fj_desk.specs.Desking.{fresh}
+use Rattle.fj_turns.specs.Run.{Run, Stage, Start, Waiting, Acting, Awaiting}
+use Rattle.fj_turns.specs.Turns.{turn, turn_act, start_by, wait_by, with_tells, rule_of, doing_told, waited_now}
+use Rattle.fj_turns.specs.Inside.{waited_at, does, walked}
+use Rattle.fj_turns.specs.Serving.{over_bays, Shows, run_conduct, desks_of, first_run, fresh_slots, begins}
+use Rattle.fj_turns.specs.Laws.{plain_bays, shown}
+use Rattle.fj_turns.specs.Passing.{passes, known_due, knows_at, KnowsAnswers}
+use Rattle.fj_turns.proofs.Before.{Fares, fares_after}
+use Rattle.fj_turns.proofs.Meant.{CutTied, cut_of_deck}
+use Rattle.fj_turns.proofs.Passed.{passes_none, At, passes_stand}
+use Rattle.fj_turns.proofs.Reaching.{waited_is}
+use Rattle.fj_turns.proofs.Slots.{same_some}
+use Rattle.fj_turns.proofs.Stages.{AtStage}
+use Rattle.fj_turns.proofs.Ties.{Ties}
+use Rattle.fj_cut.specs.Others.{Names, names_of, names_in, file_opened, file_about, core_now, left_now, AreHoused}
+use Rattle.fj_cut.specs.Turning.{TurnsDo, doing_at, doing_due, turn_doing, TurnLeavesOthers, EachTurn, TurnsLeaveOthers}
+use Rattle.fj_cut.proofs.Connecting.{connects_at_point, told_connects, connects_one, opened_about}
+use Rattle.fj_cut.proofs.Deck.{others_stay, units_keep_desks}
+use Rattle.fj_cut.proofs.Stops.{names_same, opened_same, closed_same}
+
+-- ---- the same file by the same names
+
+numbered_alike : (names others : Names) (number : Option ℕ) → ((n : ℕ) → names n ≡ others n) → option_and_then names number ≡ option_and_then others number
+numbered_alike names others None h = refl
+numbered_alike names others (Some n) h = h n
+
+about_same : (names others : Names) (st : Statement) → ((n : ℕ) → names n ≡ others n) → file_about names st ≡ file_about others st
+about_same names others (statement.Assign to from) h = refl
+about_same names others (statement.OpenUnit u spec iostat) h = opened_same names others (statement.OpenUnit u spec iostat) h
+about_same names others (statement.CloseUnit u None iostat) h = refl
+about_same names others (statement.CloseUnit u (Some true) iostat) h = refl
+about_same names others (statement.CloseUnit u (Some false) iostat) h = numbered_alike names others (number_of u) h
+about_same names others (statement.WaitFor u id iostat) h = refl
+about_same names others (statement.Move motion.Endfile u iostat) h = numbered_alike names others (number_of u) h
+about_same names others (statement.Move motion.Backspace u iostat) h = refl
+about_same names others (statement.Move motion.Rewind u iostat) h = refl
+about_same names others (statement.Move motion.Flush u iostat) h = refl
+about_same names others (statement.Inquire subject asked id iostat) h = refl
+about_same names others (statement.Transfer t) h = numbered_alike names others (number_of t.unit) h
+about_same names others statement.End h = refl
+
+-- ---- behind so many jobs
+
+abbrev IsBehind : List Variable → Stated → Desked → List Desk → Doing → Type 0
+IsBehind variables st p desks d = (jobs : ℕ) × (walked jobs p.desks (does variables st p) ≡ (desks, d))
+
+module _ {E J A : Type 0} (m : Meaning E J A Bay Job Answer) where
+  told_behind : (variables : List Variable) (st : Stated) (p : Desked) (r : Run) (qs : List (PlainSlot Bay Job)) (d : Doing) → r.variables ≡ variables → Ties m r qs p
+      → knows_at st Start r → Some (doing_told r.variables st (waited_now st r) r.core) ≡ Some d → IsBehind variables st p (desks_of m qs) d
+  told_behind variables st p r qs d vs t known e =
+      let same : does variables st p ≡ d =
+      sym (ap (λ v. doing_told v st (waited_now st r) r.core) vs ∙ ap (λ es. doing_told variables st es r.core) (waited_is m st r qs p t known) ∙ ap (doing_told variables st (waited_at st p)) t.core) ∙ same_some e in
+      (0, ap (λ ds. (ds, does variables st p)) (sym t.desks) ∙ ap (λ x. (desks_of m qs, x)) same)
+
+  stage_behind : (variables : List Variable) (st : Stated) (p : Desked) (r : Run) (qs : List (PlainSlot Bay Job)) (d : Doing) → r.variables ≡ variables → (stage : Stage) → AtStage m variables st p r qs stage
+      → knows_at st stage r → doing_at st stage r ≡ Some d → IsBehind variables st p (desks_of m qs) d
+  stage_behind variables st p r qs d vs Start t known e = told_behind variables st p r qs d vs t known e
+  stage_behind variables st p r qs d vs Waiting (t, allowed) known e = told_behind variables st p r qs d vs t known e
+  stage_behind variables st p r qs d vs (Acting next) (w, allowed) known e = (w.jobs, w.walk ∙ ap (λ ds. (ds, next)) (sym w.ties.desks) ∙ ap (λ x. (desks_of m qs, x)) (same_some e))
+  stage_behind variables st p r qs d vs (Awaiting slot number next) (w, allowed) known e = cc
+
+  -- the statement opens that file
+  abbrev Opens : {variables : List Variable} {deck : List Stated} {first : Desked} {run : Run} {qs : List (PlainSlot Bay Job)} → At m variables deck first run qs → List ℕ → Type 0
+  Opens x name = file_opened (names_of x.before.core.units) x.statement.0.what ≡ Some name
+
+  turn_leaves : (variables : List Variable) (deck : List Stated) (files : Files) (run : Run) (qs : List (PlainSlot Bay Job)) → At m variables deck (fresh variables files) run qs
+      → TurnLeavesOthers variables deck files run (desks_of m qs)
+  turn_leaves variables deck files run qs x = record {
+    index = x.index;
+    statement = x.statement;
+    state = it.state;
+    cut_is = it.cut_is;
+    rest = x.place;
+    units = λ known d e. let at = behind known d e in
+        subst (λ (z : List Desk × Doing). AreHoused z.0 (core_now z.1).units) at.1 (units_keep_desks variables deck files x.index x.statement x.before at.0 x.reached).inside;
+    others = λ known d e name about. let at = behind known d e in
+        ap (λ (z : List Desk × Doing). left_now z.0 (core_now z.1) name) (sym at.1)
+        ∙ (others_stay variables deck files x.index x.statement x.before at.0 name x.reached).inside
+        (λ q. about (sym (about_same (names_of x.before.core.units) (names_in it.state.units) x.statement.0.what (names_same x.before.desks x.before.core.units it.state.units it.tied.same.units)) ∙ q))
+        ∙ ap (λ (f : Files). f name) (closed_same x.before it.state it.tied.same);
+    connects = λ known slot c core next e. let at = behind known (awaits slot (attach (Some c)) core next) e in
+        let opens = connects_at_point (Opens x) at.0 x.before.desks (does variables x.statement x.before) (told_connects (Opens x) variables x.statement (waited_at x.statement x.before) x.before.core (λ name q. q)) in
+        sym (about_same (names_of x.before.core.units) (names_in it.state.units) x.statement.0.what (names_same x.before.desks x.before.core.units it.state.units it.tied.same.units))
+        ∙ opened_about (names_of x.before.core.units) x.statement.0.what c.name
+        (connects_one (Opens x) (walked at.0 x.before.desks (does variables x.statement x.before)).1 opens slot c core next (ap (λ (z : List Desk × Doing). z.1) at.1));
+  }
+    where
+      it : CutTied variables deck x.index (start variables files) x.statement x.before
+      it = cut_of_deck variables deck files x.index x.statement x.before x.reached
+
+      behind : KnowsAnswers run → (d : Doing) → turn_doing run ≡ Some d → IsBehind variables x.statement x.before (desks_of m qs) d
+      behind known d e =
+          stage_behind variables x.statement x.before run qs d x.variables_are run.stage x.stands (subst (λ l. known_due l run) x.here known) (sym (ap (λ l. doing_due l run) x.here) ∙ e)
+
+module _ {E J A S : Type 0} (m : Meaning E J A Bay Job Answer) (s : Shows S) where
+  abbrev c : Conduct S Job Answer
+  c = run_conduct s
+
+  pub each_turn : EachTurn m s
+  each_turn variables deck files n count run going passed =
+      by (before_ask (over_bays m) c n (first_run variables deck files) fresh_slots) (fares_after m s variables deck files n) going passed
+    where
+      by : (b : Run × List (PlainSlot Bay Job)) → Fares m s variables deck (fresh variables files) (after (over_bays m) c n (begins m s variables deck files)) b → b.0.ending ≡ None → passes count b.0 ≡ Some run
+          → (run.rest ≡ []) ⊎ TurnLeavesOthers variables deck files run (desks_of m b.1)
+      by b (inl (e, y)) none p =
+          elim (passes_stand m variables deck (fresh variables files) count b.0 b.1 y run p) [
+            | inl left ↦ inl left
+            | inr z ↦ inr (turn_leaves m variables deck files run b.1 z)
+          ]
+      by b (inr (h, over, inl (left, f))) none p = inl (passes_none count b.0 run left p)
+      by b (inr (h, over, inr ended)) none p = absurd (let z : true ≡ false = sym ended.some ∙ ap is_some none in cc)
+
+pub turns_leave_others : TurnsLeaveOthers
+turns_leave_others s = each_turn plain_bays (shown s)
+
+-- ---- what a turn does
+
+pub turns_do : TurnsDo
+turns_do st rest r d here allowed known e = by r.stage allowed (subst (λ l. known_due l r) here known) (sym (ap (λ l. doing_due l r) here) ∙ e)
+  where
+    by : (stage : Stage) → (stage ≡ Start → rule_of r.variables st r.core ≡ None) → knows_at st stage r → doing_at st stage r ≡ Some d → (acting : Run) × (turn st stage r ≡ turn_act st d acting)
+    by Start allowed known e =
+        let acting : Run = with_tells st (waited_now st r) r in
+        (acting, ap (λ o. start_by st o r) (allowed refl) ∙ ap (λ o. wait_by st (waited_now st r) o r) known ∙ ap (λ x. turn_act st x acting) (same_some e))
+    by Waiting allowed known e = let acting : Run = with_tells st (waited_now st r) r in (acting, ap (λ o. wait_by st (waited_now st r) o r) known ∙ ap (λ x. turn_act st x acting) (same_some e))
+    by (Acting next) allowed known e = (r, ap (λ x. turn_act st x r) (same_some e))
+    by (Awaiting slot number next) allowed known e = cc

@@ -1,0 +1,33 @@
+// What holds of every deck that is cut, as contracts of functions with nothing to do.
+ghost use Rattle.fj_cut.specs.Others.{OthersStay, UnitsKeepDesks, StopsLeaveOthers, CutRunsLeaveOthers};
+ghost use Rattle.fj_cut.specs.Turning.{TurnsDo, TurnsLeaveOthers};
+
+/// Inside a statement each file that it is not about is as closing all units just before it leaves it.
+pub fn others_stay()
+    ensures { OthersStay }
+{}
+
+/// All the while each unit has its desk, and a connection there has the unit's name.
+pub fn units_keep_desks()
+    ensures { UnitsKeepDesks }
+{}
+
+/// Where a stop was told, so is each file that no unit has at the stopped slot, and that the statement does not open.
+pub fn stops_leave_others()
+    ensures { StopsLeaveOthers }
+{}
+
+/// So it is of a run that was told a stop, whatever the order of its events was.
+pub fn cut_runs_leave_others()
+    ensures { CutRunsLeaveOthers }
+{}
+
+/// What a turn does, once the answers that it needs are known, unless the statement is prohibited.
+pub fn turns_do()
+    ensures { TurnsDo }
+{}
+
+/// In each turn of a runner, once it knows the answers that it needs, so is each file that the statement at hand is not about.
+pub fn turns_leave_others()
+    ensures { TurnsLeaveOthers }
+{}

@@ -1,0 +1,113 @@
+-- What closing all units would leave, where a stop was told and where a call of the disk's own failed.
+use Rattle.std.proofs.Common.{◌≡◌, ◌≢◌, inl, ℕ, ◌≤◌, List, drop, Option, Some, sym, ap, ◌∙◌, subst}
+use Rattle.fj_outside.specs.Holdings.{Holdings}
+use Rattle.fj_outside.specs.declared.outside.FileStore.{Ghosts}
+use Rattle.fj_statement.specs.declared.deck.Deck.{Deck}
+use Rattle.fj_slot.specs.Serving.{Meaning}
+use Rattle.fj_world.specs.Rack.{Rack}
+use Rattle.fj_bay.specs.Bay.{Bay}
+use Rattle.fj_bay.specs.Jobs.{Job, Answer}
+use Rattle.fj_plain.specs.State.{State, Files, all_closed, start}
+use Rattle.fj_plain.specs.Statement.{Stated, stated, cut}
+use Rattle.fj_desk.specs.Core.{Core, Connected}
+use Rattle.fj_desk.specs.Desks.{Desk}
+use Rattle.fj_desk.specs.Desking.{all_left}
+use Rattle.fj_turns.specs.Run.{Run}
+use Rattle.fj_turns.specs.Cutting.{IsCutRun}
+use Rattle.fj_turns.specs.Executing.{HoldsDesks}
+use Rattle.fj_turns.specs.Serving.{Shows}
+use Rattle.fj_cut.specs.Others.{names_in, file_about, has_file, core_now, AreHoused, LeavesOthers}
+use Rattle.fj_cut.specs.Turning.{TurnLeavesOthers}
+use Rattle.fj_cut.proofs.Connecting.{opened_about}
+use Rattle.fj_acts.specs.State.{core_of, core_at}
+use Rattle.fj_units.specs.Files.{files_of}
+use Rattle.fj_units.specs.Returning.{IsAsDue}
+use Rattle.fj_closing.proofs.Due.{all_due}
+use Rattle.fj_runner.specs.Failing.{FailsAtDisk}
+use Rattle.fj_runner.specs.declared.machine.Machine.{Machine}
+use Rattle.fj_job.specs.Cut.{Untold, Told, ComesTo}
+use Rattle.fj_job.specs.Cutting.{IsServed, HoldsFiles}
+use Rattle.fj_job.proofs.Leaving.{not_at, due_wider, core_same, next_named, told_files, one_place}
+
+module _ {E J A F : Type 0} {ghosts : Ghosts F} (meaning : Meaning E J A Bay Job Answer) (rack : Rack E J A) (held : Holdings) (before now : ℕ) (deck : Deck) (files : Files) (m : Machine F ghosts) where
+  abbrev LeavesSo : List Desk → Stated × State → Type 0
+  LeavesSo desks at = (name : List ℕ) → IsServed rack m.state.core.units name → file_about (names_in at.1.units) at.0.0.what ≢ Some name
+      → IsAsDue before now (all_left desks m.state.core.units (files_of held) name) ((all_closed at.1).files name)
+
+  -- The execution is cut just before a statement, the one in front of these, in this state; and what the slots' desks leave is as closing all
+  -- units in that state leaves it.
+  pub record HoldsAt (rest : List Stated) : Type 0 where
+    pub index : ℕ
+    pub statement : Stated
+    pub state : State
+    pub cut_is : cut deck.variables index (stated deck.statements) (start deck.variables files) ≡ Some (statement, state)
+    pub place : rest ≡ drop index (stated deck.statements)
+    pub desks : List Desk
+    pub slots : HoldsDesks meaning rack desks
+    pub units : AreHoused desks m.state.core.units
+    pub others : LeavesSo desks (statement, state)
+
+  -- there nothing of the statement was done
+  pub holds_there : (rest : List Stated) (h : HoldsAt rest) (comes : ComesTo deck files) → rest ≡ drop comes.index (stated deck.statements) → HoldsFiles meaning rack held before now deck files comes Untold m
+  holds_there rest h comes e = record {
+    desks = h.desks;
+    slots = h.slots;
+    units = h.units;
+    others = subst (LeavesSo h.desks)
+        (one_place deck.variables (stated deck.statements) (start deck.variables files) h.index comes.index (h.statement, h.state) (comes.statement, comes.before) h.cut_is comes.there (sym h.place ∙ e)) h.others;
+  }
+
+  -- or the transfers that it waits for were told
+  pub holds_told : (comes : ComesTo deck files) → HoldsFiles meaning rack held before now deck files comes Untold m → HoldsFiles meaning rack held before now deck files comes Told m
+  holds_told comes h = record {
+    desks = h.desks;
+    slots = h.slots;
+    units = h.units;
+    others = λ name served about.
+        subst (λ (due : Files). IsAsDue before now (all_left h.desks m.state.core.units (files_of held) name) (due name)) (sym (told_files deck.variables comes.statement comes.before)) (h.others name served about);
+  }
+
+  -- where a stop was told
+  pub stop_holds : {S : Type 0} (s : Shows S) (run : Run) → run.core ≡ core_of (files_of held) m.state.core → (it : IsCutRun meaning s deck.variables (stated deck.statements) files run rack)
+      → LeavesOthers deck.variables (stated deck.statements) files it.stop.index it.stop.statement it.slot run it.desks → HoldsAt run.rest
+  stop_holds s run core it lo = record {
+    index = it.stop.index;
+    statement = it.stop.statement;
+    state = lo.state;
+    cut_is = lo.cut_is;
+    place = it.stop.rest;
+    desks = it.desks;
+    slots = it.held;
+    units = subst (λ (us : List Connected). AreHoused it.desks us) (ap (λ (c : Core). c.units) core) lo.units;
+    others = λ name served about.
+        let free = not_at rack m.state.core.units name it.slot served (λ l e. (it.halted l e).0) in
+        inl (sym (ap (λ (c : Core). all_left it.desks c.units c.files name) core)
+        ∙ lo.others name (ap (λ (c : Core). has_file c.units it.slot name) core ∙ free) (λ opened. about (opened_about (names_in lo.state.units) it.stop.statement.0.what name opened)));
+  }
+
+  -- where a call of the disk's own failed
+  pub disk_holds : (Tells : Type 0) (taken taken' : List ℕ) (early late : ℕ) (run : Run) (was : Machine F ghosts) (desks : List Desk) → before ≤ early → late ≤ now
+      → FailsAtDisk Tells taken taken' held early late run was m → TurnLeavesOthers deck.variables (stated deck.statements) files run desks → HoldsDesks meaning rack desks → HoldsAt run.rest
+  disk_holds Tells taken taken' early late run was desks l k it t slots = record {
+    index = t.index;
+    statement = t.statement;
+    state = t.state;
+    cut_is = t.cut_is;
+    place = t.rest;
+    desks = desks;
+    slots = slots;
+    units = subst (λ (us : List Connected). AreHoused desks us) (sym same) (t.units it.known it.fault.does it.fault.is);
+    others = λ name served about.
+        let due : IsAsDue early late (files_of held name) ((core_at it.fault.does).files name) =
+        it.fault.fault.files name
+        (λ e. about (next_named it.fault.does (file_about (names_in t.state.units) t.statement.0.what) (λ slot c core next d. t.connects it.known slot c core next (it.fault.is ∙ ap Some d)) name e)) in
+        let left : all_left desks m.state.core.units (core_at it.fault.does).files name ≡ (all_closed t.state).files name =
+        ap (λ (us : List Connected). all_left desks us (core_at it.fault.does).files name) same ∙ ap (λ (c : Core). all_left desks (core_now it.fault.does).units c.files name) (core_same it.fault.does)
+        ∙ t.others it.known it.fault.does it.fault.is name about in
+        due_wider before early late now (all_left desks m.state.core.units (files_of held) name) ((all_closed t.state).files name) l k
+        (subst (λ (o : Option (List ℕ)). IsAsDue early late (all_left desks m.state.core.units (files_of held) name) o) left
+        (all_due early late desks m.state.core.units (files_of held) (core_at it.fault.does).files name due));
+  }
+    where
+      same : m.state.core.units ≡ (core_now it.fault.does).units
+      same = it.fault.fault.units ∙ ap (λ (c : Core). c.units) (core_same it.fault.does)

@@ -1,0 +1,15 @@
+use Rattle.std.proofs.Common.{◌≡◌, ◌+◌, ◌-◌, [], map}
+use Rattle.fj_store.specs.Places.{places_of, counted_from}
+use Rattle.fj_store.specs.Storage.{cell_at}
+use Rattle.fj_store.specs.Taking.{taking, HasRoom}
+use Rattle.fj_store.specs.Variables.{moved_from, moved_of}
+use Rattle.fj_store.proofs.TakingLemmas.{moved_in}
+use Rattle.fj_store.proofs.CopyLemmas.{AreFree}
+use Rattle.fj_store.proofs.store.Store.copy_of_run.Given as goal
+
+abbrev pub invariant-loop-at : goal.invariant-loop-at
+invariant-loop-at l = record {
+  free : AreFree l.run.var (l.run.first + l.at) l.taken.cells.items;
+  same : moved_from (moved_in (taking [] l.taken)) (map (cell_at l.self) (counted_from l.run.var (l.run.first + l.at) (l.run.count - l.at))) ≡ moved_of (map (cell_at l.self) (places_of l.run));
+  room : HasRoom l.taken (l.run.count - l.at);
+}
