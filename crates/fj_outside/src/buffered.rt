@@ -115,9 +115,17 @@ impl<F: FileStore> FileStore for Buffered<F> {
         Ok(due)
     }
 
+    /// The last byte that was written stays at hand where the file ends with it: what is written next asks for it.
     fn write_at(&mut self, at: u64, piece: &[u8]) -> Result<(), Stop> {
         self.window.clear();
-        self.file.write_at(at, piece)
+        self.file.write_at(at, piece)?;
+        let len = self.file.len();
+        if let Some(last) = piece.last() {
+            if len - at == piece.len() as u64 {
+                self.window.hold(len - 1, *last);
+            }
+        }
+        Ok(())
     }
 
     fn cut(&mut self, len: u64) -> Result<(), Failed> {

@@ -1,5 +1,5 @@
 // The bytes of a window, and where they stand.
-ghost use Rattle.std.specs.Prelude.{◌≡◌, ◌-◌, ◌≤◌, [], length, take, drop, min, IfOk, OnOk, OnErr, ◌↔◌};
+ghost use Rattle.std.specs.Prelude.{◌≡◌, ◌-◌, ◌≤◌, [], ◌∷◌, length, take, drop, min, IfOk, OnOk, OnErr, ◌↔◌};
 ghost use Rattle.fj_outside.specs.Faults.{Rose};
 ghost use Rattle.fj_outside.specs.Windows.{IsWindowOf, lent};
 
@@ -58,6 +58,15 @@ impl WindowBytes {
         ensures { self.new.bytes ≡ [] }
     {
         self.held = 0;
+    }
+
+    /// Holds one byte.
+    pub fn hold(&mut self, at: u64, byte: u8)
+        ensures { self.new ≡ record { at = at; bytes = byte ∷ [] } }
+    {
+        self.room[0] = byte;
+        self.held = 1;
+        self.at = at;
     }
 
     /// Moves it to a place of a file. After `Failed` it is empty.

@@ -28,8 +28,7 @@ fn enter(
         number,
         answer: None,
     };
-    let places = Places::of_cells(alloc, &[])?;
-    pendings.enter(held, places)
+    pendings.enter(held, Places::of_items(Items::new(alloc)))
 }
 
 fn told(alloc: Global, id: u32, condition: Condition) -> Told {
