@@ -178,7 +178,7 @@ kinds_kept from [] into (k ∷ order') at v h = h
 kinds_kept from (k ∷ order) into [] at v h = h
 kinds_kept from (k ∷ order) into (k' ∷ order') at v h = (h.0 ∙ sym (kind_kept into at k' v), h.1, kinds_kept from order into order' at v h.2)
 
-values_back : (from into : List Cell) (order order' : List ℕ) (rest : List ℕ) → AreOfTheirKinds from order into order' → values_from into order' (bytes_of from order ++ rest) ≡ with_values into order' (map (value_at from) order)
+pub values_back : (from into : List Cell) (order order' : List ℕ) (rest : List ℕ) → AreOfTheirKinds from order into order' → values_from into order' (bytes_of from order ++ rest) ≡ with_values into order' (map (value_at from) order)
 values_back from into [] [] rest h = refl
 values_back from into [] (k ∷ order') rest h = absurd h
 values_back from into (k ∷ order) [] rest h = absurd h
@@ -199,7 +199,7 @@ values_back from into (k ∷ order) (k' ∷ order') rest h =
     ∙ ap (λ l. values_from (with_value into k' v) order' l) behind
     ∙ values_back from (with_value into k' v) order order' rest (kinds_kept from order into order' k' v h.2)
 
-widths_back : (from into : List Cell) (order order' : List ℕ) → AreOfTheirKinds from order into order' → widths into order' ≡ length (bytes_of from order)
+pub widths_back : (from into : List Cell) (order order' : List ℕ) → AreOfTheirKinds from order into order' → widths into order' ≡ length (bytes_of from order)
 widths_back from into [] [] h = refl
 widths_back from into [] (k ∷ order') h = absurd h
 widths_back from into (k ∷ order) [] h = absurd h

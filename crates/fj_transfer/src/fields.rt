@@ -5,6 +5,7 @@ ghost use Rattle.fj_transfer.specs.Input.{width_for, without_padding};
 ghost use Rattle.fj_transfer.specs.Reader.{is_fine};
 
 use fj_edit_in::read_field;
+use fj_span::{GATHERED, put};
 use fj_value::{Condition, Edit, EditModes, Kind, Text, Value};
 use std::alloc::{AllocError, Global};
 
@@ -55,6 +56,29 @@ fn whole_value(
     Ok(told(condition, value))
 }
 
+/// The value of a field of which these characters are there, filled up with blanks. A field as wide as a buffer takes no
+/// text of its own.
+fn filled_value(
+    alloc: Global,
+    edit: Edit,
+    kind: Kind,
+    modes: EditModes,
+    chars: &[u8],
+    width: u32,
+) -> Result<Result<Value, Condition>, AllocError>
+    ensures { IfOk result (λ read. read ≡ input_field edit kind modes.blank_zero (chars.now ++ replicate (width - length chars.now) 32)) }
+{
+    let width = width as usize;
+    if width <= GATHERED && chars.len() <= width {
+        let mut filled = [b' '; GATHERED];
+        put(&mut filled, 0, chars);
+        return whole_value(alloc, edit, kind, modes, &filled[..width]);
+    }
+    let mut filled = Text::from_bytes(alloc, chars)?;
+    filled.fill_to(width, b' ')?;
+    whole_value(alloc, edit, kind, modes, filled.bytes())
+}
+
 /// The value of a field of which these characters are there, filled up with blanks. Without padding a field that is too
 /// short has no value, and no condition but 12.
 pub fn field_value(
@@ -71,9 +95,7 @@ pub fn field_value(
     if chars.len() == width as usize {
         return whole_value(alloc, edit, kind, modes, chars);
     }
-    let mut filled = Text::from_bytes(alloc, chars)?;
-    filled.fill_to(width as usize, b' ')?;
-    let read = whole_value(alloc, edit, kind, modes, filled.bytes())?;
+    let read = filled_value(alloc, edit, kind, modes, chars, width)?;
     if modes.pad {
         return Ok(read);
     }

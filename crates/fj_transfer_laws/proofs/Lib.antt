@@ -11,7 +11,6 @@ pub mod LinesThere
 pub mod RecordsBack
 pub mod Printed
 pub mod WrittenBack
-pub mod ValuesBack
 pub mod UnformattedBack
 pub mod Reached
 pub mod Cases

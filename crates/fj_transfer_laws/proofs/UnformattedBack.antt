@@ -37,7 +37,7 @@ use Rattle.fj_transfer.proofs.UnformattedLemmas.{framed_long, body_taken}
 use Rattle.fj_transfer_laws.specs.Statements.{unformatted}
 use Rattle.fj_transfer_laws.specs.Unformatted.{SequentialRecordsComeBack, DirectRecordsComeBack, StreamBytesComeBack}
 use Rattle.fj_transfer_laws.proofs.Performed.{all_false, none_true, passed, fits_in_file, longest, has_begun}
-use Rattle.fj_transfer_laws.proofs.ValuesBack.{values_back, widths_back}
+use Rattle.fj_transfer.proofs.TransferProofs.{values_back, widths_back}
 
 -- ---- what fits the connection
 
