@@ -19,21 +19,28 @@ use fj_list::Moved;
 use fj_modes::Access;
 use fj_outside::{FileStore, Stop};
 use fj_transfer::{
-    Layout, Transfer, body_of, write_direct, write_lines, write_numbered, write_sequential,
-    write_stream,
+    Layout, Transfer, body_of, frame_of, write_direct, write_lines, write_numbered,
+    write_sequential, write_stream,
 };
 use fj_value::{Condition, EditModes};
 use std::alloc::Global;
 
-/// Writes the bytes of values at the position.
-fn write_here<F: FileStore>(connection: &mut Connection<F>, body: &[u8]) -> Result<Condition, Stop>
-    requires { same_access connection.old.modes.access Access.Direct ≡ false }
+/// Writes the values as they are stored at the position.
+fn write_here<F: FileStore>(
+    alloc: Global,
+    connection: &mut Connection<F>,
+    moved: &Moved,
+) -> Result<Condition, Stop>
+    requires access { same_access connection.old.modes.access Access.Direct ≡ false }
+    requires ordered { IsOrdered moved.now }
+    requires defined { HasValues moved.now }
     ensures telling { F.tells connection.old.file ↔ F.tells connection.new.file }
-    ensures written { F.tells connection.old.file → (moved : MovedValues) → body_of moved ≡ body.now → let old = connection_of F.bytes connection.old in
-        IfOk result (λ condition. told_with (connection_of F.bytes connection.new) moved.cells condition ≡ unformatted_written connection.old.modes.access old old moved) }
-    ensures stopped { F.tells connection.old.file → (moved : MovedValues) → body_of moved ≡ body.now → let old = connection_of F.bytes connection.old in
+    ensures written { F.tells connection.old.file → let old = connection_of F.bytes connection.old in
+        IfOk result (λ condition. told_with (connection_of F.bytes connection.new) moved.now.cells condition
+        ≡ unformatted_written connection.old.modes.access old old moved.now) }
+    ensures stopped { F.tells connection.old.file → let old = connection_of F.bytes connection.old in
         OnErr result (KeepsUpToChange (F.bytes connection.old.file)
-        (unformatted_written connection.old.modes.access old old moved).connection.bytes (F.bytes connection.new.file)) }
+        (unformatted_written connection.old.modes.access old old moved.now).connection.bytes (F.bytes connection.new.file)) }
 
     // Told or not.
     ensures modes { connection.new.modes ≡ connection.old.modes }
@@ -43,12 +50,16 @@ fn write_here<F: FileStore>(connection: &mut Connection<F>, body: &[u8]) -> Resu
 {
     match connection.modes().access {
         Access::Stream => {
+            let body = body_of(alloc, moved)?;
             let size = connection.file_len();
             let at = connection.spot().at;
             prove!(at <= size);
-            write_stream(connection, at, body)
+            write_stream(connection, at, body.bytes())
         }
-        Access::Sequential => write_sequential(connection, body),
+        Access::Sequential => {
+            let frame = frame_of(alloc, moved)?;
+            write_sequential(connection, frame.bytes())
+        }
         Access::Direct => unreachable!(),
     }
 }
@@ -77,11 +88,16 @@ fn write_unformatted<F: FileStore>(
     ensures later { F.count connection.old.file ≤ F.count connection.new.file }
     ensures failed { result ≡ Err Stop.Failed → Rose (F.count connection.old.file) (F.count connection.new.file) }
 {
-    let body = body_of(alloc, moved)?;
     match start {
-        Start::Here => write_here(connection, body.bytes()),
-        Start::Byte(place) => write_stream(connection, place, body.bytes()),
-        Start::Record(number) => write_direct(connection, number, body.bytes()),
+        Start::Here => write_here(alloc, connection, moved),
+        Start::Byte(place) => {
+            let body = body_of(alloc, moved)?;
+            write_stream(connection, place, body.bytes())
+        }
+        Start::Record(number) => {
+            let body = body_of(alloc, moved)?;
+            write_direct(connection, number, body)
+        }
     }
 }
 

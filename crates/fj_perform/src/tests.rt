@@ -97,7 +97,7 @@ fn moved(alloc: Global, bytes: &[u8]) -> Result<Moved, AllocError>
     ensures few { IfOk result (λ moved. length moved.order ≤ 1) }
     ensures defined { IfOk result (λ moved. HasValues moved) }
 {
-    let bytes = &bytes[..bytes.len().min(100)];
+    let bytes = &bytes[..bytes.len().min(9_999)];
     let text = Text::from_bytes(alloc, bytes)?;
     let mut cells = Items::new(alloc);
     cells.push(Cell {

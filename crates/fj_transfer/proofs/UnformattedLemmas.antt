@@ -5,6 +5,8 @@ use Rattle.std.proofs.lemmas.List.{append-nil, length-append, length-take, lengt
 use Rattle.std.proofs.Math.Nat.{mul-le-mul_left}
 use Rattle.std.specs.Prelude.{nat_le, nat_lt, IfSome}
 use Rattle.fj_outside.proofs.ByteLaws.{length-written}
+use Rattle.fj_span.specs.Change.{KeepsUpToChange}
+use Rattle.fj_span.proofs.ChangeLaws.{kept_as}
 use Rattle.fj_value.specs.declared.condition.Condition.TheVariants.{Fine, EndOfFile, Error}
 use Rattle.fj_value.specs.declared.value.Cell.{Cell}
 use Rattle.fj_unfrec.specs.Frames.{framed, frame}
@@ -15,6 +17,7 @@ use Rattle.fj_unfrec.proofs.FrameLemmas.{parts_of}
 use Rattle.fj_byterec.specs.Pieces.{record_start, piece, filled_to, with_record, bytes_from}
 use Rattle.fj_byterec.proofs.RecordLaws.{record_end, record_long}
 use Rattle.fj_list.specs.declared.moved.Moved.{Moved}
+use Rattle.fj_connect.specs.DirectRuns.{with_direct_run}
 use Rattle.fj_connect.specs.Connection.{Connection, bytes_behind, between, past_end, with_frame, with_direct, with_bytes}
 use Rattle.fj_transfer.specs.Transfer.{Done, told_with, in_error, output_done, with_undefined, values_from, bytes_needed, body_read, frame_read, sequential_read, piece_read, direct_read, bytes_read, stream_read, sequential_written, direct_written, stream_written}
 
@@ -70,6 +73,15 @@ direct_fine c new number cells body some short fits is =
     ap (λ n. told_with n cells Fine) is
     ∙ sym (within c (with_direct c number body 0) cells 0 (omega (arith, record_ends c.bytes body c.modes.recl number 0 some short)))
     ∙ sym (not_too_long c.modes.recl body (in_error c false cells (Error 15)) (output_done c cells (with_direct c number body 0) 0) short)
+
+-- a record that is filled up, put as a run of one
+pub direct_kept : (c : Connection) (number : ℕ) (cells : List Cell) (body run new : List ℕ) → 0 < number → length body ≤ c.modes.recl → max (length c.bytes) (number * c.modes.recl) ≤ 268435456
+    → run ≡ filled_to body c.modes.recl 0 → KeepsUpToChange c.bytes (with_direct_run c (record_start c.modes.recl number) run number 0).bytes new
+    → KeepsUpToChange c.bytes (direct_written c c number cells body).connection.bytes new
+direct_kept c number cells body run new some short fits is kept =
+    let whole : with_direct_run c (record_start c.modes.recl number) run number 0 ≡ with_direct c number body 0 = ap (λ r. with_direct_run c (record_start c.modes.recl number) r number 0) is in
+    kept_as c.bytes (with_direct_run c (record_start c.modes.recl number) run number 0).bytes (direct_written c c number cells body).connection.bytes new
+    (ap (λ (d : Done). d.connection.bytes) (direct_fine c (with_direct_run c (record_start c.modes.recl number) run number 0) number cells body some short fits whole)) kept
 
 pub direct_long : (c : Connection) (number : ℕ) (cells : List Cell) (body : List ℕ) → c.modes.recl < length body → told_with c cells (Error 15) ≡ direct_written c c number cells body
 direct_long c number cells body long = sym (too_long c.modes.recl body (in_error c false cells (Error 15)) (output_done c cells (with_direct c number body 0) 0) long)

@@ -2,6 +2,7 @@
 ghost use Rattle.std.specs.Prelude.{◌≡◌, ◌<◌, ◌≤◌, ◌++◌, [], ◌∷◌, length, take, nat_le, if◌then◌else◌, Some, None, OnOk, IfOk, All};
 ghost use Rattle.fj_value.specs.Kind.{IsOfKind};
 ghost use Rattle.fj_value.specs.declared.value.Cell.{Cell};
+ghost use Rattle.fj_unfrec.specs.Frames.{framed};
 ghost use Rattle.fj_unfrec.specs.Stored.{stored_width, value_of};
 ghost use Rattle.fj_list.specs.ListInput.{kind_at, places_of, with_value};
 ghost use Rattle.fj_list.specs.Moved.{IsOrdered};
@@ -78,6 +79,20 @@ pub fn body_of(alloc: Global, moved: &Moved) -> Result<Text, AllocError>
     let mut body = Text::new(alloc);
     put_items(moved.cells.as_slice(), moved.order.as_slice(), &mut body)?;
     Ok(body)
+}
+
+/// The same as a whole record of sequential access, with its length before and behind it.
+pub fn frame_of(alloc: Global, moved: &Moved) -> Result<Text, AllocError>
+    requires ordered { IsOrdered moved.now }
+    requires defined { HasValues moved.now }
+    ensures { IfOk result (λ frame. frame ≡ framed (body_of moved.now)) }
+{
+    let mut frame = Text::from_bytes(alloc, &[0; 4])?;
+    put_items(moved.cells.as_slice(), moved.order.as_slice(), &mut frame)?;
+    let length = (frame.len() as u64 - 4).to_le_bytes();
+    frame.write_over(0, &length[..4]);
+    frame.push_all(&length[..4])?;
+    Ok(frame)
 }
 
 /// Gives a cell its value out of the front of some bytes, and answers how many it takes.

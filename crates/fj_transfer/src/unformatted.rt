@@ -3,6 +3,7 @@ ghost use Rattle.std.specs.Prelude.{◌≡◌, ◌+◌, ◌<◌, ◌≤◌, ◌^
 ghost use Rattle.fj_value.specs.declared.value.Cell.{Cell};
 ghost use Rattle.fj_outside.specs.Faults.{Rose};
 ghost use Rattle.fj_span.specs.Change.{KeepsUpToChange};
+ghost use Rattle.fj_unfrec.specs.Frames.{framed};
 ghost use Rattle.fj_list.specs.ListInput.{places_of};
 ghost use Rattle.fj_list.specs.Moved.{IsOrdered};
 ghost use Rattle.fj_connect.specs.Connection.{between};
@@ -18,18 +19,19 @@ use fj_unfrec::FrameRead;
 use fj_value::{Condition, Text};
 use std::alloc::{AllocError, Global};
 
-/// Writes a record of sequential access, the last of the file. An error leaves the connection: 15 where the bytes are
-/// more than a record may have, and 25 where they would take the file past its limit.
+/// Writes a frame, which is a record of sequential access with its lengths, as the last of the file, by one write. An error
+/// leaves the connection: 15 where the body is longer than a record may be, and 25 where the frame would take the file past
+/// its limit.
 pub fn write_sequential<F: FileStore>(
     connection: &mut Connection<F>,
-    body: &[u8],
+    frame: &[u8],
 ) -> Result<Condition, Stop>
     ensures telling { F.tells connection.old.file ↔ F.tells connection.new.file }
-    ensures written { F.tells connection.old.file → (cells : List Cell) → IfOk result (λ condition.
+    ensures written { F.tells connection.old.file → (cells : List Cell) → (body : List ℕ) → frame.now ≡ framed body → IfOk result (λ condition.
         told_with (connection_of F.bytes connection.new) cells condition
-        ≡ sequential_written (connection_of F.bytes connection.old) (connection_of F.bytes connection.old) cells body.now) }
-    ensures stopped { F.tells connection.old.file → (cells : List Cell) → OnErr result (KeepsUpToChange (F.bytes connection.old.file)
-        (sequential_written (connection_of F.bytes connection.old) (connection_of F.bytes connection.old) cells body.now).connection.bytes
+        ≡ sequential_written (connection_of F.bytes connection.old) (connection_of F.bytes connection.old) cells body) }
+    ensures stopped { F.tells connection.old.file → (cells : List Cell) → (body : List ℕ) → frame.now ≡ framed body → OnErr result (KeepsUpToChange (F.bytes connection.old.file)
+        (sequential_written (connection_of F.bytes connection.old) (connection_of F.bytes connection.old) cells body).connection.bytes
         (F.bytes connection.new.file)) }
 
     // Told or not.
@@ -38,32 +40,33 @@ pub fn write_sequential<F: FileStore>(
     ensures later { F.count connection.old.file ≤ F.count connection.new.file }
     ensures failed { result ≡ Err Stop.Failed → Rose (F.count connection.old.file) (F.count connection.new.file) }
 {
-    if body.len() > connection.modes().recl as usize {
+    if frame.len() > connection.modes().recl as usize + 8 {
         return Ok(Condition::Error(15));
     }
     let at = connection.spot().at.min(connection.file_len());
-    if at + body.len() as u64 + 8 > LONGEST_FILE {
+    if at + frame.len() as u64 > LONGEST_FILE {
         return Ok(Condition::Error(25));
     }
-    connection.put_frame(body)?;
+    connection.put_records(frame)?;
     Ok(Condition::Fine)
 }
 
-/// Writes the direct record of a number, filled up with zeros. An error leaves the connection: 15 where the bytes are
-/// more than a record has, and 25 where the record would end behind the limit of the file.
+/// Writes the direct record of a number, filled up with zeros, by one write behind the gap where there is one. An error
+/// leaves the connection: 15 where the bytes are more than a record has, and 25 where the record would end behind the limit
+/// of the file.
 pub fn write_direct<F: FileStore>(
     connection: &mut Connection<F>,
     number: u64,
-    body: &[u8],
+    mut body: Text,
 ) -> Result<Condition, Stop>
     requires access { connection.old.modes.access ≡ Access.Direct }
     requires number { 0 < number }
     ensures telling { F.tells connection.old.file ↔ F.tells connection.new.file }
     ensures written { F.tells connection.old.file → (cells : List Cell) → IfOk result (λ condition.
         told_with (connection_of F.bytes connection.new) cells condition
-        ≡ direct_written (connection_of F.bytes connection.old) (connection_of F.bytes connection.old) number cells body.now) }
+        ≡ direct_written (connection_of F.bytes connection.old) (connection_of F.bytes connection.old) number cells body) }
     ensures stopped { F.tells connection.old.file → (cells : List Cell) → OnErr result (KeepsUpToChange (F.bytes connection.old.file)
-        (direct_written (connection_of F.bytes connection.old) (connection_of F.bytes connection.old) number cells body.now).connection.bytes
+        (direct_written (connection_of F.bytes connection.old) (connection_of F.bytes connection.old) number cells body).connection.bytes
         (F.bytes connection.new.file)) }
 
     // Told or not.
@@ -80,7 +83,9 @@ pub fn write_direct<F: FileStore>(
     if number > LONGEST_FILE || size.max(number * u64::from(recl)) > LONGEST_FILE {
         return Ok(Condition::Error(25));
     }
-    connection.put_direct(number, body, 0)?;
+    body.fill_to(recl as usize, 0)?;
+    let start = (number - 1) * u64::from(recl);
+    connection.put_direct_run(start, body.bytes(), number, 0)?;
     Ok(Condition::Fine)
 }
 

@@ -6,13 +6,12 @@ ghost use Rattle.fj_byterec.specs.Pieces.{piece};
 ghost use Rattle.fj_modes.specs.Limits.{longest_file};
 
 use crate::connection::Connection;
-use fj_byterec::{read_direct, write_direct, write_run};
+use fj_byterec::{read_direct, write_run};
 use fj_modes::Access;
 use fj_outside::{FileStore, Stop};
 use fj_value::Text;
 
 impl<F: FileStore> Connection<F> {
-    ghost use Rattle.fj_connect.specs.Connection.{with_direct};
     ghost use Rattle.fj_connect.specs.DirectRuns.{with_direct_run};
     ghost use Rattle.fj_connect.specs.Linked.{connection_of};
 
@@ -36,35 +35,8 @@ impl<F: FileStore> Connection<F> {
         read_direct(&mut self.file, self.modes.recl, number, into)
     }
 
-    /// Puts a direct record, filled up with a byte as the gap before it is. After a `Stop` nothing is said of the next
-    /// record's number.
-    pub fn put_direct(&mut self, number: u64, text: &[u8], fill: u8) -> Result<(), Stop>
-        requires access { self.old.modes.access ≡ Access.Direct }
-        requires number { 0 < number }
-        requires text { length text.now ≤ self.old.modes.recl }
-        requires limit { number * self.old.modes.recl ≤ longest_file }
-        ensures telling { F.tells self.old.file ↔ F.tells self.new.file }
-        ensures put { F.tells self.old.file → OnOk result
-            (connection_of F.bytes self.new ≡ with_direct (connection_of F.bytes self.old) number text.now fill) }
-        ensures stopped { F.tells self.old.file → OnErr result (KeepsUpToChange (F.bytes self.old.file)
-            (with_direct (connection_of F.bytes self.old) number text.now fill).bytes (F.bytes self.new.file)) }
-
-        // Told or not.
-        ensures spot { OnOk result (self.new.spot ≡ record self.old.spot { next_number = number + 1 }) }
-        ensures size { OnOk result (F.size self.new.file ≡ max (F.size self.old.file) (number * self.old.modes.recl)) }
-        ensures modes { self.new.modes ≡ self.old.modes }
-        ensures name { self.new.name ≡ self.old.name }
-        ensures later { F.count self.old.file ≤ F.count self.new.file }
-        ensures failed { result ≡ Err Stop.Failed → Rose (F.count self.old.file) (F.count self.new.file) }
-    {
-        self.looked = None;
-        write_direct(&mut self.file, self.modes.recl, number, text, fill)?;
-        self.spot.next_number = number + 1;
-        Ok(())
-    }
-
-    /// Puts the bytes of whole direct records from a place on, of which the last has this number. The gap before them is
-    /// filled up with a byte. After a `Stop` nothing is said of the next record's number.
+    /// Puts the bytes of whole direct records, one or more, from a place on by one write; the last has this number. The gap
+    /// before them is filled up first, with a byte. After a `Stop` nothing is said of the next record's number.
     pub fn put_direct_run(
         &mut self,
         start: u64,

@@ -1,4 +1,4 @@
-// Formatted records of a connection, sequential and stream.
+// Records of a connection: formatted ones, sequential and stream, and unformatted ones put as frames.
 ghost use Rattle.std.specs.Prelude.{◌≡◌, ◌≢◌, ◌+◌, ◌<◌, ◌≤◌, ◌↔◌, true, length, IfOk, OnOk, OnErr, List, ℕ};
 ghost use Rattle.fj_outside.specs.Faults.{Rose};
 ghost use Rattle.fj_span.specs.Change.{KeepsUpToChange};
@@ -45,8 +45,8 @@ impl<F: FileStore> Connection<F> {
         Ok(read)
     }
 
-    /// Puts records, each with its line feed, at the position, as the last of the file. After a `Stop` nothing is said of
-    /// the position.
+    /// Puts records, formatted ones each with its line feed or an unformatted one as its frame, at the position by one
+    /// write, as the last of the file. After a `Stop` nothing is said of the position.
     pub fn put_records(&mut self, text: &[u8]) -> Result<(), Stop>
         requires { self.old.spot.at + length text.now ≤ longest_file }
         ensures telling { F.tells self.old.file ↔ F.tells self.new.file }

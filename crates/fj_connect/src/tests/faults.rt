@@ -133,22 +133,22 @@ fn call_on<F: FileStore>(c: &mut Connection<F>, call: Call, into: &mut Text) -> 
         Call::Step(step) => {
             done(c, step)?;
         }
-        PutFrame(body) if body.len() < 100 && at < 1000 => c.put_frame(body)?,
+        PutFrame(frame) if frame.len() < 100 && at < 1000 => c.put_records(frame)?,
         PutBytes(piece) if piece.len() < 100 && at < 1000 => c.put_bytes(piece)?,
-        PutDirect(number, text) => put_direct(c, number, text)?,
+        PutDirect(number, record) => put_direct(c, number, record)?,
         _ => read_by(c, call, into)?,
     }
     Ok(())
 }
 
-/// Puts a direct record.
-fn put_direct<F: FileStore>(c: &mut Connection<F>, number: u64, text: &[u8]) -> Result<(), Stop>
+/// Puts a whole direct record.
+fn put_direct<F: FileStore>(c: &mut Connection<F>, number: u64, record: &[u8]) -> Result<(), Stop>
     ensures { c.new.name ≡ c.old.name }
 {
     let recl = u64::from(c.modes().recl);
-    let fits = text.len() as u64 <= recl && number > 0 && number < 100 && recl < 100;
-    if c.modes().access == Access::Direct && fits {
-        c.put_direct(number, text, b' ')?;
+    let whole = record.len() as u64 == recl && number > 0 && number < 100 && recl < 100;
+    if c.modes().access == Access::Direct && whole {
+        c.put_direct_run((number - 1) * recl, record, number, b' ')?;
     }
     Ok(())
 }
@@ -177,9 +177,16 @@ static CALLS: [(Kind, &[u8], Step, Call, u64, usize); 21] = [
     (Lines, LINES, At(0), Look(3), 1, 6),
     (StreamLines, LINES, Open(b"x", 0), Foresee(0), 1, 1),
     (Frames, FRAMES, At(9), ReadFrame, 1, 18),
-    (Frames, FRAMES, At(9), PutFrame(b"C"), 1, 9),
+    (
+        Frames,
+        FRAMES,
+        At(9),
+        PutFrame(b"\x01\0\0\0C\x01\0\0\0"),
+        1,
+        9,
+    ),
     (Direct, LINES, At(0), ReadDirect(1), 1, 6),
-    (Direct, LINES, At(0), PutDirect(4, b"x"), 3, 6),
+    (Direct, LINES, At(0), PutDirect(4, b"wxyz"), 2, 6),
     (Stream, LINES, At(0), ReadBytes(2, 3), 1, 6),
     (Stream, LINES, At(2), PutBytes(b"xyz"), 1, 2),
 ];

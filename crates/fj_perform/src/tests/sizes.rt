@@ -5,7 +5,7 @@ ghost use Rattle.std.specs.FinMap as map;
 ghost use Rattle.std.specs.FinSet as set;
 
 use crate::tests::{A, Form, Said, Verb, carried_out, statement, transfer};
-use fj_modes::{Access, Action};
+use fj_modes::{Access, Action, OpenSpec};
 use fj_outside::{Disk, Failed, FileStore, Stop};
 use fj_value::Condition;
 use std::alloc::{AllocError, Global};
@@ -216,30 +216,75 @@ static ROWS: [Row; 18] = [
     ),
 ];
 
-/// Whether a statement comes to what its row says.
-fn holds(alloc: Global, row: &Row) -> Result<bool, Fail> {
-    let ((access, formatted, fewer), said, (condition, after, writes)) = *row;
-    let len = LIMIT.saturating_sub(fewer);
+/// What a statement behind the last byte of a file of that length answers, and the file then.
+fn left_by(
+    alloc: Global,
+    access: Access,
+    spec: &OpenSpec,
+    len: u64,
+    said: Said,
+) -> Result<(Result<Condition, Stop>, Option<Plain>), Fail> {
     let mut disk = PlainDisk {
         home: Some(Plain { len, writes: 0 }),
     };
+    let mut job = transfer(alloc, said, access)?;
+    let (answer, _) = carried_out(alloc, &mut disk, spec, len, 0, &mut job)?;
+    Ok((answer, disk.home))
+}
+
+/// Whether a statement comes to what its row says.
+fn holds(alloc: Global, row: &Row) -> Result<bool, Fail> {
+    let ((access, formatted, fewer), said, (condition, after, writes)) = *row;
     let mut spec = statement(access, formatted, Action::ReadWrite);
     if access == Direct {
         spec.recl = Some(8);
     }
-    let mut job = transfer(alloc, said, access)?;
-    let (answer, _) = carried_out(alloc, &mut disk, &spec, len, 0, &mut job)?;
+    let len = LIMIT.saturating_sub(fewer);
     let file = Plain {
         len: LIMIT.saturating_sub(after),
         writes,
     };
-    Ok(answer == Ok(condition) && disk.home == Some(file))
+    Ok(left_by(alloc, access, &spec, len, said)? == (Ok(condition), Some(file)))
 }
 
 #[test]
 fn the_limit_of_a_file(rt: HostRuntime) -> Result<(), Fail> {
     for (number, row) in ROWS.iter().enumerate() {
         assert!(rt; holds(rt.alloc(), row)?, "row {number}");
+    }
+    Ok(())
+}
+
+static LONG: [u8; 5_000] = [b'x'; 5_000];
+
+/// Access, and how long the file is, behind which the statement begins; the number of REC= and the length of an unformatted
+/// output, with RECL=5000 where there are records; and how long the file is then, and how often it was written.
+type Written = ((Access, u64), (Option<i64>, usize), (u64, u64));
+
+static WRITTEN: [Written; 7] = [
+    ((Sequential, 0), (None, 5_000), (5_008, 1)),
+    ((Sequential, 7_000), (None, 5_000), (12_008, 1)),
+    ((Stream, 7_000), (None, 5_000), (12_000, 1)),
+    // A direct record inside the file and behind it, and one that is filled up.
+    ((Direct, 10_000), (Some(1), 5_000), (10_000, 1)),
+    ((Direct, 10_000), (Some(3), 5_000), (15_000, 1)),
+    ((Direct, 10_000), (Some(2), 1), (10_000, 1)),
+    // A gap of 2,100 bytes takes three writes more.
+    ((Direct, 2_900), (Some(2), 5_000), (10_000, 4)),
+];
+
+#[test]
+fn one_write_for_a_statement(rt: HostRuntime) -> Result<(), Fail> {
+    for (number, row) in WRITTEN.iter().enumerate() {
+        let ((access, len), (at, count), (after, writes)) = *row;
+        let mut spec = statement(access, false, Action::ReadWrite);
+        if access != Stream {
+            spec.recl = Some(5_000);
+        }
+        let said = (Output, Stored, at, &LONG[..count.min(5_000)]);
+        let file = Plain { len: after, writes };
+        let came = left_by(rt.alloc(), access, &spec, len, said)?;
+        assert!(rt; came == (Ok(Fine), Some(file)), "row {number}");
     }
     Ok(())
 }

@@ -9,8 +9,8 @@ ghost use Rattle.fj_transfer.specs.Printing.{IsRecords};
 
 use crate::tests::{A, I4, I8, Item, L, MODES, moved};
 use crate::{
-    Layout, body_of, read_direct, read_numbered, read_sequential, read_stream, write_direct,
-    write_lines, write_numbered, write_sequential, write_stream,
+    Layout, body_of, frame_of, read_direct, read_numbered, read_sequential, read_stream,
+    write_direct, write_lines, write_numbered, write_sequential, write_stream,
 };
 use fj_connect::{Connection, OpenFault, open_file};
 use fj_format::{Format, parse};
@@ -66,19 +66,33 @@ pub fn disk_of(alloc: Global, bytes: &[u8]) -> Result<MemoryDisk, AllocError>
     Ok(disk)
 }
 
-/// Writes bytes at a place, or as the direct record of a number.
-fn write<F: FileStore>(c: &mut Connection<F>, at: u64, body: &[u8]) -> Result<Condition, Stop>
+/// Writes items at a place, or as the direct record of a number.
+fn write<F: FileStore>(
+    alloc: Global,
+    c: &mut Connection<F>,
+    at: u64,
+    items: &Moved,
+) -> Result<Condition, Stop>
+    requires ordered { IsOrdered items.now }
+    requires defined { HasValues items.now }
     ensures { c.new.name ≡ c.old.name }
 {
     let size = c.file_len();
     let access = c.modes().access;
     match access {
         Access::Sequential if at <= size => {
+            let frame = frame_of(alloc, items)?;
             c.go_between(at);
-            write_sequential(c, body)
+            write_sequential(c, frame.bytes())
         }
-        Access::Direct if at > 0 => write_direct(c, at, body),
-        Access::Stream if at <= size => write_stream(c, at, body),
+        Access::Direct if at > 0 => {
+            let body = body_of(alloc, items)?;
+            write_direct(c, at, body)
+        }
+        Access::Stream if at <= size => {
+            let body = body_of(alloc, items)?;
+            write_stream(c, at, body.bytes())
+        }
         _ => Ok(NOT_DONE),
     }
 }
@@ -118,9 +132,8 @@ fn written<D: Disk>(
     requires ordered { IsOrdered items.now }
     requires defined { HasValues items.now }
 {
-    let body = body_of(alloc, items).map_err(Stop::from)?;
     let mut c = connect(alloc, disk, &statement(access, false))?;
-    let condition = write(&mut c, at, body.bytes());
+    let condition = write(alloc, &mut c, at, items);
     let spot = c.spot();
     c.close_file(disk, true).map_err(Stop::from)?;
     Ok((condition?, spot.at, spot.next_number))
