@@ -9,7 +9,7 @@ use crate::{Connection, OpenFault};
 use fj_modes::{Action, FileStatus};
 use fj_outside::{Disk, Failed, FileStore, Stop};
 use fj_seqrec::RecordRead;
-use fj_value::Condition;
+use fj_value::{Condition, Text};
 use std::alloc::{AllocError, Global};
 use std::test::Fail;
 
@@ -180,5 +180,38 @@ fn read_in_pieces(alloc: Global) -> Result<(u64, u64), OpenFault> {
 #[test]
 fn a_record_is_read_once(rt: HostRuntime) -> Result<(), Fail> {
     assert_eq!(rt; read_in_pieces(rt.alloc()), Ok((65_536, 8)));
+    Ok(())
+}
+
+/// Puts records one behind the other, and looks behind each at the last byte of the file.
+fn put_and_look<F: FileStore>(c: &mut Connection<F>, byte: &mut Text) -> Result<(), Stop> {
+    for _ in 0..3 {
+        if c.spot().at < 1000 {
+            c.put_records(b"ab\n")?;
+        }
+        let end = c.file_len();
+        if end > 0 {
+            c.read_bytes(end - 1, 1, byte)?;
+        }
+    }
+    Ok(())
+}
+
+/// The last byte that was looked at, the length of the file, and how often it was read.
+fn reads_between(alloc: Global) -> Result<(Option<u8>, u64, u64), OpenFault> {
+    let mut disk = of_length(0);
+    let spec = statement(Lines, FileStatus::Old, None, Action::ReadWrite);
+    let mut c = connect(alloc, &mut disk, &spec)?;
+    let mut byte = Text::new(alloc);
+    put_and_look(&mut c, &mut byte)?;
+    c.close_file(&mut disk, true).map_err(Stop::from)?;
+    let (len, reads) = disk.home.map_or((0, 0), |file| (file.len, file.reads));
+    Ok((byte.bytes().first().copied(), len, reads))
+}
+
+// What was written last stands at hand: the next record finds the line feed before it without a read.
+#[test]
+fn a_record_behind_another_reads_nothing(rt: HostRuntime) -> Result<(), Fail> {
+    assert_eq!(rt; reads_between(rt.alloc()), Ok((Some(b'\n'), 9, 0)));
     Ok(())
 }
