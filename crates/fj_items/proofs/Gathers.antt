@@ -1,7 +1,7 @@
 -- Pieces of items, and the cells of these.
 use Rattle.std.proofs.Common.{◌≡◌, ℕ, zero, suc, ◌+◌, ◌<◌, ◌≤◌, List, [], ◌∷◌, ◌++◌, length, map, take, get_or, All, IsSome, refl, sym, ap, subst, ◌∙◌, arith, append_assoc, append-nil, length-append}
 use Rattle.std.specs.List.{flat_map}
-use Rattle.std.proofs.lemmas.List.{take_more}
+use Rattle.std.proofs.lemmas.List.{map-append, take_more}
 use Rattle.std.proofs.lemmas.List.Elements.{All-append, All-push}
 use Rattle.fj_value.specs.declared.place.Place.{Place}
 use Rattle.fj_value.specs.declared.value.Cell.{Cell}
@@ -113,10 +113,6 @@ pieces_cells variables s n (operand.One place ∷ items) (piece ∷ pieces) kind
     run_cells variables s n (place ∷ []) piece pieces (plain.cells_from variables (values_of s) n items) kinds h.0 (pieces_cells variables s n items pieces kinds h.1)
 pieces_cells variables s n (operand.Whole var ∷ items) (piece ∷ pieces) kinds h =
     run_cells variables s n (plain.places_of variables var) piece pieces (plain.cells_from variables (values_of s) n items) kinds h.0 (pieces_cells variables s n items pieces kinds h.1)
-
-map-append : {A B : Type 0} → (f : A → B) (xs ys : List A) → map f (xs ++ ys) ≡ map f xs ++ map f ys
-map-append f [] ys = refl
-map-append f (x ∷ xs) ys = ap (λ zs. f x ∷ zs) (map-append f xs ys)
 
 whole_cells : (variables : List Variable) (vars : Variables) (n : ℕ) (vs : List ℕ) → plain.cells_from variables vars n (map operand.Whole vs) ≡ map (plain.cell_at variables vars) (flat_map (plain.places_of variables) vs)
 whole_cells variables vars n [] = refl

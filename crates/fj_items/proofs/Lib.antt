@@ -1,5 +1,10 @@
+pub mod Cells
 pub mod Ends
+pub mod Finds
+pub mod Fits
 pub mod Gathers
+pub mod Limits
+pub mod Parts
 pub mod Prints
 pub mod Takes
 pub mod Undefines

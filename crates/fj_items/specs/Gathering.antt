@@ -1,8 +1,7 @@
 -- The items of a transfer as pieces, one for each item, and for each variable of a group.
-use Rattle.std.specs.Prelude.{◌≡◌, ◌<◌, ◌^◌, Bool, false, List, [], ◌∷◌, ◌++◌, length, map, All, IsSome}
+use Rattle.std.specs.Prelude.{ℕ, ◌≡◌, ◌<◌, ◌^◌, List, [], ◌∷◌, ◌++◌, length, map, All, IsSome}
 use Rattle.fj_list.specs.Moved.{IsOrdered}
 use Rattle.fj_list.specs.declared.moved.Moved.{Moved}
-use Rattle.fj_transfer.specs.Moving.{HasValues}
 use Rattle.fj_value.specs.declared.place.Place.{Place}
 use Rattle.fj_store.specs.declared.piece.Piece.{Piece}
 use Rattle.fj_store.specs.declared.piece.Piece.TheVariants.{Places, Own}
@@ -52,8 +51,13 @@ pub record IsGathered (variables : List Variable) (s : Storage) (items : List Op
   pub home : AreHome s (places_among g.pieces.items)
   pub size : sizes g.pieces.items ≡ g.size
 
--- items as a transfer has them
-pub record IsSound (input : Bool) (moved : Moved) : Type 0 where
+-- how many items an operand is
+abbrev pub count_of : List Variable → Operand → ℕ
+count_of variables (operand.Literal kind value) = 1
+count_of variables item = length (operand_places variables item)
+
+-- each item has a cell, and items and cells have numbers of 32 bits
+pub record IsNumbered (moved : Moved) : Type 0 where
   pub ordered : IsOrdered moved
   pub few : length moved.order < 2 ^ 32
-  pub defined : input ≡ false → HasValues moved
+  pub cells : length moved.cells < 2 ^ 32

@@ -1,3 +1,4 @@
+pub mod Fitting
 pub mod Gathering
 pub mod Handing
 pub mod Kinds

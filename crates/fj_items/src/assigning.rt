@@ -1,13 +1,15 @@
 // Assignment (ISO/IEC 1539-1:2004, 7.4.1.3).
-ghost use Rattle.std.specs.Prelude.{◌≡◌, ◌++◌, take, replicate, OnOk, IfOk};
+ghost use Rattle.std.specs.Prelude.{◌≡◌, ◌≢◌, ◌++◌, take, replicate, Err, OnOk, IfOk};
 ghost use Rattle.std.specs.Option.{option_map_or};
 ghost use Rattle.std.specs.List.{slice_get};
 ghost use Rattle.fj_plain.specs.Items.{kind_of, operand_places, places_of, value_of};
 ghost use Rattle.fj_plain.specs.State.{elements};
 ghost use Rattle.fj_plain.specs.Statement.{converted, assigned};
+ghost use Rattle.fj_statement.specs.Sound.{IsAssignment};
 ghost use Rattle.fj_store.specs.Storage.{values_of};
 ghost use Rattle.fj_store.specs.Variables.{with_value};
-ghost use Rattle.fj_items.specs.Kinds.{kinds_of};
+ghost use Rattle.fj_items.specs.Fitting.{HaveKinds};
+ghost use Rattle.fj_items.specs.Kinds.{kinds_of, Fits};
 
 use crate::giving::fits;
 use crate::lost::Lost;
@@ -81,6 +83,8 @@ fn assign_place(
     requires { store.old.kinds ≡ kinds_of variables.now }
     ensures vars { OnOk result (values_of store.new ≡ with_value (values_of store.old) place (converted (kind_of variables.now place.var) value.now)) }
     ensures kinds { store.new.kinds ≡ store.old.kinds }
+    ensures fits { Fits (kind_of variables.now place.var) (converted (kind_of variables.now place.var) value.now) → result ≢ Err Lost.Unfit }
+    ensures causes { (result ≢ Err Lost.Disk) × (result ≢ Err Lost.Sink) }
 {
     let kind = kind_of(variables, place.var);
     let new = converted(alloc, kind, value)?;
@@ -102,6 +106,8 @@ fn assign_array(
     requires { store.old.kinds ≡ kinds_of variables.now }
     ensures vars { OnOk result (values_of store.new ≡ assigned variables.now (places_of variables.now var) value.now (values_of store.old)) }
     ensures kinds { store.new.kinds ≡ store.old.kinds }
+    ensures fits { Fits (kind_of variables.now var) (converted (kind_of variables.now var) value.now) → result ≢ Err Lost.Unfit }
+    ensures causes { (result ≢ Err Lost.Disk) × (result ≢ Err Lost.Sink) }
 {
     for at in 0..elements_of(variables, var) {
         let place = Place { var, index: at + 1 };
@@ -124,6 +130,8 @@ pub fn assign(
     ensures vars { OnOk result (values_of store.new
         ≡ assigned variables.now (operand_places variables.now to.now) (value_of (values_of store.old) from.now) (values_of store.old)) }
     ensures kinds { store.new.kinds ≡ store.old.kinds }
+    ensures fits { IsAssignment variables.now to.now from.now → HaveKinds variables.now (values_of store.old) → result ≢ Err Lost.Unfit }
+    ensures causes { (result ≢ Err Lost.Disk) × (result ≢ Err Lost.Sink) }
 {
     let value = value_of(store, from)?;
     match to {

@@ -1,9 +1,13 @@
 // The items of a WRITE, copied out of the variables.
-ghost use Rattle.std.specs.Prelude.{◌≡◌, ◌∷◌, [], Err, option_map, IfOk};
+ghost use Rattle.std.specs.Prelude.{◌≡◌, ◌≢◌, ◌≤◌, ◌∷◌, [], length, Err, option_map, IsSome, IfSome, IfOk};
 ghost use Rattle.fj_plain.specs.Items.{cell_at as plain_cell};
 ghost use Rattle.fj_store.specs.Variables.{moved_of};
 ghost use Rattle.fj_plain.specs.Transfers.{moved_in};
-ghost use Rattle.fj_store.specs.Storage.{values_of};
+ghost use Rattle.fj_statement.specs.Sound.{IsTransfer};
+ghost use Rattle.fj_store.specs.Pieces.{no_variable};
+ghost use Rattle.fj_store.specs.Storage.{value_at, values_of};
+ghost use Rattle.fj_items.specs.Fitting.{FindsItems};
+ghost use Rattle.fj_items.specs.Gathering.{IsNumbered};
 ghost use Rattle.fj_items.specs.Kinds.{kinds_of};
 
 use crate::gathering::{gather, is_home};
@@ -24,8 +28,10 @@ pub(crate) fn copied(
 ) -> Result<Moved, Lost>
     requires { store.old.kinds ≡ kinds_of variables.now }
     ensures moved { IfOk result (λ moved. moved ≡ moved_in variables.now (values_of store.old) t.now) }
+    ensures numbered { IfOk result IsNumbered }
     ensures same { store.new ≡ store.old }
-    ensures own { result ≡ Err Lost.Sink → ⊥ }
+    ensures fits { IsTransfer variables.now t.now → FindsItems variables.now store.old t.now → result ≢ Err Lost.Unfit }
+    ensures causes { (result ≢ Err Lost.Disk) × (result ≢ Err Lost.Sink) }
 {
     let gathered = gather(alloc, variables, store, t)?;
     if store.count() > 4294967295 {
@@ -45,6 +51,8 @@ pub(crate) fn size_copied(
     requires { store.old.kinds ≡ kinds_of variables.now }
     ensures moved { IfOk result (λ moved. moved ≡ option_map (λ place. moved_of (plain_cell variables.now (values_of store.old) place ∷ [])) size) }
     ensures same { store.new ≡ store.old }
+    ensures fits { IfSome size (λ place. IsSome (value_at store.old place)) → length store.old.values ≤ no_variable → result ≢ Err Lost.Unfit }
+    ensures causes { (result ≢ Err Lost.Disk) × (result ≢ Err Lost.Sink) }
 {
     let Some(place) = size else {
         return Ok(None);

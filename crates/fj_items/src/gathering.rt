@@ -1,12 +1,15 @@
 // The items of a transfer, gathered where all of them are there.
-ghost use Rattle.std.specs.Prelude.{◌≡◌, ◌∷◌, [], ◌++◌, map, List, IsTrue, IsSome, Err, IfOk, OnOk};
-ghost use Rattle.fj_plain.specs.Items.{places_of as places_in};
+ghost use Rattle.std.specs.Prelude.{◌≡◌, ◌≢◌, ◌↔◌, ◌+◌, ◌<◌, ◌^◌, ◌∷◌, [], ◌++◌, length, map, List, IsTrue, IsSome, Err, IfOk, OnOk};
+ghost use Rattle.std.specs.List.{flat_map, sum_by};
+ghost use Rattle.fj_plain.specs.Items.{operand_places, places_of as places_in};
+ghost use Rattle.fj_statement.specs.Sound.{IsTransfer};
 ghost use Rattle.fj_statement.specs.declared.statement.Operand.{Operand};
 ghost use Rattle.fj_statement.specs.declared.statement.Operand.TheVariants.{Whole};
 ghost use Rattle.fj_store.specs.Pieces.{size_of};
 ghost use Rattle.fj_store.specs.Places.{places_of};
 ghost use Rattle.fj_store.specs.Storage.{value_at};
-ghost use Rattle.fj_items.specs.Gathering.{IsPiece, IsReady, IsGathered, AreHome, all_items};
+ghost use Rattle.fj_items.specs.Fitting.{FindsItems};
+ghost use Rattle.fj_items.specs.Gathering.{IsPiece, IsReady, IsGathered, AreHome, all_items, count_of};
 
 use crate::assigning::elements_of;
 use crate::lost::Lost;
@@ -49,7 +52,7 @@ fn piece_of(variables: &Variables, item: &Operand) -> Result<Piece, AllocError>
 
 /// Whether a place has a value.
 pub(crate) fn is_home(store: &Store, place: Place) -> bool
-    ensures { IsTrue result → IsSome (value_at store.now place) }
+    ensures { IsTrue result ↔ IsSome (value_at store.now place) }
 {
     match store.read(place) {
         Some(_) => true,
@@ -59,7 +62,7 @@ pub(crate) fn is_home(store: &Store, place: Place) -> bool
 
 /// Whether the places of a run have values.
 fn are_home(store: &Store, run: Run) -> bool
-    ensures { IsTrue result → AreHome store.now (places_of run) }
+    ensures { IsTrue result ↔ AreHome store.now (places_of run) }
 {
     for at in 0..run.count {
         if !is_home(store, run.place_at(at)) {
@@ -71,7 +74,7 @@ fn are_home(store: &Store, run: Run) -> bool
 
 /// Whether a piece may be taken.
 fn is_ready(store: &Store, piece: &Piece) -> bool
-    ensures { IsTrue result → IsReady store.now piece.now }
+    ensures { IsTrue result ↔ IsReady store.now piece.now }
 {
     match piece {
         Piece::Places(run) => are_home(store, *run),
@@ -96,7 +99,9 @@ fn add_item(
     gathered: &mut Gathered,
 ) -> Result<(), Lost>
     ensures more { (before : List Operand) → IsGathered variables.now store.now before gathered.old → OnOk result (IsGathered variables.now store.now (before ++ item.now ∷ []) gathered.new) }
-    ensures own { result ≡ Err Lost.Sink → ⊥ }
+    ensures size { OnOk result (gathered.new.size ≡ gathered.old.size + count_of variables.now item.now) }
+    ensures fits { AreHome store.now (operand_places variables.now item.now) → gathered.old.size + count_of variables.now item.now < 2 ^ 32 → result ≢ Err Lost.Unfit }
+    ensures causes { (result ≢ Err Lost.Disk) × (result ≢ Err Lost.Sink) }
 {
     let piece = piece_of(variables, item)?;
     if !is_ready(store, &piece) {
@@ -122,7 +127,10 @@ fn add_items(
     gathered: &mut Gathered,
 ) -> Result<(), Lost>
     ensures more { (before : List Operand) → IsGathered variables.now store.now before gathered.old → OnOk result (IsGathered variables.now store.now (before ++ items.now) gathered.new) }
-    ensures own { result ≡ Err Lost.Sink → ⊥ }
+    ensures size { OnOk result (gathered.new.size ≡ gathered.old.size + sum_by (count_of variables.now) items.now) }
+    ensures fits { AreHome store.now (flat_map (operand_places variables.now) items.now) → gathered.old.size + sum_by (count_of variables.now) items.now < 2 ^ 32
+        → result ≢ Err Lost.Unfit }
+    ensures causes { (result ≢ Err Lost.Disk) × (result ≢ Err Lost.Sink) }
 {
     for item in items {
         add_item(variables, store, item, gathered)?;
@@ -138,7 +146,9 @@ fn add_members(
     gathered: &mut Gathered,
 ) -> Result<(), Lost>
     ensures more { (before : List Operand) → IsGathered variables.now store.now before gathered.old → OnOk result (IsGathered variables.now store.now (before ++ map Whole vars.now) gathered.new) }
-    ensures own { result ≡ Err Lost.Sink → ⊥ }
+    ensures fits { AreHome store.now (flat_map (places_in variables.now) vars.now) → gathered.old.size + length (flat_map (places_in variables.now) vars.now) < 2 ^ 32
+        → result ≢ Err Lost.Unfit }
+    ensures causes { (result ≢ Err Lost.Disk) × (result ≢ Err Lost.Sink) }
 {
     for var in vars {
         add_item(variables, store, &Operand::Whole { var: *var }, gathered)?;
@@ -154,7 +164,8 @@ pub(crate) fn gather(
     t: &Transfer,
 ) -> Result<Gathered, Lost>
     ensures gathered { IfOk result (λ gathered. IsGathered variables.now store.now (all_items t.now) gathered) }
-    ensures own { result ≡ Err Lost.Sink → ⊥ }
+    ensures fits { IsTransfer variables.now t.now → FindsItems variables.now store.now t.now → result ≢ Err Lost.Unfit }
+    ensures causes { (result ≢ Err Lost.Disk) × (result ≢ Err Lost.Sink) }
 {
     let mut gathered = Gathered {
         pieces: VecDeque::new(alloc),

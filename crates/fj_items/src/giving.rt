@@ -1,8 +1,9 @@
 // What a transfer gives back to the variables when it is told.
-ghost use Rattle.std.specs.Prelude.{◌≡◌, OnOk, OnErr, if◌then◌else◌, IsTrue, All, IfSome, List};
+ghost use Rattle.std.specs.Prelude.{◌≡◌, ◌↔◌, OnOk, OnErr, IsOk, if◌then◌else◌, IsTrue, All, IfSome, List};
 ghost use Rattle.fj_plain.specs.Items.{kind_of};
 ghost use Rattle.fj_plain.specs.Telling.{count_for, with_size};
 ghost use Rattle.fj_statement.specs.declared.deck.Variable.{Variable};
+ghost use Rattle.fj_statement.specs.Sound.{IsIntegerPlace};
 ghost use Rattle.fj_store.specs.Storage.{values_of};
 ghost use Rattle.fj_value.specs.declared.place.Place.{Place};
 ghost use Rattle.fj_store.specs.Variables.{given_back};
@@ -17,7 +18,7 @@ use fj_value::{Cell, Kind, Place, Value};
 
 /// Whether a value is of a kind, or undefined.
 pub(crate) fn fits(kind: Kind, value: &Value) -> bool
-    ensures { IsTrue result → Fits kind value.now }
+    ensures { IsTrue result ↔ Fits kind value.now }
 {
     match value {
         Value::Undefined => true,
@@ -27,7 +28,7 @@ pub(crate) fn fits(kind: Kind, value: &Value) -> bool
 
 /// Whether cells have values of the kinds of their places, or undefined ones.
 fn all_fit(variables: &Variables, cells: &[Cell]) -> bool
-    ensures { IsTrue result → All (CellFits variables.now) cells.now }
+    ensures { IsTrue result ↔ All (CellFits variables.now) cells.now }
 {
     for cell in cells {
         if !fits(kind_of(variables, cell.place.var), &cell.value) {
@@ -39,7 +40,7 @@ fn all_fit(variables: &Variables, cells: &[Cell]) -> bool
 
 /// Whether SIZE= is an integer, where it is given.
 fn is_countable(variables: &Variables, size: Option<Place>) -> bool
-    ensures { IsTrue result → IfSome size (λ place. IsIntegerKind (kind_of variables.now place.var)) }
+    ensures { IsTrue result ↔ IfSome size (λ place. IsIntegerKind (kind_of variables.now place.var)) }
 {
     match size {
         None => true,
@@ -85,6 +86,7 @@ pub fn give_cells(
         ≡ (if input then with_size variables.now size job.count (given_back job.moved.cells (values_of store.old)) else values_of store.old)) }
     ensures err { OnErr result (store.new ≡ store.old) }
     ensures kinds { store.new.kinds ≡ store.old.kinds }
+    ensures fits { All (CellFits variables.now) job.moved.cells → IfSome size (IsIntegerPlace variables.now) → IsOk result }
 {
     if !input {
         return Ok(());

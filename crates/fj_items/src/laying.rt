@@ -1,5 +1,5 @@
 // The layout of a transfer, with the cells of its group.
-ghost use Rattle.std.specs.Prelude.{◌≡◌, Err, IfOk, IsTrue, All};
+ghost use Rattle.std.specs.Prelude.{◌≡◌, ◌≤◌, ◌<◌, ◌^◌, ◌↔◌, length, IfOk, IsTrue, All};
 ghost use Rattle.std.specs.List.{position_or_len};
 ghost use Rattle.fj_namelist.specs.GroupText.{IsWithin};
 ghost use Rattle.fj_plain.specs.Transfers.{member_of, members_of, layout_of};
@@ -8,12 +8,11 @@ ghost use Rattle.fj_store.specs.Variables.{is_at};
 ghost use Rattle.fj_transfer.specs.Moving as moving;
 
 use crate::assigning::elements;
-use crate::lost::Lost;
 use fj_list::GroupMember;
 use fj_statement::{Control, Variable, Variables};
 use fj_transfer::{Layout, Members};
 use fj_value::{Cell, Place};
-use std::alloc::Global;
+use std::alloc::{AllocError, Global};
 
 fn same_place(a: Place, b: Place) -> bool
     ensures { result ≡ same_place a b }
@@ -23,7 +22,8 @@ fn same_place(a: Place, b: Place) -> bool
 
 /// The number of the cell of a place; where there is none, the number of cells.
 fn position(cells: &[Cell], place: Place) -> usize
-    ensures { result ≡ position_or_len (is_at place) cells.now }
+    ensures at { result ≡ position_or_len (is_at place) cells.now }
+    ensures low { result ≤ length cells.now }
 {
     for at in 0..cells.len() {
         if same_place(place, cells[at].place) {
@@ -33,15 +33,12 @@ fn position(cells: &[Cell], place: Place) -> usize
     cells.len()
 }
 
-/// A variable of a group. `Unfit`: there are too many cells.
-fn member_of(cells: &[Cell], var: u32, variable: &Variable) -> Result<GroupMember, Lost>
-    ensures member { IfOk result (λ member. member ≡ member_of cells.now var variable.now) }
-    ensures own { result ≡ Err Lost.Sink → ⊥ }
+/// A variable of a group.
+fn member_of(cells: &[Cell], var: u32, variable: &Variable) -> Result<GroupMember, AllocError>
+    requires { length cells.now < 2 ^ 32 }
+    ensures { IfOk result (λ member. member ≡ member_of cells.now var variable.now) }
 {
     let first = position(cells, Place { var, index: 1 });
-    if first > 4294967295 {
-        return Err(Lost::Unfit);
-    }
     let name = variable.name.try_clone()?;
     Ok(GroupMember {
         name,
@@ -58,9 +55,9 @@ fn members_of(
     variables: &Variables,
     cells: &[Cell],
     vars: &[u32],
-) -> Result<Members, Lost>
-    ensures members { IfOk result (λ members. members ≡ members_of variables.now cells.now vars.now) }
-    ensures own { result ≡ Err Lost.Sink → ⊥ }
+) -> Result<Members, AllocError>
+    requires { length cells.now < 2 ^ 32 }
+    ensures { IfOk result (λ members. members ≡ members_of variables.now cells.now vars.now) }
 {
     let mut members = Members::new(alloc);
     for var in vars {
@@ -77,9 +74,9 @@ pub(crate) fn layout_for(
     variables: &Variables,
     cells: &[Cell],
     control: &Control,
-) -> Result<Layout, Lost>
-    ensures layout { IfOk result (λ layout. layout ≡ layout_of variables.now cells.now control.now) }
-    ensures own { result ≡ Err Lost.Sink → ⊥ }
+) -> Result<Layout, AllocError>
+    requires { length cells.now < 2 ^ 32 }
+    ensures { IfOk result (λ layout. layout ≡ layout_of variables.now cells.now control.now) }
 {
     match control {
         Control::Unformatted => Ok(Layout::Unformatted),
@@ -97,7 +94,7 @@ pub(crate) fn layout_for(
 }
 
 fn are_within(cells: usize, members: &[GroupMember]) -> bool
-    ensures { IsTrue result → All (IsWithin cells) members.now }
+    ensures { IsTrue result ↔ All (IsWithin cells) members.now }
 {
     for member in members {
         if member.first as u64 + member.count as u64 > cells as u64 {
@@ -109,7 +106,7 @@ fn are_within(cells: usize, members: &[GroupMember]) -> bool
 
 /// Whether the variables of a group have their cells among so many.
 pub(crate) fn is_grouped(cells: usize, layout: &Layout) -> bool
-    ensures { IsTrue result → All (IsWithin cells) (moving.members_of layout.now) }
+    ensures { IsTrue result ↔ All (IsWithin cells) (moving.members_of layout.now) }
 {
     match layout {
         Layout::Group(_, members) => are_within(cells, members.as_slice()),

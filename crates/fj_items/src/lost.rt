@@ -26,13 +26,14 @@ impl From<AllocError> for Lost {
 }
 
 impl Lost {
-    ghost use Rattle.std.specs.Prelude.{◌≡◌, ◌↔◌};
-    ghost use Rattle.fj_items.specs.declared.lost.Lost.TheVariants.{Sink};
+    ghost use Rattle.std.specs.Prelude.{◌≡◌, ◌≢◌, ◌↔◌};
+    ghost use Rattle.fj_items.specs.declared.lost.Lost.TheVariants.{Sink, Disk, Unfit};
     ghost use Rattle.fj_outside.specs.declared.errors.Stop.TheVariants.{Failed};
 
     /// Of a sink that stopped.
     pub(crate) fn of_sink(stop: Stop) -> Lost
-        ensures { (result ≡ Sink) ↔ (stop ≡ Failed) }
+        ensures sink { (result ≡ Sink) ↔ (stop ≡ Failed) }
+        ensures causes { (result ≢ Disk) × (result ≢ Unfit) }
     {
         match stop {
             Stop::Failed => Lost::Sink,

@@ -1,9 +1,10 @@
 // Numbers that specifiers give and get.
-ghost use Rattle.std.specs.Prelude.{◌≡◌, OnOk, OnErr, is_some};
+ghost use Rattle.std.specs.Prelude.{◌≡◌, OnOk, OnErr, IsOk, IfSome, is_some};
 ghost use Rattle.std.specs.Option.{option_copied};
 ghost use Rattle.fj_plain.specs.Items.{integer_of, kind_of, number_for};
 ghost use Rattle.fj_plain.specs.Needs.{number_given};
 ghost use Rattle.fj_plain.specs.Transfers.{with_number};
+ghost use Rattle.fj_statement.specs.Sound.{IsIntegerPlace};
 ghost use Rattle.fj_store.specs.Storage.{values_of};
 ghost use Rattle.fj_value.specs.Kind.{integer_bits};
 ghost use Rattle.fj_items.specs.Kinds.{kinds_of};
@@ -77,6 +78,7 @@ pub fn set_number(
     ensures ok { OnOk result (values_of store.new ≡ with_number variables.now place n (values_of store.old)) }
     ensures err { OnErr result (store.new ≡ store.old) }
     ensures kinds { store.new.kinds ≡ store.old.kinds }
+    ensures fits { IfSome place (IsIntegerPlace variables.now) → IsOk result }
 {
     let Some(place) = place else {
         return Ok(());

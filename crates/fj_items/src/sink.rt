@@ -1,5 +1,5 @@
 // What a statement hands to a sink.
-ghost use Rattle.std.specs.Prelude.{◌≡◌, ◌≤◌, ◌++◌, ◌↔◌, Err, OnOk};
+ghost use Rattle.std.specs.Prelude.{◌≡◌, ◌≢◌, ◌≤◌, ◌++◌, ◌↔◌, Err, OnOk};
 ghost use Rattle.fj_outside.specs.Faults.{Rose};
 ghost use Rattle.fj_items.specs.Handing.{TakesFront};
 
@@ -13,6 +13,7 @@ pub fn put_all<W: Sink>(out: &mut W, piece: &[u8]) -> Result<(), Lost>
     ensures front { W.tells out.old → TakesFront (W.taken out.old) (W.taken out.new) piece.now }
     ensures later { W.count out.old ≤ W.count out.new }
     ensures failed { result ≡ Err Lost.Sink → Rose (W.count out.old) (W.count out.new) }
+    ensures causes { (result ≢ Err Lost.Disk) × (result ≢ Err Lost.Unfit) }
 {
     let mut rest = piece;
     'handing: while !rest.is_empty() {

@@ -1,12 +1,14 @@
 // The output on unit `*`: its records go to a sink as they end.
-ghost use Rattle.std.specs.Prelude.{◌≡◌, ◌≤◌, ◌++◌, ◌||◌, [], ◌↔◌, not, false, Err, IfOk, OnOk, OnErr, All, length};
+ghost use Rattle.std.specs.Prelude.{◌≡◌, ◌≢◌, ◌≤◌, ◌++◌, ◌||◌, [], ◌↔◌, not, false, Err, IfOk, OnOk, OnErr, All, length};
 ghost use Rattle.fj_outside.specs.Faults.{Rose};
 ghost use Rattle.fj_store.specs.Storage.{values_of};
 ghost use Rattle.fj_namelist.specs.GroupText.{IsWithin};
-ghost use Rattle.fj_plain.specs.Transfers.{printed_to};
+ghost use Rattle.fj_plain.specs.Transfers.{printed_to, star_limit};
+ghost use Rattle.fj_statement.specs.Sound.{IsTransfer};
 ghost use Rattle.fj_transfer.specs.Moving.{members_of};
 ghost use Rattle.fj_transfer.specs.Transfer.{is_explicit};
 ghost use Rattle.fj_transfer.specs.Printing.{IsRecords, actions_by, control_of, printed_by};
+ghost use Rattle.fj_items.specs.Fitting.{FindsItems};
 ghost use Rattle.fj_items.specs.Handing.{open_record, ended_part, printed_on, IsPrinted, HandsOver, HandsFront, TakesFront};
 ghost use Rattle.fj_items.specs.Kinds.{kinds_of};
 
@@ -74,6 +76,7 @@ impl Output {
         ensures front { W.tells out.old → TakesFront (W.taken out.old) (W.taken out.new) (open_record self.old) }
         ensures later { W.count out.old ≤ W.count out.new }
         ensures failed { result ≡ Err Lost.Sink → Rose (W.count out.old) (W.count out.new) }
+        ensures causes { (result ≢ Err Lost.Disk) × (result ≢ Err Lost.Unfit) }
     {
         if !self.is_open {
             return Ok(());
@@ -98,6 +101,7 @@ impl Output {
         ensures front { W.tells out.old → TakesFront (W.taken out.old) (W.taken out.new) (ended_part self.old count) }
         ensures later { W.count out.old ≤ W.count out.new }
         ensures failed { result ≡ Err Lost.Sink → Rose (W.count out.old) (W.count out.new) }
+        ensures causes { (result ≢ Err Lost.Disk) × (result ≢ Err Lost.Unfit) }
     {
         let end = self.open.len() - count;
         let rest = Text::from_bytes(alloc, &self.open.bytes()[end..])?;
@@ -138,6 +142,8 @@ impl Output {
             (printed_to (advance || not (is_explicit layout.now)) self.old (printed_by 65536 self.old.begun (actions_by layout.now (control_of layout.now) modes advance moved.now))).0) }
         ensures later { W.count out.old ≤ W.count out.new }
         ensures failed { result ≡ Err Lost.Sink → Rose (W.count out.old) (W.count out.new) }
+        ensures fits { self.old.begun ≤ 65536 → result ≢ Err Lost.Unfit }
+        ensures disk { result ≢ Err Lost.Disk }
     {
         let begun = self.open.len();
         if begun > STAR_LIMIT as usize {
@@ -197,6 +203,9 @@ pub fn write_star<W: Sink>(
         (printed_on variables.now (values_of store.old) t.now output.old).0) }
     ensures later { W.count out.old ≤ W.count out.new }
     ensures failed { result ≡ Err Lost.Sink → Rose (W.count out.old) (W.count out.new) }
+    ensures limit { output.old.begun ≤ star_limit → OnOk result (output.new.begun ≤ star_limit) }
+    ensures fits { IsTransfer variables.now t.now → FindsItems variables.now store.old t.now → output.old.begun ≤ star_limit → result ≢ Err Lost.Unfit }
+    ensures disk { result ≢ Err Lost.Disk }
 {
     output.open_is_part();
     if t.asynchronous.unwrap_or(false) {

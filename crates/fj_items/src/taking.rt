@@ -1,16 +1,23 @@
 // A READ or WRITE as a job: its items are moved or copied out of the variables.
-ghost use Rattle.std.specs.Prelude.{◌≡◌, ◌∷◌, [], map, true, None, unwrap_or, option_map, IsSome, IfSome, IfOk, OnOk};
+ghost use Rattle.std.specs.Prelude.{◌≡◌, ◌≢◌, ◌∷◌, [], length, map, true, false, None, unwrap_or, option_map, List, All, Err, IsSome, IfSome, IfOk, OnOk};
 ghost use Rattle.fj_bay.specs.Jobs.{items_for};
 ghost use Rattle.fj_bay.specs.Plain.{moving_of as job_of};
+ghost use Rattle.fj_namelist.specs.GroupText.{IsWithin};
 ghost use Rattle.fj_desk.specs.Acting.{moving_of};
 ghost use Rattle.fj_plain.specs.Items.{cell_at as plain_cell};
+ghost use Rattle.fj_plain.specs.Needs.{transfer_places};
 ghost use Rattle.fj_plain.specs.Statement.{control_by};
 ghost use Rattle.fj_plain.specs.Telling.{with_size};
 ghost use Rattle.fj_plain.specs.Transfers.{layout_of, moved_in, without_values};
+ghost use Rattle.fj_statement.specs.Sound.{IsTransfer};
 ghost use Rattle.fj_statement.specs.declared.statement.Statement.TheVariants as statement;
+ghost use Rattle.fj_store.specs.Places.{is_among};
 ghost use Rattle.fj_store.specs.Storage.{value_at, values_of};
 ghost use Rattle.fj_store.specs.Variables.{moved_of, undefined_at};
 ghost use Rattle.fj_store.specs.declared.piece.Piece.TheVariants.{Places};
+ghost use Rattle.fj_transfer.specs.Moving.{HasValues, members_of};
+ghost use Rattle.fj_items.specs.Fitting.{FindsItems, Finds};
+ghost use Rattle.fj_items.specs.Gathering.{IsNumbered};
 ghost use Rattle.fj_items.specs.Kinds.{kinds_of};
 
 use crate::copying::{copied, size_copied};
@@ -18,7 +25,7 @@ use crate::gathering::{gather, is_home};
 use crate::laying::{is_grouped, layout_for};
 use crate::lost::Lost;
 use crate::number::number_given;
-use crate::sound::is_sound;
+use crate::sound::has_values;
 use crate::star::edit_of;
 use fj_list::Moved;
 use fj_statement::{Transfer, Variables};
@@ -30,7 +37,9 @@ use std::collections::VecDeque;
 
 /// Pieces that are runs alone. `Unfit`: one is a literal.
 fn runs_of(alloc: Global, mut pieces: VecDeque<Piece>) -> Result<Items<Run>, Lost>
-    ensures { IfOk result (λ runs. pieces.items ≡ map Places runs) }
+    ensures runs { IfOk result (λ runs. pieces.items ≡ map Places runs) }
+    ensures fits { (runs : List Run) → pieces.items ≡ map Places runs → result ≢ Err Lost.Unfit }
+    ensures causes { (result ≢ Err Lost.Disk) × (result ≢ Err Lost.Sink) }
 {
     let mut runs = Items::new(alloc);
     'taking: while let Some(piece) = pieces.pop_front() {
@@ -52,8 +61,12 @@ fn taken(
     requires { store.old.kinds ≡ kinds_of variables.now }
     ensures moved { IfOk result (λ moved. moved ≡ moved_in variables.now (values_of store.old) t.now) }
     ensures vars { OnOk result (values_of store.new ≡ undefined_at (moved_in variables.now (values_of store.old) t.now).cells (values_of store.old)) }
+    ensures numbered { IfOk result IsNumbered }
     ensures others { OnOk result ((place : Place) → IsSome (value_at store.new place) → value_at store.new place ≡ value_at store.old place) }
+    ensures stay { OnOk result ((place : Place) → is_among (transfer_places variables.now t.now) place ≡ false → value_at store.new place ≡ value_at store.old place) }
     ensures kinds { store.new.kinds ≡ store.old.kinds }
+    ensures fits { IsTransfer variables.now t.now → t.now.input ≡ true → FindsItems variables.now store.old t.now → result ≢ Err Lost.Unfit }
+    ensures causes { (result ≢ Err Lost.Disk) × (result ≢ Err Lost.Sink) }
 {
     let gathered = gather(alloc, variables, store, t)?;
     let runs = runs_of(alloc, gathered.pieces)?;
@@ -73,6 +86,8 @@ fn size_taken(
     ensures vars { OnOk result (values_of store.new ≡ with_size variables.now size None (values_of store.old)) }
     ensures home { OnOk result (IfSome size (λ place. IsSome (value_at store.old place))) }
     ensures kinds { store.new.kinds ≡ store.old.kinds }
+    ensures fits { IfSome size (λ place. IsSome (value_at store.old place)) → result ≢ Err Lost.Unfit }
+    ensures causes { (result ≢ Err Lost.Disk) × (result ≢ Err Lost.Sink) }
 {
     let Some(place) = size else {
         return Ok(None);
@@ -94,7 +109,8 @@ struct Parts {
     pos: Option<i64>,
 }
 
-/// The job of these parts. `Unfit`: there are too many items, or a value of an output is not of its kind.
+/// The job of these parts. `Unfit`: a variable of its group has no cells of its own, or an output has a value that is not of its
+/// kind.
 fn job_with(
     alloc: Global,
     variables: &Variables,
@@ -103,7 +119,8 @@ fn job_with(
     t: &Transfer,
     parts: Parts,
 ) -> Result<Moving, Lost>
-    ensures { IfOk result (λ job. job_of job ≡ record {
+    requires { IsNumbered parts.moved }
+    ensures job { IfOk result (λ job. job_of job ≡ record {
       stmt = line;
       tag = tag.0;
       spec = record {
@@ -119,12 +136,15 @@ fn job_with(
       size = parts.size;
       count = None;
     }) }
+    ensures fits { All (IsWithin (length parts.moved.cells)) (members_of (layout_of variables.now parts.moved.cells t.now.control)) → (t.now.input ≡ false → HasValues parts.moved)
+        → result ≢ Err Lost.Unfit }
+    ensures causes { (result ≢ Err Lost.Disk) × (result ≢ Err Lost.Sink) }
 {
     let layout = layout_for(alloc, variables, parts.moved.cells.as_slice(), &t.control)?;
     if !is_grouped(parts.moved.cells.len(), &layout) {
         return Err(Lost::Unfit);
     }
-    if !is_sound(t.input, &parts.moved) {
+    if !t.input && !has_values(parts.moved.cells.as_slice()) {
         return Err(Lost::Unfit);
     }
     let spec = TransferSpec {
@@ -162,6 +182,8 @@ pub fn moving(
     ensures vars { OnOk result (values_of store.new
         ≡ without_values variables.now t.now (moved_in variables.now (values_of store.old) t.now) (values_of store.old)) }
     ensures kinds { store.new.kinds ≡ store.old.kinds }
+    ensures fits { IsTransfer variables.now t.now → Finds variables.now store.old t.now → result ≢ Err Lost.Unfit }
+    ensures causes { (result ≢ Err Lost.Disk) × (result ≢ Err Lost.Sink) }
 {
     let rec = number_given(store, t.rec.as_ref());
     let pos = number_given(store, t.pos.as_ref());

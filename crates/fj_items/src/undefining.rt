@@ -1,10 +1,11 @@
 // What a READ that is not carried out leaves.
-ghost use Rattle.std.specs.Prelude.{◌≡◌, ◌∷◌, ◌++◌, ℕ, map, None, List, OnOk};
+ghost use Rattle.std.specs.Prelude.{◌≡◌, ◌∷◌, ◌++◌, ℕ, map, None, List, All, IsOk, OnOk};
 ghost use Rattle.std.specs.List.{flat_map};
 ghost use Rattle.fj_plain.specs.Items.{cell_at, cells_from, cells_of, places_of};
 ghost use Rattle.fj_plain.specs.Needs.{group_places};
 ghost use Rattle.fj_plain.specs.Telling.{with_size};
 ghost use Rattle.fj_plain.specs.Transfers.{moved_in, without_values};
+ghost use Rattle.fj_statement.specs.Sound.{IsAllowed, IsVariable};
 ghost use Rattle.fj_statement.specs.declared.statement.Operand.{Operand};
 ghost use Rattle.fj_store.specs.Storage.{values_of};
 ghost use Rattle.fj_store.specs.Variables.{Variables as Values, with_value, undefined_at};
@@ -43,6 +44,7 @@ fn undefine_item(variables: &Variables, store: &mut Store, item: &Operand) -> Re
     ensures vars { (values : Values) (n : ℕ) (rest : List Operand) (more : List Cell) → OnOk result (undefined_at (cells_from variables.now values n rest ++ more) (values_of store.new)
         ≡ undefined_at (cells_from variables.now values n (item.now ∷ rest) ++ more) (values_of store.old)) }
     ensures kinds { store.new.kinds ≡ store.old.kinds }
+    ensures fits { IsVariable item.now → IsOk result }
 {
     match item {
         Operand::Literal { .. } => Err(Lost::Unfit),
@@ -62,6 +64,7 @@ fn undefine_items(variables: &Variables, store: &mut Store, items: &[Operand]) -
     ensures vars { (values : Values) (more : List Cell) → OnOk result (undefined_at more (values_of store.new)
         ≡ undefined_at (cells_of variables.now values items.now ++ more) (values_of store.old)) }
     ensures kinds { store.new.kinds ≡ store.old.kinds }
+    ensures fits { All IsVariable items.now → IsOk result }
 {
     for item in items {
         undefine_item(variables, store, item)?;
@@ -110,6 +113,7 @@ pub fn undefine(variables: &Variables, store: &mut Store, t: &Transfer) -> Resul
     ensures vars { OnOk result (values_of store.new
         ≡ without_values variables.now t.now (moved_in variables.now (values_of store.old) t.now) (values_of store.old)) }
     ensures kinds { store.new.kinds ≡ store.old.kinds }
+    ensures fits { IsAllowed t.now → IsOk result }
 {
     if !t.input {
         return Ok(());

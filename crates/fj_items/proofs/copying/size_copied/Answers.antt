@@ -6,7 +6,7 @@ use Rattle.fj_items.proofs.copying.size_copied.Goals as goal
 
 pub copy_of-requires-clause-home : goal.copy_of-requires-clause-home
 copy_of-requires-clause-home c =
-    let here : IsSome (value_at c.args.store.now c.in-Some.place) = c.if-not-is_home.ensures (search rules) in
+    let here : IsSome (value_at c.args.store.now c.in-Some.place) = c.if-not-is_home.ensures.0 (search rules) in
     let is : c.push_back.new.self.items ≡ Places c.of_place-run.result ∷ [] = pushed_alone c.of_place-run.result c.new-pieces.result.items c.push_back.new.self.items c.new-pieces.ensures.items c.in-Ok.ensures.items in
     among_home c.args.store.now c.of_place-run.result c.in-Some.place c.push_back.new.self.items c.of_place-run.ensures is here
 

@@ -1,4 +1,4 @@
-use Rattle.std.proofs.Common.{◌<◌, ◌≤◌, length, arith}
+use Rattle.std.proofs.Common.{◌<◌, ◌≤◌, length, refl, arith}
 use Rattle.fj_namelist.specs.GroupText.{IsWithin}
 use Rattle.fj_items.proofs.Gathers.{all_more, all_taken}
 use Rattle.fj_items.proofs.laying.are_within.Goals as goal
@@ -10,6 +10,6 @@ loop-member-preserved c =
     all_more (IsWithin c.args.cells) c.args.members.now c.loop-member.member-index c.member-item.result low c.member-item.is c.loop-member.invariant within
 
 pub returns : goal.returns
-returns c = λ _.
+returns c =
     let past : length c.args.members.now ≤ c.loop-member.member-index = omega arith in
-    all_taken (IsWithin c.args.cells) c.args.members.now c.loop-member.member-index past c.loop-member.invariant
+    (λ _. all_taken (IsWithin c.args.cells) c.args.members.now c.loop-member.member-index past c.loop-member.invariant, λ _. refl)

@@ -1,4 +1,5 @@
-use Rattle.std.proofs.Common.{◌≡◌, ◌∙◌, true, ap}
+use Rattle.std.proofs.Common.{◌≡◌, ◌∙◌, true, sym, ap, arith}
+use Rattle.std.proofs.lemmas.Bool.{false≢true}
 use Rattle.std.specs.Prelude.{unwrap_or}
 use Rattle.fj_bay.specs.Plain.{moving_of as job_of}
 use Rattle.fj_bay.specs.Jobs.{Moving}
@@ -10,6 +11,7 @@ use Rattle.fj_statement.specs.declared.statement.Transfer.{Transfer as Stated}
 use Rattle.fj_statement.specs.declared.statement.Statement.TheVariants.{Transfer}
 use Rattle.fj_store.specs.Storage.{Storage, values_of}
 use Rattle.fj_transfer.specs.declared.transfer.Transfer.{Transfer as Job}
+use Rattle.fj_items.proofs.Finds.{grouped, has_values}
 use Rattle.fj_items.proofs.Takes.{if_more, job_parts, moving_is, input_size}
 use Rattle.fj_items.proofs.taking.moving.Goals as goal
 
@@ -24,4 +26,14 @@ returns-then-t-clause-job c =
     moving_is c.args.variables.now (values_of s) c.args.line c.args.tag.0 t c.in_ok-moved.moved c.in_ok-size.size c.number_given-rec.result c.number_given-pos.result c.in_ok-moved.ensures.moved
     (input_size c.args.variables.now s c.taken.new.store t c.in_ok-size.size c.in_ok-size.ensures.moved c.in_ok-size.ensures.home c.in_ok-moved.ensures.others)
     (c.number_given-rec.ensures ∙ ap (number_given (values_of s)) c.as_ref.ensures.value) (c.number_given-pos.ensures ∙ ap (number_given (values_of s)) c.as_ref-2.ensures.value) in
-    if_more c.job_with.result (λ (job : Job). job_of job ≡ parts) (λ (job : Job). job_of job ≡ due) (λ job e. e ∙ same) c.job_with.ensures
+    if_more c.job_with.result (λ (job : Job). job_of job ≡ parts) (λ (job : Job). job_of job ≡ due) (λ job e. e ∙ same) c.job_with.ensures.job
+
+pub returns-then-t-clause-fits : goal.returns-then-t-clause-fits
+returns-then-t-clause-fits c = λ is finds.
+    let reads : c.args.t.now.input ≡ true = grind arith in
+    c.job_with.ensures.fits (grouped c.args.variables.now (values_of c.args.store.now) c.args.t.now c.in_ok-moved.moved is c.in_ok-moved.ensures.moved) (λ writes. absurd (false≢true (sym writes ∙ reads)))
+
+pub returns-clause-fits : goal.returns-clause-fits
+returns-clause-fits c = λ is finds.
+    c.job_with-2.ensures.fits (grouped c.args.variables.now (values_of c.args.store.now) c.args.t.now c.in_ok-moved-2.moved is c.in_ok-moved-2.ensures.moved)
+    (has_values c.args.variables.now c.args.store.now c.args.t.now c.in_ok-moved-2.moved is finds c.in_ok-moved-2.ensures.moved)

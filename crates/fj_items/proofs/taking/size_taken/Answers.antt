@@ -6,7 +6,7 @@ use Rattle.fj_items.proofs.taking.size_taken.Goals as goal
 
 pub take_out-requires-clause-home : goal.take_out-requires-clause-home
 take_out-requires-clause-home c =
-    let here : IsSome (value_at c.args.store.now c.in-Some.place) = c.if-not-is_home.ensures (search rules) in
+    let here : IsSome (value_at c.args.store.now c.in-Some.place) = c.if-not-is_home.ensures.0 (search rules) in
     one_home c.args.store.now c.of_place-run.result c.in-Some.place c.of_place-run.ensures here
 
 pub take_out-requires-clause-few : goal.take_out-requires-clause-few
@@ -23,5 +23,5 @@ returns-clause-vars c =
 
 pub returns-clause-home : goal.returns-clause-home
 returns-clause-home c =
-    let here : IsSome (value_at c.args.store.now c.in-Some.place) = c.if-not-is_home.ensures (search rules) in
+    let here : IsSome (value_at c.args.store.now c.in-Some.place) = c.if-not-is_home.ensures.0 (search rules) in
     size_home c.args.store.now c.args.size c.in-Some.place c.in-Some.is here
