@@ -1,143 +1,32 @@
 -- What is given fits.
-use Rattle.std.proofs.Common.{◌≡◌, ℕ, zero, suc, ◌+◌, ◌<◌, ◌≤◌, ◌^◌, eqb, cond, Bool, true, false, is_some, List, [], ◌∷◌, ◌++◌, length, map, take, replicate, Option, Some, None, IfSome, All, slice_get, sum_by, refl, sym, ap, subst, ◌∙◌, arith}
+use Rattle.std.proofs.Common.{◌≡◌, ℕ, ◌+◌, ◌<◌, ◌≤◌, ◌^◌, eqb, cond, false, List, [], ◌∷◌, ◌++◌, length, map, All, slice_get, sum_by, refl, sym, ap, subst, ◌∙◌, arith}
 use Rattle.std.specs.Option.{option_map_or}
 use Rattle.std.specs.List.{flat_map}
-use Rattle.std.proofs.lemmas.Bool.{false≢true}
 use Rattle.std.proofs.lemmas.Bool.Decides.{nat_tests}
 use Rattle.std.proofs.lemmas.List.Elements.{All-nil, All-cons, All-head, All-tail, All-append}
 use Rattle.std.proofs.lemmas.List.Sums.{sum_by-cons}
-use Rattle.fj_value.specs.Kind.{IsOfKind, integer_bits, text_length}
+use Rattle.fj_value.specs.Kind.{IsOfKind}
 use Rattle.fj_value.specs.declared.kind.Kind.{Kind}
-use Rattle.fj_value.specs.declared.kind.Kind.TheVariants.{Int4, Int8, Logical, Chars}
 use Rattle.fj_value.specs.declared.place.Place.{Place}
 use Rattle.fj_value.specs.declared.value.Cell.{Cell}
-use Rattle.fj_value.specs.declared.value.Value.{Value}
-use Rattle.fj_value.specs.declared.value.Value.TheVariants as value
-use Rattle.fj_value.proofs.DigitLaws.{fits_bits-true}
-use Rattle.fj_statement.specs.Sound.{IsPlace, IsArray, IsOperand, IsIntegerPlace, Takes, TakesLiteral, Fits as GoesTo, IsAssignment, AreItems, IsList, HasNoItems, IsTransfer}
+use Rattle.fj_statement.specs.Sound.{IsArray, IsOperand, AreItems, IsList, HasNoItems, IsTransfer}
 use Rattle.fj_statement.specs.declared.deck.Variable.{Variable}
 use Rattle.fj_statement.specs.declared.statement.Operand.{Operand}
 use Rattle.fj_statement.specs.declared.statement.Operand.TheVariants as operand
 use Rattle.fj_statement.specs.declared.statement.Control.{Control}
 use Rattle.fj_statement.specs.declared.statement.Control.TheVariants as control
 use Rattle.fj_statement.specs.declared.statement.Transfer.{Transfer}
-use Rattle.fj_store.specs.Kinds.{is_of_kind}
 use Rattle.fj_store.specs.Variables.{Variables, value_at}
 use Rattle.fj_store.proofs.PlaceLemmas.{length-counted_from}
 use Rattle.fj_store.specs.Variables.{moved_of}
 use Rattle.fj_items.proofs.Cells.{all_moved}
 use Rattle.fj_plain.specs.State.{elements}
-use Rattle.fj_plain.specs.Items.{kind_of, places_of, operand_places, value_of, cell_at, cells_from}
+use Rattle.fj_plain.specs.Items.{kind_of, places_of, operand_places, cell_at, cells_from}
 use Rattle.fj_plain.specs.Needs.{group_places, transfer_places}
 use Rattle.fj_store.specs.Variables.{moved_of}
 use Rattle.fj_items.proofs.Cells.{all_moved}
-use Rattle.fj_plain.specs.Statement.{converted}
-use Rattle.fj_items.specs.Fitting.{HaveKinds, AreDefined}
+use Rattle.fj_items.specs.Fitting.{AreDefined}
 use Rattle.fj_items.specs.Gathering.{count_of}
-use Rattle.fj_items.specs.Kinds.{Fits, IsIntegerKind}
-
--- ---- kinds
-
-pub place_kind : (vs : List Variable) (p : Place) (kind : Kind) → IsPlace vs p kind → kind_of vs p.var ≡ kind
-place_kind vs p kind h = ap (λ o. option_map_or (λ (v : Variable). v.kind) o Logical) h.is ∙ h.kind_is
-
-array_kind : (vs : List Variable) (var : ℕ) (kind : Kind) (count : ℕ) → IsArray vs var kind count → kind_of vs var ≡ kind
-array_kind vs var kind count h = ap (λ o. option_map_or (λ (v : Variable). v.kind) o Logical) h.is ∙ h.kind_is
-
-pub integer_place : (vs : List Variable) (p : Place) → IsIntegerPlace vs p → IsIntegerKind (kind_of vs p.var)
-integer_place vs p h = let kind : Kind = h.0 in sym h.2 ∙ sym (ap (λ k. is_some (integer_bits k)) (place_kind vs p kind h.1))
-
-pub integer_size : (vs : List Variable) (size : Option Place) → IfSome size (IsIntegerPlace vs) → IfSome size (λ p. IsIntegerKind (kind_of vs p.var))
-integer_size vs None h = tt
-integer_size vs (Some p) h = integer_place vs p h
-
--- ---- values that an assignment gives
-
-true_is : (kind : Kind) (v : Value) → is_of_kind kind v ≡ true → Fits kind v
-true_is kind v e = ap (λ b. cond b v value.Undefined) e
-
-pub of_kind_fits : (kind : Kind) (v : Value) → IsOfKind kind v → Fits kind v
-of_kind_fits Int4 (value.Int n) h = true_is Int4 (value.Int n) (fits_bits-true 32 n h)
-of_kind_fits Int8 (value.Int n) h = refl
-of_kind_fits Logical (value.Log b) h = refl
-of_kind_fits (Chars n) (value.Chars text) h = true_is (Chars n) (value.Chars text) (grind (arith, nat_tests, h))
-of_kind_fits Int4 value.Undefined h = absurd h
-of_kind_fits Int4 (value.Log b) h = absurd h
-of_kind_fits Int4 (value.Chars text) h = absurd h
-of_kind_fits Int8 value.Undefined h = absurd h
-of_kind_fits Int8 (value.Log b) h = absurd h
-of_kind_fits Int8 (value.Chars text) h = absurd h
-of_kind_fits Logical value.Undefined h = absurd h
-of_kind_fits Logical (value.Int n) h = absurd h
-of_kind_fits Logical (value.Chars text) h = absurd h
-of_kind_fits (Chars n) value.Undefined h = absurd h
-of_kind_fits (Chars n) (value.Int i) h = absurd h
-of_kind_fits (Chars n) (value.Log b) h = absurd h
-
-length-cut : (n m : ℕ) (cs : List ℕ) → n ≤ m → length (take n (cs ++ replicate m 32)) ≡ n
-length-cut zero m cs low = refl
-length-cut (suc n) zero [] low = absurd (omega arith)
-length-cut (suc n) (suc m) [] low = ap suc (length-cut n m [] (omega arith))
-length-cut (suc n) m (c ∷ cs) low = ap suc (length-cut n m cs (omega arith))
-
--- characters, cut or filled up
-text_fits : (n m : ℕ) (v : Value) → Fits (Chars m) v → Fits (Chars n) (converted (Chars n) v)
-text_fits n m value.Undefined h = refl
-text_fits n m (value.Int i) h = h
-text_fits n m (value.Log b) h = h
-text_fits n m (value.Chars cs) h =
-    let long : length (take n (cs ++ replicate n 32)) ≡ n = length-cut n n cs (omega arith) in
-    true_is (Chars n) (value.Chars (take n (cs ++ replicate n 32))) (grind (arith, nat_tests, long))
-
-is_text : Kind → Bool
-is_text kind = is_some (text_length kind)
-
-takes_fit : (to from : Kind) (v : Value) → Takes to from → Fits from v → Fits to (converted to v)
-takes_fit Int4 from v t h = subst (λ k. Fits k v) (sym t) h
-takes_fit Int8 from v t h = subst (λ k. Fits k v) (sym t) h
-takes_fit Logical from v t h = subst (λ k. Fits k v) (sym t) h
-takes_fit (Chars n) (Chars m) v t h = text_fits n m v h
-takes_fit (Chars n) Int4 v t h = absurd (false≢true (sym (ap (λ k. is_some (text_length k)) t)))
-takes_fit (Chars n) Int8 v t h = absurd (false≢true (sym (ap (λ k. is_some (text_length k)) t)))
-takes_fit (Chars n) Logical v t h = absurd (false≢true (sym (ap (λ k. is_some (text_length k)) t)))
-
-wide_fits : (v : Value) → Fits Int4 v → Fits Int8 v
-wide_fits value.Undefined h = refl
-wide_fits (value.Int n) h = refl
-wide_fits (value.Log b) h = h
-wide_fits (value.Chars cs) h = h
-
-literal_fits : (to from : Kind) (v : Value) → TakesLiteral to from → Fits from v → Fits to (converted to v)
-literal_fits Int8 Int4 v t h = wide_fits v h
-literal_fits Int8 Int8 v t h = h
-literal_fits Int8 Logical v t h = takes_fit Int8 Logical v t h
-literal_fits Int8 (Chars m) v t h = takes_fit Int8 (Chars m) v t h
-literal_fits Int4 from v t h = takes_fit Int4 from v t h
-literal_fits Logical from v t h = takes_fit Logical from v t h
-literal_fits (Chars n) from v t h = takes_fit (Chars n) from v t h
-
-value_fits : (vs : List Variable) (vars : Variables) (to from : Operand) (to_kind from_kind : Kind) (count : ℕ) → HaveKinds vs vars → IsOperand vs from from_kind count → GoesTo from to from_kind to_kind
-    → Fits to_kind (converted to_kind (value_of vars from))
-value_fits vs vars to (operand.Literal k v) to_kind from_kind count kinds is goes = literal_fits to_kind from_kind v goes (subst (λ x. Fits x v) is.0 (of_kind_fits k v is.1))
-value_fits vs vars (operand.One q) (operand.One p) to_kind from_kind count kinds is goes =
-    takes_fit to_kind from_kind (value_at vars p) goes (subst (λ x. Fits x (value_at vars p)) (place_kind vs p from_kind is.0) (kinds p))
-value_fits vs vars (operand.Literal k v) (operand.One p) to_kind from_kind count kinds is goes = absurd goes
-value_fits vs vars (operand.Whole var) (operand.One p) to_kind from_kind count kinds is goes = absurd goes
-value_fits vs vars to (operand.Whole var) to_kind from_kind count kinds is goes = absurd goes
-
-pub place_assigned : (vs : List Variable) (vars : Variables) (to from : Operand) (p : Place) (v : Value) → to ≡ operand.One p → v ≡ value_of vars from → IsAssignment vs to from → HaveKinds vs vars
-    → Fits (kind_of vs p.var) (converted (kind_of vs p.var) v)
-place_assigned vs vars to from p v is value_is h kinds =
-    let F : Kind → Value → Type 0 = λ k x. Fits k (converted k x) in
-    let there : IsPlace vs p h.to_kind = (subst (λ o. IsOperand vs o h.to_kind h.to_count) is h.to_is).0 in
-    subst (λ k. F k v) (sym (place_kind vs p h.to_kind there)) (subst (F h.to_kind) (sym value_is) (value_fits vs vars to from h.to_kind h.from_kind h.from_count kinds h.from_is h.fits))
-
-pub array_assigned : (vs : List Variable) (vars : Variables) (to from : Operand) (var : ℕ) (v : Value) → to ≡ operand.Whole var → v ≡ value_of vars from → IsAssignment vs to from → HaveKinds vs vars
-    → Fits (kind_of vs var) (converted (kind_of vs var) v)
-array_assigned vs vars to from var v is value_is h kinds =
-    let F : Kind → Value → Type 0 = λ k x. Fits k (converted k x) in
-    let there : IsArray vs var h.to_kind h.to_count = subst (λ o. IsOperand vs o h.to_kind h.to_count) is h.to_is in
-    subst (λ k. F k v) (sym (array_kind vs var h.to_kind h.to_count there)) (subst (F h.to_kind) (sym value_is) (value_fits vs vars to from h.to_kind h.from_kind h.from_count kinds h.from_is h.fits))
 
 -- ---- how many items there are
 
