@@ -1,4 +1,4 @@
--- Where the disk failed in a statement's own call.
+-- Where the disk or the sink failed in a statement's own call.
 use Rattle.std.specs.Prelude.{◌≡◌, ◌≢◌, ℕ, List, Option, Some, None}
 use Rattle.fj_outside.specs.Faults.{Rose}
 use Rattle.fj_outside.specs.Holdings.{Holdings}
@@ -14,9 +14,12 @@ abbrev pub connected_next : Doing → Option (List ℕ)
 connected_next (awaits slot (attach (Some c)) core next) = Some c.name
 connected_next _ = None
 
--- The disk's own number rose where this was due. The units are those that were due; and so is each file, but for the one that was to
--- be connected.
-pub record FailsWhere (due : Doing) (core : Core) (held : Holdings) (before now : ℕ) : Type 0 where
-  pub rose : Rose before now
+-- The units are those that were due there; and so is each file, but for the one that was to be connected.
+pub record StandsWhere (due : Doing) (core : Core) (held : Holdings) (before now : ℕ) : Type 0 where
   pub units : core.units ≡ (core_at due).units
   pub files : (name : List ℕ) → connected_next due ≢ Some name → IsAsDue before now (files_of held name) ((core_at due).files name)
+
+-- There the disk's own number rose, too.
+pub record FailsWhere (due : Doing) (core : Core) (held : Holdings) (before now : ℕ) : Type 0 where
+  pub rose : Rose before now
+  pub stands : StandsWhere due core held before now

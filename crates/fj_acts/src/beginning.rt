@@ -11,7 +11,7 @@ ghost use Rattle.fj_items.specs.Kinds.{kinds_of};
 ghost use Rattle.fj_items.specs.Handing.{HandsOver, HandsFront};
 ghost use Rattle.fj_units.specs.Names.{AreInUse};
 ghost use Rattle.fj_acts.specs.State.{KeepsAnswers, core_of, core_at};
-ghost use Rattle.fj_acts.specs.Failing.{FailsWhere};
+ghost use Rattle.fj_acts.specs.Failing.{FailsWhere, StandsWhere};
 ghost use Rattle.fj_units.specs.Files.{files_of};
 ghost use Rattle.fj_acts.specs.Doing.{IsDoing};
 
@@ -73,6 +73,9 @@ fn own<W: Sink, D: Disk>(
         (core_of (files_of (D.held disk.new)) core.new) next
         (own (control_by lined.now.what) variables.now lined.now.line (core_of (files_of (D.held disk.old)) core.old) lined.now.what)) }
     ensures fault { D.tells disk.old → result ≡ Err Lost.Disk → FailsWhere
+        (own (control_by lined.now.what) variables.now lined.now.line (core_of (files_of (D.held disk.old)) core.old) lined.now.what)
+        core.new (D.held disk.new) (D.refusals disk.old) (D.refusals disk.new) }
+    ensures fault_out { D.tells disk.old → result ≡ Err Lost.Sink → StandsWhere
         (own (control_by lined.now.what) variables.now lined.now.line (core_of (files_of (D.held disk.old)) core.old) lined.now.what)
         core.new (D.held disk.new) (D.refusals disk.old) (D.refusals disk.new) }
     ensures own { D.tells disk.old → D.refusals disk.old ≤ D.refusals disk.new }
@@ -173,6 +176,9 @@ pub fn begin<W: Sink, D: Disk>(
         (core_of (files_of (D.held disk.new)) core.new) next
         (doing (control_by lined.now.what) variables.now lined.now.line (core_of (files_of (D.held disk.old)) core.old) lined.now.what condition)) }
     ensures fault { D.tells disk.old → result ≡ Err Lost.Disk → FailsWhere
+        (doing (control_by lined.now.what) variables.now lined.now.line (core_of (files_of (D.held disk.old)) core.old) lined.now.what condition)
+        core.new (D.held disk.new) (D.refusals disk.old) (D.refusals disk.new) }
+    ensures fault_out { D.tells disk.old → result ≡ Err Lost.Sink → StandsWhere
         (doing (control_by lined.now.what) variables.now lined.now.line (core_of (files_of (D.held disk.old)) core.old) lined.now.what condition)
         core.new (D.held disk.new) (D.refusals disk.old) (D.refusals disk.new) }
     ensures own { D.tells disk.old → D.refusals disk.old ≤ D.refusals disk.new }

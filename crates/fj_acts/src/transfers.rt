@@ -2,6 +2,7 @@
 ghost use Rattle.std.specs.Prelude.{◌≡◌, ◌≢◌, ◌↔◌, ◌≤◌, ◌++◌, [], ◌∷◌, ℕ, List, Some, IfOk, OnOk, OnErr, Err};
 ghost use Rattle.std.specs.Option.{option_map, option_copied};
 ghost use Rattle.fj_outside.specs.Faults.{Rose};
+ghost use Rattle.fj_outside.specs.Holdings.{Holdings};
 ghost use Rattle.fj_statement.specs.declared.statement.Statement.TheVariants as statement;
 ghost use Rattle.fj_store.specs.Storage.{values_of};
 ghost use Rattle.fj_bay.specs.Jobs.{Job as Task, move};
@@ -14,6 +15,8 @@ ghost use Rattle.fj_desk.specs.Acting.{refused, transferred, on_unit, transfer_a
 ghost use Rattle.fj_items.specs.Kinds.{kinds_of};
 ghost use Rattle.fj_items.specs.Handing.{HandsOver, HandsFront};
 ghost use Rattle.fj_pending.specs.Plain.{held};
+ghost use Rattle.fj_units.specs.Files.{files_of};
+ghost use Rattle.fj_acts.specs.Failing.{StandsWhere};
 ghost use Rattle.fj_acts.specs.Holding.{pending_under, unanswered};
 ghost use Rattle.fj_acts.specs.State.{KeepsAnswers, core_of, core_at};
 ghost use Rattle.fj_acts.specs.Doing.{IsDoing, entered, ends_behind};
@@ -142,6 +145,9 @@ pub(crate) fn read_or_write<F: FileStore, W: Sink>(
     ensures kinds { core.new.store.kinds ≡ core.old.store.kinds }
     ensures names { core.new.names ≡ core.old.names }
     ensures disk { result ≢ Err Lost.Disk }
+    ensures fault { result ≡ Err Lost.Sink → (h : Holdings) (before now : ℕ) → StandsWhere
+        (transfer_at (control_by (statement.Transfer t.now)) variables.now line (core_of (files_of h) core.old) t.now (moved_in variables.now (values_of core.old.store) t.now) t.now.unit)
+        core.new h before now }
     ensures telling { W.tells out.old ↔ W.tells out.new }
     ensures output { W.tells out.old → OnOk result (HandsOver (W.taken out.old) (W.taken out.new) core.old.output core.new.output) }
     ensures front { W.tells out.old → (files : Files) → OnErr result (HandsFront (W.taken out.old) (W.taken out.new) core.old.output

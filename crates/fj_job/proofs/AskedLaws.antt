@@ -32,7 +32,7 @@ module _ {R W D : Type 0} (tells_in : R → Type 0) (left : R → List ℕ) (cou
         (Rose (count_in source) (count_in source')) (Rose (count_out out) (count_out out')) (Rose (count disk) (count disk'))
     executed_told =
         let it = from_there in
-        told_for _ _ _ _ _ _ _ _ _ _ _ _ _ _ _ _ (sym asked.task_is ∙ same) (told_executed _ _ _ _ _ _ _ _ _ _ _ _ _ _ _ _ _ asked.is_deck it.replied it.fault it.front it.of_run it.cause)
+        told_for _ _ _ _ _ _ _ _ _ _ _ _ _ _ _ _ (sym asked.task_is ∙ same) (told_executed _ _ _ _ _ _ _ _ _ _ _ _ _ _ _ _ _ asked.is_deck it.replied it.fault it.written it.front it.of_run it.cause)
 
     pub executed_keeps : Keeps other status (tells_in source) (left source) source source' out out' disk disk'
     executed_keeps = keeps_for _ _ _ _ _ _ _ _ _ _ _ (sym asked.task_is ∙ same) (keeps_executed _ _ _ _ _ _ _ _ _ _ _ _ _ _ asked.is_deck done.of_run done.cause)

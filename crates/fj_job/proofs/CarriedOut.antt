@@ -12,19 +12,21 @@ use Rattle.fj_world.specs.Rack.{Rack}
 use Rattle.fj_items.specs.Handing.{whole_records}
 use Rattle.fj_items.specs.declared.lost.Lost.TheVariants.{Sink, Disk}
 use Rattle.fj_units.specs.Files.{files_of}
+use Rattle.fj_closing.specs.Losing.{may_tell}
 use Rattle.fj_runner.specs.Leaving.{Leaves}
 use Rattle.fj_runner.specs.declared.ending.Ending.{Ending as Code}
 use Rattle.fj_runner.specs.declared.machine.Machine.{Machine}
 use Rattle.fj_job.specs.Carrying.{HasNotBegun, HasRun}
 use Rattle.fj_report.specs.declared.status.Status.{Status}
-use Rattle.fj_report.specs.declared.status.Status.TheVariants.{DiskFault, Memory}
+use Rattle.fj_report.specs.declared.status.Status.TheVariants.{WriteFault, DiskFault, Memory}
 use Rattle.fj_job.specs.Answers.{IsAnswer, HasCause}
-use Rattle.fj_job.specs.Cutting.{IsCut, EndsHere, IsLeftAt, TookSome}
+use Rattle.fj_job.specs.Cut.{Carried as At}
+use Rattle.fj_job.specs.Cutting.{IsCut, EndsHere, IsLeftAt, IsLeftBegun, TookSome}
 use Rattle.fj_job.specs.Executing.{IsSettled, IsCarriedOut, IsConcluded, IsExecuted}
 use Rattle.fj_job.specs.declared.ending.Carried.{Carried}
 use Rattle.fj_job.proofs.Executed.{came, replies, all_taken, nothing_written}
-use Rattle.fj_job.proofs.Told.{fault_by, front_of_same, not_lost}
-use Rattle.fj_job.proofs.Reported.{at_statement, left_at, took_some, told_fault, report_of_fault, part_of_end, part_of_run, front_so_far}
+use Rattle.fj_job.proofs.Told.{fault_by, write_by, front_of_same, not_lost}
+use Rattle.fj_job.proofs.Reported.{at_statement, left_at, left_begun, left_end, took_some, told_fault, report_of_fault, part_of_end, part_of_run, write_of_begun, write_of_end, front_so_far}
 use Rattle.fj_job.proofs.Leading.{rose_later, rose_earlier, rose_of, on_left}
 use Rattle.fj_job.proofs.ToldLaws.{cause_more}
 
@@ -53,7 +55,14 @@ module _ {W D F : Type 0} (tells_out : W → Type 0) (taken : W → List ℕ) (c
             (leaves.output w (elim s [ inl e ↦ inl (settled.nothing e) | inr e ↦ settled.alone e ])) (ap (λ k. k.output) settled.core);
         at_fault = λ t e. subst (λ (d : Deck). IsLeftAt d (files_of (held disk)) it.left (held disk'') (refusals disk) (refusals disk'')) same
             (left_at meaning rack' (held disk') (held disk'') (refusals disk) (refusals disk') (refusals disk'') (tells_out out) (taken out) (taken out') m.deck (files_of (held disk)) m' it.left (there t)
-            (settled.alone e) settled.core settled.at (leaves.own t) (settled.own (leaves.telling.0 t)) (settled.due (leaves.telling.0 t) e) (settled.running (leaves.telling.0 t) e));
+            settled.at (leaves.own t) (settled.own (leaves.telling.0 t)) (settled.due (leaves.telling.0 t) (ap may_tell e)) (settled.running (leaves.telling.0 t) (ap may_tell e)) (settled.alone e) settled.core);
+        at_write = λ t e. subst (λ (d : Deck). IsLeftBegun d (files_of (held disk)) it.left (tells_out out) (taken out) (taken out') (held disk'') (refusals disk) (refusals disk'')) same
+            (left_begun meaning rack' (held disk') (held disk'') (refusals disk) (refusals disk') (refusals disk'') (tells_out out) (taken out) (taken out') m.deck (files_of (held disk)) m' it.left (there t)
+            settled.at (leaves.own t) (settled.own (leaves.telling.0 t)) (settled.due (leaves.telling.0 t) (ap may_tell e)) (settled.running (leaves.telling.0 t) (ap may_tell e)) (settled.sink e));
+        at_end = λ t s going ending ends. subst (λ (d : Deck). (x : IsLeftAt d (files_of (held disk)) it.left (held disk'') (refusals disk) (refusals disk'')) × (x.reach ≡ At)) same
+            (left_end m.deck (files_of (held disk)) m' it.left (held disk'') (refusals disk) (refusals disk'') (ended t (sym settled.over ∙ going) ending (sym settled.ending ∙ ends)) settled.at
+            (came meaning told bytes m.deck m.deck (files_of (held disk)) (files_of (held disk')) (files_of (held disk'')) m' rack' it.left
+            (ran t (sym settled.over ∙ going)) refl settled.core settled.ending (λ desks h seats. settled.files (leaves.telling.0 t) s desks h seats)));
         part = λ t w. subst (λ (d : Deck). TookSome d (files_of (held disk)) (taken out) (taken out')) same
             (took_some meaning rack' (held disk') (refusals disk) (refusals disk') (tells_out out) (taken out) (taken out') m.deck (files_of (held disk)) m' (there t) w);
         result_is = λ t s going. came meaning told bytes deck m.deck (files_of (held disk)) (files_of (held disk')) (files_of (held disk'')) m' rack' it.left
@@ -80,6 +89,12 @@ module _ {W D F : Type 0} (tells_out : W → Type 0) (taken : W → List ℕ) (c
     fault = λ t. fault_by status _ (λ line e. let told = h.fault line e in
         told_fault deck trace it (held disk).files (held disk').files (held disk') (refusals disk) (refusals disk') (taken out) (taken out') (taken out'') carried.deck_is line (tells_out out) (tells_out out') (Rose (count_out out') (count_out out''))
         (Rose (count_out out) (count_out out'')) carried.telling_out.0 (rose_earlier _ _ _ carried.later_out) (carried.at_fault t told.settled) told (λ w. carried.taken_is w (inr told.settled)));
+    written = λ t. write_by status _ (λ e. elim (h.written e) [
+      | inl (settled, still) ↦ write_of_begun deck trace it (held disk).files (held disk').files (held disk') (refusals disk) (refusals disk') (taken out) (taken out') (taken out'') carried.deck_is (tells_out out) (carried.at_write t settled) still
+      | inr f ↦ let x = carried.at_end t f.settled f.going f.ending f.ends in
+          write_of_end deck trace it (held disk).files (held disk').files (held disk') (refusals disk) (refusals disk') (taken out) (taken out') (taken out'') carried.deck_is (tells_out out) (tells_out out') carried.telling_out.0 x.0 x.1
+          (carried.result_is t f.settled f.going) f (λ w. carried.taken_is w (inl f.settled))
+    ]);
     front = λ t w. elim (h.front (carried.telling_out.0 w)) [
       | inl e ↦ inl (part_of_run deck trace (files_of (held disk)) (taken out) (taken out'') sound
           (λ lines. front_so_far deck (files_of (held disk)) (taken out) (taken out'') lines (subst (λ (x : List ℕ). TookSome deck (files_of (held disk)) (taken out) x) (sym e) (carried.part t w))))
@@ -106,6 +121,7 @@ module _ {W D F : Type 0} (tells_out : W → Type 0) (taken : W → List ℕ) (c
   conclude_err deck trace out disk out' disk' out'' e status sound carried h = record {
     replied = λ a t. absurd (subst (λ (s : Status). IsAnswer s) h.begun a);
     fault = λ t. fault_by status _ (λ line f. absurd (let z : Memory ≡ DiskFault line = sym h.begun ∙ f in cc));
+    written = λ t. write_by status _ (λ f. absurd (let z : Memory ≡ WriteFault = sym h.begun ∙ f in cc));
     front = λ t w. inl (part_of_run deck trace (files_of (held disk)) (taken out) (taken out'') sound
         (λ lines. front_of_same (taken out) (taken out'') _ (ap taken (h.silent ∙ carried.unbegun.1))));
     of_run = h.of_run;
@@ -133,4 +149,4 @@ pub unbegun : {W F X : Type 0} (tells_out : W → Type 0) (taken : W → List �
     → IsConcluded tells_out taken count_out trace carried out out Memory
 unbegun {F = F} {X = X} tells_out taken count_out trace carried error out e =
     subst (λ (r : Result (Carried F) X). IsConcluded tells_out taken count_out trace r out out Memory) (sym e)
-    (record { settled = λ a. tt; ended = λ a. tt; begun = refl; of_run = tt; unfit = tt; fault = tt; front = λ w. tt; silent = refl; cause = tt; telling_out = (λ t. t, λ t. t); later_out = omega arith })
+    (record { settled = λ a. tt; ended = λ a. tt; begun = refl; of_run = tt; unfit = tt; fault = tt; written = λ e. tt; front = λ w. tt; silent = refl; cause = tt; telling_out = (λ t. t, λ t. t); later_out = omega arith })

@@ -1,5 +1,5 @@
 -- What the machine and its sink are where a run was cut.
-use Rattle.std.proofs.Common.{◌≡◌, ◌≢◌, ◌⊎◌, ℕ, Bool, true, false, cond, List, [], ◌++◌, map, drop, Option, Some, None, unwrap_or, sym, ap, ◌∙◌, inl, inr, append_assoc, append-nil}
+use Rattle.std.proofs.Common.{◌≡◌, ◌≢◌, ◌⊎◌, ℕ, Bool, true, false, cond, List, [], ◌++◌, map, drop, Option, Some, None, unwrap_or, sym, ap, ◌∙◌, subst, inl, inr, append_assoc, append-nil}
 use Rattle.std.specs.Option.{option_map}
 use Rattle.fj_outside.specs.Holdings.{Holdings}
 use Rattle.fj_outside.specs.declared.outside.FileStore.{Ghosts}
@@ -9,24 +9,25 @@ use Rattle.fj_world.specs.Rack.{Rack}
 use Rattle.fj_bay.specs.Bay.{Bay}
 use Rattle.fj_bay.specs.Jobs.{Job, Answer}
 use Rattle.fj_plain.specs.State.{Files}
-use Rattle.fj_plain.specs.Statement.{stated}
+use Rattle.fj_plain.specs.Statement.{stated, step}
 use Rattle.fj_plain.specs.Telling.{tell_of}
 use Rattle.fj_desk.specs.Core.{Core}
 use Rattle.fj_desk.specs.Desking.{fresh}
 use Rattle.fj_turns.specs.Run.{Run, Stage}
-use Rattle.fj_turns.specs.Passing.{turn_output, AsksAt}
+use Rattle.fj_turns.specs.Passing.{turn_output, AsksAt, KnowsAnswers}
 use Rattle.fj_turns.specs.Inside.{waited_at}
 use Rattle.fj_turns.specs.Meant.{IsCutOf}
 use Rattle.fj_turns.proofs.Meant.{cuts_agree}
 use Rattle.fj_pending.specs.Plain.{tells_of}
 use Rattle.fj_items.specs.Handing.{whole_records, HandsOver, HandsFront}
-use Rattle.fj_items.specs.declared.lost.Lost.TheVariants.{Disk}
+use Rattle.fj_items.specs.declared.lost.Lost.{Lost}
+use Rattle.fj_items.specs.declared.lost.Lost.TheVariants.{Disk, Sink}
 use Rattle.fj_acts.specs.State.{core_of}
-use Rattle.fj_runner.specs.Failing.{FailsCall, FailsAtDisk}
+use Rattle.fj_runner.specs.Failing.{FailsCall, FailsAtDisk, HandsThen, OfOutside}
 use Rattle.fj_runner.specs.Machine.{rest_of, run_at, stage_at, run_of}
 use Rattle.fj_runner.specs.declared.machine.Machine.{Machine}
 use Rattle.fj_job.specs.Cut.{Untold, Told, Carried, ComesTo}
-use Rattle.fj_job.specs.Cutting.{IsExact, TookFront, IsCut}
+use Rattle.fj_job.specs.Cutting.{IsExact, TookFront, TookBegun, IsCut}
 use Rattle.fj_job.proofs.CutTexts.{at_hand}
 use Rattle.fj_job.proofs.Holding.{HoldsAt, holds_there, holds_told}
 use Rattle.fj_job.proofs.Learning.{LearnsAt}
@@ -47,6 +48,9 @@ module _ {F : Type 0} {ghosts : Ghosts F} (told : F → Bool) (bytes : F → Lis
   pub rest_is : (r : Run) → run_of told bytes files m ≡ Some r → r.rest ≡ rest_of m
   rest_is r e = rest_by (stage_at told bytes files m) r e
 
+pub lost_none : {o : Option Lost} {P : Type 0} → o ≡ None → o ≡ Some Sink → P
+lost_none none some = absurd (let z : None ≡ Some Sink = sym none ∙ some in cc)
+
 -- ---- at a statement
 
 module _ {E J A F : Type 0} {ghosts : Ghosts F} (meaning : Meaning E J A Bay Job Answer) (rack : Rack E J A) (held : Holdings) (before now : ℕ) (Tells : Type 0) (old new : List ℕ)
@@ -55,10 +59,10 @@ module _ {E J A F : Type 0} {ghosts : Ghosts F} (meaning : Meaning E J A Bay Job
       → drop m.at (stated deck.statements) ≡ drop comes.index (stated deck.statements)
   hand comes run rest place = ap (λ (d : Deck). drop m.at (stated d.statements)) (sym same) ∙ sym rest ∙ place
 
-  -- a job was refused there, or a stop was told: nothing was done
+  -- a stop was told there: nothing was done
   pub cut_asking : (run : Run) (left : Files) → AsksAt deck.variables (stated deck.statements) (fresh deck.variables files) run → run.core ≡ core_of left m.state.core → run.rest ≡ rest_of m
-      → (Tells → new ≡ old ++ whole_records m.state.core.output) → HoldsAt meaning rack held before now deck files m run.rest → IsCut meaning rack held before now Tells old new deck files m
-  cut_asking run left x core rest took holds =
+      → (Tells → new ≡ old ++ whole_records m.state.core.output) → m.tally.lost ≡ None → HoldsAt meaning rack held before now deck files m run.rest → IsCut meaning rack held before now Tells old new deck files m
+  cut_asking run left x core rest took none holds =
       let it : IsCutOf deck.variables (stated deck.statements) files x.index x.statement x.before = cuts_agree deck.variables (stated deck.statements) files x.index x.statement x.before x.reached in
       let comes : ComesTo deck files = record { index = x.index; statement = x.statement; before = it.state; there = it.cut_is } in
       let output : m.state.core.output ≡ it.state.output = sym (ap (λ (c : Core). c.output) core) ∙ x.output ∙ it.same.output in
@@ -78,23 +82,28 @@ module _ {E J A F : Type 0} {ghosts : Ghosts F} (meaning : Meaning E J A Bay Job
             files_are = holds_told meaning rack held before now deck files m comes there;
           }
         ];
+        sink = λ s. lost_none none s;
+        begun = λ t s. lost_none none s;
         front = λ t. record { reach = Untold; part = whole_records m.state.core.output; rest = []; due = ap whole_records (sym output) ∙ sym (append-nil _); taken = took t };
       }
 
   -- ---- where a call gave up
 
+  more_taken_to : (taken more before part : List ℕ) → taken ≡ old ++ before → more ≡ taken ++ part → more ≡ old ++ (before ++ part)
+  more_taken_to taken more before part a b = b ∙ ap (λ x. x ++ part) a ∙ append_assoc old before part
+
   more_taken : (taken before part : List ℕ) → taken ≡ old ++ before → new ≡ taken ++ part → new ≡ old ++ (before ++ part)
-  more_taken taken before part a b = b ∙ ap (λ x. x ++ part) a ∙ append_assoc old before part
+  more_taken taken before part = more_taken_to taken new before part
 
   module _ (taken : List ℕ) (was : Machine F ghosts) (early late : ℕ) (TellsThen : Type 0) (on : Tells → TellsThen) (took : Tells → taken ≡ old ++ whole_records was.state.core.output) where
     exact_fails : (run : Run) (x : LearnsAt deck.variables (stated deck.statements) (fresh deck.variables files) run)
-        → (it : IsCutOf deck.variables (stated deck.statements) files x.index x.statement x.before) → FailsAtDisk TellsThen taken new held early late run was m
+        → (it : IsCutOf deck.variables (stated deck.statements) files x.index x.statement x.before) → KnowsAnswers run → FailsAtDisk TellsThen taken new early late run was m
         → HoldsAt meaning rack held before now deck files m run.rest → IsExact meaning rack held before now Tells old new deck files (record { index = x.index; statement = x.statement; before = it.state; there = it.cut_is }) m
-    exact_fails run x it k holds =
+    exact_fails run x it known k holds =
         let comes : ComesTo deck files = record { index = x.index; statement = x.statement; before = it.state; there = it.cut_is } in
         let there = holds_there meaning rack held before now deck files m run.rest holds comes x.rest in
         let output : m.state.core.output ≡ it.state.output = k.output ∙ x.output ∙ it.same.output in
-        elim (x.tells k.known) [
+        elim (x.tells known) [
           | inl e ↦ record { reach = Untold; may = tt; output = output; tells = k.tells ∙ e ∙ it.same.tells; taken = all; files_are = there }
           | inr e ↦ record {
             reach = Told;
@@ -130,14 +139,27 @@ module _ {E J A F : Type 0} {ghosts : Ghosts F} (meaning : Meaning E J A Bay Job
       taken = more_taken taken (whole_records was.state.core.output) part (took t) is;
     }
 
-    pub cut_failing : (r : Run) (f : FailsCall (m.tally.lost ≡ Some Disk) TellsThen taken new held early late r was m) → LearnsAt deck.variables (stated deck.statements) (fresh deck.variables files) f.run → m.tally.lost ≢ None
-        → (m.tally.lost ≡ Some Disk → HoldsAt meaning rack held before now deck files m f.run.rest) → IsCut meaning rack held before now Tells old new deck files m
+    begun_fails : (run : Run) (x : LearnsAt deck.variables (stated deck.statements) (fresh deck.variables files) run)
+        → (it : IsCutOf deck.variables (stated deck.statements) files x.index x.statement x.before) → Tells → HandsThen taken new was.state.core.output run.core.output (turn_output run)
+        → TookBegun old new deck files (record { index = x.index; statement = x.statement; before = it.state; there = it.cut_is })
+    begun_fails run x it t (between, (over, whole, is), front) =
+        let output : run.core.output ≡ it.state.output = x.output ∙ it.same.output in
+        let all : between ≡ old ++ whole_records it.state.output =
+        more_taken_to taken between (whole_records was.state.core.output) over (took t) is ∙ ap (λ w. old ++ w) (sym whole ∙ ap whole_records output) in
+        subst (λ b. HandsFront b new it.state.output (step deck.variables x.statement it.state).0.output) all
+        (subst (λ o. HandsFront between new o (step deck.variables x.statement it.state).0.output) output
+        (subst (λ o. HandsFront between new run.core.output o) (x.due ∙ it.output) front))
+
+    pub cut_failing : (r : Run) (f : FailsCall (λ lost. m.tally.lost ≡ Some lost) TellsThen taken new held early late r was m) → LearnsAt deck.variables (stated deck.statements) (fresh deck.variables files) f.run → m.tally.lost ≢ None
+        → (OfOutside (λ lost. m.tally.lost ≡ Some lost) → HoldsAt meaning rack held before now deck files m f.run.rest) → IsCut meaning rack held before now Tells old new deck files m
     cut_failing r f x lost holds =
         let it : IsCutOf deck.variables (stated deck.statements) files x.index x.statement x.before = cuts_agree deck.variables (stated deck.statements) files x.index x.statement x.before x.reached in
         let comes : ComesTo deck files = record { index = x.index; statement = x.statement; before = it.state; there = it.cut_is } in
         record {
           comes = comes;
           at = at_hand deck files comes m.at (hand comes f.run (sym f.rest) x.rest);
-          exact = λ how. elim how [ inl none ↦ absurd (lost none) | inr disk ↦ exact_fails f.run x it (f.disk disk) (holds disk) ];
+          exact = λ how. elim how [ inl none ↦ absurd (lost none) | inr disk ↦ exact_fails f.run x it (f.outside (inl disk)).known (f.disk disk) (holds (inl disk)) ];
+          sink = λ s. holds_there meaning rack held before now deck files m f.run.rest (holds (inr s)) comes x.rest;
+          begun = λ t s. begun_fails f.run x it t (f.sink s (on t));
           front = λ t. front_fails f.run x it t (f.front (on t));
         }

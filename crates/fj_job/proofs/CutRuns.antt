@@ -27,9 +27,8 @@ use Rattle.fj_cut.proofs.Stops.{stops_leave_others}
 use Rattle.fj_cut.proofs.Turns.{each_turn}
 use Rattle.fj_items.specs.Handing.{whole_records}
 use Rattle.fj_items.specs.declared.lost.Lost.{Lost}
-use Rattle.fj_items.specs.declared.lost.Lost.TheVariants.{Disk}
 use Rattle.fj_units.specs.Files.{files_of}
-use Rattle.fj_runner.specs.Failing.{FailsCall, IsGivenUp, FailsAsking, Stays, HasReason}
+use Rattle.fj_runner.specs.Failing.{FailsCall, OfOutside, IsGivenUp, FailsAsking, Stays, HasReason}
 use Rattle.fj_runner.specs.Leaving.{Leaves}
 use Rattle.fj_runner.specs.Machine.{run_of}
 use Rattle.fj_runner.specs.Tallying.{due_of}
@@ -39,7 +38,7 @@ use Rattle.fj_job.specs.Cutting.{IsCut}
 use Rattle.fj_job.proofs.Cut.{shown, rest_is, cut_asking, cut_failing}
 use Rattle.fj_job.proofs.Executed.{parts, nothing_written, all_taken}
 use Rattle.fj_job.proofs.Leading.{led_to, leaves_same, leaves_on}
-use Rattle.fj_job.proofs.Holding.{stop_holds, disk_holds}
+use Rattle.fj_job.proofs.Holding.{stop_holds, turn_holds}
 use Rattle.fj_job.proofs.Leaving.{slots_hold}
 use Rattle.fj_job.proofs.Learning.{LearnsAt, none_left, at_before, learns_before, learns_at}
 use Rattle.fj_job.proofs.Passes.{ends_so, some_statement}
@@ -114,7 +113,7 @@ module _ {S W D F : Type 0} {ghosts : Ghosts F} (s : Shows S) (tells_out : W →
           | inl done ↦ absurd (let z : Settle it.slot ≡ Finished = sym it.hand ∙ done in cc)
           | inr y ↦
               cut_asking meaning rack (held (disk last)) (refusals (disk first)) (refusals (disk last)) (tells_out (out first)) (taken (out first)) (taken (out last)) deck files (machine last) (l.deck ∙ same) x.script left y both.0
-              (rest_is told bytes left (machine last) x.script is) (took last l none)
+              (rest_is told bytes left (machine last) x.script is) (took last l none) none
               (stop_holds meaning rack (held (disk last)) (refusals (disk first)) (refusals (disk last)) deck files (machine last) s x.script both.0 cut
               (stops_leave_others deck.variables (stated deck.statements) files cut.slot x.script cut.desks cut.stop))
         ]
@@ -141,12 +140,12 @@ module _ {S W D F : Type 0} {ghosts : Ghosts F} (s : Shows S) (tells_out : W →
       abbrev slots_then : List (PlainSlot Bay Job)
       slots_then = (before_ask (over_bays meaning) (run_conduct s) w.asks (first_run deck.variables (stated deck.statements) files) fresh_slots).1
 
-      -- What it was before the call, where that gave up: it stood at a statement. Where the disk failed, the slots had the jobs until then.
+      -- What it was before the call, where that gave up: it stood at a statement. Where the outside failed, the slots had the jobs until then.
       record GaveUpAt : Type 0 where
         at : Run
-        call : FailsCall ((machine gone).tally.lost ≡ Some Disk) (tells_out (out before)) (taken (out before)) (taken (out gone)) (held (disk gone)) (refusals (disk before)) (refusals (disk gone)) at (machine before) (machine gone)
+        call : FailsCall (λ lost. (machine gone).tally.lost ≡ Some lost) (tells_out (out before)) (taken (out before)) (taken (out gone)) (held (disk gone)) (refusals (disk before)) (refusals (disk gone)) at (machine before) (machine gone)
         learns : LearnsAt deck.variables (stated deck.statements) (fresh deck.variables files) call.run
-        turn : (machine gone).tally.lost ≡ Some Disk → TurnLeavesOthers deck.variables (stated deck.statements) files call.run (desks_of meaning slots_then)
+        turn : OfOutside (λ lost. (machine gone).tally.lost ≡ Some lost) → TurnLeavesOthers deck.variables (stated deck.statements) files call.run (desks_of meaning slots_then)
 
       gave_up : (machine gone).tally.stopped ≡ false → GaveUpAt
       gave_up stop =
@@ -181,8 +180,8 @@ module _ {S W D F : Type 0} {ghosts : Ghosts F} (s : Shows S) (tells_out : W →
           cut_failing meaning rack (held (disk gone)) (refusals (disk first)) (refusals (disk gone)) (tells_out (out first)) (taken (out first)) (taken (out gone)) deck files (machine gone)
           ((r.leaves before gone w.call.leads).deck ∙ led.deck ∙ same) (taken (out before)) (machine before) (refusals (disk before)) (refusals (disk gone)) (tells_out (out before)) led.telling_out.0
           (took before led (none_lost (machine before).tally.lost (machine before).tally.over (machine before).tally.lost_over going)) g.at g.call g.learns (some_not (machine gone).tally.lost some)
-          (λ d. disk_holds meaning rack (held (disk gone)) (refusals (disk first)) (refusals (disk gone)) deck files (machine gone) (tells_out (out before)) (taken (out before)) (taken (out gone))
-          (refusals (disk before)) (refusals (disk gone)) g.call.run (machine before) (desks_of meaning slots_then) (led.own on) (omega arith) (g.call.disk d) (g.turn d) (slots_hold meaning slots_then rack w.slots))
+          (λ o. turn_holds meaning rack (held (disk gone)) (refusals (disk first)) (refusals (disk gone)) deck files (machine gone) (refusals (disk before)) (refusals (disk gone)) g.call.run (desks_of meaning slots_then)
+          (led.own on) (omega arith) (g.call.outside o) (g.turn o) (slots_hold meaning slots_then rack w.slots))
 
       all_led : AllLeave first last
       all_led =

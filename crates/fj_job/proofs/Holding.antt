@@ -1,4 +1,4 @@
--- What closing all units would leave, where a stop was told and where a call of the disk's own failed.
+-- What closing all units would leave, where a stop was told and where a call on the outside failed.
 use Rattle.std.proofs.Common.{◌≡◌, ◌≢◌, inl, ℕ, ◌≤◌, List, drop, Option, Some, sym, ap, ◌∙◌, subst}
 use Rattle.fj_outside.specs.Holdings.{Holdings}
 use Rattle.fj_outside.specs.declared.outside.FileStore.{Ghosts}
@@ -23,7 +23,7 @@ use Rattle.fj_acts.specs.State.{core_of, core_at}
 use Rattle.fj_units.specs.Files.{files_of}
 use Rattle.fj_units.specs.Returning.{IsAsDue}
 use Rattle.fj_closing.proofs.Due.{all_due}
-use Rattle.fj_runner.specs.Failing.{FailsAtDisk}
+use Rattle.fj_runner.specs.Failing.{StandsAt}
 use Rattle.fj_runner.specs.declared.machine.Machine.{Machine}
 use Rattle.fj_job.specs.Cut.{Untold, Told, ComesTo}
 use Rattle.fj_job.specs.Cutting.{IsServed, HoldsFiles}
@@ -85,10 +85,10 @@ module _ {E J A F : Type 0} {ghosts : Ghosts F} (meaning : Meaning E J A Bay Job
         ∙ lo.others name (ap (λ (c : Core). has_file c.units it.slot name) core ∙ free) (λ opened. about (opened_about (names_in lo.state.units) it.stop.statement.0.what name opened)));
   }
 
-  -- where a call of the disk's own failed
-  pub disk_holds : (Tells : Type 0) (taken taken' : List ℕ) (early late : ℕ) (run : Run) (was : Machine F ghosts) (desks : List Desk) → before ≤ early → late ≤ now
-      → FailsAtDisk Tells taken taken' held early late run was m → TurnLeavesOthers deck.variables (stated deck.statements) files run desks → HoldsDesks meaning rack desks → HoldsAt run.rest
-  disk_holds Tells taken taken' early late run was desks l k it t slots = record {
+  -- where a call on the outside failed
+  pub turn_holds : (early late : ℕ) (run : Run) (desks : List Desk) → before ≤ early → late ≤ now
+      → StandsAt held early late run m → TurnLeavesOthers deck.variables (stated deck.statements) files run desks → HoldsDesks meaning rack desks → HoldsAt run.rest
+  turn_holds early late run desks l k it t slots = record {
     index = t.index;
     statement = t.statement;
     state = t.state;
@@ -96,18 +96,18 @@ module _ {E J A F : Type 0} {ghosts : Ghosts F} (meaning : Meaning E J A Bay Job
     place = t.rest;
     desks = desks;
     slots = slots;
-    units = subst (λ (us : List Connected). AreHoused desks us) (sym same) (t.units it.known it.fault.does it.fault.is);
+    units = subst (λ (us : List Connected). AreHoused desks us) (sym same) (t.units it.known it.does.does it.does.is);
     others = λ name served about.
-        let due : IsAsDue early late (files_of held name) ((core_at it.fault.does).files name) =
-        it.fault.fault.files name
-        (λ e. about (next_named it.fault.does (file_about (names_in t.state.units) t.statement.0.what) (λ slot c core next d. t.connects it.known slot c core next (it.fault.is ∙ ap Some d)) name e)) in
-        let left : all_left desks m.state.core.units (core_at it.fault.does).files name ≡ (all_closed t.state).files name =
-        ap (λ (us : List Connected). all_left desks us (core_at it.fault.does).files name) same ∙ ap (λ (c : Core). all_left desks (core_now it.fault.does).units c.files name) (core_same it.fault.does)
-        ∙ t.others it.known it.fault.does it.fault.is name about in
+        let due : IsAsDue early late (files_of held name) ((core_at it.does.does).files name) =
+        it.does.stands.files name
+        (λ e. about (next_named it.does.does (file_about (names_in t.state.units) t.statement.0.what) (λ slot c core next d. t.connects it.known slot c core next (it.does.is ∙ ap Some d)) name e)) in
+        let left : all_left desks m.state.core.units (core_at it.does.does).files name ≡ (all_closed t.state).files name =
+        ap (λ (us : List Connected). all_left desks us (core_at it.does.does).files name) same ∙ ap (λ (c : Core). all_left desks (core_now it.does.does).units c.files name) (core_same it.does.does)
+        ∙ t.others it.known it.does.does it.does.is name about in
         due_wider before early late now (all_left desks m.state.core.units (files_of held) name) ((all_closed t.state).files name) l k
         (subst (λ (o : Option (List ℕ)). IsAsDue early late (all_left desks m.state.core.units (files_of held) name) o) left
-        (all_due early late desks m.state.core.units (files_of held) (core_at it.fault.does).files name due));
+        (all_due early late desks m.state.core.units (files_of held) (core_at it.does.does).files name due));
   }
     where
-      same : m.state.core.units ≡ (core_now it.fault.does).units
-      same = it.fault.fault.units ∙ ap (λ (c : Core). c.units) (core_same it.fault.does)
+      same : m.state.core.units ≡ (core_now it.does.does).units
+      same = it.does.stands.units ∙ ap (λ (c : Core). c.units) (core_same it.does.does)

@@ -1,5 +1,5 @@
 -- What was told and written where a run met a fault, and what is reported then.
-use Rattle.std.proofs.Common.{◌≡◌, ◌⊎◌, inl, inr, ℕ, ◌≤◌, Bool, true, false, List, [], ◌++◌, Option, Some, None, IsSome, Ok, slice_get, refl, ap, sym, ◌∙◌, subst}
+use Rattle.std.proofs.Common.{◌≡◌, ◌⊎◌, inl, inr, ℕ, ◌≤◌, Bool, true, false, List, [], ◌++◌, Option, Some, None, IsSome, Ok, slice_get, refl, ap, sym, ◌∙◌, subst, append_assoc}
 use Rattle.std.specs.FinMap as map
 use Rattle.std.specs.FinSet as set
 use Rattle.std.specs.Option.{option_map}
@@ -13,13 +13,13 @@ use Rattle.fj_bay.specs.Bay.{Bay}
 use Rattle.fj_bay.specs.Jobs.{Job, Answer}
 use Rattle.fj_world.specs.Rack.{Rack}
 use Rattle.fj_plain.specs.State.{State, Files, Output, Tell}
-use Rattle.fj_plain.specs.Statement.{plain_execution}
+use Rattle.fj_plain.specs.Statement.{plain_execution, step}
 use Rattle.fj_desk.specs.Desks.{Desk}
 use Rattle.fj_desk.specs.Desking.{all_left}
 use Rattle.fj_turns.specs.Executing.{HoldsDesks}
 use Rattle.fj_pending.specs.Plain.{tells_of}
 use Rattle.fj_items.specs.Handing.{TakesFront, whole_records, open_record}
-use Rattle.fj_items.specs.declared.lost.Lost.TheVariants.{Disk}
+use Rattle.fj_items.specs.declared.lost.Lost.TheVariants.{Sink, Disk}
 use Rattle.fj_units.specs.Files.{files_of}
 use Rattle.fj_units.specs.Returning.{IsAsDue}
 use Rattle.fj_closing.specs.Closing.{AreSeated, AreNamed, IfClear}
@@ -34,18 +34,19 @@ use Rattle.fj_runner.specs.declared.machine.Machine.{Machine}
 use Rattle.fj_acts.specs.declared.state.Core.{Core as Kept}
 use Rattle.fj_job.specs.Carrying.{HasRun}
 use Rattle.fj_job.specs.Concluding.{HasEnded, IsResult, run_text, fault_text}
-use Rattle.fj_job.specs.Cut.{Carried as At, reached, IsFaultReport, TookRun, TookReport, ToldFault}
-use Rattle.fj_job.specs.Cutting.{HoldsFiles, IsCut, EndsHere, IsLeftAt, TookSome}
+use Rattle.fj_job.specs.Cut.{Reach, Untold, Carried as At, reached, AreLeft, IsFaultReport, IsNext, TookRun, TookReport, TookBehind, ToldFault, ToldWrite}
+use Rattle.fj_job.specs.Cutting.{HoldsFiles, IsCut, EndsHere, IsLeftAt, IsLeftBegun, TookSome}
 use Rattle.fj_job.specs.Executing.{IsFaultTold, IsFaultBegun, IsEndBegun}
 use Rattle.fj_job.specs.Making.{HasMade, IsMadeFront, TookMade, made_text}
-use Rattle.fj_job.specs.Reply.{open_feed, trace_of, variable_lines, report_of, made_lines, made_report, no_files, files_in, status_of}
+use Rattle.fj_job.specs.Reply.{Reply, IsRunReply, open_feed, trace_of, variable_lines, report_of, made_lines, made_report, no_files, files_in, status_of}
 use Rattle.fj_job.specs.declared.ending.Carried.{Carried}
+use Rattle.fj_job.proofs.Cut.{lost_none}
 use Rattle.fj_job.proofs.CutEnds.{ended_exact}
 use Rattle.fj_job.proofs.CutReports.{front_of_output, front_of_exact}
 use Rattle.fj_job.proofs.CutTexts.{text_and_feed, goes_on_behind}
 use Rattle.fj_job.proofs.Leaving.{seated_of, named_of, housed_of, served_of}
 use Rattle.fj_job.proofs.Executed.{desks, ending_is, output_is, tells_are, files_are, holds, are_seated, are_named, replies, makes, none_there, taken_both}
-use Rattle.fj_job.proofs.Told.{front_behind, front_more, deck_ends, some_by}
+use Rattle.fj_job.proofs.Told.{front_behind, front_more, deck_ends, some_by, not_lost}
 
 -- ---- where a run ended or was cut, at the statement at hand
 
@@ -67,7 +68,15 @@ module _ {E J A F : Type 0} {ghosts : Ghosts F} (meaning : Meaning E J A Bay Job
         others = λ name served about. inl (sym (ap (λ (f : Files). f name) (files_are meaning told bytes deck files left m rack ran)) ∙ ap (λ (f : Files). f name) e.files_are);
       } in
       let exact = ended_exact meaning rack held before now Tells old new deck files m e holds (output_is meaning told bytes deck files left m rack ran) (tells_are meaning told bytes deck files left m rack ran) taken in
-      record { comes = e.comes; at = e.at; exact = λ _. exact; front = λ t. front_of_exact meaning rack held before now Tells old new deck files e.comes m exact t }
+      let none = not_lost m.tally.lost m.tally.over m.tally.lost_over going in
+      record {
+        comes = e.comes;
+        at = e.at;
+        exact = λ _. exact;
+        sink = λ s. lost_none none s;
+        begun = λ t s. lost_none none s;
+        front = λ t. front_of_exact meaning rack held before now Tells old new deck files e.comes m exact t;
+      }
 
   at_hand_by : (over : Bool) → m.tally.over ≡ over → IsSound deck → (m.tally.over ≡ false → HasRun meaning told bytes deck files left m rack)
       → (m.tally.over ≡ false → (ending : Code) → m.state.ending ≡ Some ending → EndsHere deck files m)
@@ -81,27 +90,54 @@ module _ {E J A F : Type 0} {ghosts : Ghosts F} (meaning : Meaning E J A Bay Job
       → (m.tally.over ≡ true → IsCut meaning rack held before now Tells old new deck files m) → (m.tally.over ≡ false → Tells → new ≡ old ++ whole_records m.state.core.output) → IsCut meaning rack held before now Tells old new deck files m
   at_statement sound ran ended cut taken = at_hand_by m.tally.over refl sound ran ended cut taken
 
--- what is left there, once the files went back
-pub left_at : {E J A F : Type 0} {ghosts : Ghosts F} (meaning : Meaning E J A Bay Job Answer) (rack : Rack E J A) (held last : Holdings) (before now end : ℕ) (Tells : Type 0) (old new : List ℕ)
-    (deck : Deck) (files : Files) (m : Machine F ghosts) (l : Left F) → IsCut meaning rack held before now Tells old new deck files m
-    → (m.tally.lost ≡ None) ⊎ (m.tally.lost ≡ Some Disk) → l.core ≡ record (m.state.core) { names = l.core.names } → l.at ≡ m.at → before ≤ now → now ≤ end
-    → ((desks : List Desk) → HoldsDesks meaning rack desks → AreSeated desks m.state.core.units → AreNamed desks m.state.core.units → (name : List ℕ) → set.contains last.hurt name ≡ false
+-- ---- what is left there, once the files went back
+
+module _ {E J A F : Type 0} {ghosts : Ghosts F} (meaning : Meaning E J A Bay Job Answer) (rack : Rack E J A) (held last : Holdings) (before now end : ℕ) (Tells : Type 0) (old new : List ℕ)
+    (deck : Deck) (files : Files) (m : Machine F ghosts) (l : Left F) (cut : IsCut meaning rack held before now Tells old new deck files m) (at : l.at ≡ m.at) (early : before ≤ now) (late : now ≤ end)
+    (due : (desks : List Desk) → HoldsDesks meaning rack desks → AreSeated desks m.state.core.units → AreNamed desks m.state.core.units → (name : List ℕ) → set.contains last.hurt name ≡ false
     → IsAsDue now end (files_of last name) (all_left desks m.state.core.units (files_of held) name))
-    → IfClear last m.state.core.units rack.slots (λ (k : Ledger E J A). k.halt ≡ None) → IsLeftAt deck files l last before end
-left_at meaning rack held last before now end Tells old new deck files m l cut lost core at early late due running =
-    let x = cut.exact lost in
-    let h = x.files_are in
-    record {
-      comes = cut.comes;
-      reach = x.reach;
-      may = x.may;
-      at = ap (λ n. slice_get deck.statements n) at ∙ cut.at;
-      output = ap (λ (k : Kept). k.output) core ∙ x.output;
-      tells = ap (λ (k : Kept). tells_of k.tells) core ∙ x.tells;
-      files_are = λ name clear about.
-          due_on before now end _ _ _ early late (due h.desks h.slots (seated_of h.desks m.state.core.units h.units) (named_of h.desks m.state.core.units h.units) name clear)
-          (h.others name (served_of rack last name m.state.core.units running clear) about);
-    }
+    (running : IfClear last m.state.core.units rack.slots (λ (k : Ledger E J A). k.halt ≡ None)) where
+  hand : slice_get deck.statements l.at ≡ Some cut.comes.statement.0
+  hand = ap (λ n. slice_get deck.statements n) at ∙ cut.at
+
+  files_left : (reach : Reach) → HoldsFiles meaning rack held before now deck files cut.comes reach m → AreLeft deck files cut.comes reach last before end
+  files_left reach h = λ name clear about.
+      due_on before now end _ _ _ early late (due h.desks h.slots (seated_of h.desks m.state.core.units h.units) (named_of h.desks m.state.core.units h.units) name clear)
+      (h.others name (served_of rack last name m.state.core.units running clear) about)
+
+  -- where nothing was lost, or by the disk
+  pub left_at : (m.tally.lost ≡ None) ⊎ (m.tally.lost ≡ Some Disk) → l.core ≡ record (m.state.core) { names = l.core.names } → IsLeftAt deck files l last before end
+  left_at lost core =
+      let x = cut.exact lost in
+      record {
+        comes = cut.comes;
+        reach = x.reach;
+        may = x.may;
+        at = hand;
+        output = ap (λ (k : Kept). k.output) core ∙ x.output;
+        tells = ap (λ (k : Kept). tells_of k.tells) core ∙ x.tells;
+        files_are = files_left x.reach x.files_are;
+      }
+
+  -- where the sink failed
+  pub left_begun : m.tally.lost ≡ Some Sink → IsLeftBegun deck files l Tells old new last before end
+  left_begun lost = record { comes = cut.comes; at = hand; begun = λ t. cut.begun t lost; files_are = files_left Untold (cut.sink lost) }
+
+-- where the deck ended
+pub left_end : {F : Type 0} {ghosts : Ghosts F} (deck : Deck) (files : Files) (m : Machine F ghosts) (l : Left F) (last : Holdings) (before end : ℕ) → EndsHere deck files m → l.at ≡ m.at
+    → IsResult (plain_execution deck.variables deck.statements files) (files_of last) l → (x : IsLeftAt deck files l last before end) × (x.reach ≡ At)
+left_end deck files m l last before end e at is = (
+  record {
+    comes = e.comes;
+    reach = At;
+    may = e.ends;
+    at = ap (λ n. slice_get deck.statements n) at ∙ e.at;
+    output = sym is.output ∙ e.output;
+    tells = sym is.tells ∙ e.tells;
+    files_are = λ name clear about. inl (ap (λ (f : Files). f name) (sym is.files ∙ e.files_are));
+  },
+  refl,
+)
 
 -- and what the sink took until there
 pub took_some : {E J A F : Type 0} {ghosts : Ghosts F} (meaning : Meaning E J A Bay Job Answer) (rack : Rack E J A) (held : Holdings) (before now : ℕ) (Tells : Type 0) (old new : List ℕ)
@@ -154,15 +190,51 @@ module _ {F : Type 0} (deck : Deck) (trace : Bool) (it : Carried F) (before now 
     front_behind old mid new _ _ one fault.taken,
   )
 
-  pub part_of_end : IsResult (plain_execution deck.variables deck.statements (files_in before)) (files_in now) it.left → IsEndBegun trace it mid new
-      → mid ≡ old ++ whole_records it.left.core.output → TookRun deck trace (files_in before) old new
-  part_of_end is ended one =
+  -- what is told where the deck ended: the records that ended, and the report behind them
+  reply_of_end : (Tells : Type 0) → IsResult (plain_execution deck.variables deck.statements (files_in before)) (files_in now) it.left → IsEndBegun trace it Tells mid new
+      → (reply : Reply) × IsRunReply deck trace (files_in before) reply × (text : List ℕ) × (reply.output ≡ whole_records it.left.core.output ++ text) × (Tells → TakesFront mid new text)
+  reply_of_end Tells is ended =
       let whole : List ℕ = whole_records it.left.core.output in
       let text : List ℕ = open_record it.left.core.output ++ run_text it.left.deck.variables trace (ending_of ended.ending) it.left.core in
       let h : HasEnded trace it.left (status_of (ending_of ended.ending)) (Unit {0}) whole (whole ++ text) =
       record { going = ended.going; ending = ended.ending; ends = ended.ends; status_is = refl; output = λ _. refl } in
       let r = replies deck trace it.left before now (status_of (ending_of ended.ending)) (Unit {0}) (Unit {0}) [] whole (whole ++ text) (λ t. t) same is h (λ _. refl) in
-      (r.reply, r.is, subst (λ (x : List ℕ). TakesFront old new x) (r.output tt) (front_behind old mid new whole text one ended.taken))
+      (r.reply, r.is, text, sym (r.output tt), ended.taken)
+
+  pub part_of_end : IsResult (plain_execution deck.variables deck.statements (files_in before)) (files_in now) it.left → IsEndBegun trace it (Unit {0}) mid new
+      → mid ≡ old ++ whole_records it.left.core.output → TookRun deck trace (files_in before) old new
+  part_of_end is ended one =
+      let r = reply_of_end (Unit {0}) is ended in
+      (r.0, r.1, subst (λ (x : List ℕ). TakesFront old new x) (sym r.3) (front_behind old mid new _ r.2 one (r.4 tt)))
+
+  -- a fault of the sink in the report
+  pub write_of_end : (Tells Now : Type 0) → (Tells → Now) → (x : IsLeftAt deck (files_in before) it.left left own own') → x.reach ≡ At → IsResult (plain_execution deck.variables deck.statements (files_in before)) (files_in now) it.left
+      → IsEndBegun trace it Now mid new → (Tells → mid ≡ old ++ whole_records it.left.core.output) → ToldWrite deck trace (files_in before) Tells old new left own own'
+  write_of_end Tells Now on x reach is ended one =
+      let r = reply_of_end Now is ended in
+      record {
+        comes = x.comes;
+        reach = x.reach;
+        may = x.may;
+        due = r.0.output;
+        next = subst (λ (k : Reach). IsNext k deck trace (files_in before) x.comes r.0.output) (sym reach) (r.0, r.1, refl);
+        taken = λ t. let k = r.4 (on t) in
+            subst (λ (o : Output). TookBehind old new (whole_records o) r.0.output) x.output
+            (k.0, k.1, r.3 ∙ ap (λ (y : List ℕ). whole_records it.left.core.output ++ y) k.2, taken_both old mid new _ _ (one t) k.3);
+        files_are = x.files_are;
+      }
+
+  -- a fault of the sink before it
+  pub write_of_begun : (Tells : Type 0) → IsLeftBegun deck (files_in before) it.left Tells old mid left own own' → new ≡ mid → ToldWrite deck trace (files_in before) Tells old new left own own'
+  write_of_begun Tells x still = record {
+    comes = x.comes;
+    reach = Untold;
+    may = tt;
+    due = whole_records (step deck.variables x.comes.statement x.comes.before).0.output;
+    next = refl;
+    taken = λ t. let k = x.begun t in (k.0, k.1, k.2, still ∙ k.3 ∙ append_assoc old (whole_records x.comes.before.output) k.0);
+    files_are = x.files_are;
+  }
 
 -- ---- fronts of a reply
 

@@ -1,5 +1,5 @@
 -- Names of files that are out, and what was lost first.
-use Rattle.std.proofs.Common.{◌≡◌, ◌≢◌, ◌⊎◌, inl, inr, ◌==◌, ◌≤◌, ℕ, List, [], ◌∷◌, length, true, false, Option, Some, None, IfNone, Result, Ok, Err, OnOk, IfErr, refl, ap, sym, ◌∙◌, subst, arith}
+use Rattle.std.proofs.Common.{◌≡◌, ◌≢◌, ◌⊎◌, inl, inr, ◌==◌, ◌≤◌, ℕ, List, [], ◌∷◌, length, true, false, Option, Some, None, IfNone, IfSome, Result, Ok, Err, OnOk, IfErr, refl, ap, sym, ◌∙◌, subst, arith}
 use Rattle.std.specs.Ordering.{nat_cmp}
 use Rattle.std.specs.Cmp.Lexicographic.{slice_cmp, nat_list_cmp_total}
 use Rattle.std.specs.FinMap.{slice_cmp-IsAntisymmetric, nat_cmp-IsAntisymmetric}
@@ -66,6 +66,9 @@ pub told_ok : (given : Result (Unit {0}) Lost) → IfErr given (λ lost. lost �
 told_ok (Ok x) h e = refl
 told_ok (Err lost) h e = let z : false ≡ true = sym (ap is_fault h) ∙ e in cc
 
-pub by_first : (first : Option Lost) (given : Result (Unit {0}) Lost) → IfErr given (λ lost. lost ≡ Unfit) → (first ≡ Some Disk) ⊎ (given ≡ Err Disk) → first ≡ Some Disk
-by_first first given h (inl e) = e
-by_first first given h (inr e) = absurd (not_disk given h e)
+-- where a fault is what was lost first of two steps, the second was fine, and the first may be told
+pub both_fit : (inner : Option Lost) (closed given : Result (Unit {0}) Lost) (lost : Lost) → IfErr given (λ other. other ≡ Unfit) → (is_fault lost ≡ true → may_tell given ≡ true)
+    → (given ≡ Ok tt → Some lost ≡ inner) → IfSome inner (λ first. is_fault first ≡ true → may_tell closed ≡ true) → is_fault lost ≡ true → (given ≡ Ok tt) × (may_tell closed ≡ true)
+both_fit inner closed given lost unfit fits same by e =
+    let ok = told_ok given unfit (fits e) in
+    (ok, subst (λ (o : Option Lost). IfSome o (λ first. is_fault first ≡ true → may_tell closed ≡ true)) (sym (same ok)) by e)

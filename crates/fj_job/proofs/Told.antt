@@ -20,7 +20,7 @@ use Rattle.fj_items.specs.Handing.{TakesFront}
 use Rattle.fj_items.specs.declared.lost.Lost.{Lost}
 use Rattle.fj_report.specs.declared.status.Status.{Status}
 use Rattle.fj_report.specs.declared.status.Status.TheVariants.{Ended, ErrorStop, Prohibited, DeckRefused, Usage, ReadFault, WriteFault, DiskFault, Memory}
-use Rattle.fj_job.specs.Answers.{IsLost, IfFault, TookFor, TookRefusal}
+use Rattle.fj_job.specs.Answers.{IsLost, IfFault, IfWriteFault, TookFor, TookRefusal}
 use Rattle.fj_job.specs.Cut.{IsOfReport}
 use Rattle.fj_job.specs.Taken.{IsReadOf}
 use Rattle.fj_job.specs.declared.task.Task.{Task}
@@ -57,6 +57,21 @@ fault_by ReadFault P h = tt
 fault_by WriteFault P h = tt
 fault_by (DiskFault line) P h = h line refl
 fault_by Memory P h = tt
+
+pub write_by : (status : Status) (P : Type 0) → (status ≡ WriteFault → P) → IfWriteFault status P
+write_by Ended P h = tt
+write_by (ErrorStop stmt code) P h = tt
+write_by (Prohibited stmt rule) P h = tt
+write_by (DeckRefused line reason) P h = tt
+write_by Usage P h = tt
+write_by ReadFault P h = tt
+write_by WriteFault P h = h refl
+write_by (DiskFault line) P h = tt
+write_by Memory P h = tt
+
+-- where it is known of one
+pub write_at : (status : Status) (P : Type 0) → IfWriteFault status P → status ≡ WriteFault → P
+write_at status P h e = subst (λ (s : Status). IfWriteFault s P) e h
 
 pub fault_more : (status : Status) (P Q : ℕ → Type 0) → ((line : ℕ) → P line → Q line) → IfFault status P → IfFault status Q
 fault_more Ended P Q f h = tt

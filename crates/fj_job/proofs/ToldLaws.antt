@@ -1,5 +1,5 @@
 -- What a run tells, by what the words ask for.
-use Rattle.std.proofs.Common.{◌≡◌, ◌⊎◌, inl, inr, ℕ, Bool, List, ◌++◌, Result, Ok, Err, IfErr, refl, sym, subst}
+use Rattle.std.proofs.Common.{◌≡◌, ◌⊎◌, inl, inr, ℕ, Bool, List, ◌++◌, Result, Ok, Err, IfErr, refl, sym, ◌∙◌, subst}
 use Rattle.fj_outside.specs.Holdings.{Holdings, Files}
 use Rattle.fj_statement.specs.declared.reason.Reason.{Reason}
 use Rattle.fj_plain.specs.Statement.{Ending, ended, error_stop, prohibition}
@@ -13,9 +13,9 @@ use Rattle.fj_job.specs.Asking.{IsUnread}
 use Rattle.fj_job.specs.Concluding.{IsReplied}
 use Rattle.fj_job.specs.Taken.{IsReadOf}
 use Rattle.fj_job.proofs.ReplyLaws.{ended_by, lost_by, same_refusal}
-use Rattle.fj_job.specs.Answers.{IsAnswer, IsLost, IsOfRun, LeavesDisk, HasCause, IfEnded, IfRefused, IfFault, HasDeck, TookFor, TookRefusal, Told, Keeps}
-use Rattle.fj_job.specs.Cut.{TookRun, TookReport, ToldFault}
-use Rattle.fj_job.proofs.Told.{fault_by, fault_more}
+use Rattle.fj_job.specs.Answers.{IsAnswer, IsLost, IsOfRun, LeavesDisk, HasCause, IfEnded, IfRefused, IfFault, IfWriteFault, HasDeck, IsSomeRefusal, TookFor, TookRefusal, Told, Keeps}
+use Rattle.fj_job.specs.Cut.{TookRun, TookReport, ToldFault, ToldWrite}
+use Rattle.fj_job.proofs.Told.{fault_by, fault_more, write_by, write_at}
 use Rattle.fj_job.specs.Reply.{IsRefusal, usage_reply, refusal_reply, files_in, status_of}
 use Rattle.fj_job.specs.declared.task.Task.{Task}
 use Rattle.fj_job.specs.declared.task.Task.TheVariants.{Refuse, Check, Execute, Generate}
@@ -138,6 +138,7 @@ told_usage R W D text held before now old new SR WR DR output front = record {
   ended = λ t. tt;
   refused = λ t. tt;
   fault = λ t u. tt;
+  written = λ t u. tt;
   front = λ t u w. inl (inr (usage_reply (files_in held.files), refl, front w));
   cause = tt;
   fine = λ x y z. inr tt;
@@ -153,6 +154,7 @@ told_lost status R W D text held before now old new SR WR DR lost front c = reco
   ended = λ t. lost_by status (λ s. IfEnded s (HasDeck Refuse text)) lost tt tt;
   refused = λ t. lost_by status (λ s. IfRefused s (IsRefusal Refuse text)) lost tt tt;
   fault = λ t u. fault_by status _ (λ line e. tt);
+  written = λ t u. write_by status _ (λ e. tt);
   front = λ t u w. inl (inr (usage_reply (files_in held.files), refl, front w));
   cause = cause_more status _ _ _ _ _ _ (λ x. absurd x) (λ x. x) (λ x. absurd x) c;
   fine = λ x y z. fine_by status _ _ _ c (λ b. b) y (λ b. b);
@@ -189,6 +191,7 @@ told_refusal workers trace line reason R W D text held before now old new SR WR 
   ended = λ t. tt;
   refused = is;
   fault = λ t u. tt;
+  written = λ t u. tt;
   front = λ t u w. inl (refusal_taken workers trace text held.files old new (front t w));
   cause = tt;
   fine = λ x y z. inr tt;
@@ -200,27 +203,40 @@ unread_by status P (inl l) r w m = lost_by status P l w m
 unread_by status P (inr e) r w m = subst P (sym e) r
 
 told_none : (workers : ℕ) (trace : Bool) (status : Status) (R W D : Type 0) (text : List ℕ) (held : Holdings) (before now : ℕ) (old new : List ℕ) (SR WR : Type 0) → IsLost status ⊎ (status ≡ ReadFault)
-    → (R → W → TookRefusal text old new) → HasCause SR WR ⊥ status → Told (Execute workers trace) status R W D text held.files held before now old new SR WR ⊥
-told_none workers trace status R W D text held before now old new SR WR none front c = record {
+    → (status ≡ WriteFault → R → IsSomeRefusal text) → (R → W → TookRefusal text old new) → HasCause SR WR ⊥ status → Told (Execute workers trace) status R W D text held.files held before now old new SR WR ⊥
+told_none workers trace status R W D text held before now old new SR WR none is front c = record {
   replied = λ a t u. absurd (unread_by status (λ s. IsAnswer s → ⊥) none (λ b. b) (λ b. b) (λ b. b) a);
   usage = λ q. absurd (unread_by status (λ s. s ≡ Usage → ⊥) none (λ e. cc) (λ e. cc) (λ e. cc) q);
   no_form = λ q. cc;
   ended = λ t. unread_by status (λ s. IfEnded s (HasDeck (Execute workers trace) text)) none tt tt tt;
   refused = λ t. unread_by status (λ s. IfRefused s (IsRefusal (Execute workers trace) text)) none tt tt tt;
   fault = λ t u. fault_by status _ (λ line e. absurd (unread_by status (λ s. s ≡ DiskFault line → ⊥) none (λ q. cc) (λ q. cc) (λ q. cc) e));
+  written = λ t u. write_by status _ (λ e. inl (is e t));
   front = λ t u w. inl (refusal_taken workers trace text held.files old new (front t w));
   cause = c;
   fine = λ x y z. fine_by status _ _ _ c x y z;
 }
 
+is_lost : (status other : Status) → IsLost other → status ≡ other → IsLost status
+is_lost status other l e = subst (λ (s : Status). IsLost s) (sym e) l
+
 pub told_unread : (workers : ℕ) (trace : Bool) (status : Status) (R W D : Type 0) (text : List ℕ) (held : Holdings) (before now : ℕ) (old new : List ℕ) (SR WR : Type 0) → IsUnread status R text
     → IfRefused status (λ line reason. W → new ≡ old ++ status_text (DeckRefused line reason)) → (R → W → TookRefusal text old new) → HasCause SR WR ⊥ status
     → Told (Execute workers trace) status R W D text held.files held before now old new SR WR ⊥
-told_unread workers trace status R W D text held before now old new SR WR (inl (line, reason, e, is)) output front c =
+told_unread workers trace status R W D text held before now old new SR WR (inl (line, reason, inl e, is)) output front c =
     subst (λ (x : Status). Told (Execute workers trace) x R W D text held.files held before now old new SR WR ⊥) (sym e)
     (told_refusal workers trace line reason R W D text held before now old new SR WR is (subst (λ (x : Status). IfRefused x (λ line reason. W → new ≡ old ++ status_text (DeckRefused line reason))) e output) front)
-told_unread workers trace status R W D text held before now old new SR WR (inr (inl l)) output front c = told_none workers trace status R W D text held before now old new SR WR (inl l) front c
-told_unread workers trace status R W D text held before now old new SR WR (inr (inr e)) output front c = told_none workers trace status R W D text held before now old new SR WR (inr e) front c
+told_unread workers trace status R W D text held before now old new SR WR (inl (line, reason, inr e, is)) output front c =
+    told_none workers trace status R W D text held before now old new SR WR (inl (is_lost status WriteFault tt e)) (λ w r. (line, reason, is r)) front c
+told_unread workers trace status R W D text held before now old new SR WR (inr (inl e)) output front c =
+    told_none workers trace status R W D text held before now old new SR WR (inl (is_lost status Memory tt e)) (λ w r. absurd (let z : Memory ≡ WriteFault = sym e ∙ w in cc)) front c
+told_unread workers trace status R W D text held before now old new SR WR (inr (inr e)) output front c =
+    told_none workers trace status R W D text held before now old new SR WR (inr e) (λ w r. absurd (let z : ReadFault ≡ WriteFault = sym e ∙ w in cc)) front c
+
+-- a refusal that is told, or what kept it from being told, where it is
+pub unread_of : (status : Status) (line : ℕ) (reason : Reason) (R : Type 0) (text : List ℕ) → (status ≡ DeckRefused line reason) ⊎ IsLost status → (R → IsRefused text line reason) → IsUnread status R text
+unread_of status line reason R text (inl e) is = inl (line, reason, inl e, is)
+unread_of status line reason R text (inr l) is = lost_by status (λ s. IsUnread s R text) l (inl (line, reason, inr refl, is)) (inr (inl refl))
 
 -- ---- what is asked for, over a disk
 
@@ -233,6 +249,7 @@ told_over task status R W text held before now old new SR WR DR t = record {
   ended = t.ended;
   refused = t.refused;
   fault = λ r d. t.fault r tt;
+  written = λ r d. t.written r tt;
   front = λ r d w. elim (t.front r tt w) [ inl reply ↦ inl reply | inr fault ↦ absurd fault.0 ];
   cause = cause_more status _ _ _ _ _ _ (λ x. x) (λ x. x) (λ x. absurd x) t.cause;
   fine = λ x y z. t.fine x y (λ b. b);
@@ -251,9 +268,9 @@ keeps_over task status S text r r' w w' d k = record {
 -- a deck was read, and carried out
 pub told_executed : (workers : ℕ) (trace : Bool) (deck : Deck) (status : Status) (R W D : Type 0) (text : List ℕ) (files : Files) (left : Holdings) (before now : ℕ) (old new : List ℕ) (SR WR DR : Type 0) → (R → IsDeck text deck)
     → (IsAnswer status → D → IsReplied deck trace files status left.files (λ output. W → new ≡ old ++ output))
-    → (D → IfFault status (λ line. ToldFault deck trace (files_in files) line W old new WR left before now)) → (D → W → TookRun deck trace (files_in files) old new ⊎ (DR × TookReport deck trace (files_in files) status old new)) → IsOfRun status → HasCause ⊥ WR DR status
+    → (D → IfFault status (λ line. ToldFault deck trace (files_in files) line W old new WR left before now)) → (D → IfWriteFault status (ToldWrite deck trace (files_in files) W old new left before now)) → (D → W → TookRun deck trace (files_in files) old new ⊎ (DR × TookReport deck trace (files_in files) status old new)) → IsOfRun status → HasCause ⊥ WR DR status
     → Told (Execute workers trace) status R W D text files left before now old new SR WR DR
-told_executed workers trace deck status R W D text files left before now old new SR WR DR is replied fault front r c = record {
+told_executed workers trace deck status R W D text files left before now old new SR WR DR is replied fault written front r c = record {
   replied = λ a t u. let it = replied a u in record {
     reply = it.reply;
     is = (Ok deck, is t, it.is);
@@ -266,6 +283,7 @@ told_executed workers trace deck status R W D text files left before now old new
   ended = λ t. ended_by status _ (deck, is t);
   refused = λ t. run_is_not_refused status _ r;
   fault = λ t d. fault_more status _ _ (λ line told. (deck, is t, told)) (fault d);
+  written = λ t d. write_by status _ (λ e. inr (deck, is t, write_at status _ (written d) e));
   front = λ t d w. elim (front d w) [ inl run ↦ inl (inr (run.0, (Ok deck, is t, run.1), run.2)) | inr fault ↦ inr (fault.0, (deck, is t, fault.1)) ];
   cause = cause_more status _ _ _ _ _ _ (λ x. absurd x) (λ x. x) (λ x. x) c;
   fine = λ x y z. fine_by status _ _ _ c (λ b. b) y z;

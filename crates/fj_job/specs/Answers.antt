@@ -12,7 +12,7 @@ use Rattle.fj_report.specs.declared.status.Status.TheVariants.{Ended, ErrorStop,
 use Rattle.fj_job.specs.declared.task.Task.{Task}
 use Rattle.fj_job.specs.declared.task.Task.TheVariants.{Refuse, Check, Execute, Generate}
 use Rattle.fj_job.specs.Reply.{Reply, IsReplyTo, IsRefusal, files_in}
-use Rattle.fj_job.specs.Cut.{TookReport, ToldFault}
+use Rattle.fj_job.specs.Cut.{TookReport, ToldFault, ToldWrite}
 
 -- neither a fault nor want of memory
 abbrev pub IsAnswer : Status → Type 0
@@ -59,6 +59,11 @@ abbrev pub IfFault : Status → (ℕ → Type 0) → Type 0
 IfFault (DiskFault line) P = P line
 IfFault _ P = Unit {0}
 
+-- where the sink failed
+abbrev pub IfWriteFault : Status → Type 0 → Type 0
+IfWriteFault WriteFault P = P
+IfWriteFault _ P = Unit {0}
+
 -- of a deck that is to be carried out, whether the trace is asked for
 abbrev pub IfExecute : Task → (Bool → Type 0) → Type 0
 IfExecute (Execute workers trace) P = P trace
@@ -84,6 +89,10 @@ HasDeck _ text = (deck : Deck) × IsDeck text deck
 -- the text is a deck
 abbrev pub IsSomeDeck : List ℕ → Type 0
 IsSomeDeck text = (deck : Deck) × IsDeck text deck
+
+-- the text is refused
+abbrev pub IsSomeRefusal : List ℕ → Type 0
+IsSomeRefusal text = (line : ℕ) × (reason : Reason) × IsRefused text line reason
 
 -- the answer and the files that are left are those of a reply, and its output was taken
 pub record Replied (task : Task) (text : List ℕ) (files : Held) (status : Status) (left : Held) (Taken : List ℕ → Type 0) : Type 0 where
@@ -121,6 +130,12 @@ pub record Told (task : Task) (status : Status) (SourceTells SinkTells DiskTells
   -- and that the statement is not about, is left as closing all units leaves it there.
   pub fault : SourceTells → DiskTells → IfFault status (λ line. IfExecute task (λ trace.
       (deck : Deck) × IsDeck text deck × ToldFault deck trace (files_in files) line SinkTells old new SinkRose left before now))
+  -- A fault of the sink is met where the text is refused and that is told; or at a statement of the deck that is carried out, or in the
+  -- report of a deck that ended at it. The sink took the records that ended until there, whole, and then a front of those that the
+  -- statement ends, or of the reply. Each file that the disk does not tell as hurt, and that the statement is not about, is left as
+  -- closing all units leaves it there.
+  pub written : SourceTells → DiskTells → IfWriteFault status (IfExecute task (λ trace.
+      IsSomeRefusal text ⊎ ((deck : Deck) × IsDeck text deck × ToldWrite deck trace (files_in files) SinkTells old new left before now)))
   -- Whatever is answered, the sink took nothing or a front of the reply; or, where the disk failed while a deck was carried out, of
   -- the report of that fault, which is then answered, unless memory was wanting.
   pub front : SourceTells → DiskTells → SinkTells → TookFor task text (files_in files) old new ⊎ (DiskRose × TookFault task status text (files_in files) old new)

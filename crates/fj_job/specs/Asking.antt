@@ -7,8 +7,8 @@ use Rattle.fj_statement.specs.Sound.{IsSound}
 use Rattle.fj_statement.specs.declared.deck.Deck.{Deck as Decked}
 use Rattle.fj_statement.specs.declared.reason.Reason.{Reason}
 use Rattle.fj_report.specs.declared.status.Status.{Status}
-use Rattle.fj_report.specs.declared.status.Status.TheVariants.{DeckRefused, ReadFault}
-use Rattle.fj_job.specs.Answers.{IsLost, Told, Keeps}
+use Rattle.fj_report.specs.declared.status.Status.TheVariants.{DeckRefused, ReadFault, WriteFault, Memory}
+use Rattle.fj_job.specs.Answers.{Told, Keeps}
 use Rattle.fj_job.specs.declared.task.Task.{Task}
 use Rattle.fj_job.specs.declared.task.Task.TheVariants.{Execute}
 use Rattle.fj_job.specs.declared.asked.Asked.{Asked}
@@ -22,9 +22,11 @@ abbrev pub IfDeck : Asked → (Decked → ℕ → Bool → Type 0) → Type 0
 IfDeck (Answered status) P = Unit {0}
 IfDeck (Deck deck workers trace) P = P deck workers trace
 
--- no deck was read: the text is refused, where the source tells it, or the answer is lost
+-- No deck was read. The text is refused, where the source tells it: that is answered, or that the sink failed then. Or memory was
+-- wanting, or the source failed.
 abbrev pub IsUnread : Status → Type 0 → List ℕ → Type 0
-IsUnread status Tells text = ((line : ℕ) × (reason : Reason) × (status ≡ DeckRefused line reason) × (Tells → IsRefused text line reason)) ⊎ IsLost status ⊎ (status ≡ ReadFault)
+IsUnread status Tells text =
+    ((line : ℕ) × (reason : Reason) × ((status ≡ DeckRefused line reason) ⊎ (status ≡ WriteFault)) × (Tells → IsRefused text line reason)) ⊎ (status ≡ Memory) ⊎ (status ≡ ReadFault)
 
 -- Of a source and a sink, whatever the disk is: nothing is done with it.
 pub record IsAsked {R W : Type 0} (tells : R → Type 0) (left : R → List ℕ) (count : R → ℕ) (tells_out : W → Type 0) (taken : W → List ℕ) (count_out : W → ℕ)

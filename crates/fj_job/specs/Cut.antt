@@ -13,7 +13,7 @@ use Rattle.fj_units.specs.Returning.{IsAsDue}
 use Rattle.fj_report.specs.Lines.{status_text}
 use Rattle.fj_report.specs.declared.status.Status.{Status}
 use Rattle.fj_report.specs.declared.status.Status.TheVariants.{DiskFault, Memory}
-use Rattle.fj_items.specs.Handing.{TakesFront}
+use Rattle.fj_items.specs.Handing.{TakesFront, whole_records}
 use Rattle.fj_job.specs.Reply.{Reply, IsRunReply, open_feed, trace_of}
 
 -- how far a statement came
@@ -79,3 +79,23 @@ TookReport deck trace files status old new = (line : ℕ) × IsOfReport status l
 abbrev pub ToldFault : Deck → Bool → Files → ℕ → Type 0 → List ℕ → List ℕ → Type 0 → Holdings → ℕ → ℕ → Type 0
 ToldFault deck trace files line Tells old new Failed left before now = (output : List ℕ) × (report : IsFaultReport deck trace files line output)
     × AreLeft deck files report.comes report.reach left before now × (Tells → TakesFront old new output × ((new ≡ old ++ output) ⊎ Failed))
+
+-- what is to be written next there: the records that the output has behind the statement; or, where the deck ended at it, the reply
+abbrev pub IsNext : Reach → (deck : Deck) → Bool → (files : Files) → ComesTo deck files → List ℕ → Type 0
+IsNext Carried deck trace files comes due = (reply : Reply) × IsRunReply deck trace files reply × (due ≡ reply.output)
+IsNext reach deck trace files comes due = due ≡ whole_records (step deck.variables comes.statement comes.before).0.output
+
+-- a sink took the first of what is due whole, and a front of what is behind
+abbrev pub TookBehind : List ℕ → List ℕ → List ℕ → List ℕ → Type 0
+TookBehind old new first due = (part rest : List ℕ) × (due ≡ first ++ (part ++ rest)) × (new ≡ old ++ (first ++ part))
+
+-- The sink failed at a statement of the deck, or in the report of a deck that ended at it. It took the records that ended until there,
+-- and then a front of what was to be written next; and the files are left as they are there.
+pub record ToldWrite (deck : Deck) (trace : Bool) (files : Files) (Tells : Type 0) (old new : List ℕ) (left : Holdings) (before now : ℕ) : Type 0 where
+  pub comes : ComesTo deck files
+  pub reach : Reach
+  pub may : MayReach reach deck.variables comes.statement comes.before
+  pub due : List ℕ
+  pub next : IsNext reach deck trace files comes due
+  pub taken : Tells → TookBehind old new (whole_records (reached reach deck.variables comes.statement comes.before).output) due
+  pub files_are : AreLeft deck files comes reach left before now

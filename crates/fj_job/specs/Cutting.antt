@@ -9,7 +9,7 @@ use Rattle.fj_world.specs.Rack.{Rack}
 use Rattle.fj_bay.specs.Bay.{Bay}
 use Rattle.fj_bay.specs.Jobs.{Job, Answer}
 use Rattle.fj_plain.specs.State.{Files, all_closed}
-use Rattle.fj_plain.specs.Statement.{plain_execution}
+use Rattle.fj_plain.specs.Statement.{plain_execution, step}
 use Rattle.fj_desk.specs.Core.{Connected}
 use Rattle.fj_desk.specs.Desks.{Desk}
 use Rattle.fj_desk.specs.Desking.{all_left}
@@ -18,11 +18,11 @@ use Rattle.fj_cut.specs.Others.{names_in, file_about, has_file, AreHoused}
 use Rattle.fj_pending.specs.Plain.{tells_of}
 use Rattle.fj_units.specs.Files.{files_of}
 use Rattle.fj_units.specs.Returning.{IsAsDue}
-use Rattle.fj_items.specs.Handing.{whole_records}
-use Rattle.fj_items.specs.declared.lost.Lost.TheVariants.{Disk}
+use Rattle.fj_items.specs.Handing.{whole_records, HandsFront}
+use Rattle.fj_items.specs.declared.lost.Lost.TheVariants.{Disk, Sink}
 use Rattle.fj_runner.specs.declared.left.Left.{Left}
 use Rattle.fj_runner.specs.declared.machine.Machine.{Machine}
-use Rattle.fj_job.specs.Cut.{Reach, Carried, reached, MayReach, ComesTo, AreLeft}
+use Rattle.fj_job.specs.Cut.{Reach, Untold, Carried, reached, MayReach, ComesTo, AreLeft}
 
 -- each slot at which a unit has the file is there, and has not stopped
 abbrev pub IsServed : {E J A : Type 0} → Rack E J A → List Connected → List ℕ → Type 0
@@ -56,6 +56,10 @@ pub record TookFront (old new : List ℕ) (deck : Deck) (files : Files) (comes :
   pub due : whole_records (reached reach deck.variables comes.statement comes.before).output ≡ part ++ rest
   pub taken : new ≡ old ++ part
 
+-- the sink took the records that ended before that statement, and then a front of those that it ends
+abbrev pub TookBegun : List ℕ → List ℕ → (deck : Deck) (files : Files) → ComesTo deck files → Type 0
+TookBegun old new deck files comes = HandsFront (old ++ whole_records comes.before.output) new comes.before.output (step deck.variables comes.statement comes.before).0.output
+
 -- what unit `*` gets of the statements up to one of the deck
 pub record IsOutputSoFar (deck : Deck) (files : Files) (output : List ℕ) : Type 0 where
   pub comes : ComesTo deck files
@@ -66,12 +70,15 @@ pub record IsOutputSoFar (deck : Deck) (files : Files) (output : List ℕ) : Typ
 abbrev pub TookSome : Deck → Files → List ℕ → List ℕ → Type 0
 TookSome deck files old new = (part rest : List ℕ) × IsOutputSoFar deck files (part ++ rest) × (new ≡ old ++ part)
 
--- The run was cut at the statement at hand. What was told and written is exact where nothing is lost but by the disk.
+-- The run was cut at the statement at hand. What was told and written is exact where nothing is lost but by the disk. Where the sink
+-- failed it is known of the files, and of what the sink took.
 pub record IsCut {E J A F : Type 0} {ghosts : Ghosts F} (meaning : Meaning E J A Bay Job Answer) (rack : Rack E J A) (held : Holdings) (before now : ℕ) (Tells : Type 0) (old new : List ℕ)
     (deck : Deck) (files : Files) (m : Machine F ghosts) : Type 0 where
   pub comes : ComesTo deck files
   pub at : slice_get deck.statements m.at ≡ Some comes.statement.0
   pub exact : (m.tally.lost ≡ None) ⊎ (m.tally.lost ≡ Some Disk) → IsExact meaning rack held before now Tells old new deck files comes m
+  pub sink : m.tally.lost ≡ Some Sink → HoldsFiles meaning rack held before now deck files comes Untold m
+  pub begun : Tells → m.tally.lost ≡ Some Sink → TookBegun old new deck files comes
   pub front : Tells → TookFront old new deck files comes
 
 -- The deck ended at the statement at hand, and tells and leaves what the execution tells and leaves up to there.
@@ -92,3 +99,10 @@ pub record IsLeftAt {F : Type 0} (deck : Deck) (files : Files) (left : Left F) (
   pub output : left.core.output ≡ (reached reach deck.variables comes.statement comes.before).output
   pub tells : tells_of left.core.tells ≡ (reached reach deck.variables comes.statement comes.before).tells
   pub files_are : AreLeft deck files comes reach held before now
+
+-- The sink failed at a statement of the deck, the one at hand: the files are left as they are there, and so far the sink came.
+pub record IsLeftBegun {F : Type 0} (deck : Deck) (files : Files) (left : Left F) (Tells : Type 0) (old new : List ℕ) (held : Holdings) (before now : ℕ) : Type 0 where
+  pub comes : ComesTo deck files
+  pub at : slice_get deck.statements left.at ≡ Some comes.statement.0
+  pub begun : Tells → TookBegun old new deck files comes
+  pub files_are : AreLeft deck files comes Untold held before now

@@ -1,5 +1,5 @@
 -- What the steps of carrying out a deck leave: its disk, its sink and what is answered.
-use Rattle.std.specs.Prelude.{◌≡◌, ◌⊎◌, ◌↔◌, ◌≤◌, ◌++◌, ℕ, Bool, false, List, Result, Ok, Err, Some, None, IfOk, IfErr, slice_get}
+use Rattle.std.specs.Prelude.{◌≡◌, ◌⊎◌, ◌↔◌, ◌≤◌, ◌++◌, ℕ, Bool, true, false, List, Result, Ok, Err, Some, None, IfOk, IfErr, slice_get}
 use Rattle.std.specs.FinSet as set
 use Rattle.fj_outside.specs.Faults.{Rose}
 use Rattle.fj_outside.specs.Holdings.{Holdings}
@@ -20,14 +20,15 @@ use Rattle.fj_items.specs.declared.lost.Lost.TheVariants.{Sink, Disk, Unfit}
 use Rattle.fj_units.specs.Files.{files_of}
 use Rattle.fj_units.specs.Returning.{IsAsDue}
 use Rattle.fj_closing.specs.Closing.{AreSeated, AreNamed, IfClear}
+use Rattle.fj_closing.specs.Losing.{may_tell}
 use Rattle.fj_report.specs.declared.status.Status.{Status}
-use Rattle.fj_report.specs.declared.status.Status.TheVariants.{DiskFault, Memory}
+use Rattle.fj_report.specs.declared.status.Status.TheVariants.{WriteFault, DiskFault, Memory}
 use Rattle.fj_runner.specs.Machine.{ending_of}
 use Rattle.fj_runner.specs.declared.ending.Ending.{Ending}
 use Rattle.fj_runner.specs.declared.machine.Machine.{Machine}
-use Rattle.fj_job.specs.Answers.{IsAnswer, IsOfRun, HasCause, IfFault}
-use Rattle.fj_job.specs.Cut.{TookRun, TookReport, IsOfReport, ToldFault}
-use Rattle.fj_job.specs.Cutting.{IsLeftAt, TookSome}
+use Rattle.fj_job.specs.Answers.{IsAnswer, IsOfRun, HasCause, IfFault, IfWriteFault}
+use Rattle.fj_job.specs.Cut.{Carried as At, TookRun, TookReport, IsOfReport, ToldFault, ToldWrite}
+use Rattle.fj_job.specs.Cutting.{IsLeftAt, IsLeftBegun, TookSome}
 use Rattle.fj_job.specs.Concluding.{HasEnded, IsReplied, IsResult, run_text, fault_text}
 use Rattle.fj_job.specs.declared.ending.Carried.{Carried}
 
@@ -42,10 +43,10 @@ pub record IsSettled {D F E J A : Type 0} {ghosts : Ghosts F} (tells : D → Typ
   pub nothing : it.settled ≡ Ok tt → m.tally.lost ≡ None
   pub files : tells disk → it.settled ≡ Ok tt → (desks : List Desk) → HoldsDesks meaning rack desks → AreSeated desks m.state.core.units
       → files_of (held disk') ≡ all_left desks m.state.core.units (files_of (held disk))
-  -- where the disk failed it is so of each file that is not hurt, unless one that was to be removed is there; and its slot had not stopped
-  pub due : tells disk → it.settled ≡ Err Disk → (desks : List Desk) → HoldsDesks meaning rack desks → AreSeated desks m.state.core.units → AreNamed desks m.state.core.units
+  -- where the outside failed it is so of each file that is not hurt, unless one that was to be removed is there; and its slot had not stopped
+  pub due : tells disk → may_tell it.settled ≡ true → (desks : List Desk) → HoldsDesks meaning rack desks → AreSeated desks m.state.core.units → AreNamed desks m.state.core.units
       → (name : List ℕ) → set.contains (held disk').hurt name ≡ false → IsAsDue (refusals disk) (refusals disk') (files_of (held disk') name) (all_left desks m.state.core.units (files_of (held disk)) name)
-  pub running : tells disk → it.settled ≡ Err Disk → IfClear (held disk') m.state.core.units rack.slots (λ l. l.halt ≡ None)
+  pub running : tells disk → may_tell it.settled ≡ true → IfClear (held disk') m.state.core.units rack.slots (λ l. l.halt ≡ None)
   pub own : tells disk → refusals disk ≤ refusals disk'
   pub sink : it.settled ≡ Err Sink → m.tally.lost ≡ Some Sink
   pub of_disk : it.settled ≡ Err Disk → (m.tally.lost ≡ Some Disk) ⊎ Rose (count disk) (count disk')
@@ -62,6 +63,10 @@ pub record IsCarriedOut {W D F E : Type 0} (tells_out : W → Type 0) (taken : W
   pub result_is : tells disk → IfOk result (λ it. it.settled ≡ Ok tt → it.left.over ≡ false
       → IsResult (plain_execution deck.variables deck.statements (files_of (held disk))) (files_of (held disk')) it.left)
   pub at_fault : tells disk → IfOk result (λ it. it.settled ≡ Err Disk → IsLeftAt deck (files_of (held disk)) it.left (held disk') (refusals disk) (refusals disk'))
+  pub at_write : tells disk → IfOk result (λ it. it.settled ≡ Err Sink
+      → IsLeftBegun deck (files_of (held disk)) it.left (tells_out out) (taken out) (taken out') (held disk') (refusals disk) (refusals disk'))
+  pub at_end : tells disk → IfOk result (λ it. it.settled ≡ Ok tt → it.left.over ≡ false → (ending : Ending) → it.left.ending ≡ Some ending
+      → (x : IsLeftAt deck (files_of (held disk)) it.left (held disk') (refusals disk) (refusals disk')) × (x.reach ≡ At))
   pub part : tells disk → tells_out out → IfOk result (λ it. TookSome deck (files_of (held disk)) (taken out) (taken out'))
   pub sink : IfOk result (λ it. it.settled ≡ Err Sink → Rose (count_out out) (count_out out'))
   pub of_disk : IfOk result (λ it. it.settled ≡ Err Disk → Rose (count disk) (count disk'))
@@ -88,16 +93,20 @@ pub record IsFaultBegun {F : Type 0} (trace : Bool) (it : Carried F) (status : S
   pub taken : TakesFront old new (fault_text trace line it.left.core.output (tells_of it.left.core.tells))
 
 -- the sink took a front of the report of a deck that ended
-pub record IsEndBegun {F : Type 0} (trace : Bool) (it : Carried F) (old new : List ℕ) : Type 0 where
+pub record IsEndBegun {F : Type 0} (trace : Bool) (it : Carried F) (Tells : Type 0) (old new : List ℕ) : Type 0 where
   pub settled : it.settled ≡ Ok tt
   pub going : it.left.over ≡ false
   pub ending : Ending
   pub ends : it.left.ending ≡ Some ending
-  pub taken : TakesFront old new (open_record it.left.core.output ++ run_text it.left.deck.variables trace (ending_of ending) it.left.core)
+  pub taken : Tells → TakesFront old new (open_record it.left.core.output ++ run_text it.left.deck.variables trace (ending_of ending) it.left.core)
 
 -- what the sink took of a report
 abbrev pub IsFrontTold : {F : Type 0} → Bool → Carried F → Status → List ℕ → List ℕ → Type 0
-IsFrontTold trace it status old new = (new ≡ old) ⊎ IsFaultBegun trace it status old new ⊎ IsEndBegun trace it old new
+IsFrontTold trace it status old new = (new ≡ old) ⊎ IsFaultBegun trace it status old new ⊎ IsEndBegun trace it (Unit {0}) old new
+
+-- where it failed: before the report, and it took nothing of that; or in the report
+abbrev pub IsWriteTold : {F : Type 0} → Bool → Carried F → Type 0 → List ℕ → List ℕ → Type 0
+IsWriteTold trace it Tells old new = ((it.settled ≡ Err Sink) × (new ≡ old)) ⊎ IsEndBegun trace it Tells old new
 
 -- What was carried out is reported.
 pub record IsConcluded {W F E : Type 0} (tells_out : W → Type 0) (taken : W → List ℕ) (count_out : W → ℕ)
@@ -108,6 +117,7 @@ pub record IsConcluded {W F E : Type 0} (tells_out : W → Type 0) (taken : W �
   pub of_run : IsOfRun status
   pub unfit : IfOk carried (λ it. it.settled ≡ Err Unfit → status ≡ Memory)
   pub fault : IfOk carried (λ it. (line : ℕ) → status ≡ DiskFault line → IsFaultTold trace it line (tells_out out) (taken out) (taken out') (Rose (count_out out) (count_out out')))
+  pub written : status ≡ WriteFault → IfOk carried (λ it. IsWriteTold trace it (tells_out out) (taken out) (taken out'))
   pub front : tells_out out → IfOk carried (λ it. IsFrontTold trace it status (taken out) (taken out'))
   pub silent : IfErr carried (λ _. out' ≡ out)
   pub cause : HasCause ⊥ ((IfOk carried (λ it. it.settled ≡ Err Sink)) ⊎ Rose (count_out out) (count_out out')) (IfOk carried (λ it. it.settled ≡ Err Disk)) status
@@ -120,6 +130,7 @@ pub record IsExecuted {W D : Type 0} (tells_out : W → Type 0) (taken : W → L
   pub replied : IsAnswer status → tells disk → IsReplied deck trace (held disk).files status (held disk').files (λ output. tells_out out → taken out' ≡ taken out ++ output)
   pub fault : tells disk → IfFault status (λ line. ToldFault deck trace (files_of (held disk)) line (tells_out out) (taken out) (taken out') (Rose (count_out out) (count_out out'))
       (held disk') (refusals disk) (refusals disk'))
+  pub written : tells disk → IfWriteFault status (ToldWrite deck trace (files_of (held disk)) (tells_out out) (taken out) (taken out') (held disk') (refusals disk) (refusals disk'))
   pub front : tells disk → tells_out out → TookRun deck trace (files_of (held disk)) (taken out) (taken out')
       ⊎ (Rose (count disk) (count disk') × TookReport deck trace (files_of (held disk)) status (taken out) (taken out'))
   pub of_run : IsOfRun status

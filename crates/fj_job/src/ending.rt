@@ -14,12 +14,12 @@ ghost use Rattle.fj_units.specs.Names.{AreInUse};
 ghost use Rattle.fj_units.specs.Files.{files_of};
 ghost use Rattle.fj_runner.specs.Machine.{ending_of};
 ghost use Rattle.fj_units.specs.Returning.{IsAsDue};
-ghost use Rattle.fj_closing.specs.Losing.{may_tell};
+ghost use Rattle.fj_closing.specs.Losing.{is_fault, may_tell};
 ghost use Rattle.fj_closing.specs.Closing.{AreSeated, AreNamed, IfClear};
 ghost use Rattle.fj_job.specs.Answers.{IsAnswer, IsLost, IsOfRun, HasCause};
 ghost use Rattle.fj_job.specs.Reply.{status_of};
 ghost use Rattle.fj_job.specs.Concluding.{HasEnded, run_text, fault_text};
-ghost use Rattle.fj_job.specs.Executing.{IsSettled, IsCarriedOut, IsConcluded, IsExecuted, IsFaultTold, IsFrontTold};
+ghost use Rattle.fj_job.specs.Executing.{IsSettled, IsCarriedOut, IsConcluded, IsExecuted, IsFaultTold, IsFrontTold, IsWriteTold};
 
 use crate::carrying::{carry, carry_with};
 use crate::ready::{Ready, ready_for};
@@ -47,7 +47,8 @@ fn first_lost(lost: Option<Lost>, closed: Result<(), Lost>) -> Option<Lost>
     ensures sink { result ≡ Some Lost.Sink → (lost ≡ Some Lost.Sink) ⊎ (closed ≡ Err Lost.Sink) }
     ensures disk { result ≡ Some Lost.Disk → (lost ≡ Some Lost.Disk) ⊎ (closed ≡ Err Lost.Disk) }
     ensures alone { result ≡ Some Lost.Disk → (lost ≡ None) ⊎ (lost ≡ Some Lost.Disk) }
-    ensures fits { result ≡ Some Lost.Disk → may_tell closed ≡ true }
+    ensures fits { IfSome result (λ first. is_fault first ≡ true → may_tell closed ≡ true) }
+    ensures ok { closed ≡ Ok tt → result ≡ lost }
 {
     match closed {
         Ok(()) => lost,
@@ -183,10 +184,10 @@ fn give_back<D: Disk>(
     ensures nothing { OnOk result (left.old.lost ≡ None) }
     ensures files { D.tells disk.old → OnOk result ((desks : List Desk) → HoldsDesks (bay_meaning D.File.told D.File.bytes D.File.count) slots desks
         → AreSeated desks left.old.core.units → files_of (D.held disk.new) ≡ all_left desks left.old.core.units (files_of (D.held disk.old))) }
-    ensures due { D.tells disk.old → result ≡ Err Lost.Disk → (desks : List Desk) → HoldsDesks (bay_meaning D.File.told D.File.bytes D.File.count) slots desks
+    ensures due { D.tells disk.old → may_tell result ≡ true → (desks : List Desk) → HoldsDesks (bay_meaning D.File.told D.File.bytes D.File.count) slots desks
         → AreSeated desks left.old.core.units → AreNamed desks left.old.core.units → (name : List ℕ) → set.contains (D.held disk.new).hurt name ≡ false
         → IsAsDue (D.refusals disk.old) (D.refusals disk.new) (files_of (D.held disk.new) name) (all_left desks left.old.core.units (files_of (D.held disk.old)) name) }
-    ensures running { D.tells disk.old → result ≡ Err Lost.Disk → IfClear (D.held disk.new) left.old.core.units slots.slots (λ l. l.halt ≡ None) }
+    ensures running { D.tells disk.old → may_tell result ≡ true → IfClear (D.held disk.new) left.old.core.units slots.slots (λ l. l.halt ≡ None) }
     ensures own { D.tells disk.old → D.refusals disk.old ≤ D.refusals disk.new }
     ensures sink { result ≡ Err Lost.Sink → left.old.lost ≡ Some Lost.Sink }
     ensures disk { result ≡ Err Lost.Disk → (left.old.lost ≡ Some Lost.Disk) ⊎ Rose (D.count disk.old) (D.count disk.new) }
@@ -289,6 +290,7 @@ fn report<F: FileStore, W: Sink>(alloc: Global, trace: bool, it: Carried<F>, out
     ensures unfit { it.settled ≡ Err Lost.Unfit → result ≡ Status.Memory }
     ensures fault { (line : ℕ) → result ≡ Status.DiskFault line
         → IsFaultTold trace it line (W.tells out.old) (W.taken out.old) (W.taken out.new) (Rose (W.count out.old) (W.count out.new)) }
+    ensures written { result ≡ Status.WriteFault → IsWriteTold trace it (W.tells out.old) (W.taken out.old) (W.taken out.new) }
     ensures front { W.tells out.old → IsFrontTold trace it result (W.taken out.old) (W.taken out.new) }
     ensures cause { HasCause ⊥ ((it.settled ≡ Err Lost.Sink) ⊎ Rose (W.count out.old) (W.count out.new)) (it.settled ≡ Err Lost.Disk) result }
     ensures telling { W.tells out.old ↔ W.tells out.new }

@@ -2,11 +2,12 @@
 use Rattle.std.proofs.Common.{◌≡◌, ◌≢◌, ℕ, Bool, List, [], ◌++◌, Option, Some, None, Result, Ok, Err, OnErr, inl, inr, refl, sym, ap, ◌∙◌, subst}
 use Rattle.std.specs.Prelude.{◌⊎◌}
 use Rattle.std.proofs.lemmas.List.{append-nil}
+use Rattle.fj_outside.specs.Faults.{Rose}
 use Rattle.fj_outside.specs.Holdings.{Holdings}
 use Rattle.fj_statement.specs.declared.deck.Variable.{Variable}
 use Rattle.fj_items.specs.Handing.{HandsOver, HandsFront, whole_records}
 use Rattle.fj_items.specs.declared.lost.Lost.{Lost}
-use Rattle.fj_items.specs.declared.lost.Lost.TheVariants.{Disk}
+use Rattle.fj_items.specs.declared.lost.Lost.TheVariants.{Disk, Sink}
 use Rattle.fj_plain.specs.State.{Output, Tell}
 use Rattle.fj_plain.specs.Statement.{Stated, Ending, ends}
 use Rattle.fj_desk.specs.Core.{Core as PlainCore}
@@ -20,7 +21,7 @@ use Rattle.fj_acts.specs.Doing.{IsDoing}
 use Rattle.fj_acts.specs.declared.doing.Doing.{Doing}
 use Rattle.fj_acts.specs.declared.doing.Doing.TheVariants as doing
 use Rattle.fj_acts.specs.declared.state.Core.{Core}
-use Rattle.fj_runner.specs.Failing.{FailsTurn, FailsStage, FailsDoing}
+use Rattle.fj_runner.specs.Failing.{FailsTurn, FailsStage, StandsDoing, OfOutside}
 
 -- ---- what a sink took
 
@@ -51,34 +52,50 @@ doing_output told bytes variables st core (doing.Awaits slot job next) plain d =
 
 -- ---- turns
 
+neither : {X : Type 0} → {r : Result X Lost} {P : Type 0} → r ≢ Err Disk → r ≢ Err Sink → OfOutside (λ lost. r ≡ Err lost) → P
+neither n s (inl e) = absurd (n e)
+neither n s (inr e) = absurd (s e)
+
 module _ {W : Type 0} {tells_out : W → Type 0} {taken : W → List ℕ} {held : Holdings} {before now : ℕ} where
-  -- it is not for the disk, and nothing is written
-  pub fails_still : {X : Type 0} → (out : W) (core core' : Core) (r : Result X Lost) (due : Output) (Known : Type 0) (told : List Tell) {does : Option PlainDoing} → r ≢ Err Disk
+  -- it is not for the outside, and nothing is written
+  pub fails_still : {X : Type 0} → (out : W) (core core' : Core) (r : Result X Lost) (due : Output) (Known : Type 0) (told : List Tell) {does : Option PlainDoing} → r ≢ Err Disk → r ≢ Err Sink
       → FailsTurn tells_out taken out core r out core' held before now due Known told does
-  fails_still out core core' r due Known told n = record {
+  fails_still out core core' r due Known told n s = record {
     front = λ t. on_err r (HandsFront (taken out) (taken out) core.output due ⊎ (taken out ≡ taken out)) (inr refl);
-    known = λ e. absurd (n e);
+    known = λ e. neither n s e;
+    stands = λ e. neither n s e;
     output = λ e. absurd (n e);
     tells = λ e. absurd (n e);
-    fault = λ e. absurd (n e);
+    rose = λ e. absurd (n e);
+    begun = λ t e. absurd (s e);
   }
 
-  -- it is not for the disk, and all is written
-  pub fails_acting : {X : Type 0} → (out out' : W) (core core' : Core) (r : Result X Lost) (due : Output) (Known : Type 0) (told : List Tell) {does : Option PlainDoing} → r ≢ Err Disk
+  -- it is not for the outside, and all is written
+  pub fails_acting : {X : Type 0} → (out out' : W) (core core' : Core) (r : Result X Lost) (due : Output) (Known : Type 0) (told : List Tell) {does : Option PlainDoing} → r ≢ Err Disk → r ≢ Err Sink
       → (tells_out out → HandsOver (taken out) (taken out') core.output due) → FailsTurn tells_out taken out core r out' core' held before now due Known told does
-  fails_acting out out' core core' r due Known told n h = record {
+  fails_acting out out' core core' r due Known told n s h = record {
     front = λ t. on_err r (HandsFront (taken out) (taken out') core.output due ⊎ (taken out' ≡ taken out)) (inl (hands_front (taken out) (taken out') core.output due (h t)));
-    known = λ e. absurd (n e);
+    known = λ e. neither n s e;
+    stands = λ e. neither n s e;
     output = λ e. absurd (n e);
     tells = λ e. absurd (n e);
-    fault = λ e. absurd (n e);
+    rose = λ e. absurd (n e);
+    begun = λ t e. absurd (s e);
   }
 
   -- its own action is given up
   pub fails_begun : {X : Type 0} → (out out' : W) (core core' : Core) (r : Result X Lost) (due : Output) {does : Option PlainDoing} → (tells_out out → OnErr r (HandsFront (taken out) (taken out') core.output due))
-      → (r ≡ Err Disk → core'.output ≡ core.output) → core'.tells ≡ core.tells → (r ≡ Err Disk → FailsDoing does core' held before now)
+      → (r ≡ Err Disk → core'.output ≡ core.output) → core'.tells ≡ core.tells → (OfOutside (λ lost. r ≡ Err lost) → StandsDoing does core' held before now) → (r ≡ Err Disk → Rose before now)
       → FailsTurn tells_out taken out core r out' core' held before now due (Unit {0}) (tells_of core.tells) does
-  fails_begun out out' core core' r due h o t f = record { front = λ k. by r (h k); known = λ e. tt; output = o; tells = λ e. ap tells_of t; fault = f }
+  fails_begun {X = X} out out' core core' r due h o t f rose = record {
+    front = λ k. by r (h k);
+    known = λ e. tt;
+    stands = f;
+    output = o;
+    tells = λ e. ap tells_of t;
+    rose = rose;
+    begun = λ k e. subst (λ (x : Result X Lost). OnErr x (HandsFront (taken out) (taken out') core.output due)) e (h k);
+  }
     where
       by : {Y : Type 0} → (x : Result Y Lost) → OnErr x (HandsFront (taken out) (taken out') core.output due) → OnErr x (HandsFront (taken out) (taken out') core.output due ⊎ (taken out' ≡ taken out))
       by (Ok it) k = tt
@@ -86,13 +103,15 @@ module _ {W : Type 0} {tells_out : W → Type 0} {taken : W → List ℕ} {held 
 
   -- nothing is written, and what is told stays
   pub fails_quiet : {X : Type 0} → (out : W) (core core' : Core) (r : Result X Lost) (due : Output) {does : Option PlainDoing} → core'.output ≡ core.output → core'.tells ≡ core.tells
-      → (r ≡ Err Disk → FailsDoing does core' held before now) → FailsTurn tells_out taken out core r out core' held before now due (Unit {0}) (tells_of core.tells) does
-  fails_quiet out core core' r due o t f = record {
+      → r ≢ Err Sink → (r ≡ Err Disk → StandsDoing does core' held before now) → (r ≡ Err Disk → Rose before now) → FailsTurn tells_out taken out core r out core' held before now due (Unit {0}) (tells_of core.tells) does
+  fails_quiet out core core' r due o t s f rose = record {
     front = λ k. on_err r (HandsFront (taken out) (taken out) core.output due ⊎ (taken out ≡ taken out)) (inr refl);
     known = λ e. tt;
+    stands = λ e. elim e [ inl d ↦ f d | inr lost ↦ absurd (s lost) ];
     output = λ e. o;
     tells = λ e. ap tells_of t;
-    fault = f;
+    rose = rose;
+    begun = λ k e. absurd (s e);
   }
 
   -- by another word for what was due
@@ -102,9 +121,11 @@ module _ {W : Type 0} {tells_out : W → Type 0} {taken : W → List ℕ} {held 
     front = λ s. subst (λ x. OnErr r (HandsFront (taken out) (taken out') x due' ⊎ (taken out' ≡ taken out))) o
         (subst (λ x. OnErr r (HandsFront (taken out) (taken out') half.output x ⊎ (taken out' ≡ taken out))) d (f.front s));
     known = λ e. k (f.known e);
+    stands = λ e. subst (λ x. StandsDoing x core' held before now) w (f.stands e);
     output = λ e. f.output e ∙ o;
     tells = λ e. f.tells e ∙ t;
-    fault = λ e. subst (λ x. FailsDoing x core' held before now) w (f.fault e);
+    rose = f.rose;
+    begun = λ s e. subst (λ x. HandsFront (taken out) (taken out') x due') o (subst (λ x. HandsFront (taken out) (taken out') half.output x) d (f.begun s e));
   }
 
   -- by another word for the stage

@@ -6,7 +6,7 @@ use Rattle.fj_outside.specs.Holdings.{Holdings}
 use Rattle.fj_outside.specs.declared.outside.FileStore.{Ghosts}
 use Rattle.fj_items.specs.Handing.{HandsOver, HandsFront, whole_records}
 use Rattle.fj_items.specs.declared.lost.Lost.{Lost}
-use Rattle.fj_items.specs.declared.lost.Lost.TheVariants.{Disk}
+use Rattle.fj_items.specs.declared.lost.Lost.TheVariants.{Disk, Sink, Unfit}
 use Rattle.fj_world.specs.declared.ask.Ask.{Ask}
 use Rattle.fj_world.specs.declared.ask.Ask.TheVariants.{Submit, Settle, Finished}
 use Rattle.fj_bay.specs.Jobs.{Job as Task}
@@ -22,10 +22,10 @@ use Rattle.fj_cut.specs.Turning.{doing_due, turn_doing}
 use Rattle.fj_units.specs.Files.{files_of}
 use Rattle.fj_units.specs.Returning.{IsAsDue}
 use Rattle.fj_pending.specs.Plain.{tells_of}
-use Rattle.fj_acts.specs.Failing.{FailsWhere}
+use Rattle.fj_acts.specs.Failing.{StandsWhere}
 use Rattle.fj_acts.specs.State.{core_at}
 use Rattle.fj_acts.specs.declared.state.Core.{Core}
-use Rattle.fj_runner.specs.Failing.{FailsStage, FailsDoing, FailsCall, IsGivenUp, FailsAsking}
+use Rattle.fj_runner.specs.Failing.{FailsStage, StandsDoing, FailsCall, OfOutside, IsGivenUp, FailsAsking}
 use Rattle.fj_runner.specs.Leaving.{Rests}
 use Rattle.fj_runner.specs.Machine.{rest_of, run_in, run_at, run_of, stage_at}
 use Rattle.fj_runner.specs.Tallying.{first_lost}
@@ -72,35 +72,35 @@ due_before before mid now found due h (inl same) = inl same
 due_before before mid now found due h (inr (none, rose)) = inr (none, rose_before before mid now h rose)
 
 -- the disk's own number having been less before
-where_before : (due : Doing) (core : Core) (held : Holdings) (before mid now : ℕ) → before ≤ mid → FailsWhere due core held mid now → FailsWhere due core held before now
+where_before : (due : Doing) (core : Core) (held : Holdings) (before mid now : ℕ) → before ≤ mid → StandsWhere due core held mid now → StandsWhere due core held before now
 where_before due core held before mid now h f = record {
-  rose = rose_before before mid now h f.rose;
   units = f.units;
   files = λ name other. due_before before mid now (files_of held name) ((core_at due).files name) h (f.files name other);
 }
 
-doing_before : (due : Option Doing) (core : Core) (held : Holdings) (before mid now : ℕ) → before ≤ mid → FailsDoing due core held mid now → FailsDoing due core held before now
-doing_before due core held before mid now h f = record { does = f.does; is = f.is; fault = where_before f.does core held before mid now h f.fault }
+doing_before : (due : Option Doing) (core : Core) (held : Holdings) (before mid now : ℕ) → before ≤ mid → StandsDoing due core held mid now → StandsDoing due core held before now
+doing_before due core held before mid now h f = record { does = f.does; is = f.is; stands = where_before f.does core held before mid now h f.stands }
 
 -- ---- calls
 
 module _ {F : Type 0} {ghosts : Ghosts F} where
   -- behind statements that were passed
-  pub fails_behind : (OfDisk TellsOut TellsMid : Type 0) (a b c : List ℕ) {held : Holdings} {before between now : ℕ} (n : ℕ) (r half : Run) (m mid m' : Machine F ghosts) → passes n r ≡ Some half → (TellsOut → TellsMid)
-      → (TellsOut → HandsOver a b m.state.core.output mid.state.core.output) → before ≤ between → FailsCall OfDisk TellsMid b c held between now half mid m' → FailsCall OfDisk TellsOut a c held before now r m m'
-  fails_behind OfDisk TellsOut TellsMid a b c {held = held} {before = before} {between = between} {now = now} n r half m mid m' p tells h own f = record {
+  pub fails_behind : (Of : Lost → Type 0) (TellsOut TellsMid : Type 0) (a b c : List ℕ) {held : Holdings} {before between now : ℕ} (n : ℕ) (r half : Run) (m mid m' : Machine F ghosts) → passes n r ≡ Some half → (TellsOut → TellsMid)
+      → (TellsOut → HandsOver a b m.state.core.output mid.state.core.output) → before ≤ between → FailsCall Of TellsMid b c held between now half mid m' → FailsCall Of TellsOut a c held before now r m m'
+  fails_behind Of TellsOut TellsMid a b c {held = held} {before = before} {between = between} {now = now} n r half m mid m' p tells h own f = record {
     count = n + f.count;
     run = f.run;
     passed = passes_both n f.count r half f.run p f.passed;
     rest = f.rest;
     front = λ t. by t (f.front (tells t));
+    outside = λ o. let k = f.outside o in record { known = k.known; does = doing_before (turn_doing f.run) m'.state.core held before between now own k.does };
     disk = λ d. let k = f.disk d in record {
-      known = k.known;
       output = k.output;
       handed = λ t. hands_both a b c m.state.core.output mid.state.core.output f.run.core.output (h t) (k.handed (tells t));
       tells = k.tells;
-      fault = doing_before (turn_doing f.run) m'.state.core held before between now own k.fault;
+      rose = rose_before before between now own k.rose;
     };
+    sink = λ s t. let k = f.sink s (tells t) in (k.0, hands_both a b k.0 m.state.core.output mid.state.core.output f.run.core.output (h t) k.1, k.2);
   }
     where
       by : TellsOut → HandsFront b c mid.state.core.output (turn_output f.run) ⊎ HandsOver b c mid.state.core.output f.run.core.output
@@ -109,56 +109,74 @@ module _ {F : Type 0} {ghosts : Ghosts F} where
       by t (inr k) = inr (hands_both a b c m.state.core.output mid.state.core.output f.run.core.output (h t) k)
 
   -- from another machine with the same output
-  pub fails_like : (OfDisk TellsOut : Type 0) (a b : List ℕ) {held : Holdings} {before now : ℕ} (r : Run) (m mid m' : Machine F ghosts) → mid.state.core.output ≡ m.state.core.output
-      → FailsCall OfDisk TellsOut a b held before now r mid m' → FailsCall OfDisk TellsOut a b held before now r m m'
-  fails_like OfDisk TellsOut a b r m mid m' e f =
-      fails_behind OfDisk TellsOut TellsOut a a b 0 r r m mid m' refl (λ t. t) (λ t. hands_none a a m.state.core.output mid.state.core.output refl e) (omega arith) f
+  pub fails_like : (Of : Lost → Type 0) (TellsOut : Type 0) (a b : List ℕ) {held : Holdings} {before now : ℕ} (r : Run) (m mid m' : Machine F ghosts) → mid.state.core.output ≡ m.state.core.output
+      → FailsCall Of TellsOut a b held before now r mid m' → FailsCall Of TellsOut a b held before now r m m'
+  fails_like Of TellsOut a b r m mid m' e f =
+      fails_behind Of TellsOut TellsOut a a b 0 r r m mid m' refl (λ t. t) (λ t. hands_none a a m.state.core.output mid.state.core.output refl e) (omega arith) f
 
   -- to another machine with the same state
-  pub fails_to : (OfDisk TellsOut : Type 0) (a b : List ℕ) {held : Holdings} {before now : ℕ} (r : Run) (m m' m'' : Machine F ghosts) → rest_of m'' ≡ rest_of m' → m''.state.core ≡ m'.state.core
-      → FailsCall OfDisk TellsOut a b held before now r m m' → FailsCall OfDisk TellsOut a b held before now r m m''
-  fails_to OfDisk TellsOut a b {held = held} {before = before} {now = now} r m m' m'' rest core f = record {
+  pub fails_to : (Of : Lost → Type 0) (TellsOut : Type 0) (a b : List ℕ) {held : Holdings} {before now : ℕ} (r : Run) (m m' m'' : Machine F ghosts) → rest_of m'' ≡ rest_of m' → m''.state.core ≡ m'.state.core
+      → FailsCall Of TellsOut a b held before now r m m' → FailsCall Of TellsOut a b held before now r m m''
+  fails_to Of TellsOut a b {held = held} {before = before} {now = now} r m m' m'' rest core f = record {
     count = f.count;
     run = f.run;
     passed = f.passed;
     rest = rest ∙ f.rest;
     front = f.front;
+    outside = λ o. let k = f.outside o in record { known = k.known; does = subst (λ (x : Core). StandsDoing (turn_doing f.run) x held before now) (sym core) k.does };
     disk = λ d. let k = f.disk d in record {
-      known = k.known;
       output = ap (λ (x : Core). x.output) core ∙ k.output;
       handed = k.handed;
       tells = ap (λ (x : Core). tells_of x.tells) core ∙ k.tells;
-      fault = subst (λ (x : Core). FailsDoing (turn_doing f.run) x held before now) (sym core) k.fault;
+      rose = k.rose;
     };
+    sink = f.sink;
   }
 
   -- by another word for the run
-  pub fails_run : (OfDisk TellsOut : Type 0) (a b : List ℕ) {held : Holdings} {before now : ℕ} (r r' : Run) (m m' : Machine F ghosts) → r ≡ r' → FailsCall OfDisk TellsOut a b held before now r m m' → FailsCall OfDisk TellsOut a b held before now r' m m'
-  fails_run OfDisk TellsOut a b {held = held} {before = before} {now = now} r r' m m' e f = subst (λ x. FailsCall OfDisk TellsOut a b held before now x m m') e f
+  pub fails_run : (Of : Lost → Type 0) (TellsOut : Type 0) (a b : List ℕ) {held : Holdings} {before now : ℕ} (r r' : Run) (m m' : Machine F ghosts) → r ≡ r' → FailsCall Of TellsOut a b held before now r m m' → FailsCall Of TellsOut a b held before now r' m m'
+  fails_run Of TellsOut a b {held = held} {before = before} {now = now} r r' m m' e f = subst (λ x. FailsCall Of TellsOut a b held before now x m m') e f
 
-  -- by another word for the fault of the disk
-  pub fails_for : (OfDisk OfDisk' TellsOut : Type 0) (a b : List ℕ) {held : Holdings} {before now : ℕ} (r : Run) (m m' : Machine F ghosts) → (OfDisk' → OfDisk) → FailsCall OfDisk TellsOut a b held before now r m m'
-      → FailsCall OfDisk' TellsOut a b held before now r m m'
-  fails_for OfDisk OfDisk' TellsOut a b r m m' go f = record { count = f.count; run = f.run; passed = f.passed; rest = f.rest; front = f.front; disk = λ d. f.disk (go d) }
+  -- by another word for what it is for
+  pub fails_for : (Of Of' : Lost → Type 0) (TellsOut : Type 0) (a b : List ℕ) {held : Holdings} {before now : ℕ} (r : Run) (m m' : Machine F ghosts) → ((lost : Lost) → Of' lost → Of lost) → FailsCall Of TellsOut a b held before now r m m'
+      → FailsCall Of' TellsOut a b held before now r m m'
+  fails_for Of Of' TellsOut a b r m m' go f = record {
+    count = f.count;
+    run = f.run;
+    passed = f.passed;
+    rest = f.rest;
+    front = f.front;
+    outside = λ o. f.outside (elim o [ inl d ↦ inl (go Disk d) | inr s ↦ inr (go Sink s) ]);
+    disk = λ d. f.disk (go Disk d);
+    sink = λ s. f.sink (go Sink s);
+  }
 
   -- in the turn of the statement at hand
   pub fails_turn : {W X : Type 0} (tells_out : W → Type 0) (taken : W → List ℕ) (out out' : W) {held : Holdings} {before now : ℕ} (m m' : Machine F ghosts) (x : Result X Lost) (lost : Lost) (st : Stated) (more : List Stated) (r : Run) → x ≡ Err lost
       → r.rest ≡ st ∷ more → r.core.output ≡ m.state.core.output → rest_of m' ≡ r.rest
       → (tells_out out → x ≡ Err Disk → HandsOver (taken out) (taken out') m.state.core.output m'.state.core.output)
-      → FailsStage tells_out taken out m.state.core x out' m'.state.core held before now st r.stage r → FailsCall (x ≡ Err Disk) (tells_out out) (taken out) (taken out') held before now r m m'
+      → FailsStage tells_out taken out m.state.core x out' m'.state.core held before now st r.stage r → FailsCall (λ lost. x ≡ Err lost) (tells_out out) (taken out) (taken out') held before now r m m'
   fails_turn {X = X} tells_out taken out out' {held = held} {before = before} {now = now} m m' x lost st more r is h o rest still f = record {
     count = 0;
     run = r;
     passed = refl;
     rest = rest;
     front = λ t. by (subst (λ (y : Result X Lost). OnErr y (HandsFront (taken out) (taken out') m.state.core.output (output_of (turn st r.stage r)) ⊎ (taken out' ≡ taken out))) is (f.front t));
+    outside = λ o. record {
+      known = subst (λ rest. known_due rest r) (sym h) (f.known o);
+      does = subst (λ rest. StandsDoing (doing_due rest r) m'.state.core held before now) (sym h) (f.stands o);
+    };
     disk = λ d. record {
-      known = subst (λ rest. known_due rest r) (sym h) (f.known d);
       output = f.output d ∙ sym o;
       handed = λ t. subst (λ y. HandsOver (taken out) (taken out') m.state.core.output y) (f.output d ∙ sym o) (still t d);
       tells = f.tells d ∙ ap (λ rest. tells_due rest r) (sym h);
-      fault = subst (λ rest. FailsDoing (doing_due rest r) m'.state.core held before now) (sym h) (f.fault d);
+      rose = f.rose d;
     };
+    sink = λ s t. (
+      taken out,
+      hands_none (taken out) (taken out) m.state.core.output r.core.output refl o,
+      subst (λ y. HandsFront (taken out) (taken out') y (turn_output r)) (sym o) (subst (λ y. HandsFront (taken out) (taken out') m.state.core.output y) due (f.begun t s)),
+    );
   }
     where
       due : output_of (turn st r.stage r) ≡ turn_output r
@@ -170,14 +188,16 @@ module _ {F : Type 0} {ghosts : Ghosts F} where
       by (inr k) = inr (hands_none (taken out) (taken out') m.state.core.output r.core.output k o)
 
   -- nothing was done
-  pub fails_none : (OfDisk TellsOut : Type 0) (a : List ℕ) {held : Holdings} {before now : ℕ} (r : Run) (m m' : Machine F ghosts) → rest_of m' ≡ r.rest → r.core.output ≡ m.state.core.output → (OfDisk → ⊥) → FailsCall OfDisk TellsOut a a held before now r m m'
-  fails_none OfDisk TellsOut a r m m' rest o n = record {
+  pub fails_none : (Of : Lost → Type 0) (TellsOut : Type 0) (a : List ℕ) {held : Holdings} {before now : ℕ} (r : Run) (m m' : Machine F ghosts) → rest_of m' ≡ r.rest → r.core.output ≡ m.state.core.output → (OfOutside Of → ⊥) → FailsCall Of TellsOut a a held before now r m m'
+  fails_none Of TellsOut a r m m' rest o n = record {
     count = 0;
     run = r;
     passed = refl;
     rest = rest;
     front = λ t. inr (hands_none a a m.state.core.output r.core.output refl o);
-    disk = λ d. absurd (n d);
+    outside = λ o. absurd (n o);
+    disk = λ d. absurd (n (inl d));
+    sink = λ s. absurd (n (inr s));
   }
 
 -- ---- a turn that pauses, whose ask is refused
@@ -269,9 +289,9 @@ task_finished told bytes Finished (Settle slot) t n e = absurd t
 task_finished told bytes Finished Finished t n e = absurd (n refl)
 
 module _ {F : Type 0} {ghosts : Ghosts F} where
-  pub refused_fails : (told : F → Bool) (bytes : F → List ℕ) (OfDisk TellsOut : Type 0) (a b : List ℕ) {held : Holdings} {before now : ℕ} (files : Files) (r : Run) (m mid m' : Machine F ghosts) (ask : Ask (Job F)) → IsAsked told bytes files mid ask (asked r) → ask ≢ Finished
-      → mid.deck ≡ m'.deck → mid.at ≡ m'.at → (TellsOut → HandsOver a b m.state.core.output mid.state.core.output) → (OfDisk → ⊥) → FailsCall OfDisk TellsOut a b held before now r m m'
-  refused_fails told bytes OfDisk TellsOut a b files r m mid m' ask it n deck at h none =
+  pub refused_fails : (told : F → Bool) (bytes : F → List ℕ) (Of : Lost → Type 0) (TellsOut : Type 0) (a b : List ℕ) {held : Holdings} {before now : ℕ} (files : Files) (r : Run) (m mid m' : Machine F ghosts) (ask : Ask (Job F)) → IsAsked told bytes files mid ask (asked r) → ask ≢ Finished
+      → mid.deck ≡ m'.deck → mid.at ≡ m'.at → (TellsOut → HandsOver a b m.state.core.output mid.state.core.output) → (OfOutside Of → ⊥) → FailsCall Of TellsOut a b held before now r m m'
+  refused_fails told bytes Of TellsOut a b files r m mid m' ask it n deck at h none =
       let p = asked_pauses r (task_finished told bytes (asked r).ask ask it.asks n) in
       let k = run_known (run_at files mid) (stage_at told bytes files mid) (asked r).run it.run in
       let out : mid.state.core.output ≡ turn_output p.run = ap (λ (x : Run). x.core.output) k.2 ∙ p.output in
@@ -281,7 +301,9 @@ module _ {F : Type 0} {ghosts : Ghosts F} where
         passed = p.passed;
         rest = same_rest mid m' deck at ∙ ap (λ (x : Run). x.rest) k.2 ∙ p.rest;
         front = λ t. inl (hands_front a b m.state.core.output (turn_output p.run) (subst (λ o. HandsOver a b m.state.core.output o) out (h t)));
-        disk = λ d. absurd (none d);
+        outside = λ o. absurd (none o);
+        disk = λ d. absurd (none (inl d));
+        sink = λ s. absurd (none (inr s));
       }
     where
       same_rest : (x y : Machine F ghosts) → x.deck ≡ y.deck → x.at ≡ y.at → rest_of y ≡ rest_of x
@@ -294,32 +316,38 @@ first_some None b h f = refl
 first_some (Some x) b h f = absurd (not_both b (h refl) f)
 
 -- while it is not over nothing is lost
-pub disk_first : (o : Option Lost) (b : Bool) (lost : Lost) → (IsSome o → b ≡ true) → b ≡ false → first_lost o lost ≡ Some Disk → lost ≡ Disk
-disk_first o b lost h f e = let n = first_some o b h f in some_same lost Disk (sym (ap (λ k. first_lost k lost) n) ∙ e)
+pub only_first : (o : Option Lost) (b : Bool) (lost first : Lost) → (IsSome o → b ≡ true) → b ≡ false → first_lost o lost ≡ Some first → lost ≡ first
+only_first o b lost first h f e = let n = first_some o b h f in some_same lost first (sym (ap (λ k. first_lost k lost) n) ∙ e)
+
+-- what does not fit is no loss of the outside
+pub unfit_inside : (o : Option Lost) (b : Bool) → (IsSome o → b ≡ true) → b ≡ false → OfOutside (λ lost. first_lost o Unfit ≡ Some lost) → ⊥
+unfit_inside o b h f (inl e) = let no : Unfit ≡ Disk = only_first o b Unfit Disk h f e in cc
+unfit_inside o b h f (inr e) = let no : Unfit ≡ Sink = only_first o b Unfit Sink h f e in cc
 
 -- what it was lost for, where the records that ended are with the sink
 pub disk_lost : (o o' : Option Lost) (b : Bool) (lost : Lost) → (IsSome o → b ≡ true) → b ≡ false → o' ≡ first_lost o lost → (o' ≡ None) ⊎ (o' ≡ Some Disk) → lost ≡ Disk
 disk_lost o o' b lost h f e (inl n) =
     let s : Some lost ≡ None = sym (ap (λ k. first_lost k lost) (first_some o b h f)) ∙ sym e ∙ n in cc
-disk_lost o o' b lost h f e (inr d) = disk_first o b lost h f (sym e ∙ d)
+disk_lost o o' b lost h f e (inr d) = only_first o b lost Disk h f (sym e ∙ d)
+
+none_outside : (o : Option Lost) → o ≡ None → OfOutside (λ lost. o ≡ Some lost) → ⊥
+none_outside o n (inl d) = let no : None ≡ Some Disk = sym n ∙ d in cc
+none_outside o n (inr s) = let no : None ≡ Some Sink = sym n ∙ s in cc
 
 module _ {F : Type 0} {ghosts : Ghosts F} where
-  -- a call that touches neither disk nor sink
+  -- a call that touches neither disk nor sink loses nothing of them
+  none_rests : (m m' : Machine F ghosts) → Rests m m' → m.tally.over ≡ false → OfOutside (λ lost. m'.tally.lost ≡ Some lost) → ⊥
+  none_rests m m' s going o =
+      none_outside m.tally.lost (first_some m.tally.lost m.tally.over m.tally.lost_over going) (elim o [ inl d ↦ inl (s.of_disk d) | inr k ↦ inr (s.of_sink k) ])
+
   pub rests_give_up : (told : F → Bool) (bytes : F → List ℕ) (TellsOut : Type 0) (a : List ℕ) {held : Holdings} {before now : ℕ} (files : Files) (m m' : Machine F ghosts) → Rests m m' → IsGivenUp TellsOut a a held before now (run_of told bytes files m) m m'
   rests_give_up told bytes TellsOut a files m m' s r e going over stopped =
       let k = run_known (run_at files m) (stage_at told bytes files m) r e in
       let rest : rest_of m' ≡ rest_of m = ap (λ d. drop m'.at (stated d.statements)) s.deck ∙ ap (λ i. drop i (stated m.deck.statements)) s.at in
-      fails_none (m'.tally.lost ≡ Some Disk) TellsOut a r m m' (rest ∙ ap (λ (x : Run). x.rest) k.2) (sym (ap (λ (x : Run). x.core.output) k.2))
-      (λ d. let n : m.tally.lost ≡ None = first_some m.tally.lost m.tally.over m.tally.lost_over going in none_disk m.tally.lost n (s.of_disk d))
-    where
-      none_disk : (o : Option Lost) → o ≡ None → o ≡ Some Disk → ⊥
-      none_disk o n d = cc
+      fails_none (λ lost. m'.tally.lost ≡ Some lost) TellsOut a r m m' (rest ∙ ap (λ (x : Run). x.rest) k.2) (sym (ap (λ (x : Run). x.core.output) k.2)) (none_rests m m' s going)
 
   pub rests_ask : (m m' : Machine F ghosts) → Rests m m' → FailsAsking m m'
-  rests_ask m m' s going d = none_disk m.tally.lost (first_some m.tally.lost m.tally.over m.tally.lost_over going) (s.of_disk d)
-    where
-      none_disk : (o : Option Lost) → o ≡ None → o ≡ Some Disk → m.tally.hand ≡ Idle
-      none_disk o n d = cc
+  rests_ask m m' s going o = absurd (none_rests m m' s going o)
 
   -- where the disk tells
   pub given_up_told : (TellsOut : Type 0) (a b : List ℕ) {held : Holdings} {before now : ℕ} (decided : Bool) (o : Option Run) (m m' : Machine F ghosts) → (decided ≡ true → IsGivenUp TellsOut a b held before now o m m')

@@ -1,10 +1,11 @@
 -- What was told and written until a turn was given up, and until a call was.
 use Rattle.std.specs.Prelude.{◌≡◌, ◌⊎◌, ℕ, true, false, List, Option, Some, None, IsSome, Result, Err, OnErr}
+use Rattle.fj_outside.specs.Faults.{Rose}
 use Rattle.fj_outside.specs.Holdings.{Holdings}
 use Rattle.fj_outside.specs.declared.outside.FileStore.{Ghosts}
 use Rattle.fj_items.specs.Handing.{HandsOver, HandsFront}
 use Rattle.fj_items.specs.declared.lost.Lost.{Lost}
-use Rattle.fj_items.specs.declared.lost.Lost.TheVariants.{Disk}
+use Rattle.fj_items.specs.declared.lost.Lost.TheVariants.{Disk, Sink}
 use Rattle.fj_plain.specs.State.{Output, Tell}
 use Rattle.fj_plain.specs.Statement.{Stated}
 use Rattle.fj_desk.specs.Doing.{Doing}
@@ -13,7 +14,7 @@ use Rattle.fj_turns.specs.Turns.{turn}
 use Rattle.fj_turns.specs.Passing.{passes, output_of, turn_output, knows_at, told_at, KnowsAnswers, turn_tells}
 use Rattle.fj_cut.specs.Turning.{doing_at, turn_doing}
 use Rattle.fj_pending.specs.Plain.{tells_of}
-use Rattle.fj_acts.specs.Failing.{FailsWhere}
+use Rattle.fj_acts.specs.Failing.{StandsWhere}
 use Rattle.fj_acts.specs.declared.state.Core.{Core}
 use Rattle.fj_runner.specs.Machine.{rest_of}
 use Rattle.fj_runner.specs.declared.hand.Hand.TheVariants.{Idle}
@@ -21,23 +22,30 @@ use Rattle.fj_runner.specs.declared.machine.Machine.{Machine}
 
 -- ---- what was done on the disk
 
--- The disk failed where the statement does this: units and files are those that were due.
-pub record FailsDoing (due : Option Doing) (core : Core) (held : Holdings) (before now : ℕ) : Type 0 where
+-- the outside failed: the disk or the sink
+abbrev pub OfOutside : (Lost → Type 0) → Type 0
+OfOutside Of = Of Disk ⊎ Of Sink
+
+-- Where the statement does this, units and files are those that were due.
+pub record StandsDoing (due : Option Doing) (core : Core) (held : Holdings) (before now : ℕ) : Type 0 where
   pub does : Doing
   pub is : due ≡ Some does
-  pub fault : FailsWhere does core held before now
+  pub stands : StandsWhere does core held before now
 
 -- ---- one turn
 
--- Where it is given up, the sink took a front of the records that the output due has, or nothing. Where that is for the disk, the
--- answers that it needs are known, that is told, and nothing of it is written; units and files are those due of what it does.
+-- Where it is given up, the sink took a front of the records that the output due has, or nothing. Where that is for the outside, the
+-- answers that it needs are known, and units and files are those due of what it does. Where it is for the disk, that is told, nothing
+-- of it is written, and the disk's own number rose; where it is for the sink, that took a front.
 pub record FailsTurn {W X : Type 0} (tells_out : W → Type 0) (taken : W → List ℕ) (out : W) (core : Core) (result : Result X Lost) (out' : W) (core' : Core)
     (held : Holdings) (before now : ℕ) (due : Output) (Known : Type 0) (told : List Tell) (does : Option Doing) : Type 0 where
   pub front : tells_out out → OnErr result (HandsFront (taken out) (taken out') core.output due ⊎ (taken out' ≡ taken out))
-  pub known : result ≡ Err Disk → Known
+  pub known : OfOutside (λ lost. result ≡ Err lost) → Known
+  pub stands : OfOutside (λ lost. result ≡ Err lost) → StandsDoing does core' held before now
   pub output : result ≡ Err Disk → core'.output ≡ core.output
   pub tells : result ≡ Err Disk → tells_of core'.tells ≡ told
-  pub fault : result ≡ Err Disk → FailsDoing does core' held before now
+  pub rose : result ≡ Err Disk → Rose before now
+  pub begun : tells_out out → result ≡ Err Sink → HandsFront (taken out) (taken out') core.output due
 
 -- the turn of a statement from a stage
 abbrev pub FailsStage : {W X : Type 0} → (W → Type 0) → (W → List ℕ) → W → Core → Result X Lost → W → Core → Holdings → ℕ → ℕ → Stated → Stage → Run → Type 0
@@ -46,37 +54,47 @@ FailsStage tells_out taken out core result out' core' held before now st stage r
 
 -- ---- one call
 
--- The disk failed in the turn of that run: its transfers are told, and nothing of it is written. Units and files are those due of what
--- the turn does; `held` is what the disk holds then, and its own number was `before` and is `now`.
-pub record FailsAtDisk {F : Type 0} {ghosts : Ghosts F} (TellsOut : Type 0) (taken taken' : List ℕ) (held : Holdings) (before now : ℕ) (run : Run) (m m' : Machine F ghosts) : Type 0 where
+-- The outside failed in the turn of that run: the answers that it needs are known, and units and files are those due of what the turn
+-- does. The disk holds `held` then, and its own number was `before` and is `now`.
+pub record StandsAt {F : Type 0} {ghosts : Ghosts F} (held : Holdings) (before now : ℕ) (run : Run) (m' : Machine F ghosts) : Type 0 where
   pub known : KnowsAnswers run
+  pub does : StandsDoing (turn_doing run) m'.state.core held before now
+
+-- The disk failed there: the turn's transfers are told, and nothing of it is written.
+pub record FailsAtDisk {F : Type 0} {ghosts : Ghosts F} (TellsOut : Type 0) (taken taken' : List ℕ) (before now : ℕ) (run : Run) (m m' : Machine F ghosts) : Type 0 where
   pub output : m'.state.core.output ≡ run.core.output
   pub handed : TellsOut → HandsOver taken taken' m.state.core.output run.core.output
   pub tells : tells_of m'.state.core.tells ≡ turn_tells run
-  pub fault : FailsDoing (turn_doing run) m'.state.core held before now
+  pub rose : Rose before now
 
--- A call gave up: it was in the turn of a statement, behind so many that it passed, and the sink took a front of the records that this
--- turn's output has.
-pub record FailsCall {F : Type 0} {ghosts : Ghosts F} (OfDisk TellsOut : Type 0) (taken taken' : List ℕ) (held : Holdings) (before now : ℕ) (r : Run) (m m' : Machine F ghosts) : Type 0 where
+-- the sink took the records that ended first, and then a front of those that were to end
+abbrev pub HandsThen : List ℕ → List ℕ → Output → Output → Output → Type 0
+HandsThen taken taken' old first due = (between : List ℕ) × HandsOver taken between old first × HandsFront between taken' first due
+
+-- A call gave up, for this: it was in the turn of a statement, behind so many that it passed, and the sink took a front of the records
+-- that this turn's output has. Where the sink failed, it took those before the turn whole.
+pub record FailsCall {F : Type 0} {ghosts : Ghosts F} (Of : Lost → Type 0) (TellsOut : Type 0) (taken taken' : List ℕ) (held : Holdings) (before now : ℕ) (r : Run) (m m' : Machine F ghosts) : Type 0 where
   pub count : ℕ
   pub run : Run
   pub passed : passes count r ≡ Some run
   pub rest : rest_of m' ≡ run.rest
   pub front : TellsOut → HandsFront taken taken' m.state.core.output (turn_output run) ⊎ HandsOver taken taken' m.state.core.output run.core.output
-  pub disk : OfDisk → FailsAtDisk TellsOut taken taken' held before now run m m'
+  pub outside : OfOutside Of → StandsAt held before now run m'
+  pub disk : Of Disk → FailsAtDisk TellsOut taken taken' before now run m m'
+  pub sink : Of Sink → TellsOut → HandsThen taken taken' m.state.core.output run.core.output (turn_output run)
 
 -- where it is over then
 abbrev pub GivesUp : {F : Type 0} {ghosts : Ghosts F} → Type 0 → List ℕ → List ℕ → Holdings → ℕ → ℕ → Run → Machine F ghosts → Machine F ghosts → Type 0
-GivesUp TellsOut taken taken' held before now r m m' = FailsCall (m'.tally.lost ≡ Some Disk) TellsOut taken taken' held before now r m m'
+GivesUp TellsOut taken taken' held before now r m m' = FailsCall (λ lost. m'.tally.lost ≡ Some lost) TellsOut taken taken' held before now r m m'
 
 -- a call by which it is over, and no stop was told
 abbrev pub IsGivenUp : {F : Type 0} {ghosts : Ghosts F} → Type 0 → List ℕ → List ℕ → Holdings → ℕ → ℕ → Option Run → Machine F ghosts → Machine F ghosts → Type 0
 IsGivenUp TellsOut taken taken' held before now state m m' =
     (r : Run) → state ≡ Some r → m.tally.over ≡ false → m'.tally.over ≡ true → m'.tally.stopped ≡ false → GivesUp TellsOut taken taken' held before now r m m'
 
--- until it is over, the disk fails in an ask alone
+-- until it is over, the outside fails in an ask alone
 abbrev pub FailsAsking : {F : Type 0} {ghosts : Ghosts F} → Machine F ghosts → Machine F ghosts → Type 0
-FailsAsking m m' = m.tally.over ≡ false → m'.tally.lost ≡ Some Disk → m.tally.hand ≡ Idle
+FailsAsking m m' = m.tally.over ≡ false → OfOutside (λ lost. m'.tally.lost ≡ Some lost) → m.tally.hand ≡ Idle
 
 -- ---- once it is over
 

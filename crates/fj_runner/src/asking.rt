@@ -64,7 +64,7 @@ impl<F: FileStore> Machine<F> {
             × (goes (rest_of self.old) (run_at (files_of (D.held disk.old)) self.old Start) ≡ goes (rest_of self.new) (run_at (files_of (D.held disk.new)) self.new Start)))) }
         ensures passed { D.tells disk.old → IfOk result (λ o. IfNone o (passed_on (rest_of self.old) (run_at (files_of (D.held disk.old)) self.old Start)
             ≡ Some (run_at (files_of (D.held disk.new)) self.new Start))) }
-        ensures fails { D.tells disk.old → OnErr result (FailsCall (result ≡ Err Lost.Disk) (W.tells out.old) (W.taken out.old) (W.taken out.new)
+        ensures fails { D.tells disk.old → OnErr result (FailsCall (λ lost. result ≡ Err lost) (W.tells out.old) (W.taken out.old) (W.taken out.new)
             (D.held disk.new) (D.refusals disk.old) (D.refusals disk.new)
             (run_at (files_of (D.held disk.old)) self.old Start) self.old self.new) }
         ensures at { IfOk result (λ o. IfNone o (self.new.at ≡ self.old.at + 1)) }
@@ -94,7 +94,7 @@ impl<F: FileStore> Machine<F> {
         ensures asks { D.tells disk.old → self.old.state.stage ≡ Stage.Start → IfOk result (λ ask. IsAsked F.told F.bytes (files_of (D.held disk.new)) self.new ask
             (goes (rest_of self.old) (run_at (files_of (D.held disk.old)) self.old Start))) }
         ensures steps { Steps W.tells W.taken W.count D.tells D.held D.count D.refusals out.old disk.old self.old.state.core result out.new disk.new self.new.state.core }
-        ensures fails { D.tells disk.old → OnErr result (FailsCall (result ≡ Err Lost.Disk) (W.tells out.old) (W.taken out.old) (W.taken out.new)
+        ensures fails { D.tells disk.old → OnErr result (FailsCall (λ lost. result ≡ Err lost) (W.tells out.old) (W.taken out.old) (W.taken out.new)
             (D.held disk.new) (D.refusals disk.old) (D.refusals disk.new)
             (run_at (files_of (D.held disk.old)) self.old Start) self.old self.new) }
         ensures deck { self.new.deck ≡ self.old.deck }
@@ -128,7 +128,7 @@ impl<F: FileStore> Machine<F> {
         ensures steps { Steps W.tells W.taken W.count D.tells D.held D.count D.refusals out.old disk.old self.old.state.core result out.new disk.new self.new.state.core }
         ensures fails { D.tells disk.old → (t : Turn) → IsTurn F.told F.bytes self.old.deck.variables (rest_of self.old) (files_of (D.held disk.old)) self.old.state turned t
             → OnErr result ((r : Run) × (passed_by (drop (self.old.at + 1) (stated self.old.deck.statements)) t ≡ Some r)
-            × FailsCall (result ≡ Err Lost.Disk) (W.tells out.old) (W.taken out.old) (W.taken out.new) (D.held disk.new) (D.refusals disk.old) (D.refusals disk.new) r self.old self.new) }
+            × FailsCall (λ lost. result ≡ Err lost) (W.tells out.old) (W.taken out.old) (W.taken out.new) (D.held disk.new) (D.refusals disk.old) (D.refusals disk.new) r self.old self.new) }
         ensures deck { self.new.deck ≡ self.old.deck }
         ensures tally { self.new.tally ≡ self.old.tally }
         ensures kept { self.new.kept ≡ self.old.kept }
@@ -151,7 +151,7 @@ impl<F: FileStore> Machine<F> {
             → IfOk result (λ ask. IsAsked F.told F.bytes (files_of (D.held disk.new)) self.new ask (asked r)) }
         ensures steps { Steps W.tells W.taken W.count D.tells D.held D.count D.refusals out.old disk.old self.old.state.core result out.new disk.new self.new.state.core }
         ensures fails { D.tells disk.old → (r : Run) → run_of F.told F.bytes (files_of (D.held disk.old)) self.old ≡ Some r
-            → OnErr result (FailsCall (result ≡ Err Lost.Disk) (W.tells out.old) (W.taken out.old) (W.taken out.new) (D.held disk.new) (D.refusals disk.old) (D.refusals disk.new) r self.old self.new) }
+            → OnErr result (FailsCall (λ lost. result ≡ Err lost) (W.tells out.old) (W.taken out.old) (W.taken out.new) (D.held disk.new) (D.refusals disk.old) (D.refusals disk.new) r self.old self.new) }
         ensures deck { self.new.deck ≡ self.old.deck }
         ensures tally { self.new.tally ≡ self.old.tally }
         ensures kept { self.new.kept ≡ self.old.kept }

@@ -2,7 +2,7 @@ use Rattle.std.proofs.Common.{inl, refl, sym, arith}
 use Rattle.fj_job.specs.declared.task.Task.TheVariants.{Refuse, Check, Execute, Generate}
 use Rattle.fj_job.proofs.ReplyLaws.{ended_by}
 use Rattle.fj_job.proofs.ToldLaws.{told_for, keeps_for, told_refused, told_unread, no_words, no_check, cause_more, fine_by, no_read}
-use Rattle.fj_job.proofs.Told.{fault_by}
+use Rattle.fj_job.proofs.Told.{fault_by, write_by}
 use Rattle.fj_job.proofs.asked.answer.Goals as goal
 
 pub returns-in-Refuse : goal.returns-in-Refuse
@@ -38,6 +38,7 @@ returns-in-Check g c = record {
       ended = c.check_source.ensures.ended;
       refused = c.check_source.ensures.refused;
       fault = λ t u. fault_by c.check_source.result _ (λ line e. tt);
+      written = λ t u. write_by c.check_source.result _ (λ e. tt);
       front = λ t u w. inl (c.check_source.ensures.front held.files t w);
       cause = c.check_source.ensures.cause;
       fine = λ x y z. fine_by c.check_source.result _ _ _ c.check_source.ensures.cause x y z;
@@ -113,6 +114,7 @@ returns-in-Generate g c =
           ended = λ t. ended_by c.make.result _ tt;
           refused = λ t. c.make.ensures.refused;
           fault = λ t u. fault_by c.make.result _ (λ line e. tt);
+          written = λ t u. write_by c.make.result _ (λ e. tt);
           front = λ t u w. inl (c.make.ensures.front (g.R.Source.left c.args.deck.now) held.files w);
           cause = cause_more c.make.result _ _ _ _ _ _ (λ x. absurd x) (λ x. x) (λ x. x) c.make.ensures.cause;
           fine = λ x y z. fine_by c.make.result _ _ _ c.make.ensures.cause (λ b. b) y (λ b. b);

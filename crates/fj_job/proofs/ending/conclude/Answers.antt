@@ -11,6 +11,7 @@ returns-in-Ok g c = record {
         of_run = c.report.ensures.of_run;
         unfit = c.report.ensures.unfit;
         fault = c.report.ensures.fault;
+        written = c.report.ensures.written;
         front = c.report.ensures.front;
         silent = tt;
         cause = c.report.ensures.cause;

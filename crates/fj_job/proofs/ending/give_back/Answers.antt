@@ -4,8 +4,9 @@ use Rattle.fj_desk.specs.Desking.{all_left}
 use Rattle.fj_units.specs.Files.{files_of}
 use Rattle.fj_units.specs.Returning.{IsAsDue}
 use Rattle.fj_closing.specs.Closing.{IfClear}
+use Rattle.fj_closing.specs.Losing.{may_tell}
 use Rattle.fj_items.specs.declared.lost.Lost.TheVariants.{Sink, Disk}
-use Rattle.fj_job.proofs.Settling.{none_in_use, empty_by, where_ok, where_none, before, lost_disk, lost_alone, not_sink, not_disk, told_ok, by_first}
+use Rattle.fj_job.proofs.Settling.{none_in_use, empty_by, where_ok, where_none, before, lost_disk, lost_alone, not_sink, not_disk, both_fit}
 use Rattle.fj_job.proofs.ending.give_back.Goals as goal
 
 pub give_kept-given-requires : goal.give_kept-given-requires
@@ -64,15 +65,26 @@ returns-in-None-clause-own g c = λ t. let a = c.finish-closed.ensures.own t in 
 
 pub returns-in-Some-clause-due : goal.returns-in-Some-clause-due
 returns-in-Some-clause-due g c = λ t e desks h seats named name clear.
-    let s : Some c.in-Some.lost ≡ Some Disk = cc in
-    let same = where_ok _ _ (told_ok c.give_kept-given.result c.give_kept-given.ensures.unfit (c.in-Some.ensures.fits s)) c.give_kept-given.ensures.none in
-    let may = c.first_lost.ensures.fits (by_first c.first_lost.result c.give_kept-given.result c.give_kept-given.ensures.unfit (c.in-Some.ensures.disk s)) in
+    let fit = both_fit _ c.finish-closed.result c.give_kept-given.result c.in-Some.lost c.give_kept-given.ensures.unfit c.in-Some.ensures.fits c.in-Some.ensures.ok c.first_lost.ensures.fits e in
+    let same = where_ok _ _ fit.0 c.give_kept-given.ensures.none in
     subst (λ d. IsAsDue (g.D.Disk.refusals c.args.disk.now) (g.D.Disk.refusals d) (files_of (g.D.Disk.held d) name) (all_left desks c.args.left.now.core.units (files_of (g.D.Disk.held c.args.disk.now)) name)) (sym same)
-    (c.finish-closed.ensures.due t may desks h seats named name (inl (subst (λ d. set.contains (g.D.Disk.held d).hurt name ≡ false) same clear)))
+    (c.finish-closed.ensures.due t fit.1 desks h seats named name (inl (subst (λ d. set.contains (g.D.Disk.held d).hurt name ≡ false) same clear)))
 
 pub returns-in-Some-clause-running : goal.returns-in-Some-clause-running
 returns-in-Some-clause-running g c = λ t e.
-    let s : Some c.in-Some.lost ≡ Some Disk = cc in
-    let same = where_ok _ _ (told_ok c.give_kept-given.result c.give_kept-given.ensures.unfit (c.in-Some.ensures.fits s)) c.give_kept-given.ensures.none in
-    let may = c.first_lost.ensures.fits (by_first c.first_lost.result c.give_kept-given.result c.give_kept-given.ensures.unfit (c.in-Some.ensures.disk s)) in
-    subst (λ d. IfClear (g.D.Disk.held d) c.args.left.now.core.units c.args.slots.slots (λ l. l.halt ≡ None)) (sym same) (c.finish-closed.ensures.running t may)
+    let fit = both_fit _ c.finish-closed.result c.give_kept-given.result c.in-Some.lost c.give_kept-given.ensures.unfit c.in-Some.ensures.fits c.in-Some.ensures.ok c.first_lost.ensures.fits e in
+    subst (λ d. IfClear (g.D.Disk.held d) c.args.left.now.core.units c.args.slots.slots (λ l. l.halt ≡ None)) (sym (where_ok _ _ fit.0 c.give_kept-given.ensures.none)) (c.finish-closed.ensures.running t fit.1)
+
+pub returns-in-None-clause-due : goal.returns-in-None-clause-due
+returns-in-None-clause-due g c = λ t e desks h seats named name clear.
+    let none = c.in-None.ensures.none in
+    let closed = (where_none _ _ none.0 c.first_lost.ensures.none).1 in
+    let same = where_ok _ _ none.1 c.give_kept-given.ensures.none in
+    subst (λ d. IsAsDue (g.D.Disk.refusals c.args.disk.now) (g.D.Disk.refusals d) (files_of (g.D.Disk.held d) name) (all_left desks c.args.left.now.core.units (files_of (g.D.Disk.held c.args.disk.now)) name)) (sym same)
+    (c.finish-closed.ensures.due t (ap may_tell closed) desks h seats named name (inl (subst (λ d. set.contains (g.D.Disk.held d).hurt name ≡ false) same clear)))
+
+pub returns-in-None-clause-running : goal.returns-in-None-clause-running
+returns-in-None-clause-running g c = λ t e.
+    let none = c.in-None.ensures.none in
+    let closed = (where_none _ _ none.0 c.first_lost.ensures.none).1 in
+    subst (λ d. IfClear (g.D.Disk.held d) c.args.left.now.core.units c.args.slots.slots (λ l. l.halt ≡ None)) (sym (where_ok _ _ none.1 c.give_kept-given.ensures.none)) (c.finish-closed.ensures.running t (ap may_tell closed))

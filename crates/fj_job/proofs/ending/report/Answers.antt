@@ -21,8 +21,17 @@ returns-in-Some-clause-front g c = λ w. inr (inr (record {
   going = c.in-Some.ensures.0;
   ending = c.in-Some.ending;
   ends = c.in-Some.ensures.1;
-  taken = rw (← c.as_slice.ensures) (c.tell_run.ensures.front w);
+  taken = λ _. rw (← c.as_slice.ensures) (c.tell_run.ensures.front w);
 }))
+
+pub returns-in-Some-clause-written : goal.returns-in-Some-clause-written
+returns-in-Some-clause-written g c = λ e. inr (record {
+  settled = c.in-Ok.is;
+  going = c.in-Some.ensures.0;
+  ending = c.in-Some.ending;
+  ends = c.in-Some.ensures.1;
+  taken = λ w. rw (← c.as_slice.ensures) (c.tell_run.ensures.front w);
+})
 
 pub returns-in-Err-Disk-clause-front : goal.returns-in-Err-Disk-clause-front
 returns-in-Err-Disk-clause-front g c = λ w. inr (inl (record {

@@ -84,7 +84,7 @@ returns-in-Err-clause-fails g c = λ tells r known.
     let f = subst (λ (rest : List Stated). FailsStage tells_out taken out m.state.core c.turn.result out' c.turn.new.self.core (g.D.Disk.held c.turn.new.disk) (g.D.Disk.refusals c.args.disk.now) (g.D.Disk.refusals c.turn.new.disk) st k.0 (run_in m.deck.variables rest files m.state k.0)) (sym h)
     (c.turn.ensures.fails tells more k.0 stands) in
     fails_run _ (tells_out out) (taken out) (taken out') (run_at files m k.0) r m _ k.2
-    (fails_for _ _ (tells_out out) (taken out) (taken out') (run_at files m k.0) m _ (λ e. cc (c.in-Err.is, e))
+    (fails_for _ _ (tells_out out) (taken out) (taken out') (run_at files m k.0) m _ (λ lost e. cc (c.in-Err.is, e))
     (fails_turn tells_out taken out out' m _ c.turn.result c.in-Err.lost st more (run_at files m k.0) c.in-Err.is h refl refl c.turn.ensures.steps.still f))
 
 pub returns-then-is_some-clause-asks : goal.returns-then-is_some-clause-asks

@@ -1,4 +1,4 @@
-use Rattle.std.proofs.Common.{◌≡◌, ◌+◌, ◌∷◌, drop, Some, IfOk, refl, sym, subst, ap, ◌∙◌}
+use Rattle.std.proofs.Common.{◌≡◌, ◌+◌, ◌∷◌, drop, Some, IfOk, refl, sym, subst, ap, ◌∙◌, inl, inr}
 use Rattle.fj_bay.specs.Jobs.{resume}
 use Rattle.fj_plain.specs.State.{Files}
 use Rattle.fj_plain.specs.Statement.{Stated, control_by}
@@ -53,7 +53,7 @@ returns-in-Ok-clause-turn g c = λ tells more stage.
     (c.act.ensures.turn more after core (held s.core.pending) stage does c.begin.ensures.pending (c.in-Ok.ensures.doing tells))
 
 pub returns-in-Some-clause-fails : goal.returns-in-Some-clause-fails
-returns-in-Some-clause-fails g c = λ tells more stage. fails_still c.args.out.now c.args.self.now.core c.submit.new.self.core c.submit.result _ _ _ c.submit.ensures.causes.0
+returns-in-Some-clause-fails g c = λ tells more stage. fails_still c.args.out.now c.args.self.now.core c.submit.new.self.core c.submit.result _ _ _ c.submit.ensures.causes.0 c.submit.ensures.causes.1
 
 pub returns-in-Ok-clause-fails : goal.returns-in-Ok-clause-fails
 returns-in-Ok-clause-fails g c = λ tells more stage.
@@ -71,7 +71,7 @@ returns-in-Ok-clause-fails g c = λ tells more stage.
     let due : output_of (turn_act st (ends_halts (drop c.args.next c.args.slots) core does) run) ≡ c.begin.new.core.output =
     ap (λ xs. output_of (turn_act st (ends_halts xs core does) run)) e ∙ act_output st does run ∙ doing_output told bytes variables st (core_of after c.begin.new.core) c.in-Ok.doing does (c.in-Ok.ensures.doing tells) in
     let taken = g.W.Sink.taken in
-    fails_acting c.args.out.now c.begin.new.out s.core c.act.new.self.core c.act.result _ _ _ c.act.ensures.keeps.disk
+    fails_acting c.args.out.now c.begin.new.out s.core c.act.new.self.core c.act.result _ _ _ c.act.ensures.keeps.disk c.act.ensures.keeps.sink
     (λ t. subst (λ o. HandsOver (taken c.args.out.now) (taken c.begin.new.out) s.core.output o) (sym due) (c.in-Ok.ensures.output t))
 
 pub returns-clause-fails : goal.returns-clause-fails
@@ -91,7 +91,12 @@ returns-clause-fails g c = λ tells more stage.
     let taken = g.W.Sink.taken in
     fails_begun c.args.out.now c.begin.new.out s.core c.begin.new.core _ _ (λ t. subst (λ o. HandsFront (taken c.args.out.now) (taken c.begin.new.out) s.core.output o) (sym due) (c.in-Err.ensures.front t))
     (λ e. (c.begin.ensures.still (cc (c.in-Err.is, e))).1) c.begin.ensures.tells
-    (λ d. record { does = does; is = ap (λ xs. Some (ends_halts xs core does)) e; fault = c.begin.ensures.fault tells (cc (c.in-Err.is, d)) })
+    (λ o. record {
+      does = does;
+      is = ap (λ xs. Some (ends_halts xs core does)) e;
+      stands = elim o [ inl d ↦ (c.begin.ensures.fault tells (cc (c.in-Err.is, d))).stands | inr s ↦ c.begin.ensures.fault_out tells (cc (c.in-Err.is, s)) ];
+    })
+    (λ d. (c.begin.ensures.fault tells (cc (c.in-Err.is, d))).rose)
 
 pub returns-clause-steps : goal.returns-clause-steps
 returns-clause-steps g c =

@@ -179,17 +179,17 @@ returns-in-Resuming-clause-fails g c = λ tells more stage e.
     (c.resume.ensures.fails tells more stage)
 
 pub returns-in-Ok-clause-fails : goal.returns-in-Ok-clause-fails
-returns-in-Ok-clause-fails g c = λ tells more stage e. fails_still c.args.out.now c.args.self.now.core c.act.new.self.core c.act.result _ _ _ c.act.ensures.keeps.disk
+returns-in-Ok-clause-fails g c = λ tells more stage e. fails_still c.args.out.now c.args.self.now.core c.act.new.self.core c.act.result _ _ _ c.act.ensures.keeps.disk c.act.ensures.keeps.sink
 
 pub returns-in-Err-clause-fails : goal.returns-in-Err-clause-fails
-returns-in-Err-clause-fails g c = λ tells more stage e. fails_still c.args.out.now c.args.self.now.core c.given.new.core _ _ _ _ (λ e. c.given.ensures.causes.0 (cc (c.in-Err.is, e)))
+returns-in-Err-clause-fails g c = λ tells more stage e. fails_still c.args.out.now c.args.self.now.core c.given.new.core _ _ _ _ (λ e. c.given.ensures.causes.0 (cc (c.in-Err.is, e))) (λ e. c.given.ensures.causes.1 (cc (c.in-Err.is, e)))
 
 pub returns-in-Awaiting-clause-fails : goal.returns-in-Awaiting-clause-fails
-returns-in-Awaiting-clause-fails g c = λ tells more stage e. fails_still c.args.out.now c.args.self.now.core c.settle.new.self.core (went c.settle.result) _ _ _ (λ e. cc)
+returns-in-Awaiting-clause-fails g c = λ tells more stage e. fails_still c.args.out.now c.args.self.now.core c.settle.new.self.core (went c.settle.result) _ _ _ (λ e. cc) (λ e. cc)
 
 pub returns-in-Ok-doing-clause-fails : goal.returns-in-Ok-doing-clause-fails
 returns-in-Ok-doing-clause-fails g c = λ tells more stage e.
-    fails_still c.args.out.now c.args.self.now.core c.act-in-Ok-doing.new.self.core c.act-in-Ok-doing.result _ _ _ c.act-in-Ok-doing.ensures.keeps.disk
+    fails_still c.args.out.now c.args.self.now.core c.act-in-Ok-doing.new.self.core c.act-in-Ok-doing.result _ _ _ c.act-in-Ok-doing.ensures.keeps.disk c.act-in-Ok-doing.ensures.keeps.sink
 
 pub returns-in-Err-doing-clause-fails : goal.returns-in-Err-doing-clause-fails
 returns-in-Err-doing-clause-fails g c = λ tells more stage e.
@@ -206,4 +206,5 @@ returns-in-Err-doing-clause-fails g c = λ tells more stage e.
     let does : Doing = then_of variables st core c.in-Answered.then (k.0, reply_of c.in-Answered.answer) in
     fails_at c.args.out.now c.args.out.now s.core c.answered-doing.new.core (given_up c.in-Err-doing.lost) st (Acting does) stage run k.2
     (fails_quiet c.args.out.now s.core c.answered-doing.new.core (given_up c.in-Err-doing.lost) (output_of (turn st (Acting does) run)) c.answered-doing.ensures.output c.answered-doing.ensures.tells
-    (λ d. record { does = does; is = refl; fault = c.answered-doing.ensures.fault tells k.0 k.1 (cc (c.in-Err-doing.is, d)) }))
+    (λ e. c.answered-doing.ensures.sink (cc (c.in-Err-doing.is, e))) (λ d. record { does = does; is = refl; stands = (c.answered-doing.ensures.fault tells k.0 k.1 (cc (c.in-Err-doing.is, d))).stands })
+    (λ d. (c.answered-doing.ensures.fault tells k.0 k.1 (cc (c.in-Err-doing.is, d))).rose))
