@@ -1,4 +1,4 @@
--- Where the disk or the sink fails in a statement's own call.
+-- Where the disk fails in a statement's own call.
 use Rattle.std.proofs.Common.{◌≡◌, ◌⊎◌, ℕ, Bool, true, List, [], ◌∷◌, Option, Some, None, Result, Ok, Err, inl, inr, refl, sym, ap, subst, ◌∙◌}
 use Rattle.std.specs.Prelude.{◌≢◌, ◌↔◌, if◌then◌else◌, unwrap_or}
 use Rattle.std.specs.FinMap as map
@@ -38,7 +38,7 @@ use Rattle.fj_units.specs.Files.{files_of}
 use Rattle.fj_units.specs.Returning.{IsAsDue, returned}
 use Rattle.fj_units.proofs.Returning.{given_back, given_files}
 use Rattle.fj_acts.specs.Doing.{closed, connects_by, connects_in, goes_on}
-use Rattle.fj_acts.specs.Failing.{FailsWhere, StandsWhere, connected_next}
+use Rattle.fj_acts.specs.Failing.{FailsWhere, connected_next}
 use Rattle.fj_acts.specs.State.{core_at}
 use Rattle.fj_acts.specs.Steps.{is_due}
 use Rattle.fj_acts.specs.declared.doing.After.{After}
@@ -89,18 +89,17 @@ goes_on_there what core (after.Finishes condition) = ends_there core condition
 goes_on_there what core (after.ClosesAll condition) = closes_there core.units core condition
 goes_on_there what core (after.Connects number) = opens_there what number core
 
--- ---- the outside failed there
-
-stands : (core : PlainCore) (due : Doing) (new : Core) (held : Holdings) (before now : ℕ) → Leaves core due → new.units ≡ core.units
-    → ((name : List ℕ) → connected_next due ≢ Some name → IsAsDue before now (files_of held name) (core.files name)) → StandsWhere due new held before now
-stands core due new held before now leaves units files = record {
-  units = units ∙ sym leaves.units;
-  files = λ name other. subst (IsAsDue before now (files_of held name)) (sym (leaves.files name other)) (files name other);
-}
+-- ---- the disk failed there
 
 fails : (core : PlainCore) (due : Doing) (new : Core) (held : Holdings) (before now : ℕ) → Leaves core due → Rose before now → new.units ≡ core.units
     → ((name : List ℕ) → connected_next due ≢ Some name → IsAsDue before now (files_of held name) (core.files name)) → FailsWhere due new held before now
-fails core due new held before now leaves rose units files = record { rose = rose; stands = stands core due new held before now leaves units files }
+fails core due new held before now leaves rose units files = record {
+  rose = rose;
+  stands = record {
+    units = units ∙ sym leaves.units;
+    files = λ name other. subst (IsAsDue before now (files_of held name)) (sym (leaves.files name other)) (files name other);
+  };
+}
 
 -- the same by an equal meaning
 pub fails_as : (old due : Doing) (new : Core) (held : Holdings) (before now : ℕ) → old ≡ due → FailsWhere old new held before now → FailsWhere due new held before now

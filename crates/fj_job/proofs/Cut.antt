@@ -21,7 +21,7 @@ use Rattle.fj_turns.proofs.Meant.{cuts_agree}
 use Rattle.fj_pending.specs.Plain.{tells_of}
 use Rattle.fj_items.specs.Handing.{whole_records, HandsOver, HandsFront}
 use Rattle.fj_items.specs.declared.lost.Lost.{Lost}
-use Rattle.fj_items.specs.declared.lost.Lost.TheVariants.{Disk, Sink}
+use Rattle.fj_items.specs.declared.lost.Lost.TheVariants.{Sink}
 use Rattle.fj_acts.specs.State.{core_of}
 use Rattle.fj_runner.specs.Failing.{FailsCall, FailsAtDisk, HandsThen, OfOutside}
 use Rattle.fj_runner.specs.Machine.{rest_of, run_at, stage_at, run_of}

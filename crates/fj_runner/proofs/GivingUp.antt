@@ -30,7 +30,6 @@ use Rattle.fj_runner.specs.Leaving.{Rests}
 use Rattle.fj_runner.specs.Machine.{rest_of, run_in, run_at, run_of, stage_at}
 use Rattle.fj_runner.specs.Tallying.{first_lost}
 use Rattle.fj_runner.specs.Turned.{IsTask, IsAsked}
-use Rattle.fj_runner.specs.declared.hand.Hand.TheVariants.{Idle}
 use Rattle.fj_runner.specs.declared.machine.Machine.{Machine}
 use Rattle.fj_runner.proofs.Failures.{hands_front}
 use Rattle.fj_runner.proofs.NextAsks.{goes_turn, run_known, some_same}
