@@ -56,7 +56,7 @@ number_fits Int8 n h = number_by Int8 n (fits_bits 64 n) (λ e. refl)
 number_fits Logical n h = absurd (false≢true (sym h))
 number_fits (Chars k) n h = absurd (false≢true (sym h))
 
-count_fits : (variables : List Variable) (p : Place) (count : Option ℕ) → IsIntegerKind (kind_of variables p.var) → Fits (kind_of variables p.var) (count_for variables p count)
+pub count_fits : (variables : List Variable) (p : Place) (count : Option ℕ) → IsIntegerKind (kind_of variables p.var) → Fits (kind_of variables p.var) (count_for variables p count)
 count_fits variables p None h = undefined_fits (kind_of variables p.var)
 count_fits variables p (Some n) h = number_fits (kind_of variables p.var) (pos n) h
 

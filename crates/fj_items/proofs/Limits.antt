@@ -1,5 +1,5 @@
 -- How many characters a record has that stays open.
-use Rattle.std.proofs.Common.{◌≡◌, ℕ, ◌+◌, ◌≤◌, ltb, eqb, cond, Bool, true, false, is_ok, is_some, List, [], ◌∷◌, ◌++◌, length, Option, Some, None, Result, Ok, Err, IfOk, refl, sym, ap, subst, arith}
+use Rattle.std.proofs.Common.{◌≡◌, ℕ, ◌+◌, ◌≤◌, ltb, eqb, cond, Bool, true, false, is_ok, is_some, List, [], ◌∷◌, ◌++◌, length, Option, Some, None, Result, Ok, Err, IfOk, refl, sym, ap, arith}
 use Rattle.std.proofs.lemmas.Bool.{false≢true}
 use Rattle.std.proofs.lemmas.Bool.Decides.{nat_tests}
 use Rattle.fj_value.specs.declared.condition.Condition.{Condition}
@@ -25,28 +25,20 @@ within : (limit characters bytes : ℕ) → excess_of (Some limit) characters by
 within limit characters bytes h =
     let low : ltb limit characters ≡ false = within_by (ltb limit characters) (ltb most_bytes bytes) (Error 15) h in grind (arith, nat_tests, low)
 
-some_text : (line : LineState) (actions : List Action) → (t : List ℕ) × (ts : List (List ℕ)) × (texts_from line actions ≡ t ∷ ts)
-some_text line [] = (line.text, [], refl)
-some_text line (put chars ∷ more) = some_text (written chars line) more
-some_text line (move how ∷ more) = some_text (moved how line) more
-some_text line (end_record ∷ more) = (line.text, texts_from empty_line more, refl)
-some_text line (meet condition ∷ more) = some_text line more
-
 zero_by : (n : ℕ) (b : Bool) → n ≡ 0 → cond b n 0 ≡ n
 zero_by n true e = refl
 zero_by n false e = sym e
 
 -- behind a record that has ended
-next_count : (start limit : ℕ) (text next : List ℕ) (texts all : List (List ℕ)) → all ≡ next ∷ texts → open_count 0 (printed_of all) ≤ limit → open_count start (printed_of (text ∷ all)) ≤ limit
-next_count start limit text next texts all e h =
+next_count : (start limit : ℕ) (text : List ℕ) (all : List (List ℕ)) → start + length text ≤ limit → open_count 0 (printed_of all) ≤ limit → open_count start (printed_of (text ∷ all)) ≤ limit
+next_count start limit text [] low h = low
+next_count start limit text (next ∷ texts) low h =
     let more : Printed = printed_of (next ∷ texts) in
-    let here : open_count 0 more ≤ limit = subst (λ xs. open_count 0 (printed_of xs) ≤ limit) e h in
     let nought : ℕ = 0 in
     let none : cond (eqb (length more.records) 0) nought 0 ≡ nought = zero_by nought (eqb (length more.records) 0) refl in
     let test : eqb (length (text ∷ more.records)) 0 ≡ false = grind (arith, nat_tests) in
     let there : open_count start (printed_of (text ∷ (next ∷ texts))) ≡ 0 + length more.«open» = ap (λ b. cond b start 0 + length more.«open») test in
-    let low : open_count start (printed_of (text ∷ (next ∷ texts))) ≤ limit = omega (arith, here, none, there) in
-    subst (λ xs. open_count start (printed_of (text ∷ xs)) ≤ limit) (sym e) low
+    omega (arith, h, none, there)
 
 open_from : (limit start : ℕ) (ended : List ℕ) (line : LineState) (actions : List Action) → start + length line.text ≤ limit
     → IsDone (carried_out (record { limit = Some limit; start = start; ended = ended; line = line }) actions) → open_count start (printed_of (texts_from line actions)) ≤ limit
@@ -59,8 +51,7 @@ open_from limit start ended line (move how ∷ more) low done = open_from limit 
 open_from limit start ended line (end_record ∷ more) low done =
     let hand : AtHand = record { limit = Some limit; start = 0; ended = ended ++ (line.text ++ 10 ∷ []); line = empty_line } in
     let n = no_condition (condition_in end_record (record { limit = Some limit; start = start; ended = ended; line = line })) (carried_out hand more) done in
-    let some = some_text empty_line more in
-    next_count start limit line.text some.0 some.1 (texts_from empty_line more) some.2 (open_from limit 0 (ended ++ (line.text ++ 10 ∷ [])) empty_line more (omega arith) n.1)
+    next_count start limit line.text (texts_from empty_line more) low (open_from limit 0 (ended ++ (line.text ++ 10 ∷ [])) empty_line more (omega arith) n.1)
 open_from limit start ended line (meet condition ∷ more) low done = absurd (false≢true done)
 
 fine_by : (limit begun : ℕ) (actions : List Action) (r : Result AtHand Condition) → (IsDone r → open_count begun (printed_of (texts_from empty_line actions)) ≤ limit) → IfOk (if_fine actions r) (λ p. open_count begun p ≤ limit)

@@ -1,5 +1,5 @@
 -- When what a statement is given fits: what its deck says of it, and what the variables hold.
-use Rattle.std.specs.Prelude.{◌≡◌, ◌≤◌, ◌<◌, ◌^◌, false, List, length, All, IsSome, IfSome}
+use Rattle.std.specs.Prelude.{◌≡◌, ◌≤◌, ◌<◌, ◌^◌, false, List, length, map, All, IsSome, IfSome}
 use Rattle.fj_value.specs.Kind.{IsOfKind}
 use Rattle.fj_value.specs.declared.place.Place.{Place}
 use Rattle.fj_statement.specs.declared.deck.Variable.{Variable}
@@ -10,12 +10,18 @@ use Rattle.fj_store.specs.Storage.{Storage, value_at as stored_at, values_of}
 use Rattle.fj_store.specs.Variables.{Variables, value_at}
 use Rattle.fj_plain.specs.Items.{kind_of}
 use Rattle.fj_plain.specs.Needs.{group_places, transfer_places}
+use Rattle.fj_plain.specs.State.{elements}
 use Rattle.fj_items.specs.Gathering.{AreHome}
 use Rattle.fj_items.specs.Kinds.{Fits}
 
 -- each variable has values of its kind, or undefined ones
 abbrev pub HaveKinds : List Variable → Variables → Type 0
 HaveKinds variables vars = (place : Place) → Fits (kind_of variables place.var) (value_at vars place)
+
+-- Variables are as they are declared: each with a place for each element.
+pub record AreKept (variables : List Variable) (vars : Variables) : Type 0 where
+  pub places : map length vars ≡ map elements variables
+  pub kinds : HaveKinds variables vars
 
 -- each of the places has a defined value of its variable's kind
 abbrev pub AreDefined : List Variable → Variables → List Place → Type 0

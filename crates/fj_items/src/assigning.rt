@@ -8,7 +8,7 @@ ghost use Rattle.fj_plain.specs.Statement.{converted, assigned};
 ghost use Rattle.fj_statement.specs.Sound.{IsAssignment};
 ghost use Rattle.fj_store.specs.Storage.{values_of};
 ghost use Rattle.fj_store.specs.Variables.{with_value};
-ghost use Rattle.fj_items.specs.Fitting.{HaveKinds};
+ghost use Rattle.fj_items.specs.Fitting.{HaveKinds, AreKept};
 ghost use Rattle.fj_items.specs.Kinds.{kinds_of, Fits};
 
 use crate::giving::fits;
@@ -83,6 +83,7 @@ fn assign_place(
     requires { store.old.kinds ≡ kinds_of variables.now }
     ensures vars { OnOk result (values_of store.new ≡ with_value (values_of store.old) place (converted (kind_of variables.now place.var) value.now)) }
     ensures kinds { store.new.kinds ≡ store.old.kinds }
+    ensures keeps { AreKept variables.now (values_of store.old) → OnOk result (AreKept variables.now (values_of store.new)) }
     ensures fits { Fits (kind_of variables.now place.var) (converted (kind_of variables.now place.var) value.now) → result ≢ Err Lost.Unfit }
     ensures causes { (result ≢ Err Lost.Disk) × (result ≢ Err Lost.Sink) }
 {
@@ -106,6 +107,7 @@ fn assign_array(
     requires { store.old.kinds ≡ kinds_of variables.now }
     ensures vars { OnOk result (values_of store.new ≡ assigned variables.now (places_of variables.now var) value.now (values_of store.old)) }
     ensures kinds { store.new.kinds ≡ store.old.kinds }
+    ensures keeps { AreKept variables.now (values_of store.old) → OnOk result (AreKept variables.now (values_of store.new)) }
     ensures fits { Fits (kind_of variables.now var) (converted (kind_of variables.now var) value.now) → result ≢ Err Lost.Unfit }
     ensures causes { (result ≢ Err Lost.Disk) × (result ≢ Err Lost.Sink) }
 {
@@ -130,6 +132,7 @@ pub fn assign(
     ensures vars { OnOk result (values_of store.new
         ≡ assigned variables.now (operand_places variables.now to.now) (value_of (values_of store.old) from.now) (values_of store.old)) }
     ensures kinds { store.new.kinds ≡ store.old.kinds }
+    ensures keeps { AreKept variables.now (values_of store.old) → OnOk result (AreKept variables.now (values_of store.new)) }
     ensures fits { IsAssignment variables.now to.now from.now → HaveKinds variables.now (values_of store.old) → result ≢ Err Lost.Unfit }
     ensures causes { (result ≢ Err Lost.Disk) × (result ≢ Err Lost.Sink) }
 {

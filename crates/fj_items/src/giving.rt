@@ -7,6 +7,7 @@ ghost use Rattle.fj_statement.specs.Sound.{IsIntegerPlace};
 ghost use Rattle.fj_store.specs.Storage.{values_of};
 ghost use Rattle.fj_value.specs.declared.place.Place.{Place};
 ghost use Rattle.fj_store.specs.Variables.{given_back};
+ghost use Rattle.fj_items.specs.Fitting.{AreKept};
 ghost use Rattle.fj_items.specs.Kinds.{kinds_of, Fits, CellFits, IsIntegerKind};
 
 use crate::lost::Lost;
@@ -86,6 +87,7 @@ pub fn give_cells(
         ≡ (if input then with_size variables.now size job.count (given_back job.moved.cells (values_of store.old)) else values_of store.old)) }
     ensures err { OnErr result (store.new ≡ store.old) }
     ensures kinds { store.new.kinds ≡ store.old.kinds }
+    ensures keeps { AreKept variables.now (values_of store.old) → OnOk result (AreKept variables.now (values_of store.new)) }
     ensures fits { All (CellFits variables.now) job.moved.cells → IfSome size (IsIntegerPlace variables.now) → IsOk result }
 {
     if !input {

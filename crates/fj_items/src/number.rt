@@ -7,6 +7,7 @@ ghost use Rattle.fj_plain.specs.Transfers.{with_number};
 ghost use Rattle.fj_statement.specs.Sound.{IsIntegerPlace};
 ghost use Rattle.fj_store.specs.Storage.{values_of};
 ghost use Rattle.fj_value.specs.Kind.{integer_bits};
+ghost use Rattle.fj_items.specs.Fitting.{AreKept};
 ghost use Rattle.fj_items.specs.Kinds.{kinds_of};
 
 use crate::lost::Lost;
@@ -78,6 +79,7 @@ pub fn set_number(
     ensures ok { OnOk result (values_of store.new ≡ with_number variables.now place n (values_of store.old)) }
     ensures err { OnErr result (store.new ≡ store.old) }
     ensures kinds { store.new.kinds ≡ store.old.kinds }
+    ensures keeps { AreKept variables.now (values_of store.old) → OnOk result (AreKept variables.now (values_of store.new)) }
     ensures fits { IfSome place (IsIntegerPlace variables.now) → IsOk result }
 {
     let Some(place) = place else {

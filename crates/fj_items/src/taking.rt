@@ -16,7 +16,7 @@ ghost use Rattle.fj_store.specs.Storage.{value_at, values_of};
 ghost use Rattle.fj_store.specs.Variables.{moved_of, undefined_at};
 ghost use Rattle.fj_store.specs.declared.piece.Piece.TheVariants.{Places};
 ghost use Rattle.fj_transfer.specs.Moving.{HasValues, members_of};
-ghost use Rattle.fj_items.specs.Fitting.{FindsItems, Finds};
+ghost use Rattle.fj_items.specs.Fitting.{AreKept, FindsItems, Finds};
 ghost use Rattle.fj_items.specs.Gathering.{IsNumbered};
 ghost use Rattle.fj_items.specs.Kinds.{kinds_of};
 
@@ -182,6 +182,7 @@ pub fn moving(
     ensures vars { OnOk result (values_of store.new
         ≡ without_values variables.now t.now (moved_in variables.now (values_of store.old) t.now) (values_of store.old)) }
     ensures kinds { store.new.kinds ≡ store.old.kinds }
+    ensures keeps { AreKept variables.now (values_of store.old) → OnOk result (AreKept variables.now (values_of store.new)) }
     ensures fits { IsTransfer variables.now t.now → Finds variables.now store.old t.now → result ≢ Err Lost.Unfit }
     ensures causes { (result ≢ Err Lost.Disk) × (result ≢ Err Lost.Sink) }
 {
