@@ -21,7 +21,7 @@ use Rattle.fj_pending.specs.Answers.{is_at, waits_at, with_told, NoneWaits}
 use Rattle.fj_pending.specs.Busy.{may_have}
 use Rattle.fj_pending.specs.Tied.{IsAscending, IsRising, IsMarked, IsSame, AreSame, IsTied, mark_at, answered_marks}
 use Rattle.fj_pending.proofs.Ids.{same_read}
-use Rattle.fj_pending.proofs.Tying.{seated, own_marked, remarked}
+use Rattle.fj_pending.proofs.Tying.{own_marked, remarked}
 use Rattle.fj_pending.proofs.Waited.{some_or_none}
 
 pub both_true : (a b : Bool) → (a && b) ≡ true → (a ≡ true) × (b ≡ true)
@@ -109,20 +109,20 @@ module _ (told : Told) (y : Held) (hs : List Held) (at : ℕ) (is : get_or hs at
       let under = up i j d lt (still_within j within) (sym low_slot ∙ same ∙ high_slot) in
       omega (arith, under, low_number, high_number)
 
-answer_marked : (marks : List Mark) (slot number : ℕ) (m : Mark) → m.passed ≡ (mark_at marks slot).passed → m.reached ≡ max (mark_at marks slot).reached number → m.next ≡ (mark_at marks slot).next
-    → (x : Held) → IsMarked marks x → x.slot ≡ slot → (x.tag.0 < m.passed → is_some x.answer ≡ true) × (is_some x.answer ≡ true → x.number ≤ m.reached) × (x.number < m.next)
+answer_marked : (marks : List Mark) (slot number : ℕ) (m : Mark) → m.passed ≡ (mark_at marks slot).passed → m.reached ≡ max (mark_at marks slot).reached number → m.most ≡ (mark_at marks slot).most
+    → (x : Held) → IsMarked marks x → x.slot ≡ slot → (x.tag.0 < m.passed → is_some x.answer ≡ true) × (is_some x.answer ≡ true → x.number ≤ m.reached) × (x.number ≤ m.most)
 answer_marked marks slot number m p r n x it same =
-    let under : x.number < (mark_at marks slot).next = subst (λ j. x.number < (mark_at marks j).next) same it.next in (
+    let under : x.number ≤ (mark_at marks slot).most = subst (λ j. x.number ≤ (mark_at marks j).most) same it.most in (
       (λ lt. it.passed (subst (λ j. x.tag.0 < (mark_at marks j).passed) (sym same) (let low : x.tag.0 < (mark_at marks slot).passed = omega (arith, lt, p) in low))),
       (λ some. let far : x.number ≤ (mark_at marks slot).reached = subst (λ j. x.number ≤ (mark_at marks j).reached) same (it.reached some) in omega (arith, far, r)),
       omega (arith, under, n),
     )
 
-own_answer : (marks : List Mark) (slot number : ℕ) (m : Mark) → m.reached ≡ max (mark_at marks slot).reached number → m.next ≡ (mark_at marks slot).next
+own_answer : (marks : List Mark) (slot number : ℕ) (m : Mark) → m.reached ≡ max (mark_at marks slot).reached number → m.most ≡ (mark_at marks slot).most
     → (told : Told) (y : Held) → IsMarked marks y → y.slot ≡ slot → y.number ≡ number → IsMarked (set marks slot m) (with_told told y)
 own_answer marks slot number m r n told y it same this =
-    let under : y.number < (mark_at marks slot).next = subst (λ j. y.number < (mark_at marks j).next) same it.next in
-    own_marked marks slot m (with_told told y) (subst (λ j. j < length marks) same (seated marks y it)) same (λ lt. refl) (λ some. omega (arith, this, r)) (omega (arith, under, n))
+    let under : y.number ≤ (mark_at marks slot).most = subst (λ j. y.number ≤ (mark_at marks j).most) same it.most in
+    own_marked marks slot m (with_told told y) (subst (λ j. j < length marks) same it.slot) same (λ lt. refl) (λ some. omega (arith, this, r)) (omega (arith, under, n))
 
 -- an answer is put, and the numbers of the slot that have answers go so far
 answered_at : (told : Told) (y : Held) (hs : List Held) (es : List Pending) (marks : List Mark) (units : List Busy) (slot number at : ℕ) → get_or hs at y ≡ y → at < length hs → is_at slot number y ≡ true
@@ -133,6 +133,7 @@ answered_at told y hs es marks units slot number at is low here t =
       ascending = still_ascending told y hs at is low t.ascending;
       rising = still_rising told y hs at is low t.rising;
       same = kept_same told y es hs at is t.same;
+      slots = length-set marks slot m ∙ t.slots;
       marked = All-set (IsMarked (set marks slot m)) hs at (with_told told y)
           (own_answer marks slot number m refl refl told y (subst (IsMarked marks) is (t.marked at y low)) (slot_is slot number y here) (number_is slot number y here))
           (All-weaker (IsMarked marks) (IsMarked (set marks slot m)) (λ x k. remarked marks slot m x k (λ same. answer_marked marks slot number m refl refl refl x k same)) hs t.marked);
@@ -181,9 +182,9 @@ above_reached marks slot number h k e over =
     not_at slot number h (λ s n. let far : h.number ≤ (mark_at marks slot).reached = subst (λ j. h.number ≤ (mark_at marks j).reached) s (k.reached (has_answer slot h e s)) in absurd (omega (arith, far, over, n)))
 
 module _ (marks : List Mark) (slot number : ℕ) (hs : List Held) (all : All (IsMarked marks) hs) where
-  pub none_by_next : (mark_at marks slot).next ≤ number → All (λ h. is_at slot number h ≡ false) hs
-  none_by_next from k d within =
-      not_at slot number (get_or hs k d) (λ s n. let under : (get_or hs k d).number < (mark_at marks slot).next = subst (λ j. (get_or hs k d).number < (mark_at marks j).next) s (all k d within).next in absurd (omega (arith, under, from, n)))
+  pub none_by_most : (mark_at marks slot).most < number → All (λ h. is_at slot number h ≡ false) hs
+  none_by_most from k d within =
+      not_at slot number (get_or hs k d) (λ s n. let under : (get_or hs k d).number ≤ (mark_at marks slot).most = subst (λ j. (get_or hs k d).number ≤ (mark_at marks j).most) s (all k d within).most in absurd (omega (arith, under, from, n)))
 
   pub none_by_reached : (at : ℕ) → NoneWaits slot hs at → length hs ≤ at → (mark_at marks slot).reached < number → All (λ h. is_at slot number h ≡ false) hs
   none_by_reached at none past over k d within = above_reached marks slot number (get_or hs k d) (all k d within) (none k d (omega (arith, within, past)) within) over
@@ -208,7 +209,7 @@ module _ (marks : List Mark) (slot number : ℕ) (hs : List Held) (all : All (Is
       own = eqb-true y.slot slot (both_true (y.slot == slot) (is_none y.answer) waits).0
 
 -- a slot is passed so far as none waits there
-pub passed_marks : (marks : List Mark) (slot : ℕ) (m : Mark) (at : ℕ) (hs : List Held) → m.reached ≡ (mark_at marks slot).reached → m.next ≡ (mark_at marks slot).next → NoneWaits slot hs at
+pub passed_marks : (marks : List Mark) (slot : ℕ) (m : Mark) (at : ℕ) (hs : List Held) → m.reached ≡ (mark_at marks slot).reached → m.most ≡ (mark_at marks slot).most → NoneWaits slot hs at
     → ((k : ℕ) (h : Held) → k < length hs → (get_or hs k h).tag.0 < m.passed → k < at) → All (IsMarked marks) hs → All (IsMarked (set marks slot m)) hs
 passed_marks marks slot m at hs r n none before all k d within =
     let h = get_or hs k d in
@@ -216,7 +217,7 @@ passed_marks marks slot m at hs r n none before all k d within =
     remarked marks slot m h it (λ same. (
       (λ lt. has_answer slot h (none k d (before k d within lt) within) same),
       (λ some. let far : h.number ≤ (mark_at marks slot).reached = subst (λ j. h.number ≤ (mark_at marks j).reached) same (it.reached some) in omega (arith, far, r)),
-      (let under : h.number < (mark_at marks slot).next = subst (λ j. h.number < (mark_at marks j).next) same it.next in omega (arith, under, n)),
+      (let under : h.number ≤ (mark_at marks slot).most = subst (λ j. h.number ≤ (mark_at marks j).most) same it.most in omega (arith, under, n)),
     ))
 
 -- ---- whether one has the number at the slot

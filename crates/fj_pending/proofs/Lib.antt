@@ -7,3 +7,4 @@ pub mod Idle
 pub mod Tying
 pub mod Answering
 pub mod Giving
+pub mod Fitting

@@ -1,11 +1,11 @@
 -- What is kept of pending transfers hangs together, also after one is entered, answered or taken off.
-use Rattle.std.proofs.Common.{◌≡◌, ◌≢◌, ℕ, ◌+◌, ◌<◌, ◌≤◌, ◌&&◌, ◌||◌, not, Bool, true, false, List, [], ◌∷◌, ◌++◌, length, set, int_eq, pos, ℤ, Option, Some, None, All, refl, sym, ap, subst, ◌∙◌, inl, inr, arith}
-use Rattle.std.specs.Prelude.{if◌then◌else◌, filter, is_some, nat_le, ◌==◌, min}
+use Rattle.std.proofs.Common.{◌≡◌, ◌≢◌, ℕ, ◌<◌, ◌≤◌, ◌&&◌, ◌||◌, not, Bool, true, false, List, [], ◌∷◌, ◌++◌, length, set, int_eq, pos, ℤ, Option, Some, None, All, refl, sym, ap, subst, ◌∙◌, inl, inr, arith}
+use Rattle.std.specs.Prelude.{if◌then◌else◌, filter, is_some, nat_le, ◌==◌, min, max}
 use Rattle.std.specs.Option.{option_map_or}
 use Rattle.std.specs.List.{list_any}
-use Rattle.std.proofs.lemmas.Bool.{le-leb, cases_lt}
+use Rattle.std.proofs.lemmas.Bool.{le-leb}
 use Rattle.std.proofs.lemmas.Bool.Decides.{eqb_tells}
-use Rattle.std.proofs.lemmas.List.{get_or-set_same, get_or-set_other, get_or_past}
+use Rattle.std.proofs.lemmas.List.{get_or-set_same, get_or-set_other, length-set}
 use Rattle.std.proofs.lemmas.List.Elements.{All-nil, All-cons, All-head, All-tail, All-weaker, All-append, All-filter}
 use Rattle.std.proofs.lemmas.List.Kept.{AllPairs-filter}
 use Rattle.std.proofs.lemmas.List.Quantifiers.{all_pairs_push}
@@ -26,6 +26,7 @@ use Rattle.fj_pending.specs.declared.mark.Mark.{Mark}
 use Rattle.fj_pending.specs.declared.pick.Pick.{Pick}
 use Rattle.fj_pending.specs.declared.pick.Pick.TheVariants as pick
 use Rattle.fj_pending.specs.Busy.{first_of, may_have, AreBusy, with_transfer, without_told}
+use Rattle.fj_pending.specs.Fitting.{IsNext}
 use Rattle.fj_pending.specs.Plain.{holders}
 use Rattle.fj_pending.specs.Taking.{without}
 use Rattle.fj_pending.specs.Tied.{IsMarked, IsSame, AreSame, IsTied, mark_at, no_mark, entered_marks}
@@ -102,78 +103,66 @@ mark_here marks slot t m low same = ap (mark_at (set marks slot m)) same ∙ get
 mark_other : (marks : List Mark) (slot t : ℕ) (m : Mark) → t ≢ slot → mark_at (set marks slot m) t ≡ mark_at marks t
 mark_other marks slot t m other = get_or-set_other marks slot t m no_mark other
 
--- a transfer with a true mark has a slot
-pub seated : (marks : List Mark) (h : Held) → IsMarked marks h → h.slot < length marks
-seated marks h k = elim (cases_lt h.slot (length marks)) [
-  | inl low ↦ low
-  | inr high ↦
-      let none : mark_at marks h.slot ≡ no_mark = get_or_past marks h.slot no_mark high in
-      let never : h.number < 0 = subst (λ (m : Mark). h.number < m.next) none k.next in
-      absurd (omega (arith, never))
-]
-
 pub own_marked : (marks : List Mark) (slot : ℕ) (m : Mark) (h : Held) → slot < length marks → h.slot ≡ slot
-    → (h.tag.0 < m.passed → is_some h.answer ≡ true) → (is_some h.answer ≡ true → h.number ≤ m.reached) → h.number < m.next → IsMarked (set marks slot m) h
-own_marked marks slot m h low same passed reached next =
+    → (h.tag.0 < m.passed → is_some h.answer ≡ true) → (is_some h.answer ≡ true → h.number ≤ m.reached) → h.number ≤ m.most → IsMarked (set marks slot m) h
+own_marked marks slot m h low same passed reached most =
     let is = mark_here marks slot h.slot m low same in record {
+      slot = omega (arith, low, same, length-set marks slot m);
       passed = λ lt. passed (subst (λ (k : Mark). h.tag.0 < k.passed) is lt);
       reached = λ some. subst (λ (k : Mark). h.number ≤ k.reached) (sym is) (reached some);
-      next = subst (λ (k : Mark). h.number < k.next) (sym is) next;
+      most = subst (λ (k : Mark). h.number ≤ k.most) (sym is) most;
     }
 
 -- a mark that is put is true of the transfers of the slot, and the others keep theirs
 pub remarked : (marks : List Mark) (slot : ℕ) (m : Mark) (h : Held) → IsMarked marks h
-    → (h.slot ≡ slot → (h.tag.0 < m.passed → is_some h.answer ≡ true) × (is_some h.answer ≡ true → h.number ≤ m.reached) × (h.number < m.next)) → IsMarked (set marks slot m) h
+    → (h.slot ≡ slot → (h.tag.0 < m.passed → is_some h.answer ≡ true) × (is_some h.answer ≡ true → h.number ≤ m.reached) × (h.number ≤ m.most)) → IsMarked (set marks slot m) h
 remarked marks slot m h old new = elim (eqb_tells h.slot slot) [
-  | inl here ↦ let facts = new here.1 in own_marked marks slot m h (subst (λ n. n < length marks) here.1 (seated marks h old)) here.1 facts.0 facts.1 facts.2
+  | inl here ↦ let facts = new here.1 in own_marked marks slot m h (subst (λ n. n < length marks) here.1 old.slot) here.1 facts.0 facts.1 facts.2
   | inr other ↦ let is = mark_other marks slot h.slot m other.1 in record {
+    slot = omega (arith, old.slot, length-set marks slot m);
     passed = λ lt. old.passed (subst (λ (k : Mark). h.tag.0 < k.passed) is lt);
     reached = λ some. subst (λ (k : Mark). h.number ≤ k.reached) (sym is) (old.reached some);
-    next = subst (λ (k : Mark). h.number < k.next) (sym is) old.next;
+    most = subst (λ (k : Mark). h.number ≤ k.most) (sym is) old.most;
   }
 ]
 
 all_one : {X : Type 0} (P : X → Type 0) (x : X) → P x → All P (x ∷ [])
 all_one P x h = All-cons P x [] h (All-nil P)
 
-pub entered_is : (hs : List Held) (es : List Pending) (marks : List Mark) (units : List Busy) (h : Held) (e : Pending) → IsTied hs es marks units → h.answer ≡ None → IsSame e h → h.slot < length marks
-    → All (λ (x : Held). x.tag.0 < h.tag.0) hs → (mark_at marks h.slot).next ≤ h.number → IsTied (hs ++ h ∷ []) (es ++ e ∷ []) (entered_marks marks h) (with_transfer units h.unit h.tag)
-entered_is hs es marks units h e t none this low above from =
-    let m : Mark = record { passed = min (mark_at marks h.slot).passed h.tag.0; reached = (mark_at marks h.slot).reached; next = h.number + 1 } in
+pub entered_is : (hs : List Held) (es : List Pending) (marks : List Mark) (units : List Busy) (h : Held) (e : Pending) → IsTied hs es marks units → h.answer ≡ None → IsSame e h → IsNext hs h
+    → IsTied (hs ++ h ∷ []) (es ++ e ∷ []) (entered_marks marks h) (with_transfer units h.unit h.tag)
+entered_is hs es marks units h e t none this next =
+    let m : Mark = record { passed = min (mark_at marks h.slot).passed h.tag.0; reached = (mark_at marks h.slot).reached; most = max (mark_at marks h.slot).most h.number } in
     let unanswered : is_some h.answer ≡ false = ap is_some none in
     record {
-      ascending = all_pairs_push (λ (a b : Held). a.tag.0 < b.tag.0) hs h t.ascending above;
-      rising = all_pairs_push (λ (a b : Held). a.slot ≡ b.slot → a.number < b.number) hs h t.rising
-          (All-weaker (IsMarked marks) (λ (x : Held). x.slot ≡ h.slot → x.number < h.number) (λ x k same. let under = subst (λ n. x.number < (mark_at marks n).next) same k.next in omega (arith, under, from)) hs t.marked);
+      ascending = all_pairs_push (λ (a b : Held). a.tag.0 < b.tag.0) hs h t.ascending next.id;
+      rising = all_pairs_push (λ (a b : Held). a.slot ≡ b.slot → a.number < b.number) hs h t.rising next.number;
       same = same_push es hs e h t.same this;
+      slots = length-set marks h.slot m ∙ t.slots;
       marked = All-append (IsMarked (entered_marks marks h)) hs (h ∷ [])
           (All-weaker (IsMarked marks) (IsMarked (set marks h.slot m)) (λ x k. remarked marks h.slot m x k (λ here. before x k here m refl)) hs t.marked)
           (all_one (IsMarked (set marks h.slot m)) h (fresh m unanswered refl));
       busy = busy_entered units hs h t.busy;
     }
   where
-    before : (x : Held) → IsMarked marks x → x.slot ≡ h.slot → (m : Mark) → m ≡ record { passed = min (mark_at marks h.slot).passed h.tag.0; reached = (mark_at marks h.slot).reached; next = h.number + 1 }
-        → (x.tag.0 < m.passed → is_some x.answer ≡ true) × (is_some x.answer ≡ true → x.number ≤ m.reached) × (x.number < m.next)
+    before : (x : Held) → IsMarked marks x → x.slot ≡ h.slot → (m : Mark) → m ≡ record { passed = min (mark_at marks h.slot).passed h.tag.0; reached = (mark_at marks h.slot).reached; most = max (mark_at marks h.slot).most h.number }
+        → (x.tag.0 < m.passed → is_some x.answer ≡ true) × (is_some x.answer ≡ true → x.number ≤ m.reached) × (x.number ≤ m.most)
     before x k here m is =
         let passed : m.passed ≡ min (mark_at marks h.slot).passed h.tag.0 = ap (λ (y : Mark). y.passed) is in
         let reached : m.reached ≡ (mark_at marks h.slot).reached = ap (λ (y : Mark). y.reached) is in
-        let next : m.next ≡ h.number + 1 = ap (λ (y : Mark). y.next) is in
-        let below : x.number < (mark_at marks h.slot).next = subst (λ n. x.number < (mark_at marks n).next) here k.next in (
+        let most : m.most ≡ max (mark_at marks h.slot).most h.number = ap (λ (y : Mark). y.most) is in
+        let below : x.number ≤ (mark_at marks h.slot).most = subst (λ n. x.number ≤ (mark_at marks n).most) here k.most in (
           (λ lt. k.passed (subst (λ n. x.tag.0 < (mark_at marks n).passed) (sym here) (omega arith))),
           (λ some. let far : x.number ≤ (mark_at marks h.slot).reached = subst (λ n. x.number ≤ (mark_at marks n).reached) here (k.reached some) in omega arith),
           omega arith,
         )
 
-    fresh : (m : Mark) → is_some h.answer ≡ false → m ≡ record { passed = min (mark_at marks h.slot).passed h.tag.0; reached = (mark_at marks h.slot).reached; next = h.number + 1 } → IsMarked (set marks h.slot m) h
+    fresh : (m : Mark) → is_some h.answer ≡ false → m ≡ record { passed = min (mark_at marks h.slot).passed h.tag.0; reached = (mark_at marks h.slot).reached; most = max (mark_at marks h.slot).most h.number } → IsMarked (set marks h.slot m) h
     fresh m unanswered is =
-        let here = mark_here marks h.slot h.slot m low refl in
+        let low : h.slot < length marks = omega (arith, next.slot, t.slots) in
         let passed : m.passed ≡ min (mark_at marks h.slot).passed h.tag.0 = ap (λ (y : Mark). y.passed) is in
-        let next : m.next ≡ h.number + 1 = ap (λ (y : Mark). y.next) is in
-        record {
-          passed = λ lt. let under : h.tag.0 < m.passed = subst (λ (y : Mark). h.tag.0 < y.passed) here lt in absurd (omega arith);
-          reached = λ some. (let never : false ≡ true = sym unanswered ∙ some in cc);
-          next = subst (λ (y : Mark). h.number < y.next) (sym here) (let n : h.number < m.next = omega arith in n);
-        }
+        let most : m.most ≡ max (mark_at marks h.slot).most h.number = ap (λ (y : Mark). y.most) is in
+        own_marked marks h.slot m h low refl (λ lt. absurd (omega arith)) (λ some. (let never : false ≡ true = sym unanswered ∙ some in cc)) (omega arith)
 
 pub tied_as : (hs hs' : List Held) (es es' : List Pending) (ms ms' : List Mark) (us us' : List Busy) → hs' ≡ hs → es' ≡ es → ms' ≡ ms → us' ≡ us → IsTied hs es ms us → IsTied hs' es' ms' us'
 tied_as hs hs' es es' ms ms' us us' a b m u t =
@@ -236,6 +225,7 @@ taken_is p hs es marks units t = record {
   ascending = AllPairs-filter (λ (a b : Held). a.tag.0 < b.tag.0) (λ h. not (picks p h)) hs t.ascending;
   rising = AllPairs-filter (λ (a b : Held). a.slot ≡ b.slot → a.number < b.number) (λ h. not (picks p h)) hs t.rising;
   same = taken_same p units hs es t.busy t.same;
+  slots = t.slots;
   marked = All-filter (λ h. not (picks p h)) (IsMarked marks) hs t.marked;
   busy = busy_left p units hs t.busy;
 }

@@ -34,6 +34,10 @@ with_unit : (p : Pending) (o : Option Outcome) → (entry_with p o).unit ≡ p.u
 with_unit p None = refl
 with_unit p (Some o) = refl
 
+with_size : (p : Pending) (o : Option Outcome) → (entry_with p o).size ≡ p.size
+with_size p None = refl
+with_size p (Some o) = refl
+
 with_id : (p : Pending) (o : Option Outcome) → (entry_with p o).id ≡ p.id
 with_id p None = refl
 with_id p (Some o) = refl
@@ -43,6 +47,9 @@ entry_unit h = with_unit (pending_of h) (option_map outcome_of h.answer)
 
 pub entry_id : (h : Held) → (entry_of h).id ≡ h.tag.0
 entry_id h = with_id (pending_of h) (option_map outcome_of h.answer)
+
+pub entry_size : (h : Held) → (entry_of h).size ≡ h.size
+entry_size h = with_size (pending_of h) (option_map outcome_of h.answer)
 
 -- ---- filters and tests of entries
 

@@ -7,3 +7,4 @@ pub mod Parts
 pub mod Answers
 pub mod Taking
 pub mod Fits
+pub mod Fitting

@@ -19,7 +19,7 @@ pub(crate) fn mark_at(marks: &Vec<Mark>, slot: u32) -> Mark
     Mark {
         passed: 0,
         reached: 0,
-        next: 0,
+        most: 0,
     }
 }
 
@@ -110,7 +110,7 @@ pub(crate) fn seek(
     ensures none { IfNone result (All (λ h. is_at slot number h ≡ false) helds.now.items) }
 {
     let mark = mark_at(marks, slot);
-    if number >= mark.next {
+    if number > mark.most {
         return None;
     }
     let at = first_waiting(helds, slot, below(helds, mark.passed));
@@ -137,7 +137,8 @@ pub(crate) fn seek(
 pub(crate) fn pass(helds: &VecDeque<Held>, marks: &mut Vec<Mark>, slot: u32)
     requires ascending { IsAscending helds.now.items }
     requires marked { All (IsMarked marks.old.items) helds.now.items }
-    ensures { All (IsMarked marks.new.items) helds.now.items }
+    ensures marked { All (IsMarked marks.new.items) helds.now.items }
+    ensures slots { length marks.new.items ≡ length marks.old.items }
 {
     let mark = mark_at(marks, slot);
     let at = first_waiting(helds, slot, below(helds, mark.passed));
@@ -148,7 +149,7 @@ pub(crate) fn pass(helds: &VecDeque<Held>, marks: &mut Vec<Mark>, slot: u32)
         Mark {
             passed,
             reached: mark.reached,
-            next: mark.next,
+            most: mark.most,
         },
     );
 }

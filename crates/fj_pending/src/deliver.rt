@@ -1,6 +1,7 @@
 // What telling transfers does to the variables (ISO/IEC 1539-1:2004, 9.5.1.4, 9.6).
-ghost use Rattle.std.specs.Prelude.{◌≡◌, ◌++◌, [], ◌∷◌, ◌||◌, map, IfOk, OnOk, pos};
+ghost use Rattle.std.specs.Prelude.{◌≡◌, ◌≢◌, ◌++◌, [], ◌∷◌, true, map, All, Err, IfSome, IfOk, OnOk, pos};
 ghost use Rattle.std.specs.List.{list_all};
+ghost use Rattle.fj_statement.specs.Sound.{IsIntegerPlace};
 ghost use Rattle.fj_store.specs.Storage.{values_of};
 ghost use Rattle.fj_store.specs.Variables.{given_back};
 ghost use Rattle.fj_plain.specs.Items.{kind_of, number_for};
@@ -8,6 +9,7 @@ ghost use Rattle.fj_plain.specs.Telling.{count_for, graver, with_input, with_inp
 ghost use Rattle.fj_plain.specs.Telling as telling;
 ghost use Rattle.fj_pending.specs.Plain.{entry_of, entries, tells_of};
 ghost use Rattle.fj_pending.specs.Fits.{fits, fits_cell};
+ghost use Rattle.fj_pending.specs.Fitting.{IsTellable};
 
 use crate::held::Held;
 use crate::lost::Lost;
@@ -85,6 +87,7 @@ fn give_size(
     requires { store.old.kinds ≡ map (λ v. v.kind) variables.now }
     ensures values { OnOk result (values_of store.new ≡ with_size variables.now size count (values_of store.old)) }
     ensures kinds { store.new.kinds ≡ store.old.kinds }
+    ensures fits { IfSome size (IsIntegerPlace variables.now) → result ≢ Err Lost.Unfit }
 {
     let Some(place) = size else {
         return Ok(());
@@ -107,6 +110,7 @@ fn give(
     requires { store.old.kinds ≡ map (λ v. v.kind) variables.now }
     ensures values { OnOk result (values_of store.new ≡ with_size variables.now size transfer.count (given_back transfer.moved.cells (values_of store.old))) }
     ensures kinds { store.new.kinds ≡ store.old.kinds }
+    ensures fits { All (λ cell. fits_cell variables.now cell ≡ true) transfer.moved.cells → IfSome size (IsIntegerPlace variables.now) → result ≢ Err Lost.Unfit }
 {
     if !all_fit(variables, transfer.moved.cells.as_slice()) {
         return Err(Lost::Unfit);
@@ -120,6 +124,7 @@ fn give_told(variables: &[Variable], store: &mut Store, held: Held) -> Result<()
     requires { store.old.kinds ≡ map (λ v. v.kind) variables.now }
     ensures values { OnOk result (values_of store.new ≡ with_input variables.now (entry_of held) (values_of store.old)) }
     ensures kinds { store.new.kinds ≡ store.old.kinds }
+    ensures fits { IsTellable variables.now (entry_of held) → result ≢ Err Lost.Unfit }
 {
     let Held {
         input,
@@ -167,6 +172,7 @@ fn deliver_one(
     ensures values { OnOk result (values_of store.new ≡ with_input variables.now (entry_of held) (values_of store.old)) }
     ensures kinds { store.new.kinds ≡ store.old.kinds }
     ensures tells { OnOk result (tells_of tells.new ≡ tells_of tells.old ++ telling.tell_of line (entry_of held) ∷ []) }
+    ensures fits { IsTellable variables.now (entry_of held) → result ≢ Err Lost.Unfit }
 {
     let condition = condition_of(&held);
     let tell = Tell {
@@ -193,6 +199,7 @@ pub(crate) fn deliver(
     ensures values { OnOk result (values_of store.new ≡ with_inputs variables.now (entries told.items) (values_of store.old)) }
     ensures kinds { store.new.kinds ≡ store.old.kinds }
     ensures tells { OnOk result (tells_of tells.new ≡ tells_of tells.old ++ map (telling.tell_of line) (entries told.items)) }
+    ensures fits { All (IsTellable variables.now) (entries told.items) → result ≢ Err Lost.Unfit }
 {
     let mut left = told;
     tells.reserve(left.len())?;

@@ -6,6 +6,6 @@ pub(crate) struct Mark {
     pub passed: u64,
     /// Those that have answers have no greater numbers.
     pub reached: u64,
-    /// All have lower numbers.
-    pub next: u64,
+    /// None has a greater number.
+    pub most: u64,
 }

@@ -1,5 +1,5 @@
 // The pending transfers of a run, in ascending order of their identifiers.
-ghost use Rattle.std.specs.Prelude.{◌≡◌, ◌<◌, ◌≤◌, ◌+◌, ◌^◌, true, false, ◌++◌, [], ◌∷◌, not, All, HoldsAt, length, map, filter, take, IfOk, IfSome, IfNone, IfErr, OnOk, OnErr};
+ghost use Rattle.std.specs.Prelude.{◌≡◌, ◌≢◌, ◌<◌, false, ◌++◌, [], ◌∷◌, not, All, length, map, filter, take, Err, IsTrue, IfOk, IfSome, IfErr, OnOk, OnErr};
 ghost use Rattle.std.specs.Option.{option_map};
 ghost use Rattle.std.specs.List.{find, list_any};
 ghost use Rattle.fj_value.specs.declared.place.Place.{Place};
@@ -9,10 +9,12 @@ ghost use Rattle.fj_book.specs.Needs.{need_of};
 ghost use Rattle.fj_book.specs.Prohibitions.{prohibited};
 ghost use Rattle.fj_plain.specs.Telling.{condition_of, tells_id, tells_cause, with_inputs};
 ghost use Rattle.fj_plain.specs.Telling as telling;
+ghost use Rattle.fj_desk.specs.Desks.{most_slots};
 ghost use Rattle.fj_turns.specs.Turns.{is_at, unsettled, with_answer};
 ghost use Rattle.fj_pending.specs.Plain.{held, entries, holders, outcome_of, tells_of};
 ghost use Rattle.fj_pending.specs.Busy.{AreBusy};
-ghost use Rattle.fj_pending.specs.Tied.{IsAscending, mark_at, entered_marks, answered_marks};
+ghost use Rattle.fj_pending.specs.Fitting.{IsNext, IsTellable};
+ghost use Rattle.fj_pending.specs.Tied.{IsAscending, IsMarked, entered_marks, answered_marks};
 ghost use Rattle.fj_pending.specs.Waits.{waited_of, IsPassed, is_due, is_cause};
 
 use crate::answers::{below, mark_at, pass, put_answer, put_mark, seek};
@@ -181,18 +183,33 @@ fn ends_in(helds: &VecDeque<Held>, busy: &Vec<Busy>, pick: Pick, unit: u32) -> b
     any_causes(helds, pick, unit, below(helds, u64::from(first.0)))
 }
 
-/// Whether the transfer that stands behind all others may come.
-fn is_next(helds: &VecDeque<Held>, marks: &Vec<Mark>, entered: &Held) -> bool
-    requires { IsAscending helds.now.items }
-    ensures ascends { result ≡ true → All (λ h. h.tag.0 < entered.now.tag.0) helds.now.items }
-    ensures slot { result ≡ true → entered.now.slot < length marks.now.items }
-    ensures rises { result ≡ true → (mark_at marks.now.items entered.now.slot).next ≤ entered.now.number }
-    ensures more { result ≡ true → entered.now.number + 1 < 2 ^ 64 }
+/// Whether those of a slot have jobs of lower numbers, by looking at each.
+fn are_lower(helds: &VecDeque<Held>, slot: u32, number: u64) -> bool
+    ensures lower { IsTrue result → All (λ h. h.slot ≡ slot → h.number < number) helds.now.items }
+    ensures only { All (λ h. h.slot ≡ slot → h.number < number) helds.now.items → IsTrue result }
 {
-    if entered.slot as usize >= marks.len() || entered.number == u64::MAX {
+    for at in 0..helds.len() {
+        let held = &helds[at];
+        if held.slot == slot && held.number >= number {
+            return false;
+        }
+    }
+    true
+}
+
+/// Whether a transfer comes behind all others. Each is looked at where its number is not above those that its slot had.
+fn is_next(helds: &VecDeque<Held>, marks: &Vec<Mark>, entered: &Held) -> bool
+    requires ascending { IsAscending helds.now.items }
+    requires slots { length marks.now.items ≡ most_slots }
+    requires marked { All (IsMarked marks.now.items) helds.now.items }
+    ensures next { IsTrue result → IsNext helds.now.items entered.now }
+    ensures only { IsNext helds.now.items entered.now → IsTrue result }
+{
+    if entered.slot as usize >= marks.len() {
         return false;
     }
-    if entered.number < mark_at(marks, entered.slot).next {
+    let most = mark_at(marks, entered.slot).most;
+    if entered.number <= most && !are_lower(helds, entered.slot, entered.number) {
         return false;
     }
     match helds.back() {
@@ -203,7 +220,6 @@ fn is_next(helds: &VecDeque<Held>, marks: &Vec<Mark>, entered: &Held) -> bool
 
 /// One more at its slot.
 fn mark_entered(marks: &mut Vec<Mark>, entered: &Held)
-    requires { entered.now.number + 1 < 2 ^ 64 }
     ensures { marks.new.items ≡ entered_marks marks.old.items entered.now }
 {
     let mark = mark_at(marks, entered.slot);
@@ -214,7 +230,7 @@ fn mark_entered(marks: &mut Vec<Mark>, entered: &Held)
         Mark {
             passed,
             reached: mark.reached,
-            next: entered.number + 1,
+            most: mark.most.max(entered.number),
         },
     );
 }
@@ -231,7 +247,7 @@ fn mark_answered(marks: &mut Vec<Mark>, slot: u32, number: u64)
         Mark {
             passed: mark.passed,
             reached,
-            next: mark.next,
+            most: mark.most,
         },
     );
 }
@@ -245,7 +261,7 @@ impl Pendings {
         let none = Mark {
             passed: 0,
             reached: 0,
-            next: 0,
+            most: 0,
         };
         let marks = vec![in alloc; none; MOST_SLOTS]?;
         Ok(Pendings {
@@ -265,13 +281,15 @@ impl Pendings {
         &self.helds
     }
 
-    /// Enters a transfer, which has no answer yet, with its places each once. It is refused where its identifier or the number of its
-    /// job is not greater than those that were entered, or its slot is not below 16. Where it is not entered nothing changes.
+    /// Enters a transfer, which has no answer yet, with its places each once. It is refused where its identifier is not greater than
+    /// those of the pending ones, or the number of its job than those of its slot, or its slot is not below 16. Where it is not entered
+    /// nothing changes.
     pub fn enter(&mut self, entered: Held, places: Places) -> Result<(), Lost>
         requires unanswered { entered.answer ≡ None }
         requires same { (p : Place) → is_among places p ≡ is_among (places_in entered.runs) p }
         ensures ok { OnOk result (self.new ≡ self.old ++ entered ∷ []) }
         ensures err { OnErr result (self.new ≡ self.old) }
+        ensures fits { IsNext self.old entered → result ≢ Err Lost.Unfit }
     {
         if !is_next(&self.helds, &self.marks, &entered) {
             return Err(Lost::Unfit);
@@ -348,6 +366,7 @@ impl Pendings {
         ensures kinds { store.new.kinds ≡ store.old.kinds }
         ensures left { OnOk result (held self.new ≡ filter (λ h. not (tells_id (waited_of whose (entries self.old)) h.pending.id)) (held self.old)) }
         ensures tells { OnOk result (tells_of tells.new ≡ tells_of tells.old ++ map (telling.tell_of line) (waited_of whose (entries self.old))) }
+        ensures fits { All (IsTellable variables.now) (waited_of whose (entries self.old)) → result ≢ Err Lost.Unfit }
     {
         let pick = picked(&self.helds, whose);
         let told = take_picked(alloc, &mut self.helds, &self.busy, pick)?;

@@ -74,6 +74,9 @@ fn tells_what_was_answered(rt: HostRuntime) -> Result<(), Fail> {
     }
     // one with a lower identifier is refused
     assert!(rt; enter(&mut pendings, alloc, (3, 20, 1, 2)).is_err());
+    // and one whose job has no greater number at its slot, and one at no slot
+    assert!(rt; enter(&mut pendings, alloc, (4, 20, 1, 1)).is_err());
+    assert!(rt; enter(&mut pendings, alloc, (4, 20, 16, 1)).is_err());
     assert!(rt; pendings.next_unsettled(Whose::OfId(10, 3), 0) == Some((0, 0)));
     assert!(rt; pendings.has(0, 2) && pendings.has(1, 1));
     assert!(rt; !pendings.has(1, 2) && !pendings.has(2, 1));
@@ -130,7 +133,7 @@ fn a_unit_with_none_is_not_waited_for(rt: HostRuntime) -> Result<(), Fail> {
     let mut pendings = Pendings::new(alloc, &[])?;
     let mut store = Store::new(alloc, &[])?;
     let mut tells: Items<Tell> = Items::new(alloc);
-    assert!(rt; enter(&mut pendings, alloc, (1, 10, 0, 1)).is_ok());
+    assert!(rt; enter(&mut pendings, alloc, (1, 10, 0, 0)).is_ok());
     assert!(rt; pendings.next_unsettled(Whose::OfUnit(20), 0).is_none());
     assert!(rt; !pendings.ends_halt(Whose::All, 20));
     let condition = pendings.tell(alloc, Whose::OfUnit(20), 7, &[], &mut store, &mut tells);

@@ -1,9 +1,10 @@
-use Rattle.std.proofs.Common.{◌≡◌, true, OnOk, subst, sym, ap, ◌∙◌, rules}
+use Rattle.std.proofs.Common.{◌≡◌, true, false, OnOk, subst, sym, ap, ◌∙◌, rules}
 use Rattle.std.specs.List.{list_all}
 use Rattle.fj_store.specs.Storage.{values_of}
 use Rattle.fj_store.specs.Variables.{given_back}
 use Rattle.fj_plain.specs.Telling.{with_size}
 use Rattle.fj_pending.specs.Fits.{fits_cell}
+use Rattle.fj_pending.proofs.Fitting.{all_pass}
 use Rattle.fj_pending.proofs.Giving.{given_plain}
 use Rattle.fj_pending.proofs.deliver.give.Goals as goal
 
@@ -14,3 +15,10 @@ returns-clause-values c =
     let back : values_of c.give_back.new.self ≡ given_back c.args.transfer.moved.cells (values_of c.args.store.now) =
     ap values_of c.give_back.ensures ∙ given_plain c.args.store.now c.args.variables.now c.args.transfer.moved.cells c.requires fit in
     subst (λ vs. OnOk c.give_size.result (values_of c.give_size.new.store ≡ with_size c.args.variables.now c.args.size c.args.transfer.count vs)) back c.give_size.ensures.values
+
+pub returns-then-not-all_fit-clause-fits : goal.returns-then-not-all_fit-clause-fits
+returns-then-not-all_fit-clause-fits c = λ all _ _.
+    let none : c.all_fit.result ≡ false = search rules in
+    let fit : list_all (fits_cell c.args.variables.now) c.args.transfer.moved.cells ≡ true = all_pass (fits_cell c.args.variables.now) c.args.transfer.moved.cells all in
+    let never : true ≡ false = sym fit ∙ ap (list_all (fits_cell c.args.variables.now)) (sym c.as_slice.ensures) ∙ sym c.all_fit.ensures ∙ none in
+    cc

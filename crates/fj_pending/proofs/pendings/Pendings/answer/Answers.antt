@@ -14,7 +14,7 @@ pub invariant_of-self : goal.invariant_of-self
 invariant_of-self c =
     subst (λ ms. IsTied c.put_answer.new.helds.items c.self.inside.book ms c.self.inside.busy.items) (sym c.mark_answered.ensures)
     (answered_is c.args.told c.self.inside.helds.items c.put_answer.new.helds.items c.self.inside.book c.pass.new.marks.items c.self.inside.busy.items c.args.slot c.args.number c.in-Some.at c.in-Some.ensures.some.0 c.in-Some.ensures.some.1 c.put_answer.ensures
-    (record { ascending = c.self.invariant.ascending; rising = c.self.invariant.rising; same = c.self.invariant.same; marked = c.pass.ensures; busy = c.self.invariant.busy }))
+    (record { ascending = c.self.invariant.ascending; rising = c.self.invariant.rising; same = c.self.invariant.same; slots = c.pass.ensures.slots ∙ c.self.invariant.slots; marked = c.pass.ensures.marked; busy = c.self.invariant.busy }))
 
 pub returns-clause-answered : goal.returns-clause-answered
 returns-clause-answered c =
