@@ -1,12 +1,10 @@
 -- What is due of each file, where something may be lost.
-use Rattle.std.proofs.Common.{◌≡◌, ◌≢◌, ◌⊎◌, ℕ, ◌-◌, ◌==◌, ◌<◌, ◌≤◌, Bool, true, false, not, List, [], ◌∷◌, length, map, nat_lt, take, drop, get_or, Some, None, Option, IfSome, slice_get, Result, Ok, Err, OnOk, OnErr, IsOk, is_err, if◌then◌else◌, inl, inr, refl, sym, ap, ◌∙◌, subst, arith}
+use Rattle.std.proofs.Common.{◌≡◌, ◌≢◌, ◌⊎◌, ℕ, ◌-◌, ◌==◌, ◌≤◌, Bool, true, false, not, List, [], ◌∷◌, length, map, nat_lt, take, drop, get_or, Some, None, Option, IfSome, slice_get, Result, Ok, Err, OnOk, OnErr, IsOk, if◌then◌else◌, inl, inr, refl, sym, ap, ◌∙◌, subst, arith}
 use Rattle.std.proofs.lemmas.Grind.{common_steps}
 use Rattle.std.proofs.lemmas.List.{take_all}
 use Rattle.std.proofs.lemmas.Slice.Eq.{bytes_eq-Decides}
 use Rattle.std.specs.FinSet as set
 use Rattle.std.specs.Str.{bytes_eq}
-use Rattle.fj_outside.specs.Faults.{Rose}
-use Rattle.fj_outside.specs.Refusals.{CountsFailure}
 use Rattle.fj_outside.specs.Holdings.{Holdings, given, without, SameAt}
 use Rattle.fj_outside.specs.declared.errors.Stop.{Stop}
 use Rattle.fj_outside.proofs.HoldingLaws.{steps}
@@ -14,7 +12,7 @@ use Rattle.fj_connect.specs.Connection.{Connection}
 use Rattle.fj_connect.specs.Linked.{Linked, connection_of}
 use Rattle.fj_connect.specs.Positions.{ended}
 use Rattle.fj_bay.specs.Plain.{place_of}
-use Rattle.fj_plain.specs.State.{Files, with_file, without_file, left}
+use Rattle.fj_plain.specs.State.{Files, left}
 use Rattle.fj_desk.specs.Both.{Both}
 use Rattle.fj_desk.specs.Core.{Connected}
 use Rattle.fj_desk.specs.Desks.{Desk}

@@ -3,3 +3,4 @@ pub mod Desking
 pub mod Returning
 pub mod Due
 pub mod Running
+pub mod Fitting

@@ -1,5 +1,5 @@
 -- Files that go back to the disk, and names that are taken off.
-use Rattle.std.specs.Prelude.{◌≡◌, ◌⊎◌, ◌&&◌, ℕ, Bool, if◌then◌else◌, true, false, List, [], ◌∷◌, Option, Some, None, IfSome, IsSome, is_some, slice_get, Result}
+use Rattle.std.specs.Prelude.{◌≡◌, ◌⊎◌, ◌&&◌, ℕ, Bool, true, false, List, [], ◌∷◌, Some, None, IfSome, IsSome, is_some, slice_get, Result}
 use Rattle.std.specs.FinSet as set
 use Rattle.fj_outside.specs.Holdings.{Holdings, SameAt}
 use Rattle.fj_slot.specs.Serving.{Meaning}

@@ -2,3 +2,4 @@ pub mod Serving
 pub mod Remains
 pub mod Losing
 pub mod Closing
+pub mod Fitting

@@ -16,6 +16,7 @@ ghost use Rattle.fj_units.specs.Units.{connected_of};
 ghost use Rattle.fj_closing.specs.Losing.{is_memory, may_tell, may_want};
 ghost use Rattle.fj_closing.specs.Remains.{AreOfDesks};
 ghost use Rattle.fj_closing.specs.Closing.{Lessens, IsBack, AreBack, IsKept, AreAsDue, AreOthersSame, names_left, AreSeated, AreNamed, IfClear, may_lack, SomeMayLack};
+ghost use Rattle.fj_closing.specs.Fitting.{CountsStop, HasItsOwn, HaveTheirOwn, AreOwned, AreGone};
 ghost use Rattle.fj_closing.specs.declared.remains.Remains.{Remains as Remaining};
 
 use crate::losing::{after, lost_by};
@@ -33,6 +34,7 @@ fn end_open<F: FileStore>(connection: &mut Connection<F>, stop: Option<Stop>) ->
     ensures running { OnOk result (stop ≡ None) }
     ensures stopped { IfErr result (λ e. IfSome stop (λ s. e ≡ s)) }
     ensures name { connection.new.name ≡ connection.old.name }
+    ensures failed { result ≡ Err Stop.Failed → CountsStop (F.count connection.old.file) stop → F.count connection.new.file ≢ 0 }
 {
     if let Some(stop) = stop {
         return Err(stop);
@@ -97,6 +99,8 @@ fn close<D: Disk>(
     ensures off { OnOk result (names.new ≡ left_of names.old connection.name) }
     ensures back { stands names.new connection.name ≡ false }
     ensures lessens { Lessens names.old names.new }
+    ensures taken { stands names.old connection.name ≡ true → names.new ≡ left_of names.old connection.name }
+    ensures fits { stands names.old connection.name ≡ true → CountsStop (D.File.count connection.file) stop → result ≢ Err Lost.Unfit }
 {
     if !names.holds(connection.name()) {
         return Err(Lost::Unfit);
@@ -138,6 +142,10 @@ fn close_unit<D: Disk>(
     ensures kept { (was : List (Remaining D.File)) → Both (IsKept names.old) was all.old.items → Both (IsKept names.new) was all.new.items }
     ensures memory { (was : List (Remaining D.File)) → Both (IsKept names.old) was all.old.items → is_memory result ≡ true → SomeMayLack was }
     ensures lessens { Lessens names.old names.new }
+    ensures others { (at : ℕ) → at ≢ unit.now.slot → slice_get all.new.items at ≡ slice_get all.old.items at }
+    ensures gone { IfSome (slice_get all.new.items unit.now.slot) (λ it. it.connection ≡ None) }
+    ensures taken { HasItsOwn D.File.count names.old all.old.items (connected_of unit.now) → names.new ≡ left_of names.old unit.now.name }
+    ensures fits { HasItsOwn D.File.count names.old all.old.items (connected_of unit.now) → result ≢ Err Lost.Unfit }
 {
     let at = unit.slot as usize;
     if at >= all.len() {
@@ -187,6 +195,8 @@ fn close_each<D: Disk>(
     ensures kept { (was : List (Remaining D.File)) → Both (IsKept names.old) was all.old.items → Both (IsKept names.new) was all.new.items }
     ensures memory { (was : List (Remaining D.File)) → Both (IsKept names.old) was all.old.items → is_memory result ≡ true → SomeMayLack was }
     ensures lessens { Lessens names.old names.new }
+    ensures gone { AreOwned (map connected_of units.now) all.old.items → AreGone all.new.items }
+    ensures fits { HaveTheirOwn D.File.count names.old all.old.items (map connected_of units.now) → result ≢ Err Lost.Unfit }
 {
     let [unit, more @ ..] = units else {
         return Ok(());
@@ -210,6 +220,7 @@ fn close_left<D: Disk>(it: Remains<D::File>, names: &mut Names, disk: &mut D) ->
     ensures back { IsBack names.new it }
     ensures memory { is_memory result ≡ true → may_lack it ≡ true }
     ensures lessens { Lessens names.old names.new }
+    ensures fits { it.connection ≡ None → result ≢ Err Lost.Unfit }
 {
     let Remains { connection, stop } = it;
     let Some(connection) = connection else {
@@ -237,6 +248,7 @@ fn close_rest<D: Disk>(
     ensures back { AreBack names.new all.old.items }
     ensures memory { is_memory result ≡ true → SomeMayLack all.old.items }
     ensures lessens { Lessens names.old names.new }
+    ensures fits { AreGone all.old.items → result ≢ Err Lost.Unfit }
 {
     let Some(it) = all.pop() else {
         return Ok(());
@@ -273,6 +285,7 @@ pub fn close_units<D: Disk>(
     ensures off { OnOk result (names.new ≡ names_left units.now names.old) }
     ensures back { AreBack names.new all.items }
     ensures memory { is_memory result ≡ true → SomeMayLack all.items }
+    ensures fits { HaveTheirOwn D.File.count names.old all.items units.now → AreOwned units.now all.items → result ≢ Err Lost.Unfit }
 {
     let mut all = all;
     let first = close_each(units.as_slice(), &mut all, names, disk);

@@ -3,12 +3,16 @@ ghost use Rattle.std.specs.Prelude.{◌≡◌, ◌≢◌, ◌↔◌, ◌≤◌, 
 ghost use Rattle.fj_outside.specs.Faults.{Rose};
 ghost use Rattle.fj_world.specs.Alone.{AllHome};
 ghost use Rattle.fj_bay.specs.Meaning.{bay_meaning};
+ghost use Rattle.fj_desk.specs.Both.{Both};
 ghost use Rattle.fj_desk.specs.Desks.{Desk};
 ghost use Rattle.fj_desk.specs.Desking.{all_left};
 ghost use Rattle.fj_turns.specs.Executing.{HoldsDesks};
 ghost use Rattle.fj_units.specs.Names.{AreInUse};
 ghost use Rattle.fj_units.specs.Files.{files_of};
 ghost use Rattle.fj_closing.specs.Losing.{may_tell};
+ghost use Rattle.fj_closing.specs.Fitting.{HaveTheirOwn, AreOwned};
+ghost use Rattle.fj_closing.specs.Remains.{IsWhatRemains};
+ghost use Rattle.fj_closing.specs.declared.remains.Remains.{Remains as Remaining};
 ghost use Rattle.fj_closing.specs.Closing.{AreAsDue, AreOthersSame, names_left, AreSeated, AreNamed, IfClear, IsFinished};
 
 use crate::closing::close_units;
@@ -49,6 +53,8 @@ pub fn finish<D: Disk>(
     ensures disk { result ≡ Err Lost.Disk → Rose (D.count disk.old) (D.count disk.new) }
     ensures sink { result ≢ Err Lost.Sink }
     ensures off { OnOk result (names.new ≡ names_left units.now names.old) }
+    ensures fits { ((all : List (Remaining D.File)) → Both (IsWhatRemains (bay_meaning D.File.told D.File.bytes D.File.count)) slots.slots all
+        → HaveTheirOwn D.File.count names.old all units.now × AreOwned units.now all) → result ≢ Err Lost.Unfit }
     ensures remains { IsFinished (bay_meaning D.File.told D.File.bytes D.File.count) slots names.new result }
 {
     let all = what_remains(slots, room);

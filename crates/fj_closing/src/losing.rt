@@ -30,6 +30,7 @@ pub(crate) fn lost_by(
     ensures sink { result ≢ Err Lost.Sink }
     ensures memory { is_memory result ≡ true → lacks ended ≡ true }
     ensures told { may_tell result ≡ true → (hurt ≡ true) ⊎ IsOk ended }
+    ensures fits { (ended ≡ Err Stop.Failed → hurt ≡ true) → result ≢ Err Lost.Unfit }
 {
     if let Err(Stop::Memory(error)) = ended {
         return Err(Lost::Memory(error));

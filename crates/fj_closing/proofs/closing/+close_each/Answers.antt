@@ -4,6 +4,7 @@ use Rattle.fj_units.specs.Units.{connected_of}
 use Rattle.fj_closing.proofs.Returning.{each_closed, either_lacks, both_tell}
 use Rattle.fj_closing.proofs.Due.{each_due, others_on}
 use Rattle.fj_closing.proofs.Running.{each_running}
+use Rattle.fj_closing.proofs.Fitting.{both_fit, own_each, none_own, owned_each}
 use Rattle.fj_closing.proofs.closing.+close_each.Goals as goal
 
 pub returns-clause-files : goal.returns-clause-files
@@ -41,3 +42,17 @@ returns-clause-running g t c = λ tells may was b.
     each_running connected_of was (λ it. it.stop ≡ None) c.args.units.now c.unit-item.result (g.D.Disk.held c.close_unit-first.new.disk) (g.D.Disk.held c.close_each-then.new.disk)
     c.close_unit-first.new.names c.close_each-then.new.names c.in-len1-up.len_at_least c.unit-item.is c.close_each-then.ensures.lessens (c.close_each-then.ensures.same still) (c.close_unit-first.ensures.back told.0)
     (c.close_unit-first.ensures.running tells told.0 was b) (c.close_each-then.ensures.running still told.1 was (c.close_unit-first.ensures.kept was b))
+
+pub returns-in_default-clause-gone : goal.returns-in_default-clause-gone
+returns-in_default-clause-gone g t c = none_own connected_of c.args.units.now c.args.all.now.items c.in_default.len_below
+
+pub returns-clause-gone : goal.returns-clause-gone
+returns-clause-gone g t c = λ owned.
+    c.close_each-then.ensures.gone
+    (owned_each connected_of c.args.units.now c.unit-item.result c.args.all.now.items c.close_unit-first.new.all.items c.in-len1-up.len_at_least c.unit-item.is c.close_unit-first.ensures.others c.close_unit-first.ensures.gone owned)
+
+pub returns-clause-fits : goal.returns-clause-fits
+returns-clause-fits g t c = λ own.
+    let each = own_each connected_of g.D.File.FileStore.count c.args.names.now c.close_unit-first.new.names c.args.all.now.items c.close_unit-first.new.all.items c.args.units.now c.unit-item.result
+    c.in-len1-up.len_at_least c.unit-item.is c.close_unit-first.ensures.others c.close_unit-first.ensures.taken own in
+    both_fit c.close_unit-first.result c.close_each-then.result c.after.result c.after.ensures (c.close_unit-first.ensures.fits each.0) (c.close_each-then.ensures.fits each.1)

@@ -1,4 +1,4 @@
-use Rattle.std.proofs.Common.{sym, ap, ◌∙◌, arith}
+use Rattle.std.proofs.Common.{sym, ap, ◌∙◌}
 use Rattle.fj_units.specs.Names.{stands, left_of}
 use Rattle.fj_units.specs.Files.{files_of}
 use Rattle.fj_units.proofs.Returning.{name_off}

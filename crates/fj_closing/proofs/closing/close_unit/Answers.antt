@@ -7,9 +7,11 @@ use Rattle.fj_plain.specs.State.{left}
 use Rattle.fj_units.specs.Names.{stands}
 use Rattle.fj_units.specs.Files.{files_of}
 use Rattle.fj_units.specs.Returning.{IsAsDue}
+use Rattle.fj_units.specs.Units.{connected_of}
 use Rattle.fj_closing.specs.Losing.{is_memory}
 use Rattle.fj_closing.proofs.Returning.{kept_gone, kept_get, closes_desk, lack_at, no_more_memory, unfit_untold}
 use Rattle.fj_closing.proofs.Due.{due_at_desk}
+use Rattle.fj_closing.proofs.Fitting.{own_name}
 use Rattle.fj_closing.proofs.closing.close_unit.Goals as goal
 
 pub returns-then-due-clause-files : goal.returns-then-due-clause-files
@@ -92,3 +94,12 @@ returns-then-due-clause-back g c = λ may.
 
 pub returns-else-due-clause-back : goal.returns-else-due-clause-back
 returns-else-due-clause-back g c = λ may. absurd (unfit_untold c.close-closed.result c.after.result c.after.ensures may)
+
+pub returns-else-due-clause-fits : goal.returns-else-due-clause-fits
+returns-else-due-clause-fits g c = λ own.
+    let within : c.args.unit.now.slot < length c.args.all.now.items = omega (arith, c.if-at-len.false, c.len.ensures, c.args.all.now.ok.0) in
+    let found = slice_get_read c.args.all.now.items (length c.args.all.now.items) c.args.unit.now.slot c.index_mut-it.result.now refl within c.index_mut-it.ensures.value in
+    let name = own_name g.D.File.FileStore.count c.args.names.now c.args.all.now.items (connected_of c.args.unit.now) c.index_mut-it.result.now c.in-Some.connection own found (sym c.in-Some.ensures.value) in
+    let same : c.as_str.result.now ≡ c.as_str-2.result.now = c.as_str.ensures.text ∙ c.name.ensures ∙ name ∙ sym c.as_str-2.ensures.text in
+    let never : true ≡ false = sym ((bytes_eq-Decides c.as_str.result.now c.as_str-2.result.now).1 same) ∙ sym c.eq-due.ensures ∙ c.if-due.false in
+    cc

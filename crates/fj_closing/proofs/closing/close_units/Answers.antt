@@ -3,8 +3,10 @@ use Rattle.fj_desk.specs.Desking.{all_left}
 use Rattle.fj_units.specs.Files.{files_of}
 use Rattle.fj_units.specs.Units.{connected_of}
 use Rattle.fj_closing.specs.Closing.{AreSeated, AreNamed, AreAsDue, IfClear, names_left}
+use Rattle.fj_closing.specs.Fitting.{HaveTheirOwn, AreOwned}
 use Rattle.fj_closing.proofs.Returning.{both_ok, both_tell, fine_told, either_lacks, kept_all, lack_kept, back_all}
 use Rattle.fj_closing.proofs.Due.{others_on}
+use Rattle.fj_closing.proofs.Fitting.{both_fit}
 use Rattle.fj_closing.proofs.closing.close_units.Goals as goal
 
 pub returns-clause-files : goal.returns-clause-files
@@ -61,3 +63,9 @@ returns-clause-running g c = λ tells may.
     let running = c.close_each-first.ensures.running tells told.0 c.args.all.items (kept_all c.args.names.now c.args.all.items) in
     subst (λ d. IfClear (g.D.Disk.held d) c.args.units.now c.args.all.items (λ it. it.stop ≡ None)) (sym (c.close_rest-then.ensures.none told.1).0)
     (subst (λ us. IfClear (g.D.Disk.held c.close_each-first.new.disk) us c.args.all.items (λ it. it.stop ≡ None)) c.as_slice.ensures running)
+
+pub returns-clause-fits : goal.returns-clause-fits
+returns-clause-fits g c = λ own owned.
+    both_fit c.close_each-first.result c.close_rest-then.result c.after.result c.after.ensures
+    (c.close_each-first.ensures.fits (subst (HaveTheirOwn g.D.File.FileStore.count c.args.names.now c.args.all.items) (sym c.as_slice.ensures) own))
+    (c.close_rest-then.ensures.fits (c.close_each-first.ensures.gone (subst (λ us. AreOwned us c.args.all.items) (sym c.as_slice.ensures) owned)))

@@ -19,3 +19,8 @@ pub returns-clause-running : goal.returns-clause-running
 returns-clause-running g c = λ tells may.
     slots_running g.D.File.FileStore.told g.D.File.FileStore.bytes g.D.File.FileStore.count c.args.slots.slots c.what_remains-all.result.items c.what_remains-all.ensures.each
     (g.D.Disk.held c.close_units.new.disk) c.args.units.now (c.close_units.ensures.running tells may)
+
+pub returns-clause-fits : goal.returns-clause-fits
+returns-clause-fits g c = λ fit.
+    let each = fit c.what_remains-all.result.items c.what_remains-all.ensures.each in
+    c.close_units.ensures.fits each.0 each.1
