@@ -86,8 +86,13 @@ records_are = record { written = refl; read = refl }
 
 -- ---- kinds
 
+-- an unformatted stream at its start
 abbrev stream_of : List ℕ → Connection
 stream_of bytes = record (at_start bytes) { modes = record (at_start bytes).modes { access = Stream; formatted = false } }
+
+-- the greatest and the least INTEGER(4), a LOGICAL that is true and a CHARACTER(2)
+abbrev stored_four : List ℕ
+stored_four = (255 ∷ 255 ∷ 255 ∷ 127 ∷ []) ++ (0 ∷ 0 ∷ 0 ∷ 128 ∷ []) ++ (0 ∷ 1 ∷ 0 ∷ 0 ∷ []) ++ codes "Hi"
 
 abbrev four : Value → Value → Value → Value → List Cell
 four a b c d = cell 0 Int4 a ∷ cell 1 Int4 b ∷ cell 2 Logical c ∷ cell 3 (Chars 2) d ∷ []
@@ -96,12 +101,11 @@ four a b c d = cell 0 Int4 a ∷ cell 1 Int4 b ∷ cell 2 Logical c ∷ cell 3 (
 abbrev long_a : GroupMember
 long_a = record { name = codes "A"; kind = Int8; first = 0; count = 1; scalar = true }
 
--- The bytes of the greatest and the least INTEGER(4), of a LOGICAL and of a CHARACTER(2), read whole; and what a group does whose
--- member is of another kind than its cell: the cell gets a value that is not of its kind.
+-- Bytes are read as values of the kinds of their items. Where the cell of a variable of a group is of another kind than the variable,
+-- it gets a value that is not of its own kind.
 pub record KindsAre : Type 0 where
-  pub bytes : transfer_by (λ n. []) (stream_of ((255 ∷ 255 ∷ 255 ∷ 127 ∷ []) ++ (0 ∷ 0 ∷ 0 ∷ 128 ∷ []) ++ (0 ∷ 1 ∷ 0 ∷ 0 ∷ []) ++ codes "Hi")) (unformatted true None None unchanged)
-      (moving (four value.Undefined value.Undefined value.Undefined value.Undefined) (0 ∷ 1 ∷ 2 ∷ 3 ∷ []))
-      ≡ told_with (between (stream_of ((255 ∷ 255 ∷ 255 ∷ 127 ∷ []) ++ (0 ∷ 0 ∷ 0 ∷ 128 ∷ []) ++ (0 ∷ 1 ∷ 0 ∷ 0 ∷ []) ++ codes "Hi")) 14) (four (value.Int (pos 2147483647)) (value.Int (negsuc 2147483647)) (value.Log true) (value.Chars (codes "Hi"))) Fine
+  pub bytes : transfer_by (λ n. []) (stream_of stored_four) (unformatted true None None unchanged) (moving (four value.Undefined value.Undefined value.Undefined value.Undefined) (0 ∷ 1 ∷ 2 ∷ 3 ∷ []))
+      ≡ told_with (between (stream_of stored_four) 14) (four (value.Int (pos 2147483647)) (value.Int (negsuc 2147483647)) (value.Log true) (value.Chars (codes "Hi"))) Fine
   pub unlike : (transfer_by (λ n. []) (at_start (codes "&G A=2147483648/" ++ 10 ∷ [])) (laid_out true (Group (codes "G") (long_a ∷ [])) unchanged) (moving (cell 0 Int4 value.Undefined ∷ []) [])).cells
       ≡ cell 0 Int4 (value.Int (pos 2147483648)) ∷ []
 

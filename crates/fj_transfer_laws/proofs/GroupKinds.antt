@@ -56,12 +56,12 @@ same_kind (x ∷ old) (c ∷ cells) (suc at) cell e is = let rest : places_of ce
 
 module _ (old : List Cell) where
   -- elements are cells of their kind
-  abbrev AreOfKind : Elements → Type 0
-  AreOfKind e = (i : ℕ) (cell : Cell) → i < e.count → slice_get old (e.first + i) ≡ Some cell → cell.kind ≡ e.kind
+  abbrev AreOfOneKind : Elements → Type 0
+  AreOfOneKind e = (i : ℕ) (cell : Cell) → i < e.count → slice_get old (e.first + i) ≡ Some cell → cell.kind ≡ e.kind
 
   abbrev IsGood : Place → Type 0
   IsGood place.Due = Unit {0}
-  IsGood (place.At e i begins) = AreOfKind e
+  IsGood (place.At e i begins) = AreOfOneKind e
 
   abbrev MayBeGood : Option Place → Type 0
   MayBeGood None = Unit {0}
@@ -79,7 +79,7 @@ module _ (old : List Cell) where
 
   -- ---- values
 
-  given_keeps : (got : Read) (e : Elements) (i : ℕ) (next : List Cell → Result) → AreOfKind e → i < e.count → ((v : Value) → got ≡ read.Defined v → IsOfKind e.kind v) → Keeps next → Keeps (λ cells. given_to got e i cells next)
+  given_keeps : (got : Read) (e : Elements) (i : ℕ) (next : List Cell → Result) → AreOfOneKind e → i < e.count → ((v : Value) → got ≡ read.Defined v → IsOfKind e.kind v) → Keeps next → Keeps (λ cells. given_to got e i cells next)
   given_keeps read.Null e i next of within is on cells h = on cells h
   given_keeps (read.Defined v) e i next of within is on cells h =
       on (with_value cells (e.first + i) v) (cell_set old cells (e.first + i) v (λ cell there. inr (of_cell cell there)) h) where
@@ -89,7 +89,7 @@ module _ (old : List Cell) where
             subst (λ (kind : Kind). IsOfKind kind v) (sym (of i x.0 within x.1.0) ∙ x.1.1) (is v refl)
   given_keeps (read.Wrong condition) e i next of within is on cells h = h
 
-  filled_keeps : (e : Elements) (form : Form) (cs : List ℕ) (n i : ℕ) (next : ℕ → List Cell → Result) → AreOfKind e → ((i' : ℕ) → Keeps (next i')) → Keeps (λ cells. filled e form cs n i cells next)
+  filled_keeps : (e : Elements) (form : Form) (cs : List ℕ) (n i : ℕ) (next : ℕ → List Cell → Result) → AreOfOneKind e → ((i' : ℕ) → Keeps (next i')) → Keeps (λ cells. filled e form cs n i cells next)
   filled_keeps e form cs zero i next of on cells h = on i cells h
   filled_keeps e form cs (suc n) i next of on cells h = go (ltb i e.count) refl (filled_keeps e form cs n (i + 1) next of on) where
     rest : List Cell → Result
@@ -99,7 +99,7 @@ module _ (old : List Cell) where
     go true is more = given_keeps (constant_read e.kind form cs) e i rest of (grind (arith, nat_tests)) (constant_kind e.kind form cs) more cells h
     go false is more = h
 
-  word_keeps : (o : Option (Option ℕ)) (rest w : List ℕ) (e : Elements) (i : ℕ) (next : ℕ → List Cell → Result) → AreOfKind e → ((i' : ℕ) → Keeps (next i')) → Keeps (λ cells. word_given o rest w e i cells next)
+  word_keeps : (o : Option (Option ℕ)) (rest w : List ℕ) (e : Elements) (i : ℕ) (next : ℕ → List Cell → Result) → AreOfOneKind e → ((i' : ℕ) → Keeps (next i')) → Keeps (λ cells. word_given o rest w e i cells next)
   word_keeps None rest w e i next of on cells h = filled_keeps e Undelimited w 1 i next of on cells h
   word_keeps (Some None) rest w e i next of on cells h = h
   word_keeps (Some (Some n)) [] w e i next of on cells h = filled_keeps e Null [] n i next of on cells h
@@ -110,14 +110,14 @@ module _ (old : List Cell) where
   abbrev KeepsFrom : (Place → List Cell → Result) → Type 0
   KeepsFrom next = (p : Place) → IsGood p → Keeps (next p)
 
-  separated_keeps : (e : Elements) (i : ℕ) (begins : Bool) (next : Place → List Cell → Result) → AreOfKind e → KeepsFrom next → Keeps (λ cells. separated e i begins cells next)
+  separated_keeps : (e : Elements) (i : ℕ) (begins : Bool) (next : Place → List Cell → Result) → AreOfOneKind e → KeepsFrom next → Keeps (λ cells. separated e i begins cells next)
   separated_keeps e i false next of on cells h = on (place.At e i true) of cells h
   separated_keeps e i true next of on cells h = go (ltb i e.count) where
     go : (b : Bool) → Kept (cond b (next (place.At e (i + 1) true) cells) (record { cells = cells; condition = Error 23 }))
     go true = on (place.At e (i + 1) true) of cells h
     go false = h
 
-  value_keeps : (t : Token) (e : Elements) (i : ℕ) (begins : Bool) (next : Place → List Cell → Result) → AreOfKind e → KeepsFrom next → Keeps (λ cells. value_taken t e i begins cells next)
+  value_keeps : (t : Token) (e : Elements) (i : ℕ) (begins : Bool) (next : Place → List Cell → Result) → AreOfOneKind e → KeepsFrom next → Keeps (λ cells. value_taken t e i begins cells next)
   value_keeps token.Separator e i begins next of on cells h = separated_keeps e i begins next of on cells h
   value_keeps (token.Word w) e i begins next of on cells h = word_keeps (repeat_in w) (behind_star w) w e i (λ i' cells'. next (place.At e i' false) cells') of (λ i'. on (place.At e i' false) of) cells h
   value_keeps (token.Constant n cs) e i begins next of on cells h = filled_keeps e Delimited cs n i (λ i' cells'. next (place.At e i' false) cells') of (λ i'. on (place.At e i' false) of) cells h
@@ -141,7 +141,7 @@ module _ (old : List Cell) where
 
   -- ---- members
 
-  member_good : (m : GroupMember) → HasItsKind old m → AreOfKind (elements m)
+  member_good : (m : GroupMember) → HasItsKind old m → AreOfOneKind (elements m)
   member_good m is i cell within there =
       let inside : m.first + i < length old = slice_get_within old (m.first + i) cell there in
       let short : i < length (take m.count (drop m.first old)) = omega (arith, inside, within, length-take m.count (drop m.first old), length-drop m.first old) in

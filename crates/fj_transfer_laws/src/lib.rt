@@ -1,4 +1,4 @@
-//! What holds of whole transfers: records read in pieces, and what is written and read again (ISO/IEC 1539-1:2004, 9.5, 10.1).
+//! What holds of whole transfers: records read in pieces, what is written and read again, and that values are of their kinds (ISO/IEC 1539-1:2004, 9.5, 10.1).
 #![tactic(auto)]
 
 ghost use Rattle.fj_transfer_laws.specs.Pieces.{PiecesAreOneRead};
