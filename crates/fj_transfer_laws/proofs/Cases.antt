@@ -1,26 +1,28 @@
 -- Worked cases, computed from the definition of a whole transfer.
-use Rattle.std.proofs.Common.{◌≡◌, ℕ, true, false, List, [], ◌∷◌, ◌++◌, pos, Some, None, refl}
+use Rattle.std.proofs.Common.{◌≡◌, ℕ, true, false, List, [], ◌∷◌, ◌++◌, pos, negsuc, Some, None, refl}
 use Rattle.std.specs.Prelude.{codes}
 use Rattle.fj_value.specs.Digits.{numeral, number_in}
 use Rattle.fj_value.specs.declared.edit.Delim.TheVariants.{Plain}
 use Rattle.fj_value.specs.declared.edit.Edit.TheVariants as edit
 use Rattle.fj_value.specs.declared.kind.Kind.{Kind}
-use Rattle.fj_value.specs.declared.kind.Kind.TheVariants.{Int4}
+use Rattle.fj_value.specs.declared.kind.Kind.TheVariants.{Int4, Int8, Logical, Chars}
 use Rattle.fj_value.specs.declared.value.Cell.{Cell}
 use Rattle.fj_value.specs.declared.value.Value.{Value}
 use Rattle.fj_value.specs.declared.value.Value.TheVariants as value
 use Rattle.fj_value.specs.declared.condition.Condition.TheVariants.{Fine}
-use Rattle.fj_modes.specs.declared.specifiers.Access.TheVariants.{Sequential}
+use Rattle.fj_modes.specs.declared.specifiers.Access.TheVariants.{Sequential, Stream}
 use Rattle.fj_modes.specs.declared.specifiers.Action.TheVariants.{ReadWrite}
 use Rattle.fj_modes.specs.declared.specifiers.Start.TheVariants.{AsIs}
 use Rattle.fj_format.specs.Unfolding as step
 use Rattle.fj_control.specs.Steps.{Given, gives, done}
 use Rattle.fj_edit_in.specs.InputField.{trimmed, blanks_read}
+use Rattle.fj_list.specs.declared.moved.GroupMember.{GroupMember}
 use Rattle.fj_connect.specs.Connection.{Connection, between, in_record}
 use Rattle.fj_connect.specs.declared.spot.Within.TheVariants.{Outside}
 use Rattle.fj_transfer.specs.declared.change.EditChange.{EditChange}
+use Rattle.fj_transfer.specs.declared.transfer.Layout.TheVariants.{Group}
 use Rattle.fj_transfer.specs.Transfer.{Done, told_with, transfer_by}
-use Rattle.fj_transfer_laws.specs.Statements.{reading, writing, moving}
+use Rattle.fj_transfer_laws.specs.Statements.{reading, writing, moving, unformatted, laid_out}
 
 abbrev unchanged : EditChange
 unchanged = record { blank_zero = None; comma = None; delim = None; pad = None; plus = None }
@@ -81,3 +83,32 @@ pub record RecordsAre : Type 0 where
 pub records_are : RecordsAre
 unfolding transfer_by trimmed blanks_read number_in numeral
 records_are = record { written = refl; read = refl }
+
+-- ---- kinds
+
+-- an unformatted stream at its start
+abbrev stream_of : List ℕ → Connection
+stream_of bytes = record (at_start bytes) { modes = record (at_start bytes).modes { access = Stream; formatted = false } }
+
+-- the greatest and the least INTEGER(4), a LOGICAL that is true and a CHARACTER(2)
+abbrev stored_four : List ℕ
+stored_four = (255 ∷ 255 ∷ 255 ∷ 127 ∷ []) ++ (0 ∷ 0 ∷ 0 ∷ 128 ∷ []) ++ (0 ∷ 1 ∷ 0 ∷ 0 ∷ []) ++ codes "Hi"
+
+abbrev four : Value → Value → Value → Value → List Cell
+four a b c d = cell 0 Int4 a ∷ cell 1 Int4 b ∷ cell 2 Logical c ∷ cell 3 (Chars 2) d ∷ []
+
+-- an INTEGER(8) of a group
+abbrev long_a : GroupMember
+long_a = record { name = codes "A"; kind = Int8; first = 0; count = 1; scalar = true }
+
+-- Bytes are read as values of the kinds of their items. Where the cell of a variable of a group is of another kind than the variable,
+-- it gets a value that is not of its own kind.
+pub record KindsAre : Type 0 where
+  pub bytes : transfer_by (λ n. []) (stream_of stored_four) (unformatted true None None unchanged) (moving (four value.Undefined value.Undefined value.Undefined value.Undefined) (0 ∷ 1 ∷ 2 ∷ 3 ∷ []))
+      ≡ told_with (between (stream_of stored_four) 14) (four (value.Int (pos 2147483647)) (value.Int (negsuc 2147483647)) (value.Log true) (value.Chars (codes "Hi"))) Fine
+  pub unlike : (transfer_by (λ n. []) (at_start (codes "&G A=2147483648/" ++ 10 ∷ [])) (laid_out true (Group (codes "G") (long_a ∷ [])) unchanged) (moving (cell 0 Int4 value.Undefined ∷ []) [])).cells
+      ≡ cell 0 Int4 (value.Int (pos 2147483648)) ∷ []
+
+pub kinds_are : KindsAre
+unfolding transfer_by trimmed blanks_read number_in
+kinds_are = record { bytes = refl; unlike = refl }

@@ -16,3 +16,7 @@ pub mod Reached
 pub mod Cases
 pub mod NumberedBack
 pub mod ListedBack
+pub mod ValueKinds
+pub mod CellKinds
+pub mod GroupKinds
+pub mod KindsKept

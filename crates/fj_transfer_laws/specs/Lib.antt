@@ -4,3 +4,4 @@ pub mod RoundTrip
 pub mod Numbered
 pub mod Listed
 pub mod Unformatted
+pub mod Kinds

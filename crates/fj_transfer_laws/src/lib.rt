@@ -1,4 +1,4 @@
-//! What holds of whole transfers: records read in pieces, and what is written and read again (ISO/IEC 1539-1:2004, 9.5, 10.1).
+//! What holds of whole transfers: records read in pieces, what is written and read again, and that values are of their kinds (ISO/IEC 1539-1:2004, 9.5, 10.1).
 #![tactic(auto)]
 
 ghost use Rattle.fj_transfer_laws.specs.Pieces.{PiecesAreOneRead};
@@ -6,6 +6,7 @@ ghost use Rattle.fj_transfer_laws.specs.RoundTrip.{FormattedRecordsComeBack, Rec
 ghost use Rattle.fj_transfer_laws.specs.Numbered.{NumberedRecordsStandApart, NumberedRecordsComeBack};
 ghost use Rattle.fj_transfer_laws.specs.Listed.{ListedRecordsComeBack, GroupRecordsComeBack};
 ghost use Rattle.fj_transfer_laws.specs.Unformatted.{SequentialRecordsComeBack, DirectRecordsComeBack, StreamBytesComeBack};
+ghost use Rattle.fj_transfer_laws.specs.Kinds.{ValuesAreOfTheirKinds};
 
 use fj_list::records_are_listed;
 
@@ -60,4 +61,9 @@ pub fn direct_records_come_back()
 /// Unformatted output of a stream is read from where it began, and the bytes before and behind it are left.
 pub fn stream_bytes_come_back()
     ensures { StreamBytesComeBack }
+{}
+
+/// What a READ or WRITE leaves in its cells is undefined or of their kinds, where it was so before.
+pub fn values_are_of_their_kinds()
+    ensures { ValuesAreOfTheirKinds }
 {}
