@@ -1,5 +1,5 @@
 // The pending transfers of a run, in ascending order of their identifiers.
-ghost use Rattle.std.specs.Prelude.{◌≡◌, ◌≢◌, ◌<◌, false, ◌++◌, [], ◌∷◌, not, All, length, map, filter, take, Err, IsTrue, IfOk, IfSome, IfErr, OnOk, OnErr};
+ghost use Rattle.std.specs.Prelude.{◌≡◌, ◌≢◌, ◌<◌, false, ◌++◌, [], ◌∷◌, not, All, length, map, filter, take, Err, IsTrue, is_ok, IfOk, IfSome, IfErr, OnOk, OnErr};
 ghost use Rattle.std.specs.Option.{option_map};
 ghost use Rattle.std.specs.List.{find, list_any};
 ghost use Rattle.fj_value.specs.declared.place.Place.{Place};
@@ -313,6 +313,7 @@ impl Pendings {
     /// takes no memory.
     pub fn answer(&mut self, slot: u32, number: u64, told: Told) -> Result<(), Told>
         ensures answered { held self.new ≡ with_answer slot number (outcome_of told) (held self.old) }
+        ensures found { is_ok result ≡ list_any (λ h. is_at slot number h.pending) (held self.old) }
         ensures none { OnErr result (self.new ≡ self.old) }
         ensures back { IfErr result (λ it. it ≡ told) }
     {
