@@ -183,8 +183,8 @@ pub(crate) fn edit_of(t: &Transfer) -> EditChange
 }
 
 /// A WRITE on `*`: the records that it ends are handed to the sink, all at once, and the characters of the one that it leaves open
-/// are kept. Answers its condition. `Unfit`: a place has no value, or the items are too many. After an `Err` the variables have their
-/// kinds, and nothing is said of their values and of the output.
+/// are kept. Answers its condition. `Unfit`: a place has no value, the items are too many, or the open record
+/// is longer than its limit. After an `Err` the variables have their kinds, and nothing is said of their values and of the output.
 pub fn write_star<W: Sink>(
     alloc: Global,
     variables: &Variables,

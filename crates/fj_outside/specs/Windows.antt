@@ -1,4 +1,4 @@
--- A window of a file: bytes of it that were read, and where they stand.
+-- A window of a file: bytes of it that are at hand, and where they stand.
 use Rattle.std.specs.Prelude.{◌≡◌, ℕ, ◌-◌, ◌≤◌, List, [], ◌∷◌, length, take, drop, map, min, nat_le, nat_lt, Bool, ◌||◌, if◌then◌else◌}
 
 pub record Window : Type 0 where

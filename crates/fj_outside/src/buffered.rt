@@ -9,8 +9,8 @@ use crate::outside::FileStore;
 use crate::window::{WINDOW, WindowBytes};
 use std::alloc::{AllocError, Global};
 
-/// A file that keeps bytes that were read of it in a window, so that what it has at hand is read without a call on the
-/// file. Its bytes, its length and its count of faults are those of the file in it.
+/// A file that keeps bytes of it in a window, those that were read last or the last one written, so that what it has at
+/// hand is read without a call on the file. Its bytes, its length and its count of faults are those of the file in it.
 #[derive(Drop)]
 pub struct Buffered<F: FileStore> {
     file: F,

@@ -11,7 +11,7 @@ use std::marker::Model;
 /// A window holds at most so many bytes.
 pub const WINDOW: usize = 8192;
 
-/// Bytes that were read, and their place, seen as a window.
+/// Bytes that a file has at hand, and their place, seen as a window.
 #[derive(Drop)]
 pub struct WindowBytes {
     room: Vec<u8>,

@@ -7,7 +7,7 @@ use std::alloc::AllocError;
 #[derive(Debug, Drop)]
 pub enum Lost {
     Memory(AllocError),
-    /// What came back is not what is due.
+    /// A transfer that is entered does not come behind the others, or what came back is not what is due.
     Unfit,
 }
 
