@@ -7,3 +7,4 @@ pub mod BeginningLemmas
 pub mod TransferLemmas
 pub mod InquiryLemmas
 pub mod FailingLemmas
+pub mod FittingLemmas

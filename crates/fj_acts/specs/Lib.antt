@@ -5,3 +5,4 @@ pub mod Answers
 pub mod Steps
 pub mod Places
 pub mod Holding
+pub mod Fitting

@@ -4,12 +4,15 @@ ghost use Rattle.fj_outside.specs.Faults.{Rose};
 ghost use Rattle.fj_plain.specs.Statement.{Stated, control_by};
 ghost use Rattle.fj_desk.specs.Acting.{doing, own, instead, moves, job_of, unit_at};
 ghost use Rattle.fj_bay.specs.Plain.{task_of};
+ghost use Rattle.fj_value.specs.declared.condition.Condition.TheVariants.{Fine};
+ghost use Rattle.fj_statement.specs.Sound.{IsSoundStatement};
 ghost use Rattle.fj_statement.specs.declared.deck.Variable.{Variable};
 ghost use Rattle.fj_plain.specs.Needs.{number_of};
 ghost use Rattle.fj_plain.specs.State.{Files};
 ghost use Rattle.fj_items.specs.Kinds.{kinds_of};
 ghost use Rattle.fj_items.specs.Handing.{HandsOver, HandsFront};
 ghost use Rattle.fj_units.specs.Names.{AreInUse};
+ghost use Rattle.fj_acts.specs.Fitting.{Meets};
 ghost use Rattle.fj_acts.specs.State.{KeepsAnswers, core_of, core_at};
 ghost use Rattle.fj_acts.specs.Failing.{FailsWhere, StandsWhere};
 ghost use Rattle.fj_units.specs.Files.{files_of};
@@ -93,6 +96,7 @@ fn own<W: Sink, D: Disk>(
     ensures later_out { W.count out.old ≤ W.count out.new }
     ensures failed_out { result ≡ Err Lost.Sink → Rose (W.count out.old) (W.count out.new) }
     ensures pending { KeepsAnswers core.old core.new }
+    ensures fits { IsSoundStatement variables.now lined.now.what → Meets variables.now core.old lined.now.what → result ≢ Err Lost.Unfit }
 {
     let fine = Condition::Fine;
     match &lined.what {
@@ -147,6 +151,7 @@ fn instead<F: FileStore>(
     ensures tells { core.new.tells ≡ core.old.tells }
     ensures causes { (result ≢ Err Lost.Disk) × (result ≢ Err Lost.Sink) }
     ensures pending { KeepsAnswers core.old core.new }
+    ensures fits { IsSoundStatement variables.now lined.now.what → result ≢ Err Lost.Unfit }
 {
     match &lined.what {
         Statement::CloseUnit {
@@ -196,6 +201,8 @@ pub fn begin<W: Sink, D: Disk>(
     ensures later_out { W.count out.old ≤ W.count out.new }
     ensures failed_out { result ≡ Err Lost.Sink → Rose (W.count out.old) (W.count out.new) }
     ensures pending { KeepsAnswers core.old core.new }
+    ensures fits { IsSoundStatement variables.now lined.now.what → (condition ≡ Fine → Meets variables.now core.old lined.now.what)
+        → result ≢ Err Lost.Unfit }
 {
     match condition {
         Condition::Fine => own(alloc, variables, lined, core, disk, out),

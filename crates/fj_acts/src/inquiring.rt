@@ -1,5 +1,5 @@
 // INQUIRE (ISO/IEC 1539-1:2004, 9.9).
-ghost use Rattle.std.specs.Prelude.{◌≡◌, ◌≢◌, ◌↔◌, ◌≤◌, ℕ, All, IsOk, List, Some, pos, is_some, IfOk, OnOk, Err};
+ghost use Rattle.std.specs.Prelude.{◌≡◌, ◌≢◌, ◌↔◌, ◌≤◌, ℕ, All, IsOk, List, Some, false, pos, is_some, IfOk, IfSome, OnOk, Err};
 ghost use Rattle.std.specs.Option.{option_map, option_copied, option_and_then};
 ghost use Rattle.std.specs.List.{list_any};
 ghost use Rattle.fj_outside.specs.Faults.{Rose};
@@ -19,7 +19,8 @@ ghost use Rattle.fj_desk.specs.Acting.{answers, asks_connection, inquires, unit_
 ghost use Rattle.fj_items.specs.Kinds.{kinds_of};
 ghost use Rattle.fj_pending.specs.Plain.{holders};
 ghost use Rattle.fj_acts.specs.Answers.{AnswersAlike, is_meant};
-ghost use Rattle.fj_units.specs.Names.{AreInUse};
+ghost use Rattle.fj_units.specs.Names.{AreInUse, stands};
+ghost use Rattle.fj_acts.specs.Fitting.{AreConnected};
 ghost use Rattle.fj_acts.specs.State.{KeepsAnswers, core_of};
 ghost use Rattle.fj_acts.specs.Failing.{FailsWhere};
 ghost use Rattle.fj_units.specs.Files.{files_of};
@@ -149,6 +150,7 @@ fn answer<F: FileStore>(
     ensures tells { core.new.tells ≡ core.old.tells }
     ensures causes { (result ≢ Err Lost.Disk) × (result ≢ Err Lost.Sink) }
     ensures pending { KeepsAnswers core.old core.new }
+    ensures fits { All (IsAsked variables.now) asked.now → result ≢ Err Lost.Unfit }
 {
     give_answers(alloc, variables, asked, cells, &mut core.store)?;
     Ok(Doing::Finishes(Condition::Fine))
@@ -165,6 +167,7 @@ fn is_there<D: Disk>(name: &FileName, names: &Names, disk: &mut D) -> Result<boo
     ensures later { D.count disk.old ≤ D.count disk.new }
     ensures failed { result ≡ Err Lost.Disk → Rose (D.count disk.old) (D.count disk.new) }
     ensures sink { result ≢ Err Lost.Sink }
+    ensures fits { stands names.now name.now ≡ false → result ≢ Err Lost.Unfit }
 {
     if names.holds(name) {
         return Err(Lost::Unfit);
@@ -204,6 +207,8 @@ fn answer_other<D: Disk>(
     ensures failed { result ≡ Err Lost.Disk → Rose (D.count disk.old) (D.count disk.new) }
     ensures sink { result ≢ Err Lost.Sink }
     ensures pending { KeepsAnswers core.old core.new }
+    ensures fits { All (IsAsked variables.now) asked.now → IfSome (file_asked subject.now) (λ name. stands core.old.names name ≡ false)
+        → result ≢ Err Lost.Unfit }
 {
     let mut cells = Items::new(alloc);
     match subject {
@@ -269,6 +274,7 @@ pub(crate) fn answer_look<F: FileStore>(
     ensures tells { core.new.tells ≡ core.old.tells }
     ensures causes { (result ≢ Err Lost.Disk) × (result ≢ Err Lost.Sink) }
     ensures pending { KeepsAnswers core.old core.new }
+    ensures fits { All (IsAsked variables.now) asked.now → result ≢ Err Lost.Unfit }
 {
     let Some(number) = unit_about(&core.units, subject) else {
         return Ok(Doing::Finishes(Condition::Fine));
@@ -314,6 +320,7 @@ pub(crate) fn inquire<D: Disk>(
     ensures failed { result ≡ Err Lost.Disk → Rose (D.count disk.old) (D.count disk.new) }
     ensures sink { result ≢ Err Lost.Sink }
     ensures pending { KeepsAnswers core.old core.new }
+    ensures fits { All (IsAsked variables.now) asked.now → AreConnected core.old.names core.old.units → result ≢ Err Lost.Unfit }
 {
     let Some(number) = unit_about(&core.units, subject) else {
         return answer_other(alloc, variables, subject, asked, core, disk);

@@ -1,5 +1,6 @@
 // Why a run is given up.
 ghost use Rattle.std.specs.Prelude.{◌≡◌, ◌≢◌, ◌↔◌};
+ghost use Rattle.fj_pending.specs.declared.lost.Lost.TheVariants as entry;
 
 use fj_items::Lost;
 use fj_outside::Stop;
@@ -8,6 +9,7 @@ use fj_outside::Stop;
 pub(crate) fn lost_by_stop(stop: Stop) -> Lost
     ensures disk { (result ≡ Lost.Disk) ↔ (stop ≡ Stop.Failed) }
     ensures sink { result ≢ Lost.Sink }
+    ensures fits { result ≢ Lost.Unfit }
 {
     match stop {
         Stop::Failed => Lost::Disk,
@@ -17,7 +19,8 @@ pub(crate) fn lost_by_stop(stop: Stop) -> Lost
 
 /// Where a transfer was not entered.
 pub(crate) fn lost_by_entry(lost: fj_pending::Lost) -> Lost
-    ensures { (result ≢ Lost.Disk) × (result ≢ Lost.Sink) }
+    ensures causes { (result ≢ Lost.Disk) × (result ≢ Lost.Sink) }
+    ensures fits { (result ≡ Lost.Unfit) ↔ (lost ≡ entry.Unfit) }
 {
     match lost {
         fj_pending::Lost::Memory(error) => Lost::Memory(error),
@@ -27,7 +30,8 @@ pub(crate) fn lost_by_entry(lost: fj_pending::Lost) -> Lost
 
 /// Where what a statement moves did not fit.
 pub(crate) fn lost_by_items(lost: Lost) -> Lost
-    ensures { (result ≢ Lost.Disk) × (result ≢ Lost.Sink) }
+    ensures causes { (result ≢ Lost.Disk) × (result ≢ Lost.Sink) }
+    ensures fits { (lost ≢ Lost.Disk) × (lost ≢ Lost.Sink) → lost ≢ Lost.Unfit → result ≢ Lost.Unfit }
 {
     match lost {
         Lost::Memory(error) => Lost::Memory(error),

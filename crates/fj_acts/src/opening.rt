@@ -1,5 +1,5 @@
 // OPEN (ISO/IEC 1539-1:2004, 9.4.5).
-ghost use Rattle.std.specs.Prelude.{◌≡◌, ◌≢◌, ◌↔◌, ◌≤◌, ◌<◌, ℕ, List, Some, IfOk, Result, Ok, Err};
+ghost use Rattle.std.specs.Prelude.{◌≡◌, ◌≢◌, ◌↔◌, ◌≤◌, ◌<◌, ℕ, false, List, Some, IfOk, Result, Ok, Err};
 ghost use Rattle.std.specs.Option.{option_map, option_copied};
 ghost use Rattle.fj_outside.specs.Faults.{Rose};
 ghost use Rattle.fj_modes.specs.Modes.{settled};
@@ -15,7 +15,8 @@ ghost use Rattle.fj_connect.specs.Connection.{Connection as PlainConnection};
 ghost use Rattle.fj_connect.specs.Linked.{connection_of};
 ghost use Rattle.fj_connect.specs.Opening.{opened_file};
 ghost use Rattle.fj_value.specs.declared.condition.Condition.{Condition};
-ghost use Rattle.fj_units.specs.Names.{AreInUse};
+ghost use Rattle.fj_units.specs.Names.{AreInUse, stands};
+ghost use Rattle.fj_acts.specs.Fitting.{AreConnected};
 ghost use Rattle.fj_acts.specs.State.{core_of};
 ghost use Rattle.fj_acts.specs.Failing.{FailsWhere};
 ghost use Rattle.fj_units.specs.Files.{files_of};
@@ -90,6 +91,7 @@ fn attach<D: Disk>(
     ensures failed { result ≡ Err Lost.Disk → Rose (D.count disk.old) (D.count disk.new) }
     ensures sink { result ≢ Err Lost.Sink }
     ensures pending { core.new.pending ≡ core.old.pending }
+    ensures fits { stands core.old.names name ≡ false → result ≢ Err Lost.Unfit }
 {
     if core.names.holds(&name) {
         return Err(Lost::Unfit);
@@ -133,6 +135,7 @@ pub(crate) fn connect<D: Disk>(
     ensures failed { result ≡ Err Lost.Disk → Rose (D.count disk.old) (D.count disk.new) }
     ensures sink { result ≢ Err Lost.Sink }
     ensures pending { core.new.pending ≡ core.old.pending }
+    ensures fits { stands core.old.names (file_due spec.now number) ≡ false → result ≢ Err Lost.Unfit }
 {
     match core.units.free_slot() {
         Some(slot) => {
@@ -184,6 +187,7 @@ fn open_other<D: Disk>(
     ensures failed { result ≡ Err Lost.Disk → Rose (D.count disk.old) (D.count disk.new) }
     ensures sink { result ≢ Err Lost.Sink }
     ensures pending { core.new.pending ≡ core.old.pending }
+    ensures fits { AreConnected core.old.names core.old.units → result ≢ Err Lost.Unfit }
 {
     let modes = match settle_open(spec) {
         Ok(modes) => modes,
@@ -227,6 +231,7 @@ pub(crate) fn open<D: Disk>(
     ensures failed { result ≡ Err Lost.Disk → Rose (D.count disk.old) (D.count disk.new) }
     ensures sink { result ≢ Err Lost.Sink }
     ensures pending { core.new.pending ≡ core.old.pending }
+    ensures fits { AreConnected core.old.names core.old.units → result ≢ Err Lost.Unfit }
 {
     let UnitRef::Number(number) = unit else {
         return Ok(Doing::Finishes(Condition::Error(1)));

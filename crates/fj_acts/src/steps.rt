@@ -1,18 +1,20 @@
 // How a statement goes on from a job that it gave.
-ghost use Rattle.std.specs.Prelude.{◌≡◌, ◌≢◌, ◌↔◌, ◌≤◌, Some, IfOk, IfSome, Err};
+ghost use Rattle.std.specs.Prelude.{◌≡◌, ◌≢◌, ◌↔◌, ◌≤◌, true, All, Some, IfOk, IfSome, Err};
 ghost use Rattle.std.specs.Option.{option_map};
 ghost use Rattle.fj_outside.specs.Faults.{Rose};
 ghost use Rattle.fj_outside.specs.Holdings.{IsFree};
 ghost use Rattle.fj_bay.specs.Jobs.{Job as Task, Answer as PlainAnswer};
 ghost use Rattle.fj_bay.specs.Jobs as job;
 ghost use Rattle.fj_bay.specs.Plain.{told_of, task_of, reply_of, looked_of, moving_of};
+ghost use Rattle.fj_statement.specs.Sound.{IsSoundStatement};
 ghost use Rattle.fj_connect.specs.Connection.{Connection as PlainConnection};
 ghost use Rattle.fj_plain.specs.State.{Files};
 ghost use Rattle.fj_plain.specs.Statement.{control_by};
 ghost use Rattle.fj_desk.specs.Core.{connected_at};
 ghost use Rattle.fj_desk.specs.Desks.{condition_in};
-ghost use Rattle.fj_items.specs.Kinds.{kinds_of};
-ghost use Rattle.fj_units.specs.Names.{AreInUse};
+ghost use Rattle.fj_items.specs.Kinds.{CellFits, kinds_of};
+ghost use Rattle.fj_units.specs.Names.{AreInUse, left_of};
+ghost use Rattle.fj_acts.specs.Fitting.{Brings, MayGoOn, NextIsHome};
 ghost use Rattle.fj_acts.specs.State.{KeepsAnswers, core_of};
 ghost use Rattle.fj_acts.specs.Failing.{FailsWhere};
 ghost use Rattle.fj_units.specs.Files.{files_of};
@@ -53,6 +55,7 @@ pub fn given<F: FileStore>(
     ensures kinds { core.new.store.kinds ≡ core.old.store.kinds }
     ensures causes { (result ≢ Err Lost.Disk) × (result ≢ Err Lost.Sink) }
     ensures pending { KeepsAnswers core.old core.new }
+    ensures fits { IsSoundStatement variables.now lined.now.what → MayGoOn core.old next number → result ≢ Err Lost.Unfit }
 {
     match next {
         Given::Finishes(condition) => Ok(Doing::Finishes(condition)),
@@ -139,6 +142,7 @@ fn go_on<D: Disk>(
     ensures failed { result ≡ Err Lost.Disk → Rose (D.count disk.old) (D.count disk.new) }
     ensures sink { result ≢ Err Lost.Sink }
     ensures pending { core.new.pending ≡ core.old.pending }
+    ensures fits { NextIsHome core.old.names lined.now.what after → result ≢ Err Lost.Unfit }
 {
     let number = match after {
         After::Finishes(condition) => return Ok(Doing::Finishes(condition)),
@@ -202,6 +206,8 @@ fn closed<D: Disk>(
     ensures failed { result ≡ Err Lost.Disk → Rose (D.count disk.old) (D.count disk.new) }
     ensures sink { result ≢ Err Lost.Sink }
     ensures pending { core.new.pending ≡ core.old.pending }
+    ensures fits { is_due (connected_at core.old.units number) core.old.names connection.name ≡ true →
+        NextIsHome (left_of core.old.names connection.name) lined.now.what after → result ≢ Err Lost.Unfit }
 {
     if !is_due(&connection, number, core) {
         give_back(connection, core, disk);
@@ -232,6 +238,7 @@ fn looked<F: FileStore>(
     ensures kinds { core.new.store.kinds ≡ core.old.store.kinds }
     ensures causes { (result ≢ Err Lost.Disk) × (result ≢ Err Lost.Sink) }
     ensures pending { KeepsAnswers core.old core.new }
+    ensures fits { IsSoundStatement variables.now lined.now.what → result ≢ Err Lost.Unfit }
 {
     match &lined.what {
         Statement::Inquire {
@@ -262,6 +269,7 @@ fn carried<F: FileStore>(
     ensures kinds { core.new.store.kinds ≡ core.old.store.kinds }
     ensures causes { (result ≢ Err Lost.Disk) × (result ≢ Err Lost.Sink) }
     ensures pending { KeepsAnswers core.old core.new }
+    ensures fits { IsSoundStatement variables.now lined.now.what → All (CellFits variables.now) moved.moved.cells → result ≢ Err Lost.Unfit }
 {
     match &lined.what {
         Statement::Transfer(t) => carry(variables, t, slot, moved, condition, core),
@@ -308,6 +316,7 @@ pub fn answered<D: Disk>(
     ensures failed { result ≡ Err Lost.Disk → Rose (D.count disk.old) (D.count disk.new) }
     ensures sink { result ≢ Err Lost.Sink }
     ensures pending { KeepsAnswers core.old core.new }
+    ensures fits { IsSoundStatement variables.now lined.now.what → Brings variables.now core.old lined.now.what then job → result ≢ Err Lost.Unfit }
 {
     let condition = condition_in(answer);
     match (then, job) {

@@ -1,22 +1,27 @@
 // READ and WRITE (ISO/IEC 1539-1:2004, 9.5).
-ghost use Rattle.std.specs.Prelude.{◌≡◌, ◌≢◌, ◌↔◌, ◌≤◌, ◌++◌, [], ◌∷◌, ℕ, List, Some, IfOk, OnOk, OnErr, Err};
+ghost use Rattle.std.specs.Prelude.{◌≡◌, ◌≢◌, ◌↔◌, ◌≤◌, ◌++◌, [], ◌∷◌, ℕ, All, List, Some, IfOk, OnOk, OnErr, Err};
 ghost use Rattle.std.specs.Option.{option_map, option_copied};
 ghost use Rattle.fj_outside.specs.Faults.{Rose};
 ghost use Rattle.fj_outside.specs.Holdings.{Holdings};
 ghost use Rattle.fj_statement.specs.declared.statement.Statement.TheVariants as statement;
+ghost use Rattle.fj_statement.specs.Sound.{IsAllowed, IsTransfer};
 ghost use Rattle.fj_store.specs.Storage.{values_of};
 ghost use Rattle.fj_bay.specs.Jobs.{Job as Task, move};
 ghost use Rattle.fj_bay.specs.Plain.{moving_of as task_of};
 ghost use Rattle.fj_plain.specs.State.{Files};
 ghost use Rattle.fj_plain.specs.Statement.{Stated, control_by};
-ghost use Rattle.fj_plain.specs.Transfers.{moved_in, with_cells};
+ghost use Rattle.fj_plain.specs.Transfers.{moved_in, star_limit, with_cells};
 ghost use Rattle.fj_desk.specs.Core.{Connected as PlainConnected, connected_at};
 ghost use Rattle.fj_desk.specs.Acting.{refused, transferred, on_unit, transfer_at, with_items_out};
-ghost use Rattle.fj_items.specs.Kinds.{kinds_of};
+ghost use Rattle.fj_items.specs.Fitting.{Finds};
+ghost use Rattle.fj_items.specs.Kinds.{CellFits, kinds_of};
 ghost use Rattle.fj_items.specs.Handing.{HandsOver, HandsFront};
+ghost use Rattle.fj_pending.specs.Fitting.{IsNext};
 ghost use Rattle.fj_pending.specs.Plain.{held};
+ghost use Rattle.fj_pending.specs.declared.held.Held.{Held};
 ghost use Rattle.fj_units.specs.Files.{files_of};
 ghost use Rattle.fj_acts.specs.Failing.{StandsWhere};
+ghost use Rattle.fj_acts.specs.Fitting.{MayPend};
 ghost use Rattle.fj_acts.specs.Holding.{pending_under, unanswered};
 ghost use Rattle.fj_acts.specs.State.{KeepsAnswers, core_of, core_at};
 ghost use Rattle.fj_acts.specs.Doing.{IsDoing, entered, ends_behind};
@@ -52,6 +57,7 @@ pub(crate) fn refuse<F: FileStore>(
     ensures tells { core.new.tells ≡ core.old.tells }
     ensures causes { (result ≢ Err Lost.Disk) × (result ≢ Err Lost.Sink) }
     ensures pending { KeepsAnswers core.old core.new }
+    ensures fits { IsAllowed t.now → result ≢ Err Lost.Unfit }
 {
     undefine(variables, &mut core.store, t).map_err(lost_by_items)?;
     Ok(Doing::Finishes(condition))
@@ -78,6 +84,7 @@ fn transfer<F: FileStore>(
     ensures tells { core.new.tells ≡ core.old.tells }
     ensures causes { (result ≢ Err Lost.Disk) × (result ≢ Err Lost.Sink) }
     ensures pending { KeepsAnswers core.old core.new }
+    ensures fits { IsTransfer variables.now t.now → Finds variables.now core.old.store t.now → result ≢ Err Lost.Unfit }
 {
     if t.asynchronous.unwrap_or(false) {
         let tag = Tag(core.next);
@@ -117,6 +124,7 @@ fn transfer_on<F: FileStore>(
     ensures tells { core.new.tells ≡ core.old.tells }
     ensures causes { (result ≢ Err Lost.Disk) × (result ≢ Err Lost.Sink) }
     ensures pending { KeepsAnswers core.old core.new }
+    ensures fits { IsTransfer variables.now t.now → Finds variables.now core.old.store t.now → result ≢ Err Lost.Unfit }
 {
     let Some(unit) = core.units.find(number) else {
         return refuse(variables, t, Condition::Error(1), core);
@@ -156,6 +164,7 @@ pub(crate) fn read_or_write<F: FileStore, W: Sink>(
     ensures later { W.count out.old ≤ W.count out.new }
     ensures failed { result ≡ Err Lost.Sink → Rose (W.count out.old) (W.count out.new) }
     ensures pending { KeepsAnswers core.old core.new }
+    ensures fits { IsTransfer variables.now t.now → Finds variables.now core.old.store t.now → core.old.output.begun ≤ star_limit → result ≢ Err Lost.Unfit }
 {
     match t.unit {
         UnitRef::Star => {
@@ -163,7 +172,6 @@ pub(crate) fn read_or_write<F: FileStore, W: Sink>(
             let output = &mut core.output;
             match write_star(alloc, variables, store, output, out, t) {
                 Ok(condition) => Ok(Doing::Finishes(condition)),
-                Err(Lost::Disk) => Err(Lost::Unfit),
                 Err(lost) => Err(lost),
             }
         }
@@ -185,6 +193,7 @@ fn hold(
     ensures ok { OnOk result (held pending.new ≡ held pending.old ++ unanswered (pending_under variables.now tag.0 t.now unit slot number) ∷ []) }
     ensures err { OnErr result (pending.new ≡ pending.old) }
     ensures causes { (result ≢ Err Lost.Disk) × (result ≢ Err Lost.Sink) }
+    ensures fits { ((h : Held) → h.tag.0 ≡ tag.0 → h.slot ≡ slot → h.number ≡ number → IsNext pending.old h) → result ≢ Err Lost.Unfit }
 {
     let runs = runs_held(alloc, variables.as_slice(), t)?;
     let places = distinct_places(alloc, runs.as_slice())?;
@@ -223,6 +232,7 @@ pub(crate) fn enter(
     ensures tells { core.new.tells ≡ core.old.tells }
     ensures causes { (result ≢ Err Lost.Disk) × (result ≢ Err Lost.Sink) }
     ensures pending { KeepsAnswers core.old core.new }
+    ensures fits { IsTransfer variables.now t.now → MayPend core.old slot number → result ≢ Err Lost.Unfit }
 {
     let tag = Tag(core.next);
     let Some(next) = core.next.checked_add(1) else {
@@ -254,6 +264,7 @@ pub(crate) fn carry<F: FileStore>(
     ensures tells { core.new.tells ≡ core.old.tells }
     ensures causes { (result ≢ Err Lost.Disk) × (result ≢ Err Lost.Sink) }
     ensures pending { KeepsAnswers core.old core.new }
+    ensures fits { IsTransfer variables.now t.now → All (CellFits variables.now) job.moved.cells → result ≢ Err Lost.Unfit }
 {
     give_cells(variables, &mut core.store, t.input, t.size, job).map_err(lost_by_items)?;
     match condition {

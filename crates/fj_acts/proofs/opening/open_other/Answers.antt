@@ -1,11 +1,13 @@
-use Rattle.std.proofs.Common.{sym, ◌∙◌, ◌≡◌, Some, None}
+use Rattle.std.proofs.Common.{sym, ap, ◌∙◌, ◌≡◌, Some, None}
 use Rattle.fj_modes.specs.Modes.{settled}
+use Rattle.fj_plain.specs.Connecting.{file_due}
 use Rattle.fj_desk.specs.Core.{Connected as PlainConnected, connected_at}
 use Rattle.fj_units.specs.Files.{files_of}
-use Rattle.fj_units.specs.Units.{connected_of}
+use Rattle.fj_units.specs.Units.{connected_of, is_taken}
 use Rattle.fj_acts.specs.State.{core_of}
 use Rattle.fj_acts.proofs.OpeningLemmas.{opens_behind, opens_new, meant}
 use Rattle.fj_acts.proofs.FailingLemmas.{fails_as}
+use Rattle.fj_acts.proofs.FittingLemmas.{free_home}
 use Rattle.fj_acts.proofs.opening.open_other.Goals as goal
 
 pub returns-in-Some-clause-doing : goal.returns-in-Some-clause-doing
@@ -30,3 +32,9 @@ returns-clause-fault g c = λ tells lost.
     (opens_new (core_of (files_of (g.D.Disk.held c.args.disk.now)) c.args.core.now) c.args.number c.in_ok-name.name c.args.spec.now c.in-Ok.modes (connected_at c.args.core.now.units c.args.number) (settled c.args.spec.now)
     (sym c.in_default.ensures) (sym c.settle_open.ensures.settled ∙ c.in-Ok.is) c.in_ok-name.ensures (sym c.is_taken.ensures ∙ c.if-is_taken.false))
     (c.connect.ensures.fault tells lost)
+
+pub returns-clause-fits : goal.returns-clause-fits
+returns-clause-fits g c = λ connected.
+    let units = c.args.core.now.units in
+    c.connect.ensures.fits (free_home c.args.core.now.names units c.args.number (file_due c.args.spec.now c.args.number) connected (sym c.in_default.ensures)
+    (ap (is_taken units c.args.number) (sym c.in_ok-name.ensures) ∙ sym c.is_taken.ensures ∙ c.if-is_taken.false))

@@ -1,0 +1,67 @@
+-- The file that a statement names is at home where no unit has it.
+use Rattle.std.proofs.Common.{◌≡◌, ◌||◌, ◌&&◌, ℕ, Bool, true, false, List, [], ◌∷◌, Option, Some, None, refl, subst}
+use Rattle.std.specs.Prelude.{◌==◌, not, if◌then◌else◌, IsSome, IfSome}
+use Rattle.std.proofs.lemmas.Bool.{eq-eqb, false≢true}
+use Rattle.std.specs.Str.{bytes_eq}
+use Rattle.fj_modes.specs.declared.asked.Subject.{Subject}
+use Rattle.fj_modes.specs.declared.asked.Subject.TheVariants as subject
+use Rattle.fj_plain.specs.Needs.{unit_about}
+use Rattle.fj_plain.specs.Statement.{file_asked}
+use Rattle.fj_desk.specs.Core.{Connected, connected_at, unit_named}
+use Rattle.fj_units.specs.Names.{stands}
+use Rattle.fj_units.specs.Units.{is_taken}
+use Rattle.fj_acts.specs.Fitting.{AreConnected}
+
+-- the unit that has a file is connected
+named_found : (us : List Connected) (name : List ℕ) (n : ℕ) → unit_named us name ≡ Some n → connected_at us n ≡ None → ⊥
+named_found [] name n named none = (let bad : ⊥ = cc in bad)
+named_found (u ∷ us) name n named none = by (bytes_eq u.name name) refl (named_found us name n)
+  where
+    numbered : (b : Bool) → (if b then Some u.number else unit_named us name) ≡ Some n → b ≡ true → u.number ≡ n
+    numbered true e t = (let is : u.number ≡ n = cc in is)
+    numbered false e t = absurd (let bad : ⊥ = cc in bad)
+
+    unfound : (b : Bool) → (if b then Some u else connected_at us n) ≡ None → connected_at us n ≡ None
+    unfound true e = absurd (let bad : ⊥ = cc in bad)
+    unfound false e = e
+
+    other : (b : Bool) → (if b then Some u.number else unit_named us name) ≡ Some n → b ≡ false → unit_named us name ≡ Some n
+    other true e f = absurd (let bad : ⊥ = cc in bad)
+    other false e f = e
+
+    not_first : (b : Bool) → (if b then Some u else connected_at us n) ≡ None → b ≡ true → ⊥
+    not_first true e t = (let bad : ⊥ = cc in bad)
+    not_first false e t = (let bad : ⊥ = cc in bad)
+
+    by : (b : Bool) → bytes_eq u.name name ≡ b → (unit_named us name ≡ Some n → connected_at us n ≡ None → ⊥) → ⊥
+    by true e rest = not_first (u.number == n) none (eq-eqb u.number n (numbered (bytes_eq u.name name) named e))
+    by false e rest = rest (other (bytes_eq u.name name) named e) (unfound (u.number == n) none)
+
+-- where no unit has the number, and none of another has the file, none has it
+none_named : (us : List Connected) (number : ℕ) (name : List ℕ) → connected_at us number ≡ None → is_taken us number name ≡ false → unit_named us name ≡ None
+none_named [] number name none free = refl
+none_named (u ∷ us) number name none free = by (u.number == number) (bytes_eq u.name name) none free (none_named us number name)
+  where
+    by : (b c : Bool) → (if b then Some u else connected_at us number) ≡ None → ((not b && c) || is_taken us number name) ≡ false
+        → (connected_at us number ≡ None → is_taken us number name ≡ false → unit_named us name ≡ None) → (if c then Some u.number else unit_named us name) ≡ None
+    by true c found taken rest = absurd (let bad : ⊥ = cc in bad)
+    by false true found taken rest = absurd (let bad : ⊥ = cc in bad)
+    by false false found taken rest = rest found taken
+
+at_home : (names : List (List ℕ)) (us : List Connected) (name : List ℕ) → AreConnected names us → unit_named us name ≡ None → stands names name ≡ false
+at_home names us name connected none = by (stands names name) refl
+  where
+    by : (b : Bool) → stands names name ≡ b → stands names name ≡ false
+    by true e = absurd (false≢true (subst (λ (o : Option ℕ). IsSome o) none (connected name e)))
+    by false e = e
+
+-- the file of OPEN, where its unit is not connected
+pub free_home : (names : List (List ℕ)) (us : List Connected) (number : ℕ) (name : List ℕ) → AreConnected names us → connected_at us number ≡ None → is_taken us number name ≡ false
+    → stands names name ≡ false
+free_home names us number name connected none free = at_home names us name connected (none_named us number name none free)
+
+-- the file of INQUIRE, where the unit that it asks about is not connected
+pub unknown_home : (names : List (List ℕ)) (us : List Connected) (about : Subject) (n : ℕ) → unit_about (unit_named us) about ≡ Some n → connected_at us n ≡ None
+    → IfSome (file_asked about) (λ (name : List ℕ). stands names name ≡ false)
+unknown_home names us (subject.Unit u) n is none = tt
+unknown_home names us (subject.File name) n is none = absurd (named_found us name n is none)
