@@ -23,6 +23,13 @@ use Rattle.fj_acts.specs.declared.doing.Then.{Then}
 use Rattle.fj_acts.specs.declared.doing.Then.TheVariants as then
 use Rattle.fj_acts.specs.declared.state.Core.{Core}
 
+-- ---- what each call keeps
+
+-- Variables are as they are declared, and the record of `*` is within its limit.
+pub record IsKept (variables : List Variable) (core : Core) : Type 0 where
+  pub values : AreKept variables (values_of core.store)
+  pub begun : core.output.begun ≤ star_limit
+
 -- ---- before it begins
 
 -- each file that is out is that of a connected unit
@@ -34,13 +41,11 @@ abbrev pub FindsPlaces : List Variable → Storage → Statement → Type 0
 FindsPlaces variables s (statement.Transfer t) = Finds variables s t
 FindsPlaces variables s _ = Unit {0}
 
--- A statement meets variables as they are declared, the places that it names, and a unit for each file that is out.
+-- A statement meets what each call keeps, the places that it names, and a unit for each file that is out.
 pub record Meets (variables : List Variable) (core : Core) (what : Statement) : Type 0 where
-  pub kept : AreKept variables (values_of core.store)
+  pub kept : IsKept variables core
   pub finds : FindsPlaces variables core.store what
   pub connected : AreConnected core.names core.units
-  -- the record of `*` is within its limit
-  pub begun : core.output.begun ≤ star_limit
 
 -- ---- once the number of a job is known
 

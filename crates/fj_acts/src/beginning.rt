@@ -12,7 +12,7 @@ ghost use Rattle.fj_plain.specs.State.{Files};
 ghost use Rattle.fj_items.specs.Kinds.{kinds_of};
 ghost use Rattle.fj_items.specs.Handing.{HandsOver, HandsFront};
 ghost use Rattle.fj_units.specs.Names.{AreInUse};
-ghost use Rattle.fj_acts.specs.Fitting.{Meets};
+ghost use Rattle.fj_acts.specs.Fitting.{IsKept, Meets};
 ghost use Rattle.fj_acts.specs.State.{KeepsAnswers, core_of, core_at};
 ghost use Rattle.fj_acts.specs.Failing.{FailsWhere, StandsWhere};
 ghost use Rattle.fj_units.specs.Files.{files_of};
@@ -96,6 +96,7 @@ fn own<W: Sink, D: Disk>(
     ensures later_out { W.count out.old ≤ W.count out.new }
     ensures failed_out { result ≡ Err Lost.Sink → Rose (W.count out.old) (W.count out.new) }
     ensures pending { KeepsAnswers core.old core.new }
+    ensures keeps { IsKept variables.now core.old → OnOk result (IsKept variables.now core.new) }
     ensures fits { IsSoundStatement variables.now lined.now.what → Meets variables.now core.old lined.now.what → result ≢ Err Lost.Unfit }
 {
     let fine = Condition::Fine;
@@ -151,6 +152,7 @@ fn instead<F: FileStore>(
     ensures tells { core.new.tells ≡ core.old.tells }
     ensures causes { (result ≢ Err Lost.Disk) × (result ≢ Err Lost.Sink) }
     ensures pending { KeepsAnswers core.old core.new }
+    ensures keeps { IsKept variables.now core.old → OnOk result (IsKept variables.now core.new) }
     ensures fits { IsSoundStatement variables.now lined.now.what → result ≢ Err Lost.Unfit }
 {
     match &lined.what {
@@ -201,6 +203,7 @@ pub fn begin<W: Sink, D: Disk>(
     ensures later_out { W.count out.old ≤ W.count out.new }
     ensures failed_out { result ≡ Err Lost.Sink → Rose (W.count out.old) (W.count out.new) }
     ensures pending { KeepsAnswers core.old core.new }
+    ensures keeps { IsKept variables.now core.old → OnOk result (IsKept variables.now core.new) }
     ensures fits { IsSoundStatement variables.now lined.now.what → (condition ≡ Fine → Meets variables.now core.old lined.now.what)
         → result ≢ Err Lost.Unfit }
 {

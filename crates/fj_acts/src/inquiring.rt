@@ -16,11 +16,12 @@ ghost use Rattle.fj_plain.specs.State.{Files};
 ghost use Rattle.fj_plain.specs.Statement.{Stated, file_asked, has_pending, about_other};
 ghost use Rattle.fj_desk.specs.Core.{Core as PlainCore, connected_at, unit_named, pending_holders};
 ghost use Rattle.fj_desk.specs.Acting.{answers, asks_connection, inquires, unit_at};
+ghost use Rattle.fj_items.specs.Fitting.{AreKept};
 ghost use Rattle.fj_items.specs.Kinds.{kinds_of};
 ghost use Rattle.fj_pending.specs.Plain.{holders};
 ghost use Rattle.fj_acts.specs.Answers.{AnswersAlike, is_meant};
 ghost use Rattle.fj_units.specs.Names.{AreInUse, stands};
-ghost use Rattle.fj_acts.specs.Fitting.{AreConnected};
+ghost use Rattle.fj_acts.specs.Fitting.{AreConnected, IsKept};
 ghost use Rattle.fj_acts.specs.State.{KeepsAnswers, core_of};
 ghost use Rattle.fj_acts.specs.Failing.{FailsWhere};
 ghost use Rattle.fj_units.specs.Files.{files_of};
@@ -119,6 +120,7 @@ fn give_answers(
     ensures vars { (about : Told) (plain : About) → cells ≡ told.inquired about asked.now → AnswersAlike about plain →
         OnOk result (values_of store.new ≡ given_back (inquired plain asked.now) (values_of store.old)) }
     ensures sound { All (IsAsked variables.now) asked.now → IsOk result }
+    ensures keeps { AreKept variables.now (values_of store.old) → OnOk result (AreKept variables.now (values_of store.new)) }
     ensures kinds { store.new.kinds ≡ store.old.kinds }
     ensures causes { (result ≢ Err Lost.Disk) × (result ≢ Err Lost.Sink) }
 {
@@ -150,6 +152,7 @@ fn answer<F: FileStore>(
     ensures tells { core.new.tells ≡ core.old.tells }
     ensures causes { (result ≢ Err Lost.Disk) × (result ≢ Err Lost.Sink) }
     ensures pending { KeepsAnswers core.old core.new }
+    ensures keeps { IsKept variables.now core.old → OnOk result (IsKept variables.now core.new) }
     ensures fits { All (IsAsked variables.now) asked.now → result ≢ Err Lost.Unfit }
 {
     give_answers(alloc, variables, asked, cells, &mut core.store)?;
@@ -207,6 +210,7 @@ fn answer_other<D: Disk>(
     ensures failed { result ≡ Err Lost.Disk → Rose (D.count disk.old) (D.count disk.new) }
     ensures sink { result ≢ Err Lost.Sink }
     ensures pending { KeepsAnswers core.old core.new }
+    ensures keeps { IsKept variables.now core.old → OnOk result (IsKept variables.now core.new) }
     ensures fits { All (IsAsked variables.now) asked.now → IfSome (file_asked subject.now) (λ name. stands core.old.names name ≡ false)
         → result ≢ Err Lost.Unfit }
 {
@@ -274,6 +278,7 @@ pub(crate) fn answer_look<F: FileStore>(
     ensures tells { core.new.tells ≡ core.old.tells }
     ensures causes { (result ≢ Err Lost.Disk) × (result ≢ Err Lost.Sink) }
     ensures pending { KeepsAnswers core.old core.new }
+    ensures keeps { IsKept variables.now core.old → OnOk result (IsKept variables.now core.new) }
     ensures fits { All (IsAsked variables.now) asked.now → result ≢ Err Lost.Unfit }
 {
     let Some(number) = unit_about(&core.units, subject) else {
@@ -320,6 +325,7 @@ pub(crate) fn inquire<D: Disk>(
     ensures failed { result ≡ Err Lost.Disk → Rose (D.count disk.old) (D.count disk.new) }
     ensures sink { result ≢ Err Lost.Sink }
     ensures pending { KeepsAnswers core.old core.new }
+    ensures keeps { IsKept variables.now core.old → OnOk result (IsKept variables.now core.new) }
     ensures fits { All (IsAsked variables.now) asked.now → AreConnected core.old.names core.old.units → result ≢ Err Lost.Unfit }
 {
     let Some(number) = unit_about(&core.units, subject) else {

@@ -1,5 +1,5 @@
 // How a statement goes on from a job that it gave.
-ghost use Rattle.std.specs.Prelude.{◌≡◌, ◌≢◌, ◌↔◌, ◌≤◌, true, All, Some, IfOk, IfSome, Err};
+ghost use Rattle.std.specs.Prelude.{◌≡◌, ◌≢◌, ◌↔◌, ◌≤◌, true, All, Some, IfOk, IfSome, OnOk, Err};
 ghost use Rattle.std.specs.Option.{option_map};
 ghost use Rattle.fj_outside.specs.Faults.{Rose};
 ghost use Rattle.fj_outside.specs.Holdings.{IsFree};
@@ -14,7 +14,7 @@ ghost use Rattle.fj_desk.specs.Core.{connected_at};
 ghost use Rattle.fj_desk.specs.Desks.{condition_in};
 ghost use Rattle.fj_items.specs.Kinds.{CellFits, kinds_of};
 ghost use Rattle.fj_units.specs.Names.{AreInUse, left_of};
-ghost use Rattle.fj_acts.specs.Fitting.{Brings, MayGoOn, NextIsHome};
+ghost use Rattle.fj_acts.specs.Fitting.{Brings, IsKept, MayGoOn, NextIsHome};
 ghost use Rattle.fj_acts.specs.State.{KeepsAnswers, core_of};
 ghost use Rattle.fj_acts.specs.Failing.{FailsWhere};
 ghost use Rattle.fj_units.specs.Files.{files_of};
@@ -55,6 +55,7 @@ pub fn given<F: FileStore>(
     ensures kinds { core.new.store.kinds ≡ core.old.store.kinds }
     ensures causes { (result ≢ Err Lost.Disk) × (result ≢ Err Lost.Sink) }
     ensures pending { KeepsAnswers core.old core.new }
+    ensures keeps { IsKept variables.now core.old → OnOk result (IsKept variables.now core.new) }
     ensures fits { IsSoundStatement variables.now lined.now.what → MayGoOn core.old next number → result ≢ Err Lost.Unfit }
 {
     match next {
@@ -238,6 +239,7 @@ fn looked<F: FileStore>(
     ensures kinds { core.new.store.kinds ≡ core.old.store.kinds }
     ensures causes { (result ≢ Err Lost.Disk) × (result ≢ Err Lost.Sink) }
     ensures pending { KeepsAnswers core.old core.new }
+    ensures keeps { IsKept variables.now core.old → OnOk result (IsKept variables.now core.new) }
     ensures fits { IsSoundStatement variables.now lined.now.what → result ≢ Err Lost.Unfit }
 {
     match &lined.what {
@@ -269,6 +271,7 @@ fn carried<F: FileStore>(
     ensures kinds { core.new.store.kinds ≡ core.old.store.kinds }
     ensures causes { (result ≢ Err Lost.Disk) × (result ≢ Err Lost.Sink) }
     ensures pending { KeepsAnswers core.old core.new }
+    ensures keeps { IsKept variables.now core.old → OnOk result (IsKept variables.now core.new) }
     ensures fits { IsSoundStatement variables.now lined.now.what → All (CellFits variables.now) moved.moved.cells → result ≢ Err Lost.Unfit }
 {
     match &lined.what {
@@ -316,6 +319,7 @@ pub fn answered<D: Disk>(
     ensures failed { result ≡ Err Lost.Disk → Rose (D.count disk.old) (D.count disk.new) }
     ensures sink { result ≢ Err Lost.Sink }
     ensures pending { KeepsAnswers core.old core.new }
+    ensures keeps { IsKept variables.now core.old → OnOk result (IsKept variables.now core.new) }
     ensures fits { IsSoundStatement variables.now lined.now.what → Brings variables.now core.old lined.now.what then job → result ≢ Err Lost.Unfit }
 {
     let condition = condition_in(answer);

@@ -21,7 +21,7 @@ ghost use Rattle.fj_pending.specs.Plain.{held};
 ghost use Rattle.fj_pending.specs.declared.held.Held.{Held};
 ghost use Rattle.fj_units.specs.Files.{files_of};
 ghost use Rattle.fj_acts.specs.Failing.{StandsWhere};
-ghost use Rattle.fj_acts.specs.Fitting.{MayPend};
+ghost use Rattle.fj_acts.specs.Fitting.{IsKept, MayPend};
 ghost use Rattle.fj_acts.specs.Holding.{pending_under, unanswered};
 ghost use Rattle.fj_acts.specs.State.{KeepsAnswers, core_of, core_at};
 ghost use Rattle.fj_acts.specs.Doing.{IsDoing, entered, ends_behind};
@@ -57,6 +57,7 @@ pub(crate) fn refuse<F: FileStore>(
     ensures tells { core.new.tells ≡ core.old.tells }
     ensures causes { (result ≢ Err Lost.Disk) × (result ≢ Err Lost.Sink) }
     ensures pending { KeepsAnswers core.old core.new }
+    ensures keeps { IsKept variables.now core.old → OnOk result (IsKept variables.now core.new) }
     ensures fits { IsAllowed t.now → result ≢ Err Lost.Unfit }
 {
     undefine(variables, &mut core.store, t).map_err(lost_by_items)?;
@@ -84,6 +85,7 @@ fn transfer<F: FileStore>(
     ensures tells { core.new.tells ≡ core.old.tells }
     ensures causes { (result ≢ Err Lost.Disk) × (result ≢ Err Lost.Sink) }
     ensures pending { KeepsAnswers core.old core.new }
+    ensures keeps { IsKept variables.now core.old → OnOk result (IsKept variables.now core.new) }
     ensures fits { IsTransfer variables.now t.now → Finds variables.now core.old.store t.now → result ≢ Err Lost.Unfit }
 {
     if t.asynchronous.unwrap_or(false) {
@@ -124,6 +126,7 @@ fn transfer_on<F: FileStore>(
     ensures tells { core.new.tells ≡ core.old.tells }
     ensures causes { (result ≢ Err Lost.Disk) × (result ≢ Err Lost.Sink) }
     ensures pending { KeepsAnswers core.old core.new }
+    ensures keeps { IsKept variables.now core.old → OnOk result (IsKept variables.now core.new) }
     ensures fits { IsTransfer variables.now t.now → Finds variables.now core.old.store t.now → result ≢ Err Lost.Unfit }
 {
     let Some(unit) = core.units.find(number) else {
@@ -164,6 +167,7 @@ pub(crate) fn read_or_write<F: FileStore, W: Sink>(
     ensures later { W.count out.old ≤ W.count out.new }
     ensures failed { result ≡ Err Lost.Sink → Rose (W.count out.old) (W.count out.new) }
     ensures pending { KeepsAnswers core.old core.new }
+    ensures keeps { IsKept variables.now core.old → OnOk result (IsKept variables.now core.new) }
     ensures fits { IsTransfer variables.now t.now → Finds variables.now core.old.store t.now → core.old.output.begun ≤ star_limit → result ≢ Err Lost.Unfit }
 {
     match t.unit {
@@ -232,6 +236,7 @@ pub(crate) fn enter(
     ensures tells { core.new.tells ≡ core.old.tells }
     ensures causes { (result ≢ Err Lost.Disk) × (result ≢ Err Lost.Sink) }
     ensures pending { KeepsAnswers core.old core.new }
+    ensures keeps { IsKept variables.now core.old → OnOk result (IsKept variables.now core.new) }
     ensures fits { IsTransfer variables.now t.now → MayPend core.old slot number → result ≢ Err Lost.Unfit }
 {
     let tag = Tag(core.next);
@@ -264,6 +269,7 @@ pub(crate) fn carry<F: FileStore>(
     ensures tells { core.new.tells ≡ core.old.tells }
     ensures causes { (result ≢ Err Lost.Disk) × (result ≢ Err Lost.Sink) }
     ensures pending { KeepsAnswers core.old core.new }
+    ensures keeps { IsKept variables.now core.old → OnOk result (IsKept variables.now core.new) }
     ensures fits { IsTransfer variables.now t.now → All (CellFits variables.now) job.moved.cells → result ≢ Err Lost.Unfit }
 {
     give_cells(variables, &mut core.store, t.input, t.size, job).map_err(lost_by_items)?;
