@@ -1,6 +1,7 @@
 -- What a run tells, by what the words ask for.
 use Rattle.std.proofs.Common.{◌≡◌, ◌⊎◌, inl, inr, ℕ, Bool, List, ◌++◌, Result, Ok, Err, IfErr, refl, sym, ◌∙◌, subst}
-use Rattle.fj_outside.specs.Holdings.{Holdings, Files}
+use Rattle.std.specs.FinSet as set
+use Rattle.fj_outside.specs.Holdings.{Files}
 use Rattle.fj_statement.specs.declared.reason.Reason.{Reason}
 use Rattle.fj_plain.specs.Statement.{Ending, ended, error_stop, prohibition}
 use Rattle.fj_statement.specs.declared.deck.Deck.{Deck}
@@ -13,20 +14,16 @@ use Rattle.fj_job.specs.Asking.{IsUnread}
 use Rattle.fj_job.specs.Concluding.{IsReplied}
 use Rattle.fj_job.specs.Taken.{IsReadOf}
 use Rattle.fj_job.proofs.ReplyLaws.{ended_by, lost_by, same_refusal}
-use Rattle.fj_job.specs.Answers.{IsAnswer, IsLost, IsOfRun, LeavesDisk, HasCause, IfEnded, IfRefused, IfFault, IfWriteFault, HasDeck, IsSomeRefusal, TookFor, TookRefusal, Told, Keeps}
+use Rattle.fj_job.specs.Answers.{IsAnswer, IsLost, IsOfRun, LeavesDisk, HasCause, IfEnded, IfRefused, IfFault, IfWriteFault, IfExecute, HasDeck, IsSomeRefusal, OfSource, OfDisk, Replied, AnswersRightly, TookFor, TookRefusal, Told, Keeps}
+use Rattle.fj_job.specs.Seen.{Seen, OnDisk, left_alone}
 use Rattle.fj_job.specs.Cut.{TookRun, TookReport, ToldFault, ToldWrite}
 use Rattle.fj_job.proofs.Told.{fault_by, fault_more, write_by, write_at}
 use Rattle.fj_job.specs.Reply.{IsRefusal, usage_reply, refusal_reply, files_in, status_of}
 use Rattle.fj_job.specs.declared.task.Task.{Task}
 use Rattle.fj_job.specs.declared.task.Task.TheVariants.{Refuse, Check, Execute, Generate}
 
-pub told_for : (task other : Task) (status : Status) (R W D : Type 0) (text : List ℕ) (files : Files) (left : Holdings) (before now : ℕ) (old new : List ℕ) (SR WR DR : Type 0) → task ≡ other
-    → Told task status R W D text files left before now old new SR WR DR → Told other status R W D text files left before now old new SR WR DR
-told_for task other status R W D text files left before now old new SR WR DR e t = subst (λ (x : Task). Told x status R W D text files left before now old new SR WR DR) e t
-
-pub keeps_for : {R W D : Type 0} (task other : Task) (status : Status) (S : Type 0) (text : List ℕ) (r r' : R) (w w' : W) (d d' : D) → task ≡ other
-    → Keeps task status S text r r' w w' d d' → Keeps other status S text r r' w w' d d'
-keeps_for task other status S text r r' w w' d d' e k = subst (λ (x : Task). Keeps x status S text r r' w w' d d') e k
+pub told_for : (task other : Task) (status : Status) (source sink : Seen (List ℕ)) (disk : Seen OnDisk) → task ≡ other → Told task status source sink disk → Told other status source sink disk
+told_for task other status source sink disk e t = subst (λ (x : Task). Told x status source sink disk) e t
 
 -- where no cause of a fault is there, it is no fault
 pub fine_by : (status : Status) (R W D : Type 0) → HasCause R W D status → (R → ⊥) → (W → ⊥) → (D → ⊥) → (status ≡ Memory) ⊎ IsAnswer status
@@ -127,46 +124,60 @@ pub of_run : (status told : Status) → IsOfRun told → (status ≡ told) ⊎ I
 of_run status told r (inl e) = subst (λ (x : Status). IsOfRun x) (sym e) r
 of_run status told r (inr l) = lost_of_run status l
 
+-- ---- where no deck is carried out
+
+execute_more : (task : Task) (P Q : Bool → Type 0) → ((trace : Bool) → P trace → Q trace) → IfExecute task P → IfExecute task Q
+execute_more Refuse P Q f p = tt
+execute_more Check P Q f p = tt
+execute_more (Execute workers trace) P Q f p = f trace p
+execute_more (Generate seed count shown) P Q f p = tt
+
+-- a fault of the disk has no cause there
+no_fault : (status : Status) (R W P : Type 0) (line : ℕ) → HasCause R W ⊥ status → status ≡ DiskFault line → P
+no_fault status R W P line c e = absurd (subst (λ (x : Status). HasCause R W ⊥ x) e c)
+
+pub told_without : (task : Task) (status : Status) (source sink : Seen (List ℕ)) (disk : OnDisk)
+    → (IsAnswer status → OfSource task source.tells → Replied task source.before disk.held.files status disk.held.files (λ output. sink.tells → sink.after ≡ sink.before ++ output))
+    → AnswersRightly task status source
+    → (source.tells → status ≡ WriteFault → IfExecute task (λ trace. IsSomeRefusal source.before))
+    → (OfSource task source.tells → sink.tells → TookFor task source.before (files_in disk.held.files) sink.before sink.after)
+    → HasCause source.rose sink.rose ⊥ status → Keeps task status source sink (left_alone disk) → source.goes_on × sink.goes_on → Told task status source sink (left_alone disk)
+told_without task status source sink disk replied rightly written front cause keeps goes_on = record {
+  replied = λ a t u. replied a t;
+  rightly = rightly;
+  fault = λ t u. fault_by status _ (λ line e. no_fault status _ _ _ line cause e);
+  written = λ t u. write_by status _ (λ e. execute_more task _ _ (λ trace. inl) (written t e));
+  front = λ t u w. inl (front t w);
+  keeps = keeps;
+  cause = cause;
+  fine = λ x y z. fine_by status _ _ _ cause x y z;
+  back = λ empty. inr empty;
+  goes_on = (goes_on.0, goes_on.1, tt);
+}
+
 -- ---- words that are no form
 
-told_usage : (R W D : Type 0) (text : List ℕ) (held : Holdings) (before now : ℕ) (old new : List ℕ) (SR WR DR : Type 0) → (W → new ≡ old ++ usage_text) → (W → TakesFront old new usage_text)
-    → Told Refuse Usage R W D text held.files held before now old new SR WR DR
-told_usage R W D text held before now old new SR WR DR output front = record {
-  replied = λ a t u. record { reply = usage_reply (files_in held.files); is = refl; answer = refl; files_left = refl; output = output };
+refused_rightly : (status : Status) (source : Seen (List ℕ)) → (status ≡ Usage) ⊎ IsLost status → AnswersRightly Refuse status source
+refused_rightly status source (inl e) = subst (λ (x : Status). AnswersRightly Refuse x source) (sym e) (record {
   usage = λ q. refl;
   no_form = λ q. inl refl;
   ended = λ t. tt;
   refused = λ t. tt;
-  fault = λ t u. tt;
-  written = λ t u. tt;
-  front = λ t u w. inl (inr (usage_reply (files_in held.files), refl, front w));
-  cause = tt;
-  fine = λ x y z. inr tt;
-}
-
--- the answer was lost
-told_lost : (status : Status) (R W D : Type 0) (text : List ℕ) (held : Holdings) (before now : ℕ) (old new : List ℕ) (SR WR DR : Type 0) → IsLost status → (W → TakesFront old new usage_text)
-    → HasCause ⊥ WR ⊥ status → Told Refuse status R W D text held.files held before now old new SR WR DR
-told_lost status R W D text held before now old new SR WR DR lost front c = record {
-  replied = λ a t u. lost_is_no_answer status _ lost a;
+})
+refused_rightly status source (inr lost) = record {
   usage = λ q. refl;
   no_form = λ q. inr lost;
-  ended = λ t. lost_by status (λ s. IfEnded s (HasDeck Refuse text)) lost tt tt;
-  refused = λ t. lost_by status (λ s. IfRefused s (IsRefusal Refuse text)) lost tt tt;
-  fault = λ t u. fault_by status _ (λ line e. tt);
-  written = λ t u. write_by status _ (λ e. tt);
-  front = λ t u w. inl (inr (usage_reply (files_in held.files), refl, front w));
-  cause = cause_more status _ _ _ _ _ _ (λ x. absurd x) (λ x. x) (λ x. absurd x) c;
-  fine = λ x y z. fine_by status _ _ _ c (λ b. b) y (λ b. b);
+  ended = λ t. lost_by status (λ s. IfEnded s (HasDeck Refuse source.before)) lost tt tt;
+  refused = λ t. lost_by status (λ s. IfRefused s (IsRefusal Refuse source.before)) lost tt tt;
 }
 
-pub told_refused : (status : Status) (R W D : Type 0) (text : List ℕ) (held : Holdings) (before now : ℕ) (old new : List ℕ) (SR WR DR : Type 0) → (status ≡ Usage) ⊎ IsLost status
-    → (IsAnswer status → W → new ≡ old ++ usage_text) → (W → TakesFront old new usage_text) → HasCause ⊥ WR ⊥ status
-    → Told Refuse status R W D text held.files held before now old new SR WR DR
-told_refused status R W D text held before now old new SR WR DR (inl e) output front c =
-    subst (λ (x : Status). Told Refuse x R W D text held.files held before now old new SR WR DR) (sym e)
-    (told_usage R W D text held before now old new SR WR DR (output (subst (λ (x : Status). IsAnswer x) (sym e) tt)) front)
-told_refused status R W D text held before now old new SR WR DR (inr lost) output front c = told_lost status R W D text held before now old new SR WR DR lost front c
+pub told_refused : (status : Status) (source sink : Seen (List ℕ)) (disk : OnDisk) → (status ≡ Usage) ⊎ IsLost status → (IsAnswer status → sink.tells → sink.after ≡ sink.before ++ usage_text)
+    → (sink.tells → TakesFront sink.before sink.after usage_text) → HasCause ⊥ sink.rose ⊥ status → Keeps Refuse status source sink (left_alone disk) → source.goes_on × sink.goes_on
+    → Told Refuse status source sink (left_alone disk)
+told_refused status source sink disk told output front c keeps goes_on = told_without Refuse status source sink disk
+    (λ a t. answered status Usage _ told a (λ e. record { reply = usage_reply (files_in disk.held.files); is = refl; answer = e; files_left = refl; output = output a }))
+    (refused_rightly status source told) (λ t e. tt) (λ t w. inr (usage_reply (files_in disk.held.files), refl, front w))
+    (cause_more status _ _ _ _ _ _ (λ x. absurd x) (λ x. x) (λ x. x) c) keeps goes_on
 
 -- ---- a text that is not carried out
 
@@ -175,128 +186,185 @@ refusal_taken : (workers : ℕ) (trace : Bool) (text : List ℕ) (files : Files)
 refusal_taken workers trace text files old new (inl same) = inl same
 refusal_taken workers trace text files old new (inr (line, reason, is, front)) = inr (refusal_reply line reason (files_in files), (Err (line, reason), is, refl), front)
 
--- a refusal that is told, or what kept it from being told
-told_refusal : (workers : ℕ) (trace : Bool) (line : ℕ) (reason : Reason) (R W D : Type 0) (text : List ℕ) (held : Holdings) (before now : ℕ) (old new : List ℕ) (SR WR : Type 0) → (R → IsRefused text line reason)
-    → (W → new ≡ old ++ status_text (DeckRefused line reason)) → (R → W → TookRefusal text old new) → Told (Execute workers trace) (DeckRefused line reason) R W D text held.files held before now old new SR WR ⊥
-told_refusal workers trace line reason R W D text held before now old new SR WR is output front = record {
-  replied = λ a t u. record {
-    reply = refusal_reply line reason (files_in held.files);
-    is = (Err (line, reason), is t, refl);
-    answer = refl;
-    files_left = refl;
-    output = output;
-  };
-  usage = λ q. cc;
-  no_form = λ q. cc;
-  ended = λ t. tt;
-  refused = is;
-  fault = λ t u. tt;
-  written = λ t u. tt;
-  front = λ t u w. inl (refusal_taken workers trace text held.files old new (front t w));
-  cause = tt;
-  fine = λ x y z. inr tt;
-}
+-- it is refused, and that is told, or what kept it from being told is; or it was not read
+abbrev IsOfRefusal : Status → Type 0
+IsOfRefusal (DeckRefused line reason) = Unit {0}
+IsOfRefusal ReadFault = Unit {0}
+IsOfRefusal WriteFault = Unit {0}
+IsOfRefusal Memory = Unit {0}
+IsOfRefusal _ = ⊥
 
--- what holds of a fault of the source and of what is lost
-unread_by : (status : Status) (P : Status → Type 0) → IsLost status ⊎ (status ≡ ReadFault) → P ReadFault → P WriteFault → P Memory → P status
-unread_by status P (inl l) r w m = lost_by status P l w m
-unread_by status P (inr e) r w m = subst P (sym e) r
+unread_is : (status : Status) (R : Type 0) (text : List ℕ) → IsUnread status R text → IsOfRefusal status
+unread_is status R text (inl (line, reason, inl e, is)) = subst IsOfRefusal (sym e) tt
+unread_is status R text (inl (line, reason, inr e, is)) = subst IsOfRefusal (sym e) tt
+unread_is status R text (inr (inl e)) = subst IsOfRefusal (sym e) tt
+unread_is status R text (inr (inr e)) = subst IsOfRefusal (sym e) tt
 
-told_none : (workers : ℕ) (trace : Bool) (status : Status) (R W D : Type 0) (text : List ℕ) (held : Holdings) (before now : ℕ) (old new : List ℕ) (SR WR : Type 0) → IsLost status ⊎ (status ≡ ReadFault)
-    → (status ≡ WriteFault → R → IsSomeRefusal text) → (R → W → TookRefusal text old new) → HasCause SR WR ⊥ status → Told (Execute workers trace) status R W D text held.files held before now old new SR WR ⊥
-told_none workers trace status R W D text held before now old new SR WR none is front c = record {
-  replied = λ a t u. absurd (unread_by status (λ s. IsAnswer s → ⊥) none (λ b. b) (λ b. b) (λ b. b) a);
-  usage = λ q. absurd (unread_by status (λ s. s ≡ Usage → ⊥) none (λ e. cc) (λ e. cc) (λ e. cc) q);
-  no_form = λ q. cc;
-  ended = λ t. unread_by status (λ s. IfEnded s (HasDeck (Execute workers trace) text)) none tt tt tt;
-  refused = λ t. unread_by status (λ s. IfRefused s (IsRefusal (Execute workers trace) text)) none tt tt tt;
-  fault = λ t u. fault_by status _ (λ line e. absurd (unread_by status (λ s. s ≡ DiskFault line → ⊥) none (λ q. cc) (λ q. cc) (λ q. cc) e));
-  written = λ t u. write_by status _ (λ e. inl (is e t));
-  front = λ t u w. inl (refusal_taken workers trace text held.files old new (front t w));
-  cause = c;
-  fine = λ x y z. fine_by status _ _ _ c x y z;
-}
+-- the line and the reason where it is refused
+refused_at : (status : Status) (R : Type 0) (text : List ℕ) → IsUnread status R text → R → IfRefused status (IsRefused text)
+refused_at status R text (inl (line, reason, inl e, is)) r = subst (λ (s : Status). IfRefused s (IsRefused text)) (sym e) (is r)
+refused_at status R text (inl (line, reason, inr e, is)) r = subst (λ (s : Status). IfRefused s (IsRefused text)) (sym e) tt
+refused_at status R text (inr (inl e)) r = subst (λ (s : Status). IfRefused s (IsRefused text)) (sym e) tt
+refused_at status R text (inr (inr e)) r = subst (λ (s : Status). IfRefused s (IsRefused text)) (sym e) tt
 
-is_lost : (status other : Status) → IsLost other → status ≡ other → IsLost status
-is_lost status other l e = subst (λ (s : Status). IsLost s) (sym e) l
+-- and where the sink failed
+written_at : (status : Status) (R : Type 0) (text : List ℕ) → IsUnread status R text → R → status ≡ WriteFault → IsSomeRefusal text
+written_at status R text (inl (line, reason, told, is)) r e = (line, reason, is r)
+written_at status R text (inr (inl m)) r e = absurd (let z : Memory ≡ WriteFault = sym m ∙ e in cc)
+written_at status R text (inr (inr f)) r e = absurd (let z : ReadFault ≡ WriteFault = sym f ∙ e in cc)
 
-pub told_unread : (workers : ℕ) (trace : Bool) (status : Status) (R W D : Type 0) (text : List ℕ) (held : Holdings) (before now : ℕ) (old new : List ℕ) (SR WR : Type 0) → IsUnread status R text
-    → IfRefused status (λ line reason. W → new ≡ old ++ status_text (DeckRefused line reason)) → (R → W → TookRefusal text old new) → HasCause SR WR ⊥ status
-    → Told (Execute workers trace) status R W D text held.files held before now old new SR WR ⊥
-told_unread workers trace status R W D text held before now old new SR WR (inl (line, reason, inl e, is)) output front c =
-    subst (λ (x : Status). Told (Execute workers trace) x R W D text held.files held before now old new SR WR ⊥) (sym e)
-    (told_refusal workers trace line reason R W D text held before now old new SR WR is (subst (λ (x : Status). IfRefused x (λ line reason. W → new ≡ old ++ status_text (DeckRefused line reason))) e output) front)
-told_unread workers trace status R W D text held before now old new SR WR (inl (line, reason, inr e, is)) output front c =
-    told_none workers trace status R W D text held before now old new SR WR (inl (is_lost status WriteFault tt e)) (λ w r. (line, reason, is r)) front c
-told_unread workers trace status R W D text held before now old new SR WR (inr (inl e)) output front c =
-    told_none workers trace status R W D text held before now old new SR WR (inl (is_lost status Memory tt e)) (λ w r. absurd (let z : Memory ≡ WriteFault = sym e ∙ w in cc)) front c
-told_unread workers trace status R W D text held before now old new SR WR (inr (inr e)) output front c =
-    told_none workers trace status R W D text held before now old new SR WR (inr e) (λ w r. absurd (let z : ReadFault ≡ WriteFault = sym e ∙ w in cc)) front c
+no_usage : (status : Status) (P : Type 0) → IsOfRefusal status → status ≡ Usage → P
+no_usage status P u e = absurd (subst IsOfRefusal e u)
+
+not_ended : (status : Status) (P : Type 0) → IsOfRefusal status → IfEnded status P
+not_ended Ended P u = absurd u
+not_ended (ErrorStop stmt code) P u = absurd u
+not_ended (Prohibited stmt rule) P u = absurd u
+not_ended (DeckRefused line reason) P u = tt
+not_ended Usage P u = tt
+not_ended ReadFault P u = tt
+not_ended WriteFault P u = tt
+not_ended (DiskFault stmt) P u = tt
+not_ended Memory P u = tt
+
+-- an answer to it is a refusal
+refusal_by : (status : Status) (P : Status → Type 0) → IsOfRefusal status → IsAnswer status → ((line : ℕ) (reason : Reason) → status ≡ DeckRefused line reason → P (DeckRefused line reason)) → P status
+refusal_by Ended P u a f = absurd u
+refusal_by (ErrorStop stmt code) P u a f = absurd u
+refusal_by (Prohibited stmt rule) P u a f = absurd u
+refusal_by (DeckRefused line reason) P u a f = f line reason refl
+refusal_by Usage P u a f = absurd u
+refusal_by ReadFault P u a f = absurd a
+refusal_by WriteFault P u a f = absurd a
+refusal_by (DiskFault stmt) P u a f = absurd a
+refusal_by Memory P u a f = absurd a
+
+pub told_unread : (workers : ℕ) (trace : Bool) (status : Status) (source sink : Seen (List ℕ)) (disk : OnDisk) → IsUnread status source.tells source.before
+    → IfRefused status (λ line reason. sink.tells → sink.after ≡ sink.before ++ status_text (DeckRefused line reason)) → (source.tells → sink.tells → TookRefusal source.before sink.before sink.after)
+    → HasCause source.rose sink.rose ⊥ status → Keeps (Execute workers trace) status source sink (left_alone disk) → source.goes_on × sink.goes_on
+    → Told (Execute workers trace) status source sink (left_alone disk)
+told_unread workers trace status source sink disk unread output front c keeps goes_on =
+    let task = Execute workers trace in
+    let of_refusal = unread_is status source.tells source.before unread in
+    told_without task status source sink disk
+    (λ a t. refusal_by status (λ s. Replied task source.before disk.held.files s disk.held.files (λ output. sink.tells → sink.after ≡ sink.before ++ output)) of_refusal a (λ line reason e. record {
+      reply = refusal_reply line reason (files_in disk.held.files);
+      is = (Err (line, reason), subst (λ (s : Status). IfRefused s (IsRefused source.before)) e (refused_at status source.tells source.before unread t), refl);
+      answer = refl;
+      files_left = refl;
+      output = subst (λ (s : Status). IfRefused s (λ line reason. sink.tells → sink.after ≡ sink.before ++ status_text (DeckRefused line reason))) e output;
+    }))
+    (record {
+      usage = λ q. no_usage status _ of_refusal q;
+      no_form = λ q. no_words task _ tt q;
+      ended = λ t. not_ended status _ of_refusal;
+      refused = λ t. refused_at status source.tells source.before unread t;
+    })
+    (λ t e. written_at status source.tells source.before unread t e) (λ t w. refusal_taken workers trace source.before disk.held.files sink.before sink.after (front t w))
+    c keeps goes_on
 
 -- a refusal that is told, or what kept it from being told, where it is
 pub unread_of : (status : Status) (line : ℕ) (reason : Reason) (R : Type 0) (text : List ℕ) → (status ≡ DeckRefused line reason) ⊎ IsLost status → (R → IsRefused text line reason) → IsUnread status R text
 unread_of status line reason R text (inl e) is = inl (line, reason, inl e, is)
 unread_of status line reason R text (inr l) is = lost_by status (λ s. IsUnread s R text) l (inl (line, reason, inr refl, is)) (inr (inl refl))
 
--- ---- what is asked for, over a disk
+-- ---- over a disk
 
-pub told_over : {D : Type 0} (task : Task) (status : Status) (R W : Type 0) (text : List ℕ) (held : Holdings) (before now : ℕ) (old new : List ℕ) (SR WR DR : Type 0)
-    → Told task status R W (Unit {0}) text held.files held before now old new SR WR ⊥ → Told task status R W D text held.files held before now old new SR WR DR
-told_over task status R W text held before now old new SR WR DR t = record {
-  replied = λ a r d. t.replied a r tt;
-  usage = t.usage;
-  no_form = t.no_form;
-  ended = t.ended;
-  refused = t.refused;
-  fault = λ r d. t.fault r tt;
-  written = λ r d. t.written r tt;
-  front = λ r d w. elim (t.front r tt w) [ inl reply ↦ inl reply | inr fault ↦ absurd fault.0 ];
+-- what has to hold of another disk
+of_disk : (task : Task) (text : List ℕ) (P Q : Type 0) → (P → Q) → OfDisk task text P → OfDisk task text Q
+of_disk Refuse text P Q f u = tt
+of_disk Check text P Q f u = tt
+of_disk (Execute workers trace) text P Q f u = λ some. f (u some)
+of_disk (Generate seed count shown) text P Q f u = tt
+
+-- of one that is as it was, and on which no file was in use
+pub told_over : (task : Task) (status : Status) (source sink : Seen (List ℕ)) (disk : Seen OnDisk) → disk.after ≡ disk.before → disk.same → disk.goes_on
+    → (disk.tells → disk.before.held.in_use ≡ set.empty) → Told task status source sink (left_alone disk.before) → Told task status source sink disk
+told_over task status source sink disk is same goes_on empty t = subst (λ (after : OnDisk). Told task status source sink (record disk { after = after })) (sym is) (record {
+  replied = λ a r d. t.replied a r (of_disk task source.before _ _ empty d);
+  rightly = t.rightly;
+  fault = λ r d. t.fault r (of_disk task source.before _ _ empty d);
+  written = λ r d. t.written r (of_disk task source.before _ _ empty d);
+  front = λ r d w. elim (t.front r (of_disk task source.before _ _ empty d) w) [ inl reply ↦ inl reply | inr fault ↦ absurd fault.0 ];
+  keeps = record {
+    aside = λ a. ((t.keeps.aside a).0, same);
+    check = λ e. same;
+    answer = λ l. same;
+    changed = λ r. inl same;
+    untold = t.keeps.untold;
+  };
   cause = cause_more status _ _ _ _ _ _ (λ x. x) (λ x. x) (λ x. absurd x) t.cause;
   fine = λ x y z. t.fine x y (λ b. b);
+  back = λ d. inr (empty d);
+  goes_on = (t.goes_on.0, t.goes_on.1, goes_on);
+})
+
+-- ---- memory was wanting before anything was done
+
+pub told_nothing : (task : Task) (source sink : Seen (List ℕ)) (disk : Seen OnDisk) → sink.after ≡ sink.before → source.same → sink.same → disk.same → source.goes_on × sink.goes_on × disk.goes_on
+    → Told task Memory source sink disk
+told_nothing task source sink disk is source_same sink_same disk_same goes_on = record {
+  replied = λ a t u. absurd a;
+  rightly = record {
+    usage = λ q. cc;
+    no_form = λ q. inr tt;
+    ended = λ t. tt;
+    refused = λ t. tt;
+  };
+  fault = λ t u. tt;
+  written = λ t u. tt;
+  front = λ t u w. inl (inl is);
+  keeps = record {
+    aside = λ a. (source_same, disk_same);
+    check = λ e. disk_same;
+    answer = λ l. disk_same;
+    changed = λ t. inl disk_same;
+    untold = λ e. cc;
+  };
+  cause = tt;
+  fine = λ x y z. inl refl;
+  back = λ d. inl refl;
+  goes_on = goes_on;
 }
 
-pub keeps_over : {R W D : Type 0} (task : Task) (status : Status) (S : Type 0) (text : List ℕ) (r r' : R) (w w' : W) (d : D)
-    → Keeps {D = Unit {0}} task status S text r r' w w' tt tt → Keeps task status S text r r' w w' d d
-keeps_over task status S text r r' w w' d k = record {
-  aside = λ a. ((k.aside a).0, refl);
-  check = λ e. refl;
-  answer = λ l. refl;
-  changed = λ t. inl refl;
-  untold = k.untold;
-}
+-- ---- a deck was read, and carried out
 
--- a deck was read, and carried out
-pub told_executed : (workers : ℕ) (trace : Bool) (deck : Deck) (status : Status) (R W D : Type 0) (text : List ℕ) (files : Files) (left : Holdings) (before now : ℕ) (old new : List ℕ) (SR WR DR : Type 0) → (R → IsDeck text deck)
-    → (IsAnswer status → D → IsReplied deck trace files status left.files (λ output. W → new ≡ old ++ output))
-    → (D → IfFault status (λ line. ToldFault deck trace (files_in files) line W old new WR left before now)) → (D → IfWriteFault status (ToldWrite deck trace (files_in files) W old new left before now)) → (D → W → TookRun deck trace (files_in files) old new ⊎ (DR × TookReport deck trace (files_in files) status old new)) → IsOfRun status → HasCause ⊥ WR DR status
-    → Told (Execute workers trace) status R W D text files left before now old new SR WR DR
-told_executed workers trace deck status R W D text files left before now old new SR WR DR is replied fault written front r c = record {
-  replied = λ a t u. let it = replied a u in record {
+pub told_executed : (workers : ℕ) (trace : Bool) (deck : Deck) (status : Status) (source sink : Seen (List ℕ)) (disk : Seen OnDisk) → (source.tells → IsDeck source.before deck)
+    → (IsAnswer status → disk.tells → IsReplied deck trace disk.before.held.files status disk.after.held.files (λ output. sink.tells → sink.after ≡ sink.before ++ output))
+    → (disk.tells → IfFault status (λ line. ToldFault deck trace (files_in disk.before.held.files) line sink.tells sink.before sink.after sink.rose disk.after.held disk.before.own disk.after.own))
+    → (disk.tells → IfWriteFault status (ToldWrite deck trace (files_in disk.before.held.files) sink.tells sink.before sink.after disk.after.held disk.before.own disk.after.own))
+    → (disk.tells → sink.tells → TookRun deck trace (files_in disk.before.held.files) sink.before sink.after
+    ⊎ (disk.rose × TookReport deck trace (files_in disk.before.held.files) status sink.before sink.after))
+    → IsOfRun status → HasCause ⊥ sink.rose disk.rose status → (disk.tells → (status ≡ Memory) ⊎ (disk.after.held.in_use ≡ set.empty)) → source.goes_on × sink.goes_on × disk.goes_on
+    → Told (Execute workers trace) status source sink disk
+told_executed workers trace deck status source sink disk is replied fault written front r c back goes_on = record {
+  replied = λ a t u. let it = replied a (u (deck, is t)) in record {
     reply = it.reply;
     is = (Ok deck, is t, it.is);
     answer = it.answer;
     files_left = it.files_left;
     output = it.output;
   };
-  usage = λ q. absurd (run_is_no_usage status r q);
-  no_form = λ q. no_words (Execute workers trace) _ tt q;
-  ended = λ t. ended_by status _ (deck, is t);
-  refused = λ t. run_is_not_refused status _ r;
-  fault = λ t d. fault_more status _ _ (λ line told. (deck, is t, told)) (fault d);
-  written = λ t d. write_by status _ (λ e. inr (deck, is t, write_at status _ (written d) e));
-  front = λ t d w. elim (front d w) [ inl run ↦ inl (inr (run.0, (Ok deck, is t, run.1), run.2)) | inr fault ↦ inr (fault.0, (deck, is t, fault.1)) ];
+  rightly = record {
+    usage = λ q. absurd (run_is_no_usage status r q);
+    no_form = λ q. no_words (Execute workers trace) _ tt q;
+    ended = λ t. ended_by status _ (deck, is t);
+    refused = λ t. run_is_not_refused status _ r;
+  };
+  fault = λ t u. fault_more status _ _ (λ line told. (deck, is t, told)) (fault (u (deck, is t)));
+  written = λ t u. write_by status _ (λ e. inr (deck, is t, write_at status _ (written (u (deck, is t))) e));
+  front = λ t u w. elim (front (u (deck, is t)) w) [ inl run ↦ inl (inr (run.0, (Ok deck, is t, run.1), run.2)) | inr fault ↦ inr (fault.0, (deck, is t, fault.1)) ];
+  keeps = record {
+    aside = λ q. absurd q;
+    check = λ q. no_check (Execute workers trace) _ tt q;
+    answer = λ l. run_leaves status _ r l;
+    changed = λ t. inr (deck, is t);
+    untold = λ e. no_read status _ _ _ c e;
+  };
   cause = cause_more status _ _ _ _ _ _ (λ x. absurd x) (λ x. x) (λ x. x) c;
   fine = λ x y z. fine_by status _ _ _ c (λ b. b) y z;
-}
-
-pub keeps_executed : {R W D : Type 0} (workers : ℕ) (trace : Bool) (deck : Deck) (status : Status) (WR DR S : Type 0) (text : List ℕ) (r r' : R) (w w' : W) (d d' : D)
-    → (S → IsDeck text deck) → IsOfRun status → HasCause ⊥ WR DR status → Keeps (Execute workers trace) status S text r r' w w' d d'
-keeps_executed workers trace deck status WR DR S text r r' w w' d d' is o c = record {
-  aside = λ q. absurd q;
-  check = λ q. no_check (Execute workers trace) _ tt q;
-  answer = λ l. run_leaves status _ o l;
-  changed = λ t. inr (deck, is t);
-  untold = λ e. no_read status _ _ _ c e;
+  back = back;
+  goes_on = goes_on;
 }
 
 -- a text that was read in part is refused as the whole is

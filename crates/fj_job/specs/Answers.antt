@@ -1,6 +1,7 @@
 -- What a run tells: its answer, what the sink took, what the disk is left with, and the cause of each fault.
-use Rattle.std.specs.Prelude.{◌≡◌, ◌⊎◌, ◌↔◌, ◌≤◌, ℕ, Bool, List, ◌++◌}
-use Rattle.fj_outside.specs.Holdings.{Holdings, Files as Held}
+use Rattle.std.specs.Prelude.{◌≡◌, ◌⊎◌, ℕ, Bool, List, ◌++◌}
+use Rattle.std.specs.FinSet as set
+use Rattle.fj_outside.specs.Holdings.{Files as Held}
 use Rattle.fj_statement.specs.declared.reason.Reason.{Reason}
 use Rattle.fj_statement.specs.declared.deck.Deck.{Deck}
 use Rattle.fj_deck.specs.Deck.{IsDeck, IsRefused}
@@ -13,6 +14,7 @@ use Rattle.fj_job.specs.declared.task.Task.{Task}
 use Rattle.fj_job.specs.declared.task.Task.TheVariants.{Refuse, Check, Execute, Generate}
 use Rattle.fj_job.specs.Reply.{Reply, IsReplyTo, IsRefusal, files_in}
 use Rattle.fj_job.specs.Cut.{TookReport, ToldFault, ToldWrite}
+use Rattle.fj_job.specs.Seen.{Seen, OnDisk}
 
 -- neither a fault nor want of memory
 abbrev pub IsAnswer : Status → Type 0
@@ -111,43 +113,16 @@ abbrev pub TookFault : Task → Status → List ℕ → Files → List ℕ → L
 TookFault (Execute workers trace) status text files old new = (deck : Deck) × IsDeck text deck × TookReport deck trace files status old new
 TookFault _ status text files old new = ⊥
 
--- What a run tells. Source, sink and disk each tell what they hold or do not, and their counts of faults rose or did not. The
--- source has this text, the disk has these files before and holds that after, its own number was `before` and is `now`, and the sink
--- took this before and that after.
-pub record Told (task : Task) (status : Status) (SourceTells SinkTells DiskTells : Type 0) (text : List ℕ) (files : Held) (left : Holdings) (before now : ℕ)
-    (old new : List ℕ) (SourceRose SinkRose DiskRose : Type 0) : Type 0 where
-  -- An answer that is no fault and no want of memory is that of a reply to the words and the text, whose output is taken and
-  -- whose files are left.
-  pub replied : IsAnswer status → SourceTells → DiskTells → Replied task text files status left.files (λ output. SinkTells → new ≡ old ++ output)
-  -- Words that are no form, and they alone, are refused, unless the sink or memory fails.
-  pub usage : status ≡ Usage → task ≡ Refuse
-  pub no_form : task ≡ Refuse → (status ≡ Usage) ⊎ IsLost status
-  -- What is refused is so at the line and for the reason that it has, and what is not is a deck.
-  pub ended : SourceTells → IfEnded status (HasDeck task text)
-  pub refused : SourceTells → IfRefused status (IsRefusal task text)
-  -- A fault of the disk is that of the statement which learnt of it: behind what executing the deck tells up to there, the report
-  -- says its line. The sink took all of it; or it failed then, and took a front of it. Each file that the disk does not tell as hurt,
-  -- and that the statement is not about, is left as closing all units leaves it there.
-  pub fault : SourceTells → DiskTells → IfFault status (λ line. IfExecute task (λ trace.
-      (deck : Deck) × IsDeck text deck × ToldFault deck trace (files_in files) line SinkTells old new SinkRose left before now))
-  -- A fault of the sink is met where the text is refused and that is told; or at a statement of the deck that is carried out, or in the
-  -- report of a deck that ended at it. The sink took the records that ended until there, whole, and then a front of those that the
-  -- statement ends, or of the reply. Each file that the disk does not tell as hurt, and that the statement is not about, is left as
-  -- closing all units leaves it there.
-  pub written : SourceTells → DiskTells → IfWriteFault status (IfExecute task (λ trace.
-      IsSomeRefusal text ⊎ ((deck : Deck) × IsDeck text deck × ToldWrite deck trace (files_in files) SinkTells old new left before now)))
-  -- Whatever is answered, the sink took nothing or a front of the reply; or, where the disk failed while a deck was carried out, of
-  -- the report of that fault, which is then answered, unless memory was wanting.
-  pub front : SourceTells → DiskTells → SinkTells → TookFor task text (files_in files) old new ⊎ (DiskRose × TookFault task status text (files_in files) old new)
-  -- Each fault has its cause.
-  pub cause : HasCause SourceRose SinkRose DiskRose status
-  -- Where no count rises the answer is that of a reply, or memory was wanting.
-  pub fine : (SourceRose → ⊥) → (SinkRose → ⊥) → (DiskRose → ⊥) → (status ≡ Memory) ⊎ IsAnswer status
+-- what has to hold of the source, where its text is asked for
+abbrev pub OfSource : Task → Type 0 → Type 0
+OfSource Refuse P = Unit {0}
+OfSource (Generate seed count shown) P = Unit {0}
+OfSource _ P = P
 
--- Source, sink and disk go on telling what they hold, or not, and their counts of faults do not fall.
-pub record GoesOn (Tells Tells' : Type 0) (count count' : ℕ) : Type 0 where
-  pub telling : Tells ↔ Tells'
-  pub later : count ≤ count'
+-- what has to hold of the disk, where the text is a deck that is carried out on it
+abbrev pub OfDisk : Task → List ℕ → Type 0 → Type 0
+OfDisk (Execute workers trace) text P = IsSomeDeck text → P
+OfDisk _ text P = Unit {0}
 
 -- nothing is done with the source, nor with the disk
 abbrev pub IsAside : Task → Type 0
@@ -155,13 +130,54 @@ IsAside Refuse = Unit {0}
 IsAside (Generate seed count shown) = Unit {0}
 IsAside _ = ⊥
 
+-- The answers that tell of the words and of the text.
+pub record AnswersRightly (task : Task) (status : Status) (source : Seen (List ℕ)) : Type 0 where
+  -- Words that are no form, and they alone, are refused, unless the sink or memory fails.
+  pub usage : status ≡ Usage → task ≡ Refuse
+  pub no_form : task ≡ Refuse → (status ≡ Usage) ⊎ IsLost status
+  -- What is refused is so at the line and for the reason that it has, and what is not is a deck.
+  pub ended : source.tells → IfEnded status (HasDeck task source.before)
+  pub refused : source.tells → IfRefused status (IsRefusal task source.before)
+
 -- What stays as it was.
-pub record Keeps {R W D : Type 0} (task : Task) (status : Status) (SourceTells : Type 0) (text : List ℕ) (deck deck' : R) (out out' : W) (disk disk' : D) : Type 0 where
+pub record Keeps (task : Task) (status : Status) (source sink : Seen (List ℕ)) (disk : Seen OnDisk) : Type 0 where
   -- Words that are no form, or ask for a deck that is made, leave the source and the disk, and CHECK leaves the disk.
-  pub aside : IsAside task → (deck' ≡ deck) × (disk' ≡ disk)
-  pub check : task ≡ Check → disk' ≡ disk
+  pub aside : IsAside task → source.same × disk.same
+  pub check : task ≡ Check → disk.same
   -- Where no deck is carried out the disk is as it was.
-  pub answer : LeavesDisk status → disk' ≡ disk
-  pub changed : SourceTells → (disk' ≡ disk) ⊎ IsSomeDeck text
+  pub answer : LeavesDisk status → disk.same
+  pub changed : source.tells → disk.same ⊎ IsSomeDeck source.before
   -- A fault of the source leaves the sink.
-  pub untold : status ≡ ReadFault → out' ≡ out
+  pub untold : status ≡ ReadFault → sink.same
+
+-- What a run tells. The premises of a clause are that the parts of the outside which it is about tell what they hold: the source where
+-- its text is asked for, the disk where that text is a deck which is carried out, and the sink where it is said what that took.
+pub record Told (task : Task) (status : Status) (source sink : Seen (List ℕ)) (disk : Seen OnDisk) : Type 0 where
+  -- An answer that is no fault and no want of memory is that of the reply to the words and the text, whose output is taken and whose
+  -- files are left.
+  pub replied : IsAnswer status → OfSource task source.tells → OfDisk task source.before disk.tells
+      → Replied task source.before disk.before.held.files status disk.after.held.files (λ output. sink.tells → sink.after ≡ sink.before ++ output)
+  pub rightly : AnswersRightly task status source
+  -- A fault of the disk is that of the statement which learnt of it: behind what executing the deck tells up to there, the report
+  -- says its line. The sink took all of it; or it failed then, and took a front of it. Each file that the disk does not tell as hurt,
+  -- and that the statement is not about, is left as closing all units leaves it there.
+  pub fault : source.tells → OfDisk task source.before disk.tells → IfFault status (λ line. IfExecute task (λ trace. (deck : Deck) × IsDeck source.before deck
+      × ToldFault deck trace (files_in disk.before.held.files) line sink.tells sink.before sink.after sink.rose disk.after.held disk.before.own disk.after.own))
+  -- A fault of the sink is met where the text is refused and that is told; or at a statement of the deck that is carried out, or in the
+  -- report of a deck that ended at it. The sink took the records that ended until there, whole, and then a front of those that the
+  -- statement ends, or of the reply. Each file that the disk does not tell as hurt, and that the statement is not about, is left as
+  -- closing all units leaves it there.
+  pub written : source.tells → OfDisk task source.before disk.tells → IfWriteFault status (IfExecute task (λ trace. IsSomeRefusal source.before
+      ⊎ ((deck : Deck) × IsDeck source.before deck
+      × ToldWrite deck trace (files_in disk.before.held.files) sink.tells sink.before sink.after disk.after.held disk.before.own disk.after.own)))
+  -- Whatever is answered, the sink took nothing or a front of the reply; or, where the disk failed while a deck was carried out, of
+  -- the report of that fault, which is then answered, unless memory was wanting.
+  pub front : OfSource task source.tells → OfDisk task source.before disk.tells → sink.tells → TookFor task source.before (files_in disk.before.held.files) sink.before sink.after
+      ⊎ (disk.rose × TookFault task status source.before (files_in disk.before.held.files) sink.before sink.after)
+  pub keeps : Keeps task status source sink disk
+  -- Each fault has its cause. Where no count rises the answer is that of a reply, or memory was wanting.
+  pub cause : HasCause source.rose sink.rose disk.rose status
+  pub fine : (source.rose → ⊥) → (sink.rose → ⊥) → (disk.rose → ⊥) → (status ≡ Memory) ⊎ IsAnswer status
+  -- Each file is back, unless memory was wanting; and the outside goes on telling, and counting.
+  pub back : disk.tells → (status ≡ Memory) ⊎ (disk.after.held.in_use ≡ set.empty)
+  pub goes_on : source.goes_on × sink.goes_on × disk.goes_on

@@ -1,4 +1,5 @@
 pub mod Taken
+pub mod Seen
 pub mod Task
 pub mod Reply
 pub mod Cut

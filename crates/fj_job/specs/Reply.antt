@@ -180,6 +180,10 @@ IsReplyTo (Generate seed count false) text files reply = (reading : Reading) × 
 abbrev pub OneReply : Type 0
 OneReply = (task : Task) (text : List ℕ) (files : Files) (reply other : Reply) → IsReplyTo task text files reply → IsReplyTo task text files other → reply ≡ other
 
+-- and there is one
+abbrev pub SomeReply : Type 0
+SomeReply = (task : Task) (text : List ℕ) (files : Files) → (reply : Reply) × IsReplyTo task text files reply
+
 -- the text is refused at a line
 abbrev pub IsRefusal : Task → List ℕ → ℕ → Reason → Type 0
 IsRefusal Refuse text line reason = ⊥

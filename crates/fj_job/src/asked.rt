@@ -8,6 +8,7 @@ ghost use Rattle.fj_report.specs.Lines.{status_text};
 ghost use Rattle.fj_job.specs.Answers.{IsAnswer, HasCause, IfEnded, IfRefused, HasDeck, Replied, TookFor, TookRefusal};
 ghost use Rattle.fj_job.specs.Reply.{IsRefusal, files_in};
 ghost use Rattle.fj_job.specs.Asking.{IsAsked, IsUnread};
+ghost use Rattle.fj_job.specs.Seen.{seen};
 
 use crate::made::make;
 use crate::streams::read_text;
@@ -74,7 +75,7 @@ fn deck_of<R: Source, W: Sink>(alloc: Global, deck: &mut R, out: &mut W) -> Resu
 
 /// Does with a source what is asked for, but for carrying out a deck.
 pub fn answer<R: Source, W: Sink>(alloc: Global, task: Task, deck: &mut R, out: &mut W) -> Asked
-    ensures asked { IsAsked R.tells R.left R.count W.tells W.taken W.count task deck.old out.old deck.new out.new result }
+    ensures asked { IsAsked task (seen R.tells R.left R.count deck.old deck.new) (seen W.tells W.taken W.count out.old out.new) result }
 {
     match task {
         Task::Refuse => Asked::Answered(refuse_words(out)),

@@ -1,8 +1,8 @@
 // The top calls: from the words and the text of a deck to its report and its files.
-ghost use Rattle.std.specs.Prelude.{◌≡◌, ◌⊎◌};
+ghost use Rattle.std.specs.Prelude.{◌≡◌};
 ghost use Rattle.std.specs.FinSet as set;
-ghost use Rattle.fj_outside.specs.Faults.{Rose};
-ghost use Rattle.fj_job.specs.Answers.{GoesOn, Keeps, Told};
+ghost use Rattle.fj_job.specs.Answers.{Told};
+ghost use Rattle.fj_job.specs.Seen.{seen, on_disk};
 ghost use Rattle.fj_job.specs.Task.{asked, asked_alone};
 
 use crate::asked::{Asked, answer};
@@ -23,14 +23,8 @@ pub fn alone_job<R: Source, W: Sink, D: Disk>(
     disk: &mut D,
 ) -> Status
     requires { D.tells disk.old → (D.held disk.old).in_use ≡ set.empty }
-    ensures told { Told (asked_alone words.now) result (R.tells deck.old) (W.tells out.old) (D.tells disk.old) (R.left deck.old)
-        (D.held disk.old).files (D.held disk.new) (D.refusals disk.old) (D.refusals disk.new) (W.taken out.old) (W.taken out.new)
-        (Rose (R.count deck.old) (R.count deck.new)) (Rose (W.count out.old) (W.count out.new)) (Rose (D.count disk.old) (D.count disk.new)) }
-    ensures keeps { Keeps (asked_alone words.now) result (R.tells deck.old) (R.left deck.old) deck.old deck.new out.old out.new disk.old disk.new }
-    ensures in_use { D.tells disk.old → (result ≡ Status.Memory) ⊎ ((D.held disk.new).in_use ≡ set.empty) }
-    ensures deck_goes_on { GoesOn (R.tells deck.old) (R.tells deck.new) (R.count deck.old) (R.count deck.new) }
-    ensures out_goes_on { GoesOn (W.tells out.old) (W.tells out.new) (W.count out.old) (W.count out.new) }
-    ensures disk_goes_on { GoesOn (D.tells disk.old) (D.tells disk.new) (D.count disk.old) (D.count disk.new) }
+    ensures { Told (asked_alone words.now) result (seen R.tells R.left R.count deck.old deck.new) (seen W.tells W.taken W.count out.old out.new)
+        (seen D.tells (on_disk D.held D.refusals) D.count disk.old disk.new) }
 {
     let Ok(form) = read_words(alloc, words) else {
         return Status::Memory;
@@ -58,14 +52,8 @@ pub fn run_job<Rt: Threads + Wait + Sync, R: Source, W: Sink + Send, D: Disk + S
 where
     D::File: Send,
     requires { D.tells disk.old → (D.held disk.old).in_use ≡ set.empty }
-    ensures told { Told (asked words.now) result (R.tells deck.old) (W.tells out.old) (D.tells disk.old) (R.left deck.old)
-        (D.held disk.old).files (D.held disk.new) (D.refusals disk.old) (D.refusals disk.new) (W.taken out.old) (W.taken out.new)
-        (Rose (R.count deck.old) (R.count deck.new)) (Rose (W.count out.old) (W.count out.new)) (Rose (D.count disk.old) (D.count disk.new)) }
-    ensures keeps { Keeps (asked words.now) result (R.tells deck.old) (R.left deck.old) deck.old deck.new out.old out.new disk.old disk.new }
-    ensures in_use { D.tells disk.old → (result ≡ Status.Memory) ⊎ ((D.held disk.new).in_use ≡ set.empty) }
-    ensures deck_goes_on { GoesOn (R.tells deck.old) (R.tells deck.new) (R.count deck.old) (R.count deck.new) }
-    ensures out_goes_on { GoesOn (W.tells out.old) (W.tells out.new) (W.count out.old) (W.count out.new) }
-    ensures disk_goes_on { GoesOn (D.tells disk.old) (D.tells disk.new) (D.count disk.old) (D.count disk.new) }
+    ensures { Told (asked words.now) result (seen R.tells R.left R.count deck.old deck.new) (seen W.tells W.taken W.count out.old out.new)
+        (seen D.tells (on_disk D.held D.refusals) D.count disk.old disk.new) }
 {
     let Ok(form) = read_words(alloc, words) else {
         return Status::Memory;

@@ -20,4 +20,4 @@ mod workers;
 pub use fj_report::Status;
 pub use fj_statement::Reason;
 pub use job::{alone_job, run_job};
-pub use laws::one_reply;
+pub use laws::{one_reply, some_reply};

@@ -1,79 +1,63 @@
 use Rattle.std.proofs.Common.{inl, refl, sym, arith}
 use Rattle.fj_job.specs.declared.task.Task.TheVariants.{Refuse, Check, Execute, Generate}
 use Rattle.fj_job.proofs.ReplyLaws.{ended_by}
-use Rattle.fj_job.proofs.ToldLaws.{told_for, keeps_for, told_refused, told_unread, no_words, no_check, cause_more, fine_by, no_read}
-use Rattle.fj_job.proofs.Told.{fault_by, write_by}
+use Rattle.fj_job.proofs.ToldLaws.{told_for, told_without, told_refused, told_unread, no_words, no_check, cause_more, no_read}
 use Rattle.fj_job.proofs.asked.answer.Goals as goal
 
 pub returns-in-Refuse : goal.returns-in-Refuse
-returns-in-Refuse g c = record {
-  asked = record {
-    told = λ held before now. told_for Refuse c.args.task _ _ _ _ _ _ _ _ _ _ _ _ _ _ (sym c.in-Refuse.is)
-        (told_refused c.refuse_words.result _ _ _ _ held before now _ _ _ _ _ c.refuse_words.ensures.usage c.refuse_words.ensures.output c.refuse_words.ensures.front c.refuse_words.ensures.cause);
-    keeps = keeps_for Refuse c.args.task _ _ _ _ _ _ _ _ _ (sym c.in-Refuse.is) (record {
-      aside = λ e. (refl, refl);
-      check = λ e. refl;
-      answer = λ l. refl;
-      changed = λ t. inl refl;
-      untold = λ e. no_read c.refuse_words.result _ _ _ c.refuse_words.ensures.cause e;
-    });
-    is_deck = λ t. tt;
-    sound = tt;
-    task_is = tt;
-    untold = tt;
-    telling = (λ t. t, λ t. t);
-    telling_out = c.refuse_words.ensures.telling;
-    later = omega arith;
-    later_out = c.refuse_words.ensures.later;
-  };
-}
+returns-in-Refuse g c =
+    record {
+      asked = record {
+        told = λ disk. told_for Refuse c.args.task _ _ _ _ (sym c.in-Refuse.is) (told_refused c.refuse_words.result _ _ disk c.refuse_words.ensures.usage c.refuse_words.ensures.output
+            c.refuse_words.ensures.front c.refuse_words.ensures.cause (record {
+          aside = λ e. (refl, tt);
+          check = λ e. tt;
+          answer = λ l. tt;
+          changed = λ t. inl tt;
+          untold = λ e. no_read c.refuse_words.result _ _ _ c.refuse_words.ensures.cause e;
+        }) (((λ t. t, λ t. t), omega arith), (c.refuse_words.ensures.telling, c.refuse_words.ensures.later)));
+        is_deck = λ t. tt;
+        sound = tt;
+        task_is = tt;
+        untold = tt;
+        goes_on = (((λ t. t, λ t. t), omega arith), (c.refuse_words.ensures.telling, c.refuse_words.ensures.later));
+      };
+    }
 
 pub returns-in-Check : goal.returns-in-Check
-returns-in-Check g c = record {
-  asked = record {
-    told = λ held before now. told_for Check c.args.task _ _ _ _ _ _ _ _ _ _ _ _ _ _ (sym c.in-Check.is) (record {
-      replied = λ a t u. c.check_source.ensures.replied held.files a t;
-      usage = λ q. absurd (c.check_source.ensures.no_usage q);
-      no_form = λ q. no_words Check _ tt q;
-      ended = c.check_source.ensures.ended;
-      refused = c.check_source.ensures.refused;
-      fault = λ t u. fault_by c.check_source.result _ (λ line e. tt);
-      written = λ t u. write_by c.check_source.result _ (λ e. tt);
-      front = λ t u w. inl (c.check_source.ensures.front held.files t w);
-      cause = c.check_source.ensures.cause;
-      fine = λ x y z. fine_by c.check_source.result _ _ _ c.check_source.ensures.cause x y z;
-    });
-    keeps = keeps_for Check c.args.task _ _ _ _ _ _ _ _ _ (sym c.in-Check.is) (record {
-      aside = λ q. absurd q;
-      check = λ e. refl;
-      answer = λ l. refl;
-      changed = λ t. inl refl;
-      untold = c.check_source.ensures.untold;
-    });
-    is_deck = λ t. tt;
-    sound = tt;
-    task_is = tt;
-    untold = tt;
-    telling = c.check_source.ensures.deck_telling;
-    telling_out = c.check_source.ensures.out_telling;
-    later = c.check_source.ensures.deck_later;
-    later_out = c.check_source.ensures.out_later;
-  };
-}
+returns-in-Check g c =
+    let it = c.check_source.ensures in
+    record {
+      asked = record {
+        told = λ disk. told_for Check c.args.task _ _ _ _ (sym c.in-Check.is) (told_without Check c.check_source.result _ _ disk (λ a t. it.replied disk.held.files a t) (record {
+          usage = λ q. absurd (it.no_usage q);
+          no_form = λ q. no_words Check _ tt q;
+          ended = it.ended;
+          refused = it.refused;
+        }) (λ t e. tt) (λ t w. it.front disk.held.files t w) it.cause (record {
+          aside = λ q. absurd q;
+          check = λ e. tt;
+          answer = λ l. tt;
+          changed = λ t. inl tt;
+          untold = it.untold;
+        }) ((it.deck_telling, it.deck_later), (it.out_telling, it.out_later)));
+        is_deck = λ t. tt;
+        sound = tt;
+        task_is = tt;
+        untold = tt;
+        goes_on = ((it.deck_telling, it.deck_later), (it.out_telling, it.out_later));
+      };
+    }
 
 pub returns-in-Ok : goal.returns-in-Ok
 returns-in-Ok g c = record {
   asked = record {
-    told = λ held before now. tt;
-    keeps = tt;
+    told = λ disk. tt;
     is_deck = c.in-Ok.ensures.deck;
     sound = c.in-Ok.ensures.sound.0;
     task_is = c.in-Execute.is;
     untold = c.in-Ok.ensures.sound.1;
-    telling = c.deck_of.ensures.deck_telling;
-    telling_out = c.deck_of.ensures.out_telling;
-    later = c.deck_of.ensures.deck_later;
-    later_out = c.deck_of.ensures.out_later;
+    goes_on = ((c.deck_of.ensures.deck_telling, c.deck_of.ensures.deck_later), (c.deck_of.ensures.out_telling, c.deck_of.ensures.out_later));
   };
 }
 
@@ -82,57 +66,44 @@ returns-in-Err g c =
     let task = Execute c.in-Execute.workers c.in-Execute.trace in
     record {
       asked = record {
-        told = λ held before now. told_for task c.args.task _ _ _ _ _ _ _ _ _ _ _ _ _ _ (sym c.in-Execute.is)
-            (told_unread c.in-Execute.workers c.in-Execute.trace c.in-Err.status _ _ _ _ held before now _ _ _ _ c.in-Err.ensures.refused c.in-Err.ensures.output c.in-Err.ensures.front c.in-Err.ensures.cause);
-        keeps = keeps_for task c.args.task _ _ _ _ _ _ _ _ _ (sym c.in-Execute.is) (record {
+        told = λ disk. told_for task c.args.task _ _ _ _ (sym c.in-Execute.is) (told_unread c.in-Execute.workers c.in-Execute.trace c.in-Err.status _ _ disk c.in-Err.ensures.refused c.in-Err.ensures.output
+            c.in-Err.ensures.front c.in-Err.ensures.cause (record {
           aside = λ q. absurd q;
           check = λ q. no_check task _ tt q;
-          answer = λ l. refl;
-          changed = λ t. inl refl;
+          answer = λ l. tt;
+          changed = λ t. inl tt;
           untold = c.in-Err.ensures.untold;
-        });
+        }) ((c.deck_of.ensures.deck_telling, c.deck_of.ensures.deck_later), (c.deck_of.ensures.out_telling, c.deck_of.ensures.out_later)));
         is_deck = λ t. tt;
         sound = tt;
         task_is = tt;
         untold = tt;
-        telling = c.deck_of.ensures.deck_telling;
-        telling_out = c.deck_of.ensures.out_telling;
-        later = c.deck_of.ensures.deck_later;
-        later_out = c.deck_of.ensures.out_later;
+        goes_on = ((c.deck_of.ensures.deck_telling, c.deck_of.ensures.deck_later), (c.deck_of.ensures.out_telling, c.deck_of.ensures.out_later));
       };
     }
 
 pub returns-in-Generate : goal.returns-in-Generate
 returns-in-Generate g c =
     let task = Generate c.in-Generate.seed c.in-Generate.count c.in-Generate.text in
+    let it = c.make.ensures in
     record {
       asked = record {
-        told = λ held before now. told_for task c.args.task _ _ _ _ _ _ _ _ _ _ _ _ _ _ (sym c.in-Generate.is) (record {
-          replied = λ a t u. c.make.ensures.replied (g.R.Source.left c.args.deck.now) held.files a;
-          usage = λ q. absurd (c.make.ensures.no_usage q);
+        told = λ disk. told_for task c.args.task _ _ _ _ (sym c.in-Generate.is) (told_without task c.make.result _ _ disk (λ a t. it.replied (g.R.Source.left c.args.deck.now) disk.held.files a) (record {
+          usage = λ q. absurd (it.no_usage q);
           no_form = λ q. no_words task _ tt q;
           ended = λ t. ended_by c.make.result _ tt;
-          refused = λ t. c.make.ensures.refused;
-          fault = λ t u. fault_by c.make.result _ (λ line e. tt);
-          written = λ t u. write_by c.make.result _ (λ e. tt);
-          front = λ t u w. inl (c.make.ensures.front (g.R.Source.left c.args.deck.now) held.files w);
-          cause = cause_more c.make.result _ _ _ _ _ _ (λ x. absurd x) (λ x. x) (λ x. x) c.make.ensures.cause;
-          fine = λ x y z. fine_by c.make.result _ _ _ c.make.ensures.cause (λ b. b) y (λ b. b);
-        });
-        keeps = keeps_for task c.args.task _ _ _ _ _ _ _ _ _ (sym c.in-Generate.is) (record {
-          aside = λ q. (refl, refl);
+          refused = λ t. it.refused;
+        }) (λ t e. tt) (λ t w. it.front (g.R.Source.left c.args.deck.now) disk.held.files w) (cause_more c.make.result _ _ _ _ _ _ (λ x. absurd x) (λ x. x) (λ x. x) it.cause) (record {
+          aside = λ q. (refl, tt);
           check = λ q. no_check task _ tt q;
-          answer = λ l. refl;
-          changed = λ t. inl refl;
-          untold = λ e. no_read c.make.result _ _ _ c.make.ensures.cause e;
-        });
+          answer = λ l. tt;
+          changed = λ t. inl tt;
+          untold = λ e. no_read c.make.result _ _ _ it.cause e;
+        }) (((λ t. t, λ t. t), omega arith), (it.telling, it.later)));
         is_deck = λ t. tt;
         sound = tt;
         task_is = tt;
         untold = tt;
-        telling = (λ t. t, λ t. t);
-        telling_out = c.make.ensures.telling;
-        later = omega arith;
-        later_out = c.make.ensures.later;
+        goes_on = (((λ t. t, λ t. t), omega arith), (it.telling, it.later));
       };
     }

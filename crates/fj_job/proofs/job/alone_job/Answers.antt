@@ -1,28 +1,17 @@
-use Rattle.std.proofs.Common.{◌∙◌, ap}
+use Rattle.std.proofs.Common.{◌∙◌, ap, refl, arith}
 use Rattle.fj_job.specs.Task.{alone_task}
-use Rattle.fj_job.proofs.AskedLaws.{answered_told, answered_keeps, executed_told, executed_keeps}
+use Rattle.fj_job.proofs.AskedLaws.{answered_told, executed_told}
+use Rattle.fj_job.proofs.ToldLaws.{told_nothing}
 use Rattle.fj_job.proofs.job.alone_job.Goals as goal
 
-pub returns-in-Answered-clause-told : goal.returns-in-Answered-clause-told
-returns-in-Answered-clause-told g c =
-    let asked = rw c.in-Answered.is at c.answer.ensures.asked in
-    answered_told g.R.Source.tells g.R.Source.left g.R.Source.count g.W.Sink.tells g.W.Sink.taken g.W.Sink.count g.D.Disk.tells g.D.Disk.held g.D.Disk.count g.D.Disk.refusals _ _
-    (c.alone_task.ensures ∙ ap alone_task c.in-Ok.ensures) _ _ _ _ _ _ asked
+pub returns-in_default : goal.returns-in_default
+returns-in_default g c = told_nothing _ _ _ _ refl refl refl refl (((λ t. t, λ t. t), omega arith), ((λ t. t, λ t. t), omega arith), ((λ t. t, λ t. t), omega arith))
 
-pub returns-in-Answered-clause-keeps : goal.returns-in-Answered-clause-keeps
-returns-in-Answered-clause-keeps g c =
-    let asked = rw c.in-Answered.is at c.answer.ensures.asked in
-    answered_keeps g.R.Source.tells g.R.Source.left g.R.Source.count g.W.Sink.tells g.W.Sink.taken g.W.Sink.count g.D.Disk.tells g.D.Disk.held g.D.Disk.count g.D.Disk.refusals _ _
-    (c.alone_task.ensures ∙ ap alone_task c.in-Ok.ensures) _ _ _ _ _ _ asked
+pub returns-in-Answered : goal.returns-in-Answered
+returns-in-Answered g c =
+    answered_told _ _ _ _ _ _ (c.alone_task.ensures ∙ ap alone_task c.in-Ok.ensures) (rw c.in-Answered.is at c.answer.ensures.asked) refl refl ((λ t. t, λ t. t), omega arith) c.requires
 
-pub returns-in-Deck-clause-told : goal.returns-in-Deck-clause-told
-returns-in-Deck-clause-told g c =
-    let asked = rw c.in-Deck.is at c.answer.ensures.asked in
-    executed_told g.R.Source.tells g.R.Source.left g.R.Source.count g.W.Sink.tells g.W.Sink.taken g.W.Sink.count g.D.Disk.tells g.D.Disk.held g.D.Disk.count g.D.Disk.refusals _ _
-    (c.alone_task.ensures ∙ ap alone_task c.in-Ok.ensures) _ _ _ _ _ _ _ _ asked _ _ _ c.execute.ensures.executed
-
-pub returns-in-Deck-clause-keeps : goal.returns-in-Deck-clause-keeps
-returns-in-Deck-clause-keeps g c =
-    let asked = rw c.in-Deck.is at c.answer.ensures.asked in
-    executed_keeps g.R.Source.tells g.R.Source.left g.R.Source.count g.W.Sink.tells g.W.Sink.taken g.W.Sink.count g.D.Disk.tells g.D.Disk.held g.D.Disk.count g.D.Disk.refusals _ _
-    (c.alone_task.ensures ∙ ap alone_task c.in-Ok.ensures) _ _ _ _ _ _ _ _ asked _ _ _ c.execute.ensures.executed
+pub returns-in-Deck : goal.returns-in-Deck
+returns-in-Deck g c =
+    executed_told _ _ _ g.D.Disk.tells g.D.Disk.held g.D.Disk.count g.D.Disk.refusals _ _ (c.alone_task.ensures ∙ ap alone_task c.in-Ok.ensures) _ _ _ _ _ _
+    (rw c.in-Deck.is at c.answer.ensures.asked) _ _ _ _ c.execute.ensures.executed
