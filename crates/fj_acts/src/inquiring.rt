@@ -34,7 +34,7 @@ use fj_bay::Job;
 use fj_connect::Look;
 use fj_inquire::{Connected, inquire_file, inquire_unit};
 use fj_items::{Lost, number_given};
-use fj_list::{Cells, Moved};
+use fj_list::Cells;
 use fj_modes::{Asked, FileName, Question, Subject, UnitRef};
 use fj_outside::{Disk, FileStore};
 use fj_pending::{Held, Pendings};
@@ -110,7 +110,6 @@ fn has_pending(pending: &Pendings, number: u32, id: Option<i64>) -> bool
 
 /// Gives the variables their answers. `Unfit`: a variable is not of the kind of its answers; then nothing is answered.
 fn give_answers(
-    alloc: Global,
     variables: &Variables,
     asked: &Asked,
     cells: Cells,
@@ -127,17 +126,13 @@ fn give_answers(
     if !are_suited(variables, asked) {
         return Err(Lost::Unfit);
     }
-    store.give_back(Moved {
-        cells,
-        order: Items::new(alloc),
-    });
+    store.give_back(cells);
     Ok(())
 }
 
 /// The variables get their answers, and the statement ends.
 #[tactic(auto, using(crate::proofs::StateLemmas::answers_kept))]
 fn answer<F: FileStore>(
-    alloc: Global,
     variables: &Variables,
     asked: &Asked,
     cells: Cells,
@@ -155,7 +150,7 @@ fn answer<F: FileStore>(
     ensures keeps { IsKept variables.now core.old → OnOk result (IsKept variables.now core.new) }
     ensures fits { All (IsAsked variables.now) asked.now → result ≢ Err Lost.Unfit }
 {
-    give_answers(alloc, variables, asked, cells, &mut core.store)?;
+    give_answers(variables, asked, cells, &mut core.store)?;
     Ok(Doing::Finishes(Condition::Fine))
 }
 
@@ -218,12 +213,12 @@ fn answer_other<D: Disk>(
     match subject {
         Subject::Unit(_) => {
             inquire_unit(alloc, 0, None, None, false, asked, &mut cells)?;
-            answer(alloc, variables, asked, cells, core)
+            answer(variables, asked, cells, core)
         }
         Subject::File(name) => {
             let there = is_there(name, &core.names, disk)?;
             inquire_file(alloc, name, there, None, None, false, asked, &mut cells)?;
-            answer(alloc, variables, asked, cells, core)
+            answer(variables, asked, cells, core)
         }
     }
 }
@@ -290,7 +285,7 @@ pub(crate) fn answer_look<F: FileStore>(
     let id = number_given(&core.store, id);
     let pending = has_pending(&core.pending, number, id);
     let cells = told_of(alloc, number, unit, look, pending, asked)?;
-    answer(alloc, variables, asked, cells, core)
+    answer(variables, asked, cells, core)
 }
 
 /// INQUIRE: of a connected unit with a look at its connection, where it asks what only that knows.

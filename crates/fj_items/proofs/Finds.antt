@@ -30,7 +30,7 @@ use Rattle.fj_store.specs.Pieces.{cells_from, places_among, sizes}
 use Rattle.fj_store.specs.Places.{is_among, places_of as run_places_of, places_in}
 use Rattle.fj_store.specs.Storage.{Storage, value_at, cell_at, without, values_of}
 use Rattle.fj_store.specs.Variables.{Variables, moved_of}
-use Rattle.fj_store.proofs.LawLemmas.{out_at}
+use Rattle.fj_store.proofs.LawLemmas.{out_at, all_distinct}
 use Rattle.fj_store.proofs.PlaceLemmas.{length-counted_from}
 use Rattle.fj_store.proofs.StoreLemmas.{whole}
 use Rattle.fj_plain.specs.Items as plain
@@ -119,7 +119,7 @@ numbered cells moved made few =
     let c : IsCounted (moved_of cells) (length cells) = items_counted cells in
     let items : length (moved_of cells).order < 2 ^ 32 = let e = c.items in omega (arith, e, few) in
     let low : length (moved_of cells).cells < 2 ^ 32 = let e = c.cells in omega (arith, e, few) in
-    subst IsNumbered (sym made) (record { ordered = c.ordered; few = items; cells = low })
+    subst IsNumbered (sym made) (record { distinct = all_distinct cells (record { cells = []; order = [] }) refl; ordered = c.ordered; few = items; cells = low })
 
 pub length-cells : (s : Storage) (n : ℕ) (pieces : List Piece) → length (cells_from s n pieces) ≡ sizes pieces
 length-cells s n [] = refl

@@ -6,6 +6,7 @@ use Rattle.std.proofs.lemmas.Bool.Decides.{nat_tests}
 use Rattle.std.proofs.lemmas.List.Elements.{All-push}
 use Rattle.std.specs.Prelude.{ℤ, unwrap_or}
 use Rattle.std.specs.List.{position_or_len}
+use Rattle.std.specs.Option.{option_map_or}
 use Rattle.fj_value.specs.declared.place.Place.{Place}
 use Rattle.fj_value.specs.declared.value.Cell.{Cell}
 use Rattle.fj_value.specs.declared.value.Value.{Value}
@@ -148,6 +149,11 @@ pub size_cell : (variables : List Variable) (s : Storage) (size : Option Place) 
     → Some moved ≡ option_map (λ p. moved_of (plain.cell_at variables (values_of s) p ∷ [])) size
 size_cell variables s size place moved e kinds made =
     ap (λ m. Some m) (made ∙ ap (λ c. moved_of (c ∷ [])) (cell_same variables s place kinds)) ∙ ap (option_map (λ p. moved_of (plain.cell_at variables (values_of s) p ∷ []))) (sym e)
+
+pub one_cell : (variables : List Variable) (vars : Variables) (at : Option Place) (size : Option Moved) → size ≡ option_map (λ p. moved_of (plain.cell_at variables vars p ∷ [])) at
+    → option_map_or (λ (m : Moved). length m.cells) size 1 ≡ 1
+one_cell variables vars None size e = ap (λ o. option_map_or (λ (m : Moved). length m.cells) o 1) e
+one_cell variables vars (Some p) size e = ap (λ o. option_map_or (λ (m : Moved). length m.cells) o 1) e
 
 pub size_values : (variables : List Variable) (s new : Storage) (size : Option Place) (place : Place) (run : Run) → size ≡ Some place → places_of run ≡ place ∷ [] → new ≡ without (places_in (run ∷ [])) s
     → values_of new ≡ with_size variables size None (values_of s)

@@ -1,6 +1,6 @@
 -- The items of a transfer as pieces, one for each item, and for each variable of a group.
 use Rattle.std.specs.Prelude.{ℕ, ◌≡◌, ◌<◌, ◌^◌, List, [], ◌∷◌, ◌++◌, length, map, All, IsSome}
-use Rattle.fj_list.specs.Moved.{IsOrdered}
+use Rattle.fj_list.specs.Moved.{AreDistinct, IsOrdered}
 use Rattle.fj_list.specs.declared.moved.Moved.{Moved}
 use Rattle.fj_value.specs.declared.place.Place.{Place}
 use Rattle.fj_store.specs.declared.piece.Piece.{Piece}
@@ -56,8 +56,9 @@ abbrev pub count_of : List Variable → Operand → ℕ
 count_of variables (operand.Literal kind value) = 1
 count_of variables item = length (operand_places variables item)
 
--- each item has a cell, and items and cells have numbers of 32 bits
+-- each item has a cell, no two cells have the same place, and items and cells have numbers of 32 bits
 pub record IsNumbered (moved : Moved) : Type 0 where
+  pub distinct : AreDistinct moved.cells
   pub ordered : IsOrdered moved
   pub few : length moved.order < 2 ^ 32
   pub cells : length moved.cells < 2 ^ 32

@@ -97,7 +97,8 @@ pub fn give_cells(
         return Err(Lost::Unfit);
     }
     let count = job.count;
-    store.give_back(job.moved);
+    let moved = job.moved;
+    store.give_back(moved.cells);
     set_size(variables, store, size, count);
     Ok(())
 }

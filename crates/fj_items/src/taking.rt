@@ -1,5 +1,7 @@
 // A READ or WRITE as a job: its items are moved or copied out of the variables.
 ghost use Rattle.std.specs.Prelude.{◌≡◌, ◌≢◌, ◌∷◌, [], length, map, true, false, None, unwrap_or, option_map, List, All, Err, IsSome, IfSome, IfOk, OnOk};
+ghost use Rattle.std.specs.Option.{option_map_or};
+ghost use Rattle.fj_list.specs.declared.moved.Moved.{Moved as MovedCells};
 ghost use Rattle.fj_bay.specs.Jobs.{items_for};
 ghost use Rattle.fj_bay.specs.Plain.{moving_of as job_of};
 ghost use Rattle.fj_namelist.specs.GroupText.{IsWithin};
@@ -119,7 +121,8 @@ fn job_with(
     t: &Transfer,
     parts: Parts,
 ) -> Result<Moving, Lost>
-    requires { IsNumbered parts.moved }
+    requires numbered { IsNumbered parts.moved }
+    requires single { option_map_or (λ (size : MovedCells). length size.cells) parts.size 1 ≡ 1 }
     ensures job { IfOk result (λ job. job_of job ≡ record {
       stmt = line;
       tag = tag.0;

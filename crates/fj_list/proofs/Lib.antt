@@ -17,3 +17,4 @@ pub mod Constants
 mod ListLaws
 pub mod ItemLemmas
 pub mod Cutting
+pub mod MovedLemmas

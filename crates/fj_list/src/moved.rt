@@ -1,13 +1,14 @@
 // The cells of a statement's items.
 use fj_value::{Cell, Items, Kind, Text};
 
-/// Cells with distinct places.
+/// Cells, by their number from 0 on.
 pub type Cells = Items<Cell>;
 
 /// The cell of each item of a statement, in the order of the items.
 pub type Order = Items<u32>;
 
-/// The cells that a statement transfers.
+/// The cells that a statement transfers, and which of them each item has. That their places are distinct is a fact of the transfer that has
+/// them.
 #[derive(Debug, Drop)]
 pub struct Moved {
     pub cells: Cells,

@@ -115,8 +115,10 @@ fn give(
     if !all_fit(variables, transfer.moved.cells.as_slice()) {
         return Err(Lost::Unfit);
     }
-    store.give_back(transfer.moved);
-    give_size(variables, store, size, transfer.count)
+    let count = transfer.count;
+    let moved = transfer.moved;
+    store.give_back(moved.cells);
+    give_size(variables, store, size, count)
 }
 
 /// The same of a transfer that was told or not.

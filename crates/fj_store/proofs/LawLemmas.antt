@@ -12,7 +12,9 @@ use Rattle.fj_value.specs.declared.value.Value.TheVariants.{Undefined}
 use Rattle.fj_list.specs.declared.moved.Moved.{Moved}
 use Rattle.fj_store.specs.Kinds.{kind_at, of_kind}
 use Rattle.fj_store.specs.Laws.{AreOfKinds}
-use Rattle.fj_store.specs.Places.{same_place, is_among, has_twice}
+use Rattle.fj_list.specs.Moved.{AreDistinct}
+use Rattle.fj_list.proofs.MovedLemmas.{same_back, parts_false, distinct_more}
+use Rattle.fj_store.specs.Places.{same_place, is_among}
 use Rattle.fj_store.specs.Tables.{element_at, with_element, with_cells}
 use Rattle.fj_store.specs.Variables.{is_at, with_item, moved_from}
 use Rattle.fj_store.specs.Storage.{Storage, value_at, cell_at, emptied, returned}
@@ -33,9 +35,6 @@ gone rows p =
 no_choice : (b : Bool) → cond b None None ≡ (let none : Option Value = None in none)
 no_choice true = refl
 no_choice false = refl
-
-same_back : (p q : Place) → same_place p q ≡ same_place q p
-same_back p q = grind (arith, nat_tests)
 
 pub out_at : (places : List Place) (rows : List (List (Option Value))) (q : Place) → option_flatten (element_at (emptied places rows) q) ≡ cond (is_among places q) None (option_flatten (element_at rows q))
 out_at [] rows q = refl
@@ -64,40 +63,16 @@ position_found (c ∷ cells) p e =
     ] in
     go (same_place p c.place) e
 
-or_false : (a b : Bool) → a ≡ false → b ≡ false → (a || b) ≡ false
-or_false a b ea eb = ap (λ x. x || b) ea ∙ eb
-
-parts_false : (a b : Bool) → (a || b) ≡ false → (a ≡ false) × (b ≡ false)
-parts_false true b e = absurd (false≢true (sym e))
-parts_false false b e = (refl, e)
-
-among_more : (places : List Place) (p q : Place) → is_among places q ≡ false → same_place q p ≡ false → is_among (places ++ p ∷ []) q ≡ false
-among_more [] p q e differ = or_false (same_place q p) false differ refl
-among_more (r ∷ places) p q e differ =
-    let parts = parts_false (same_place q r) (is_among places q) e in
-    or_false (same_place q r) (is_among (places ++ p ∷ []) q) parts.0 (among_more places p q parts.1 differ)
-
-twice_more : (places : List Place) (p : Place) → has_twice places ≡ false → is_among places p ≡ false → has_twice (places ++ p ∷ []) ≡ false
-twice_more [] p once other = refl
-twice_more (q ∷ places) p once other =
-    let parts = parts_false (is_among places q) (has_twice places) once in
-    let apart = parts_false (same_place p q) (is_among places p) other in
-    or_false (is_among (places ++ p ∷ []) q) (has_twice (places ++ p ∷ [])) (among_more places p q parts.0 (same_back q p ∙ apart.0)) (twice_more places p parts.1 apart.1)
-
-places_more : (cells : List Cell) (cell : Cell) → map (λ (c : Cell). c.place) (cells ++ cell ∷ []) ≡ map (λ (c : Cell). c.place) cells ++ cell.place ∷ []
-places_more [] cell = refl
-places_more (c ∷ cells) cell = ap (λ ps. c.place ∷ ps) (places_more cells cell)
-
-item_distinct : (moved : Moved) (cell : Cell) → has_twice (map (λ (c : Cell). c.place) moved.cells) ≡ false → has_twice (map (λ (c : Cell). c.place) (with_item moved cell).cells) ≡ false
+item_distinct : (moved : Moved) (cell : Cell) → AreDistinct moved.cells → AreDistinct (with_item moved cell).cells
 item_distinct moved cell once =
-    let go : (b : Bool) → eqb (position_or_len (is_at cell.place) moved.cells) (length moved.cells) ≡ b → has_twice (map (λ (c : Cell). c.place) (cond b (moved.cells ++ cell ∷ []) moved.cells)) ≡ false =
-    λ b. elim b as (λ z. eqb (position_or_len (is_at cell.place) moved.cells) (length moved.cells) ≡ z → has_twice (map (λ (c : Cell). c.place) (cond z (moved.cells ++ cell ∷ []) moved.cells)) ≡ false) [
-      | true ↦ λ e. ap has_twice (places_more moved.cells cell) ∙ twice_more (map (λ (c : Cell). c.place) moved.cells) cell.place once (position_found moved.cells cell.place e)
+    let go : (b : Bool) → eqb (position_or_len (is_at cell.place) moved.cells) (length moved.cells) ≡ b → AreDistinct (cond b (moved.cells ++ cell ∷ []) moved.cells) =
+    λ b. elim b as (λ z. eqb (position_or_len (is_at cell.place) moved.cells) (length moved.cells) ≡ z → AreDistinct (cond z (moved.cells ++ cell ∷ []) moved.cells)) [
+      | true ↦ λ e. distinct_more moved.cells cell once (position_found moved.cells cell.place e)
       | false ↦ λ e. once
     ] in
     go (eqb (position_or_len (is_at cell.place) moved.cells) (length moved.cells)) refl
 
-pub all_distinct : (items : List Cell) (moved : Moved) → has_twice (map (λ (c : Cell). c.place) moved.cells) ≡ false → has_twice (map (λ (c : Cell). c.place) (moved_from moved items).cells) ≡ false
+pub all_distinct : (items : List Cell) (moved : Moved) → AreDistinct moved.cells → AreDistinct (moved_from moved items).cells
 all_distinct [] moved once = once
 all_distinct (cell ∷ items) moved once = all_distinct items (with_item moved cell) (item_distinct moved cell once)
 

@@ -25,6 +25,7 @@ use Rattle.fj_store.specs.Variables.{is_at, with_item, moved_from, moved_of}
 use Rattle.fj_store.specs.Storage.{Storage, storage, value_in, value_at, cell_at, emptied, without}
 use Rattle.fj_store.specs.declared.taken.Taken.{Taken}
 use Rattle.fj_store.specs.Taking.{Taking, HasRoom, taken_by, take_one, take_all, take_runs}
+use Rattle.fj_list.proofs.MovedLemmas.{same_back}
 use Rattle.fj_store.proofs.TableLemmas.{same_fields, at_same, at_other, places_tell, with_itself, mapped_at, mapped_with}
 
 -- ---- one list of places in place of runs
@@ -113,9 +114,6 @@ other_mark slots cells cell x q w other back e =
     ∙ ap (λ n. slot_for (cond (eqb (position_or_len (is_at q) cells) (length cells)) (length cells + cond (same_place q cell.place) 0 1) (position_or_len (is_at q) cells)) n w) (length-append cells (cell ∷ []))
     ∙ ap (λ b. slot_for (cond (eqb (position_or_len (is_at q) cells) (length cells)) (length cells + cond b 0 1) (position_or_len (is_at q) cells)) (length cells + 1) w) back
     ∙ mark_other (position_or_len (is_at q) cells) (length cells) w (position_low (is_at q) cells)))
-
-same_back : (p q : Place) → same_place p q ≡ same_place q p
-same_back p q = grind (arith, nat_tests)
 
 takes_new : (start : List (List Slot)) (t : Taking) (cell : Cell) → Marks start t.slots t.cells → element_at t.slots cell.place ≡ Some (Home cell.value)
     → eqb (position_or_len (is_at cell.place) t.cells) (length t.cells) ≡ true → position_or_len (is_at cell.place) t.cells ≡ length t.cells

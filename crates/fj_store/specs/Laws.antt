@@ -4,7 +4,8 @@ use Rattle.fj_value.specs.declared.place.Place.{Place}
 use Rattle.fj_value.specs.declared.value.Cell.{Cell}
 use Rattle.fj_value.specs.declared.value.Value.{Value}
 use Rattle.fj_store.specs.Kinds.{kind_at, of_kind}
-use Rattle.fj_store.specs.Places.{is_among, has_twice}
+use Rattle.fj_list.specs.Moved.{AreDistinct}
+use Rattle.fj_store.specs.Places.{is_among}
 use Rattle.fj_store.specs.Variables.{moved_of}
 use Rattle.fj_store.specs.Storage.{Storage, value_at, cell_at, without, given_back}
 use Rattle.fj_store.specs.Tables.{element_at}
@@ -15,7 +16,7 @@ AreOfKinds s = (p : Place) (v : Value) → value_at s p ≡ Some v → of_kind (
 
 -- the cells of a statement have distinct places, whatever its items are
 abbrev pub CellsAreDistinct : Type 0
-CellsAreDistinct = (items : List Cell) → has_twice (map (λ (cell : Cell). cell.place) (moved_of items).cells) ≡ false
+CellsAreDistinct = (items : List Cell) → AreDistinct (moved_of items).cells
 
 -- just the places that are taken out have no value, and all others keep theirs
 abbrev pub JustTheseAreOut : Type 0

@@ -1,19 +1,9 @@
 -- Places, and runs of them.
-use Rattle.std.specs.Prelude.{ℕ, zero, suc, ◌+◌, ◌==◌, ◌&&◌, ◌||◌, Bool, false, List, [], ◌∷◌}
-use Rattle.std.specs.List.{list_any, flat_map}
+use Rattle.std.specs.Prelude.{ℕ, zero, suc, ◌+◌, List, [], ◌∷◌}
+use Rattle.std.specs.List.{flat_map}
 use Rattle.fj_value.specs.declared.place.Place.{Place}
 use Rattle.fj_store.specs.declared.run.Run.{Run}
-
-abbrev pub same_place : Place → Place → Bool
-same_place a b = (a.var == b.var) && (a.index == b.index)
-
-abbrev pub is_among : List Place → Place → Bool
-is_among places place = list_any (same_place place) places
-
--- a place stands twice
-abbrev pub has_twice : List Place → Bool
-has_twice [] = false
-has_twice (place ∷ places) = is_among places place || has_twice places
+pub use Rattle.fj_list.specs.Moved.{same_place, is_among, has_twice}
 
 -- so many places of a variable from an index on
 abbrev pub counted_from : ℕ → ℕ → ℕ → List Place

@@ -18,7 +18,7 @@ use crate::run::Run;
 use crate::slot::Slot;
 use crate::table::Table;
 use crate::taken::{add_cell, count_of, room_for, take_pieces, take_places};
-use fj_list::Moved;
+use fj_list::{Cells, Moved};
 use fj_value::{Cell, Items, Kind, Place, Value};
 use std::alloc::{AllocError, Global};
 use std::collections::VecDeque;
@@ -213,9 +213,9 @@ impl Store {
     }
 
     /// Puts the values of cells back to their places. One of another kind than its place leaves that undefined.
-    pub fn give_back(&mut self, moved: Moved)
-        ensures { self.new ≡ given_back moved.cells self.old }
+    pub fn give_back(&mut self, cells: Cells)
+        ensures { self.new ≡ given_back cells self.old }
     {
-        put_back(&mut self.slots, &self.kinds, moved.cells.into_vec());
+        put_back(&mut self.slots, &self.kinds, cells.into_vec());
     }
 }

@@ -137,7 +137,7 @@ fn items_come_back(rt: HostRuntime) -> Result<(), Fail> {
     let mut moved = moved;
     put(&mut moved, 1, C1, Value::Int(8));
     put(&mut moved, 2, C2, Value::Log(true));
-    store.give_back(moved);
+    store.give_back(moved.cells);
     assert!(rt; has(&store, A, 7) && has(&store, C1, 8));
     assert!(rt; is_undefined(&store, C2) && is_undefined(&store, C3));
     Ok(())

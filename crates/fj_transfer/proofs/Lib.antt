@@ -13,3 +13,4 @@ pub mod NumberedLemmas
 pub mod GroupLemmas
 pub mod PutLemmas
 pub mod FillLemmas
+pub mod Kept

@@ -1,7 +1,7 @@
 // Outputs under explicit formats, with their records written out by hand.
 ghost use Rattle.std.specs.Prelude.{◌≡◌, ◌<◌, ◌^◌, [], length, All, IfOk};
 ghost use Rattle.fj_value.specs.Kind.{IsOfKind};
-ghost use Rattle.fj_list.specs.Moved.{IsOrdered};
+ghost use Rattle.fj_list.specs.Moved.{AreDistinct, IsOrdered};
 ghost use Rattle.fj_namelist.specs.GroupText.{IsWithin};
 ghost use Rattle.fj_transfer.specs.Moving.{HasValues, members_of};
 ghost use Rattle.fj_transfer.specs.Printing.{IsRecords};
@@ -45,7 +45,8 @@ const NO_CHANGE: EditChange = EditChange {
 };
 
 fn text_cell(alloc: Global, place: Place, bytes: &[u8]) -> Result<Cell, AllocError>
-    ensures { IfOk result (λ cell. IsOfKind cell.kind cell.value) }
+    ensures of_kind { IfOk result (λ cell. IsOfKind cell.kind cell.value) }
+    ensures place { IfOk result (λ cell. cell.place ≡ place) }
 {
     let bytes = &bytes[..bytes.len().min(100)];
     let text = Text::from_bytes(alloc, bytes)?;
@@ -56,10 +57,10 @@ fn text_cell(alloc: Global, place: Place, bytes: &[u8]) -> Result<Cell, AllocErr
     })
 }
 
-fn cell_of(alloc: Global, item: Item) -> Result<Cell, AllocError>
-    ensures { IfOk result (λ cell. IsOfKind cell.kind cell.value) }
+fn cell_of(alloc: Global, place: Place, item: Item) -> Result<Cell, AllocError>
+    ensures of_kind { IfOk result (λ cell. IsOfKind cell.kind cell.value) }
+    ensures place { IfOk result (λ cell. cell.place ≡ place) }
 {
-    let place = Place { var: 0, index: 1 };
     match item {
         I4(n) => Ok(Cell {
             place,
@@ -84,13 +85,18 @@ fn cell_of(alloc: Global, item: Item) -> Result<Cell, AllocError>
 pub fn moved(alloc: Global, items: &[Item], times: u32) -> Result<Moved, AllocError>
     requires { length items.now < 1000 }
     ensures cells { IfOk result (λ moved. length moved.cells ≡ length items.now) }
+    ensures distinct { IfOk result (λ moved. AreDistinct moved.cells) }
     ensures ordered { IfOk result (λ moved. IsOrdered moved) }
     ensures defined { IfOk result (λ moved. HasValues moved) }
 {
     let mut cells = Items::new(alloc);
     let mut order = Items::new(alloc);
     for (at, item) in items.iter().enumerate() {
-        cells.push(cell_of(alloc, *item)?)?;
+        let place = Place {
+            var: 0,
+            index: at as u32 + 1,
+        };
+        cells.push(cell_of(alloc, place, *item)?)?;
         for _ in 0..times {
             order.push(at as u32)?;
         }
@@ -113,6 +119,7 @@ fn layout_of(alloc: Global, format: &[u8]) -> Result<Layout, Fail>
 fn transfer(layout: Layout, moved: Moved, advance: bool, edit: EditChange) -> Transfer
     requires records { IsRecords layout }
     requires grouped { All (IsWithin (length moved.cells)) (members_of layout) }
+    requires distinct { AreDistinct moved.cells }
     requires ordered { IsOrdered moved }
     requires few { length moved.order < 2 ^ 32 }
     requires defined { HasValues moved }

@@ -1,7 +1,9 @@
 // What a READ or WRITE transfers.
 ghost use Rattle.std.specs.Prelude.{◌≡◌, ◌<◌, ◌^◌, false, length, All};
+ghost use Rattle.std.specs.Option.{option_map_or};
 ghost use Rattle.std.proofs.Props.{props};
-ghost use Rattle.fj_list.specs.Moved.{IsOrdered};
+ghost use Rattle.fj_list.specs.Moved.{AreDistinct, IsOrdered};
+ghost use Rattle.fj_list.specs.declared.moved.Moved.{Moved as MovedCells};
 ghost use Rattle.fj_namelist.specs.GroupText.{IsWithin};
 ghost use Rattle.fj_transfer.specs.Moving.{HasValues, members_of};
 
@@ -49,6 +51,10 @@ pub struct Transfer {
     pub size: Option<Moved>,
     /// What SIZE= gets.
     pub count: Option<u64>,
+    /// No two cells have the same place: a variable that is an item twice has one cell, and each place gets back what one cell holds.
+    pub ghost distinct: { AreDistinct moved.cells },
+    /// SIZE= has one cell, where it is given.
+    pub ghost single: { option_map_or (λ (size : MovedCells). length size.cells) size 1 ≡ 1 },
     /// Each item has a cell.
     ghost ordered: { IsOrdered moved } by { Prim.hlevel props },
     /// There are not too many items to count what they take.

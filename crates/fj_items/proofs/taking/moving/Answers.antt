@@ -17,8 +17,14 @@ use Rattle.fj_transfer.specs.declared.transfer.Transfer.{Transfer as Job}
 use Rattle.fj_items.proofs.Finds.{grouped, has_values}
 use Rattle.fj_items.specs.Fitting.{AreKept}
 use Rattle.fj_items.proofs.Keeps.{kept_same, kept_undefined, kept_no_size, on_ok}
-use Rattle.fj_items.proofs.Takes.{if_more, job_parts, moving_is, input_size}
+use Rattle.fj_items.proofs.Takes.{if_more, job_parts, moving_is, input_size, one_cell}
 use Rattle.fj_items.proofs.taking.moving.Goals as goal
+
+pub job_with-requires-clause-single : goal.job_with-requires-clause-single
+job_with-requires-clause-single c = one_cell c.args.variables.now (values_of c.taken.new.store) c.args.t.now.size c.in_ok-size.size c.in_ok-size.ensures.moved
+
+pub job_with-requires-2-clause-single : goal.job_with-requires-2-clause-single
+job_with-requires-2-clause-single c = one_cell c.args.variables.now (values_of c.copied.new.store) c.args.t.now.size c.in_ok-size-2.size c.in_ok-size-2.ensures.moved
 
 pub returns-then-t-clause-job : goal.returns-then-t-clause-job
 returns-then-t-clause-job c =
