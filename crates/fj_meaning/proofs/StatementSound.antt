@@ -1,20 +1,18 @@
 -- What a statement means is sound.
-use Rattle.std.proofs.Common.{◌≡◌, ℕ, ◌+◌, ◌*◌, ◌<◌, ◌≤◌, Bool, true, false, not, ◌&&◌, ◌||◌, cond, List, [], ◌∷◌, ◌++◌, length, map, Option, Some, None, refl, sym, ap, ◌∙◌, subst, arith, eqb, leb, is_some}
-use Rattle.std.specs.Prelude.{All, IsSome, IfSome, slice_get}
+use Rattle.std.proofs.Common.{◌≡◌, ℕ, ◌+◌, ◌*◌, ◌<◌, ◌≤◌, Bool, true, false, not, ◌&&◌, ◌||◌, cond, List, [], ◌∷◌, length, map, Option, Some, None, refl, sym, ap, ◌∙◌, subst, arith, eqb, leb, is_some}
+use Rattle.std.specs.Prelude.{All, IsSome, slice_get}
 use Rattle.std.proofs.lemmas.Option.{slice_get_within, get_or_from_slice_get}
 use Rattle.std.specs.List.{sum_by, list_all, fold}
 use Rattle.std.proofs.lemmas.Bool.{leb-true, eqb-true}
 use Rattle.std.proofs.lemmas.List.Elements.{All-nil, All-cons}
 use Rattle.fj_value.specs.declared.kind.Kind.{Kind}
 use Rattle.fj_value.specs.declared.kind.Kind.TheVariants.{Int4, Int8, Logical, Chars}
-use Rattle.fj_value.specs.declared.value.Value.{Value}
-use Rattle.fj_value.specs.declared.place.Place as places
 use Rattle.fj_value.specs.Kind.{integer_bits, text_length}
 use Rattle.fj_modes.specs.declared.asked.Question.{Question}
 use Rattle.fj_modes.specs.declared.asked.Question.TheVariants as question
 use Rattle.fj_modes.specs.declared.asked.Wanted.{Wanted}
 use Rattle.fj_modes.specs.declared.unit.UnitRef.{UnitRef}
-use Rattle.fj_modes.specs.declared.unit.UnitRef.TheVariants.{Star, Number}
+use Rattle.fj_modes.specs.declared.unit.UnitRef.TheVariants.{Star}
 use Rattle.fj_format.specs.declared.item.FormatItem.{FormatItem}
 use Rattle.fj_format.specs.Unfolding.{has_width_zero}
 use Rattle.fj_statement.specs.declared.statement.Operand as operands
@@ -22,7 +20,7 @@ use Rattle.fj_statement.specs.declared.statement.Operand.TheVariants.{Literal, O
 use Rattle.fj_statement.specs.declared.statement.Statement.{Statement}
 use Rattle.fj_statement.specs.declared.statement.Statement.TheVariants as statement
 use Rattle.fj_statement.specs.declared.statement.Transfer as made
-use Rattle.fj_statement.specs.Sound.{bytes_of, IsOperand, IsIntegerPlace, IsIntegerOperand, IsVariable, Takes, TakesLiteral, Fits, IsAssignment, IsAnswerKind, IsAsked, IsExplicit, IsFormatted, MayHaveRecord, HasNoZeroWidth, HasMembers, HasNoItems, AreItems, IsList, IsAllowed, IsTransfer, IsInquiry, IsSoundStatement}
+use Rattle.fj_statement.specs.Sound.{bytes_of, IsIntegerPlace, IsIntegerOperand, IsVariable, Takes, TakesLiteral, Fits, IsAnswerKind, IsAsked, IsExplicit, IsFormatted, MayHaveRecord, HasNoZeroWidth, HasMembers, HasNoItems, AreItems, IsList, IsAllowed, IsSoundStatement}
 use Rattle.fj_syntax.specs.declared.operand.Designator.{Designator}
 use Rattle.fj_syntax.specs.declared.operand.Operand.{Operand}
 use Rattle.fj_syntax.specs.declared.operand.Operand.TheVariants as operand
@@ -35,17 +33,16 @@ use Rattle.fj_syntax.specs.declared.written.Transfer.{Transfer}
 use Rattle.fj_syntax.specs.declared.written.Written.{Written}
 use Rattle.fj_syntax.specs.declared.written.Written.TheVariants as written
 use Rattle.fj_meaning.specs.declared.operand.Meant.{Meant}
-use Rattle.fj_meaning.specs.declared.items.Chosen.{Chosen}
 use Rattle.fj_meaning.specs.declared.transfer.Parts.{Parts}
 use Rattle.fj_meaning.specs.declared.scope.Found.{Found}
 use Rattle.fj_meaning.specs.declared.scope.Named.{Named}
 use Rattle.fj_meaning.specs.declared.scope.Named.TheVariants as stands_for
 use Rattle.fj_meaning.specs.declared.scope.Scope.{Scope}
 use Rattle.fj_meaning.specs.Giving.{◌>>=◌, optional, each}
-use Rattle.fj_meaning.specs.Operands.{is_integer, is_whole, placed, integer_place, element, whole, part, variable_meant, meant, integer_operand}
+use Rattle.fj_meaning.specs.Operands.{is_whole, placed, integer_place, element, whole, part, variable_meant, meant, integer_operand}
 use Rattle.fj_meaning.specs.Calls.{takes, takes_literal, goes_from, goes_to, assigned, opened, closed, awaited, moved, is_logical, is_characters, suits, wanted, inquired}
 use Rattle.fj_meaning.specs.Transfer.{◌implies◌, given, is_true, is_list_directed, is_explicit, is_place, is_star, changes_some, goes_together, stands_alone, can_be_read, is_allowed, size_of, elements, bytes, are_few, chosen, parts, control_of, assembled, transferred, is_short, of_parts, fits}
-use Rattle.fj_meaning.specs.Meaning.{literal_of, IsFormatOf, meaning, is_within_limits, HasMeaning, format_text}
+use Rattle.fj_meaning.specs.Meaning.{literal_of, IsFormatOf, meaning, is_within_limits, format_text}
 use Rattle.fj_meaning.specs.Scope.{found, members, group_at, named}
 use Rattle.fj_meaning.specs.Sound.{IsSoundScope, MeaningIsSound}
 use Rattle.fj_meaning.proofs.SoundLemmas.{bound, some_is, passed, both, no_is, is_there, placed_is, integer_place_is, variable_is, meant_is, integer_operand_is, given_is, given_same}
@@ -315,8 +312,8 @@ has_members s sound None vars None None h = tt
 -- ---- READ and WRITE
 
 -- what a transfer is made of
-record IsMade (s : Scope) (t : Transfer) (p : Parts) (ms : List Meant) : Type 0 where
-  group : optional (members s) t.control.group ≡ Some p.group
+pub record IsMade (s : Scope) (t : Transfer) (p : Parts) (ms : List Meant) : Type 0 where
+  pub group : optional (members s) t.control.group ≡ Some p.group
   each_is : each (meant s) t.items ≡ Some ms
   items : map what ms ≡ p.items
   few : are_few ms ≡ p.few
@@ -326,7 +323,7 @@ record IsMade (s : Scope) (t : Transfer) (p : Parts) (ms : List Meant) : Type 0 
   size : optional (integer_place s) t.results.size ≡ Some p.size
   iostat : optional (integer_place s) t.results.iostat ≡ Some p.iostat
 
-made_is : (s : Scope) (t : Transfer) (p : Parts) → parts s t ≡ Some p → (ms : List Meant) × IsMade s t p ms
+pub made_is : (s : Scope) (t : Transfer) (p : Parts) → parts s t ≡ Some p → (ms : List Meant) × IsMade s t p ms
 unfolding parts chosen
 made_is s t p h =
     let g = bound (optional (members s) t.control.group) _ p h in

@@ -3,6 +3,7 @@ pub mod DigitLemmas
 pub mod FirstTokenLemmas
 pub mod LineLemmas
 pub mod ParseLemmas
+pub mod NameLemmas
 pub mod ScanLemmas
 pub mod TokenLemmas
 pub mod CutLemmas
