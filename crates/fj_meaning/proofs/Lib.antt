@@ -7,4 +7,5 @@ pub mod Unique
 pub mod SoundLemmas
 pub mod StatementSound
 pub mod NamesSound
+pub mod Deciding
 pub mod ScopeSound

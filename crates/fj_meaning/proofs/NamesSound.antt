@@ -222,7 +222,7 @@ names_group s items (written.Inquire i) m h =
 names_group s items (written.Transfer t) m h =
     let p = bound (parts s t) _ m h in
     let r = passed (is_allowed items t) (Some (statement.Transfer (assembled items t p.0))) m p.2 in
-    subst (NamesGroup (groups_of s)) (some_is (statement.Transfer (assembled items t p.0)) m r.1) (has_group s t.control.group p.0.group t.control.format items (made_is s t p.0 p.1).1.group)
+    subst (NamesGroup (groups_of s)) (some_is (statement.Transfer (assembled items t p.0)) m r.1) (has_group s t.group p.0.group t.format items (made_is s t p.0 p.1).1.group)
 names_group s items written.End m h = subst (NamesGroup (groups_of s)) (some_is statement.End m h) tt
 names_group s items (written.Declaration d) m h = cc
 names_group s items (written.Group g) m h = cc

@@ -17,24 +17,18 @@ use Rattle.fj_syntax.specs.declared.words.Keyword.{Keyword}
 use Rattle.fj_syntax.specs.declared.words.Keyword.TheVariants as keyword
 use Rattle.fj_syntax.specs.declared.written.Written.{Written}
 use Rattle.fj_syntax.specs.declared.written.Written.TheVariants as written
-use Rattle.fj_syntax.specs.Arguments.{call_of, whole_call_of}
+use Rattle.fj_syntax.specs.Arguments.{call_of}
 use Rattle.fj_syntax.specs.Calls.{open_of, close_of, wait_of, move_of, inquire_of, transfer_of}
 use Rattle.fj_syntax.specs.Given.{unit_number}
 use Rattle.fj_syntax.specs.Parsing.{IsWord, NamesAreWords, names_given}
 use Rattle.fj_syntax.specs.Parts.{Tokens, cut, designator_of, is_from_to, is_mark, is_name, list_of, name_of, named, operand_of, parted, with_first}
 use Rattle.fj_syntax.specs.Reading.{◌>>=◌, each}
-use Rattle.fj_syntax.specs.Statement.{assignment_of, begun, begun_by, behind_colons, character_kind, close_from, declaration_of, end_from, group_of, inquire_from, integer_kind, items_of, motion_from, number_in, open_from, transfer_from, value_of, wait_from, written_of}
+use Rattle.fj_syntax.specs.Statement.{assignment_of, begun, begun_by, behind_colons, character_kind, declaration_of, end_from, group_of, integer_kind, items_of, motion_from, number_in, transfer_from, value_of, written_of}
 use Rattle.fj_syntax.specs.Tokens.{AreTokens, IsWritten, none, comment, blank, token as first}
 use Rattle.fj_syntax.specs.Words.{keyword_of}
+use Rattle.fj_syntax.proofs.TokenLemmas.{bound, some_is}
 
 -- ---- steps
-
-bound : {A B : Type 0} (o : Option A) (f : A → Option B) (y : B) → (o >>= f) ≡ Some y → (x : A) × (o ≡ Some x) × (f x ≡ Some y)
-bound None f y h = cc
-bound (Some x) f y h = (x, refl, h)
-
-some_is : {A : Type 0} (x y : A) → Some x ≡ Some y → x ≡ y
-some_is x y h = cc
 
 passed : {A : Type 0} (b : Bool) (o : Option A) (y : A) → cond b o None ≡ Some y → o ≡ Some y
 passed true o y h = h
@@ -149,7 +143,7 @@ gives_none o f s nothing h =
 motion_words : (how : Motion) (ts : Tokens) (s : Written) → motion_from how ts ≡ Some s → GivesWords s
 unfolding motion_from
 motion_words how (Number Unsigned n ∷ []) s h = gives_none (unit_number n) (λ u. written.Move (record { how = how; unit = u; iostat = None })) s (λ x. refl) h
-motion_words how ts s h = let args = bound (whole_call_of ts) _ s h in gives_none (move_of how args.0) written.Move s (λ x. refl) args.2
+motion_words how ts s h = gives_none (move_of how ts) written.Move s (λ x. refl) h
 
 end_words : (ts : Tokens) (s : Written) → end_from ts ≡ Some s → GivesWords s
 unfolding end_from
@@ -174,7 +168,7 @@ assignment_words ts s h =
 -- ---- each statement by its keyword
 
 keyword_words : (k : Keyword) (ts : Tokens) (s : Written) → begun_by k ts ≡ Some s → AreOfLine ts → GivesWords s
-unfolding begun_by open_from close_from wait_from inquire_from
+unfolding begun_by
 keyword_words keyword.Integer ts s h all =
     let n = bound (number_in (codes "KIND") ts) _ s h in
     declaration_words (integer_kind n.0.0) n.0.1 s n.2 (number_are (codes "KIND") ts n.0 n.1 all)
@@ -183,16 +177,16 @@ keyword_words keyword.Character ts s h all =
     let n = bound (number_in (codes "LEN") ts) _ s h in
     declaration_words (character_kind n.0.0) n.0.1 s n.2 (number_are (codes "LEN") ts n.0 n.1 all)
 keyword_words keyword.Namelist ts s h all = group_words ts s h all
-keyword_words keyword.Open ts s h all = gives_none (whole_call_of ts >>= open_of) written.Open s (λ x. refl) h
-keyword_words keyword.Close ts s h all = gives_none (whole_call_of ts >>= close_of) written.Close s (λ x. refl) h
+keyword_words keyword.Open ts s h all = gives_none (open_of ts) written.Open s (λ x. refl) h
+keyword_words keyword.Close ts s h all = gives_none (close_of ts) written.Close s (λ x. refl) h
 keyword_words keyword.Read ts s h all = transfer_words true ts s h
 keyword_words keyword.Write ts s h all = transfer_words false ts s h
-keyword_words keyword.Wait ts s h all = gives_none (whole_call_of ts >>= wait_of) written.Wait s (λ x. refl) h
+keyword_words keyword.Wait ts s h all = gives_none (wait_of ts) written.Wait s (λ x. refl) h
 keyword_words keyword.Backspace ts s h all = motion_words motion.Backspace ts s h
 keyword_words keyword.Rewind ts s h all = motion_words motion.Rewind ts s h
 keyword_words keyword.Endfile ts s h all = motion_words motion.Endfile ts s h
 keyword_words keyword.Flush ts s h all = motion_words motion.Flush ts s h
-keyword_words keyword.Inquire ts s h all = gives_none (whole_call_of ts >>= inquire_of) written.Inquire s (λ x. refl) h
+keyword_words keyword.Inquire ts s h all = gives_none (inquire_of ts) written.Inquire s (λ x. refl) h
 keyword_words keyword.End ts s h all = end_words ts s h
 
 begun_words : (k : Option Keyword) (whole ts : Tokens) (s : Written) → begun k whole ts ≡ Some s → AreOfLine ts → GivesWords s

@@ -1,4 +1,4 @@
-// Laws of the grammar, which hold of every line.
+// Laws of the grammar.
 ghost use Rattle.fj_syntax.specs.Parsing.{OneListOfTokens, OneStatement, BlankIsNoStatement, NamesAreWords};
 
 /// A line has one meaning at most, so that what `parse_line` answers is the only answer.

@@ -24,8 +24,8 @@ pub use operand::{Designator, Operand};
 pub use parse::parse_line;
 pub use token::Sign;
 pub use written::{
-    Asking, Assignment, Changes, Close, Control, Course, Declaration, Format, Group, Inquire, Move,
-    Open, Results, Transfer, Wait, Written,
+    Asking, Assignment, Close, Declaration, Format, Group, Inquire, Move, Open, Transfer, Wait,
+    Written,
 };
 
 #[cfg(test)]
