@@ -1,6 +1,7 @@
 pub mod ClassLemmas
 pub mod DigitLemmas
 pub mod FirstTokenLemmas
+pub mod KnownLemmas
 pub mod LineLemmas
 pub mod ParseLemmas
 pub mod NameLemmas

@@ -1,4 +1,5 @@
 // Laws of the grammar.
+ghost use Rattle.fj_syntax.specs.KnownLaws.{ArgumentsAreTaken};
 ghost use Rattle.fj_syntax.specs.Parsing.{OneListOfTokens, OneStatement, BlankIsNoStatement, NamesAreWords};
 
 /// A line has one meaning at most, so that what `parse_line` answers is the only answer.
@@ -11,4 +12,9 @@ pub fn one_meaning()
 /// Variables and groups are declared with names of up to 63 characters, in upper case.
 pub fn names_are_words()
     ensures { NamesAreWords }
+{}
+
+/// Each statement takes the arguments of its specifiers, and none of another's.
+pub fn arguments_are_taken()
+    ensures { ArgumentsAreTaken }
 {}

@@ -18,7 +18,7 @@ mod words;
 mod written;
 
 pub use fault::SyntaxFault;
-pub use laws::{names_are_words, one_meaning};
+pub use laws::{arguments_are_taken, names_are_words, one_meaning};
 pub use lines::next_line;
 pub use operand::{Designator, Operand};
 pub use parse::parse_line;
