@@ -1,24 +1,27 @@
 -- A deck is sound: what is kept from line to line.
-use Rattle.std.proofs.Common.{◌≡◌, ℕ, ◌+◌, ◌<◌, ◌≤◌, Bool, true, false, ◌||◌, List, [], ◌∷◌, ◌++◌, length, Result, Ok, Err, refl, sym, subst, arith, length-append}
+use Rattle.std.proofs.Common.{◌≡◌, ℕ, ◌+◌, ◌<◌, ◌≤◌, Bool, true, false, ◌||◌, List, [], ◌∷◌, ◌++◌, length, map, Result, Ok, Err, refl, sym, subst, arith, length-append}
 use Rattle.std.specs.Prelude.{All, nat_lt}
 use Rattle.std.specs.Str.Lines.{lines}
 use Rattle.std.proofs.lemmas.Bool.{ltb-false}
-use Rattle.std.proofs.lemmas.List.Elements.{All-nil, All-head, All-tail, All-same, All-push, All-weaker}
-use Rattle.fj_statement.specs.Sound.{AreRising, IsNotEnd, IsSound, IsSoundStatement}
+use Rattle.std.proofs.lemmas.List.Elements.{All-append, All-nil, All-head, All-map, All-tail, All-same, All-push, All-weaker}
+use Rattle.fj_statement.specs.Sound.{AreRising, HasNames, IsName, IsNotEnd, IsSound, IsSoundStatement, NamesGroup}
 use Rattle.fj_statement.specs.declared.deck.Lined.{Lined}
 use Rattle.fj_statement.specs.declared.statement.Statement.{Statement}
 use Rattle.fj_statement.specs.declared.statement.Statement.TheVariants as statement
 use Rattle.fj_syntax.specs.declared.written.Written.{Written}
 use Rattle.fj_syntax.specs.declared.written.Written.TheVariants as written
+use Rattle.fj_syntax.specs.Parsing.{names_given}
 use Rattle.fj_meaning.specs.Declaring.{Declares, Groups, with_declaration, with_group}
-use Rattle.fj_meaning.specs.Sound.{IsSoundScope}
+use Rattle.fj_meaning.specs.Sound.{AreNamed, IsSoundScope, groups_of}
 use Rattle.fj_meaning.specs.declared.fault.Fault.{Fault}
 use Rattle.fj_meaning.specs.declared.scope.Scope.{Scope}
+use Rattle.fj_meaning.proofs.NamesSound.{groups_declared, names_apart}
 use Rattle.fj_meaning.proofs.ScopeSound.{empty_sound, declared_sound, grouped_sound}
 use Rattle.fj_meaning.proofs.StatementSound.{meaning_sound}
 use Rattle.fj_deck.specs.Deck.{AreGood, DecksAreSound}
 use Rattle.fj_deck.specs.Line.{Answer, Adds, Declaring, LineIs, Stating, empty, is_end, is_misplaced, with_names}
 use Rattle.fj_deck.specs.declared.draft.Draft.{Draft}
+use Rattle.fj_deck.proofs.NameLemmas.{names_are}
 
 -- END is the last statement and no other is
 record EndIsLast (ls : List Lined) : Type 0 where
@@ -36,6 +39,7 @@ HasEnd false ls = All (λ l. IsNotEnd l.what) ls
 record IsSoundDraft (number : ℕ) (draft : Draft) : Type 0 where
   names : IsSoundScope draft.names
   statements : All (λ l. IsSoundStatement draft.names.variables l.what) draft.statements
+  grouped : All (λ l. NamesGroup (groups_of draft.names) l.what) draft.statements
   few : length draft.statements ≤ 100000
   rising : AreRising 0 draft.statements
   before : All (λ l. l.line < number) draft.statements
@@ -78,6 +82,7 @@ later : (number : ℕ) (draft : Draft) → IsSoundDraft number draft → IsSound
 later number draft sound = record {
   names = sound.names;
   statements = sound.statements;
+  grouped = sound.grouped;
   few = sound.few;
   rising = sound.rising;
   before = before_next number draft.statements sound.before;
@@ -89,6 +94,7 @@ with_names_sound : (number : ℕ) (draft : Draft) (names : Scope) → draft.ende
 with_names_sound number draft names open_end none sound = record {
   names = sound;
   statements = All-same (λ l. IsSoundStatement names.variables l.what) draft.statements [] none (All-nil (λ l. IsSoundStatement names.variables l.what));
+  grouped = All-same (λ l. NamesGroup (groups_of names) l.what) draft.statements [] none (All-nil (λ l. NamesGroup (groups_of names) l.what));
   few = subst (λ ls. length ls ≤ 100000) (sym none) (omega arith);
   rising = subst (AreRising 0) (sym none) tt;
   before = All-same (λ l. l.line < number) draft.statements [] none (All-nil (λ l. l.line < number));
@@ -106,6 +112,7 @@ stated_sound number draft w answer some open_end sound (Stating.added s means fe
     record {
       names = sound.names;
       statements = All-push (λ l. IsSoundStatement draft.names.variables l.what) draft.statements made sound.statements (meaning_sound draft.names w s sound.names means);
+      grouped = All-push (λ l. NamesGroup (groups_of draft.names) l.what) draft.statements made sound.grouped (groups_declared draft.names w s means);
       few = omega (arith, length-append draft.statements (made ∷ []));
       rising = rising_more 0 draft.statements made sound.rising (omega arith) sound.before;
       before = All-push (λ l. l.line < number + 1) draft.statements made (before_next number draft.statements sound.before) (omega arith);
@@ -114,23 +121,23 @@ stated_sound number draft w answer some open_end sound (Stating.added s means fe
 stated_sound number draft w answer some open_end sound (Stating.full s means many) = tt
 stated_sound number draft w answer some open_end sound (Stating.refused fault means e) = tt
 
-adds_sound : (number : ℕ) (draft : Draft) (w : Written) (answer : Answer) → 1 ≤ number → is_misplaced draft w ≡ false → IsSoundDraft number draft → Adds draft number w answer → IsSoundAnswer (number + 1) answer
-adds_sound number draft (written.Declaration d) answer some placed sound adds =
+adds_sound : (number : ℕ) (draft : Draft) (w : Written) (answer : Answer) → 1 ≤ number → All IsName (names_given w) → is_misplaced draft w ≡ false → IsSoundDraft number draft → Adds draft number w answer → IsSoundAnswer (number + 1) answer
+adds_sound number draft (written.Declaration d) answer some given placed sound adds =
     let free = neither draft.ended (nat_lt 0 (length draft.statements)) placed in
     declaration_sound (number + 1) draft (Declares (with_declaration draft.names number d)) answer free.0 (none_there draft.statements free.1)
-    (λ names is. declared_sound draft.names names number d sound.names is.0 is.1) adds
-adds_sound number draft (written.Group g) answer some placed sound adds =
+    (λ names is. declared_sound draft.names names number d sound.names given is.0 is.1) adds
+adds_sound number draft (written.Group g) answer some given placed sound adds =
     let free = neither draft.ended (nat_lt 0 (length draft.statements)) placed in
     declaration_sound (number + 1) draft (Groups (with_group draft.names number g)) answer free.0 (none_there draft.statements free.1)
-    (λ names is. grouped_sound draft.names names number g sound.names is) adds
-adds_sound number draft w answer some placed sound adds = stated_sound number draft w answer some (not_ended draft w placed) sound adds
+    (λ names is. grouped_sound draft.names names number g sound.names (All-head IsName g.name [] given) is) adds
+adds_sound number draft w answer some given placed sound adds = stated_sound number draft w answer some (not_ended draft w placed) sound adds
 
 line_sound : (line : List ℕ) (number : ℕ) (draft : Draft) (answer : Answer) → 1 ≤ number → IsSoundDraft number draft → LineIs line number draft answer → IsSoundAnswer (number + 1) answer
 line_sound line number draft answer some sound (LineIs.long l) = tt
 line_sound line number draft answer some sound (LineIs.blank short is) = later number draft sound
 line_sound line number draft answer some sound (LineIs.garbled short is) = tt
 line_sound line number draft answer some sound (LineIs.misplaced w short is placed) = tt
-line_sound line number draft answer some sound (LineIs.placed w short is placed adds) = adds_sound number draft w answer some placed sound adds
+line_sound line number draft answer some sound (LineIs.placed w short is placed adds) = adds_sound number draft w answer some (names_are line w is) placed sound adds
 
 lines_sound : (number : ℕ) (draft last : Draft) (text : List (List ℕ)) → 1 ≤ number → IsSoundDraft number draft → AreGood number draft text last → (behind : ℕ) × IsSoundDraft behind last
 lines_sound number draft last [] some sound good = (number, subst (IsSoundDraft number) (sym good) sound)
@@ -141,10 +148,20 @@ start_sound : IsSoundDraft 1 empty
 start_sound = record {
   names = empty_sound;
   statements = All-nil (λ l. IsSoundStatement [] l.what);
+  grouped = All-nil (λ l. NamesGroup [] l.what);
   few = omega arith;
   rising = tt;
   before = All-nil (λ l. l.line < 1);
   ends = All-nil (λ l. IsNotEnd l.what);
+}
+
+has_names : (s : Scope) (ls : List Lined) → AreNamed s → All (λ l. NamesGroup (groups_of s) l.what) ls → HasNames s.variables ls
+has_names s ls are stand = record {
+  groups = groups_of s;
+  are = All-append IsName (map (λ v. v.name) s.variables) (map (λ g. g.0) (groups_of s)) (All-map IsName (λ v. v.name) s.variables are.variable_names)
+      (All-map IsName (λ g. g.0) (groups_of s) (All-map (λ g. IsName g.0) (λ g. (g.name, g.vars)) s.groups are.group_names));
+  apart = names_apart s are;
+  stand = stand;
 }
 
 pub sound_deck : DecksAreSound
@@ -153,6 +170,7 @@ sound_deck text deck is =
     let end : EndIsLast is.last.statements = subst (λ b. HasEnd b is.last.statements) is.ended sound.ends in
     subst IsSound (sym is.is) (record {
       variables = sound.names.within;
+      names = has_names is.last.names is.last.statements sound.names.names sound.grouped;
       statements = sound.statements;
       few = sound.few;
       rising = sound.rising;

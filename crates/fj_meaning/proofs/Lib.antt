@@ -6,4 +6,6 @@ pub mod Transferring
 pub mod Unique
 pub mod SoundLemmas
 pub mod StatementSound
+pub mod NamesSound
+pub mod Deciding
 pub mod ScopeSound

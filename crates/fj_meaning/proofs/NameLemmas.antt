@@ -108,7 +108,7 @@ either_new None groups false n h = refl
 either_new (Some m) groups true n h = absurd (let e : Some (stands_for.Variable m) ≡ None = h refl in cc)
 either_new (Some m) groups false n h = refl
 
-none_at : (s : Scope) (name other : List ℕ) → named s other ≡ None → bytes_eq name other ≡ true → named s name ≡ None
+pub none_at : (s : Scope) (name other : List ℕ) → named s other ≡ None → bytes_eq name other ≡ true → named s name ≡ None
 none_at s name other h e = ap (named s) (same name other e) ∙ h
 
 pub named_variable : (s : Scope) (v : Variable) (name : List ℕ) → named s v.name ≡ None →
@@ -177,14 +177,14 @@ and_moves : (a b c : Bool) → (a && (b && c)) ≡ ((a && b) && c)
 and_moves true b c = refl
 and_moves false b c = refl
 
-are_new_more : (s : Scope) (v : Variable) (names : List (List ℕ)) → is_free s v.name ≡ true → are_new s (v.name ∷ names) ≡ are_new (more_variables s v) names
+pub are_new_more : (s : Scope) (v : Variable) (names : List (List ℕ)) → is_free s v.name ≡ true → are_new s (v.name ∷ names) ≡ are_new (more_variables s v) names
 are_new_more s v names h =
     let apart = list_any (λ other. bytes_eq other v.name) names in
     ap (λ b. (b && list_all (is_free s) names) && (not apart && are_apart names)) h
     ∙ and_moves (list_all (is_free s) names) (not apart) (are_apart names)
     ∙ ap (λ b. b && are_apart names) (sym (all_free_more s v names (free_is_none s v.name h)))
 
-with_more : (s : Scope) (line : ℕ) (kind : Kind) (d : Designator) (ds : List Designator) →
+pub with_more : (s : Scope) (line : ℕ) (kind : Kind) (d : Designator) (ds : List Designator) →
     with_variables s line kind (d ∷ ds) ≡ with_variables (more_variables s (variable line kind d)) line kind ds
 with_more s line kind d ds =
     ap (λ (vs : List Variable). let t : Scope = record s { variables = vs } in t) (sym (append_assoc s.variables (variable line kind d ∷ []) (map (variable line kind) ds)))

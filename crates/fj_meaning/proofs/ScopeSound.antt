@@ -1,21 +1,21 @@
 -- What is declared is sound.
-use Rattle.std.proofs.Common.{◌≡◌, ℕ, ◌+◌, ◌*◌, ◌<◌, ◌≤◌, true, List, [], ◌∷◌, ◌++◌, length, map, Option, Some, refl, sym, ap, ◌∙◌, subst, arith, leb, ◌&&◌, length-append}
-use Rattle.std.specs.Prelude.{All, max, unwrap_or}
+use Rattle.std.proofs.Common.{◌≡◌, ℕ, ◌+◌, ◌<◌, ◌≤◌, true, List, [], ◌∷◌, ◌++◌, length, map, Some, refl, subst, arith, leb, ◌&&◌, length-append}
+use Rattle.std.specs.Prelude.{All}
 use Rattle.std.specs.List.{sum_by}
 use Rattle.std.proofs.lemmas.Bool.{leb-true}
 use Rattle.std.proofs.lemmas.List.Elements.{All-nil, All-cons, All-append}
 use Rattle.std.proofs.lemmas.Option.{slice_get_within}
-use Rattle.fj_value.specs.Kind.{text_length}
 use Rattle.fj_statement.specs.declared.deck.Variable.{Variable}
 use Rattle.fj_statement.specs.Sound.{AreWithin}
-use Rattle.fj_syntax.specs.declared.operand.Designator.{Designator}
 use Rattle.fj_meaning.specs.declared.scope.Namelist.{Namelist}
 use Rattle.fj_meaning.specs.declared.scope.Scope.{Scope}
 use Rattle.fj_meaning.specs.Declaring.{is_free, are_new, variable, with_variables, with_declaration, number_of, with_group, places, characters, is_within}
 use Rattle.fj_meaning.specs.Giving.{each}
 use Rattle.fj_meaning.specs.Scope.{empty, found}
-use Rattle.fj_meaning.specs.Sound.{IsSoundScope, EmptyIsSound, DeclaredIsSound, GroupedIsSound}
+use Rattle.fj_meaning.specs.Sound.{AreNamed, IsSoundScope, EmptyIsSound, DeclaredIsSound, GroupedIsSound}
 use Rattle.fj_meaning.proofs.SoundLemmas.{bound, some_is, passed, both, FoundIs, found_is}
+use Rattle.fj_meaning.proofs.NameLemmas.{free_is_none}
+use Rattle.fj_meaning.proofs.NamesSound.{group_more, nothing_named, variables_more}
 use Rattle.fj_meaning.proofs.StatementSound.{each_is}
 
 within_is : (vs : List Variable) → is_within vs ≡ true → AreWithin vs
@@ -32,11 +32,11 @@ abbrev HasMembers : Scope → Namelist → Type 0
 HasMembers s g = All (λ var. var < length s.variables) g.vars
 
 pub empty_sound : EmptyIsSound
-empty_sound = record { within = within_is [] refl; members = All-nil (HasMembers empty) }
+empty_sound = record { within = within_is [] refl; members = All-nil (HasMembers empty); names = nothing_named }
 
 pub declared_sound : DeclaredIsSound
 unfolding with_declaration
-declared_sound s next line d sound h limits =
+declared_sound s next line d sound names h limits =
     let p = passed (are_new s (map (λ e. e.name) d.entities)) (Some (with_variables s line d.kind d.entities)) next h in
     let same : with_variables s line d.kind d.entities ≡ next = some_is (with_variables s line d.kind d.entities) next p.1 in
     let vs = s.variables ++ map (variable line d.kind) d.entities in
@@ -45,6 +45,7 @@ declared_sound s next line d sound h limits =
       within = within_is next.variables limits;
       members = subst (λ n. All (λ g. All (λ var. var < length n.variables) g.vars) n.groups) same
           (λ k e le i x lt. let low : _ < length s.variables = sound.members k e le i x lt in omega arith);
+      names = subst AreNamed same (variables_more s line d.kind d.entities sound.names names p.0);
     }
 
 number_is : (s : Scope) (name : List ℕ) (n : ℕ) → number_of s name ≡ Some n → n < length s.variables
@@ -55,11 +56,12 @@ number_is s name n h =
 
 pub grouped_sound : GroupedIsSound
 unfolding with_group
-grouped_sound s next line g sound h =
+grouped_sound s next line g sound name h =
     let p = passed (is_free s g.name) _ next h in
     let vars = bound (each (number_of s) g.members) _ next p.1 in
     let made : Namelist = record { name = g.name; vars = vars.0 } in
     subst IsSoundScope (some_is _ next vars.2) (record {
       within = sound.within;
       members = All-append (HasMembers s) s.groups (made ∷ []) sound.members (All-cons (HasMembers s) made [] (each_is (number_of s) (λ var. var < length s.variables) (number_is s) g.members vars.0 vars.1) (All-nil (HasMembers s)));
+      names = group_more s made line sound.names (free_is_none s g.name p.0) name;
     })

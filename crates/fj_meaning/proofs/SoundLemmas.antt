@@ -1,19 +1,17 @@
 -- What a statement means is sound, part by part.
-use Rattle.std.proofs.Common.{◌≡◌, ℕ, ◌+◌, ◌*◌, ◌<◌, ◌≤◌, Bool, true, false, not, ◌&&◌, cond, List, [], ◌∷◌, ◌++◌, length, map, max, Option, Some, None, refl, sym, ap, ◌∙◌, subst, inl, inr, ◌⊎◌, arith, eqb, leb, is_some, ◌-◌, ◌^◌, pos, negsuc, ℤ}
+use Rattle.std.proofs.Common.{◌≡◌, ℕ, ◌<◌, ◌≤◌, Bool, true, false, not, ◌&&◌, cond, List, max, Option, Some, None, refl, sym, ap, subst, inl, inr, ◌⊎◌, arith, eqb, leb, is_some, ◌-◌, ◌^◌, pos, negsuc, ℤ}
 use Rattle.std.proofs.lemmas.Int.{ints}
 use Rattle.std.proofs.lemmas.Bool.Decides.{nat_tests}
-use Rattle.std.specs.Prelude.{All, IsSome, IfSome, slice_get}
-use Rattle.std.specs.List.{sum_by}
-use Rattle.std.proofs.lemmas.Bool.{leb-true, eqb-true}
-use Rattle.std.proofs.lemmas.List.Elements.{All-nil, All-cons}
+use Rattle.std.specs.Prelude.{IsSome, IfSome, slice_get}
+use Rattle.std.proofs.lemmas.Bool.{leb-true}
 use Rattle.fj_value.specs.declared.kind.Kind.{Kind}
-use Rattle.fj_value.specs.declared.kind.Kind.TheVariants.{Int4, Int8, Logical, Chars}
+use Rattle.fj_value.specs.declared.kind.Kind.TheVariants.{Int4, Int8}
 use Rattle.fj_value.specs.declared.place.Place.{Place}
 use Rattle.fj_value.specs.Kind.{FitsBits, fits_bits, integer_bits, IsOfKind}
 use Rattle.fj_statement.specs.declared.deck.Variable.{Variable}
 use Rattle.fj_statement.specs.declared.statement.Operand.{Operand}
 use Rattle.fj_statement.specs.declared.statement.Operand.TheVariants as operand
-use Rattle.fj_statement.specs.Sound.{IsPlace, IsArray, IsOperand, IsInteger, IsIntegerPlace, IsIntegerOperand}
+use Rattle.fj_statement.specs.Sound.{IsPlace, IsOperand, IsInteger, IsIntegerPlace, IsIntegerOperand}
 use Rattle.fj_syntax.specs.declared.operand.Designator.{Designator}
 use Rattle.fj_syntax.specs.declared.operand.Operand as written
 use Rattle.fj_syntax.specs.declared.operand.Operand.TheVariants as written_as
@@ -24,7 +22,7 @@ use Rattle.fj_meaning.specs.declared.scope.Named.{Named}
 use Rattle.fj_meaning.specs.declared.scope.Named.TheVariants as stands_for
 use Rattle.fj_meaning.specs.declared.scope.Scope.{Scope}
 use Rattle.fj_meaning.specs.Giving.{◌>>=◌, optional}
-use Rattle.fj_meaning.specs.Operands.{index_in, placed, is_integer, integer_place, signed, number_kind, number, literal, element, whole, part, variable_meant, meant, is_whole, integer_operand}
+use Rattle.fj_meaning.specs.Operands.{index_in, placed, is_integer, integer_place, signed, number_kind, number, element, whole, part, variable_meant, meant, is_whole, integer_operand}
 use Rattle.fj_meaning.specs.Scope.{found, variable_at, named}
 
 -- ---- steps

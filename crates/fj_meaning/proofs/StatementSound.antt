@@ -1,20 +1,18 @@
 -- What a statement means is sound.
-use Rattle.std.proofs.Common.{◌≡◌, ℕ, ◌+◌, ◌*◌, ◌<◌, ◌≤◌, Bool, true, false, not, ◌&&◌, ◌||◌, cond, List, [], ◌∷◌, ◌++◌, length, map, Option, Some, None, refl, sym, ap, ◌∙◌, subst, arith, eqb, leb, is_some}
-use Rattle.std.specs.Prelude.{All, IsSome, IfSome, slice_get}
+use Rattle.std.proofs.Common.{◌≡◌, ℕ, ◌+◌, ◌*◌, ◌<◌, ◌≤◌, Bool, true, false, not, ◌&&◌, ◌||◌, cond, List, [], ◌∷◌, length, map, Option, Some, None, refl, sym, ap, ◌∙◌, subst, arith, eqb, leb, is_some}
+use Rattle.std.specs.Prelude.{All, IsSome, slice_get}
 use Rattle.std.proofs.lemmas.Option.{slice_get_within, get_or_from_slice_get}
 use Rattle.std.specs.List.{sum_by, list_all, fold}
 use Rattle.std.proofs.lemmas.Bool.{leb-true, eqb-true}
 use Rattle.std.proofs.lemmas.List.Elements.{All-nil, All-cons}
 use Rattle.fj_value.specs.declared.kind.Kind.{Kind}
 use Rattle.fj_value.specs.declared.kind.Kind.TheVariants.{Int4, Int8, Logical, Chars}
-use Rattle.fj_value.specs.declared.value.Value.{Value}
-use Rattle.fj_value.specs.declared.place.Place as places
 use Rattle.fj_value.specs.Kind.{integer_bits, text_length}
 use Rattle.fj_modes.specs.declared.asked.Question.{Question}
 use Rattle.fj_modes.specs.declared.asked.Question.TheVariants as question
 use Rattle.fj_modes.specs.declared.asked.Wanted.{Wanted}
 use Rattle.fj_modes.specs.declared.unit.UnitRef.{UnitRef}
-use Rattle.fj_modes.specs.declared.unit.UnitRef.TheVariants.{Star, Number}
+use Rattle.fj_modes.specs.declared.unit.UnitRef.TheVariants.{Star}
 use Rattle.fj_format.specs.declared.item.FormatItem.{FormatItem}
 use Rattle.fj_format.specs.Unfolding.{has_width_zero}
 use Rattle.fj_statement.specs.declared.statement.Operand as operands
@@ -22,7 +20,7 @@ use Rattle.fj_statement.specs.declared.statement.Operand.TheVariants.{Literal, O
 use Rattle.fj_statement.specs.declared.statement.Statement.{Statement}
 use Rattle.fj_statement.specs.declared.statement.Statement.TheVariants as statement
 use Rattle.fj_statement.specs.declared.statement.Transfer as made
-use Rattle.fj_statement.specs.Sound.{bytes_of, IsOperand, IsIntegerPlace, IsIntegerOperand, IsVariable, Takes, TakesLiteral, Fits, IsAssignment, IsAnswerKind, IsAsked, IsExplicit, IsFormatted, MayHaveRecord, HasNoZeroWidth, HasMembers, HasNoItems, AreItems, IsList, IsAllowed, IsTransfer, IsInquiry, IsSoundStatement}
+use Rattle.fj_statement.specs.Sound.{bytes_of, IsIntegerPlace, IsIntegerOperand, IsVariable, Takes, TakesLiteral, Fits, IsAnswerKind, IsAsked, IsExplicit, IsFormatted, MayHaveRecord, HasNoZeroWidth, HasMembers, HasNoItems, AreItems, IsList, IsAllowed, IsSoundStatement}
 use Rattle.fj_syntax.specs.declared.operand.Designator.{Designator}
 use Rattle.fj_syntax.specs.declared.operand.Operand.{Operand}
 use Rattle.fj_syntax.specs.declared.operand.Operand.TheVariants as operand
@@ -35,17 +33,16 @@ use Rattle.fj_syntax.specs.declared.written.Transfer.{Transfer}
 use Rattle.fj_syntax.specs.declared.written.Written.{Written}
 use Rattle.fj_syntax.specs.declared.written.Written.TheVariants as written
 use Rattle.fj_meaning.specs.declared.operand.Meant.{Meant}
-use Rattle.fj_meaning.specs.declared.items.Chosen.{Chosen}
 use Rattle.fj_meaning.specs.declared.transfer.Parts.{Parts}
 use Rattle.fj_meaning.specs.declared.scope.Found.{Found}
 use Rattle.fj_meaning.specs.declared.scope.Named.{Named}
 use Rattle.fj_meaning.specs.declared.scope.Named.TheVariants as stands_for
 use Rattle.fj_meaning.specs.declared.scope.Scope.{Scope}
 use Rattle.fj_meaning.specs.Giving.{◌>>=◌, optional, each}
-use Rattle.fj_meaning.specs.Operands.{is_integer, is_whole, placed, integer_place, element, whole, part, variable_meant, meant, integer_operand}
+use Rattle.fj_meaning.specs.Operands.{is_whole, placed, integer_place, element, whole, part, variable_meant, meant, integer_operand}
 use Rattle.fj_meaning.specs.Calls.{takes, takes_literal, goes_from, goes_to, assigned, opened, closed, awaited, moved, is_logical, is_characters, suits, wanted, inquired}
 use Rattle.fj_meaning.specs.Transfer.{◌implies◌, given, is_true, is_list_directed, is_explicit, is_place, is_star, changes_some, goes_together, stands_alone, can_be_read, is_allowed, size_of, elements, bytes, are_few, chosen, parts, control_of, assembled, transferred, is_short, of_parts, fits}
-use Rattle.fj_meaning.specs.Meaning.{literal_of, IsFormatOf, meaning, is_within_limits, HasMeaning, format_text}
+use Rattle.fj_meaning.specs.Meaning.{literal_of, IsFormatOf, meaning, is_within_limits, format_text}
 use Rattle.fj_meaning.specs.Scope.{found, members, group_at, named}
 use Rattle.fj_meaning.specs.Sound.{IsSoundScope, MeaningIsSound}
 use Rattle.fj_meaning.proofs.SoundLemmas.{bound, some_is, passed, both, no_is, is_there, placed_is, integer_place_is, variable_is, meant_is, integer_operand_is, given_is, given_same}
@@ -154,7 +151,7 @@ inquired_is s i m h =
 abbrev shape : Meant → Kind × ℕ
 shape m = (m.kind, m.count)
 
-abbrev what : Meant → operands.Operand
+abbrev pub what : Meant → operands.Operand
 what m = m.operand
 
 are_items : (s : Scope) (os : List Operand) (ms : List Meant) → each (meant s) os ≡ Some ms → AreItems s.variables (map what ms) (map shape ms)
@@ -209,7 +206,7 @@ are_variables s (o ∷ os) ms h all =
 
 -- ---- the rules
 
-implied : (a b : Bool) → (a implies b) ≡ true → a ≡ true → b ≡ true
+pub implied : (a b : Bool) → (a implies b) ≡ true → a ≡ true → b ≡ true
 implied true b h e = h
 implied false b h e = cc
 
@@ -315,29 +312,29 @@ has_members s sound None vars None None h = tt
 -- ---- READ and WRITE
 
 -- what a transfer is made of
-record IsMade (s : Scope) (t : Transfer) (p : Parts) (ms : List Meant) : Type 0 where
-  group : optional (members s) t.control.group ≡ Some p.group
-  each_is : each (meant s) t.items ≡ Some ms
-  items : map what ms ≡ p.items
-  few : are_few ms ≡ p.few
-  rec : optional (integer_operand s) t.course.rec ≡ Some p.rec
-  pos : optional (integer_operand s) t.course.pos ≡ Some p.pos
-  id : optional (integer_place s) t.results.id ≡ Some p.id
-  size : optional (integer_place s) t.results.size ≡ Some p.size
-  iostat : optional (integer_place s) t.results.iostat ≡ Some p.iostat
+pub record IsMade (s : Scope) (t : Transfer) (p : Parts) (ms : List Meant) : Type 0 where
+  pub group : optional (members s) t.group ≡ Some p.group
+  pub each_is : each (meant s) t.items ≡ Some ms
+  pub items : map what ms ≡ p.items
+  pub few : are_few ms ≡ p.few
+  pub rec : optional (integer_operand s) t.rec ≡ Some p.rec
+  pub pos : optional (integer_operand s) t.pos ≡ Some p.pos
+  pub id : optional (integer_place s) t.id ≡ Some p.id
+  pub size : optional (integer_place s) t.size ≡ Some p.size
+  pub iostat : optional (integer_place s) t.iostat ≡ Some p.iostat
 
-made_is : (s : Scope) (t : Transfer) (p : Parts) → parts s t ≡ Some p → (ms : List Meant) × IsMade s t p ms
+pub made_is : (s : Scope) (t : Transfer) (p : Parts) → parts s t ≡ Some p → (ms : List Meant) × IsMade s t p ms
 unfolding parts chosen
 made_is s t p h =
-    let g = bound (optional (members s) t.control.group) _ p h in
+    let g = bound (optional (members s) t.group) _ p h in
     let c = bound (each (meant s) t.items >>= (λ ms. Some (record { items = map (λ m. m.operand) ms; few = are_few ms }))) _ p g.2 in
     let ms = bound (each (meant s) t.items) _ c.0 c.1 in
     let same : record { items = map what ms.0; few = are_few ms.0 } ≡ c.0 = some_is _ c.0 ms.2 in
-    let rec = bound (optional (integer_operand s) t.course.rec) _ p c.2 in
-    let pos = bound (optional (integer_operand s) t.course.pos) _ p rec.2 in
-    let id = bound (optional (integer_place s) t.results.id) _ p pos.2 in
-    let size = bound (optional (integer_place s) t.results.size) _ p id.2 in
-    let told = bound (optional (integer_place s) t.results.iostat) _ p size.2 in
+    let rec = bound (optional (integer_operand s) t.rec) _ p c.2 in
+    let pos = bound (optional (integer_operand s) t.pos) _ p rec.2 in
+    let id = bound (optional (integer_place s) t.id) _ p pos.2 in
+    let size = bound (optional (integer_place s) t.size) _ p id.2 in
+    let told = bound (optional (integer_place s) t.iostat) _ p size.2 in
     let made : record { group = g.0; items = c.0.items; few = c.0.few; rec = rec.0; pos = pos.0; id = id.0; size = size.0; iostat = told.0 } ≡ p = some_is _ p told.2 in (
       ms.0,
       subst (λ q. IsMade s t q ms.0) made (record {
@@ -353,35 +350,35 @@ made_is s t p h =
       }),
     )
 
-allowed_is : (s : Scope) (items : Option (List FormatItem)) (t : Transfer) (p : Parts) (ms : List Meant) → IsMade s t p ms → IsFormatOf (literal_of t.control.format) items → is_allowed items t ≡ true
+pub allowed_is : (s : Scope) (items : Option (List FormatItem)) (t : Transfer) (p : Parts) (ms : List Meant) → IsMade s t p ms → IsFormatOf (literal_of t.format) items → is_allowed items t ≡ true
     → IsAllowed (assembled items t p)
 unfolding is_allowed
 allowed_is s items t p ms made is rules =
     let a = both (goes_together t) (stands_alone t && (t.input implies can_be_read items t.items)) rules in
     let b = both (stands_alone t) (t.input implies can_be_read items t.items) a.1 in
-    let g = t.control.group in
-    let f = t.control.format in
-    let id_rule = both (given t.results.id implies is_true t.course.asynchronous) _ a.0 in
-    let size_rule = both (given t.results.size implies given t.course.advance) _ id_rule.1 in
-    let advance_rule = both (given t.course.advance implies is_explicit f) (changes_some t.control.changes implies (given f || given g)) size_rule.1 in
-    let rec_rule = both (given t.course.rec implies not (given t.course.pos || (is_list_directed f || given g))) _ b.0 in
-    let group_rule = both (given g implies (not (given f) && eqb (length t.items) 0)) (is_star t.control.unit implies not (given t.course.rec || given t.course.pos)) rec_rule.1 in
-    let same_rec : is_some p.rec ≡ is_some t.course.rec = given_same (integer_operand s) t.course.rec p.rec made.rec in
-    let same_pos : is_some p.pos ≡ is_some t.course.pos = given_same (integer_operand s) t.course.pos p.pos made.pos in
+    let g = t.group in
+    let f = t.format in
+    let id_rule = both (given t.id implies is_true t.asynchronous) _ a.0 in
+    let size_rule = both (given t.size implies given t.advance) _ id_rule.1 in
+    let advance_rule = both (given t.advance implies is_explicit f) (changes_some t implies (given f || given g)) size_rule.1 in
+    let rec_rule = both (given t.rec implies not (given t.pos || (is_list_directed f || given g))) _ b.0 in
+    let group_rule = both (given g implies (not (given f) && eqb (length t.items) 0)) (is_star t.unit implies not (given t.rec || given t.pos)) rec_rule.1 in
+    let same_rec : is_some p.rec ≡ is_some t.rec = given_same (integer_operand s) t.rec p.rec made.rec in
+    let same_pos : is_some p.pos ≡ is_some t.pos = given_same (integer_operand s) t.pos p.pos made.pos in
     let same_group : is_some p.group ≡ is_some g = given_same (members s) g p.group made.group in
-    let mode = λ (x : changes_some t.control.changes ≡ true). formatted_is g p.group f items is same_group (implied (changes_some t.control.changes) (given f || given g) advance_rule.1 x) in
-    let alone = λ (h : IsSome p.rec). neither (given t.course.pos) (is_list_directed f || given g) (implied (given t.course.rec) _ rec_rule.0 (sym same_rec ∙ some_true p.rec h)) in
-    let star = λ (h : t.control.unit ≡ Star). neither (given t.course.rec) (given t.course.pos) (implied (is_star t.control.unit) _ group_rule.1 (star_is t.control.unit h)) in
+    let mode = λ (x : changes_some t ≡ true). formatted_is g p.group f items is same_group (implied (changes_some t) (given f || given g) advance_rule.1 x) in
+    let alone = λ (h : IsSome p.rec). neither (given t.pos) (is_list_directed f || given g) (implied (given t.rec) _ rec_rule.0 (sym same_rec ∙ some_true p.rec h)) in
+    let star = λ (h : t.unit ≡ Star). neither (given t.rec) (given t.pos) (implied (is_star t.unit) _ group_rule.1 (star_is t.unit h)) in
     let read = λ (h : t.input ≡ true). implied t.input (can_be_read items t.items) b.1 h in
     record {
-      id_needs_asynchronous = λ h. true_is t.course.asynchronous (implied (given t.results.id) _ id_rule.0 (sym (given_same (integer_place s) t.results.id p.id made.id) ∙ some_true p.id h));
-      size_needs_advance = λ h. is_there t.course.advance (implied (given t.results.size) _ size_rule.0 (sym (given_same (integer_place s) t.results.size p.size made.size) ∙ some_true p.size h));
-      advance_needs_format = λ h. explicit_is g p.group f items (eqb (length t.items) 0) is group_rule.0 (implied (given t.course.advance) (is_explicit f) advance_rule.0 (some_true t.course.advance h));
-      blank_needs_format = λ h. mode (some_of (given t.control.changes.blank_zero) _ (some_true t.control.changes.blank_zero h));
-      decimal_needs_format = λ h. mode (later (given t.control.changes.blank_zero) _ (some_of (given t.control.changes.comma) _ (some_true t.control.changes.comma h)));
-      delim_needs_format = λ h. mode (later (given t.control.changes.blank_zero) _ (later (given t.control.changes.comma) _ (some_of (given t.control.changes.delim) _ (some_true t.control.changes.delim h))));
-      pad_needs_format = λ h. mode (later (given t.control.changes.blank_zero) _ (later (given t.control.changes.comma) _ (later (given t.control.changes.delim) _ (some_of (given t.control.changes.pad) _ (some_true t.control.changes.pad h)))));
-      sign_needs_format = λ h. mode (later (given t.control.changes.blank_zero) _ (later (given t.control.changes.comma) _ (later (given t.control.changes.delim) _ (later (given t.control.changes.pad) _ (some_true t.control.changes.plus h)))));
+      id_needs_asynchronous = λ h. true_is t.asynchronous (implied (given t.id) _ id_rule.0 (sym (given_same (integer_place s) t.id p.id made.id) ∙ some_true p.id h));
+      size_needs_advance = λ h. is_there t.advance (implied (given t.size) _ size_rule.0 (sym (given_same (integer_place s) t.size p.size made.size) ∙ some_true p.size h));
+      advance_needs_format = λ h. explicit_is g p.group f items (eqb (length t.items) 0) is group_rule.0 (implied (given t.advance) (is_explicit f) advance_rule.0 (some_true t.advance h));
+      blank_needs_format = λ h. mode (some_of (given t.blank_zero) _ (some_true t.blank_zero h));
+      decimal_needs_format = λ h. mode (later (given t.blank_zero) _ (some_of (given t.comma) _ (some_true t.comma h)));
+      delim_needs_format = λ h. mode (later (given t.blank_zero) _ (later (given t.comma) _ (some_of (given t.delim) _ (some_true t.delim h))));
+      pad_needs_format = λ h. mode (later (given t.blank_zero) _ (later (given t.comma) _ (later (given t.delim) _ (some_of (given t.pad) _ (some_true t.pad h)))));
+      sign_needs_format = λ h. mode (later (given t.blank_zero) _ (later (given t.comma) _ (later (given t.delim) _ (later (given t.pad) _ (some_true t.plus h)))));
       record_excludes_position = λ h. none_is p.pos (same_pos ∙ (alone h).0);
       record_excludes_lists = λ h. let n = none_of (is_list_directed f) (given g) (alone h).1 in record_is g p.group f items n.0 n.1 is;
       group_excludes_items = subst (λ l. HasNoItems (control_of g p.group f items) l) made.items (group_is s t.items ms g p.group f items made.each_is group_rule.0);
@@ -402,7 +399,7 @@ allowed_is s items t p ms made is rules =
       none_of true b h = cc
       none_of false b h = (refl, h)
 
-transferred_is : (s : Scope) → IsSoundScope s → (items : Option (List FormatItem)) (t : Transfer) (m : Statement) → IsFormatOf (literal_of t.control.format) items → transferred s items t ≡ Some m → fits s items t ≡ true
+transferred_is : (s : Scope) → IsSoundScope s → (items : Option (List FormatItem)) (t : Transfer) (m : Statement) → IsFormatOf (literal_of t.format) items → transferred s items t ≡ Some m → fits s items t ≡ true
     → IsSoundStatement s.variables m
 unfolding transferred fits
 transferred_is s sound items t m is h limits =
@@ -413,12 +410,12 @@ transferred_is s sound items t m is h limits =
     subst (IsSoundStatement s.variables) (some_is (statement.Transfer (assembled items t p.0)) m r.1) (record {
       allowed = allowed_is s items t p.0 made.0 made.1 is r.0;
       items = subst (IsList s.variables) made.1.items (list_is s t.items made.0 made.1.each_is (made.1.few ∙ few));
-      members = has_members s sound t.control.group p.0.group t.control.format items made.1.group;
-      rec = given_is (integer_operand s) (IsIntegerOperand s.variables) (integer_operand_is s) t.course.rec p.0.rec made.1.rec;
-      pos = given_is (integer_operand s) (IsIntegerOperand s.variables) (integer_operand_is s) t.course.pos p.0.pos made.1.pos;
-      id = given_is (integer_place s) (IsIntegerPlace s.variables) (integer_place_is s) t.results.id p.0.id made.1.id;
-      size = given_is (integer_place s) (IsIntegerPlace s.variables) (integer_place_is s) t.results.size p.0.size made.1.size;
-      iostat = given_is (integer_place s) (IsIntegerPlace s.variables) (integer_place_is s) t.results.iostat p.0.iostat made.1.iostat;
+      members = has_members s sound t.group p.0.group t.format items made.1.group;
+      rec = given_is (integer_operand s) (IsIntegerOperand s.variables) (integer_operand_is s) t.rec p.0.rec made.1.rec;
+      pos = given_is (integer_operand s) (IsIntegerOperand s.variables) (integer_operand_is s) t.pos p.0.pos made.1.pos;
+      id = given_is (integer_place s) (IsIntegerPlace s.variables) (integer_place_is s) t.id p.0.id made.1.id;
+      size = given_is (integer_place s) (IsIntegerPlace s.variables) (integer_place_is s) t.size p.0.size made.1.size;
+      iostat = given_is (integer_place s) (IsIntegerPlace s.variables) (integer_place_is s) t.iostat p.0.iostat made.1.iostat;
     })
 
 -- ---- all statements

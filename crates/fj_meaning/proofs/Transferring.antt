@@ -26,15 +26,15 @@ none_allowed : (items : Option (List FormatItem)) (t : Transfer) (read : Option 
 none_allowed items t None h = refl
 none_allowed items t (Some p) h = ap (λ b. cond b (Some (statement.Transfer (assembled items t p))) None) h
 
-pub not_allowed : (s : Scope) (items : Option (List FormatItem)) (t : Transfer) → IsFormatOf (literal_of t.control.format) items → is_allowed items t ≡ false →
+pub not_allowed : (s : Scope) (items : Option (List FormatItem)) (t : Transfer) → IsFormatOf (literal_of t.format) items → is_allowed items t ≡ false →
     HasNoMeaning s (written.Transfer t)
 not_allowed s items t f h = record { items = items; format = f; none = meaning_is s items t ∙ none_allowed items t (parts s t) h }
 
-no_parts : (s : Scope) (items : Option (List FormatItem)) (t : Transfer) → IsFormatOf (literal_of t.control.format) items → parts s t ≡ None →
+no_parts : (s : Scope) (items : Option (List FormatItem)) (t : Transfer) → IsFormatOf (literal_of t.format) items → parts s t ≡ None →
     HasNoMeaning s (written.Transfer t)
 no_parts s items t f h = record { items = items; format = f; none = meaning_is s items t ∙ ap (answer_of items t) h }
 
-pub parts_fail : (s : Scope) (items : Option (List FormatItem)) (t : Transfer) (error : Fault) → IsFormatOf (literal_of t.control.format) items →
+pub parts_fail : (s : Scope) (items : Option (List FormatItem)) (t : Transfer) (error : Fault) → IsFormatOf (literal_of t.format) items →
     Fails error (parts s t) → Means s (written.Transfer t) (Err error)
 parts_fail s items t (fault.Memory e) f h = tt
 parts_fail s items t (fault.Format at) f h = absurd h
@@ -55,7 +55,7 @@ is_some_from : (o : Option Statement) (m : Statement) → o ≡ Some m → IsSom
 is_some_from None m h = absurd (cc)
 is_some_from (Some n) m h = refl
 
-pub assembles : (s : Scope) (items : Option (List FormatItem)) (t : Transfer) (p : Parts) (result : Result Statement Fault) → IsFormatOf (literal_of t.control.format) items →
+pub assembles : (s : Scope) (items : Option (List FormatItem)) (t : Transfer) (p : Parts) (result : Result Statement Fault) → IsFormatOf (literal_of t.format) items →
     is_allowed items t ≡ true → parts s t ≡ Some p → Assembles items t p result → Means s (written.Transfer t) result
 assembles s items t p (Ok m) f h k a =
     record { items = items; format = f; is = has_answer s items t p h k ∙ ap (λ n. Some n) (sym a.0); within = limits_are s items t p k ∙ a.1 }

@@ -22,7 +22,7 @@ literal_of f = None
 
 -- the literal that is the format of a statement
 abbrev pub format_text : Written → Option (List ℕ)
-format_text (written.Transfer t) = literal_of t.control.format
+format_text (written.Transfer t) = literal_of t.format
 format_text w = None
 
 -- the items are those of the format, if there is one

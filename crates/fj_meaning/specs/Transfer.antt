@@ -14,7 +14,6 @@ use Rattle.fj_statement.specs.declared.statement.Statement.{Statement}
 use Rattle.fj_statement.specs.declared.statement.Statement.TheVariants as statement
 use Rattle.fj_syntax.specs.declared.operand.Operand as operand
 use Rattle.fj_syntax.specs.declared.operand.Operand.TheVariants as operand_as
-use Rattle.fj_syntax.specs.declared.written.Changes.{Changes}
 use Rattle.fj_syntax.specs.declared.written.Format.{Format}
 use Rattle.fj_syntax.specs.declared.written.Format.TheVariants as format
 use Rattle.fj_syntax.specs.declared.written.Transfer as written
@@ -56,24 +55,24 @@ is_star unit.Star = true
 is_star (unit.Number n) = false
 
 -- BLANK=, DECIMAL=, DELIM=, PAD= or SIGN= stands
-abbrev pub changes_some : Changes → Bool
-changes_some c = given c.blank_zero || (given c.comma || (given c.delim || (given c.pad || given c.plus)))
+abbrev pub changes_some : written.Transfer → Bool
+changes_some t = given t.blank_zero || (given t.comma || (given t.delim || (given t.pad || given t.plus)))
 
 -- The format is list-directed, explicit with these items, or missing. ID= goes with ASYNCHRONOUS='YES', SIZE= with
 -- ADVANCE=, ADVANCE= with an explicit format, a mode with a format or a group.
 abbrev pub goes_together : written.Transfer → Bool
 goes_together t =
-    (given t.results.id implies is_true t.course.asynchronous)
-    && ((given t.results.size implies given t.course.advance)
-    && ((given t.course.advance implies is_explicit t.control.format)
-    && (changes_some t.control.changes implies (given t.control.format || given t.control.group))))
+    (given t.id implies is_true t.asynchronous)
+    && ((given t.size implies given t.advance)
+    && ((given t.advance implies is_explicit t.format)
+    && (changes_some t implies (given t.format || given t.group))))
 
 -- REC= excludes POS=, a list-directed format and a group; a group excludes a format and items; `*` excludes REC= and POS=
 abbrev pub stands_alone : written.Transfer → Bool
 stands_alone t =
-    (given t.course.rec implies not (given t.course.pos || (is_list_directed t.control.format || given t.control.group)))
-    && ((given t.control.group implies (not (given t.control.format) && (length t.items == 0)))
-    && (is_star t.control.unit implies not (given t.course.rec || given t.course.pos)))
+    (given t.rec implies not (given t.pos || (is_list_directed t.format || given t.group)))
+    && ((given t.group implies (not (given t.format) && (length t.items == 0)))
+    && (is_star t.unit implies not (given t.rec || given t.pos)))
 
 -- the items of READ are places, and its format has no width 0
 abbrev pub can_be_read : Option (List FormatItem) → List operand.Operand → Bool
@@ -111,13 +110,13 @@ chosen s os = each (meant s) os >>= (λ ms. Some (record { items = map (λ m. m.
 
 unfoldable pub parts : Scope → written.Transfer → Option Parts
 parts s t = do
-  g ← optional (members s) t.control.group
+  g ← optional (members s) t.group
   c ← chosen s t.items
-  rec ← optional (integer_operand s) t.course.rec
-  pos ← optional (integer_operand s) t.course.pos
-  id ← optional (integer_place s) t.results.id
-  size ← optional (integer_place s) t.results.size
-  iostat ← optional (integer_place s) t.results.iostat
+  rec ← optional (integer_operand s) t.rec
+  pos ← optional (integer_operand s) t.pos
+  id ← optional (integer_place s) t.id
+  size ← optional (integer_place s) t.size
+  iostat ← optional (integer_place s) t.iostat
   Some (record { group = g; items = c.items; few = c.few; rec = rec; pos = pos; id = id; size = size; iostat = iostat })
 
 -- a group with its members, an explicit format, a list-directed one, or none
@@ -130,16 +129,16 @@ control_of g vars None None = control.Unformatted
 abbrev pub assembled : Option (List FormatItem) → written.Transfer → Parts → Transfer
 assembled items t p = record {
   input = t.input;
-  unit = t.control.unit;
-  control = control_of t.control.group p.group t.control.format items;
+  unit = t.unit;
+  control = control_of t.group p.group t.format items;
   items = p.items;
-  advance = t.course.advance;
-  asynchronous = t.course.asynchronous;
-  blank_zero = t.control.changes.blank_zero;
-  comma = t.control.changes.comma;
-  delim = t.control.changes.delim;
-  pad = t.control.changes.pad;
-  plus = t.control.changes.plus;
+  advance = t.advance;
+  asynchronous = t.asynchronous;
+  blank_zero = t.blank_zero;
+  comma = t.comma;
+  delim = t.delim;
+  pad = t.pad;
+  plus = t.plus;
   rec = p.rec;
   pos = p.pos;
   id = p.id;

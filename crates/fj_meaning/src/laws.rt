@@ -1,6 +1,6 @@
-// The law of the definitions.
+// The laws of the definitions.
 ghost use Rattle.fj_meaning.specs.Meaning.{OneMeaning};
-ghost use Rattle.fj_meaning.specs.Sound.{EmptyIsSound, DeclaredIsSound, GroupedIsSound, MeaningIsSound};
+ghost use Rattle.fj_meaning.specs.Sound.{EmptyIsSound, DeclaredIsSound, GroupedIsSound, NamesAreApart, MeaningIsSound, GroupsAreDeclared, RulesAreDecided};
 
 use fj_format::texts_are_unambiguous;
 
@@ -16,5 +16,12 @@ pub fn meaning_is_sound()
     ensures empty { EmptyIsSound }
     ensures declared { DeclaredIsSound }
     ensures grouped { GroupedIsSound }
+    ensures apart { NamesAreApart }
     ensures meaning { MeaningIsSound }
+    ensures groups { GroupsAreDeclared }
+{}
+
+/// Which specifiers and items of READ and WRITE go together is decided by the rules that every deck keeps.
+pub fn rules_are_decided()
+    ensures { RulesAreDecided }
 {}

@@ -20,7 +20,7 @@ mod tests;
 mod transfer;
 
 pub use fault::Fault;
-pub use laws::one_meaning;
+pub use laws::{meaning_is_sound, one_meaning, rules_are_decided};
 pub use meaning::statement;
 pub use names::Names;
 pub use scope::{Namelist, Namelists, Scope};

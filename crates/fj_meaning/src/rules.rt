@@ -5,7 +5,7 @@ ghost use Rattle.fj_meaning.specs.Transfer.{is_true, is_list_directed, is_explic
 
 use fj_format::{FormatItems, has_width_zero};
 use fj_modes::UnitRef;
-use fj_syntax::{Changes, Format, Operand, Transfer};
+use fj_syntax::{Format, Operand, Transfer};
 
 fn is_list_directed(format: &Option<Format>) -> bool
     ensures { result ≡ is_list_directed format.now }
@@ -25,50 +25,46 @@ fn is_place(operand: &Operand) -> bool
     matches!(operand, Operand::Place(_))
 }
 
-fn changes_some(changes: &Changes) -> bool
-    ensures { result ≡ changes_some changes.now }
+fn changes_some(transfer: &Transfer) -> bool
+    ensures { result ≡ changes_some transfer.now }
 {
-    changes.blank_zero.is_some()
-        || changes.comma.is_some()
-        || changes.delim.is_some()
-        || changes.pad.is_some()
-        || changes.plus.is_some()
+    transfer.blank_zero.is_some()
+        || transfer.comma.is_some()
+        || transfer.delim.is_some()
+        || transfer.pad.is_some()
+        || transfer.plus.is_some()
 }
 
 /// Specifiers that need others.
 fn goes_together(transfer: &Transfer) -> bool
     ensures { result ≡ goes_together transfer.now }
 {
-    let control = &transfer.control;
-    let course = &transfer.course;
-    let results = &transfer.results;
-    if results.id.is_some() && course.asynchronous != Some(true) {
+    if transfer.id.is_some() && transfer.asynchronous != Some(true) {
         return false;
     }
-    if results.size.is_some() && course.advance.is_none() {
+    if transfer.size.is_some() && transfer.advance.is_none() {
         return false;
     }
-    if course.advance.is_some() && !is_explicit(&control.format) {
+    if transfer.advance.is_some() && !is_explicit(&transfer.format) {
         return false;
     }
-    !changes_some(&control.changes) || control.format.is_some() || control.group.is_some()
+    !changes_some(transfer) || transfer.format.is_some() || transfer.group.is_some()
 }
 
 /// Specifiers and items that exclude others.
 fn stands_alone(transfer: &Transfer) -> bool
     ensures { result ≡ stands_alone transfer.now }
 {
-    let control = &transfer.control;
-    let rec = transfer.course.rec.is_some();
-    let pos = transfer.course.pos.is_some();
-    let group = control.group.is_some();
-    if rec && (pos || is_list_directed(&control.format) || group) {
+    let rec = transfer.rec.is_some();
+    let pos = transfer.pos.is_some();
+    let group = transfer.group.is_some();
+    if rec && (pos || is_list_directed(&transfer.format) || group) {
         return false;
     }
-    if group && (control.format.is_some() || !transfer.items.is_empty()) {
+    if group && (transfer.format.is_some() || !transfer.items.is_empty()) {
         return false;
     }
-    !(control.unit == UnitRef::Star && (rec || pos))
+    !(transfer.unit == UnitRef::Star && (rec || pos))
 }
 
 fn are_places(operands: &[Operand]) -> bool

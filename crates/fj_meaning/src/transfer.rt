@@ -82,13 +82,13 @@ fn optional_group(names: &Names, group: &Option<Text>) -> Result<Option<Vars>, F
 fn parts_of(alloc: Global, names: &Names, transfer: &fj_syntax::Transfer) -> Result<Parts, Fault>
     ensures { Gives result (parts names.now transfer.now) }
 {
-    let group = optional_group(names, &transfer.control.group)?;
+    let group = optional_group(names, &transfer.group)?;
     let chosen = choose(alloc, names, transfer.items.as_slice())?;
-    let rec = optional_operand(names, &transfer.course.rec)?;
-    let pos = optional_operand(names, &transfer.course.pos)?;
-    let id = optional_place(names, &transfer.results.id)?;
-    let size = optional_place(names, &transfer.results.size)?;
-    let iostat = optional_place(names, &transfer.results.iostat)?;
+    let rec = optional_operand(names, &transfer.rec)?;
+    let pos = optional_operand(names, &transfer.pos)?;
+    let id = optional_place(names, &transfer.id)?;
+    let size = optional_place(names, &transfer.size)?;
+    let iostat = optional_place(names, &transfer.iostat)?;
     Ok(Parts {
         group,
         items: chosen.items,
@@ -143,23 +143,21 @@ fn assembled(
     if !parts.few {
         return Err(Fault::TooMany);
     }
-    let control = transfer.control;
-    let changes = control.changes;
-    let Some(made) = control_of(control.group, parts.group, &control.format, items) else {
+    let Some(control) = control_of(transfer.group, parts.group, &transfer.format, items) else {
         return Err(Fault::TooMany);
     };
     Ok(Statement::Transfer(Transfer {
         input: transfer.input,
-        unit: control.unit,
-        control: made,
+        unit: transfer.unit,
+        control,
         items: parts.items,
-        advance: transfer.course.advance,
-        asynchronous: transfer.course.asynchronous,
-        blank_zero: changes.blank_zero,
-        comma: changes.comma,
-        delim: changes.delim,
-        pad: changes.pad,
-        plus: changes.plus,
+        advance: transfer.advance,
+        asynchronous: transfer.asynchronous,
+        blank_zero: transfer.blank_zero,
+        comma: transfer.comma,
+        delim: transfer.delim,
+        pad: transfer.pad,
+        plus: transfer.plus,
         rec: parts.rec,
         pos: parts.pos,
         id: parts.id,
@@ -176,7 +174,7 @@ pub fn transferred(
 ) -> Result<Statement, Fault>
     ensures { Means names.now (written.Transfer transfer) result }
 {
-    let items = format_items(alloc, &transfer.control.format)?;
+    let items = format_items(alloc, &transfer.format)?;
     if !is_allowed(&items, &transfer) {
         return Err(Fault::NoMeaning);
     }

@@ -1,6 +1,7 @@
 -- What holds of every deck, so that nothing about it is looked up again.
-use Rattle.std.specs.Prelude.{◌≡◌, ℕ, ◌*◌, ◌<◌, ◌≤◌, true, false, List, [], ◌∷◌, ◌++◌, length, max, All, Option, Some, None, IsSome, IfSome, slice_get, unwrap_or}
-use Rattle.std.specs.List.{sum_by}
+use Rattle.std.specs.Prelude.{◌≡◌, ℕ, ◌*◌, ◌<◌, ◌≤◌, Bool, true, false, ◌||◌, ◌==◌, List, [], ◌∷◌, ◌++◌, length, map, max, All, Option, Some, None, IsSome, IfSome, slice_get, unwrap_or}
+use Rattle.std.specs.Char.{is_ascii_uppercase, is_ascii_digit}
+use Rattle.std.specs.List.{AllPass, Contains, sum_by}
 use Rattle.fj_value.specs.declared.kind.Kind.{Kind}
 use Rattle.fj_value.specs.declared.kind.Kind.TheVariants.{Int4, Int8, Logical, Chars}
 use Rattle.fj_value.specs.declared.place.Place.{Place}
@@ -227,8 +228,52 @@ pub record AreWithin (vs : Variables) : Type 0 where
   pub places : sum_by places_of vs ≤ 1000000
   pub characters : sum_by (λ v. places_of v * unwrap_or (text_length v.kind) 0) vs ≤ 16777216
 
+-- ---- names (3.2.1)
+
+abbrev pub begins_with_letter : List ℕ → Bool
+begins_with_letter [] = false
+begins_with_letter (c ∷ name) = is_ascii_uppercase c
+
+abbrev pub is_in_name : ℕ → Bool
+is_in_name c = is_ascii_uppercase c || is_ascii_digit c || c == 95
+
+-- a letter, and behind it letters, digits and underscores, 63 in all at most; letters are in upper case
+pub record IsName (name : List ℕ) : Type 0 where
+  pub letter : begins_with_letter name ≡ true
+  pub all : AllPass is_in_name name
+  pub short : length name ≤ 63
+
+-- none of them stands twice
+abbrev pub AreApart : List (List ℕ) → Type 0
+AreApart names = (i j : ℕ) (name : List ℕ) → slice_get names i ≡ Some name → slice_get names j ≡ Some name → i ≡ j
+
+-- the name of a namelist group, and its members
+abbrev pub Grouped : Type 0
+Grouped = List ℕ × List ℕ
+
+-- the group of a transfer is one of these
+abbrev pub HasGroup : List Grouped → Control → Type 0
+HasGroup groups (control.Group name vars) = Contains groups (name, vars)
+HasGroup groups c = Unit {0}
+
+abbrev pub NamesGroup : List Grouped → Statement → Type 0
+NamesGroup groups (statement.Transfer t) = HasGroup groups t.control
+NamesGroup groups s = Unit {0}
+
+-- variables and groups have their names of one space (16.2)
+abbrev pub names_of : Variables → List Grouped → List (List ℕ)
+names_of vs groups = map (λ v. v.name) vs ++ map (λ g. g.0) groups
+
+-- The names of its variables and groups are distinct, and a statement names a group with its members.
+pub record HasNames (vs : Variables) (ls : List Lined) : Type 0 where
+  pub groups : List Grouped
+  pub are : All IsName (names_of vs groups)
+  pub apart : AreApart (names_of vs groups)
+  pub stand : All (λ l. NamesGroup groups l.what) ls
+
 pub record IsSound (deck : Deck) : Type 0 where
   pub variables : AreWithin deck.variables
+  pub names : HasNames deck.variables deck.statements
   pub statements : All (λ l. IsSoundStatement deck.variables l.what) deck.statements
   -- no more than 100,000 statements, END among them (own)
   pub few : length deck.statements ≤ 100000

@@ -19,7 +19,7 @@ use Rattle.fj_syntax.specs.declared.token.Sign.{Sign}
 use Rattle.fj_syntax.specs.declared.token.Sign.TheVariants.{Unsigned, Plus, Minus}
 use Rattle.fj_syntax.specs.FirstToken.{word_at, number_at, closed_by, literal_at, as_literal, truth_at, mark_of, mark_at, first_token}
 use Rattle.fj_syntax.specs.Tokens.{begins, doubled, IsDelimiter, IsWordText, IsNumberText, IsLiteralText, IsWritten, sign_bytes, mark_bytes, truth_bytes}
-use Rattle.fj_syntax.proofs.TokenLemmas.{both, is_either, choose_true, choose_false, chosen, word_again, word_is, number_again, number_is, same_byte, closed_is, closed_again, Closes, Part}
+use Rattle.fj_syntax.proofs.TokenLemmas.{begun_some, both, is_either, choose_true, choose_false, chosen, word_again, word_is, number_again, number_is, same_byte, closed_is, closed_again, Closes, Part}
 
 -- a token is written at the front of the line, and the rest is behind it
 abbrev pub StandsFirst : List ℕ → Token × List ℕ → Type 0
@@ -242,7 +242,7 @@ literal_text text bytes line w =
 
 word_text : (word bytes line : List ℕ) → IsWordText word bytes line → first_token (bytes ++ line) ≡ Some (token.Word word, line)
 word_text word bytes line w =
-    word_first bytes line w.letter ∙ word_again bytes line w.all w.short w.ends ∙ ap (λ l. Some (token.Word l, line)) (sym w.upper)
+    word_first bytes line w.letter ∙ word_again bytes line w.all (begun_some is_ascii_alphabetic bytes w.letter) w.short w.ends ∙ ap (λ l. Some (token.Word l, line)) (sym w.upper)
 
 pub first_again : (t : Token) (bytes line : List ℕ) → IsWritten t bytes line → first_token (bytes ++ line) ≡ Some (t, line)
 first_again (token.Word word) bytes line w = word_text word bytes line w

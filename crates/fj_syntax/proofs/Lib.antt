@@ -1,8 +1,10 @@
 pub mod ClassLemmas
 pub mod DigitLemmas
 pub mod FirstTokenLemmas
+pub mod KnownLemmas
 pub mod LineLemmas
 pub mod ParseLemmas
+pub mod NameLemmas
 pub mod ScanLemmas
 pub mod TokenLemmas
 pub mod CutLemmas

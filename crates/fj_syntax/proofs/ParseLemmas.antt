@@ -9,14 +9,11 @@ use Rattle.fj_syntax.specs.Reading.{Fails}
 use Rattle.fj_syntax.specs.Statement.{written_of}
 use Rattle.fj_syntax.specs.Tokens.{HasTokens, HasNoTokens}
 use Rattle.fj_syntax.proofs.ScanLemmas.{tokens_unique}
+use Rattle.fj_syntax.proofs.TokenLemmas.{none_and_some}
 
-none_and_some : {A : Type 0} (o : Option A) (x : A) → o ≡ None → o ≡ Some x → ⊥
-none_and_some None x h k = cc
-none_and_some (Some y) x h k = cc
-
-some_is : {A : Type 0} (o : Option A) (x y : A) → o ≡ Some x → o ≡ Some y → x ≡ y
-some_is None x y h k = cc
-some_is (Some z) x y h k = cc
+same_some : {A : Type 0} (o : Option A) (x y : A) → o ≡ Some x → o ≡ Some y → x ≡ y
+same_some None x y h k = cc
+same_some (Some z) x y h k = cc
 
 -- no tokens are no statement
 nothing_written : written_of [] ≡ None
@@ -31,7 +28,7 @@ not_blank line tokens has some empty =
 pub statement_is : (line : List ℕ) (tokens : Tokens) (s : Written) → HasTokens line tokens → eqb (length tokens) 0 ≡ false → written_of tokens ≡ Some s → IsOnlyStatement line s
 statement_is line tokens s has some w = record {
   is = (tokens, has.is, w);
-  only = λ other is. some_is (written_of tokens) other s (sym (ap written_of (has.only is.0 is.1)) ∙ is.2) w;
+  only = λ other is. same_some (written_of tokens) other s (sym (ap written_of (has.only is.0 is.1)) ∙ is.2) w;
   some = not_blank line tokens has some;
 }
 
@@ -51,7 +48,7 @@ fault_parses line tokens fault.NotAStatement has some h = statement_none line to
 -- ---- laws
 
 pub once : OneStatement
-once line s other is was = some_is (written_of is.0) s other is.2 (sym (ap written_of (tokens_unique line is.0 was.0 is.1 was.1)) ∙ was.2)
+once line s other is was = same_some (written_of is.0) s other is.2 (sym (ap written_of (tokens_unique line is.0 was.0 is.1 was.1)) ∙ was.2)
 
 pub apart : BlankIsNoStatement
 apart line s empty is = none_and_some (written_of is.0) s (ap written_of (tokens_unique line [] is.0 empty is.1) ∙ nothing_written) is.2

@@ -1,5 +1,5 @@
 -- Reading the tokens of a line from the front.
-use Rattle.std.proofs.Common.{◌≡◌, ℕ, zero, suc, ◌+◌, ◌<◌, ◌≤◌, Bool, true, false, List, [], ◌∷◌, ◌++◌, length, drop, Option, Some, None, eqb, ◌||◌, refl, sym, ap, ◌∙◌, subst, inl, inr, arith, append_assoc, append-nil, length-append, add_comm, add-one, Err, length-drop}
+use Rattle.std.proofs.Common.{◌≡◌, ℕ, zero, suc, ◌+◌, ◌<◌, ◌≤◌, Bool, true, false, List, [], ◌∷◌, ◌++◌, length, drop, Some, None, eqb, ◌||◌, refl, sym, ap, ◌∙◌, subst, inl, inr, arith, append_assoc, append-nil, length-append, add_comm, add-one, Err, length-drop}
 use Rattle.std.specs.List.{prefix_len}
 use Rattle.std.specs.Char.{is_ascii_alphabetic}
 use Rattle.std.specs.Str.{str_to_ascii_lowercase}
@@ -13,15 +13,8 @@ use Rattle.fj_syntax.specs.declared.fault.SyntaxFault.{SyntaxFault}
 use Rattle.fj_syntax.specs.declared.fault.SyntaxFault.TheVariants as fault
 use Rattle.fj_syntax.specs.Reading.{Fails}
 use Rattle.fj_syntax.specs.Tokens.{begins, IsWritten, sign_bytes, truth_bytes, AreTokens, none, comment, blank, token as first, HasTokens, HasNoTokens, ends_line, Scanned}
-use Rattle.fj_syntax.proofs.TokenLemmas.{is_either, choose_true, choose_false, same_byte, run_ends}
+use Rattle.fj_syntax.proofs.TokenLemmas.{begun_some, is_either, choose_true, choose_false, none_and_some, same_byte, some_is, run_ends}
 use Rattle.fj_syntax.proofs.FirstTokenLemmas.{StandsFirst, first_is, first_again}
-
-not_some : {A : Type 0} (o : Option A) (x : A) → o ≡ None → o ≡ Some x → ⊥
-not_some None x h k = cc
-not_some (Some y) x h k = cc
-
-same_found : (x y : Token × List ℕ) → Some x ≡ Some y → x ≡ y
-same_found x y h = cc
 
 -- ---- what a line begins with
 
@@ -65,7 +58,7 @@ end_is (c ∷ line) h = subst (λ d. AreTokens (d ∷ line) []) (sym (same_byte 
 end_only : (line : List ℕ) (other : List Token) → ends_line line ≡ true → Begins line other → other ≡ []
 end_only _ _ h (with_blank b line is more) = let no : false ≡ true = sym (blank_no_end b line is) ∙ h in cc
 end_only _ _ h (with_end line is) = refl
-end_only _ _ h (with_token line rest t tokens is more) = absurd (not_some (first_token line) (t, rest) (end_first line h) is)
+end_only _ _ h (with_token line rest t tokens is more) = absurd (none_and_some (first_token line) (t, rest) (end_first line h) is)
 
 token_is : (line rest : List ℕ) (t : Token) (us : List Token) → first_token line ≡ Some (t, rest) → AreTokens rest us → AreTokens line (t ∷ us)
 token_is line rest t us h more =
@@ -79,10 +72,10 @@ pub record HasFirst (t : Token) (rest : List ℕ) (tokens : List Token) : Type 0
   are : AreTokens rest others
 
 token_only : (line rest : List ℕ) (t : Token) (tokens : List Token) → first_token line ≡ Some (t, rest) → Begins line tokens → HasFirst t rest tokens
-token_only _ rest t _ h (with_blank b line is more) = absurd (not_some (first_token (b ∷ line)) (t, rest) (blank_first b line is) h)
-token_only _ rest t _ h (with_end line is) = absurd (not_some (first_token line) (t, rest) (end_first line is) h)
+token_only _ rest t _ h (with_blank b line is more) = absurd (none_and_some (first_token (b ∷ line)) (t, rest) (blank_first b line is) h)
+token_only _ rest t _ h (with_end line is) = absurd (none_and_some (first_token line) (t, rest) (end_first line is) h)
 token_only _ rest t _ h (with_token line after s tokens is more) =
-    let same : (s, after) ≡ (t, rest) = same_found (s, after) (t, rest) (sym is ∙ h) in
+    let same : (s, after) ≡ (t, rest) = some_is (s, after) (t, rest) (sym is ∙ h) in
     let same_token : s ≡ t = ap (λ x. x.0) same in
     let same_rest : after ≡ rest = ap (λ x. x.1) same in
     record { others = tokens; is = ap (λ x. x ∷ tokens) same_token; are = subst (λ l. AreTokens l tokens) same_rest more }
@@ -90,12 +83,12 @@ token_only _ rest t _ h (with_token line after s tokens is more) =
 none_first : (line : List ℕ) (tokens : List Token) → first_token line ≡ None → ends_line line ≡ false → begins (is_of Blank) line ≡ false → Begins line tokens → ⊥
 none_first _ _ h no_end no_blank (with_blank b line is more) = let no : true ≡ false = sym is ∙ no_blank in cc
 none_first _ _ h no_end no_blank (with_end line is) = let no : true ≡ false = sym is ∙ no_end in cc
-none_first _ _ h no_end no_blank (with_token line rest t tokens is more) = not_some (first_token line) (t, rest) h is
+none_first _ _ h no_end no_blank (with_token line rest t tokens is more) = none_and_some (first_token line) (t, rest) h is
 
 behind_blank : (b : ℕ) (line : List ℕ) (tokens : List Token) → is_of Blank b ≡ true → Begins (b ∷ line) tokens → AreTokens line tokens
 behind_blank _ _ _ h (with_blank b line is more) = more
 behind_blank b line _ h (with_end _ is) = let no : false ≡ true = sym (blank_no_end b line h) ∙ is in cc
-behind_blank b line _ h (with_token _ rest t tokens is more) = absurd (not_some (first_token (b ∷ line)) (t, rest) (blank_first b line h) is)
+behind_blank b line _ h (with_token _ rest t tokens is more) = absurd (none_and_some (first_token (b ∷ line)) (t, rest) (blank_first b line h) is)
 
 abbrev behind_blanks : List ℕ → List ℕ
 behind_blanks line = drop (prefix_len (is_of Blank) line) line
@@ -162,16 +155,12 @@ scans_refused line rest found s no_end no_blank h = λ ts are.
 
 -- ---- each token takes some bytes
 
-begun_some : (bytes : List ℕ) → begins is_ascii_alphabetic bytes ≡ true → 0 < length bytes
-begun_some [] h = cc
-begun_some (c ∷ bytes) h = omega arith
-
 truth_some : (truth : Bool) (bytes : List ℕ) → str_to_ascii_lowercase bytes ≡ truth_bytes truth → 0 < length bytes
 truth_some truth [] h = elim truth as (λ b. ([] ≡ truth_bytes b) → 0 < length {A = ℕ} []) [ true ↦ λ e. cc | false ↦ λ e. cc ] h
 truth_some truth (c ∷ bytes) h = omega arith
 
 written_some : (t : Token) (bytes line : List ℕ) → IsWritten t bytes line → 0 < length bytes
-written_some (token.Word word) bytes line w = begun_some bytes w.letter
+written_some (token.Word word) bytes line w = begun_some is_ascii_alphabetic bytes w.letter
 written_some (token.Number sign amount) bytes line w = omega (arith, ap length w.written, length-append (sign_bytes sign) w.digits, w.some)
 written_some (token.Literal text) bytes line w = omega (arith, ap length w.written)
 written_some (token.Truth truth) bytes line w = truth_some truth bytes w

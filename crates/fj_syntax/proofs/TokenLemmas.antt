@@ -1,5 +1,5 @@
 -- The first token of a line is the one that is written there.
-use Rattle.std.proofs.Common.{◌≡◌, ℕ, zero, suc, ◌+◌, ◌<◌, ◌≤◌, Bool, true, false, cond, List, [], ◌∷◌, ◌++◌, length, take, drop, map, Option, Some, None, eqb, ltb, ◌||◌, ◌&&◌, refl, sym, ap, ◌∙◌, subst, inl, inr, arith, ◌⊎◌, add_comm, add-one, append_assoc}
+use Rattle.std.proofs.Common.{◌≡◌, ℕ, ◌+◌, ◌<◌, ◌≤◌, Bool, true, false, cond, List, [], ◌∷◌, ◌++◌, length, take, drop, map, Option, Some, None, eqb, ltb, ◌||◌, ◌&&◌, refl, sym, ap, ◌∙◌, subst, inl, inr, arith, ◌⊎◌, add_comm, add-one, append_assoc}
 use Rattle.std.specs.List.{AllPass, prefix_len, list_all}
 use Rattle.std.specs.Char.{is_ascii_alphabetic, to_ascii_uppercase}
 use Rattle.std.proofs.Math.Seq.{take-append_seam, drop-append_seam}
@@ -13,11 +13,23 @@ use Rattle.fj_syntax.specs.declared.token.Token.{Token}
 use Rattle.fj_syntax.specs.declared.token.Token.TheVariants as token
 use Rattle.fj_syntax.specs.declared.token.Sign.{Sign}
 use Rattle.std.specs.Str.Parse.{digits_value}
-use Rattle.fj_syntax.specs.FirstToken.{word_at, number_at, closed_by, behind_delimiter, with_front}
+use Rattle.fj_syntax.specs.FirstToken.{run_at, word_at, number_at, closed_by, behind_delimiter, with_front}
 use Rattle.fj_syntax.specs.Tokens.{begins, doubled, IsDelimiter, IsWritten, sign_bytes}
+use Rattle.fj_syntax.specs.Reading.{◌>>=◌}
 use Rattle.fj_syntax.proofs.ClassLemmas.{front_passes}
 
--- ---- tests
+-- ---- steps and tests
+
+pub bound : {A B : Type 0} (o : Option A) (f : A → Option B) (y : B) → (o >>= f) ≡ Some y → (x : A) × (o ≡ Some x) × (f x ≡ Some y)
+bound None f y h = cc
+bound (Some x) f y h = (x, refl, h)
+
+pub some_is : {A : Type 0} (x y : A) → Some x ≡ Some y → x ≡ y
+some_is x y h = cc
+
+pub none_and_some : {A : Type 0} (o : Option A) (x : A) → o ≡ None → o ≡ Some x → ⊥
+none_and_some None x h k = cc
+none_and_some (Some y) x h k = cc
 
 -- an `and` that is true
 pub both : (a b : Bool) → (a && b) ≡ true → (a ≡ true) × (b ≡ true)
@@ -61,114 +73,99 @@ run_ends p (c ∷ line) =
       | inr h ↦ subst P (sym (choose_false (p c) (1 + prefix_len p line) 0 h)) h
     ]
 
--- ---- words
+abbrev pub Part : Type 0
+Part = List ℕ × List ℕ
 
--- the word of a line of which the longest front is known
-word_found : (line front rest : List ℕ) (n : ℕ) → prefix_len (is_of InWord) line ≡ n → n ≤ 63 → take n line ≡ front → drop n line ≡ rest
-    → word_at line ≡ Some (token.Word (map to_ascii_uppercase front), rest)
-unfolding word_at
-word_found line front rest n e short f r =
-    let short_one : prefix_len (is_of InWord) line ≤ 63 = omega (arith, e, short) in
-    choose_false (ltb 63 (prefix_len (is_of InWord) line)) _ _ (grind (arith, nat_tests))
-    ∙ ap (λ k. Some (token.Word (map to_ascii_uppercase (take k line)), drop k line)) e
-    ∙ ap (λ l. Some (token.Word (map to_ascii_uppercase l), drop n line)) f
-    ∙ ap (λ l. Some (token.Word (map to_ascii_uppercase front), l)) r
+-- a front that passes before a line that doesn't
+pub record IsRun (p : ℕ → Bool) (most : ℕ) (line : List ℕ) (run : Part) : Type 0 where
+  pub is : line ≡ run.0 ++ run.1
+  pub all : AllPass p run.0
+  pub some : 0 < length run.0
+  pub short : length run.0 ≤ most
+  pub ends : begins p run.1 ≡ false
 
-pub word_again : (bytes line : List ℕ) → AllPass (is_of InWord) bytes → length bytes ≤ 63 → begins (is_of InWord) line ≡ false
-    → word_at (bytes ++ line) ≡ Some (token.Word (map to_ascii_uppercase bytes), line)
-word_again bytes line all short ends =
-    word_found (bytes ++ line) bytes line (length bytes) (run_is (is_of InWord) bytes line (list_all-from_AllPass (is_of InWord) bytes all) ends) short
-    (take-append_seam bytes line) (drop-append_seam bytes line)
-
-word_from : (line : List ℕ) (x : Token × List ℕ) → word_at line ≡ Some x
-    → (prefix_len (is_of InWord) line ≤ 63) × (x ≡ (token.Word (map to_ascii_uppercase (take (prefix_len (is_of InWord) line) line)), drop (prefix_len (is_of InWord) line) line))
-unfolding word_at
-word_from line x h =
-    elim (chosen (ltb 63 (prefix_len (is_of InWord) line)) _ _ _ h) [
+run_from : (p : ℕ → Bool) (most : ℕ) (line : List ℕ) (run : Part) → run_at p most line ≡ Some run → IsRun p most line run
+run_from p most line run h =
+    let n = prefix_len p line in
+    elim (chosen (eqb n 0 || ltb most n) None (Some (take n line, drop n line)) (Some run) h) [
       | inl e ↦ cc
-      | inr e ↦ (grind (arith, nat_tests), cc)
+      | inr e ↦
+          let some : 0 < n = grind (arith, nat_tests) in
+          let short : n ≤ most = grind (arith, nat_tests) in
+          subst (IsRun p most line) (some_is (take n line, drop n line) run e.1) (record {
+            is = sym (take-append-drop n line);
+            all = front_passes p line;
+            some = omega (arith, length-prefix_len p line);
+            short = omega (arith, length-prefix_len p line);
+            ends = run_ends p line;
+          })
     ]
 
-letter_in_word : (c : ℕ) → is_ascii_alphabetic c ≡ true → is_of InWord c ≡ true
-letter_in_word c h = grind (arith, nat_tests)
+-- the run of a line of which the longest front is known
+run_found : (p : ℕ → Bool) (most : ℕ) (line front rest : List ℕ) (n : ℕ) → prefix_len p line ≡ n → 0 < n → n ≤ most → take n line ≡ front → drop n line ≡ rest → run_at p most line ≡ Some (front, rest)
+run_found p most line front rest n e some short f r =
+    let some_one : 0 < prefix_len p line = omega (arith, e, some) in
+    let short_one : prefix_len p line ≤ most = omega (arith, e, short) in
+    choose_false (eqb (prefix_len p line) 0 || ltb most (prefix_len p line)) _ _ (grind (arith, nat_tests))
+    ∙ ap (λ k. Some (take k line, drop k line)) e ∙ ap (λ l. Some (l, drop n line)) f ∙ ap (λ l. Some (front, l)) r
 
--- a letter is at the front of the word that begins with it
-begins_take : (p : ℕ → Bool) (c n : ℕ) (line : List ℕ) → p c ≡ true → 0 < n → begins p (take n (c ∷ line)) ≡ true
-begins_take p c zero line h some = absurd (omega arith)
-begins_take p c (suc n) line h some = h
+run_again : (p : ℕ → Bool) (most : ℕ) (front line : List ℕ) → AllPass p front → 0 < length front → length front ≤ most → begins p line ≡ false → run_at p most (front ++ line) ≡ Some (front, line)
+run_again p most front line all some short ends =
+    run_found p most (front ++ line) front line (length front) (run_is p front line (list_all-from_AllPass p front all) ends) some short (take-append_seam front line) (drop-append_seam front line)
+
+-- ---- words
+
+pub begun_some : (p : ℕ → Bool) (bytes : List ℕ) → begins p bytes ≡ true → 0 < length bytes
+begun_some p [] h = cc
+begun_some p (c ∷ bytes) h = omega arith
+
+pub word_again : (bytes line : List ℕ) → AllPass (is_of InWord) bytes → 0 < length bytes → length bytes ≤ 63 → begins (is_of InWord) line ≡ false
+    → word_at (bytes ++ line) ≡ Some (token.Word (map to_ascii_uppercase bytes), line)
+unfolding word_at
+word_again bytes line all some short ends = ap (λ r. r >>= (λ run. Some (token.Word (map to_ascii_uppercase run.0), run.1))) (run_again (is_of InWord) 63 bytes line all some short ends)
+
+-- what a line begins with, its front begins with
+begins_front : (p : ℕ → Bool) (c : ℕ) (line front rest : List ℕ) → c ∷ line ≡ front ++ rest → 0 < length front → p c ≡ true → begins p front ≡ true
+begins_front p c line [] rest e some h = absurd (omega arith)
+begins_front p c line (d ∷ front) rest e some h = let same : c ≡ d = cc in subst (λ b. p b ≡ true) same h
 
 pub word_is : (c : ℕ) (line : List ℕ) (x : Token × List ℕ) → is_ascii_alphabetic c ≡ true → word_at (c ∷ line) ≡ Some x
     → (bytes : List ℕ) × (c ∷ line ≡ bytes ++ x.1) × IsWritten x.0 bytes x.1
+unfolding word_at
 word_is c line x letter h =
-    let p = is_of InWord in
-    let n = prefix_len p (c ∷ line) in
-    let from = word_from (c ∷ line) x h in
-    let some : 0 < n = omega (arith, choose_true (p c) (1 + prefix_len p line) 0 (letter_in_word c letter)) in
+    let r = bound (run_at (is_of InWord) 63 (c ∷ line)) (λ run. Some (token.Word (map to_ascii_uppercase run.0), run.1)) x h in
+    let run : IsRun (is_of InWord) 63 (c ∷ line) r.0 = run_from (is_of InWord) 63 (c ∷ line) r.0 r.1 in
     let P : Token × List ℕ → Type 0 = λ y. (bytes : List ℕ) × (c ∷ line ≡ bytes ++ y.1) × IsWritten y.0 bytes y.1 in
-    subst P (sym from.1) (
-      take n (c ∷ line),
-      sym (take-append-drop n (c ∷ line)),
+    subst P (some_is (token.Word (map to_ascii_uppercase r.0.0), r.0.1) x r.2) (
+      r.0.0,
+      run.is,
       record {
-        letter = begins_take is_ascii_alphabetic c n line letter some;
-        all = front_passes p (c ∷ line);
-        short = omega (arith, length-prefix_len p (c ∷ line), from.0);
+        letter = begins_front is_ascii_alphabetic c line r.0.0 r.0.1 run.is run.some letter;
+        all = run.all;
+        short = run.short;
         upper = refl;
-        ends = run_ends p (c ∷ line);
+        ends = run.ends;
       },
     )
 
 -- ---- numbers
 
-number_found : (sign : Sign) (line front rest : List ℕ) (n : ℕ) → prefix_len (is_of Digit) line ≡ n → 0 < n → n ≤ 19 → take n line ≡ front → drop n line ≡ rest
-    → number_at sign line ≡ Some (token.Number sign (digits_value 10 front), rest)
-unfolding number_at
-number_found sign line front rest n e some short f r =
-    let some_one : 0 < prefix_len (is_of Digit) line = omega (arith, e, some) in
-    let short_one : prefix_len (is_of Digit) line ≤ 19 = omega (arith, e, short) in
-    choose_false (eqb (prefix_len (is_of Digit) line) 0 || ltb 19 (prefix_len (is_of Digit) line)) _ _ (grind (arith, nat_tests))
-    ∙ ap (λ k. Some (token.Number sign (digits_value 10 (take k line)), drop k line)) e
-    ∙ ap (λ l. Some (token.Number sign (digits_value 10 l), drop n line)) f
-    ∙ ap (λ l. Some (token.Number sign (digits_value 10 front), l)) r
-
 pub number_again : (sign : Sign) (digits line : List ℕ) → AllPass (is_of Digit) digits → 0 < length digits → length digits ≤ 19 → begins (is_of Digit) line ≡ false
     → number_at sign (digits ++ line) ≡ Some (token.Number sign (digits_value 10 digits), line)
-number_again sign digits line all some short ends =
-    number_found sign (digits ++ line) digits line (length digits) (run_is (is_of Digit) digits line (list_all-from_AllPass (is_of Digit) digits all) ends) some short
-    (take-append_seam digits line) (drop-append_seam digits line)
-
-abbrev digits_of_line : List ℕ → ℕ
-digits_of_line line = prefix_len (is_of Digit) line
-
-number_from : (sign : Sign) (line : List ℕ) (x : Token × List ℕ) → number_at sign line ≡ Some x
-    → (0 < digits_of_line line) × (digits_of_line line ≤ 19) × (x ≡ (token.Number sign (digits_value 10 (take (digits_of_line line) line)), drop (digits_of_line line) line))
 unfolding number_at
-number_from sign line x h =
-    elim (chosen (eqb (digits_of_line line) 0 || ltb 19 (digits_of_line line)) _ _ _ h) [
-      | inl e ↦ cc
-      | inr e ↦ (grind (arith, nat_tests), grind (arith, nat_tests), cc)
-    ]
+number_again sign digits line all some short ends = ap (λ r. r >>= (λ run. Some (token.Number sign (digits_value 10 run.0), run.1))) (run_again (is_of Digit) 19 digits line all some short ends)
 
 pub number_is : (sign : Sign) (line : List ℕ) (x : Token × List ℕ) → number_at sign line ≡ Some x
     → (bytes : List ℕ) × (sign_bytes sign ++ line ≡ bytes ++ x.1) × IsWritten x.0 bytes x.1
+unfolding number_at
 number_is sign line x h =
-    let p = is_of Digit in
-    let n = prefix_len p line in
-    let from = number_from sign line x h in
+    let r = bound (run_at (is_of Digit) 19 line) (λ run. Some (token.Number sign (digits_value 10 run.0), run.1)) x h in
+    let run : IsRun (is_of Digit) 19 line r.0 = run_from (is_of Digit) 19 line r.0 r.1 in
     let P : Token × List ℕ → Type 0 = λ y. (bytes : List ℕ) × (sign_bytes sign ++ line ≡ bytes ++ y.1) × IsWritten y.0 bytes y.1 in
-    let whole : sign_bytes sign ++ line ≡ (sign_bytes sign ++ take n line) ++ drop n line =
-    ap (λ l. sign_bytes sign ++ l) (sym (take-append-drop n line)) ∙ sym (append_assoc (sign_bytes sign) (take n line) (drop n line)) in
-    subst P (sym from.2) (
-      sign_bytes sign ++ take n line,
-      whole,
-      record {
-        digits = take n line;
-        all = front_passes p line;
-        some = omega (arith, length-prefix_len p line, from.0);
-        short = omega (arith, length-prefix_len p line, from.1);
-        value = refl;
-        written = refl;
-        ends = run_ends p line;
-      },
+    subst P (some_is (token.Number sign (digits_value 10 r.0.0), r.0.1) x r.2) (
+      sign_bytes sign ++ r.0.0,
+      ap (λ l. sign_bytes sign ++ l) run.is ∙ sym (append_assoc (sign_bytes sign) r.0.0 r.0.1),
+      record { digits = r.0.0; all = run.all; some = run.some; short = run.short; value = refl; written = refl; ends = run.ends },
     )
 
 -- ---- literals
@@ -178,9 +175,6 @@ same_byte a b h = grind (arith, nat_tests)
 
 byte_is : (q : ℕ) → eqb q q ≡ true
 byte_is q = grind (arith, nat_tests)
-
-abbrev pub Part : Type 0
-Part = List ℕ × List ℕ
 
 -- what was read behind a front
 pub record IsBehind (front : List ℕ) (read : Option Part) (x : Part) : Type 0 where

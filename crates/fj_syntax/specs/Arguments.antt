@@ -96,3 +96,9 @@ is_known known s = list_any (λ one. same_specifier one s) known
 -- the statement knows each specifier that stands there
 abbrev pub are_known : List Specifier → List Argument → Bool
 are_known known args = list_all (λ a. is_known known a.specifier) args
+
+-- the same, where the statement knows each specifier
+unfoldable pub known_call_of : List Specifier → Tokens → Option (List Argument)
+known_call_of known ts = do
+  args ← whole_call_of ts
+  if are_known known args then Some args else None

@@ -1,11 +1,10 @@
--- The input/output statements from their arguments: which specifiers each knows, and what is given for each.
+-- The input/output statements from their tokens: which specifiers each knows, and what is given for each.
 use Rattle.std.specs.Prelude.{Bool, true, false, not, List, [], ◌∷◌, ◌++◌, Option, Some, None, if◌then◌else◌}
 use Rattle.fj_modes.specs.declared.asked.Question.{Question}
 use Rattle.fj_modes.specs.declared.asked.Question.TheVariants as question
 use Rattle.fj_modes.specs.declared.asked.Subject.{Subject}
 use Rattle.fj_modes.specs.declared.asked.Subject.TheVariants as subject
 use Rattle.fj_modes.specs.declared.unit.Motion.{Motion}
-use Rattle.fj_modes.specs.declared.specifiers.OpenSpec.{OpenSpec}
 use Rattle.fj_modes.specs.ModeWords.{status_words, access_words, position_words, action_words, delim_words, disposition_words, form_words, blank_words, decimal_words, sign_words, answer_words}
 use Rattle.fj_syntax.specs.declared.operand.Operand.{Operand}
 use Rattle.fj_syntax.specs.declared.operand.Given as givens
@@ -18,13 +17,10 @@ use Rattle.fj_syntax.specs.declared.written.Wait.{Wait}
 use Rattle.fj_syntax.specs.declared.written.Move.{Move}
 use Rattle.fj_syntax.specs.declared.written.Asking.{Asking}
 use Rattle.fj_syntax.specs.declared.written.Inquire.{Inquire}
-use Rattle.fj_syntax.specs.declared.written.Changes.{Changes}
-use Rattle.fj_syntax.specs.declared.written.Control.{Control}
-use Rattle.fj_syntax.specs.declared.written.Course.{Course}
-use Rattle.fj_syntax.specs.declared.written.Results.{Results}
 use Rattle.fj_syntax.specs.declared.written.Transfer.{Transfer}
-use Rattle.fj_syntax.specs.Arguments.{given_for, is_known, are_known}
+use Rattle.fj_syntax.specs.Arguments.{given_for, is_known, are_known, known_call_of, whole_call_of}
 use Rattle.fj_syntax.specs.Given.{place_given, place_at, integer_at, mode_at, file_given, file_at, unit_given, unit_at, format_at, group_at, recl_at}
+use Rattle.fj_syntax.specs.Parts.{Tokens}
 use Rattle.fj_syntax.specs.Reading.{◌>>=◌}
 
 -- ---- which specifiers each statement knows
@@ -85,17 +81,10 @@ question_of s = None
 
 -- ---- the statements
 
-unfoldable pub changes_of : List Argument → Option Changes
-changes_of args = do
-  blank_zero ← mode_at blank_words specifier.Blank args
-  comma ← mode_at decimal_words specifier.Decimal args
-  delim ← mode_at delim_words specifier.Delim args
-  pad ← mode_at answer_words specifier.Pad args
-  plus ← mode_at sign_words specifier.Sign args
-  Some (record { blank_zero = blank_zero; comma = comma; delim = delim; pad = pad; plus = plus })
-
-unfoldable pub spec_of : List Argument → Option OpenSpec
-spec_of args = do
+unfoldable pub open_of : Tokens → Option Open
+open_of ts = do
+  args ← known_call_of of_open ts
+  unit ← unit_at false args
   file ← file_at args
   status ← mode_at status_words specifier.Status args
   access ← mode_at access_words specifier.Access args
@@ -103,50 +92,55 @@ spec_of args = do
   recl ← recl_at args
   position ← mode_at position_words specifier.Position args
   action ← mode_at action_words specifier.Action args
+  blank_zero ← mode_at blank_words specifier.Blank args
+  delim ← mode_at delim_words specifier.Delim args
+  pad ← mode_at answer_words specifier.Pad args
+  comma ← mode_at decimal_words specifier.Decimal args
+  plus ← mode_at sign_words specifier.Sign args
   asynchronous ← mode_at answer_words specifier.Asynchronous args
-  edit ← changes_of args
+  iostat ← place_at specifier.Iostat args
   Some (record {
-    file = file;
-    status = status;
-    access = access;
-    formatted = formatted;
-    recl = recl;
-    position = position;
-    action = action;
-    blank_zero = edit.blank_zero;
-    delim = edit.delim;
-    pad = edit.pad;
-    comma = edit.comma;
-    plus = edit.plus;
-    asynchronous = asynchronous;
+    unit = unit;
+    spec = record {
+      file = file;
+      status = status;
+      access = access;
+      formatted = formatted;
+      recl = recl;
+      position = position;
+      action = action;
+      blank_zero = blank_zero;
+      delim = delim;
+      pad = pad;
+      comma = comma;
+      plus = plus;
+      asynchronous = asynchronous;
+    };
+    iostat = iostat;
   })
 
-unfoldable pub open_of : List Argument → Option Open
-open_of args = if are_known of_open args then (do
-  unit ← unit_at false args
-  spec ← spec_of args
-  iostat ← place_at specifier.Iostat args
-  Some (record { unit = unit; spec = spec; iostat = iostat })) else None
-
-unfoldable pub close_of : List Argument → Option Close
-close_of args = if are_known of_close args then (do
+unfoldable pub close_of : Tokens → Option Close
+close_of ts = do
+  args ← known_call_of of_close ts
   unit ← unit_at false args
   keep ← mode_at disposition_words specifier.Status args
   iostat ← place_at specifier.Iostat args
-  Some (record { unit = unit; keep = keep; iostat = iostat })) else None
+  Some (record { unit = unit; keep = keep; iostat = iostat })
 
-unfoldable pub wait_of : List Argument → Option Wait
-wait_of args = if are_known of_wait args then (do
+unfoldable pub wait_of : Tokens → Option Wait
+wait_of ts = do
+  args ← known_call_of of_wait ts
   unit ← unit_at false args
   id ← integer_at specifier.Id args
   iostat ← place_at specifier.Iostat args
-  Some (record { unit = unit; id = id; iostat = iostat })) else None
+  Some (record { unit = unit; id = id; iostat = iostat })
 
-unfoldable pub move_of : Motion → List Argument → Option Move
-move_of how args = if are_known of_motions args then (do
+unfoldable pub move_of : Motion → Tokens → Option Move
+move_of how ts = do
+  args ← known_call_of of_motions ts
   unit ← unit_at false args
   iostat ← place_at specifier.Iostat args
-  Some (record { how = how; unit = unit; iostat = iostat })) else None
+  Some (record { how = how; unit = unit; iostat = iostat })
 
 -- a question with the place for its answer; other specifiers of INQUIRE ask nothing
 abbrev pub asking : Option Question → Argument → Option (List Asking)
@@ -173,41 +167,49 @@ subject_from u f = None
 unfoldable pub subject_of : List Argument → Option Subject
 subject_of args = subject_from (given_for specifier.Unit args) (given_for specifier.File args)
 
-unfoldable pub inquire_of : List Argument → Option Inquire
-inquire_of args = do
+unfoldable pub inquire_of : Tokens → Option Inquire
+inquire_of ts = do
+  args ← whole_call_of ts
   about ← subject_of args
   asked ← asked_of args
   id ← integer_at specifier.Id args
   iostat ← place_at specifier.Iostat args
   Some (record { about = about; asked = asked; id = id; iostat = iostat })
 
-unfoldable pub course_of : List Argument → Option Course
-course_of args = do
-  rec ← integer_at specifier.Rec args
-  pos ← integer_at specifier.Pos args
+-- only WRITE takes an asterisk for its unit
+unfoldable pub transfer_of : Bool → List Argument → List Operand → Option Transfer
+transfer_of input args items = if are_known (of_transfer input) args then (do
+  unit ← unit_at (not input) args
+  format ← format_at args
+  group ← group_at args
   advance ← mode_at answer_words specifier.Advance args
   asynchronous ← mode_at answer_words specifier.Asynchronous args
-  Some (record { rec = rec; pos = pos; advance = advance; asynchronous = asynchronous })
-
-unfoldable pub results_of : List Argument → Option Results
-results_of args = do
+  blank_zero ← mode_at blank_words specifier.Blank args
+  comma ← mode_at decimal_words specifier.Decimal args
+  delim ← mode_at delim_words specifier.Delim args
+  pad ← mode_at answer_words specifier.Pad args
+  plus ← mode_at sign_words specifier.Sign args
+  rec ← integer_at specifier.Rec args
+  pos ← integer_at specifier.Pos args
   id ← place_at specifier.Id args
   size ← place_at specifier.Size args
   iostat ← place_at specifier.Iostat args
-  Some (record { id = id; size = size; iostat = iostat })
-
--- only WRITE takes an asterisk for its unit
-unfoldable pub control_of : Bool → List Argument → Option Control
-control_of star args = do
-  unit ← unit_at star args
-  format ← format_at args
-  group ← group_at args
-  changes ← changes_of args
-  Some (record { unit = unit; format = format; group = group; changes = changes })
-
-unfoldable pub transfer_of : Bool → List Argument → List Operand → Option Transfer
-transfer_of input args items = if are_known (of_transfer input) args then (do
-  control ← control_of (not input) args
-  course ← course_of args
-  results ← results_of args
-  Some (record { input = input; control = control; course = course; results = results; items = items })) else None
+  Some (record {
+    input = input;
+    unit = unit;
+    format = format;
+    group = group;
+    advance = advance;
+    asynchronous = asynchronous;
+    blank_zero = blank_zero;
+    comma = comma;
+    delim = delim;
+    pad = pad;
+    plus = plus;
+    rec = rec;
+    pos = pos;
+    id = id;
+    size = size;
+    iostat = iostat;
+    items = items;
+  })) else None

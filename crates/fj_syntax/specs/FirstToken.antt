@@ -1,5 +1,5 @@
 -- The first token of a line that begins with one, and the line behind it.
-use Rattle.std.specs.Prelude.{ℕ, true, false, ◌||◌, ◌&&◌, ◌==◌, nat_lt, List, [], ◌∷◌, ◌++◌, take, drop, map, Option, Some, None, if◌then◌else◌, codes, slice_index, option_map}
+use Rattle.std.specs.Prelude.{ℕ, Bool, true, false, ◌||◌, ◌&&◌, ◌==◌, nat_lt, List, [], ◌∷◌, ◌++◌, take, drop, map, Option, Some, None, if◌then◌else◌, codes, slice_index, option_map}
 use Rattle.std.specs.List.{prefix_len}
 use Rattle.std.specs.Char.{is_ascii_alphabetic, is_ascii_digit, to_ascii_uppercase}
 use Rattle.std.specs.Str.{bytes_eq, str_to_ascii_lowercase}
@@ -12,20 +12,24 @@ use Rattle.fj_syntax.specs.declared.token.Mark.{Mark}
 use Rattle.fj_syntax.specs.declared.token.Mark.TheVariants as mark
 use Rattle.fj_syntax.specs.declared.token.Sign.{Sign}
 use Rattle.fj_syntax.specs.declared.token.Sign.TheVariants as sign
+use Rattle.fj_syntax.specs.Reading.{◌>>=◌}
 
 -- a token, and the line behind it
 abbrev pub Found : Type 0
 Found = Option (Token × List ℕ)
 
--- the longest word, of up to 63 characters
-unfoldable pub word_at : List ℕ → Found
-word_at line = let n = prefix_len (is_of class.InWord) line in
-    if nat_lt 63 n then None else Some (token.Word (map to_ascii_uppercase (take n line)), drop n line)
+-- the longest front that passes, of 1 byte at least and so many at most, and the line behind it
+abbrev pub run_at : (ℕ → Bool) → ℕ → List ℕ → Option (List ℕ × List ℕ)
+run_at p most line = let n = prefix_len p line in
+    if (n == 0) || nat_lt most n then None else Some (take n line, drop n line)
 
--- the longest run of digits, 1 to 19 of them
+-- up to 63 characters
+unfoldable pub word_at : List ℕ → Found
+word_at line = run_at (is_of class.InWord) 63 line >>= (λ run. Some (token.Word (map to_ascii_uppercase run.0), run.1))
+
+-- up to 19 digits
 unfoldable pub number_at : Sign → List ℕ → Found
-number_at s line = let n = prefix_len (is_of class.Digit) line in
-    if (n == 0) || nat_lt 19 n then None else Some (token.Number s (digits_value 10 (take n line)), drop n line)
+number_at s line = run_at (is_of class.Digit) 19 line >>= (λ run. Some (token.Number s (digits_value 10 run.0), run.1))
 
 -- with this before the text
 abbrev pub with_front : List ℕ → Option (List ℕ × List ℕ) → Option (List ℕ × List ℕ)

@@ -4,6 +4,7 @@ pub mod Calls
 pub mod Class
 pub mod FirstToken
 pub mod Given
+pub mod KnownLaws
 pub mod Parsing
 pub mod PartLaws
 pub mod Parts

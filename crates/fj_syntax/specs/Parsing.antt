@@ -1,11 +1,12 @@
 -- What parsing a line answers.
-use Rattle.std.specs.Prelude.{◌≡◌, ℕ, List, [], Result, Ok, Err, Option, Some, None}
+use Rattle.std.specs.Prelude.{◌≡◌, ℕ, List, [], ◌∷◌, map, All, Result, Ok, Err, Option, Some, None}
 use Rattle.fj_syntax.specs.declared.fault.SyntaxFault.{SyntaxFault}
 use Rattle.fj_syntax.specs.declared.fault.SyntaxFault.TheVariants as fault
 use Rattle.fj_syntax.specs.declared.token.Token.{Token}
 use Rattle.fj_syntax.specs.declared.written.Written.{Written}
+use Rattle.fj_syntax.specs.declared.written.Written.TheVariants as written
 use Rattle.fj_syntax.specs.Statement.{written_of}
-use Rattle.fj_syntax.specs.Tokens.{AreTokens}
+use Rattle.fj_syntax.specs.Tokens.{AreTokens, IsWordText}
 
 -- the line has these tokens, with blanks between them and a comment behind them
 abbrev pub IsStatement : List ℕ → Written → Type 0
@@ -46,3 +47,17 @@ BlankIsNoStatement = (line : List ℕ) (s : Written) → IsBlankLine line → Is
 -- a line has at most one list of tokens
 abbrev pub OneListOfTokens : Type 0
 OneListOfTokens = (line : List ℕ) (tokens other : List Token) → AreTokens line tokens → AreTokens line other → other ≡ tokens
+
+-- the names that a declaration gives
+abbrev pub names_given : Written → List (List ℕ)
+names_given (written.Declaration d) = map (λ e. e.name) d.entities
+names_given (written.Group g) = g.name ∷ []
+names_given w = []
+
+-- it is what some bytes of a line write
+abbrev pub IsWord : List ℕ → Type 0
+IsWord word = (bytes line : List ℕ) × IsWordText word bytes line
+
+-- what is declared has a word for its name
+abbrev pub NamesAreWords : Type 0
+NamesAreWords = (line : List ℕ) (s : Written) → IsStatement line s → All IsWord (names_given s)

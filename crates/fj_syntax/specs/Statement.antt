@@ -13,7 +13,7 @@ use Rattle.fj_syntax.specs.declared.words.Keyword.{Keyword}
 use Rattle.fj_syntax.specs.declared.words.Keyword.TheVariants as keyword
 use Rattle.fj_syntax.specs.declared.written.Written.{Written}
 use Rattle.fj_syntax.specs.declared.written.Written.TheVariants as written
-use Rattle.fj_syntax.specs.Arguments.{call_of, whole_call_of}
+use Rattle.fj_syntax.specs.Arguments.{call_of}
 use Rattle.fj_syntax.specs.Calls.{open_of, close_of, wait_of, move_of, inquire_of, transfer_of}
 use Rattle.fj_syntax.specs.Given.{unit_number}
 use Rattle.fj_syntax.specs.Parts.{Tokens, is_from_to, is_name, name_of, designator_of, operand_of, parted, list_of}
@@ -91,10 +91,7 @@ transfer_from input ts = do
 -- a bare unit, or arguments
 unfoldable pub motion_from : Motion → Tokens → Option Written
 motion_from how (Number Unsigned n ∷ []) = unit_number n >>= (λ u. Some (written.Move (record { how = how; unit = u; iostat = None })))
-motion_from how ts = do
-  args ← whole_call_of ts
-  m ← move_of how args
-  Some (written.Move m)
+motion_from how ts = move_of how ts >>= (λ m. Some (written.Move m))
 
 -- END alone, or END FILE
 unfoldable pub end_from : Tokens → Option Written
@@ -102,34 +99,22 @@ end_from [] = Some written.End
 end_from (Word w ∷ ts) = if bytes_eq w (codes "FILE") then motion_from motion.Endfile ts else None
 end_from ts = None
 
-unfoldable pub open_from : Tokens → Option Written
-open_from ts = whole_call_of ts >>= open_of >>= (λ o. Some (written.Open o))
-
-unfoldable pub close_from : Tokens → Option Written
-close_from ts = whole_call_of ts >>= close_of >>= (λ c. Some (written.Close c))
-
-unfoldable pub wait_from : Tokens → Option Written
-wait_from ts = whole_call_of ts >>= wait_of >>= (λ w. Some (written.Wait w))
-
-unfoldable pub inquire_from : Tokens → Option Written
-inquire_from ts = whole_call_of ts >>= inquire_of >>= (λ i. Some (written.Inquire i))
-
 -- what a keyword begins
 unfoldable pub begun_by : Keyword → Tokens → Option Written
 begun_by keyword.Integer ts = number_in (codes "KIND") ts >>= (λ n. declaration_of (integer_kind n.0) n.1)
 begun_by keyword.Logical ts = declaration_of (Some Logical) ts
 begun_by keyword.Character ts = number_in (codes "LEN") ts >>= (λ n. declaration_of (character_kind n.0) n.1)
 begun_by keyword.Namelist ts = group_of ts
-begun_by keyword.Open ts = open_from ts
-begun_by keyword.Close ts = close_from ts
+begun_by keyword.Open ts = open_of ts >>= (λ o. Some (written.Open o))
+begun_by keyword.Close ts = close_of ts >>= (λ c. Some (written.Close c))
 begun_by keyword.Read ts = transfer_from true ts
 begun_by keyword.Write ts = transfer_from false ts
-begun_by keyword.Wait ts = wait_from ts
+begun_by keyword.Wait ts = wait_of ts >>= (λ w. Some (written.Wait w))
 begun_by keyword.Backspace ts = motion_from motion.Backspace ts
 begun_by keyword.Rewind ts = motion_from motion.Rewind ts
 begun_by keyword.Endfile ts = motion_from motion.Endfile ts
 begun_by keyword.Flush ts = motion_from motion.Flush ts
-begun_by keyword.Inquire ts = inquire_from ts
+begun_by keyword.Inquire ts = inquire_of ts >>= (λ i. Some (written.Inquire i))
 begun_by keyword.End ts = end_from ts
 
 -- what does not begin with a keyword is an assignment

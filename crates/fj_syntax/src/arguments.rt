@@ -3,7 +3,7 @@ ghost use Rattle.std.specs.Prelude.{◌≡◌, ◌<◌, ◌==◌, List, true, op
 ghost use Rattle.std.specs.List.{list_any};
 ghost use Rattle.std.specs.Option.{option_copied};
 ghost use Rattle.fj_syntax.specs.declared.words.Specifier.TheVariants as specifier;
-ghost use Rattle.fj_syntax.specs.Arguments.{given_of, argument_for, argument_of, is_keyed, behind_bare, next_bare, arguments_of, is_given, are_once, depth_behind, closing, call_of, whole_call_of, given_for, is_known, are_known};
+ghost use Rattle.fj_syntax.specs.Arguments.{given_of, argument_for, argument_of, is_keyed, behind_bare, next_bare, arguments_of, is_given, are_once, depth_behind, closing, call_of, whole_call_of, known_call_of, given_for, is_known, are_known};
 ghost use Rattle.fj_syntax.specs.Reading.{Gives};
 
 use crate::fault::SyntaxFault;
@@ -192,4 +192,21 @@ pub fn are_known(known: &[Specifier], arguments: &[Argument]) -> bool
     arguments
         .iter()
         .all(|argument| is_known(known, argument.specifier))
+}
+
+/// The arguments in parentheses of a statement that knows these specifiers, with nothing behind them.
+#[tactic(auto, unfolding(crate::specs::Arguments::known_call_of))]
+pub fn known_call(
+    alloc: Global,
+    known: &[Specifier],
+    tokens: &[Token],
+) -> Result<Arguments, SyntaxFault>
+    ensures { Gives (λ x. x) result (known_call_of known.now tokens.now) }
+{
+    let arguments = whole_call(alloc, tokens)?;
+    if are_known(known, arguments.as_slice()) {
+        Ok(arguments)
+    } else {
+        Err(SyntaxFault::NotAStatement)
+    }
 }

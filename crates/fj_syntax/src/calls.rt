@@ -1,18 +1,17 @@
-// The input/output statements from their arguments.
+// The input/output statements from their tokens.
 ghost use Rattle.std.specs.Prelude.{◌≡◌, ◌++◌, [], ◌∷◌, Bool, true, false, List};
-ghost use Rattle.fj_syntax.specs.Calls.{of_transfer, changes_of, spec_of, open_of, close_of, wait_of, move_of, question_of, asking_of, asked_of, subject_of, inquire_of, results_of, course_of, control_of, transfer_of};
+ghost use Rattle.fj_syntax.specs.Calls.{of_transfer, open_of, close_of, wait_of, move_of, question_of, asking_of, asked_of, subject_of, inquire_of, transfer_of};
 ghost use Rattle.fj_syntax.specs.Arguments.{are_known};
 ghost use Rattle.fj_syntax.specs.CallWords.{as_list};
 ghost use Rattle.fj_syntax.specs.Reading.{Gives};
 
-use crate::arguments::{are_known, given_for, is_known};
+use crate::arguments::{are_known, given_for, is_known, known_call, whole_call};
 use crate::fault::SyntaxFault;
 use crate::given::{file, file_given, format, group, integer, mode, place, recl, unit, unit_given};
 use crate::operand::{Argument, Given, Operand};
+use crate::token::Token;
 use crate::words::Specifier;
-use crate::written::{
-    Asking, Changes, Close, Control, Course, Inquire, Move, Open, Results, Transfer, Wait,
-};
+use crate::written::{Asking, Close, Inquire, Move, Open, Transfer, Wait};
 use fj_modes::{
     Access, Action, Answer, Blank, Decimal, Disposition, FileStatus, Form, Motion, OpenSpec,
     Question, Sign, Start, Subject,
@@ -83,104 +82,70 @@ const OF_INQUIRE: [Specifier; 4] = [
     Specifier::Iostat,
 ];
 
-/// The modes that a transfer may change.
-#[tactic(auto, unfolding(crate::specs::Calls::changes_of))]
-fn changes(arguments: &[Argument]) -> Result<Changes, SyntaxFault>
-    ensures { Gives (λ x. x) result (changes_of arguments.now) }
-{
-    let blank_zero = mode::<Blank>(arguments, Specifier::Blank)?;
-    let comma = mode::<Decimal>(arguments, Specifier::Decimal)?;
-    let delim = mode::<Delim>(arguments, Specifier::Delim)?;
-    let pad = mode::<Answer>(arguments, Specifier::Pad)?;
-    let plus = mode::<Sign>(arguments, Specifier::Sign)?;
-    Ok(Changes {
-        blank_zero,
-        comma,
-        delim,
-        pad,
-        plus,
-    })
-}
-
-#[tactic(auto, unfolding(crate::specs::Calls::spec_of))]
-fn spec(alloc: Global, arguments: &[Argument]) -> Result<OpenSpec, SyntaxFault>
-    ensures { Gives (λ x. x) result (spec_of arguments.now) }
-{
-    let file = file(alloc, arguments)?;
-    let status = mode::<FileStatus>(arguments, Specifier::Status)?;
-    let access = mode::<Access>(arguments, Specifier::Access)?;
-    let formatted = mode::<Form>(arguments, Specifier::Form)?;
-    let recl = recl(arguments)?;
-    let position = mode::<Start>(arguments, Specifier::Position)?;
-    let action = mode::<Action>(arguments, Specifier::Action)?;
-    let asynchronous = mode::<Answer>(arguments, Specifier::Asynchronous)?;
-    let edit = changes(arguments)?;
-    Ok(OpenSpec {
-        file,
-        status,
-        access,
-        formatted,
-        recl,
-        position,
-        action,
-        blank_zero: edit.blank_zero,
-        delim: edit.delim,
-        pad: edit.pad,
-        comma: edit.comma,
-        plus: edit.plus,
-        asynchronous,
-    })
-}
-
 #[tactic(auto, unfolding(crate::specs::Calls::open_of))]
-pub fn make_open(alloc: Global, arguments: &[Argument]) -> Result<Open, SyntaxFault>
-    ensures { Gives (λ x. x) result (open_of arguments.now) }
+pub fn make_open(alloc: Global, tokens: &[Token]) -> Result<Open, SyntaxFault>
+    ensures { Gives (λ x. x) result (open_of tokens.now) }
 {
-    if !are_known(&OF_OPEN, arguments) {
-        return Err(SyntaxFault::NotAStatement);
-    }
-    let unit = unit(false, arguments)?;
-    let spec = spec(alloc, arguments)?;
-    let iostat = place(arguments, Specifier::Iostat)?;
-    Ok(Open { unit, spec, iostat })
+    let arguments = known_call(alloc, &OF_OPEN, tokens)?;
+    let arguments = arguments.as_slice();
+    Ok(Open {
+        unit: unit(false, arguments)?,
+        spec: OpenSpec {
+            file: file(alloc, arguments)?,
+            status: mode::<FileStatus>(arguments, Specifier::Status)?,
+            access: mode::<Access>(arguments, Specifier::Access)?,
+            formatted: mode::<Form>(arguments, Specifier::Form)?,
+            recl: recl(arguments)?,
+            position: mode::<Start>(arguments, Specifier::Position)?,
+            action: mode::<Action>(arguments, Specifier::Action)?,
+            blank_zero: mode::<Blank>(arguments, Specifier::Blank)?,
+            delim: mode::<Delim>(arguments, Specifier::Delim)?,
+            pad: mode::<Answer>(arguments, Specifier::Pad)?,
+            comma: mode::<Decimal>(arguments, Specifier::Decimal)?,
+            plus: mode::<Sign>(arguments, Specifier::Sign)?,
+            asynchronous: mode::<Answer>(arguments, Specifier::Asynchronous)?,
+        },
+        iostat: place(arguments, Specifier::Iostat)?,
+    })
 }
 
 #[tactic(auto, unfolding(crate::specs::Calls::close_of))]
-pub fn make_close(arguments: &[Argument]) -> Result<Close, SyntaxFault>
-    ensures { Gives (λ x. x) result (close_of arguments.now) }
+pub fn make_close(alloc: Global, tokens: &[Token]) -> Result<Close, SyntaxFault>
+    ensures { Gives (λ x. x) result (close_of tokens.now) }
 {
-    if !are_known(&OF_CLOSE, arguments) {
-        return Err(SyntaxFault::NotAStatement);
-    }
-    let unit = unit(false, arguments)?;
-    let keep = mode::<Disposition>(arguments, Specifier::Status)?;
-    let iostat = place(arguments, Specifier::Iostat)?;
-    Ok(Close { unit, keep, iostat })
+    let arguments = known_call(alloc, &OF_CLOSE, tokens)?;
+    let arguments = arguments.as_slice();
+    Ok(Close {
+        unit: unit(false, arguments)?,
+        keep: mode::<Disposition>(arguments, Specifier::Status)?,
+        iostat: place(arguments, Specifier::Iostat)?,
+    })
 }
 
 #[tactic(auto, unfolding(crate::specs::Calls::wait_of))]
-pub fn make_wait(arguments: &[Argument]) -> Result<Wait, SyntaxFault>
-    ensures { Gives (λ x. x) result (wait_of arguments.now) }
+pub fn make_wait(alloc: Global, tokens: &[Token]) -> Result<Wait, SyntaxFault>
+    ensures { Gives (λ x. x) result (wait_of tokens.now) }
 {
-    if !are_known(&OF_WAIT, arguments) {
-        return Err(SyntaxFault::NotAStatement);
-    }
-    let unit = unit(false, arguments)?;
-    let id = integer(arguments, Specifier::Id)?;
-    let iostat = place(arguments, Specifier::Iostat)?;
-    Ok(Wait { unit, id, iostat })
+    let arguments = known_call(alloc, &OF_WAIT, tokens)?;
+    let arguments = arguments.as_slice();
+    Ok(Wait {
+        unit: unit(false, arguments)?,
+        id: integer(arguments, Specifier::Id)?,
+        iostat: place(arguments, Specifier::Iostat)?,
+    })
 }
 
 #[tactic(auto, unfolding(crate::specs::Calls::move_of))]
-pub fn make_move(how: Motion, arguments: &[Argument]) -> Result<Move, SyntaxFault>
-    ensures { Gives (λ x. x) result (move_of how arguments.now) }
+pub fn make_move(alloc: Global, how: Motion, tokens: &[Token]) -> Result<Move, SyntaxFault>
+    ensures { Gives (λ x. x) result (move_of how tokens.now) }
 {
-    if !are_known(&OF_MOTIONS, arguments) {
-        return Err(SyntaxFault::NotAStatement);
-    }
-    let unit = unit(false, arguments)?;
-    let iostat = place(arguments, Specifier::Iostat)?;
-    Ok(Move { how, unit, iostat })
+    let arguments = known_call(alloc, &OF_MOTIONS, tokens)?;
+    let arguments = arguments.as_slice();
+    Ok(Move {
+        how,
+        unit: unit(false, arguments)?,
+        iostat: place(arguments, Specifier::Iostat)?,
+    })
 }
 
 /// What a specifier of INQUIRE asks, if it asks something.
@@ -263,45 +228,17 @@ fn subject(alloc: Global, arguments: &[Argument]) -> Result<Subject, SyntaxFault
 }
 
 #[tactic(auto, unfolding(crate::specs::Calls::inquire_of))]
-pub fn make_inquire(alloc: Global, arguments: &[Argument]) -> Result<Inquire, SyntaxFault>
-    ensures { Gives (λ x. x) result (inquire_of arguments.now) }
+pub fn make_inquire(alloc: Global, tokens: &[Token]) -> Result<Inquire, SyntaxFault>
+    ensures { Gives (λ x. x) result (inquire_of tokens.now) }
 {
-    let about = subject(alloc, arguments)?;
-    let asked = asked_of(alloc, arguments)?;
-    let id = integer(arguments, Specifier::Id)?;
-    let iostat = place(arguments, Specifier::Iostat)?;
+    let arguments = whole_call(alloc, tokens)?;
+    let arguments = arguments.as_slice();
     Ok(Inquire {
-        about,
-        asked,
-        id,
-        iostat,
+        about: subject(alloc, arguments)?,
+        asked: asked_of(alloc, arguments)?,
+        id: integer(arguments, Specifier::Id)?,
+        iostat: place(arguments, Specifier::Iostat)?,
     })
-}
-
-#[tactic(auto, unfolding(crate::specs::Calls::course_of))]
-fn course(arguments: &[Argument]) -> Result<Course, SyntaxFault>
-    ensures { Gives (λ x. x) result (course_of arguments.now) }
-{
-    let rec = integer(arguments, Specifier::Rec)?;
-    let pos = integer(arguments, Specifier::Pos)?;
-    let advance = mode::<Answer>(arguments, Specifier::Advance)?;
-    let asynchronous = mode::<Answer>(arguments, Specifier::Asynchronous)?;
-    Ok(Course {
-        rec,
-        pos,
-        advance,
-        asynchronous,
-    })
-}
-
-#[tactic(auto, unfolding(crate::specs::Calls::results_of))]
-fn results(arguments: &[Argument]) -> Result<Results, SyntaxFault>
-    ensures { Gives (λ x. x) result (results_of arguments.now) }
-{
-    let id = place(arguments, Specifier::Id)?;
-    let size = place(arguments, Specifier::Size)?;
-    let iostat = place(arguments, Specifier::Iostat)?;
-    Ok(Results { id, size, iostat })
 }
 
 fn are_known_to_transfer(input: bool, arguments: &[Argument]) -> bool
@@ -314,22 +251,6 @@ fn are_known_to_transfer(input: bool, arguments: &[Argument]) -> bool
     }
 }
 
-#[tactic(auto, unfolding(crate::specs::Calls::control_of))]
-fn control(star: bool, arguments: &[Argument]) -> Result<Control, SyntaxFault>
-    ensures { Gives (λ x. x) result (control_of star arguments.now) }
-{
-    let unit = unit(star, arguments)?;
-    let format = format(arguments)?;
-    let group = group(arguments)?;
-    let changes = changes(arguments)?;
-    Ok(Control {
-        unit,
-        format,
-        group,
-        changes,
-    })
-}
-
 /// READ or WRITE.
 #[tactic(auto, unfolding(crate::specs::Calls::transfer_of))]
 pub fn make_transfer(
@@ -339,18 +260,26 @@ pub fn make_transfer(
 ) -> Result<Transfer, SyntaxFault>
     ensures { Gives (λ x. x) result (transfer_of input arguments.now items) }
 {
-    let known = are_known_to_transfer(input, arguments);
-    if !known {
+    if !are_known_to_transfer(input, arguments) {
         return Err(SyntaxFault::NotAStatement);
     }
-    let control = control(!input, arguments)?;
-    let course = course(arguments)?;
-    let results = results(arguments)?;
     Ok(Transfer {
         input,
-        control,
-        course,
-        results,
+        unit: unit(!input, arguments)?,
+        format: format(arguments)?,
+        group: group(arguments)?,
+        advance: mode::<Answer>(arguments, Specifier::Advance)?,
+        asynchronous: mode::<Answer>(arguments, Specifier::Asynchronous)?,
+        blank_zero: mode::<Blank>(arguments, Specifier::Blank)?,
+        comma: mode::<Decimal>(arguments, Specifier::Decimal)?,
+        delim: mode::<Delim>(arguments, Specifier::Delim)?,
+        pad: mode::<Answer>(arguments, Specifier::Pad)?,
+        plus: mode::<Sign>(arguments, Specifier::Sign)?,
+        rec: integer(arguments, Specifier::Rec)?,
+        pos: integer(arguments, Specifier::Pos)?,
+        id: place(arguments, Specifier::Id)?,
+        size: place(arguments, Specifier::Size)?,
+        iostat: place(arguments, Specifier::Iostat)?,
         items,
     })
 }

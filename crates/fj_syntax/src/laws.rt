@@ -1,9 +1,20 @@
-// Laws of the grammar, which hold of every line.
-ghost use Rattle.fj_syntax.specs.Parsing.{OneListOfTokens, OneStatement, BlankIsNoStatement};
+// Laws of the grammar.
+ghost use Rattle.fj_syntax.specs.KnownLaws.{ArgumentsAreTaken};
+ghost use Rattle.fj_syntax.specs.Parsing.{OneListOfTokens, OneStatement, BlankIsNoStatement, NamesAreWords};
 
 /// A line has one meaning at most, so that what `parse_line` answers is the only answer.
 pub fn one_meaning()
     ensures tokens { OneListOfTokens }
     ensures statement { OneStatement }
     ensures blank { BlankIsNoStatement }
+{}
+
+/// Variables and groups are declared with names of up to 63 characters, in upper case.
+pub fn names_are_words()
+    ensures { NamesAreWords }
+{}
+
+/// Each statement takes the arguments of its specifiers, and none of another's.
+pub fn arguments_are_taken()
+    ensures { ArgumentsAreTaken }
 {}

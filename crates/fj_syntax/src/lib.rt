@@ -18,14 +18,14 @@ mod words;
 mod written;
 
 pub use fault::SyntaxFault;
-pub use laws::one_meaning;
+pub use laws::{arguments_are_taken, names_are_words, one_meaning};
 pub use lines::next_line;
 pub use operand::{Designator, Operand};
 pub use parse::parse_line;
 pub use token::Sign;
 pub use written::{
-    Asking, Assignment, Changes, Close, Control, Course, Declaration, Format, Group, Inquire, Move,
-    Open, Results, Transfer, Wait, Written,
+    Asking, Assignment, Close, Declaration, Format, Group, Inquire, Move, Open, Transfer, Wait,
+    Written,
 };
 
 #[cfg(test)]

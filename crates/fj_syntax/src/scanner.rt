@@ -7,7 +7,7 @@ ghost use Rattle.std.specs.Char.{is_ascii_digit, to_ascii_uppercase};
 ghost use Rattle.std.specs.List.{prefix_len, AllPass};
 ghost use Rattle.std.specs.Str.{bytes_eq, str_to_ascii_lowercase};
 ghost use Rattle.std.specs.Str.Parse.{digits_value, AllDigits};
-ghost use Rattle.fj_syntax.specs.FirstToken.{mark_of, first_token, word_at, number_at, closed_by, literal_at, truth_at, mark_at};
+ghost use Rattle.fj_syntax.specs.FirstToken.{mark_of, first_token, run_at, word_at, number_at, closed_by, literal_at, truth_at, mark_at};
 ghost use Rattle.fj_syntax.specs.Reading.{Gives};
 
 use crate::class::{Class, is_of, run_len};
@@ -32,15 +32,25 @@ fn upper(alloc: Global, bytes: &[u8]) -> Result<Text, AllocError>
     Ok(Text::from_vec(bytes))
 }
 
+/// The longest front of a class, of one byte at least and so many at most, and the line behind it.
+#[tactic(auto, using(crate::proofs::ClassLemmas::part_passes))]
+fn run(class: Class, most: usize, line: &[u8]) -> Result<(&[u8], &[u8]), SyntaxFault>
+    ensures run { Gives (λ x. (x.0.now, x.1.now)) result (run_at (is_of class) most line.now) }
+    ensures all { IfOk result (λ x. AllPass (is_of class) x.0.now) }
+    ensures short { IfOk result (λ x. length x.0.now ≤ most) }
+{
+    let len = run_len(class, line);
+    if len == 0 || len > most {
+        return Err(SyntaxFault::NotAStatement);
+    }
+    Ok(line.split_at(len))
+}
+
 #[tactic(auto, unfolding(crate::specs::FirstToken::word_at))]
 fn word(alloc: Global, line: &[u8]) -> Result<(Token, &[u8]), SyntaxFault>
     ensures { Gives (λ x. (x.0, x.1.now)) result (word_at line.now) }
 {
-    let len = run_len(Class::InWord, line);
-    if len > MAX_WORD {
-        return Err(SyntaxFault::NotAStatement);
-    }
-    let (front, behind) = line.split_at(len);
+    let (front, behind) = run(Class::InWord, MAX_WORD, line)?;
     Ok((Token::Word(upper(alloc, front)?), behind))
 }
 
@@ -61,11 +71,7 @@ fn amount(digits: &[u8]) -> u64
 fn number(sign: Sign, line: &[u8]) -> Result<(Token, &[u8]), SyntaxFault>
     ensures { Gives (λ x. (x.0, x.1.now)) result (number_at sign line.now) }
 {
-    let len = run_len(Class::Digit, line);
-    if len == 0 || len > MAX_DIGITS {
-        return Err(SyntaxFault::NotAStatement);
-    }
-    let (front, behind) = line.split_at(len);
+    let (front, behind) = run(Class::Digit, MAX_DIGITS, line)?;
     let amount = amount(front);
     Ok((Token::Number { sign, amount }, behind))
 }

@@ -1,10 +1,10 @@
 // The statement that tokens are.
 ghost use Rattle.std.specs.Prelude.{◌≡◌, Bool};
 ghost use Rattle.std.specs.Str.{bytes_eq};
-ghost use Rattle.fj_syntax.specs.Statement.{value_of, number_in, integer_kind, character_kind, behind_colons, declaration_of, group_of, assignment_of, items_of, transfer_from, motion_from, end_from, open_from, close_from, wait_from, inquire_from, begun_by, written_of};
+ghost use Rattle.fj_syntax.specs.Statement.{value_of, number_in, integer_kind, character_kind, behind_colons, declaration_of, group_of, assignment_of, items_of, transfer_from, motion_from, end_from, begun_by, written_of};
 ghost use Rattle.fj_syntax.specs.Reading.{Gives};
 
-use crate::arguments::{call, whole_call};
+use crate::arguments::call;
 use crate::calls::{make_close, make_inquire, make_move, make_open, make_transfer, make_wait};
 use crate::fault::SyntaxFault;
 use crate::given::unit_number;
@@ -207,10 +207,7 @@ fn motion(alloc: Global, how: Motion, tokens: &[Token]) -> Result<Written, Synta
             unit: unit_number(*amount)?,
             iostat: None,
         })),
-        _ => {
-            let arguments = whole_call(alloc, tokens)?;
-            Ok(Written::Move(make_move(how, arguments.as_slice())?))
-        }
+        _ => Ok(Written::Move(make_move(alloc, how, tokens)?)),
     }
 }
 
@@ -231,38 +228,6 @@ fn end(alloc: Global, tokens: &[Token]) -> Result<Written, SyntaxFault>
     }
 }
 
-#[tactic(auto, unfolding(crate::specs::Statement::open_from))]
-fn open(alloc: Global, tokens: &[Token]) -> Result<Written, SyntaxFault>
-    ensures { Gives (λ x. x) result (open_from tokens.now) }
-{
-    let arguments = whole_call(alloc, tokens)?;
-    Ok(Written::Open(make_open(alloc, arguments.as_slice())?))
-}
-
-#[tactic(auto, unfolding(crate::specs::Statement::close_from))]
-fn close(alloc: Global, tokens: &[Token]) -> Result<Written, SyntaxFault>
-    ensures { Gives (λ x. x) result (close_from tokens.now) }
-{
-    let arguments = whole_call(alloc, tokens)?;
-    Ok(Written::Close(make_close(arguments.as_slice())?))
-}
-
-#[tactic(auto, unfolding(crate::specs::Statement::wait_from))]
-fn wait(alloc: Global, tokens: &[Token]) -> Result<Written, SyntaxFault>
-    ensures { Gives (λ x. x) result (wait_from tokens.now) }
-{
-    let arguments = whole_call(alloc, tokens)?;
-    Ok(Written::Wait(make_wait(arguments.as_slice())?))
-}
-
-#[tactic(auto, unfolding(crate::specs::Statement::inquire_from))]
-fn inquire(alloc: Global, tokens: &[Token]) -> Result<Written, SyntaxFault>
-    ensures { Gives (λ x. x) result (inquire_from tokens.now) }
-{
-    let arguments = whole_call(alloc, tokens)?;
-    Ok(Written::Inquire(make_inquire(alloc, arguments.as_slice())?))
-}
-
 /// What a keyword begins, behind the keyword.
 #[tactic(auto, unfolding(crate::specs::Statement::begun_by))]
 fn begun_by(alloc: Global, keyword: Keyword, tokens: &[Token]) -> Result<Written, SyntaxFault>
@@ -279,16 +244,16 @@ fn begun_by(alloc: Global, keyword: Keyword, tokens: &[Token]) -> Result<Written
             declaration(alloc, character_kind(number), behind)
         }
         Keyword::Namelist => group(alloc, tokens),
-        Keyword::Open => open(alloc, tokens),
-        Keyword::Close => close(alloc, tokens),
+        Keyword::Open => Ok(Written::Open(make_open(alloc, tokens)?)),
+        Keyword::Close => Ok(Written::Close(make_close(alloc, tokens)?)),
         Keyword::Read => transfer(alloc, true, tokens),
         Keyword::Write => transfer(alloc, false, tokens),
-        Keyword::Wait => wait(alloc, tokens),
+        Keyword::Wait => Ok(Written::Wait(make_wait(alloc, tokens)?)),
         Keyword::Backspace => motion(alloc, Motion::Backspace, tokens),
         Keyword::Rewind => motion(alloc, Motion::Rewind, tokens),
         Keyword::Endfile => motion(alloc, Motion::Endfile, tokens),
         Keyword::Flush => motion(alloc, Motion::Flush, tokens),
-        Keyword::Inquire => inquire(alloc, tokens),
+        Keyword::Inquire => Ok(Written::Inquire(make_inquire(alloc, tokens)?)),
         Keyword::End => end(alloc, tokens),
     }
 }

@@ -359,10 +359,6 @@ fn are_attributes(attributes: &OpenSpec) -> bool {
         && attributes.asynchronous.is_none()
 }
 
-fn are_changes(changes: Changes) -> bool {
-    changes.delim == Some(Delim::Quote) && changes.plus == Some(true) && changes.pad.is_none()
-}
-
 fn is_format(format: Option<&Format>, text: &[u8]) -> bool {
     match format {
         Some(Format::Literal(format)) => format.bytes() == text,
@@ -382,10 +378,12 @@ fn is_item(item: Option<&Operand>) -> bool {
 
 fn is_write(write: &Transfer) -> bool {
     !write.input
-        && write.control.unit == UnitRef::Star
-        && is_format(write.control.format.as_ref(), b"('a',I5)")
-        && are_changes(write.control.changes)
-        && write.course.advance == Some(false)
+        && write.unit == UnitRef::Star
+        && is_format(write.format.as_ref(), b"('a',I5)")
+        && write.delim == Some(Delim::Quote)
+        && write.plus == Some(true)
+        && write.pad.is_none()
+        && write.advance == Some(false)
         && write.items.len() == 3
         && is_item(write.items.get(0))
 }

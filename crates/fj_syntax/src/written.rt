@@ -24,20 +24,6 @@ pub struct Assignment {
     pub from: Operand,
 }
 
-/// The specifiers of the modes that a transfer may change.
-#[derive(Clone, Copy, Debug)]
-pub struct Changes {
-    /// BLANK='ZERO'.
-    pub blank_zero: Option<bool>,
-    /// DECIMAL='COMMA'.
-    pub comma: Option<bool>,
-    pub delim: Option<Delim>,
-    /// PAD='YES'.
-    pub pad: Option<bool>,
-    /// SIGN='PLUS'.
-    pub plus: Option<bool>,
-}
-
 /// OPEN.
 #[derive(Debug, Drop)]
 pub struct Open {
@@ -99,45 +85,35 @@ pub enum Format {
     Literal(Text),
 }
 
-/// The specifiers that say where a transfer takes place, and how it goes on.
-#[derive(Debug, Drop)]
-pub struct Course {
-    /// An integer literal or a place.
-    pub rec: Option<Operand>,
-    /// An integer literal or a place.
-    pub pos: Option<Operand>,
-    /// ADVANCE='YES'.
-    pub advance: Option<bool>,
-    /// ASYNCHRONOUS='YES'.
-    pub asynchronous: Option<bool>,
-}
-
-/// The places that a transfer sets.
-#[derive(Debug, Drop)]
-pub struct Results {
-    pub id: Option<Designator>,
-    pub size: Option<Designator>,
-    pub iostat: Option<Designator>,
-}
-
-/// What a transfer transfers to or from, and in which form.
-#[derive(Debug, Drop)]
-pub struct Control {
-    pub unit: UnitRef,
-    pub format: Option<Format>,
-    /// NML=.
-    pub group: Option<Text>,
-    pub changes: Changes,
-}
-
 /// READ or WRITE.
 #[derive(Debug, Drop)]
 pub struct Transfer {
     /// READ.
     pub input: bool,
-    pub control: Control,
-    pub course: Course,
-    pub results: Results,
+    pub unit: UnitRef,
+    pub format: Option<Format>,
+    /// NML=.
+    pub group: Option<Text>,
+    /// ADVANCE='YES'.
+    pub advance: Option<bool>,
+    /// ASYNCHRONOUS='YES'.
+    pub asynchronous: Option<bool>,
+    /// BLANK='ZERO'.
+    pub blank_zero: Option<bool>,
+    /// DECIMAL='COMMA'.
+    pub comma: Option<bool>,
+    pub delim: Option<Delim>,
+    /// PAD='YES'.
+    pub pad: Option<bool>,
+    /// SIGN='PLUS'.
+    pub plus: Option<bool>,
+    /// An integer literal or a place.
+    pub rec: Option<Operand>,
+    /// An integer literal or a place.
+    pub pos: Option<Operand>,
+    pub id: Option<Designator>,
+    pub size: Option<Designator>,
+    pub iostat: Option<Designator>,
     pub items: Items<Operand>,
 }
 
