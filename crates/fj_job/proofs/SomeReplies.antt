@@ -1,12 +1,12 @@
 -- To the words, a text and files there is a reply.
-use Rattle.std.proofs.Common.{◌≡◌, ◌⊎◌, inl, inr, ℕ, Bool, true, false, List, Option, Some, None, IsSome, Ok, Err, refl}
+use Rattle.std.proofs.Common.{◌≡◌, inl, inr, ℕ, Bool, true, false, List, Option, Some, None, IsSome, Ok, Err, refl}
 use Rattle.fj_statement.specs.Sound.{IsSound}
 use Rattle.fj_statement.specs.declared.deck.Deck.{Deck}
 use Rattle.fj_deck.specs.Deck.{SomeAnswer, DecksAreSound}
 use Rattle.fj_plain.specs.State.{Files}
 use Rattle.fj_plain.specs.Statement.{Ending, plain_execution}
 use Rattle.fj_gen.specs.Generated.{generated_text}
-use Rattle.fj_job.specs.Reply.{Reply, Reading, IsReading, IsReplyTo, IsExecuted, IsRunReply, IsMade, IsMadeReply, SomeReply, checked, status_of, report_of, made_report, refusal_reply, usage_reply, text_reply, no_files}
+use Rattle.fj_job.specs.Reply.{Reply, Reading, IsReading, IsExecuted, IsRunReply, IsMade, IsMadeReply, SomeReply, checked, status_of, report_of, made_report, refusal_reply, usage_reply, text_reply, no_files}
 use Rattle.fj_job.specs.declared.task.Task.{Task}
 use Rattle.fj_job.specs.declared.task.Task.TheVariants.{Refuse, Check, Execute, Generate}
 use Rattle.fj_job.proofs.Told.{deck_ends}
@@ -24,8 +24,7 @@ module _ (some : SomeAnswer) (sound : DecksAreSound) where
       by : (o : Option Ending) → (plain_execution deck.variables deck.statements files).ending ≡ o → IsSome o → (reply : Reply) × IsRunReply deck trace files reply
       by None e k = cc
       by (Some ending) e k =
-          let left = plain_execution deck.variables deck.statements files in
-          (
+          let left = plain_execution deck.variables deck.statements files in (
             record { status = status_of ending; output = report_of deck trace left ending; files = left.files },
             record { ending = ending; ends = e; status = refl; output = refl; files_left = refl },
           )

@@ -10,12 +10,12 @@ returns-in-Refuse g c =
       asked = record {
         told = λ disk. told_for Refuse c.args.task _ _ _ _ (sym c.in-Refuse.is) (told_refused c.refuse_words.result _ _ disk c.refuse_words.ensures.usage c.refuse_words.ensures.output
             c.refuse_words.ensures.front c.refuse_words.ensures.cause (record {
-          aside = λ e. (refl, tt);
-          check = λ e. tt;
-          answer = λ l. tt;
-          changed = λ t. inl tt;
-          untold = λ e. no_read c.refuse_words.result _ _ _ c.refuse_words.ensures.cause e;
-        }) (((λ t. t, λ t. t), omega arith), (c.refuse_words.ensures.telling, c.refuse_words.ensures.later)));
+              aside = λ e. (refl, tt);
+              check = λ e. tt;
+              answer = λ l. tt;
+              changed = λ t. inl tt;
+              untold = λ e. no_read c.refuse_words.result _ _ _ c.refuse_words.ensures.cause e;
+            }) (((λ t. t, λ t. t), omega arith), (c.refuse_words.ensures.telling, c.refuse_words.ensures.later)));
         is_deck = λ t. tt;
         sound = tt;
         task_is = tt;
@@ -68,12 +68,12 @@ returns-in-Err g c =
       asked = record {
         told = λ disk. told_for task c.args.task _ _ _ _ (sym c.in-Execute.is) (told_unread c.in-Execute.workers c.in-Execute.trace c.in-Err.status _ _ disk c.in-Err.ensures.refused c.in-Err.ensures.output
             c.in-Err.ensures.front c.in-Err.ensures.cause (record {
-          aside = λ q. absurd q;
-          check = λ q. no_check task _ tt q;
-          answer = λ l. tt;
-          changed = λ t. inl tt;
-          untold = c.in-Err.ensures.untold;
-        }) ((c.deck_of.ensures.deck_telling, c.deck_of.ensures.deck_later), (c.deck_of.ensures.out_telling, c.deck_of.ensures.out_later)));
+              aside = λ q. absurd q;
+              check = λ q. no_check task _ tt q;
+              answer = λ l. tt;
+              changed = λ t. inl tt;
+              untold = c.in-Err.ensures.untold;
+            }) ((c.deck_of.ensures.deck_telling, c.deck_of.ensures.deck_later), (c.deck_of.ensures.out_telling, c.deck_of.ensures.out_later)));
         is_deck = λ t. tt;
         sound = tt;
         task_is = tt;
