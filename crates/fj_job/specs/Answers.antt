@@ -126,13 +126,14 @@ pub record Told (task : Task) (status : Status) (SourceTells SinkTells DiskTells
   pub ended : SourceTells → IfEnded status (HasDeck task text)
   pub refused : SourceTells → IfRefused status (IsRefusal task text)
   -- A fault of the disk is that of the statement which learnt of it: behind what executing the deck tells up to there, the report
-  -- says its line. The sink took all of it; or it failed then, and took a front of it. Each file that the disk does not tell as hurt,
+  -- says its line: unless the deck stops at the statement, it waits at a unit whose file is told as hurt, or the disk's own number rose.
+  -- The sink took all of it; or it failed then, and took a front of it, and not all. Each file that the disk does not tell as hurt,
   -- and that the statement is not about, is left as closing all units leaves it there.
   pub fault : SourceTells → DiskTells → IfFault status (λ line. IfExecute task (λ trace.
       (deck : Deck) × IsDeck text deck × ToldFault deck trace (files_in files) line SinkTells old new SinkRose left before now))
   -- A fault of the sink is met where the text is refused and that is told; or at a statement of the deck that is carried out, or in the
   -- report of a deck that ended at it. The sink took the records that ended until there, whole, and then a front of those that the
-  -- statement ends, or of the reply. Each file that the disk does not tell as hurt, and that the statement is not about, is left as
+  -- statement ends, or of the reply, and not all. Each file that the disk does not tell as hurt, and that the statement is not about, is left as
   -- closing all units leaves it there.
   pub written : SourceTells → DiskTells → IfWriteFault status (IfExecute task (λ trace.
       IsSomeRefusal text ⊎ ((deck : Deck) × IsDeck text deck × ToldWrite deck trace (files_in files) SinkTells old new left before now)))
