@@ -28,7 +28,7 @@ use Rattle.fj_desk.specs.Core.{Core, Connected, connected_at, unit_named}
 use Rattle.fj_desk.specs.Desks.{Outcome, most_slots}
 use Rattle.fj_desk.specs.Doing.{Doing, finishes}
 use Rattle.fj_desk.specs.Acting.{all_closed, asks_connection, attaches, changes, closes_anyway, closes_first, connects, connects_at, doing, free_from, if_numbered, inquires, instead, is_taken, opens, opens_with, own, unit_at}
-use Rattle.fj_items.specs.Handing.{HandsFront, whole_records}
+use Rattle.fj_items.specs.Handing.{HandsFront, HandsPart, whole_records}
 use Rattle.fj_items.proofs.Prints.{on_err}
 use Rattle.fj_acts.specs.Doing.{AsksAbout, looks}
 use Rattle.fj_acts.specs.State.{core_at}
@@ -121,6 +121,9 @@ takes_nothing r taken core d e = on_err r (HandsFront taken taken core.output (c
 
 pub takes_as : {A E : Type 0} (r : Result A E) (taken more : List ℕ) (old : Output) (d e : Doing) → d ≡ e → OnErr r (HandsFront taken more old (core_at d).output) → OnErr r (HandsFront taken more old (core_at e).output)
 takes_as r taken more old d e same h = subst (λ (x : Doing). OnErr r (HandsFront taken more old (core_at x).output)) same h
+
+pub part_as : (taken more : List ℕ) (old : Output) (d e : Doing) → d ≡ e → HandsPart taken more old (core_at d).output → HandsPart taken more old (core_at e).output
+part_as taken more old d e same h = subst (λ (x : Doing). HandsPart taken more old (core_at x).output) same h
 
 assigns_output : (control : ℕ → List Given) (variables : List Variable) (line : ℕ) (core : Core) (to from : Operand) → (core_at (own control variables line core (statement.Assign to from))).output ≡ core.output
 assigns_output control variables line core to from = refl

@@ -10,7 +10,7 @@ ghost use Rattle.fj_statement.specs.declared.deck.Variable.{Variable};
 ghost use Rattle.fj_plain.specs.Needs.{number_of};
 ghost use Rattle.fj_plain.specs.State.{Files};
 ghost use Rattle.fj_items.specs.Kinds.{kinds_of};
-ghost use Rattle.fj_items.specs.Handing.{HandsOver, HandsFront};
+ghost use Rattle.fj_items.specs.Handing.{HandsOver, HandsFront, HandsPart};
 ghost use Rattle.fj_units.specs.Names.{AreInUse};
 ghost use Rattle.fj_acts.specs.Fitting.{IsKept, Meets};
 ghost use Rattle.fj_acts.specs.State.{KeepsAnswers, core_of, core_at};
@@ -91,6 +91,8 @@ fn own<W: Sink, D: Disk>(
     ensures output { W.tells out.old → OnOk result (HandsOver (W.taken out.old) (W.taken out.new) core.old.output core.new.output) }
     ensures front { W.tells out.old → OnErr result (HandsFront (W.taken out.old) (W.taken out.new) core.old.output
         (core_at (own (control_by lined.now.what) variables.now lined.now.line (core_of (files_of (D.held disk.old)) core.old) lined.now.what)).output) }
+    ensures part { W.tells out.old → result ≡ Err Lost.Sink → HandsPart (W.taken out.old) (W.taken out.new) core.old.output
+        (core_at (own (control_by lined.now.what) variables.now lined.now.line (core_of (files_of (D.held disk.old)) core.old) lined.now.what)).output }
     ensures tells { core.new.tells ≡ core.old.tells }
     ensures still { result ≡ Err Lost.Disk → (out.new ≡ out.old) × (core.new.output ≡ core.old.output) }
     ensures later_out { W.count out.old ≤ W.count out.new }
@@ -198,6 +200,8 @@ pub fn begin<W: Sink, D: Disk>(
     ensures output { W.tells out.old → OnOk result (HandsOver (W.taken out.old) (W.taken out.new) core.old.output core.new.output) }
     ensures front { W.tells out.old → OnErr result (HandsFront (W.taken out.old) (W.taken out.new) core.old.output
         (core_at (doing (control_by lined.now.what) variables.now lined.now.line (core_of (files_of (D.held disk.old)) core.old) lined.now.what condition)).output) }
+    ensures part { W.tells out.old → result ≡ Err Lost.Sink → HandsPart (W.taken out.old) (W.taken out.new) core.old.output
+        (core_at (doing (control_by lined.now.what) variables.now lined.now.line (core_of (files_of (D.held disk.old)) core.old) lined.now.what condition)).output }
     ensures tells { core.new.tells ≡ core.old.tells }
     ensures still { result ≡ Err Lost.Disk → (out.new ≡ out.old) × (core.new.output ≡ core.old.output) }
     ensures later_out { W.count out.old ≤ W.count out.new }

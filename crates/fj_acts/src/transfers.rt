@@ -15,7 +15,7 @@ ghost use Rattle.fj_desk.specs.Core.{Connected as PlainConnected, connected_at};
 ghost use Rattle.fj_desk.specs.Acting.{refused, transferred, on_unit, transfer_at, with_items_out};
 ghost use Rattle.fj_items.specs.Fitting.{Finds};
 ghost use Rattle.fj_items.specs.Kinds.{CellFits, kinds_of};
-ghost use Rattle.fj_items.specs.Handing.{HandsOver, HandsFront};
+ghost use Rattle.fj_items.specs.Handing.{HandsOver, HandsFront, HandsPart};
 ghost use Rattle.fj_pending.specs.Fitting.{IsNext};
 ghost use Rattle.fj_pending.specs.Plain.{held};
 ghost use Rattle.fj_pending.specs.declared.held.Held.{Held};
@@ -163,6 +163,8 @@ pub(crate) fn read_or_write<F: FileStore, W: Sink>(
     ensures output { W.tells out.old → OnOk result (HandsOver (W.taken out.old) (W.taken out.new) core.old.output core.new.output) }
     ensures front { W.tells out.old → (files : Files) → OnErr result (HandsFront (W.taken out.old) (W.taken out.new) core.old.output
         (core_at (transfer_at (control_by (statement.Transfer t.now)) variables.now line (core_of files core.old) t.now (moved_in variables.now (values_of core.old.store) t.now) t.now.unit)).output) }
+    ensures part { W.tells out.old → (files : Files) → result ≡ Err Lost.Sink → HandsPart (W.taken out.old) (W.taken out.new) core.old.output
+        (core_at (transfer_at (control_by (statement.Transfer t.now)) variables.now line (core_of files core.old) t.now (moved_in variables.now (values_of core.old.store) t.now) t.now.unit)).output }
     ensures tells { core.new.tells ≡ core.old.tells }
     ensures later { W.count out.old ≤ W.count out.new }
     ensures failed { result ≡ Err Lost.Sink → Rose (W.count out.old) (W.count out.new) }

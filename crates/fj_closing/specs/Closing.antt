@@ -2,6 +2,7 @@
 use Rattle.std.specs.Prelude.{◌≡◌, ◌⊎◌, ◌&&◌, ℕ, Bool, true, false, List, [], ◌∷◌, Some, None, IfSome, IsSome, is_some, slice_get, Result}
 use Rattle.std.specs.FinSet as set
 use Rattle.fj_outside.specs.Holdings.{Holdings, SameAt}
+use Rattle.fj_slot.specs.Ledger.{Ledger}
 use Rattle.fj_slot.specs.Serving.{Meaning}
 use Rattle.fj_world.specs.Rack.{Rack}
 use Rattle.fj_bay.specs.Bay.{Bay as PlainBay}
@@ -18,6 +19,7 @@ use Rattle.fj_desk.specs.Desking.{connection_at}
 use Rattle.fj_units.specs.Names.{stands, left_of}
 use Rattle.fj_units.specs.Files.{files_of}
 use Rattle.fj_units.specs.Returning.{IsAsDue}
+use Rattle.fj_units.specs.Units.{has_slot}
 use Rattle.fj_closing.specs.Losing.{is_memory, may_want}
 use Rattle.fj_closing.specs.Remains.{IsWhatRemains}
 use Rattle.fj_closing.specs.declared.remains.Remains.{Remains}
@@ -78,6 +80,10 @@ pub record SomeMayLack {F : Type 0} (all : List (Remains F)) : Type 0 where
   pub it : Remains F
   pub here : slice_get all at ≡ Some it
   pub lacks : may_lack it ≡ true
+
+-- each slot with a desk that no unit has did not stop
+abbrev pub OthersRun : {E J A : Type 0} → List Connected → List (Ledger E J A) → List Desk → Type 0
+OthersRun {E} {J} {A} units slots desks = (at : ℕ) (l : Ledger E J A) (d : Desk) → slice_get slots at ≡ Some l → slice_get desks at ≡ Some d → has_slot units at ≡ false → l.halt ≡ None
 
 -- What remains of slots was closed: no connection's name stays among those whose files are out, and want of memory is answered
 -- only where one of them may have met it: in its slot, or in its file where its open record was ended.

@@ -196,6 +196,7 @@ fn close_each<D: Disk>(
     ensures memory { (was : List (Remaining D.File)) → Both (IsKept names.old) was all.old.items → is_memory result ≡ true → SomeMayLack was }
     ensures lessens { Lessens names.old names.new }
     ensures gone { AreOwned (map connected_of units.now) all.old.items → AreGone all.new.items }
+    ensures owned { AreGone all.new.items → AreOwned (map connected_of units.now) all.old.items }
     ensures fits { HaveTheirOwn D.File.count names.old all.old.items (map connected_of units.now) → result ≢ Err Lost.Unfit }
 {
     let [unit, more @ ..] = units else {
@@ -220,6 +221,7 @@ fn close_left<D: Disk>(it: Remains<D::File>, names: &mut Names, disk: &mut D) ->
     ensures back { IsBack names.new it }
     ensures memory { is_memory result ≡ true → may_lack it ≡ true }
     ensures lessens { Lessens names.old names.new }
+    ensures gone { may_tell result ≡ true → it.connection ≡ None }
     ensures fits { it.connection ≡ None → result ≢ Err Lost.Unfit }
 {
     let Remains { connection, stop } = it;
@@ -248,6 +250,7 @@ fn close_rest<D: Disk>(
     ensures back { AreBack names.new all.old.items }
     ensures memory { is_memory result ≡ true → SomeMayLack all.old.items }
     ensures lessens { Lessens names.old names.new }
+    ensures left { may_tell result ≡ true → AreGone all.old.items }
     ensures fits { AreGone all.old.items → result ≢ Err Lost.Unfit }
 {
     let Some(it) = all.pop() else {
@@ -285,6 +288,7 @@ pub fn close_units<D: Disk>(
     ensures off { OnOk result (names.new ≡ names_left units.now names.old) }
     ensures back { AreBack names.new all.items }
     ensures memory { is_memory result ≡ true → SomeMayLack all.items }
+    ensures owned { may_tell result ≡ true → AreOwned units.now all.items }
     ensures fits { HaveTheirOwn D.File.count names.old all.items units.now → AreOwned units.now all.items → result ≢ Err Lost.Unfit }
 {
     let mut all = all;

@@ -13,7 +13,7 @@ ghost use Rattle.fj_closing.specs.Losing.{may_tell};
 ghost use Rattle.fj_closing.specs.Fitting.{HaveTheirOwn, AreOwned};
 ghost use Rattle.fj_closing.specs.Remains.{IsWhatRemains};
 ghost use Rattle.fj_closing.specs.declared.remains.Remains.{Remains as Remaining};
-ghost use Rattle.fj_closing.specs.Closing.{AreAsDue, AreOthersSame, names_left, AreSeated, AreNamed, IfClear, IsFinished};
+ghost use Rattle.fj_closing.specs.Closing.{AreAsDue, AreOthersSame, names_left, AreSeated, AreNamed, IfClear, OthersRun, IsFinished};
 
 use crate::closing::close_units;
 use crate::remains::{Remains, what_remains};
@@ -44,6 +44,7 @@ pub fn finish<D: Disk>(
         → AreSeated desks units.now → AreNamed desks units.now
         → AreAsDue (D.refusals disk.old) (D.refusals disk.new) names.new (D.held disk.new) (all_left desks units.now (files_of (D.held disk.old))) }
     ensures running { D.tells disk.old → may_tell result ≡ true → IfClear (D.held disk.new) units.now slots.slots (λ l. l.halt ≡ None) }
+    ensures others { may_tell result ≡ true → (desks : List Desk) → HoldsDesks (bay_meaning D.File.told D.File.bytes D.File.count) slots desks → OthersRun units.now slots.slots desks }
     ensures same { D.tells disk.old → AreOthersSame names.old names.new (D.held disk.old) (D.held disk.new) }
     ensures own { D.tells disk.old → D.refusals disk.old ≤ D.refusals disk.new }
 

@@ -150,7 +150,7 @@ next_state ran (Some x) st state e = by ran.ending e
     by None e = ap (λ (o : Option (Stated × State)). elim o as (λ _. State) [ None ↦ ran.state | Some y ↦ y.1 ]) e
     by (Some y) e = cc
 
-cut_sound : (variables : List Variable) (deck : List Stated) (files : Files) (index : ℕ) (st : Stated) (state : State) → cut variables index deck (start variables files) ≡ Some (st, state) → Sound state
+pub cut_sound : (variables : List Variable) (deck : List Stated) (files : Files) (index : ℕ) (st : Stated) (state : State) → cut variables index deck (start variables files) ≡ Some (st, state) → Sound state
 cut_sound variables deck files index st state e =
     subst Sound (next_state (executed variables (take index deck) (start variables files)) (slice_get deck index) st state (sym (cut_is variables index deck (start variables files)) ∙ e))
     (sound_reached variables (take index deck) files)

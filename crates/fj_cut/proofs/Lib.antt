@@ -9,3 +9,5 @@ pub mod Deck
 pub mod Stops
 pub mod Connecting
 pub mod Turns
+pub mod Seats
+pub mod Awaited

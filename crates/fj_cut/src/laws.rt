@@ -1,6 +1,7 @@
 // What holds of every deck that is cut, as contracts of functions with nothing to do.
 ghost use Rattle.fj_cut.specs.Others.{OthersStay, UnitsKeepDesks, StopsLeaveOthers, CutRunsLeaveOthers};
 ghost use Rattle.fj_cut.specs.Turning.{TurnsDo, TurnsLeaveOthers};
+ghost use Rattle.fj_cut.specs.Awaiting.{StopsAreAwaited};
 
 /// Inside a statement each file that it is not about is as closing all units just before it leaves it.
 pub fn others_stay()
@@ -30,4 +31,9 @@ pub fn turns_do()
 /// In each turn of a runner, once it knows the answers that it needs, so is each file that the statement at hand is not about.
 pub fn turns_leave_others()
     ensures { TurnsLeaveOthers }
+{}
+
+/// Where a stop was told, its slot is that of a unit at which the statement waits, or no unit is there.
+pub fn stops_are_awaited()
+    ensures { StopsAreAwaited }
 {}

@@ -22,7 +22,7 @@ use Rattle.fj_plain.specs.Telling.{is_asynchronous}
 use Rattle.fj_plain.specs.Transfers.{spec_in, moved_in, printed_to}
 use Rattle.fj_items.specs.Outputs.{output_of}
 use Rattle.fj_items.specs.declared.star.Output.TheInside.{Inside}
-use Rattle.fj_items.specs.Handing.{whole_records, ended_part, printed_on, HandsOver, HandsFront, TakesFront}
+use Rattle.fj_items.specs.Handing.{whole_records, ended_part, printed_on, HandsOver, HandsFront, HandsPart, TakesFront, TakesPart}
 
 take_both : (k j : ℕ) (xs : List ℕ) → take (k + j) xs ≡ take k xs ++ take j (drop k xs)
 take_both zero j xs = let e : zero + j ≡ j = omega arith in ap (λ n. take n xs) e
@@ -133,14 +133,19 @@ pub went_printed : (e : Bool) (r : Result Printed Condition) (o mid new : Output
 went_printed e r o mid new count w put =
     ap (λ (z : Output). (let d : Output × Condition = (z, Fine) in d)) (put ∙ ap (λ (m : Output). let z : Output = record m { begun = count } in closing e z) w.mid_is) ∙ sym w.due
 
+-- the records that are to end are those that the characters that are kept end
+went_whole : (e : Bool) (r : Result Printed Condition) (o mid : Output) (count : ℕ) (due : List ℕ) → Went e r o mid count → o.begun ≤ length o.text → ended_part mid count ≡ due
+    → whole_records (printed_to e o r).0 ≡ whole_records o ++ due
+went_whole e r o mid count due w low is =
+    ap (λ d. whole_records d.0) w.due ∙ whole_is o w.x count low w.few ∙ ap (λ m. whole_records o ++ ended_part m count) (sym w.mid_is) ∙ ap (λ ys. whole_records o ++ ys) is
+
 pub went_front : (e : Bool) (r : Result Printed Condition) (o mid : Output) (count : ℕ) (taken taken' : List ℕ) → Went e r o mid count → o.begun ≤ length o.text → TakesFront taken taken' (ended_part mid count)
     → HandsFront taken taken' o (printed_to e o r).0
-went_front e r o mid count taken taken' w low front = (
-  front.0,
-  front.1,
-  ap (λ d. whole_records d.0) w.due ∙ whole_is o w.x count low w.few ∙ ap (λ m. whole_records o ++ ended_part m count) (sym w.mid_is) ∙ ap (λ ys. whole_records o ++ ys) front.2,
-  front.3,
-)
+went_front e r o mid count taken taken' w low (part, rest, due, is) = (part, rest, went_whole e r o mid count (part ++ rest) w low due, is)
+
+pub went_part : (e : Bool) (r : Result Printed Condition) (o mid : Output) (count : ℕ) (taken taken' : List ℕ) → Went e r o mid count → o.begun ≤ length o.text → TakesPart taken taken' (ended_part mid count)
+    → HandsPart taken taken' o (printed_to e o r).0
+went_part e r o mid count taken taken' w low (part, rest, some, due, is) = (part, rest, some, went_whole e r o mid count (part ++ rest) w low due, is)
 
 -- ---- nothing was taken
 

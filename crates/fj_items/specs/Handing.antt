@@ -1,5 +1,5 @@
 -- The output on unit `*`, and what of it a sink took.
-use Rattle.std.specs.Prelude.{◌≡◌, ℕ, ◌-◌, List, [], ◌∷◌, ◌++◌, length, take, drop, if◌then◌else◌}
+use Rattle.std.specs.Prelude.{◌≡◌, ◌≢◌, ℕ, ◌-◌, List, [], ◌∷◌, ◌++◌, length, take, drop, if◌then◌else◌}
 use Rattle.fj_value.specs.declared.condition.Condition.{Condition}
 use Rattle.fj_statement.specs.declared.deck.Variable.{Variable}
 use Rattle.fj_statement.specs.declared.statement.Transfer.{Transfer as Stated}
@@ -38,6 +38,14 @@ HandsOver taken taken' old new = (part : List ℕ) × (whole_records new ≡ who
 abbrev pub HandsFront : List ℕ → List ℕ → Output → Output → Type 0
 HandsFront taken taken' old due = (part : List ℕ) × (rest : List ℕ) × (whole_records due ≡ whole_records old ++ (part ++ rest)) × (taken' ≡ taken ++ part)
 
+-- and not all of them
+abbrev pub HandsPart : List ℕ → List ℕ → Output → Output → Type 0
+HandsPart taken taken' old due = (part : List ℕ) × (rest : List ℕ) × (rest ≢ []) × (whole_records due ≡ whole_records old ++ (part ++ rest)) × (taken' ≡ taken ++ part)
+
 -- the sink took a part from the front of what is due
 abbrev pub TakesFront : List ℕ → List ℕ → List ℕ → Type 0
 TakesFront old new due = (part rest : List ℕ) × (due ≡ part ++ rest) × (new ≡ old ++ part)
+
+-- and not all of it
+abbrev pub TakesPart : List ℕ → List ℕ → List ℕ → Type 0
+TakesPart old new due = (part rest : List ℕ) × (rest ≢ []) × (due ≡ part ++ rest) × (new ≡ old ++ part)

@@ -1,7 +1,7 @@
 // What a statement hands to a sink.
-ghost use Rattle.std.specs.Prelude.{◌≡◌, ◌≢◌, ◌≤◌, ◌++◌, ◌↔◌, Err, OnOk};
+ghost use Rattle.std.specs.Prelude.{◌≡◌, ◌≢◌, ◌≤◌, ◌++◌, ◌↔◌, Err, OnOk, OnErr};
 ghost use Rattle.fj_outside.specs.Faults.{Rose};
-ghost use Rattle.fj_items.specs.Handing.{TakesFront};
+ghost use Rattle.fj_items.specs.Handing.{TakesFront, TakesPart};
 
 use crate::lost::Lost;
 use fj_outside::Sink;
@@ -11,6 +11,7 @@ pub fn put_all<W: Sink>(out: &mut W, piece: &[u8]) -> Result<(), Lost>
     ensures telling { W.tells out.old ↔ W.tells out.new }
     ensures ok { W.tells out.old → OnOk result (W.taken out.new ≡ W.taken out.old ++ piece.now) }
     ensures front { W.tells out.old → TakesFront (W.taken out.old) (W.taken out.new) piece.now }
+    ensures part { W.tells out.old → OnErr result (TakesPart (W.taken out.old) (W.taken out.new) piece.now) }
     ensures later { W.count out.old ≤ W.count out.new }
     ensures failed { result ≡ Err Lost.Sink → Rose (W.count out.old) (W.count out.new) }
     ensures causes { (result ≢ Err Lost.Disk) × (result ≢ Err Lost.Unfit) }

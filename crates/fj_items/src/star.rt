@@ -9,7 +9,7 @@ ghost use Rattle.fj_transfer.specs.Moving.{members_of};
 ghost use Rattle.fj_transfer.specs.Transfer.{is_explicit};
 ghost use Rattle.fj_transfer.specs.Printing.{IsRecords, actions_by, control_of, printed_by};
 ghost use Rattle.fj_items.specs.Fitting.{FindsItems};
-ghost use Rattle.fj_items.specs.Handing.{open_record, ended_part, printed_on, IsPrinted, HandsOver, HandsFront, TakesFront};
+ghost use Rattle.fj_items.specs.Handing.{open_record, ended_part, printed_on, IsPrinted, HandsOver, HandsFront, HandsPart, TakesFront, TakesPart};
 ghost use Rattle.fj_items.specs.Kinds.{kinds_of};
 
 use crate::copying::copied;
@@ -74,6 +74,7 @@ impl Output {
         ensures telling { W.tells out.old ↔ W.tells out.new }
         ensures ok { W.tells out.old → OnOk result (W.taken out.new ≡ W.taken out.old ++ open_record self.old) }
         ensures front { W.tells out.old → TakesFront (W.taken out.old) (W.taken out.new) (open_record self.old) }
+        ensures part { W.tells out.old → result ≡ Err Lost.Sink → TakesPart (W.taken out.old) (W.taken out.new) (open_record self.old) }
         ensures later { W.count out.old ≤ W.count out.new }
         ensures failed { result ≡ Err Lost.Sink → Rose (W.count out.old) (W.count out.new) }
         ensures causes { (result ≢ Err Lost.Disk) × (result ≢ Err Lost.Unfit) }
@@ -99,6 +100,7 @@ impl Output {
         ensures telling { W.tells out.old ↔ W.tells out.new }
         ensures ok { W.tells out.old → OnOk result (W.taken out.new ≡ W.taken out.old ++ ended_part self.old count) }
         ensures front { W.tells out.old → TakesFront (W.taken out.old) (W.taken out.new) (ended_part self.old count) }
+        ensures part { W.tells out.old → result ≡ Err Lost.Sink → TakesPart (W.taken out.old) (W.taken out.new) (ended_part self.old count) }
         ensures later { W.count out.old ≤ W.count out.new }
         ensures failed { result ≡ Err Lost.Sink → Rose (W.count out.old) (W.count out.new) }
         ensures causes { (result ≢ Err Lost.Disk) × (result ≢ Err Lost.Unfit) }
@@ -140,6 +142,8 @@ impl Output {
         ensures taken { W.tells out.old → OnOk result (HandsOver (W.taken out.old) (W.taken out.new) self.old self.new) }
         ensures front { W.tells out.old → OnErr result (HandsFront (W.taken out.old) (W.taken out.new) self.old
             (printed_to (advance || not (is_explicit layout.now)) self.old (printed_by 65536 self.old.begun (actions_by layout.now (control_of layout.now) modes advance moved.now))).0) }
+        ensures part { W.tells out.old → result ≡ Err Lost.Sink → HandsPart (W.taken out.old) (W.taken out.new) self.old
+            (printed_to (advance || not (is_explicit layout.now)) self.old (printed_by 65536 self.old.begun (actions_by layout.now (control_of layout.now) modes advance moved.now))).0 }
         ensures later { W.count out.old ≤ W.count out.new }
         ensures failed { result ≡ Err Lost.Sink → Rose (W.count out.old) (W.count out.new) }
         ensures fits { self.old.begun ≤ 65536 → result ≢ Err Lost.Unfit }
@@ -201,6 +205,8 @@ pub fn write_star<W: Sink>(
     ensures taken { W.tells out.old → OnOk result (HandsOver (W.taken out.old) (W.taken out.new) output.old output.new) }
     ensures front { W.tells out.old → OnErr result (HandsFront (W.taken out.old) (W.taken out.new) output.old
         (printed_on variables.now (values_of store.old) t.now output.old).0) }
+    ensures part { W.tells out.old → result ≡ Err Lost.Sink → HandsPart (W.taken out.old) (W.taken out.new) output.old
+        (printed_on variables.now (values_of store.old) t.now output.old).0 }
     ensures later { W.count out.old ≤ W.count out.new }
     ensures failed { result ≡ Err Lost.Sink → Rose (W.count out.old) (W.count out.new) }
     ensures limit { output.old.begun ≤ star_limit → OnOk result (output.new.begun ≤ star_limit) }

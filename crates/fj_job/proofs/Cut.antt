@@ -1,6 +1,7 @@
 -- What the machine and its sink are where a run was cut.
 use Rattle.std.proofs.Common.{◌≡◌, ◌≢◌, ◌⊎◌, ℕ, Bool, true, false, cond, List, [], ◌++◌, map, drop, Option, Some, None, unwrap_or, sym, ap, ◌∙◌, subst, inl, inr, append_assoc, append-nil}
 use Rattle.std.specs.Option.{option_map}
+use Rattle.fj_outside.specs.Faults.{Rose}
 use Rattle.fj_outside.specs.Holdings.{Holdings}
 use Rattle.fj_outside.specs.declared.outside.FileStore.{Ghosts}
 use Rattle.fj_statement.specs.declared.deck.Deck.{Deck}
@@ -19,7 +20,7 @@ use Rattle.fj_turns.specs.Inside.{waited_at}
 use Rattle.fj_turns.specs.Meant.{IsCutOf}
 use Rattle.fj_turns.proofs.Meant.{cuts_agree}
 use Rattle.fj_pending.specs.Plain.{tells_of}
-use Rattle.fj_items.specs.Handing.{whole_records, HandsOver, HandsFront}
+use Rattle.fj_items.specs.Handing.{whole_records, HandsOver, HandsFront, HandsPart}
 use Rattle.fj_items.specs.declared.lost.Lost.{Lost}
 use Rattle.fj_items.specs.declared.lost.Lost.TheVariants.{Sink}
 use Rattle.fj_acts.specs.State.{core_of}
@@ -29,7 +30,7 @@ use Rattle.fj_runner.specs.declared.machine.Machine.{Machine}
 use Rattle.fj_job.specs.Cut.{Untold, Told, Carried, ComesTo}
 use Rattle.fj_job.specs.Cutting.{IsExact, TookFront, TookBegun, IsCut}
 use Rattle.fj_job.proofs.CutTexts.{at_hand}
-use Rattle.fj_job.proofs.Holding.{HoldsAt, holds_there, holds_told}
+use Rattle.fj_job.proofs.Holding.{HoldsAt, CauseAt, cause_there, holds_there, holds_told}
 use Rattle.fj_job.proofs.Learning.{LearnsAt}
 
 -- ---- what is shown
@@ -61,18 +62,20 @@ module _ {E J A F : Type 0} {ghosts : Ghosts F} (meaning : Meaning E J A Bay Job
 
   -- a stop was told there: nothing was done
   pub cut_asking : (run : Run) (left : Files) → AsksAt deck.variables (stated deck.statements) (fresh deck.variables files) run → run.core ≡ core_of left m.state.core → run.rest ≡ rest_of m
-      → (Tells → new ≡ old ++ whole_records m.state.core.output) → m.tally.lost ≡ None → HoldsAt meaning rack held before now deck files m run.rest → IsCut meaning rack held before now Tells old new deck files m
-  cut_asking run left x core rest took none holds =
+      → (Tells → new ≡ old ++ whole_records m.state.core.output) → m.tally.lost ≡ None → HoldsAt meaning rack held before now deck files m run.rest
+      → CauseAt meaning rack held before now deck files m run.rest → IsCut meaning rack held before now Tells old new deck files m
+  cut_asking run left x core rest took none holds why =
       let it : IsCutOf deck.variables (stated deck.statements) files x.index x.statement x.before = cuts_agree deck.variables (stated deck.statements) files x.index x.statement x.before x.reached in
       let comes : ComesTo deck files = record { index = x.index; statement = x.statement; before = it.state; there = it.cut_is } in
       let output : m.state.core.output ≡ it.state.output = sym (ap (λ (c : Core). c.output) core) ∙ x.output ∙ it.same.output in
       let tells : tells_of m.state.core.tells ≡ run.core.tells = sym (ap (λ (c : Core). c.tells) core) in
       let there = holds_there meaning rack held before now deck files m run.rest holds comes x.rest in
+      let cause = cause_there meaning rack held before now deck files m run.rest why comes x.rest in
       record {
         comes = comes;
         at = at_hand deck files comes m.at (hand comes run rest x.rest);
         exact = λ _. elim x.tells [
-          | inl e ↦ record { reach = Untold; may = tt; output = output; tells = tells ∙ e ∙ it.same.tells; taken = took; files_are = there }
+          | inl e ↦ record { reach = Untold; may = tt; output = output; tells = tells ∙ e ∙ it.same.tells; taken = took; files_are = there; cause = inr cause }
           | inr e ↦ record {
             reach = Told;
             may = tt;
@@ -80,6 +83,7 @@ module _ {E J A F : Type 0} {ghosts : Ghosts F} (meaning : Meaning E J A Bay Job
             tells = tells ∙ e ∙ ap (λ ts. ts ++ map (tell_of x.statement.0.line) (waited_at x.statement x.before)) it.same.tells ∙ ap (λ es. it.state.tells ++ map (tell_of x.statement.0.line) es) it.waited_is;
             taken = took;
             files_are = holds_told meaning rack held before now deck files m comes there;
+            cause = inr cause;
           }
         ];
         sink = λ s. lost_none none s;
@@ -95,7 +99,8 @@ module _ {E J A F : Type 0} {ghosts : Ghosts F} (meaning : Meaning E J A Bay Job
   more_taken : (taken before part : List ℕ) → taken ≡ old ++ before → new ≡ taken ++ part → new ≡ old ++ (before ++ part)
   more_taken taken before part = more_taken_to taken new before part
 
-  module _ (taken : List ℕ) (was : Machine F ghosts) (early late : ℕ) (TellsThen : Type 0) (on : Tells → TellsThen) (took : Tells → taken ≡ old ++ whole_records was.state.core.output) where
+  module _ (taken : List ℕ) (was : Machine F ghosts) (early late : ℕ) (TellsThen : Type 0) (on : Tells → TellsThen) (took : Tells → taken ≡ old ++ whole_records was.state.core.output)
+      (wide : Rose early late → Rose before now) where
     exact_fails : (run : Run) (x : LearnsAt deck.variables (stated deck.statements) (fresh deck.variables files) run)
         → (it : IsCutOf deck.variables (stated deck.statements) files x.index x.statement x.before) → KnowsAnswers run → FailsAtDisk TellsThen taken new early late run was m
         → HoldsAt meaning rack held before now deck files m run.rest → IsExact meaning rack held before now Tells old new deck files (record { index = x.index; statement = x.statement; before = it.state; there = it.cut_is }) m
@@ -104,7 +109,7 @@ module _ {E J A F : Type 0} {ghosts : Ghosts F} (meaning : Meaning E J A Bay Job
         let there = holds_there meaning rack held before now deck files m run.rest holds comes x.rest in
         let output : m.state.core.output ≡ it.state.output = k.output ∙ x.output ∙ it.same.output in
         elim (x.tells known) [
-          | inl e ↦ record { reach = Untold; may = tt; output = output; tells = k.tells ∙ e ∙ it.same.tells; taken = all; files_are = there }
+          | inl e ↦ record { reach = Untold; may = tt; output = output; tells = k.tells ∙ e ∙ it.same.tells; taken = all; files_are = there; cause = inr (inr (inr (wide k.rose))) }
           | inr e ↦ record {
             reach = Told;
             may = tt;
@@ -112,6 +117,7 @@ module _ {E J A F : Type 0} {ghosts : Ghosts F} (meaning : Meaning E J A Bay Job
             tells = k.tells ∙ e ∙ ap (λ ts. ts ++ map (tell_of x.statement.0.line) (waited_at x.statement x.before)) it.same.tells ∙ ap (λ es. it.state.tells ++ map (tell_of x.statement.0.line) es) it.waited_is;
             taken = all;
             files_are = holds_told meaning rack held before now deck files m comes there;
+            cause = inr (inr (inr (wide k.rose)));
           }
         ]
       where
@@ -146,9 +152,9 @@ module _ {E J A F : Type 0} {ghosts : Ghosts F} (meaning : Meaning E J A Bay Job
         let output : run.core.output ≡ it.state.output = x.output ∙ it.same.output in
         let all : between ≡ old ++ whole_records it.state.output =
         more_taken_to taken between (whole_records was.state.core.output) over (took t) is ∙ ap (λ w. old ++ w) (sym whole ∙ ap whole_records output) in
-        subst (λ b. HandsFront b new it.state.output (step deck.variables x.statement it.state).0.output) all
-        (subst (λ o. HandsFront between new o (step deck.variables x.statement it.state).0.output) output
-        (subst (λ o. HandsFront between new run.core.output o) (x.due ∙ it.output) front))
+        subst (λ b. HandsPart b new it.state.output (step deck.variables x.statement it.state).0.output) all
+        (subst (λ o. HandsPart between new o (step deck.variables x.statement it.state).0.output) output
+        (subst (λ o. HandsPart between new run.core.output o) (x.due ∙ it.output) front))
 
     pub cut_failing : (r : Run) (f : FailsCall (λ lost. m.tally.lost ≡ Some lost) TellsThen taken new held early late r was m) → LearnsAt deck.variables (stated deck.statements) (fresh deck.variables files) f.run → m.tally.lost ≢ None
         → (OfOutside (λ lost. m.tally.lost ≡ Some lost) → HoldsAt meaning rack held before now deck files m f.run.rest) → IsCut meaning rack held before now Tells old new deck files m

@@ -1,5 +1,5 @@
 -- Where a run was not cut and its deck ended: the statement at hand is the one at which it ended.
-use Rattle.std.proofs.Common.{◌≡◌, ℕ, Bool, false, cond, List, ◌++◌, drop, Option, Some, None, IsSome, refl, sym, ap, ◌∙◌, subst}
+use Rattle.std.proofs.Common.{◌≡◌, ℕ, Bool, false, cond, List, ◌++◌, drop, Option, Some, None, IsSome, refl, sym, ap, ◌∙◌, subst, inl}
 use Rattle.std.specs.Option.{option_map}
 use Rattle.fj_outside.specs.Holdings.{Holdings}
 use Rattle.fj_outside.specs.declared.outside.FileStore.{Ghosts}
@@ -60,4 +60,4 @@ pub ended_exact : {E J A F : Type 0} {ghosts : Ghosts F} (meaning : Meaning E J 
     → (plain_execution deck.variables deck.statements files).output ≡ m.state.core.output → (plain_execution deck.variables deck.statements files).tells ≡ tells_of m.state.core.tells
     → (Tells → new ≡ old ++ whole_records m.state.core.output) → IsExact meaning rack held before now Tells old new deck files e.comes m
 ended_exact meaning rack held before now Tells old new deck files m e holds output tells taken =
-    record { reach = Carried; may = e.ends; output = sym output ∙ e.output; tells = sym tells ∙ e.tells; taken = taken; files_are = holds }
+    record { reach = Carried; may = e.ends; output = sym output ∙ e.output; tells = sym tells ∙ e.tells; taken = taken; files_are = holds; cause = inl refl }

@@ -1,5 +1,6 @@
 -- A script of runners that is over: its run was cut.
-use Rattle.std.proofs.Common.{◌≡◌, ◌≢◌, ℕ, Bool, true, false, cond, List, [], ◌++◌, Option, Some, None, IsSome, refl, sym, ap, ◌∙◌, subst, inl, inr, arith}
+use Rattle.std.proofs.Common.{◌≡◌, ◌≢◌, ℕ, ◌<◌, Bool, true, false, cond, List, [], ◌++◌, Option, Some, None, IsSome, refl, sym, ap, ◌∙◌, subst, inl, inr, arith}
+use Rattle.std.proofs.lemmas.Option.{slice_get_within}
 use Rattle.fj_outside.specs.Holdings.{Holdings}
 use Rattle.fj_outside.specs.declared.outside.FileStore.{Ghosts}
 use Rattle.fj_statement.specs.declared.deck.Deck.{Deck}
@@ -12,17 +13,20 @@ use Rattle.fj_world.specs.Leading.{LeadsTo}
 use Rattle.fj_world.specs.Losing.{before_ask, WasLost}
 use Rattle.fj_world.specs.Plain.{Plain, PlainSlot, after}
 use Rattle.fj_world.specs.Rack.{Rack}
+use Rattle.fj_world.proofs.Places.{slice_get_in}
 use Rattle.fj_bay.specs.Bay.{Bay}
 use Rattle.fj_bay.specs.Jobs.{Job, Answer}
 use Rattle.fj_plain.specs.State.{Files}
 use Rattle.fj_plain.specs.Statement.{stated}
 use Rattle.fj_desk.specs.Desking.{fresh}
 use Rattle.fj_turns.specs.Run.{Run}
-use Rattle.fj_turns.specs.Cutting.{IsCutRun}
-use Rattle.fj_turns.specs.Serving.{over_bays, Shows, run_conduct, desks_of, first_run, fresh_slots, begins}
+use Rattle.fj_turns.specs.Cutting.{IsCutRun, IsCut as IsCutAt}
+use Rattle.fj_turns.specs.Serving.{over_bays, Shows, run_conduct, desk_of, desks_of, first_run, fresh_slots, begins}
 use Rattle.fj_turns.proofs.Before.{each_asks}
-use Rattle.fj_turns.proofs.Cutting.{world_is_cut}
+use Rattle.fj_turns.proofs.Cutting.{cut_at_stop, world_is_cut}
+use Rattle.fj_turns.proofs.Slots.{map_get}
 use Rattle.fj_cut.specs.Turning.{TurnLeavesOthers}
+use Rattle.fj_cut.proofs.Awaited.{stops_are_awaited}
 use Rattle.fj_cut.proofs.Stops.{stops_leave_others}
 use Rattle.fj_cut.proofs.Turns.{each_turn}
 use Rattle.fj_items.specs.Handing.{whole_records}
@@ -37,10 +41,10 @@ use Rattle.fj_job.specs.Carrying.{HasNotBegun}
 use Rattle.fj_job.specs.Cutting.{IsCut}
 use Rattle.fj_job.proofs.Cut.{shown, rest_is, cut_asking, cut_failing}
 use Rattle.fj_job.proofs.Executed.{parts, nothing_written, all_taken}
-use Rattle.fj_job.proofs.Leading.{led_to, leaves_same, leaves_on}
-use Rattle.fj_job.proofs.Holding.{stop_holds, turn_holds}
+use Rattle.fj_job.proofs.Leading.{led_to, leaves_same, leaves_on, rose_earlier}
+use Rattle.fj_job.proofs.Holding.{stop_cause, stop_holds, turn_holds}
 use Rattle.fj_job.proofs.Leaving.{slots_hold}
-use Rattle.fj_job.proofs.Learning.{LearnsAt, none_left, at_before, learns_before, learns_at}
+use Rattle.fj_job.proofs.Learning.{LearnsAt, none_left, at_before, learns_before, learns_at, asked_slot}
 use Rattle.fj_job.proofs.Passes.{ends_so, some_statement}
 
 -- What a script shows is that of its machine, and what its calls may leave are those of a runner.
@@ -109,6 +113,10 @@ module _ {S W D F : Type 0} {ghosts : Ghosts F} (s : Shows S) (tells_out : W →
         let both = parts told bytes left (machine last) x.script is in
         let cut : IsCutRun meaning s deck.variables (stated deck.statements) files x.script rack =
         world_is_cut meaning s deck.variables (stated deck.statements) files alone.entries (record { start = last; script = last; hand = Finished; rack = rack; workers = [] }) x.script alone.fits (r.stopped last ∙ stop) it.state in
+        let awaited : IsCutAt meaning s deck.variables (stated deck.statements) files it.slot x (record { start = last; script = last; hand = Finished; rack = rack; workers = [] }) =
+        cut_at_stop meaning s deck.variables (stated deck.statements) files alone.entries it.slot (record { start = last; script = last; hand = Finished; rack = rack; workers = [] }) alone.fits it.hand in
+        let slot = asked_slot meaning s deck.variables (stated deck.statements) files (ends_so deck sound) (some_statement deck sound) alone.entries it.slot it.hand in
+        let there = slice_get_in rack.slots it.slot (subst (λ n. it.slot < n) alone.fits.same_slots (slice_get_within x.slots it.slot slot.0 slot.1)) in
         elim (each_asks meaning s deck.variables (stated deck.statements) files alone.entries) [
           | inl done ↦ absurd (let z : Settle it.slot ≡ Finished = sym it.hand ∙ done in cc)
           | inr y ↦
@@ -116,6 +124,19 @@ module _ {S W D F : Type 0} {ghosts : Ghosts F} (s : Shows S) (tells_out : W →
               (rest_is told bytes left (machine last) x.script is) (took last l none) none
               (stop_holds meaning rack (held (disk last)) (refusals (disk first)) (refusals (disk last)) deck files (machine last) s x.script both.0 cut
               (stops_leave_others deck.variables (stated deck.statements) files cut.slot x.script cut.desks cut.stop))
+              (stop_cause meaning rack (held (disk last)) (refusals (disk first)) (refusals (disk last)) deck files (machine last) x.script awaited.stop.index awaited.stop.statement it.slot both.0 awaited.stop.rest
+              (stops_are_awaited deck.variables (stated deck.statements) files it.slot x.script (desks_of meaning x.slots) awaited.stop) (λ l found. (it.halted slot.0 l slot.1 found).0)
+              (λ free. record {
+                desks = desks_of meaning x.slots;
+                held = awaited.held;
+                slot = it.slot;
+                ledger = there.0;
+                here = there.1;
+                desk = desk_of meaning slot.0;
+                has_desk = map_get (desk_of meaning) x.slots it.slot slot.0 slot.1;
+                free = free;
+                halted = (it.halted slot.0 there.0 slot.1 there.1).0;
+              }))
         ]
 
     module _ (rack : Rack E J A) (w : WasLost (over_bays meaning) (run_conduct s) (first_run deck.variables (stated deck.statements) files) fresh_slots first last rack) where
@@ -179,7 +200,7 @@ module _ {S W D F : Type 0} {ghosts : Ghosts F} (s : Shows S) (tells_out : W →
           let g = gave_up stop in
           cut_failing meaning rack (held (disk gone)) (refusals (disk first)) (refusals (disk gone)) (tells_out (out first)) (taken (out first)) (taken (out gone)) deck files (machine gone)
           ((r.leaves before gone w.call.leads).deck ∙ led.deck ∙ same) (taken (out before)) (machine before) (refusals (disk before)) (refusals (disk gone)) (tells_out (out before)) led.telling_out.0
-          (took before led (none_lost (machine before).tally.lost (machine before).tally.over (machine before).tally.lost_over going)) g.at g.call g.learns (some_not (machine gone).tally.lost some)
+          (took before led (none_lost (machine before).tally.lost (machine before).tally.over (machine before).tally.lost_over going)) (rose_earlier _ _ _ (led.own on)) g.at g.call g.learns (some_not (machine gone).tally.lost some)
           (λ o. turn_holds meaning rack (held (disk gone)) (refusals (disk first)) (refusals (disk gone)) deck files (machine gone) (refusals (disk before)) (refusals (disk gone)) g.call.run (desks_of meaning slots_then)
           (led.own on) (omega arith) (g.call.outside o) (g.turn o) (slots_hold meaning slots_then rack w.slots))
 

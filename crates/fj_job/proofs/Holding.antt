@@ -1,8 +1,9 @@
 -- What closing all units would leave, where a stop was told and where a call on the outside failed.
-use Rattle.std.proofs.Common.{◌≡◌, ◌≢◌, inl, ℕ, ◌≤◌, List, drop, Option, Some, sym, ap, ◌∙◌, subst}
+use Rattle.std.proofs.Common.{◌≡◌, ◌≢◌, inl, inr, ℕ, ◌≤◌, true, false, List, drop, Option, Some, is_some, slice_get, sym, ap, ◌∙◌, subst}
 use Rattle.fj_outside.specs.Holdings.{Holdings}
 use Rattle.fj_outside.specs.declared.outside.FileStore.{Ghosts}
 use Rattle.fj_statement.specs.declared.deck.Deck.{Deck}
+use Rattle.fj_slot.specs.Ledger.{Ledger}
 use Rattle.fj_slot.specs.Serving.{Meaning}
 use Rattle.fj_world.specs.Rack.{Rack}
 use Rattle.fj_bay.specs.Bay.{Bay}
@@ -17,6 +18,7 @@ use Rattle.fj_turns.specs.Cutting.{IsCutRun}
 use Rattle.fj_turns.specs.Executing.{HoldsDesks}
 use Rattle.fj_turns.specs.Serving.{Shows}
 use Rattle.fj_cut.specs.Others.{names_in, file_about, has_file, core_now, AreHoused, LeavesOthers}
+use Rattle.fj_cut.specs.Awaiting.{IsFree, StopsAt}
 use Rattle.fj_cut.specs.Turning.{TurnLeavesOthers}
 use Rattle.fj_cut.proofs.Connecting.{opened_about}
 use Rattle.fj_acts.specs.State.{core_of, core_at}
@@ -26,7 +28,7 @@ use Rattle.fj_closing.proofs.Due.{all_due}
 use Rattle.fj_runner.specs.Failing.{StandsAt}
 use Rattle.fj_runner.specs.declared.machine.Machine.{Machine}
 use Rattle.fj_job.specs.Cut.{Untold, Told, ComesTo}
-use Rattle.fj_job.specs.Cutting.{IsServed, HoldsFiles}
+use Rattle.fj_job.specs.Cutting.{IsServed, HoldsFiles, StopsAside, IsCause}
 use Rattle.fj_job.proofs.Leaving.{not_at, due_wider, core_same, next_named, told_files, one_place}
 
 module _ {E J A F : Type 0} {ghosts : Ghosts F} (meaning : Meaning E J A Bay Job Answer) (rack : Rack E J A) (held : Holdings) (before now : ℕ) (deck : Deck) (files : Files) (m : Machine F ghosts) where
@@ -46,6 +48,41 @@ module _ {E J A F : Type 0} {ghosts : Ghosts F} (meaning : Meaning E J A Bay Job
     pub slots : HoldsDesks meaning rack desks
     pub units : AreHoused desks m.state.core.units
     pub others : LeavesSo desks (statement, state)
+
+  abbrev CausesSo : Stated × State → Type 0
+  CausesSo at = IsCause meaning rack m.state.core.units at.0 at.1 before now
+
+  -- the same place, and why no more was done
+  pub record CauseAt (rest : List Stated) : Type 0 where
+    pub index : ℕ
+    pub statement : Stated
+    pub state : State
+    pub cut_is : cut deck.variables index (stated deck.statements) (start deck.variables files) ≡ Some (statement, state)
+    pub place : rest ≡ drop index (stated deck.statements)
+    pub cause : CausesSo (statement, state)
+
+  pub cause_there : (rest : List Stated) (h : CauseAt rest) (comes : ComesTo deck files) → rest ≡ drop comes.index (stated deck.statements) → CausesSo (comes.statement, comes.before)
+  cause_there rest h comes e =
+      subst CausesSo (one_place deck.variables (stated deck.statements) (start deck.variables files) h.index comes.index (h.statement, h.state) (comes.statement, comes.before) h.cut_is comes.there (sym h.place ∙ e)) h.cause
+
+  -- where a stop of that slot was told
+  pub stop_cause : (run : Run) (index : ℕ) (statement : Stated) (slot : ℕ) → run.core ≡ core_of (files_of held) m.state.core → run.rest ≡ drop index (stated deck.statements)
+      → StopsAt deck.variables (stated deck.statements) files index statement slot run → ((l : Ledger E J A) → slice_get rack.slots slot ≡ Some l → is_some l.halt ≡ true)
+      → (IsFree run.core.units slot → StopsAside meaning rack run.core.units) → CauseAt run.rest
+  stop_cause run index statement slot core place at halted aside = record {
+    index = index;
+    statement = statement;
+    state = at.state;
+    cut_is = at.cut_is;
+    place = place;
+    cause = elim at.place [
+      | inl (u, has) ↦ inl (u, λ served. let it = served slot (ap (λ us. has_file us slot u.name) (sym units) ∙ has) in absurd (let z : false ≡ true = sym (ap is_some it.2) ∙ halted it.0 it.1 in cc))
+      | inr free ↦ inr (inl (subst (λ us. StopsAside meaning rack us) units (aside free)))
+    ];
+  }
+    where
+      units : run.core.units ≡ m.state.core.units
+      units = ap (λ (c : Core). c.units) core
 
   -- there nothing of the statement was done
   pub holds_there : (rest : List Stated) (h : HoldsAt rest) (comes : ComesTo deck files) → rest ≡ drop comes.index (stated deck.statements) → HoldsFiles meaning rack held before now deck files comes Untold m

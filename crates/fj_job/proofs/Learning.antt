@@ -1,5 +1,5 @@
 -- Where in a deck a runner stands when a call gives up: before an ask, at one, and behind the statements that it then passes.
-use Rattle.std.proofs.Common.{◌≡◌, ◌≢◌, ◌⊎◌, ℕ, zero, suc, Bool, true, false, List, [], ◌∷◌, ◌++◌, map, drop, Option, Some, None, is_some, refl, sym, ap, ◌∙◌, subst, inl, inr}
+use Rattle.std.proofs.Common.{◌≡◌, ◌≢◌, ◌⊎◌, ℕ, zero, suc, Bool, true, false, List, [], ◌∷◌, ◌++◌, map, drop, slice_get, Option, Some, None, is_some, refl, sym, ap, ◌∙◌, subst, inl, inr}
 use Rattle.std.specs.Prelude.{option_and_then, if◌then◌else◌}
 use Rattle.fj_value.specs.declared.condition.Rule.{Rule}
 use Rattle.fj_statement.specs.declared.deck.Variable.{Variable}
@@ -242,4 +242,16 @@ module _ {E J A S : Type 0} (m : Meaning E J A Bay Job Answer) (s : Shows S) (va
             led_learns (asked (before n).0).ask (asked (before n).0).run (before n).1 (asked_leads m variables deck first (before n).0 (before n).1 y) (asked_waits (before n).0)
             (λ f. h (ap (λ (z : Plain Bay c). z.hand) e ∙ f)) count run (ap (λ (z : Plain Bay c). passes count z.script) (sym e) ∙ p)
         | inr (f, over, was) ↦ absurd (h f)
+      ]
+
+  -- the slot of an answer that is awaited is one of those that there are
+  pub asked_slot : (n slot : ℕ) → (at n).hand ≡ Settle slot → (q : PlainSlot Bay Job) × (slice_get (at n).slots slot ≡ Some q)
+  asked_slot n slot h =
+      elim (fares_after m s variables deck files n) [
+        | inl (e, y) ↦
+            let led = asked_leads m variables deck first (before n).0 (before n).1 y in
+            let asks : (asked (before n).0).ask ≡ Settle slot = sym (ap (λ (z : Plain Bay c). z.hand) e) ∙ h in
+            let it = subst (λ a. Led m variables deck first a (asked (before n).0).run (before n).1) asks led in
+            (it.0, ap (λ (z : Plain Bay c). slice_get z.slots slot) e ∙ it.1)
+        | inr (f, over, was) ↦ absurd (let z : Finished ≡ Settle slot = sym f ∙ h in cc)
       ]

@@ -1,5 +1,5 @@
 -- What was told and written where a run met a fault, and what is reported then.
-use Rattle.std.proofs.Common.{◌≡◌, ◌⊎◌, inl, inr, ℕ, ◌≤◌, Bool, true, false, List, [], ◌++◌, Option, Some, None, IsSome, Ok, slice_get, refl, ap, sym, ◌∙◌, subst, append_assoc}
+use Rattle.std.proofs.Common.{◌≡◌, ◌⊎◌, inl, inr, ℕ, ◌≤◌, Bool, true, false, List, [], ◌++◌, Option, Some, None, IsSome, Ok, slice_get, refl, ap, sym, ◌∙◌, subst, append_assoc, is_some}
 use Rattle.std.specs.FinMap as map
 use Rattle.std.specs.FinSet as set
 use Rattle.std.specs.Option.{option_map}
@@ -18,11 +18,11 @@ use Rattle.fj_desk.specs.Desks.{Desk}
 use Rattle.fj_desk.specs.Desking.{all_left}
 use Rattle.fj_turns.specs.Executing.{HoldsDesks}
 use Rattle.fj_pending.specs.Plain.{tells_of}
-use Rattle.fj_items.specs.Handing.{TakesFront, whole_records, open_record}
+use Rattle.fj_items.specs.Handing.{TakesFront, TakesPart, whole_records, open_record}
 use Rattle.fj_items.specs.declared.lost.Lost.TheVariants.{Sink, Disk}
 use Rattle.fj_units.specs.Files.{files_of}
 use Rattle.fj_units.specs.Returning.{IsAsDue}
-use Rattle.fj_closing.specs.Closing.{AreSeated, AreNamed, IfClear}
+use Rattle.fj_closing.specs.Closing.{AreSeated, AreNamed, IfClear, OthersRun}
 use Rattle.fj_closing.proofs.Due.{due_on}
 use Rattle.fj_report.specs.Lines.{status_text}
 use Rattle.fj_report.specs.declared.status.Status.{Status}
@@ -34,8 +34,8 @@ use Rattle.fj_runner.specs.declared.machine.Machine.{Machine}
 use Rattle.fj_acts.specs.declared.state.Core.{Core as Kept}
 use Rattle.fj_job.specs.Carrying.{HasRun}
 use Rattle.fj_job.specs.Concluding.{HasEnded, IsResult, run_text, fault_text}
-use Rattle.fj_job.specs.Cut.{Reach, Untold, Carried as At, reached, AreLeft, IsFaultReport, IsNext, TookRun, TookReport, TookBehind, ToldFault, ToldWrite}
-use Rattle.fj_job.specs.Cutting.{HoldsFiles, IsCut, EndsHere, IsLeftAt, IsLeftBegun, TookSome}
+use Rattle.fj_job.specs.Cut.{Reach, Untold, Carried as At, reached, AreLeft, IsLearnt, IsFaultReport, IsNext, TookRun, TookReport, TookBehind, ToldFault, ToldWrite}
+use Rattle.fj_job.specs.Cutting.{HoldsFiles, IsCut, EndsHere, IsLeftAt, IsLeftBegun, TookSome, IsCause}
 use Rattle.fj_job.specs.Executing.{IsFaultTold, IsFaultBegun, IsEndBegun}
 use Rattle.fj_job.specs.Making.{HasMade, IsMadeFront, TookMade, made_text}
 use Rattle.fj_job.specs.Reply.{Reply, IsRunReply, open_feed, trace_of, variable_lines, report_of, made_lines, made_report, no_files, files_in, status_of}
@@ -44,9 +44,10 @@ use Rattle.fj_job.proofs.Cut.{lost_none}
 use Rattle.fj_job.proofs.CutEnds.{ended_exact}
 use Rattle.fj_job.proofs.CutReports.{front_of_output, front_of_exact}
 use Rattle.fj_job.proofs.CutTexts.{text_and_feed, goes_on_behind}
+use Rattle.fj_job.proofs.Leading.{rose_later}
 use Rattle.fj_job.proofs.Leaving.{seated_of, named_of, housed_of, served_of}
 use Rattle.fj_job.proofs.Executed.{desks, ending_is, output_is, tells_are, files_are, holds, are_seated, are_named, replies, makes, none_there, taken_both}
-use Rattle.fj_job.proofs.Told.{front_behind, front_more, deck_ends, some_by, not_lost}
+use Rattle.fj_job.proofs.Told.{front_behind, part_behind, front_more, deck_ends, some_by, not_lost}
 
 -- ---- where a run ended or was cut, at the statement at hand
 
@@ -96,7 +97,8 @@ module _ {E J A F : Type 0} {ghosts : Ghosts F} (meaning : Meaning E J A Bay Job
     (deck : Deck) (files : Files) (m : Machine F ghosts) (l : Left F) (cut : IsCut meaning rack held before now Tells old new deck files m) (at : l.at ≡ m.at) (early : before ≤ now) (late : now ≤ end)
     (due : (desks : List Desk) → HoldsDesks meaning rack desks → AreSeated desks m.state.core.units → AreNamed desks m.state.core.units → (name : List ℕ) → set.contains last.hurt name ≡ false
     → IsAsDue now end (files_of last name) (all_left desks m.state.core.units (files_of held) name))
-    (running : IfClear last m.state.core.units rack.slots (λ (k : Ledger E J A). k.halt ≡ None)) where
+    (running : IfClear last m.state.core.units rack.slots (λ (k : Ledger E J A). k.halt ≡ None))
+    (others : (desks : List Desk) → HoldsDesks meaning rack desks → OthersRun m.state.core.units rack.slots desks) where
   hand : slice_get deck.statements l.at ≡ Some cut.comes.statement.0
   hand = ap (λ n. slice_get deck.statements n) at ∙ cut.at
 
@@ -104,6 +106,17 @@ module _ {E J A F : Type 0} {ghosts : Ghosts F} (meaning : Meaning E J A Bay Job
   files_left reach h = λ name clear about.
       due_on before now end _ _ _ early late (due h.desks h.slots (seated_of h.desks m.state.core.units h.units) (named_of h.desks m.state.core.units h.units) name clear)
       (h.others name (served_of rack last name m.state.core.units running clear) about)
+
+  -- a unit whose slot has stopped has a file that is hurt, and no other slot has stopped
+  learnt_by : IsCause meaning rack m.state.core.units cut.comes.statement cut.comes.before before now → IsLearnt cut.comes.statement cut.comes.before last before end
+  learnt_by (inl (u, stopped)) = inl (u, by (set.contains last.hurt u.name) refl)
+    where
+      by : (b : Bool) → set.contains last.hurt u.name ≡ b → b ≡ true
+      by true e = refl
+      by false e = absurd (stopped (served_of rack last u.name m.state.core.units running e))
+  learnt_by (inr (inl aside)) =
+      absurd (let z : false ≡ true = sym (ap is_some (others aside.desks aside.held aside.slot aside.ledger aside.desk aside.here aside.has_desk aside.free)) ∙ aside.halted in cc)
+  learnt_by (inr (inr rose)) = inr (rose_later before now end rose late)
 
   -- where nothing was lost, or by the disk
   pub left_at : (m.tally.lost ≡ None) ⊎ (m.tally.lost ≡ Some Disk) → l.core ≡ record (m.state.core) { names = l.core.names } → IsLeftAt deck files l last before end
@@ -117,6 +130,7 @@ module _ {E J A F : Type 0} {ghosts : Ghosts F} (meaning : Meaning E J A Bay Job
         output = ap (λ (k : Kept). k.output) core ∙ x.output;
         tells = ap (λ (k : Kept). tells_of k.tells) core ∙ x.tells;
         files_are = files_left x.reach x.files_are;
+        learnt = elim x.cause [ inl e ↦ inl e | inr why ↦ inr (learnt_by why) ];
       }
 
   -- where the sink failed
@@ -135,6 +149,7 @@ left_end deck files m l last before end e at is = (
     output = sym is.output ∙ e.output;
     tells = sym is.tells ∙ e.tells;
     files_are = λ name clear about. inl (ap (λ (f : Files). f name) (sym is.files ∙ e.files_are));
+    learnt = inl refl;
   },
   refl,
 )
@@ -174,10 +189,8 @@ module _ {F : Type 0} (deck : Deck) (trace : Bool) (it : Carried F) (before now 
     whole_records it.left.core.output ++ fault_text trace line it.left.core.output (tells_of it.left.core.tells),
     fault_reported deck (files_in before) it.left left own own' at trace line (line_by at line fault.line_is),
     at.files_are,
-    λ t. (
-      front_behind old mid new _ _ (one t) (fault.front (on t)),
-      elim (fault.taken (on t)) [ inl e ↦ inl (taken_both old mid new _ _ (one t) e) | inr f ↦ inr (later f) ],
-    ),
+    at.learnt,
+    λ t. elim (fault.taken (on t)) [ inl e ↦ inl (taken_both old mid new _ _ (one t) e) | inr f ↦ inr (later f.0, part_behind old mid new _ _ (one t) f.1) ],
   )
 
   pub report_of_fault : (status : Status) → IsLeftAt deck (files_in before) it.left left own own' → IsFaultBegun trace it status mid new → mid ≡ old ++ whole_records it.left.core.output
@@ -191,9 +204,9 @@ module _ {F : Type 0} (deck : Deck) (trace : Bool) (it : Carried F) (before now 
   )
 
   -- what is told where the deck ended: the records that ended, and the report behind them
-  reply_of_end : (Tells : Type 0) → IsResult (plain_execution deck.variables deck.statements (files_in before)) (files_in now) it.left → IsEndBegun trace it Tells mid new
-      → (reply : Reply) × IsRunReply deck trace (files_in before) reply × (text : List ℕ) × (reply.output ≡ whole_records it.left.core.output ++ text) × (Tells → TakesFront mid new text)
-  reply_of_end Tells is ended =
+  reply_of_end : (Took : List ℕ → Type 0) → IsResult (plain_execution deck.variables deck.statements (files_in before)) (files_in now) it.left → IsEndBegun trace it Took
+      → (reply : Reply) × IsRunReply deck trace (files_in before) reply × (text : List ℕ) × (reply.output ≡ whole_records it.left.core.output ++ text) × Took text
+  reply_of_end Took is ended =
       let whole : List ℕ = whole_records it.left.core.output in
       let text : List ℕ = open_record it.left.core.output ++ run_text it.left.deck.variables trace (ending_of ended.ending) it.left.core in
       let h : HasEnded trace it.left (status_of (ending_of ended.ending)) (Unit {0}) whole (whole ++ text) =
@@ -201,17 +214,17 @@ module _ {F : Type 0} (deck : Deck) (trace : Bool) (it : Carried F) (before now 
       let r = replies deck trace it.left before now (status_of (ending_of ended.ending)) (Unit {0}) (Unit {0}) [] whole (whole ++ text) (λ t. t) same is h (λ _. refl) in
       (r.reply, r.is, text, sym (r.output tt), ended.taken)
 
-  pub part_of_end : IsResult (plain_execution deck.variables deck.statements (files_in before)) (files_in now) it.left → IsEndBegun trace it (Unit {0}) mid new
+  pub part_of_end : IsResult (plain_execution deck.variables deck.statements (files_in before)) (files_in now) it.left → IsEndBegun trace it (TakesFront mid new)
       → mid ≡ old ++ whole_records it.left.core.output → TookRun deck trace (files_in before) old new
   part_of_end is ended one =
-      let r = reply_of_end (Unit {0}) is ended in
-      (r.0, r.1, subst (λ (x : List ℕ). TakesFront old new x) (sym r.3) (front_behind old mid new _ r.2 one (r.4 tt)))
+      let r = reply_of_end (TakesFront mid new) is ended in
+      (r.0, r.1, subst (λ (x : List ℕ). TakesFront old new x) (sym r.3) (front_behind old mid new _ r.2 one r.4))
 
   -- a fault of the sink in the report
   pub write_of_end : (Tells Now : Type 0) → (Tells → Now) → (x : IsLeftAt deck (files_in before) it.left left own own') → x.reach ≡ At → IsResult (plain_execution deck.variables deck.statements (files_in before)) (files_in now) it.left
-      → IsEndBegun trace it Now mid new → (Tells → mid ≡ old ++ whole_records it.left.core.output) → ToldWrite deck trace (files_in before) Tells old new left own own'
+      → IsEndBegun trace it (λ due. Now → TakesPart mid new due) → (Tells → mid ≡ old ++ whole_records it.left.core.output) → ToldWrite deck trace (files_in before) Tells old new left own own'
   write_of_end Tells Now on x reach is ended one =
-      let r = reply_of_end Now is ended in
+      let r = reply_of_end (λ due. Now → TakesPart mid new due) is ended in
       record {
         comes = x.comes;
         reach = x.reach;
@@ -220,7 +233,7 @@ module _ {F : Type 0} (deck : Deck) (trace : Bool) (it : Carried F) (before now 
         next = subst (λ (k : Reach). IsNext k deck trace (files_in before) x.comes r.0.output) (sym reach) (r.0, r.1, refl);
         taken = λ t. let k = r.4 (on t) in
             subst (λ (o : Output). TookBehind old new (whole_records o) r.0.output) x.output
-            (k.0, k.1, r.3 ∙ ap (λ (y : List ℕ). whole_records it.left.core.output ++ y) k.2, taken_both old mid new _ _ (one t) k.3);
+            (k.0, k.1, k.2, r.3 ∙ ap (λ (y : List ℕ). whole_records it.left.core.output ++ y) k.3, taken_both old mid new _ _ (one t) k.4);
         files_are = x.files_are;
       }
 
@@ -232,7 +245,7 @@ module _ {F : Type 0} (deck : Deck) (trace : Bool) (it : Carried F) (before now 
     may = tt;
     due = whole_records (step deck.variables x.comes.statement x.comes.before).0.output;
     next = refl;
-    taken = λ t. let k = x.begun t in (k.0, k.1, k.2, still ∙ k.3 ∙ append_assoc old (whole_records x.comes.before.output) k.0);
+    taken = λ t. let k = x.begun t in (k.0, k.1, k.2, k.3, still ∙ k.4 ∙ append_assoc old (whole_records x.comes.before.output) k.0);
     files_are = x.files_are;
   }
 

@@ -1,5 +1,5 @@
 -- What a sink took of what it was told, and that every deck ends.
-use Rattle.std.proofs.Common.{◌≡◌, ◌⊎◌, inl, inr, ℕ, Bool, true, false, List, [], ◌∷◌, ◌++◌, Option, Some, None, IsSome, Result, Ok, Err, IfErr, refl, ap, sym, ◌∙◌, subst, append_assoc}
+use Rattle.std.proofs.Common.{◌≡◌, ◌≢◌, ◌⊎◌, inl, inr, ℕ, Bool, true, false, List, [], ◌∷◌, ◌++◌, Option, Some, None, IsSome, Result, Ok, Err, IfErr, refl, ap, sym, ◌∙◌, subst, append_assoc}
 use Rattle.std.proofs.lemmas.List.{append-nil}
 use Rattle.std.specs.Option.{option_map}
 use Rattle.fj_value.specs.declared.condition.Condition.{Condition}
@@ -16,7 +16,7 @@ use Rattle.fj_book.specs.Prohibitions.{prohibited}
 use Rattle.fj_plain.specs.Needs.{need, holders}
 use Rattle.fj_plain.specs.State.{State, Files, start}
 use Rattle.fj_plain.specs.Statement.{Stated, Ran, Ending, ends, goes_on, step, executed, stated, control_by, plain_execution}
-use Rattle.fj_items.specs.Handing.{TakesFront}
+use Rattle.fj_items.specs.Handing.{TakesFront, TakesPart}
 use Rattle.fj_items.specs.declared.lost.Lost.{Lost}
 use Rattle.fj_report.specs.declared.status.Status.{Status}
 use Rattle.fj_report.specs.declared.status.Status.TheVariants.{Ended, ErrorStop, Prohibited, DeckRefused, Usage, ReadFault, WriteFault, DiskFault, Memory}
@@ -35,6 +35,19 @@ front_behind old mid new first text e (part, rest, due, taken) =
 
 pub front_more : (old new due more : List ℕ) → TakesFront old new due → TakesFront old new (due ++ more)
 front_more old new due more (part, rest, is, taken) = (part, rest ++ more, ap (λ x. x ++ more) is ∙ append_assoc part rest more, taken)
+
+-- the same of a part that is not all
+pub part_behind : (old mid new first text : List ℕ) → mid ≡ old ++ first → TakesPart mid new text → TakesPart old new (first ++ text)
+part_behind old mid new first text e (part, rest, some, due, taken) =
+    (first ++ part, rest, some, ap (λ x. first ++ x) due ∙ sym (append_assoc first part rest), taken ∙ ap (λ x. x ++ part) e ∙ append_assoc old first part)
+
+some_more : (rest more : List ℕ) → rest ≢ [] → rest ++ more ≢ []
+some_more [] more some = absurd (some refl)
+some_more (x ∷ rest) more some = λ e. cc
+
+pub part_more : (old new due more : List ℕ) → TakesPart old new due → TakesPart old new (due ++ more)
+part_more old new due more (part, rest, some, is, taken) =
+    (part, rest ++ more, some_more rest more some, ap (λ x. x ++ more) is ∙ append_assoc part rest more, taken)
 
 pub front_of_same : (old new due : List ℕ) → new ≡ old → TakesFront old new due
 front_of_same old new due e = ([], due, refl, e ∙ sym (append-nil old))

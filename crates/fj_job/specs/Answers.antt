@@ -159,14 +159,15 @@ pub record Told (task : Task) (status : Status) (source sink : Seen (List ℕ)) 
       → Replied task source.before disk.before.held.files status disk.after.held.files (λ output. sink.tells → sink.after ≡ sink.before ++ output)
   pub rightly : AnswersRightly task status source
   -- A fault of the disk is that of the statement which learnt of it: behind what executing the deck tells up to there, the report
-  -- says its line. The sink took all of it; or it failed then, and took a front of it. Each file that the disk does not tell as hurt,
+  -- says its line: unless the deck stops at the statement, it waits at a unit whose file is told as hurt, or the disk's own number rose.
+  -- The sink took all of it; or it failed then, and took a front of it, and not all. Each file that the disk does not tell as hurt,
   -- and that the statement is not about, is left as closing all units leaves it there.
   pub fault : source.tells → OfDisk task source.before disk.tells → IfFault status (λ line. IfExecute task (λ trace. (deck : Deck) × IsDeck source.before deck
       × ToldFault deck trace (files_in disk.before.held.files) line sink.tells sink.before sink.after sink.rose disk.after.held disk.before.own disk.after.own))
   -- A fault of the sink is met where the text is refused and that is told; or at a statement of the deck that is carried out, or in the
   -- report of a deck that ended at it. The sink took the records that ended until there, whole, and then a front of those that the
-  -- statement ends, or of the reply. Each file that the disk does not tell as hurt, and that the statement is not about, is left as
-  -- closing all units leaves it there.
+  -- statement ends, or of the reply, and not all. Each file that the disk does not tell as hurt, and that the statement is not about,
+  -- is left as closing all units leaves it there.
   pub written : source.tells → OfDisk task source.before disk.tells → IfWriteFault status (IfExecute task (λ trace. IsSomeRefusal source.before
       ⊎ ((deck : Deck) × IsDeck source.before deck
       × ToldWrite deck trace (files_in disk.before.held.files) sink.tells sink.before sink.after disk.after.held disk.before.own disk.after.own)))

@@ -1,6 +1,7 @@
 -- What a run that met a fault has told: what executing the deck tells, up to one of its statements.
-use Rattle.std.specs.Prelude.{◌≡◌, ◌≢◌, ◌⊎◌, ℕ, Bool, false, List, ◌++◌, Some, IsSome}
+use Rattle.std.specs.Prelude.{◌≡◌, ◌≢◌, ◌⊎◌, ℕ, Bool, true, false, List, [], ◌++◌, Some, IsSome}
 use Rattle.std.specs.FinSet as set
+use Rattle.fj_outside.specs.Faults.{Rose}
 use Rattle.fj_outside.specs.Holdings.{Holdings}
 use Rattle.fj_statement.specs.declared.deck.Variable.{Variable}
 use Rattle.fj_statement.specs.declared.deck.Deck.{Deck}
@@ -8,12 +9,13 @@ use Rattle.fj_plain.specs.State.{State, Files, all_closed, start}
 use Rattle.fj_plain.specs.Telling.{waited, after_tells}
 use Rattle.fj_plain.specs.Statement.{Stated, step, stated, cut}
 use Rattle.fj_cut.specs.Others.{names_in, file_about}
+use Rattle.fj_cut.specs.Awaiting.{AwaitedUnit}
 use Rattle.fj_units.specs.Files.{files_of}
 use Rattle.fj_units.specs.Returning.{IsAsDue}
 use Rattle.fj_report.specs.Lines.{status_text}
 use Rattle.fj_report.specs.declared.status.Status.{Status}
 use Rattle.fj_report.specs.declared.status.Status.TheVariants.{DiskFault, Memory}
-use Rattle.fj_items.specs.Handing.{TakesFront, whole_records}
+use Rattle.fj_items.specs.Handing.{TakesFront, TakesPart, whole_records}
 use Rattle.fj_job.specs.Reply.{Reply, IsRunReply, open_feed, trace_of}
 
 -- how far a statement came
@@ -61,6 +63,11 @@ abbrev pub AreLeft : (deck : Deck) (files : Files) → ComesTo deck files → Re
 AreLeft deck files comes reach left before now = (name : List ℕ) → set.contains left.hurt name ≡ false → file_about (names_in comes.before.units) comes.statement.0.what ≢ Some name
     → IsAsDue before now (files_of left name) ((all_closed (reached reach deck.variables comes.statement comes.before)).files name)
 
+-- Why a fault of the disk is learnt at a statement, in that state: it waits at a unit whose file is told as hurt; or the disk's own
+-- number rose.
+abbrev pub IsLearnt : Stated → State → Holdings → ℕ → ℕ → Type 0
+IsLearnt statement s left before now = ((u : AwaitedUnit s statement.0.what) × (set.contains left.hurt u.name ≡ true)) ⊎ Rose before now
+
 -- a sink took a front of the reply to a deck that is carried out
 abbrev pub TookRun : Deck → Bool → Files → List ℕ → List ℕ → Type 0
 TookRun deck trace files old new = (reply : Reply) × IsRunReply deck trace files reply × TakesFront old new reply.output
@@ -75,22 +82,24 @@ IsOfReport _ line = ⊥
 abbrev pub TookReport : Deck → Bool → Files → Status → List ℕ → List ℕ → Type 0
 TookReport deck trace files status old new = (line : ℕ) × IsOfReport status line × (output : List ℕ) × IsFaultReport deck trace files line output × TakesFront old new output
 
--- The fault of a line is reported, and the files are left as they are there. A sink took the report; or it failed, and took a front of it.
+-- The fault of a line is reported, and the files are left as they are there; unless the deck stops at the statement, it is learnt there.
+-- A sink took the report; or it failed, and took a front of it and not all.
 abbrev pub ToldFault : Deck → Bool → Files → ℕ → Type 0 → List ℕ → List ℕ → Type 0 → Holdings → ℕ → ℕ → Type 0
 ToldFault deck trace files line Tells old new Failed left before now = (output : List ℕ) × (report : IsFaultReport deck trace files line output)
-    × AreLeft deck files report.comes report.reach left before now × (Tells → TakesFront old new output × ((new ≡ old ++ output) ⊎ Failed))
+    × AreLeft deck files report.comes report.reach left before now × ((report.reach ≡ Carried) ⊎ IsLearnt report.comes.statement report.comes.before left before now)
+    × (Tells → (new ≡ old ++ output) ⊎ (Failed × TakesPart old new output))
 
 -- what is to be written next there: the records that the output has behind the statement; or, where the deck ended at it, the reply
 abbrev pub IsNext : Reach → (deck : Deck) → Bool → (files : Files) → ComesTo deck files → List ℕ → Type 0
 IsNext Carried deck trace files comes due = (reply : Reply) × IsRunReply deck trace files reply × (due ≡ reply.output)
 IsNext reach deck trace files comes due = due ≡ whole_records (step deck.variables comes.statement comes.before).0.output
 
--- a sink took the first of what is due whole, and a front of what is behind
+-- a sink took the first of what is due whole, and then a front of what is behind, and not all of it
 abbrev pub TookBehind : List ℕ → List ℕ → List ℕ → List ℕ → Type 0
-TookBehind old new first due = (part rest : List ℕ) × (due ≡ first ++ (part ++ rest)) × (new ≡ old ++ (first ++ part))
+TookBehind old new first due = (part rest : List ℕ) × (rest ≢ []) × (due ≡ first ++ (part ++ rest)) × (new ≡ old ++ (first ++ part))
 
 -- The sink failed at a statement of the deck, or in the report of a deck that ended at it. It took the records that ended until there,
--- and then a front of what was to be written next; and the files are left as they are there.
+-- and then a front of what was to be written next, and not all of it; and the files are left as they are there.
 pub record ToldWrite (deck : Deck) (trace : Bool) (files : Files) (Tells : Type 0) (old new : List ℕ) (left : Holdings) (before now : ℕ) : Type 0 where
   pub comes : ComesTo deck files
   pub reach : Reach

@@ -1,5 +1,6 @@
 -- What the machine and its sink are where a run was cut, and where a deck ended.
-use Rattle.std.specs.Prelude.{◌≡◌, ◌≢◌, ◌⊎◌, ℕ, true, List, ◌++◌, Some, None, slice_get}
+use Rattle.std.specs.Prelude.{◌≡◌, ◌≢◌, ◌⊎◌, ℕ, true, false, List, ◌++◌, Some, None, is_some, slice_get}
+use Rattle.fj_outside.specs.Faults.{Rose}
 use Rattle.fj_outside.specs.Holdings.{Holdings}
 use Rattle.fj_outside.specs.declared.outside.FileStore.{Ghosts}
 use Rattle.fj_statement.specs.declared.deck.Deck.{Deck}
@@ -8,21 +9,23 @@ use Rattle.fj_slot.specs.Serving.{Meaning}
 use Rattle.fj_world.specs.Rack.{Rack}
 use Rattle.fj_bay.specs.Bay.{Bay}
 use Rattle.fj_bay.specs.Jobs.{Job, Answer}
-use Rattle.fj_plain.specs.State.{Files, all_closed}
-use Rattle.fj_plain.specs.Statement.{plain_execution, step}
+use Rattle.fj_plain.specs.State.{State, Files, all_closed}
+use Rattle.fj_plain.specs.Statement.{Stated, plain_execution, step}
 use Rattle.fj_desk.specs.Core.{Connected}
 use Rattle.fj_desk.specs.Desks.{Desk}
 use Rattle.fj_desk.specs.Desking.{all_left}
 use Rattle.fj_turns.specs.Executing.{HoldsDesks}
 use Rattle.fj_cut.specs.Others.{names_in, file_about, has_file, AreHoused}
+use Rattle.fj_cut.specs.Awaiting.{AwaitedUnit}
 use Rattle.fj_pending.specs.Plain.{tells_of}
 use Rattle.fj_units.specs.Files.{files_of}
 use Rattle.fj_units.specs.Returning.{IsAsDue}
-use Rattle.fj_items.specs.Handing.{whole_records, HandsFront}
+use Rattle.fj_units.specs.Units.{has_slot}
+use Rattle.fj_items.specs.Handing.{whole_records, HandsPart}
 use Rattle.fj_items.specs.declared.lost.Lost.TheVariants.{Disk, Sink}
 use Rattle.fj_runner.specs.declared.left.Left.{Left}
 use Rattle.fj_runner.specs.declared.machine.Machine.{Machine}
-use Rattle.fj_job.specs.Cut.{Reach, Untold, Carried, reached, MayReach, ComesTo, AreLeft}
+use Rattle.fj_job.specs.Cut.{Reach, Untold, Carried, reached, MayReach, ComesTo, AreLeft, IsLearnt}
 
 -- each slot at which a unit has the file is there, and has not stopped
 abbrev pub IsServed : {E J A : Type 0} → Rack E J A → List Connected → List ℕ → Type 0
@@ -38,6 +41,23 @@ pub record HoldsFiles {E J A F : Type 0} {ghosts : Ghosts F} (meaning : Meaning 
   pub others : (name : List ℕ) → IsServed rack m.state.core.units name → file_about (names_in comes.before.units) comes.statement.0.what ≢ Some name
       → IsAsDue before now (all_left desks m.state.core.units (files_of held) name) ((all_closed (reached reach deck.variables comes.statement comes.before)).files name)
 
+-- A slot that has stopped, and that no unit has.
+pub record StopsAside {E J A : Type 0} (meaning : Meaning E J A Bay Job Answer) (rack : Rack E J A) (units : List Connected) : Type 0 where
+  pub desks : List Desk
+  pub held : HoldsDesks meaning rack desks
+  pub slot : ℕ
+  pub ledger : Ledger E J A
+  pub here : slice_get rack.slots slot ≡ Some ledger
+  pub desk : Desk
+  pub has_desk : slice_get desks slot ≡ Some desk
+  pub free : has_slot units slot ≡ false
+  pub halted : is_some ledger.halt ≡ true
+
+-- why no more was done: the statement waits at a unit whose slot has stopped, or for one that no unit has; or the disk's own number rose
+abbrev pub IsCause : {E J A : Type 0} → Meaning E J A Bay Job Answer → Rack E J A → List Connected → Stated → State → ℕ → ℕ → Type 0
+IsCause meaning rack units statement s before now =
+    ((u : AwaitedUnit s statement.0.what) × (IsServed rack units u.name → ⊥)) ⊎ StopsAside meaning rack units ⊎ Rose before now
+
 -- Output and tells are what the execution tells up to that statement, the sink took the records that ended, and so it is of the files.
 pub record IsExact {E J A F : Type 0} {ghosts : Ghosts F} (meaning : Meaning E J A Bay Job Answer) (rack : Rack E J A) (held : Holdings) (before now : ℕ) (Tells : Type 0) (old new : List ℕ)
     (deck : Deck) (files : Files) (comes : ComesTo deck files) (m : Machine F ghosts) : Type 0 where
@@ -47,6 +67,7 @@ pub record IsExact {E J A F : Type 0} {ghosts : Ghosts F} (meaning : Meaning E J
   pub tells : tells_of m.state.core.tells ≡ (reached reach deck.variables comes.statement comes.before).tells
   pub taken : Tells → new ≡ old ++ whole_records m.state.core.output
   pub files_are : HoldsFiles meaning rack held before now deck files comes reach m
+  pub cause : (reach ≡ Carried) ⊎ IsCause meaning rack m.state.core.units comes.statement comes.before before now
 
 -- The sink took a front of the records that the output has before or behind that statement.
 pub record TookFront (old new : List ℕ) (deck : Deck) (files : Files) (comes : ComesTo deck files) : Type 0 where
@@ -56,9 +77,9 @@ pub record TookFront (old new : List ℕ) (deck : Deck) (files : Files) (comes :
   pub due : whole_records (reached reach deck.variables comes.statement comes.before).output ≡ part ++ rest
   pub taken : new ≡ old ++ part
 
--- the sink took the records that ended before that statement, and then a front of those that it ends
+-- the sink took the records that ended before that statement, and then a front of those that it ends, and not all of them
 abbrev pub TookBegun : List ℕ → List ℕ → (deck : Deck) (files : Files) → ComesTo deck files → Type 0
-TookBegun old new deck files comes = HandsFront (old ++ whole_records comes.before.output) new comes.before.output (step deck.variables comes.statement comes.before).0.output
+TookBegun old new deck files comes = HandsPart (old ++ whole_records comes.before.output) new comes.before.output (step deck.variables comes.statement comes.before).0.output
 
 -- what unit `*` gets of the statements up to one of the deck
 pub record IsOutputSoFar (deck : Deck) (files : Files) (output : List ℕ) : Type 0 where
@@ -99,6 +120,7 @@ pub record IsLeftAt {F : Type 0} (deck : Deck) (files : Files) (left : Left F) (
   pub output : left.core.output ≡ (reached reach deck.variables comes.statement comes.before).output
   pub tells : tells_of left.core.tells ≡ (reached reach deck.variables comes.statement comes.before).tells
   pub files_are : AreLeft deck files comes reach held before now
+  pub learnt : (reach ≡ Carried) ⊎ IsLearnt comes.statement comes.before held before now
 
 -- The sink failed at a statement of the deck, the one at hand: the files are left as they are there, and so far the sink came.
 pub record IsLeftBegun {F : Type 0} (deck : Deck) (files : Files) (left : Left F) (Tells : Type 0) (old new : List ℕ) (held : Holdings) (before now : ℕ) : Type 0 where

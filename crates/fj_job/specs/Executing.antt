@@ -14,12 +14,12 @@ use Rattle.fj_plain.specs.Statement.{plain_execution}
 use Rattle.fj_desk.specs.Desks.{Desk}
 use Rattle.fj_desk.specs.Desking.{all_left}
 use Rattle.fj_turns.specs.Executing.{HoldsDesks}
-use Rattle.fj_items.specs.Handing.{whole_records, open_record, TakesFront}
+use Rattle.fj_items.specs.Handing.{whole_records, open_record, TakesFront, TakesPart}
 use Rattle.fj_pending.specs.Plain.{tells_of}
 use Rattle.fj_items.specs.declared.lost.Lost.TheVariants.{Sink, Disk, Unfit}
 use Rattle.fj_units.specs.Files.{files_of}
 use Rattle.fj_units.specs.Returning.{IsAsDue}
-use Rattle.fj_closing.specs.Closing.{AreSeated, AreNamed, IfClear}
+use Rattle.fj_closing.specs.Closing.{AreSeated, AreNamed, IfClear, OthersRun}
 use Rattle.fj_closing.specs.Losing.{may_tell}
 use Rattle.fj_report.specs.declared.status.Status.{Status}
 use Rattle.fj_report.specs.declared.status.Status.TheVariants.{WriteFault, DiskFault, Memory}
@@ -47,6 +47,7 @@ pub record IsSettled {D F E J A : Type 0} {ghosts : Ghosts F} (tells : D → Typ
   pub due : tells disk → may_tell it.settled ≡ true → (desks : List Desk) → HoldsDesks meaning rack desks → AreSeated desks m.state.core.units → AreNamed desks m.state.core.units
       → (name : List ℕ) → set.contains (held disk').hurt name ≡ false → IsAsDue (refusals disk) (refusals disk') (files_of (held disk') name) (all_left desks m.state.core.units (files_of (held disk)) name)
   pub running : tells disk → may_tell it.settled ≡ true → IfClear (held disk') m.state.core.units rack.slots (λ l. l.halt ≡ None)
+  pub others : may_tell it.settled ≡ true → (desks : List Desk) → HoldsDesks meaning rack desks → OthersRun m.state.core.units rack.slots desks
   pub own : tells disk → refusals disk ≤ refusals disk'
   pub sink : it.settled ≡ Err Sink → m.tally.lost ≡ Some Sink
   pub of_disk : it.settled ≡ Err Disk → (m.tally.lost ≡ Some Disk) ⊎ Rose (count disk) (count disk')
@@ -81,8 +82,7 @@ pub record IsCarriedOut {W D F E : Type 0} (tells_out : W → Type 0) (taken : W
 pub record IsFaultTold {F : Type 0} (trace : Bool) (it : Carried F) (line : ℕ) (Tells : Type 0) (old new : List ℕ) (Failed : Type 0) : Type 0 where
   pub settled : it.settled ≡ Err Disk
   pub line_is : (lined : Lined) → slice_get it.left.deck.statements it.left.at ≡ Some lined → line ≡ lined.line
-  pub front : Tells → TakesFront old new (fault_text trace line it.left.core.output (tells_of it.left.core.tells))
-  pub taken : Tells → (new ≡ old ++ fault_text trace line it.left.core.output (tells_of it.left.core.tells)) ⊎ Failed
+  pub taken : Tells → let text = fault_text trace line it.left.core.output (tells_of it.left.core.tells) in (new ≡ old ++ text) ⊎ (Failed × TakesPart old new text)
 
 -- the sink took a front of the report of a fault
 pub record IsFaultBegun {F : Type 0} (trace : Bool) (it : Carried F) (status : Status) (old new : List ℕ) : Type 0 where
@@ -92,21 +92,21 @@ pub record IsFaultBegun {F : Type 0} (trace : Bool) (it : Carried F) (status : S
   pub line_is : (lined : Lined) → slice_get it.left.deck.statements it.left.at ≡ Some lined → line ≡ lined.line
   pub taken : TakesFront old new (fault_text trace line it.left.core.output (tells_of it.left.core.tells))
 
--- the sink took a front of the report of a deck that ended
-pub record IsEndBegun {F : Type 0} (trace : Bool) (it : Carried F) (Tells : Type 0) (old new : List ℕ) : Type 0 where
+-- of the report of a deck that ended the sink took this
+pub record IsEndBegun {F : Type 0} (trace : Bool) (it : Carried F) (Took : List ℕ → Type 0) : Type 0 where
   pub settled : it.settled ≡ Ok tt
   pub going : it.left.over ≡ false
   pub ending : Ending
   pub ends : it.left.ending ≡ Some ending
-  pub taken : Tells → TakesFront old new (open_record it.left.core.output ++ run_text it.left.deck.variables trace (ending_of ending) it.left.core)
+  pub taken : Took (open_record it.left.core.output ++ run_text it.left.deck.variables trace (ending_of ending) it.left.core)
 
 -- what the sink took of a report
 abbrev pub IsFrontTold : {F : Type 0} → Bool → Carried F → Status → List ℕ → List ℕ → Type 0
-IsFrontTold trace it status old new = (new ≡ old) ⊎ IsFaultBegun trace it status old new ⊎ IsEndBegun trace it (Unit {0}) old new
+IsFrontTold trace it status old new = (new ≡ old) ⊎ IsFaultBegun trace it status old new ⊎ IsEndBegun trace it (TakesFront old new)
 
--- where it failed: before the report, and it took nothing of that; or in the report
+-- where it failed: before the report, and it took nothing of that; or in the report, and it took not all of it
 abbrev pub IsWriteTold : {F : Type 0} → Bool → Carried F → Type 0 → List ℕ → List ℕ → Type 0
-IsWriteTold trace it Tells old new = ((it.settled ≡ Err Sink) × (new ≡ old)) ⊎ IsEndBegun trace it Tells old new
+IsWriteTold trace it Tells old new = ((it.settled ≡ Err Sink) × (new ≡ old)) ⊎ IsEndBegun trace it (λ due. Tells → TakesPart old new due)
 
 -- What was carried out is reported.
 pub record IsConcluded {W F E : Type 0} (tells_out : W → Type 0) (taken : W → List ℕ) (count_out : W → ℕ)

@@ -8,14 +8,14 @@ ghost use Rattle.fj_bay.specs.Meaning.{bay_meaning};
 ghost use Rattle.fj_desk.specs.Desks.{Desk};
 ghost use Rattle.fj_desk.specs.Desking.{all_left};
 ghost use Rattle.fj_turns.specs.Executing.{HoldsDesks};
-ghost use Rattle.fj_items.specs.Handing.{open_record, TakesFront};
+ghost use Rattle.fj_items.specs.Handing.{open_record, TakesFront, TakesPart};
 ghost use Rattle.fj_pending.specs.Plain.{tells_of};
 ghost use Rattle.fj_units.specs.Names.{AreInUse};
 ghost use Rattle.fj_units.specs.Files.{files_of};
 ghost use Rattle.fj_runner.specs.Machine.{ending_of};
 ghost use Rattle.fj_units.specs.Returning.{IsAsDue};
 ghost use Rattle.fj_closing.specs.Losing.{is_fault, may_tell};
-ghost use Rattle.fj_closing.specs.Closing.{AreSeated, AreNamed, IfClear};
+ghost use Rattle.fj_closing.specs.Closing.{AreSeated, AreNamed, IfClear, OthersRun};
 ghost use Rattle.fj_job.specs.Answers.{IsAnswer, IsLost, IsOfRun, HasCause};
 ghost use Rattle.fj_job.specs.Reply.{status_of};
 ghost use Rattle.fj_job.specs.Concluding.{HasEnded, run_text, fault_text};
@@ -92,6 +92,8 @@ fn tell_run<W: Sink>(
         → W.taken out.new ≡ W.taken out.old ++ (open_record core.old.output ++ run_text variables.now trace (ending_of ending) core.old) }
     ensures front { W.tells out.old
         → TakesFront (W.taken out.old) (W.taken out.new) (open_record core.old.output ++ run_text variables.now trace (ending_of ending) core.old) }
+    ensures part { result ≡ Status.WriteFault → W.tells out.old
+        → TakesPart (W.taken out.old) (W.taken out.new) (open_record core.old.output ++ run_text variables.now trace (ending_of ending) core.old) }
     ensures cause { HasCause ⊥ (Rose (W.count out.old) (W.count out.new)) ⊥ result }
     ensures telling { W.tells out.old ↔ W.tells out.new }
     ensures later { W.count out.old ≤ W.count out.new }
@@ -115,7 +117,8 @@ fn tell_fault<W: Sink>(
 ) -> Status
     ensures status { (result ≡ Status.DiskFault line) ⊎ (result ≡ Status.Memory) }
     ensures whole { result ≡ Status.DiskFault line → W.tells out.old
-        → (W.taken out.new ≡ W.taken out.old ++ fault_text trace line core.old.output (tells_of core.old.tells)) ⊎ Rose (W.count out.old) (W.count out.new) }
+        → (W.taken out.new ≡ W.taken out.old ++ fault_text trace line core.old.output (tells_of core.old.tells))
+        ⊎ (Rose (W.count out.old) (W.count out.new) × TakesPart (W.taken out.old) (W.taken out.new) (fault_text trace line core.old.output (tells_of core.old.tells))) }
     ensures front { W.tells out.old → TakesFront (W.taken out.old) (W.taken out.new) (fault_text trace line core.old.output (tells_of core.old.tells)) }
     ensures telling { W.tells out.old ↔ W.tells out.new }
     ensures later { W.count out.old ≤ W.count out.new }
@@ -188,6 +191,8 @@ fn give_back<D: Disk>(
         → AreSeated desks left.old.core.units → AreNamed desks left.old.core.units → (name : List ℕ) → set.contains (D.held disk.new).hurt name ≡ false
         → IsAsDue (D.refusals disk.old) (D.refusals disk.new) (files_of (D.held disk.new) name) (all_left desks left.old.core.units (files_of (D.held disk.old)) name) }
     ensures running { D.tells disk.old → may_tell result ≡ true → IfClear (D.held disk.new) left.old.core.units slots.slots (λ l. l.halt ≡ None) }
+    ensures others { may_tell result ≡ true → (desks : List Desk) → HoldsDesks (bay_meaning D.File.told D.File.bytes D.File.count) slots desks
+        → OthersRun left.old.core.units slots.slots desks }
     ensures own { D.tells disk.old → D.refusals disk.old ≤ D.refusals disk.new }
     ensures sink { result ≡ Err Lost.Sink → left.old.lost ≡ Some Lost.Sink }
     ensures disk { result ≡ Err Lost.Disk → (left.old.lost ≡ Some Lost.Disk) ⊎ Rose (D.count disk.old) (D.count disk.new) }

@@ -1,7 +1,7 @@
 // Texts that a sink is told, and why not.
 ghost use Rattle.std.specs.Prelude.{◌≡◌, ◌≤◌, ◌++◌, ◌⊎◌, OnOk, IfErr, Err, ◌↔◌};
 ghost use Rattle.fj_outside.specs.Faults.{Rose};
-ghost use Rattle.fj_items.specs.Handing.{open_record, TakesFront};
+ghost use Rattle.fj_items.specs.Handing.{open_record, TakesFront, TakesPart};
 ghost use Rattle.fj_job.specs.Answers.{IsLost};
 
 use fj_items::{Lost, Output, put_all};
@@ -24,6 +24,7 @@ pub fn tell<W: Sink>(out: &mut W, text: &[u8]) -> Result<(), Status>
     ensures telling { W.tells out.old ↔ W.tells out.new }
     ensures ok { W.tells out.old → OnOk result (W.taken out.new ≡ W.taken out.old ++ text.now) }
     ensures front { W.tells out.old → TakesFront (W.taken out.old) (W.taken out.new) text.now }
+    ensures part { W.tells out.old → result ≡ Err Status.WriteFault → TakesPart (W.taken out.old) (W.taken out.new) text.now }
     ensures later { W.count out.old ≤ W.count out.new }
     ensures lost { IfErr result IsLost }
     ensures failed { result ≡ Err Status.WriteFault → Rose (W.count out.old) (W.count out.new) }
@@ -39,6 +40,7 @@ pub fn tell_behind<W: Sink>(output: &mut Output, text: &[u8], out: &mut W) -> Re
     ensures telling { W.tells out.old ↔ W.tells out.new }
     ensures ok { W.tells out.old → OnOk result (W.taken out.new ≡ W.taken out.old ++ (open_record output.old ++ text.now)) }
     ensures front { W.tells out.old → TakesFront (W.taken out.old) (W.taken out.new) (open_record output.old ++ text.now) }
+    ensures part { W.tells out.old → result ≡ Err Status.WriteFault → TakesPart (W.taken out.old) (W.taken out.new) (open_record output.old ++ text.now) }
     ensures later { W.count out.old ≤ W.count out.new }
     ensures lost { IfErr result IsLost }
     ensures failed { result ≡ Err Status.WriteFault → Rose (W.count out.old) (W.count out.new) }

@@ -5,7 +5,7 @@ use Rattle.std.proofs.lemmas.List.{append-nil}
 use Rattle.fj_outside.specs.Faults.{Rose}
 use Rattle.fj_outside.specs.Holdings.{Holdings}
 use Rattle.fj_statement.specs.declared.deck.Variable.{Variable}
-use Rattle.fj_items.specs.Handing.{HandsOver, HandsFront, whole_records}
+use Rattle.fj_items.specs.Handing.{HandsOver, HandsFront, HandsPart, whole_records}
 use Rattle.fj_items.specs.declared.lost.Lost.{Lost}
 use Rattle.fj_items.specs.declared.lost.Lost.TheVariants.{Disk, Sink}
 use Rattle.fj_plain.specs.State.{Output, Tell}
@@ -85,16 +85,17 @@ module _ {W : Type 0} {tells_out : W → Type 0} {taken : W → List ℕ} {held 
 
   -- its own action is given up
   pub fails_begun : {X : Type 0} → (out out' : W) (core core' : Core) (r : Result X Lost) (due : Output) {does : Option PlainDoing} → (tells_out out → OnErr r (HandsFront (taken out) (taken out') core.output due))
+      → (tells_out out → r ≡ Err Sink → HandsPart (taken out) (taken out') core.output due)
       → (r ≡ Err Disk → core'.output ≡ core.output) → core'.tells ≡ core.tells → (OfOutside (λ lost. r ≡ Err lost) → StandsDoing does core' held before now) → (r ≡ Err Disk → Rose before now)
       → FailsTurn tells_out taken out core r out' core' held before now due (Unit {0}) (tells_of core.tells) does
-  fails_begun {X = X} out out' core core' r due h o t f rose = record {
+  fails_begun out out' core core' r due h part o t f rose = record {
     front = λ k. by r (h k);
     known = λ e. tt;
     stands = f;
     output = o;
     tells = λ e. ap tells_of t;
     rose = rose;
-    begun = λ k e. subst (λ (x : Result X Lost). OnErr x (HandsFront (taken out) (taken out') core.output due)) e (h k);
+    begun = part;
   }
     where
       by : {Y : Type 0} → (x : Result Y Lost) → OnErr x (HandsFront (taken out) (taken out') core.output due) → OnErr x (HandsFront (taken out) (taken out') core.output due ⊎ (taken out' ≡ taken out))
@@ -125,7 +126,7 @@ module _ {W : Type 0} {tells_out : W → Type 0} {taken : W → List ℕ} {held 
     output = λ e. f.output e ∙ o;
     tells = λ e. f.tells e ∙ t;
     rose = f.rose;
-    begun = λ s e. subst (λ x. HandsFront (taken out) (taken out') x due') o (subst (λ x. HandsFront (taken out) (taken out') half.output x) d (f.begun s e));
+    begun = λ s e. subst (λ x. HandsPart (taken out) (taken out') x due') o (subst (λ x. HandsPart (taken out) (taken out') half.output x) d (f.begun s e));
   }
 
   -- by another word for the stage

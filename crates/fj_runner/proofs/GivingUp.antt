@@ -4,7 +4,7 @@ use Rattle.std.specs.Prelude.{◌⊎◌, if◌then◌else◌}
 use Rattle.std.specs.Option.{option_and_then}
 use Rattle.fj_outside.specs.Holdings.{Holdings}
 use Rattle.fj_outside.specs.declared.outside.FileStore.{Ghosts}
-use Rattle.fj_items.specs.Handing.{HandsOver, HandsFront, whole_records}
+use Rattle.fj_items.specs.Handing.{HandsOver, HandsFront, HandsPart, whole_records}
 use Rattle.fj_items.specs.declared.lost.Lost.{Lost}
 use Rattle.fj_items.specs.declared.lost.Lost.TheVariants.{Disk, Sink, Unfit}
 use Rattle.fj_world.specs.declared.ask.Ask.{Ask}
@@ -174,7 +174,7 @@ module _ {F : Type 0} {ghosts : Ghosts F} where
     sink = λ s t. (
       taken out,
       hands_none (taken out) (taken out) m.state.core.output r.core.output refl o,
-      subst (λ y. HandsFront (taken out) (taken out') y (turn_output r)) (sym o) (subst (λ y. HandsFront (taken out) (taken out') m.state.core.output y) due (f.begun t s)),
+      subst (λ y. HandsPart (taken out) (taken out') y (turn_output r)) (sym o) (subst (λ y. HandsPart (taken out) (taken out') m.state.core.output y) due (f.begun t s)),
     );
   }
     where

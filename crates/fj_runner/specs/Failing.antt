@@ -3,7 +3,7 @@ use Rattle.std.specs.Prelude.{◌≡◌, ◌⊎◌, ℕ, true, false, List, Opti
 use Rattle.fj_outside.specs.Faults.{Rose}
 use Rattle.fj_outside.specs.Holdings.{Holdings}
 use Rattle.fj_outside.specs.declared.outside.FileStore.{Ghosts}
-use Rattle.fj_items.specs.Handing.{HandsOver, HandsFront}
+use Rattle.fj_items.specs.Handing.{HandsOver, HandsFront, HandsPart}
 use Rattle.fj_items.specs.declared.lost.Lost.{Lost}
 use Rattle.fj_items.specs.declared.lost.Lost.TheVariants.{Disk, Sink}
 use Rattle.fj_plain.specs.State.{Output, Tell}
@@ -36,7 +36,7 @@ pub record StandsDoing (due : Option Doing) (core : Core) (held : Holdings) (bef
 
 -- Where it is given up, the sink took a front of the records that the output due has, or nothing. Where that is for the outside, the
 -- answers that it needs are known, and units and files are those due of what it does. Where it is for the disk, that is told, nothing
--- of it is written, and the disk's own number rose; where it is for the sink, that took a front.
+-- of it is written, and the disk's own number rose; where it is for the sink, that took a front, and not all of them.
 pub record FailsTurn {W X : Type 0} (tells_out : W → Type 0) (taken : W → List ℕ) (out : W) (core : Core) (result : Result X Lost) (out' : W) (core' : Core)
     (held : Holdings) (before now : ℕ) (due : Output) (Known : Type 0) (told : List Tell) (does : Option Doing) : Type 0 where
   pub front : tells_out out → OnErr result (HandsFront (taken out) (taken out') core.output due ⊎ (taken out' ≡ taken out))
@@ -45,7 +45,7 @@ pub record FailsTurn {W X : Type 0} (tells_out : W → Type 0) (taken : W → Li
   pub output : result ≡ Err Disk → core'.output ≡ core.output
   pub tells : result ≡ Err Disk → tells_of core'.tells ≡ told
   pub rose : result ≡ Err Disk → Rose before now
-  pub begun : tells_out out → result ≡ Err Sink → HandsFront (taken out) (taken out') core.output due
+  pub begun : tells_out out → result ≡ Err Sink → HandsPart (taken out) (taken out') core.output due
 
 -- the turn of a statement from a stage
 abbrev pub FailsStage : {W X : Type 0} → (W → Type 0) → (W → List ℕ) → W → Core → Result X Lost → W → Core → Holdings → ℕ → ℕ → Stated → Stage → Run → Type 0
@@ -67,12 +67,12 @@ pub record FailsAtDisk {F : Type 0} {ghosts : Ghosts F} (TellsOut : Type 0) (tak
   pub tells : tells_of m'.state.core.tells ≡ turn_tells run
   pub rose : Rose before now
 
--- the sink took the records that ended first, and then a front of those that were to end
+-- the sink took the records that ended first, and then a front of those that were to end, and not all of them
 abbrev pub HandsThen : List ℕ → List ℕ → Output → Output → Output → Type 0
-HandsThen taken taken' old first due = (between : List ℕ) × HandsOver taken between old first × HandsFront between taken' first due
+HandsThen taken taken' old first due = (between : List ℕ) × HandsOver taken between old first × HandsPart between taken' first due
 
 -- A call gave up, for this: it was in the turn of a statement, behind so many that it passed, and the sink took a front of the records
--- that this turn's output has. Where the sink failed, it took those before the turn whole.
+-- that this turn's output has. Where the sink failed, it took those before the turn whole, and of those of the turn not all.
 pub record FailsCall {F : Type 0} {ghosts : Ghosts F} (Of : Lost → Type 0) (TellsOut : Type 0) (taken taken' : List ℕ) (held : Holdings) (before now : ℕ) (r : Run) (m m' : Machine F ghosts) : Type 0 where
   pub count : ℕ
   pub run : Run

@@ -11,7 +11,7 @@ use Rattle.fj_units.specs.Files.{files_of}
 use Rattle.fj_acts.specs.Doing.{IsDoing}
 use Rattle.fj_acts.specs.Failing.{StandsWhere}
 use Rattle.fj_acts.specs.State.{core_of}
-use Rattle.fj_acts.proofs.BeginningLemmas.{asks_about, own_is, assign_front, open_front, inquire_front, takes_as}
+use Rattle.fj_acts.proofs.BeginningLemmas.{asks_about, own_is, assign_front, open_front, inquire_front, takes_as, part_as}
 use Rattle.fj_acts.proofs.FailingLemmas.{fails_as}
 use Rattle.fj_acts.proofs.OpeningLemmas.{meant}
 use Rattle.fj_acts.proofs.StateLemmas.{keeps_answers}
@@ -122,6 +122,13 @@ returns-in-Transfer-clause-front g c = λ tells.
     takes_as c.read_or_write.result (g.W.Sink.taken c.args.out.now) (g.W.Sink.taken c.read_or_write.new.out) c.args.core.now.output _ _
     (own_is c.args.variables.now c.args.lined.now.line (core_of files c.args.core.now) c.args.lined.now.what (statement.Transfer c.in-Transfer.t) c.in-Transfer.is)
     (c.read_or_write.ensures.front tells files)
+
+pub returns-in-Transfer-clause-part : goal.returns-in-Transfer-clause-part
+returns-in-Transfer-clause-part g c = λ tells lost.
+    let files : Files = files_of (g.D.Disk.held c.args.disk.now) in
+    part_as (g.W.Sink.taken c.args.out.now) (g.W.Sink.taken c.read_or_write.new.out) c.args.core.now.output _ _
+    (own_is c.args.variables.now c.args.lined.now.line (core_of files c.args.core.now) c.args.lined.now.what (statement.Transfer c.in-Transfer.t) c.in-Transfer.is)
+    (c.read_or_write.ensures.part tells files lost)
 
 pub returns-in-Transfer-clause-fault_out : goal.returns-in-Transfer-clause-fault_out
 returns-in-Transfer-clause-fault_out g c = λ tells lost.

@@ -1,10 +1,11 @@
-use Rattle.std.proofs.Common.{◌≡◌, None}
+use Rattle.std.proofs.Common.{◌≡◌, None, map}
 use Rattle.fj_units.specs.Files.{files_of}
 use Rattle.fj_units.specs.Units.{connected_of}
 use Rattle.fj_closing.proofs.Returning.{each_closed, either_lacks, both_tell}
 use Rattle.fj_closing.proofs.Due.{each_due, others_on}
 use Rattle.fj_closing.proofs.Running.{each_running}
 use Rattle.fj_closing.proofs.Fitting.{both_fit, own_each, none_own, owned_each}
+use Rattle.fj_closing.proofs.Others.{gone_owned, each_owned}
 use Rattle.fj_closing.proofs.closing.+close_each.Goals as goal
 
 pub returns-clause-files : goal.returns-clause-files
@@ -56,3 +57,10 @@ returns-clause-fits g t c = λ own.
     let each = own_each connected_of g.D.File.FileStore.count c.args.names.now c.close_unit-first.new.names c.args.all.now.items c.close_unit-first.new.all.items c.args.units.now c.unit-item.result
     c.in-len1-up.len_at_least c.unit-item.is c.close_unit-first.ensures.others c.close_unit-first.ensures.taken own in
     both_fit c.close_unit-first.result c.close_each-then.result c.after.result c.after.ensures (c.close_unit-first.ensures.fits each.0) (c.close_each-then.ensures.fits each.1)
+
+pub returns-in_default-clause-owned : goal.returns-in_default-clause-owned
+returns-in_default-clause-owned g t c = gone_owned (map connected_of c.args.units.now) c.args.all.now.items
+
+pub returns-clause-owned : goal.returns-clause-owned
+returns-clause-owned g t c = λ gone.
+    each_owned connected_of c.args.units.now c.unit-item.result c.args.all.now.items c.close_unit-first.new.all.items c.in-len1-up.len_at_least c.unit-item.is c.close_unit-first.ensures.others (c.close_each-then.ensures.owned gone)

@@ -69,3 +69,8 @@ returns-clause-fits g c = λ own owned.
     both_fit c.close_each-first.result c.close_rest-then.result c.after.result c.after.ensures
     (c.close_each-first.ensures.fits (subst (HaveTheirOwn g.D.File.FileStore.count c.args.names.now c.args.all.items) (sym c.as_slice.ensures) own))
     (c.close_rest-then.ensures.fits (c.close_each-first.ensures.gone (subst (λ us. AreOwned us c.args.all.items) (sym c.as_slice.ensures) owned)))
+
+pub returns-clause-owned : goal.returns-clause-owned
+returns-clause-owned g c = λ may.
+    let told = both_tell c.close_each-first.result c.close_rest-then.result c.after.result c.after.ensures may in
+    subst (λ us. AreOwned us c.args.all.items) c.as_slice.ensures (c.close_each-first.ensures.owned (c.close_rest-then.ensures.left told.1))

@@ -1,3 +1,4 @@
+use Rattle.fj_closing.proofs.Others.{others_run}
 use Rattle.fj_closing.proofs.Running.{slots_running}
 use Rattle.fj_closing.proofs.finishing.finish.Goals as goal
 
@@ -24,3 +25,7 @@ pub returns-clause-fits : goal.returns-clause-fits
 returns-clause-fits g c = λ fit.
     let each = fit c.what_remains-all.result.items c.what_remains-all.ensures.each in
     c.close_units.ensures.fits each.0 each.1
+
+pub returns-clause-others : goal.returns-clause-others
+returns-clause-others g c = λ may desks holds.
+    others_run g.D.File.FileStore.told g.D.File.FileStore.bytes g.D.File.FileStore.count c.args.slots c.what_remains-all.result.items c.args.units.now desks c.what_remains-all.ensures.each holds (c.close_units.ensures.owned may)

@@ -88,3 +88,12 @@ returns-in-None-clause-running g c = λ t e.
     let none = c.in-None.ensures.none in
     let closed = (where_none _ _ none.0 c.first_lost.ensures.none).1 in
     subst (λ d. IfClear (g.D.Disk.held d) c.args.left.now.core.units c.args.slots.slots (λ l. l.halt ≡ None)) (sym (where_ok _ _ none.1 c.give_kept-given.ensures.none)) (c.finish-closed.ensures.running t (ap may_tell closed))
+
+pub returns-in-Some-clause-others : goal.returns-in-Some-clause-others
+returns-in-Some-clause-others g c = λ e.
+    c.finish-closed.ensures.others
+    (both_fit _ c.finish-closed.result c.give_kept-given.result c.in-Some.lost c.give_kept-given.ensures.unfit c.in-Some.ensures.fits c.in-Some.ensures.ok c.first_lost.ensures.fits e).1
+
+pub returns-in-None-clause-others : goal.returns-in-None-clause-others
+returns-in-None-clause-others g c = λ e.
+    c.finish-closed.ensures.others (ap may_tell (where_none _ _ c.in-None.ensures.none.0 c.first_lost.ensures.none).1)

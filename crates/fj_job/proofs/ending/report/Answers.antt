@@ -21,7 +21,7 @@ returns-in-Some-clause-front g c = λ w. inr (inr (record {
   going = c.in-Some.ensures.0;
   ending = c.in-Some.ending;
   ends = c.in-Some.ensures.1;
-  taken = λ _. rw (← c.as_slice.ensures) (c.tell_run.ensures.front w);
+  taken = rw (← c.as_slice.ensures) (c.tell_run.ensures.front w);
 }))
 
 pub returns-in-Some-clause-written : goal.returns-in-Some-clause-written
@@ -30,7 +30,7 @@ returns-in-Some-clause-written g c = λ e. inr (record {
   going = c.in-Some.ensures.0;
   ending = c.in-Some.ending;
   ends = c.in-Some.ensures.1;
-  taken = λ w. rw (← c.as_slice.ensures) (c.tell_run.ensures.front w);
+  taken = λ w. rw (← c.as_slice.ensures) (c.tell_run.ensures.part e w);
 })
 
 pub returns-in-Err-Disk-clause-front : goal.returns-in-Err-Disk-clause-front
@@ -48,6 +48,5 @@ returns-in-Err-Disk-clause-fault g c = λ line e.
     record {
       settled = search rules;
       line_is = λ lined at. sym same ∙ c.line_of.ensures lined at;
-      front = λ w. rw (← same) (c.tell_fault.ensures.front w);
       taken = λ w. rw (← same) (c.tell_fault.ensures.whole (e ∙ ap (λ n. DiskFault n) (sym same)) w);
     }

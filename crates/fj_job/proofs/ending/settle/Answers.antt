@@ -3,7 +3,7 @@ use Rattle.fj_items.specs.declared.lost.Lost.{Lost}
 use Rattle.fj_items.specs.declared.lost.Lost.TheVariants.{Disk}
 use Rattle.fj_acts.specs.declared.state.Core.{Core}
 use Rattle.fj_desk.specs.Desking.{all_left}
-use Rattle.fj_closing.specs.Closing.{AreSeated, AreNamed, IfClear}
+use Rattle.fj_closing.specs.Closing.{AreSeated, AreNamed, IfClear, OthersRun}
 use Rattle.fj_units.specs.Files.{files_of}
 use Rattle.fj_units.specs.Returning.{IsAsDue}
 use Rattle.fj_units.specs.Names.{stands}
@@ -34,6 +34,7 @@ returns g c = record {
         (all_left desks us (files_of (g.D.Disk.held c.args.disk.now)) name)) us
         (c.give_back-settled.ensures.due t e desks h (subst (λ us. AreSeated desks us) (sym us) seats) (subst (λ us. AreNamed desks us) (sym us) named) name clear);
     running = λ t e. subst (λ us. IfClear (g.D.Disk.held c.give_back-settled.new.disk) us c.args.slots.slots (λ l. l.halt ≡ None)) (ap (λ k. k.units) c.into_left-left.ensures.core) (c.give_back-settled.ensures.running t e);
+    others = λ e desks h. subst (λ us. OthersRun us c.args.slots.slots desks) (ap (λ k. k.units) c.into_left-left.ensures.core) (c.give_back-settled.ensures.others e desks h);
     own = c.give_back-settled.ensures.own;
     in_use = c.give_back-settled.ensures.in_use;
     telling = c.give_back-settled.ensures.telling;

@@ -1,11 +1,12 @@
-use Rattle.std.proofs.Common.{ℕ, Bool, ◌||◌, not, List, Result, refl}
+use Rattle.std.proofs.Common.{◌≡◌, ℕ, Bool, ◌||◌, not, List, Result, Err, refl, rules}
+use Rattle.fj_items.specs.declared.lost.Lost.TheVariants.{Sink}
 use Rattle.fj_value.specs.declared.condition.Condition.{Condition}
 use Rattle.fj_transfer.specs.Transfer.{is_explicit}
 use Rattle.fj_transfer.specs.Printing.{Printed, actions_by, control_of, printed_by}
 use Rattle.fj_plain.specs.State.{Output}
 use Rattle.fj_plain.specs.Transfers.{printed_to}
 use Rattle.fj_items.specs.Handing.{HandsFront}
-use Rattle.fj_items.proofs.Prints.{on_err, kept_low, went_on, went_over, went_front, none_taken, left_is, went_printed, seen, flat_of}
+use Rattle.fj_items.proofs.Prints.{on_err, kept_low, went_on, went_over, went_front, went_part, none_taken, left_is, went_printed, seen, flat_of}
 use Rattle.fj_items.proofs.star.Output.print.Goals as goal
 
 pub returns-then-begun-clause-front : goal.returns-then-begun-clause-front
@@ -25,6 +26,15 @@ returns-in_err-hand_on-in-Ok-clause-front g c = λ told.
     let taken' : List ℕ = g.W.Sink.taken c.hand_on.new.out in
     on_err c.from_residual.result (HandsFront taken taken' o (printed_to ends o (R o.begun)).0)
     (went_front ends (R o.begun) o _ c.in-Ok.count taken taken' w (kept_low c.self.inside o c.self.view_is) (c.hand_on.ensures.front told))
+
+pub returns-in_err-hand_on-in-Ok-clause-part : goal.returns-in_err-hand_on-in-Ok-clause-part
+returns-in_err-hand_on-in-Ok-clause-part g c = λ told lost.
+    let ends : Bool = c.args.advance || not (is_explicit c.args.layout.now) in
+    let R : ℕ → Result Printed Condition = λ b. printed_by 65536 b (actions_by c.args.layout.now (control_of c.args.layout.now) c.args.modes c.args.advance c.args.moved.now) in
+    let o : Output = c.args.self.now in
+    let w = went_on ends R o c.self.inside c.print_onto.new.out c.len-begun.result c.in-Ok.count c.self.view_is c.len-begun.ensures c.in-Ok.ensures in
+    let sink : c.hand_on.result ≡ Err Sink = search rules in
+    went_part ends (R o.begun) o _ c.in-Ok.count (g.W.Sink.taken c.args.out.now) (g.W.Sink.taken c.hand_on.new.out) w (kept_low c.self.inside o c.self.view_is) (c.hand_on.ensures.part told sink)
 
 pub returns-in_ok-hand_on-in-Ok-clause-taken : goal.returns-in_ok-hand_on-in-Ok-clause-taken
 returns-in_ok-hand_on-in-Ok-clause-taken g c = λ told.

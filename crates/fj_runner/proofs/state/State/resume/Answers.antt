@@ -15,7 +15,7 @@ use Rattle.fj_runner.specs.Turned.{IsTurn}
 use Rattle.fj_runner.proofs.Lists.{drop_at, drop_none}
 use Rattle.fj_runner.proofs.Pauses.{ends_next}
 use Rattle.fj_runner.proofs.Runs.{matched_same}
-use Rattle.fj_items.specs.Handing.{HandsOver, HandsFront}
+use Rattle.fj_items.specs.Handing.{HandsOver, HandsFront, HandsPart}
 use Rattle.fj_turns.specs.Passing.{output_of}
 use Rattle.fj_acts.specs.State.{core_at}
 use Rattle.fj_runner.proofs.Failures.{act_output, doing_output, fails_still, fails_acting, fails_begun}
@@ -90,6 +90,7 @@ returns-clause-fails g c = λ tells more stage.
     ap (λ xs. output_of (turn_act st (ends_halts xs core does) run)) e ∙ act_output st does run in
     let taken = g.W.Sink.taken in
     fails_begun c.args.out.now c.begin.new.out s.core c.begin.new.core _ _ (λ t. subst (λ o. HandsFront (taken c.args.out.now) (taken c.begin.new.out) s.core.output o) (sym due) (c.in-Err.ensures.front t))
+    (λ t e. subst (λ o. HandsPart (taken c.args.out.now) (taken c.begin.new.out) s.core.output o) (sym due) (c.begin.ensures.part t (cc (c.in-Err.is, e))))
     (λ e. (c.begin.ensures.still (cc (c.in-Err.is, e))).1) c.begin.ensures.tells
     (λ o. record {
       does = does;

@@ -1,0 +1,58 @@
+-- The units at which a statement waits for a job, and the unit of the slot that stopped (ISO/IEC 1539-1:2004, 9.4.5, 9.4.6, 9.5, 9.6, 9.7,
+-- 9.9).
+use Rattle.std.specs.Prelude.{◌≡◌, ◌⊎◌, ℕ, ◌==◌, true, false, List, Option, Some}
+use Rattle.std.specs.List.{list_any}
+use Rattle.fj_modes.specs.declared.asked.Wanted.{Wanted}
+use Rattle.fj_statement.specs.declared.deck.Variable.{Variable}
+use Rattle.fj_statement.specs.declared.statement.Statement.{Statement}
+use Rattle.fj_statement.specs.declared.statement.Statement.TheVariants as statement
+use Rattle.fj_plain.specs.Needs.{number_of, unit_about, unit_of_file}
+use Rattle.fj_plain.specs.State.{State, Files, start}
+use Rattle.fj_plain.specs.Statement.{Stated, cut}
+use Rattle.fj_plain.specs.Telling.{is_asynchronous}
+use Rattle.fj_desk.specs.Acting.{asks_connection}
+use Rattle.fj_desk.specs.Core.{Connected}
+use Rattle.fj_desk.specs.Desks.{Desk}
+use Rattle.fj_desk.specs.Desking.{fresh}
+use Rattle.fj_turns.specs.Run.{Run}
+use Rattle.fj_turns.specs.Cutting.{StopAt}
+use Rattle.fj_cut.specs.Others.{names_in, has_file}
+
+-- The statement waits for jobs at that unit, if it waits for any: for the pending transfers of the unit, or for what it does itself with
+-- the unit's file. A READ or WRITE that will be pending waits for none, nor does INQUIRE but where it asks what only the connection
+-- knows; END does so at each unit.
+abbrev pub WaitsBy : (List ℕ → Option ℕ) → Statement → ℕ → Type 0
+WaitsBy unit_named (statement.Assign to from) number = ⊥
+WaitsBy unit_named (statement.OpenUnit u spec iostat) number = number_of u ≡ Some number
+WaitsBy unit_named (statement.CloseUnit u keep iostat) number = number_of u ≡ Some number
+WaitsBy unit_named (statement.WaitFor u id iostat) number = number_of u ≡ Some number
+WaitsBy unit_named (statement.Move how u iostat) number = number_of u ≡ Some number
+WaitsBy unit_named (statement.Inquire about asked id iostat) number =
+    (list_any (λ (w : Wanted). asks_connection w.what) asked ≡ true) × (unit_about unit_named about ≡ Some number)
+WaitsBy unit_named (statement.Transfer t) number = (is_asynchronous t ≡ false) × (number_of t.unit ≡ Some number)
+WaitsBy unit_named statement.End number = Unit {0}
+
+abbrev pub WaitsAt : State → Statement → ℕ → Type 0
+WaitsAt s what number = WaitsBy (unit_of_file s.units) what number
+
+-- a unit at which the statement waits, and the name of the file that is connected to it
+pub record AwaitedUnit (s : State) (what : Statement) : Type 0 where
+  pub number : ℕ
+  pub waits : WaitsAt s what number
+  pub name : List ℕ
+  pub named : names_in s.units number ≡ Some name
+
+-- no unit is at that slot
+abbrev pub IsFree : List Connected → ℕ → Type 0
+IsFree units slot = list_any (λ (u : Connected). u.slot == slot) units ≡ false
+
+-- A stop of that slot was learnt at the statement, and the execution is cut just before it, in this state: the slot is that of a unit at
+-- which the statement waits; or no unit is there, and a connection was on its way.
+pub record StopsAt (variables : List Variable) (deck : List Stated) (files : Files) (index : ℕ) (statement : Stated) (slot : ℕ) (run : Run) : Type 0 where
+  pub state : State
+  pub cut_is : cut variables index deck (start variables files) ≡ Some (statement, state)
+  pub place : ((u : AwaitedUnit state statement.0.what) × (has_file run.core.units slot u.name ≡ true)) ⊎ IsFree run.core.units slot
+
+abbrev pub StopsAreAwaited : Type 0
+StopsAreAwaited = (variables : List Variable) (deck : List Stated) (files : Files) (slot : ℕ) (run : Run) (desks : List Desk) →
+    (stop : StopAt variables deck (fresh variables files) slot run desks) → StopsAt variables deck files stop.index stop.statement slot run
