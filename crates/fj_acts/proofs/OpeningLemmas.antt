@@ -1,5 +1,5 @@
 -- What OPEN does, as jobs and how the statement goes on.
-use Rattle.std.proofs.Common.{◌≡◌, ℕ, Bool, true, false, List, [], ◌∷◌, ◌++◌, Option, Some, None, Result, Ok, Err, refl, sym, ap, subst, ◌∙◌}
+use Rattle.std.proofs.Common.{◌≡◌, ℕ, ◌<◌, Bool, true, false, List, [], ◌∷◌, ◌++◌, Option, Some, None, Result, Ok, Err, refl, sym, ap, subst, ◌∙◌}
 use Rattle.std.specs.Prelude.{option_map, if◌then◌else◌, IfOk}
 use Rattle.std.specs.FinSet as set
 use Rattle.fj_value.specs.declared.condition.Condition.{Condition}
@@ -73,9 +73,9 @@ stop_of P f stop e p = subst (λ (x : OpenFault). IfStopped x P) e p
 -- ---- one connection
 
 pub attaches_is : {F : Type 0} (told : F → Bool) (bytes : F → List ℕ) (variables : List Variable) (st : Stated) (core : Core) (left : Files) (number slot : ℕ) (name : List ℕ) (modes : Modes) (conn : Linked F) (r : Result Connection Condition)
-    → told conn.file ≡ true → conn.modes ≡ modes → conn.name ≡ name → r ≡ Ok (connection_of bytes conn) → left ≡ without_file name core.files
-    → IsDoing told bytes variables st (record core { files = left }) (doing.Awaits slot (job.Attach (Some conn)) (then.Attaches (record { number = number; slot = slot; name = name; modes = modes }))) (attaches core number slot r)
-attaches_is told bytes variables st core left number slot name modes conn r is_told same_modes same_name opened is_left =
+    → (place : slot < most_slots) → told conn.file ≡ true → conn.modes ≡ modes → conn.name ≡ name → r ≡ Ok (connection_of bytes conn) → left ≡ without_file name core.files
+    → IsDoing told bytes variables st (record core { files = left }) (doing.Awaits slot (job.Attach (Some conn)) (then.Attaches (record { number = number; slot = slot; name = name; modes = modes; place = place }))) (attaches core number slot r)
+attaches_is told bytes variables st core left number slot name modes conn r place is_told same_modes same_name opened is_left =
     let goes : List ℕ → Modes → Files → Doing = λ n m files. awaits slot (attach (Some (connection_of bytes conn))) (record core { files = files })
     (λ o. finishes (record core { files = files; units = inserted (record { number = number; slot = slot; name = n; modes = m }) core.units }) (condition_in o.1)) in
     record {

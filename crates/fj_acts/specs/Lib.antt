@@ -6,3 +6,4 @@ pub mod Steps
 pub mod Places
 pub mod Holding
 pub mod Fitting
+pub mod Placing

@@ -29,3 +29,7 @@ core_at (awaits slot job core next) = core
 -- the pending transfers keep the answers of their jobs, and one more has none
 abbrev pub KeepsAnswers : Core → Core → Type 0
 KeepsAnswers old new = held new.pending ≡ matched (map (λ (h : Held). h.pending) (held new.pending)) (held old.pending)
+
+-- no transfer is made pending, and none is told
+abbrev pub KeepsPending : Core → Core → Type 0
+KeepsPending old new = (new.pending ≡ old.pending) × (new.next ≡ old.next)

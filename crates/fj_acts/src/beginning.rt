@@ -12,8 +12,9 @@ ghost use Rattle.fj_plain.specs.State.{Files};
 ghost use Rattle.fj_items.specs.Kinds.{kinds_of};
 ghost use Rattle.fj_items.specs.Handing.{HandsOver, HandsFront, HandsPart};
 ghost use Rattle.fj_units.specs.Names.{AreInUse};
+ghost use Rattle.fj_acts.specs.Placing.{IsPlaced};
 ghost use Rattle.fj_acts.specs.Fitting.{IsKept, Meets};
-ghost use Rattle.fj_acts.specs.State.{KeepsAnswers, core_of, core_at};
+ghost use Rattle.fj_acts.specs.State.{KeepsAnswers, KeepsPending, core_of, core_at};
 ghost use Rattle.fj_acts.specs.Failing.{FailsWhere, StandsWhere};
 ghost use Rattle.fj_units.specs.Files.{files_of};
 ghost use Rattle.fj_acts.specs.Doing.{IsDoing};
@@ -48,8 +49,9 @@ fn job_of<F: FileStore>(how: Motion) -> Job<F>
 
 /// BACKSPACE, REWIND, ENDFILE and FLUSH (9.7, 9.8): 1 where the unit is not connected.
 fn motion<F: FileStore>(how: Motion, unit: UnitRef, core: &Core) -> Doing<F>
-    ensures { (variables : List Variable) (st : Stated) (files : Files) → IsDoing F.told F.bytes variables st (core_of files core.now) result
+    ensures doing { (variables : List Variable) (st : Stated) (files : Files) → IsDoing F.told F.bytes variables st (core_of files core.now) result
         (moves (core_of files core.now) how (unit_at (core_of files core.now) (number_of unit))) }
+    ensures placed { IsPlaced result }
 {
     match core.units.at(unit) {
         Some(unit) => Doing::Awaits {
@@ -98,8 +100,10 @@ fn own<W: Sink, D: Disk>(
     ensures later_out { W.count out.old ≤ W.count out.new }
     ensures failed_out { result ≡ Err Lost.Sink → Rose (W.count out.old) (W.count out.new) }
     ensures pending { KeepsAnswers core.old core.new }
+    ensures same { KeepsPending core.old core.new }
     ensures keeps { IsKept variables.now core.old → OnOk result (IsKept variables.now core.new) }
     ensures fits { IsSoundStatement variables.now lined.now.what → Meets variables.now core.old lined.now.what → result ≢ Err Lost.Unfit }
+    ensures placed { IfOk result IsPlaced }
 {
     let fine = Condition::Fine;
     match &lined.what {
@@ -154,8 +158,10 @@ fn instead<F: FileStore>(
     ensures tells { core.new.tells ≡ core.old.tells }
     ensures causes { (result ≢ Err Lost.Disk) × (result ≢ Err Lost.Sink) }
     ensures pending { KeepsAnswers core.old core.new }
+    ensures same { KeepsPending core.old core.new }
     ensures keeps { IsKept variables.now core.old → OnOk result (IsKept variables.now core.new) }
     ensures fits { IsSoundStatement variables.now lined.now.what → result ≢ Err Lost.Unfit }
+    ensures placed { IfOk result IsPlaced }
 {
     match &lined.what {
         Statement::CloseUnit {
@@ -207,9 +213,11 @@ pub fn begin<W: Sink, D: Disk>(
     ensures later_out { W.count out.old ≤ W.count out.new }
     ensures failed_out { result ≡ Err Lost.Sink → Rose (W.count out.old) (W.count out.new) }
     ensures pending { KeepsAnswers core.old core.new }
+    ensures same { KeepsPending core.old core.new }
     ensures keeps { IsKept variables.now core.old → OnOk result (IsKept variables.now core.new) }
     ensures fits { IsSoundStatement variables.now lined.now.what → (condition ≡ Fine → Meets variables.now core.old lined.now.what)
         → result ≢ Err Lost.Unfit }
+    ensures placed { IfOk result IsPlaced }
 {
     match condition {
         Condition::Fine => own(alloc, variables, lined, core, disk, out),

@@ -7,6 +7,7 @@ ghost use Rattle.fj_plain.specs.Needs.{number_of};
 ghost use Rattle.fj_plain.specs.State.{Files};
 ghost use Rattle.fj_plain.specs.Statement.{Stated};
 ghost use Rattle.fj_desk.specs.Acting.{all_closed, closes, closes_anyway, unit_at};
+ghost use Rattle.fj_acts.specs.Placing.{IsPlaced};
 ghost use Rattle.fj_acts.specs.State.{core_of};
 ghost use Rattle.fj_acts.specs.Doing.{IsDoing};
 
@@ -35,8 +36,9 @@ pub(crate) fn closing<F: FileStore>(unit: &Connected, keep: bool, after: After) 
 
 /// CLOSE: a scratch file cannot be kept (4).
 pub(crate) fn close<F: FileStore>(unit: UnitRef, keep: Option<bool>, core: &Core) -> Doing<F>
-    ensures { (variables : List Variable) (st : Stated) (files : Files) → IsDoing F.told F.bytes variables st (core_of files core.now) result
+    ensures doing { (variables : List Variable) (st : Stated) (files : Files) → IsDoing F.told F.bytes variables st (core_of files core.now) result
         (closes (core_of files core.now) keep (unit_at (core_of files core.now) (number_of unit))) }
+    ensures placed { IsPlaced result }
 {
     let Some(unit) = core.units.at(unit) else {
         return Doing::Finishes(Condition::Fine);
@@ -59,8 +61,9 @@ pub(crate) fn close_anyway<F: FileStore>(
     condition: Condition,
     core: &Core,
 ) -> Doing<F>
-    ensures { (variables : List Variable) (st : Stated) (files : Files) → IsDoing F.told F.bytes variables st (core_of files core.now) result
+    ensures doing { (variables : List Variable) (st : Stated) (files : Files) → IsDoing F.told F.bytes variables st (core_of files core.now) result
         (closes_anyway (core_of files core.now) keep condition (unit_at (core_of files core.now) (number_of unit))) }
+    ensures placed { IsPlaced result }
 {
     match core.units.at(unit) {
         Some(unit) => closing(
@@ -74,8 +77,9 @@ pub(crate) fn close_anyway<F: FileStore>(
 
 /// END closes unit after unit, in ascending order of their numbers.
 pub(crate) fn close_all<F: FileStore>(condition: Condition, core: &Core) -> Doing<F>
-    ensures { (variables : List Variable) (st : Stated) (files : Files) → IsDoing F.told F.bytes variables st (core_of files core.now) result
+    ensures doing { (variables : List Variable) (st : Stated) (files : Files) → IsDoing F.told F.bytes variables st (core_of files core.now) result
         (all_closed core.now.units (core_of files core.now) condition) }
+    ensures placed { IsPlaced result }
 {
     match core.units.first() {
         Some(unit) => closing(unit, !unit.modes.scratch, After::ClosesAll(condition)),

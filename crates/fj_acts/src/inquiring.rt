@@ -19,10 +19,11 @@ ghost use Rattle.fj_desk.specs.Acting.{answers, asks_connection, inquires, unit_
 ghost use Rattle.fj_items.specs.Fitting.{AreKept};
 ghost use Rattle.fj_items.specs.Kinds.{kinds_of};
 ghost use Rattle.fj_pending.specs.Plain.{holders};
+ghost use Rattle.fj_acts.specs.Placing.{IsPlaced};
 ghost use Rattle.fj_acts.specs.Answers.{AnswersAlike, is_meant};
 ghost use Rattle.fj_units.specs.Names.{AreInUse, stands};
 ghost use Rattle.fj_acts.specs.Fitting.{AreConnected, IsKept};
-ghost use Rattle.fj_acts.specs.State.{KeepsAnswers, core_of};
+ghost use Rattle.fj_acts.specs.State.{KeepsAnswers, KeepsPending, core_of};
 ghost use Rattle.fj_acts.specs.Failing.{FailsWhere};
 ghost use Rattle.fj_units.specs.Files.{files_of};
 ghost use Rattle.fj_acts.specs.Doing.{IsDoing, AsksAbout, looks_at};
@@ -147,8 +148,10 @@ fn answer<F: FileStore>(
     ensures tells { core.new.tells ≡ core.old.tells }
     ensures causes { (result ≢ Err Lost.Disk) × (result ≢ Err Lost.Sink) }
     ensures pending { KeepsAnswers core.old core.new }
+    ensures same { KeepsPending core.old core.new }
     ensures keeps { IsKept variables.now core.old → OnOk result (IsKept variables.now core.new) }
     ensures fits { All (IsAsked variables.now) asked.now → result ≢ Err Lost.Unfit }
+    ensures placed { IfOk result IsPlaced }
 {
     give_answers(variables, asked, cells, &mut core.store)?;
     Ok(Doing::Finishes(Condition::Fine))
@@ -205,9 +208,11 @@ fn answer_other<D: Disk>(
     ensures failed { result ≡ Err Lost.Disk → Rose (D.count disk.old) (D.count disk.new) }
     ensures sink { result ≢ Err Lost.Sink }
     ensures pending { KeepsAnswers core.old core.new }
+    ensures same { KeepsPending core.old core.new }
     ensures keeps { IsKept variables.now core.old → OnOk result (IsKept variables.now core.new) }
     ensures fits { All (IsAsked variables.now) asked.now → IfSome (file_asked subject.now) (λ name. stands core.old.names name ≡ false)
         → result ≢ Err Lost.Unfit }
+    ensures placed { IfOk result IsPlaced }
 {
     let mut cells = Items::new(alloc);
     match subject {
@@ -273,8 +278,10 @@ pub(crate) fn answer_look<F: FileStore>(
     ensures tells { core.new.tells ≡ core.old.tells }
     ensures causes { (result ≢ Err Lost.Disk) × (result ≢ Err Lost.Sink) }
     ensures pending { KeepsAnswers core.old core.new }
+    ensures same { KeepsPending core.old core.new }
     ensures keeps { IsKept variables.now core.old → OnOk result (IsKept variables.now core.new) }
     ensures fits { All (IsAsked variables.now) asked.now → result ≢ Err Lost.Unfit }
+    ensures placed { IfOk result IsPlaced }
 {
     let Some(number) = unit_about(&core.units, subject) else {
         return Ok(Doing::Finishes(Condition::Fine));
@@ -320,8 +327,10 @@ pub(crate) fn inquire<D: Disk>(
     ensures failed { result ≡ Err Lost.Disk → Rose (D.count disk.old) (D.count disk.new) }
     ensures sink { result ≢ Err Lost.Sink }
     ensures pending { KeepsAnswers core.old core.new }
+    ensures same { KeepsPending core.old core.new }
     ensures keeps { IsKept variables.now core.old → OnOk result (IsKept variables.now core.new) }
     ensures fits { All (IsAsked variables.now) asked.now → AreConnected core.old.names core.old.units → result ≢ Err Lost.Unfit }
+    ensures placed { IfOk result IsPlaced }
 {
     let Some(number) = unit_about(&core.units, subject) else {
         return answer_other(alloc, variables, subject, asked, core, disk);

@@ -16,6 +16,8 @@ ghost use Rattle.fj_connect.specs.Linked.{connection_of};
 ghost use Rattle.fj_connect.specs.Opening.{opened_file};
 ghost use Rattle.fj_value.specs.declared.condition.Condition.{Condition};
 ghost use Rattle.fj_units.specs.Names.{AreInUse, stands};
+ghost use Rattle.fj_desk.specs.Desks.{most_slots};
+ghost use Rattle.fj_acts.specs.Placing.{IsPlaced};
 ghost use Rattle.fj_acts.specs.Fitting.{AreConnected};
 ghost use Rattle.fj_acts.specs.State.{core_of};
 ghost use Rattle.fj_acts.specs.Failing.{FailsWhere};
@@ -45,9 +47,11 @@ fn attaching<F: FileStore>(
     name: FileName,
     connection: Connection<F>,
 ) -> Doing<F>
-    ensures { F.tells connection.file → (variables : List Variable) (st : Stated) (core : PlainCore) (files : Files) (opened : Result PlainConnection Condition) →
+    requires { slot < most_slots }
+    ensures doing { F.tells connection.file → (variables : List Variable) (st : Stated) (core : PlainCore) (files : Files) (opened : Result PlainConnection Condition) →
         connection.name ≡ name → opened ≡ Ok (connection_of F.bytes connection) → files ≡ without_file name core.files →
         IsDoing F.told F.bytes variables st (record core { files = files }) result (attaches core number slot opened) }
+    ensures placed { IsPlaced result }
 {
     let modes = *connection.modes();
     Doing::Awaits {
@@ -73,6 +77,7 @@ fn attach<D: Disk>(
     core: &mut Core,
     disk: &mut D,
 ) -> Result<Doing<D::File>, Lost>
+    requires slot { slot < most_slots }
     requires names { D.tells disk.old → AreInUse core.old.names (D.held disk.old).in_use }
     requires modes { settled spec.now ≡ Ok modes }
     ensures doing { D.tells disk.old → (variables : List Variable) (st : Stated) → IfOk result (λ next. IsDoing D.File.told D.File.bytes variables st
@@ -91,7 +96,9 @@ fn attach<D: Disk>(
     ensures failed { result ≡ Err Lost.Disk → Rose (D.count disk.old) (D.count disk.new) }
     ensures sink { result ≢ Err Lost.Sink }
     ensures pending { core.new.pending ≡ core.old.pending }
+    ensures next { core.new.next ≡ core.old.next }
     ensures fits { stands core.old.names name ≡ false → result ≢ Err Lost.Unfit }
+    ensures placed { IfOk result IsPlaced }
 {
     if core.names.holds(&name) {
         return Err(Lost::Unfit);
@@ -135,7 +142,9 @@ pub(crate) fn connect<D: Disk>(
     ensures failed { result ≡ Err Lost.Disk → Rose (D.count disk.old) (D.count disk.new) }
     ensures sink { result ≢ Err Lost.Sink }
     ensures pending { core.new.pending ≡ core.old.pending }
+    ensures next { core.new.next ≡ core.old.next }
     ensures fits { stands core.old.names (file_due spec.now number) ≡ false → result ≢ Err Lost.Unfit }
+    ensures placed { IfOk result IsPlaced }
 {
     match core.units.free_slot() {
         Some(slot) => {
@@ -148,8 +157,9 @@ pub(crate) fn connect<D: Disk>(
 
 /// The modes that may differ change, or nothing does (8).
 fn change<F: FileStore>(number: u32, unit: &Connected, spec: &OpenSpec) -> Doing<F>
-    ensures { (variables : List Variable) (st : Stated) (files : Files) (core : Core) → connected_at core.units number ≡ Some (connected_of unit.now) →
+    ensures doing { (variables : List Variable) (st : Stated) (files : Files) (core : Core) → connected_at core.units number ≡ Some (connected_of unit.now) →
         IsDoing F.told F.bytes variables st (core_of files core) result (changes (core_of files core) (connected_of unit.now) (mode.changed unit.now.modes spec.now)) }
+    ensures placed { IsPlaced result }
 {
     let mut modes = unit.modes;
     match modes.change(spec) {
@@ -187,7 +197,9 @@ fn open_other<D: Disk>(
     ensures failed { result ≡ Err Lost.Disk → Rose (D.count disk.old) (D.count disk.new) }
     ensures sink { result ≢ Err Lost.Sink }
     ensures pending { core.new.pending ≡ core.old.pending }
+    ensures next { core.new.next ≡ core.old.next }
     ensures fits { AreConnected core.old.names core.old.units → result ≢ Err Lost.Unfit }
+    ensures placed { IfOk result IsPlaced }
 {
     let modes = match settle_open(spec) {
         Ok(modes) => modes,
@@ -231,7 +243,9 @@ pub(crate) fn open<D: Disk>(
     ensures failed { result ≡ Err Lost.Disk → Rose (D.count disk.old) (D.count disk.new) }
     ensures sink { result ≢ Err Lost.Sink }
     ensures pending { core.new.pending ≡ core.old.pending }
+    ensures next { core.new.next ≡ core.old.next }
     ensures fits { AreConnected core.old.names core.old.units → result ≢ Err Lost.Unfit }
+    ensures placed { IfOk result IsPlaced }
 {
     let UnitRef::Number(number) = unit else {
         return Ok(Doing::Finishes(Condition::Error(1)));

@@ -1,5 +1,5 @@
 // How a statement goes on from a job that it gave.
-ghost use Rattle.std.specs.Prelude.{◌≡◌, ◌≢◌, ◌↔◌, ◌≤◌, true, All, Some, IfOk, IfSome, OnOk, Err};
+ghost use Rattle.std.specs.Prelude.{◌<◌, ◌≡◌, ◌≢◌, ◌↔◌, ◌≤◌, true, All, Some, IfOk, IfSome, OnOk, Err};
 ghost use Rattle.std.specs.Option.{option_map};
 ghost use Rattle.fj_outside.specs.Faults.{Rose};
 ghost use Rattle.fj_outside.specs.Holdings.{IsFree};
@@ -14,8 +14,11 @@ ghost use Rattle.fj_desk.specs.Core.{connected_at};
 ghost use Rattle.fj_desk.specs.Desks.{condition_in};
 ghost use Rattle.fj_items.specs.Kinds.{CellFits, kinds_of};
 ghost use Rattle.fj_units.specs.Names.{AreInUse, left_of};
+ghost use Rattle.fj_desk.specs.Desks.{most_slots};
+ghost use Rattle.fj_acts.specs.Placing.{IsPlaced, slot_behind};
 ghost use Rattle.fj_acts.specs.Fitting.{Brings, IsKept, MayGoOn, NextIsHome};
-ghost use Rattle.fj_acts.specs.State.{KeepsAnswers, core_of};
+ghost use Rattle.fj_acts.specs.Holding.{MayEnter};
+ghost use Rattle.fj_acts.specs.State.{KeepsAnswers, KeepsPending, core_of};
 ghost use Rattle.fj_acts.specs.Failing.{FailsWhere};
 ghost use Rattle.fj_units.specs.Files.{files_of};
 ghost use Rattle.fj_acts.specs.Steps.{held_in, is_due};
@@ -55,8 +58,10 @@ pub fn given<F: FileStore>(
     ensures kinds { core.new.store.kinds ≡ core.old.store.kinds }
     ensures causes { (result ≢ Err Lost.Disk) × (result ≢ Err Lost.Sink) }
     ensures pending { KeepsAnswers core.old core.new }
+    ensures enters { MayEnter next number core.old core.new }
     ensures keeps { IsKept variables.now core.old → OnOk result (IsKept variables.now core.new) }
     ensures fits { IsSoundStatement variables.now lined.now.what → MayGoOn core.old next number → result ≢ Err Lost.Unfit }
+    ensures placed { IfOk result IsPlaced }
 {
     match next {
         Given::Finishes(condition) => Ok(Doing::Finishes(condition)),
@@ -92,6 +97,7 @@ fn give_back<D: Disk>(connection: Connection<D::File>, core: &mut Core, disk: &m
     ensures telling { D.tells disk.old ↔ D.tells disk.new }
     ensures later { D.count disk.old ≤ D.count disk.new }
     ensures pending { core.new.pending ≡ core.old.pending }
+    ensures next { core.new.next ≡ core.old.next }
 {
     if core.names.holds(connection.name()) {
         let keep = !connection.modes().scratch;
@@ -112,6 +118,7 @@ fn give_up<D: Disk>(job: Job<D::File>, core: &mut Core, disk: &mut D)
     ensures telling { D.tells disk.old ↔ D.tells disk.new }
     ensures later { D.count disk.old ≤ D.count disk.new }
     ensures pending { core.new.pending ≡ core.old.pending }
+    ensures next { core.new.next ≡ core.old.next }
 {
     if let Some(connection) = connection_in(job) {
         give_back(connection, core, disk);
@@ -143,7 +150,9 @@ fn go_on<D: Disk>(
     ensures failed { result ≡ Err Lost.Disk → Rose (D.count disk.old) (D.count disk.new) }
     ensures sink { result ≢ Err Lost.Sink }
     ensures pending { core.new.pending ≡ core.old.pending }
+    ensures next { core.new.next ≡ core.old.next }
     ensures fits { NextIsHome core.old.names lined.now.what after → result ≢ Err Lost.Unfit }
+    ensures placed { IfOk result IsPlaced }
 {
     let number = match after {
         After::Finishes(condition) => return Ok(Doing::Finishes(condition)),
@@ -207,8 +216,10 @@ fn closed<D: Disk>(
     ensures failed { result ≡ Err Lost.Disk → Rose (D.count disk.old) (D.count disk.new) }
     ensures sink { result ≢ Err Lost.Sink }
     ensures pending { core.new.pending ≡ core.old.pending }
+    ensures next { core.new.next ≡ core.old.next }
     ensures fits { is_due (connected_at core.old.units number) core.old.names connection.name ≡ true →
         NextIsHome (left_of core.old.names connection.name) lined.now.what after → result ≢ Err Lost.Unfit }
+    ensures placed { IfOk result IsPlaced }
 {
     if !is_due(&connection, number, core) {
         give_back(connection, core, disk);
@@ -239,8 +250,10 @@ fn looked<F: FileStore>(
     ensures kinds { core.new.store.kinds ≡ core.old.store.kinds }
     ensures causes { (result ≢ Err Lost.Disk) × (result ≢ Err Lost.Sink) }
     ensures pending { KeepsAnswers core.old core.new }
+    ensures same { KeepsPending core.old core.new }
     ensures keeps { IsKept variables.now core.old → OnOk result (IsKept variables.now core.new) }
     ensures fits { IsSoundStatement variables.now lined.now.what → result ≢ Err Lost.Unfit }
+    ensures placed { IfOk result IsPlaced }
 {
     match &lined.what {
         Statement::Inquire {
@@ -271,8 +284,10 @@ fn carried<F: FileStore>(
     ensures kinds { core.new.store.kinds ≡ core.old.store.kinds }
     ensures causes { (result ≢ Err Lost.Disk) × (result ≢ Err Lost.Sink) }
     ensures pending { KeepsAnswers core.old core.new }
+    ensures same { KeepsPending core.old core.new }
     ensures keeps { IsKept variables.now core.old → OnOk result (IsKept variables.now core.new) }
     ensures fits { IsSoundStatement variables.now lined.now.what → All (CellFits variables.now) moved.moved.cells → result ≢ Err Lost.Unfit }
+    ensures placed { slot < most_slots → IfOk result IsPlaced }
 {
     match &lined.what {
         Statement::Transfer(t) => carry(variables, t, slot, moved, condition, core),
@@ -319,8 +334,10 @@ pub fn answered<D: Disk>(
     ensures failed { result ≡ Err Lost.Disk → Rose (D.count disk.old) (D.count disk.new) }
     ensures sink { result ≢ Err Lost.Sink }
     ensures pending { KeepsAnswers core.old core.new }
+    ensures same { KeepsPending core.old core.new }
     ensures keeps { IsKept variables.now core.old → OnOk result (IsKept variables.now core.new) }
     ensures fits { IsSoundStatement variables.now lined.now.what → Brings variables.now core.old lined.now.what then job → result ≢ Err Lost.Unfit }
+    ensures placed { slot_behind then < most_slots → IfOk result IsPlaced }
 {
     let condition = condition_in(answer);
     match (then, job) {

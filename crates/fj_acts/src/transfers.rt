@@ -1,5 +1,5 @@
 // READ and WRITE (ISO/IEC 1539-1:2004, 9.5).
-ghost use Rattle.std.specs.Prelude.{◌≡◌, ◌≢◌, ◌↔◌, ◌≤◌, ◌++◌, [], ◌∷◌, ℕ, All, List, Some, IfOk, OnOk, OnErr, Err};
+ghost use Rattle.std.specs.Prelude.{◌<◌, ◌≡◌, ◌≢◌, ◌↔◌, ◌≤◌, ◌++◌, [], ◌∷◌, ℕ, All, List, Some, IfOk, OnOk, OnErr, Err};
 ghost use Rattle.std.specs.Option.{option_map, option_copied};
 ghost use Rattle.fj_outside.specs.Faults.{Rose};
 ghost use Rattle.fj_outside.specs.Holdings.{Holdings};
@@ -20,10 +20,12 @@ ghost use Rattle.fj_pending.specs.Fitting.{IsNext};
 ghost use Rattle.fj_pending.specs.Plain.{held};
 ghost use Rattle.fj_pending.specs.declared.held.Held.{Held};
 ghost use Rattle.fj_units.specs.Files.{files_of};
+ghost use Rattle.fj_desk.specs.Desks.{most_slots};
+ghost use Rattle.fj_acts.specs.Placing.{IsPlaced};
 ghost use Rattle.fj_acts.specs.Failing.{StandsWhere};
 ghost use Rattle.fj_acts.specs.Fitting.{IsKept, MayPend};
-ghost use Rattle.fj_acts.specs.Holding.{pending_under, unanswered};
-ghost use Rattle.fj_acts.specs.State.{KeepsAnswers, core_of, core_at};
+ghost use Rattle.fj_acts.specs.Holding.{Enters, HoldsMore, pending_under, unanswered};
+ghost use Rattle.fj_acts.specs.State.{KeepsAnswers, KeepsPending, core_of, core_at};
 ghost use Rattle.fj_acts.specs.Doing.{IsDoing, entered, ends_behind};
 
 use crate::doing::{Doing, Given, Then};
@@ -57,8 +59,10 @@ pub(crate) fn refuse<F: FileStore>(
     ensures tells { core.new.tells ≡ core.old.tells }
     ensures causes { (result ≢ Err Lost.Disk) × (result ≢ Err Lost.Sink) }
     ensures pending { KeepsAnswers core.old core.new }
+    ensures same { KeepsPending core.old core.new }
     ensures keeps { IsKept variables.now core.old → OnOk result (IsKept variables.now core.new) }
     ensures fits { IsAllowed t.now → result ≢ Err Lost.Unfit }
+    ensures placed { IfOk result IsPlaced }
 {
     undefine(variables, &mut core.store, t).map_err(lost_by_items)?;
     Ok(Doing::Finishes(condition))
@@ -85,8 +89,10 @@ fn transfer<F: FileStore>(
     ensures tells { core.new.tells ≡ core.old.tells }
     ensures causes { (result ≢ Err Lost.Disk) × (result ≢ Err Lost.Sink) }
     ensures pending { KeepsAnswers core.old core.new }
+    ensures same { KeepsPending core.old core.new }
     ensures keeps { IsKept variables.now core.old → OnOk result (IsKept variables.now core.new) }
     ensures fits { IsTransfer variables.now t.now → Finds variables.now core.old.store t.now → result ≢ Err Lost.Unfit }
+    ensures placed { slot < most_slots → IfOk result IsPlaced }
 {
     if t.asynchronous.unwrap_or(false) {
         let tag = Tag(core.next);
@@ -126,8 +132,10 @@ fn transfer_on<F: FileStore>(
     ensures tells { core.new.tells ≡ core.old.tells }
     ensures causes { (result ≢ Err Lost.Disk) × (result ≢ Err Lost.Sink) }
     ensures pending { KeepsAnswers core.old core.new }
+    ensures same { KeepsPending core.old core.new }
     ensures keeps { IsKept variables.now core.old → OnOk result (IsKept variables.now core.new) }
     ensures fits { IsTransfer variables.now t.now → Finds variables.now core.old.store t.now → result ≢ Err Lost.Unfit }
+    ensures placed { IfOk result IsPlaced }
 {
     let Some(unit) = core.units.find(number) else {
         return refuse(variables, t, Condition::Error(1), core);
@@ -169,8 +177,10 @@ pub(crate) fn read_or_write<F: FileStore, W: Sink>(
     ensures later { W.count out.old ≤ W.count out.new }
     ensures failed { result ≡ Err Lost.Sink → Rose (W.count out.old) (W.count out.new) }
     ensures pending { KeepsAnswers core.old core.new }
+    ensures same { KeepsPending core.old core.new }
     ensures keeps { IsKept variables.now core.old → OnOk result (IsKept variables.now core.new) }
     ensures fits { IsTransfer variables.now t.now → Finds variables.now core.old.store t.now → core.old.output.begun ≤ star_limit → result ≢ Err Lost.Unfit }
+    ensures placed { IfOk result IsPlaced }
 {
     match t.unit {
         UnitRef::Star => {
@@ -197,6 +207,7 @@ fn hold(
     pending: &mut Pendings,
 ) -> Result<(), Lost>
     ensures ok { OnOk result (held pending.new ≡ held pending.old ++ unanswered (pending_under variables.now tag.0 t.now unit slot number) ∷ []) }
+    ensures one { OnOk result (HoldsMore tag.0 slot number pending.old pending.new) }
     ensures err { OnErr result (pending.new ≡ pending.old) }
     ensures causes { (result ≢ Err Lost.Disk) × (result ≢ Err Lost.Sink) }
     ensures fits { ((h : Held) → h.tag.0 ≡ tag.0 → h.slot ≡ slot → h.number ≡ number → IsNext pending.old h) → result ≢ Err Lost.Unfit }
@@ -238,6 +249,8 @@ pub(crate) fn enter(
     ensures tells { core.new.tells ≡ core.old.tells }
     ensures causes { (result ≢ Err Lost.Disk) × (result ≢ Err Lost.Sink) }
     ensures pending { KeepsAnswers core.old core.new }
+    ensures enters { OnOk result (Enters slot number core.old core.new) }
+    ensures err { OnErr result (KeepsPending core.old core.new) }
     ensures keeps { IsKept variables.now core.old → OnOk result (IsKept variables.now core.new) }
     ensures fits { IsTransfer variables.now t.now → MayPend core.old slot number → result ≢ Err Lost.Unfit }
 {
@@ -271,8 +284,10 @@ pub(crate) fn carry<F: FileStore>(
     ensures tells { core.new.tells ≡ core.old.tells }
     ensures causes { (result ≢ Err Lost.Disk) × (result ≢ Err Lost.Sink) }
     ensures pending { KeepsAnswers core.old core.new }
+    ensures same { KeepsPending core.old core.new }
     ensures keeps { IsKept variables.now core.old → OnOk result (IsKept variables.now core.new) }
     ensures fits { IsTransfer variables.now t.now → All (CellFits variables.now) job.moved.cells → result ≢ Err Lost.Unfit }
+    ensures placed { slot < most_slots → IfOk result IsPlaced }
 {
     give_cells(variables, &mut core.store, t.input, t.size, job).map_err(lost_by_items)?;
     match condition {

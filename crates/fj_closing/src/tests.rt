@@ -107,6 +107,9 @@ fn insert(
     name: FileName,
     connection: &Connection<MemoryFile>,
 ) -> Option<()> {
+    if slot >= 16 {
+        return None;
+    }
     let modes = *connection.modes();
     units
         .insert(Connected {

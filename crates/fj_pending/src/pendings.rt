@@ -14,6 +14,7 @@ ghost use Rattle.fj_turns.specs.Turns.{is_at, unsettled, with_answer};
 ghost use Rattle.fj_pending.specs.Plain.{held, entries, holders, outcome_of, tells_of};
 ghost use Rattle.fj_pending.specs.Busy.{AreBusy};
 ghost use Rattle.fj_pending.specs.Fitting.{IsNext, IsTellable};
+ghost use Rattle.fj_pending.specs.Taking.{LeavesSome};
 ghost use Rattle.fj_pending.specs.Tied.{IsAscending, IsMarked, entered_marks, answered_marks};
 ghost use Rattle.fj_pending.specs.Waits.{waited_of, IsPassed, is_due, is_cause};
 
@@ -351,7 +352,8 @@ impl Pendings {
     }
 
     /// Tells the transfers that are waited for, at a line: items and SIZE= of inputs become defined, the transfers are pending no
-    /// more, and the condition that they have together is answered. Where it is not done, nothing is said of what is left.
+    /// more, and the condition that they have together is answered. Where it is not done, nothing is said of the variables, and of
+    /// the transfers that some are left.
     pub fn tell(
         &mut self,
         alloc: Global,
@@ -367,6 +369,7 @@ impl Pendings {
         ensures kinds { store.new.kinds ≡ store.old.kinds }
         ensures left { OnOk result (held self.new ≡ filter (λ h. not (tells_id (waited_of whose (entries self.old)) h.pending.id)) (held self.old)) }
         ensures tells { OnOk result (tells_of tells.new ≡ tells_of tells.old ++ map (telling.tell_of line) (waited_of whose (entries self.old))) }
+        ensures some { LeavesSome self.old self.new }
         ensures fits { All (IsTellable variables.now) (waited_of whose (entries self.old)) → result ≢ Err Lost.Unfit }
     {
         let pick = picked(&self.helds, whose);

@@ -12,3 +12,4 @@ pub mod Beginnings
 pub mod Answered
 pub mod Failures
 pub mod GivingUp
+pub mod Numbering

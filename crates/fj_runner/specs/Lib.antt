@@ -1,4 +1,5 @@
 pub mod Passing
+pub mod Numbering
 pub mod Machine
 pub mod Answering
 pub mod Turned

@@ -1,16 +1,17 @@
 // What is done with an answer.
-ghost use Rattle.std.specs.Prelude.{◌≡◌, List, Some, OnOk, OnErr};
+ghost use Rattle.std.specs.Prelude.{◌≡◌, true, List, Some, OnOk, OnErr};
+ghost use Rattle.std.specs.List.{list_any};
 ghost use Rattle.fj_statement.specs.declared.deck.Variable.{Variable};
 ghost use Rattle.fj_bay.specs.Jobs.{Job as Task};
 ghost use Rattle.fj_bay.specs.Plain.{task_of, reply_of};
 ghost use Rattle.fj_plain.specs.State.{Files};
 ghost use Rattle.fj_plain.specs.Statement.{Stated};
 ghost use Rattle.fj_turns.specs.Run.{Stage as PlainStage};
-ghost use Rattle.fj_turns.specs.Turns.{told_of};
+ghost use Rattle.fj_turns.specs.Turns.{is_at, told_of};
+ghost use Rattle.fj_pending.specs.Plain.{held};
 ghost use Rattle.fj_acts.specs.State.{core_of};
 ghost use Rattle.fj_runner.specs.Answering.{IsAnswered, with_own};
 ghost use Rattle.fj_runner.specs.Machine.{run_in, stage_of};
-ghost use Rattle.fj_runner.specs.Passing.{awaits};
 ghost use Rattle.fj_runner.specs.Turned.{Stands};
 
 use crate::stage::Stage;
@@ -21,20 +22,6 @@ use fj_outside::FileStore;
 use fj_pending::{Pendings, Told};
 use std::mem;
 
-/// Whether the statement at hand waits for the job of that slot and number.
-fn awaits<F: FileStore>(stage: &Stage<F>, slot: u32, number: u64) -> bool
-    ensures { result ≡ awaits slot number stage.now }
-{
-    match stage {
-        Stage::Awaiting {
-            slot: own,
-            number: last,
-            then: _,
-        } => *own == slot && *last == number,
-        _ => false,
-    }
-}
-
 /// Keeps the answer of a pending transfer.
 fn keep<F: FileStore>(
     pending: &mut Pendings,
@@ -43,16 +30,17 @@ fn keep<F: FileStore>(
     job: Job<F>,
     answer: Answer,
 ) -> Result<(), Lost>
+    requires { list_any (λ h. is_at slot number h.pending) (held pending.old) ≡ true }
     ensures told { OnOk result (IsAnswered F.told F.bytes slot number job answer pending.old pending.new) }
     ensures none { OnErr result (pending.new ≡ pending.old) }
 {
     let Job::Move(transfer) = job else {
         return Err(Lost::Unfit);
     };
-    match pending.answer(slot, number, Told { transfer, answer }) {
-        Ok(()) => Ok(()),
-        Err(_) => Err(Lost::Unfit),
-    }
+    let Ok(()) = pending.answer(slot, number, Told { transfer, answer }) else {
+        unreachable!();
+    };
+    Ok(())
 }
 
 /// The stage once the job of that slot and number came back: the answer of the statement's own job is taken, and that of another one
@@ -95,18 +83,12 @@ impl<F: FileStore> State<F> {
         ensures kept { self.new.core ≡ record (self.old.core) { pending = self.new.core.pending } }
     {
         let at = self.due as usize;
-        if at >= self.told.len() {
-            return Err(Lost::Unfit);
-        }
         let number = self.told[at];
         let Some(further) = number.checked_add(1) else {
             return Err(Lost::Unfit);
         };
         self.told[at] = further;
         if self.core.pending.has(self.due, number) {
-            if awaits(&self.stage, self.due, number) {
-                return Err(Lost::Unfit);
-            }
             return keep(&mut self.core.pending, self.due, number, job, answer);
         }
         let stage = mem::replace(&mut self.stage, Stage::Start);

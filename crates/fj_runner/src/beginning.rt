@@ -1,5 +1,5 @@
 // How a statement begins: prohibitions, then the transfers that it waits for are settled and told.
-ghost use Rattle.std.specs.Prelude.{◌≡◌, List, ◌∷◌, ◌++◌, not, map, filter, true, Some, IfOk, OnOk};
+ghost use Rattle.std.specs.Prelude.{◌≡◌, ◌<◌, List, ◌∷◌, ◌++◌, not, map, filter, true, Some, IfOk, OnOk};
 ghost use Rattle.fj_items.specs.Kinds.{kinds_of};
 ghost use Rattle.fj_store.specs.Storage.{values_of};
 ghost use Rattle.fj_plain.specs.State.{Entry, Files};
@@ -7,17 +7,20 @@ ghost use Rattle.fj_statement.specs.declared.deck.Variable.{Variable};
 ghost use Rattle.fj_plain.specs.Statement.{Stated, control_by};
 ghost use Rattle.fj_plain.specs.Telling.{waited_in, condition_of, tells_id, tell_of};
 ghost use Rattle.fj_desk.specs.Core.{unit_named};
+ghost use Rattle.fj_desk.specs.Desks.{most_slots};
 ghost use Rattle.fj_desk.specs.Desking.{told_core};
 ghost use Rattle.fj_turns.specs.Run.{Stage as PlainStage, Start, Waiting};
 ghost use Rattle.fj_turns.specs.Passing.{output_of};
 ghost use Rattle.fj_turns.specs.Turns.{settles, doing_told, turn_tell, turn_wait, turn_start};
 ghost use Rattle.fj_pending.specs.Asks.{IsUnitAsked};
 ghost use Rattle.fj_pending.specs.Plain.{held, entries, tells_of};
+ghost use Rattle.fj_pending.specs.Taking.{LeavesSome};
 ghost use Rattle.fj_pending.specs.Waits.{waited_of};
 ghost use Rattle.fj_units.specs.Names.{AreInUse};
 ghost use Rattle.fj_acts.specs.State.{core_of};
 ghost use Rattle.fj_units.specs.Files.{files_of};
 ghost use Rattle.fj_runner.specs.Machine.{run_in, stage_of};
+ghost use Rattle.fj_runner.specs.Numbering.{AreSlots, OwnIsLast, slots_behind};
 ghost use Rattle.fj_runner.specs.Passing.{are_passed, is_passed};
 ghost use Rattle.fj_runner.specs.Turned.{IsTurn};
 ghost use Rattle.fj_runner.specs.Stepping.{Keeps, Steps};
@@ -66,6 +69,8 @@ fn tell_all(
     ensures condition { IfOk result (λ condition. condition ≡ condition_of (waited_of whose (entries core.old.pending))) }
     ensures core { (files : Files) → OnOk result (core_of files core.new ≡ told_core variables.now line (waited_of whose (entries core.old.pending)) (core_of files core.old)) }
     ensures left { OnOk result (held core.new.pending ≡ filter (λ h. not (tells_id (waited_of whose (entries core.old.pending)) h.pending.id)) (held core.old.pending)) }
+    ensures some { LeavesSome core.old.pending core.new.pending }
+    ensures next { core.new.next ≡ core.old.next }
     ensures keeps { Keeps core.old result core.new }
 {
     let told = core.pending.tell(
@@ -124,7 +129,10 @@ impl<F: FileStore> State<F> {
 
     /// Waits for the next answer of a slot.
     pub(crate) fn settle(&mut self, slot: u32, stage: Stage<F>) -> Turned<F>
-        requires { is_passed self.old.core.pending stage ≡ true }
+        requires passed { is_passed self.old.core.pending stage ≡ true }
+        requires slot { slot < most_slots }
+        requires own { OwnIsLast self.old.sent.items self.old.core.pending stage }
+        requires later { AreSlots (slots_behind stage) }
         ensures turn { (variables : List Variable) (rest : List Stated) (files : Files) (before after : PlainStage)
             → stage_of F.told F.bytes variables rest (core_of files self.old.core) stage ≡ Some after
             → IsTurn F.told F.bytes variables rest files self.new result (settles slot after (run_in variables rest files self.old before)) }

@@ -4,6 +4,7 @@ ghost use Rattle.fj_turns.specs.Turns.{halted_slots};
 ghost use Rattle.fj_pending.specs.Plain.{entries};
 ghost use Rattle.fj_pending.specs.Waits.{waited_of};
 ghost use Rattle.fj_units.specs.Units.{connected_of};
+ghost use Rattle.fj_runner.specs.Numbering.{AreSlots};
 
 use fj_pending::{Pendings, Whose};
 use fj_units::Connected;
@@ -17,7 +18,8 @@ pub(crate) fn halted_slots(
     whose: Whose,
     units: &[Connected],
 ) -> Result<Items<u32>, AllocError>
-    ensures { IfOk result (λ slots. slots ≡ halted_slots (waited_of whose (entries pending.now)) (map connected_of units.now)) }
+    ensures halted { IfOk result (λ slots. slots ≡ halted_slots (waited_of whose (entries pending.now)) (map connected_of units.now)) }
+    ensures slots { IfOk result (λ slots. AreSlots slots) }
 {
     let mut slots = Items::new(alloc);
     for at in 0..units.len() {

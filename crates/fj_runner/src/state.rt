@@ -1,5 +1,8 @@
 // What a deck came to, and where the statement at hand is.
-ghost use Rattle.std.specs.Prelude.{◌≡◌, true};
+ghost use Rattle.std.specs.Prelude.{◌≡◌, ◌<◌, true, length};
+ghost use Rattle.std.proofs.Props.{props};
+ghost use Rattle.fj_desk.specs.Desks.{most_slots};
+ghost use Rattle.fj_runner.specs.Numbering.{AreGiven, AreNamed, AreSlots, OwnIsLast, slots_behind};
 ghost use Rattle.fj_runner.specs.Passing.{is_passed};
 
 use crate::ending::Ending;
@@ -18,4 +21,11 @@ pub(crate) struct State<F: FileStore> {
     pub(crate) due: u32,
     pub(crate) ending: Option<Ending>,
     ghost passed: { is_passed core.pending stage ≡ true },
+    ghost sent_slots: { length sent.items ≡ most_slots },
+    ghost told_slots: { length told.items ≡ most_slots },
+    ghost due_slot: { due < most_slots },
+    ghost given: { AreGiven sent.items core.pending } by { Prim.hlevel props },
+    ghost named: { AreNamed core.next core.pending } by { Prim.hlevel props },
+    ghost own: { OwnIsLast sent.items core.pending stage } by { Prim.hlevel props },
+    ghost later: { AreSlots (slots_behind stage) } by { Prim.hlevel props },
 }

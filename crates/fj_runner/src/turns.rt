@@ -1,5 +1,5 @@
 // The turns of a statement once its transfers are told: each comes to an ask, passes on to the next statement, or stops at an ending.
-ghost use Rattle.std.specs.Prelude.{◌≡◌, ◌≢◌, List, ◌∷◌, true, Some, Err, IfOk, drop, map, get_or};
+ghost use Rattle.std.specs.Prelude.{◌≡◌, ◌≢◌, ◌<◌, ℕ, List, ◌∷◌, true, Some, Err, IfOk, drop, map, get_or};
 ghost use Rattle.fj_statement.specs.declared.deck.Variable.{Variable};
 ghost use Rattle.fj_items.specs.Kinds.{kinds_of};
 ghost use Rattle.fj_bay.specs.Jobs.{Job as Task};
@@ -9,15 +9,18 @@ ghost use Rattle.fj_plain.specs.Statement.{Stated, control_by};
 ghost use Rattle.fj_desk.specs.Core.{Core as PlainCore};
 ghost use Rattle.fj_desk.specs.Doing.{Doing as PlainDoing};
 ghost use Rattle.fj_desk.specs.Acting.{doing};
+ghost use Rattle.fj_desk.specs.Desks.{most_slots};
 ghost use Rattle.fj_turns.specs.Run.{Stage as PlainStage, Held};
 ghost use Rattle.fj_turns.specs.Passing.{output_of};
 ghost use Rattle.fj_turns.specs.Turns.{submits, turn_finish, turn_act, matched, ends_halts};
 ghost use Rattle.fj_pending.specs.Plain.{held, tells_of};
 ghost use Rattle.fj_acts.specs.Doing.{IsDoing};
+ghost use Rattle.fj_acts.specs.Placing.{IsPlaced};
 ghost use Rattle.fj_units.specs.Names.{AreInUse};
 ghost use Rattle.fj_acts.specs.State.{core_of};
 ghost use Rattle.fj_units.specs.Files.{files_of};
 ghost use Rattle.fj_runner.specs.Machine.{run_in, stage_of};
+ghost use Rattle.fj_runner.specs.Numbering.{AreSlots, gave, slots_behind};
 ghost use Rattle.fj_runner.specs.Passing.{is_passed};
 ghost use Rattle.fj_runner.specs.Turned.{IsTurn};
 ghost use Rattle.fj_runner.specs.Stepping.{Keeps, Steps};
@@ -44,7 +47,10 @@ impl<F: FileStore> State<F> {
         job: Job<F>,
         stage: Stage<F>,
     ) -> Result<Turned<F>, Lost>
-        requires { is_passed self.old.core.pending stage ≡ true }
+        requires passed { is_passed self.old.core.pending stage ≡ true }
+        requires slot { slot < most_slots }
+        requires own { (at number : ℕ) → gave at number stage ≡ true → (at ≡ slot) × (number ≡ get_or self.old.sent.items slot 0) }
+        requires later { AreSlots (slots_behind stage) }
         ensures turn { (variables : List Variable) (rest : List Stated) (files : Files) (task : Task) (before after : PlainStage) → task_of F.told F.bytes job ≡ Some task
             → stage_of F.told F.bytes variables rest (core_of files self.old.core) stage ≡ Some after
             → IfOk result (λ t. IsTurn F.told F.bytes variables rest files self.new t (submits slot task after (run_in variables rest files self.old before))) }
@@ -52,9 +58,6 @@ impl<F: FileStore> State<F> {
         ensures causes { (result ≢ Err Lost.Disk) × (result ≢ Err Lost.Sink) }
     {
         let at = slot as usize;
-        if at >= self.sent.len() {
-            return Err(Lost::Unfit);
-        }
         let Some(further) = self.sent[at].checked_add(1) else {
             return Err(Lost::Unfit);
         };
@@ -110,7 +113,8 @@ impl<F: FileStore> State<F> {
         lined: &Lined,
         doing: Doing<F>,
     ) -> Result<Turned<F>, Lost>
-        requires { self.old.core.store.kinds ≡ kinds_of variables.now }
+        requires kinds { self.old.core.store.kinds ≡ kinds_of variables.now }
+        requires placed { IsPlaced doing }
         ensures turn { (more : List Stated) (files : Files) (core : PlainCore) (book : List Held) (stage : PlainStage) (plain : PlainDoing)
             → held self.old.core.pending ≡ matched (map (λ (h : Held). h.pending) (held self.old.core.pending)) book
             → IsDoing F.told F.bytes variables.now (lined.now, control_by lined.now.what) (core_of files self.old.core) doing plain
@@ -145,6 +149,7 @@ impl<F: FileStore> State<F> {
         out: &mut W,
     ) -> Result<Turned<F>, Lost>
         requires kinds { self.old.core.store.kinds ≡ kinds_of variables.now }
+        requires slots { AreSlots slots }
         requires names { D.tells disk.old → AreInUse self.old.core.names (D.held disk.old).in_use }
         ensures turn { D.tells disk.old → (more : List Stated) (stage : PlainStage)
             → IfOk result (λ t. IsTurn F.told F.bytes variables.now ((lined.now, control_by lined.now.what) ∷ more) (files_of (D.held disk.new)) self.new t

@@ -8,7 +8,7 @@ use Rattle.std.specs.Prelude.{◌==◌, if◌then◌else◌, filter, nat_lt, Hol
 use Rattle.fj_modes.specs.declared.modes.Modes.{Modes}
 use Rattle.fj_desk.specs.Core.{Connected as PlainConnected, connected_at, inserted, with_connected, without_connected}
 use Rattle.fj_units.specs.Units.{AreApart, AreOthers, connected_of, with_modes}
-use Rattle.fj_units.specs.declared.units.Connected.{Connected}
+use Rattle.fj_units.specs.declared.connected.Connected.{Connected}
 
 filter_map : {X Y : Type 0} → (g : X → Y) (q : Y → Bool) (xs : List X) → filter q (map g xs) ≡ map g (filter (λ x. q (g x)) xs)
 filter_map g q [] = refl
@@ -161,10 +161,10 @@ apart_placed zero (u ∷ us) d new h lt e = (kept_number e h.0, h.1)
 apart_placed (suc at) (u ∷ us) d new h lt e = (others_placed u.number at us d new h.0 e (omega arith), apart_placed at us d new h.1 (omega arith) e)
 
 -- the unit at a place has other modes
-pub modes_set : (xs : List Connected) (at n : ℕ) (m : Modes) (x : Connected) → at < length xs → x ≡ get_or xs at x → HoldsAt (λ (u : Connected). u.number ≡ n) xs at → AreApart (map connected_of xs)
-    → (map connected_of (set xs at (record x { modes = m })) ≡ with_modes (map connected_of xs) (connected_at (map connected_of xs) n) m)
-    × AreApart (map connected_of (set xs at (record x { modes = m })))
-modes_set xs at n m x low is holds apart =
+pub modes_set : (xs : List Connected) (at n : ℕ) (m : Modes) (x y : Connected) → connected_of y ≡ (let u : PlainConnected = connected_of x in record u { modes = m }) → at < length xs → x ≡ get_or xs at x
+    → HoldsAt (λ (u : Connected). u.number ≡ n) xs at → AreApart (map connected_of xs)
+    → (map connected_of (set xs at y) ≡ with_modes (map connected_of xs) (connected_at (map connected_of xs) n) m) × AreApart (map connected_of (set xs at y))
+modes_set xs at n m x y becomes low is holds apart =
     let us : List PlainConnected = map connected_of xs in
     let u : PlainConnected = connected_of x in
     let new : PlainConnected = record u { modes = m } in
@@ -172,7 +172,7 @@ modes_set xs at n m x low is holds apart =
     let here : get_or us at u ≡ u = get_or-map connected_of xs at x ∙ ap connected_of (sym is) in
     let number : x.number ≡ n = ap (λ (y : Connected). y.number) is ∙ holds x in
     let same : new.number ≡ (get_or us at u).number = ap (λ (y : PlainConnected). y.number) (sym here) in
-    let written : map connected_of (set xs at (record x { modes = m })) ≡ set us at new = map-set connected_of xs at (record x { modes = m }) in
+    let written : map connected_of (set xs at y) ≡ set us at new = map-set connected_of xs at y ∙ ap (set us at) becomes in
     let found : connected_at us n ≡ Some u =
     ap (connected_at us) (sym number ∙ same) ∙ found_at at us u apart within ∙ ap Some here in (
       written ∙ placed_at at us u new apart within same ∙ ap (λ o. with_modes us o m) (sym found),

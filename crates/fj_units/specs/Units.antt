@@ -4,7 +4,7 @@ use Rattle.std.specs.List.{list_any}
 use Rattle.std.specs.Str.{bytes_eq}
 use Rattle.fj_modes.specs.declared.modes.Modes.{Modes}
 use Rattle.fj_desk.specs.Core.{Connected as PlainConnected, with_connected}
-use Rattle.fj_units.specs.declared.units.Connected.{Connected}
+use Rattle.fj_units.specs.declared.connected.Connected.{Connected}
 
 abbrev pub connected_of : Connected → PlainConnected
 connected_of u = record { number = u.number; slot = u.slot; name = u.name; modes = u.modes }

@@ -1,10 +1,12 @@
 //! The connected units of a run, in ascending order of their numbers, and the names of the files that are out of the disk.
 #![tactic(auto)]
 
+mod connected;
 mod names;
 #[cfg(test)]
 mod tests;
 mod units;
 
+pub use connected::Connected;
 pub use names::Names;
-pub use units::{Connected, Units};
+pub use units::Units;

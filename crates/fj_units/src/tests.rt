@@ -47,12 +47,17 @@ fn modes_of(recl: u32) -> Modes {
 
 fn take_step(alloc: Global, units: &mut Units, step: Step) -> Result<(), AllocError> {
     match step {
-        Insert(number, slot, name) => units.insert(Connected {
-            number,
-            slot,
-            name: name_of(alloc, name)?,
-            modes: modes_of(80),
-        }),
+        Insert(number, slot, name) => {
+            if slot >= 16 {
+                return Err(AllocError);
+            }
+            units.insert(Connected {
+                number,
+                slot,
+                name: name_of(alloc, name)?,
+                modes: modes_of(80),
+            })
+        }
         Remove(number) => {
             units.remove(number);
             Ok(())

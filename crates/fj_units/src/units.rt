@@ -7,18 +7,10 @@ ghost use Rattle.fj_plain.specs.Needs.{number_of};
 ghost use Rattle.fj_desk.specs.Acting as acting;
 ghost use Rattle.fj_units.specs.Units.{AreApart, connected_of, has_slot, is_taken, with_modes};
 
+use crate::connected::Connected;
 use fj_modes::{FileName, Modes, UnitRef};
 use std::alloc::{AllocError, Global};
 use std::marker::Model;
-
-/// A connected unit. Its connection is at its slot.
-#[derive(Debug, Drop)]
-pub struct Connected {
-    pub number: u32,
-    pub slot: u32,
-    pub name: FileName,
-    pub modes: Modes,
-}
 
 /// How many slots there are.
 const MOST_SLOTS: u32 = 16;
@@ -208,7 +200,8 @@ impl Units {
 
     /// The lowest slot that no unit has.
     pub fn free_slot(&self) -> Option<u32>
-        ensures { result ≡ acting.free_from self.now 0 most_slots }
+        ensures free { result ≡ acting.free_from self.now 0 most_slots }
+        ensures place { IfSome result (λ slot. slot < most_slots) }
     {
         free_from(&self.list, 0, MOST_SLOTS)
     }

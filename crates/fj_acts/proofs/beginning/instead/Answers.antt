@@ -18,7 +18,7 @@ returns-in-CloseUnit-clause-doing g c = λ files.
     let st : Stated = (c.args.lined.now, control_by what) in
     subst (λ (d : PlainDoing). IsDoing g.F.FileStore.told g.F.FileStore.bytes c.args.variables.now st core c.close_anyway.result d)
     (instead_is c.args.variables.now core what (statement.CloseUnit c.in-CloseUnit.unit c.in-CloseUnit.keep c.in-CloseUnit.iostat) c.args.condition c.in-CloseUnit.is)
-    (c.close_anyway.ensures c.args.variables.now st files)
+    (c.close_anyway.ensures.doing c.args.variables.now st files)
 
 pub returns-in-CloseUnit-clause-pending : goal.returns-in-CloseUnit-clause-pending
 returns-in-CloseUnit-clause-pending g c = keeps_answers c.args.core.now c.args.core.now refl
@@ -39,7 +39,7 @@ returns-in-End-clause-doing g c = λ files.
     let st : Stated = (c.args.lined.now, control_by what) in
     subst (λ (d : PlainDoing). IsDoing g.F.FileStore.told g.F.FileStore.bytes c.args.variables.now st core c.close_all.result d)
     (instead_is c.args.variables.now core what statement.End c.args.condition c.in-End.is)
-    (c.close_all.ensures c.args.variables.now st files)
+    (c.close_all.ensures.doing c.args.variables.now st files)
 
 pub returns-in-End-clause-pending : goal.returns-in-End-clause-pending
 returns-in-End-clause-pending g c = keeps_answers c.args.core.now c.args.core.now refl

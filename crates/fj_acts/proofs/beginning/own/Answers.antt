@@ -61,7 +61,7 @@ returns-in-CloseUnit-clause-doing g c = λ tells.
     let st : Stated = (c.args.lined.now, control_by what) in
     subst (λ (d : PlainDoing). IsDoing g.D.File.FileStore.told g.D.File.FileStore.bytes c.args.variables.now st core c.close.result d)
     (own_is c.args.variables.now c.args.lined.now.line core what (statement.CloseUnit c.in-CloseUnit.unit c.in-CloseUnit.keep c.in-CloseUnit.iostat) c.in-CloseUnit.is)
-    (c.close.ensures c.args.variables.now st files)
+    (c.close.ensures.doing c.args.variables.now st files)
 
 pub returns-in-CloseUnit-clause-pending : goal.returns-in-CloseUnit-clause-pending
 returns-in-CloseUnit-clause-pending g c = keeps_answers c.args.core.now c.args.core.now refl
@@ -77,7 +77,7 @@ returns-in-Move-clause-doing g c = λ tells.
     let st : Stated = (c.args.lined.now, control_by what) in
     subst (λ (d : PlainDoing). IsDoing g.D.File.FileStore.told g.D.File.FileStore.bytes c.args.variables.now st core c.motion.result d)
     (own_is c.args.variables.now c.args.lined.now.line core what (statement.Move c.in-Move.how c.in-Move.unit c.in-Move.iostat) c.in-Move.is)
-    (c.motion.ensures c.args.variables.now st files)
+    (c.motion.ensures.doing c.args.variables.now st files)
 
 pub returns-in-Move-clause-pending : goal.returns-in-Move-clause-pending
 returns-in-Move-clause-pending g c = keeps_answers c.args.core.now c.args.core.now refl
@@ -145,7 +145,7 @@ returns-in-End-clause-doing g c = λ tells.
     let st : Stated = (c.args.lined.now, control_by what) in
     subst (λ (d : PlainDoing). IsDoing g.D.File.FileStore.told g.D.File.FileStore.bytes c.args.variables.now st core c.close_all.result d)
     (own_is c.args.variables.now c.args.lined.now.line core what statement.End c.in-End.is)
-    (c.close_all.ensures c.args.variables.now st files)
+    (c.close_all.ensures.doing c.args.variables.now st files)
 
 pub returns-in-End-clause-pending : goal.returns-in-End-clause-pending
 returns-in-End-clause-pending g c = keeps_answers c.args.core.now c.args.core.now refl

@@ -6,7 +6,7 @@ use Rattle.fj_acts.specs.State.{core_of}
 use Rattle.fj_acts.proofs.ClosingLemmas.{close_is, may_close}
 use Rattle.fj_acts.proofs.closing.close.Goals as goal
 
-pub returns : goal.returns
-returns g c = λ variables st files.
+pub returns-clause-doing : goal.returns-clause-doing
+returns-clause-doing g c = λ variables st files.
     close_is g.F.FileStore.told g.F.FileStore.bytes variables st (core_of files c.args.core.now) c.args.keep (number_of c.args.unit) (connected_of c.in-Some.unit.now) c.unwrap_or-2.result c.closing.result
     c.in-Some.ensures (may_close c.unwrap_or.result (unwrap_or c.args.keep false) c.in-Some.unit.now.modes.scratch c.unwrap_or.ensures c.else-unwrap_or.either) c.unwrap_or-2.ensures c.closing.ensures

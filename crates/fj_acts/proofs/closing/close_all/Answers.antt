@@ -3,10 +3,10 @@ use Rattle.fj_acts.specs.State.{core_of}
 use Rattle.fj_acts.proofs.ClosingLemmas.{close_all_is, close_none_is}
 use Rattle.fj_acts.proofs.closing.close_all.Goals as goal
 
-pub returns-in-Some : goal.returns-in-Some
-returns-in-Some g c = λ variables st files.
+pub returns-in-Some-clause-doing : goal.returns-in-Some-clause-doing
+returns-in-Some-clause-doing g c = λ variables st files.
     close_all_is g.F.FileStore.told g.F.FileStore.bytes variables st (core_of files c.args.core.now) (connected_of c.in-Some.unit.now) c.args.condition c.closing.result
     c.in-Some.ensures.unit c.in-Some.ensures.apart c.closing.ensures
 
-pub returns-in-None : goal.returns-in-None
-returns-in-None g c = λ variables st files. close_none_is (core_of files c.args.core.now) c.args.condition c.in-None.ensures.unit
+pub returns-in-None-clause-doing : goal.returns-in-None-clause-doing
+returns-in-None-clause-doing g c = λ variables st files. close_none_is (core_of files c.args.core.now) c.args.condition c.in-None.ensures.unit

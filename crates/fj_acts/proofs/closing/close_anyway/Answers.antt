@@ -8,8 +8,8 @@ use Rattle.fj_acts.proofs.ClosingLemmas.{close_anyway_is}
 use Rattle.fj_acts.proofs.closing.close_anyway.Goals as goal
 use Rattle.fj_acts.proofs.closing.close_anyway.Goals.{then-not-unit, else-not-unit}
 
-pub returns-after-not-unit : goal.returns-after-not-unit
-returns-after-not-unit g c = λ variables st files.
+pub returns-after-not-unit-clause-doing : goal.returns-after-not-unit-clause-doing
+returns-after-not-unit-clause-doing g c = λ variables st files.
     let kept : c.if-not-unit.closing ≡ (keeps (connected_of c.in-Some.unit.now) && unwrap_or c.args.keep true) = elim c.if-not-unit.branch [
       | then-not-unit w ↦ w.closing-is ∙ w.unwrap_or.ensures ∙ sym (ap (λ s. not s && unwrap_or c.args.keep true) w.if-not-unit.true)
       | else-not-unit w ↦ w.closing-is ∙ ap not w.if-not-unit.false ∙ sym (ap (λ s. not s && unwrap_or c.args.keep true) w.if-not-unit.false)

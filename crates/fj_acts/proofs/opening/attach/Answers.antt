@@ -13,7 +13,7 @@ pub returns-in-Ok-clause-doing : goal.returns-in-Ok-clause-doing
 returns-in-Ok-clause-doing g c = λ tells variables st.
     let held : Holdings = g.D.Disk.held c.args.disk.now in
     let f = c.in-Ok.ensures.opened tells in
-    c.attaching.ensures f.0 variables st (core_of (files_of held) c.args.core.now) (files_of (g.D.Disk.held c.open_file.new.disk))
+    c.attaching.ensures.doing f.0 variables st (core_of (files_of held) c.args.core.now) (files_of (g.D.Disk.held c.open_file.new.disk))
     (opened_file (files_of held c.args.name) c.args.name c.args.spec.now c.args.modes)
     c.in-Ok.ensures.connected.1
     (opened_is held.files (g.D.Disk.held c.open_file.new.disk).files (opened_file (files_of held c.args.name) c.args.name c.args.spec.now c.args.modes) (connection_of g.D.File.FileStore.bytes c.in-Ok.connection) f.1)

@@ -9,12 +9,12 @@ pub returns-in_ok-name-in-Some-clause-doing : goal.returns-in_ok-name-in-Some-cl
 returns-in_ok-name-in-Some-clause-doing g c = λ tells variables st.
     meant g.D.File.FileStore.told g.D.File.FileStore.bytes variables st _ c.attach.result _ _
     (connects_is (core_of (files_of (g.D.Disk.held c.args.disk.now)) c.args.core.now) c.args.number c.in-Some.slot c.in_ok-name-in-Some.name c.args.spec.now c.args.modes
-    (sym c.free_slot.ensures ∙ c.in-Some.is) c.in_ok-name-in-Some.ensures)
+    (sym c.free_slot.ensures.free ∙ c.in-Some.is) c.in_ok-name-in-Some.ensures)
     (c.attach.ensures.doing tells variables st)
 
 pub returns-in_ok-name-in-Some-clause-fault : goal.returns-in_ok-name-in-Some-clause-fault
 returns-in_ok-name-in-Some-clause-fault g c = λ tells lost.
     fails_as _ _ c.attach.new.core (g.D.Disk.held c.attach.new.disk) (g.D.Disk.refusals c.args.disk.now) (g.D.Disk.refusals c.attach.new.disk)
     (connects_is (core_of (files_of (g.D.Disk.held c.args.disk.now)) c.args.core.now) c.args.number c.in-Some.slot c.in_ok-name-in-Some.name c.args.spec.now c.args.modes
-    (sym c.free_slot.ensures ∙ c.in-Some.is) c.in_ok-name-in-Some.ensures)
+    (sym c.free_slot.ensures.free ∙ c.in-Some.is) c.in_ok-name-in-Some.ensures)
     (c.attach.ensures.fault tells lost)

@@ -20,7 +20,7 @@ returns-then-keeps_name-clause-doing g c = λ tells variables st asks.
     subst (λ (d : PlainDoing). IsDoing g.D.File.FileStore.told g.D.File.FileStore.bytes variables st core c.change.result d)
     (opens_again core c.in-Number.number c.args.spec.now (connected_at c.args.core.now.units c.in-Number.number) u found (sym c.keeps_name.ensures ∙ c.if-keeps_name.true)
     ∙ numbered core c.args.unit c.in-Number.number (λ n. opens core n c.args.spec.now (connected_at c.args.core.now.units n)) c.in-Number.is)
-    (c.change.ensures variables st (files_of (g.D.Disk.held c.args.disk.now)) c.args.core.now found)
+    (c.change.ensures.doing variables st (files_of (g.D.Disk.held c.args.disk.now)) c.args.core.now found)
 
 pub returns-clause-doing : goal.returns-clause-doing
 returns-clause-doing g c = λ tells variables st asks.

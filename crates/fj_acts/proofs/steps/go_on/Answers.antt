@@ -20,7 +20,7 @@ returns-in-ClosesAll-clause-doing g c = λ tells.
     let what : Statement = c.args.lined.now.what in
     let st : Stated = (c.args.lined.now, control_by what) in
     subst (λ (a : After). IsDoing g.D.File.FileStore.told g.D.File.FileStore.bytes c.args.variables.now st core c.close_all.result (goes_on what core a)) (sym c.in-ClosesAll.is)
-    (c.close_all.ensures c.args.variables.now st files)
+    (c.close_all.ensures.doing c.args.variables.now st files)
 
 pub returns-in-Ok-clause-doing : goal.returns-in-Ok-clause-doing
 returns-in-Ok-clause-doing g c = λ tells.

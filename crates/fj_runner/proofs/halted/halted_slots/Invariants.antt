@@ -3,7 +3,11 @@ use Rattle.fj_turns.specs.Turns.{halted_slots}
 use Rattle.fj_pending.specs.Plain.{entries}
 use Rattle.fj_pending.specs.Waits.{waited_of}
 use Rattle.fj_units.specs.Units.{connected_of}
+use Rattle.fj_runner.specs.Numbering.{AreSlots}
 use Rattle.fj_runner.proofs.halted.halted_slots.Given as goal
 
 abbrev pub invariant-loop-at : goal.invariant-loop-at
-invariant-loop-at l = l.slots ++ halted_slots (waited_of l.whose (entries l.pending)) (map connected_of (drop l.at l.units)) ≡ halted_slots (waited_of l.whose (entries l.pending)) (map connected_of l.units)
+invariant-loop-at l = record {
+  halted : l.slots ++ halted_slots (waited_of l.whose (entries l.pending)) (map connected_of (drop l.at l.units)) ≡ halted_slots (waited_of l.whose (entries l.pending)) (map connected_of l.units);
+  slots : AreSlots l.slots;
+}

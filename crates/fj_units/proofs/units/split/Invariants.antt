@@ -1,6 +1,6 @@
 use Rattle.std.proofs.Common.{◌≡◌, ◌++◌}
 use Rattle.std.specs.Prelude.{filter, nat_lt}
-use Rattle.fj_units.specs.declared.units.Connected.{Connected}
+use Rattle.fj_units.specs.declared.connected.Connected.{Connected}
 use Rattle.fj_units.proofs.units.split.Given as goal
 
 abbrev pub invariant-loop-unit : goal.invariant-loop-unit

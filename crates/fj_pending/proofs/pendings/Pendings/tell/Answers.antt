@@ -1,4 +1,4 @@
-use Rattle.std.proofs.Common.{not, filter, refl, sym, ap, ◌∙◌}
+use Rattle.std.proofs.Common.{◌≡◌, not, true, List, [], ◌∷◌, filter, refl, sym, ap, ◌∙◌}
 use Rattle.fj_plain.specs.Telling.{tells_id}
 use Rattle.fj_turns.specs.Run as run
 use Rattle.fj_pending.specs.declared.held.Held.{Held}
@@ -9,6 +9,11 @@ use Rattle.fj_pending.specs.Waits.{waited_of, picks}
 use Rattle.fj_pending.proofs.Tying.{taken_is, tied_as}
 use Rattle.fj_pending.proofs.Waited.{left_is, when_done}
 use Rattle.fj_pending.proofs.pendings.Pendings.tell.Goals as goal
+
+-- all are left
+all_left : (hs : List Held) → hs ≡ filter (λ (h : Held). true) hs
+all_left [] = refl
+all_left (h ∷ hs) = ap (λ l. h ∷ l) (all_left hs)
 
 pub invariant_of-self-2 : goal.invariant_of-self-2
 invariant_of-self-2 c =
@@ -24,3 +29,11 @@ returns-clause-left c =
     (ap held c.in_ok-told.ensures.left
     ∙ sym (left_is (picks c.picked-pick.result) hs (waited_of c.args.whose (entries hs)) c.self.invariant.ascending c.picked-pick.ensures.picked)
     ∙ ap (λ xs. filter (λ (h : run.Held). not (tells_id (waited_of c.args.whose (entries xs)) h.pending.id)) (held xs)) c.self.view_is)
+
+pub returns-in_err-told-clause-some : goal.returns-in_err-told-clause-some
+returns-in_err-told-clause-some c = (λ h. true, c.in_err-told.ensures.err ∙ c.self.view_is ∙ all_left c.args.self.now)
+
+pub returns-clause-some : goal.returns-clause-some
+returns-clause-some c =
+    let p = c.picked-pick.result in
+    (λ h. not (picks p h), c.in_ok-told.ensures.left ∙ ap (filter (λ (h : Held). not (picks p h))) c.self.view_is)

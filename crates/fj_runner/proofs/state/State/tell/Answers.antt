@@ -13,6 +13,7 @@ use Rattle.fj_runner.specs.Turned.{IsTurn}
 use Rattle.fj_runner.proofs.Beginnings.{told_run, tells_turn, tells_doing}
 use Rattle.fj_turns.specs.Passing.{output_of}
 use Rattle.fj_runner.proofs.Failures.{fails_from}
+use Rattle.fj_runner.proofs.Numbering.{given_left, named_left}
 use Rattle.fj_runner.proofs.state.State.tell.Goals as goal
 
 pub returns-in-Ok-tell_all-clause-turn : goal.returns-in-Ok-tell_all-clause-turn
@@ -30,7 +31,7 @@ returns-in-Ok-tell_all-clause-turn g c = λ tells more stage.
     subst (λ t'. IfOk c.resume.result (λ t. IsTurn told bytes variables (st ∷ more) (files_of (g.D.Disk.held c.resume.new.disk)) c.resume.new.self t t'))
     (tells_turn st es run left c.in-Ok.slots c.in-Ok-tell_all.condition
     (told_run st es run (core_of files new) (held new.pending) (c.in-Ok-tell_all.ensures.core files) c.in-Ok-tell_all.ensures.left)
-    (c.in-Ok.ensures ∙ ap (λ (us : List Connected). halted_slots es us) c.as_slice-units.ensures) c.in-Ok-tell_all.ensures.condition)
+    (c.in-Ok.ensures.halted ∙ ap (λ (us : List Connected). halted_slots es us) c.as_slice-units.ensures) c.in-Ok-tell_all.ensures.condition)
     (c.resume.ensures.turn tells more stage)
 
 pub returns-in-Ok-tell_all-clause-fails : goal.returns-in-Ok-tell_all-clause-fails
@@ -47,8 +48,18 @@ returns-in-Ok-tell_all-clause-fails g c = λ tells more stage.
     let left : Run = record run { core = core_of files new; book = held new.pending } in
     let due = tells_turn st es run left c.in-Ok.slots c.in-Ok-tell_all.condition
     (told_run st es run (core_of files new) (held new.pending) (c.in-Ok-tell_all.ensures.core files) c.in-Ok-tell_all.ensures.left)
-    (c.in-Ok.ensures ∙ ap (λ (us : List Connected). halted_slots es us) c.as_slice-units.ensures) c.in-Ok-tell_all.ensures.condition in
+    (c.in-Ok.ensures.halted ∙ ap (λ (us : List Connected). halted_slots es us) c.as_slice-units.ensures) c.in-Ok-tell_all.ensures.condition in
     fails_from c.args.out.now c.resume.new.out s.core new c.resume.new.self.core c.resume.result _ _ _ _ _ _ c.tell_all.ensures.keeps.output (ap output_of due) (λ k. k)
     (ap (λ (k : Core). k.tells) (c.in-Ok-tell_all.ensures.core files))
     (ap Some (tells_doing st es run c.in-Ok.slots c.in-Ok-tell_all.condition (core_of files new) (c.in-Ok-tell_all.ensures.core files)
-    (c.in-Ok.ensures ∙ ap (λ (us : List Connected). halted_slots es us) c.as_slice-units.ensures) c.in-Ok-tell_all.ensures.condition)) (c.resume.ensures.fails tells more stage)
+    (c.in-Ok.ensures.halted ∙ ap (λ (us : List Connected). halted_slots es us) c.as_slice-units.ensures) c.in-Ok-tell_all.ensures.condition)) (c.resume.ensures.fails tells more stage)
+
+pub invariant_of-self-2-clause-given : goal.invariant_of-self-2-clause-given
+invariant_of-self-2-clause-given g c =
+    let s = c.args.self.now in
+    given_left s.sent.items s.core.pending c.tell_all.new.core.pending c.tell_all.ensures.some s.given
+
+pub invariant_of-self-2-clause-named : goal.invariant_of-self-2-clause-named
+invariant_of-self-2-clause-named g c =
+    let s = c.args.self.now in
+    named_left s.core.next c.tell_all.new.core.next s.core.pending c.tell_all.new.core.pending c.tell_all.ensures.next c.tell_all.ensures.some s.named

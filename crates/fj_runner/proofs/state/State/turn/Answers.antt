@@ -1,4 +1,4 @@
-use Rattle.std.proofs.Common.{◌≡◌, ◌∷◌, Ok, Some, IfOk, refl, sym, ◌∙◌, subst}
+use Rattle.std.proofs.Common.{◌≡◌, ◌∷◌, true, Ok, Some, IfOk, refl, sym, ◌∙◌, subst}
 use Rattle.fj_bay.specs.Plain.{task_of, reply_of}
 use Rattle.fj_plain.specs.State.{Files}
 use Rattle.fj_plain.specs.Statement.{Stated, control_by}
@@ -18,6 +18,8 @@ use Rattle.fj_turns.specs.Passing.{output_of}
 use Rattle.fj_runner.specs.Failing.{FailsStage}
 use Rattle.fj_runner.proofs.Failures.{fails_still, fails_quiet, fails_at}
 use Rattle.fj_runner.proofs.Stepping.{went, given_up}
+use Rattle.fj_runner.specs.Numbering.{gave}
+use Rattle.fj_runner.proofs.Numbering.{at_itself, given_entered, named_entered, slot_given}
 use Rattle.fj_runner.proofs.state.State.turn.Goals as goal
 
 pub returns-in-Start-clause-turn : goal.returns-in-Start-clause-turn
@@ -208,3 +210,26 @@ returns-in-Err-doing-clause-fails g c = λ tells more stage e.
     (fails_quiet c.args.out.now s.core c.answered-doing.new.core (given_up c.in-Err-doing.lost) (output_of (turn st (Acting does) run)) c.answered-doing.ensures.output c.answered-doing.ensures.tells
     (λ e. c.answered-doing.ensures.sink (cc (c.in-Err-doing.is, e))) (λ d. record { does = does; is = refl; stands = (c.answered-doing.ensures.fault tells k.0 k.1 (cc (c.in-Err-doing.is, d))).stands })
     (λ d. (c.answered-doing.ensures.fault tells k.0 k.1 (cc (c.in-Err-doing.is, d))).rose))
+
+pub invariant_of-self-in-Going-clause-given : goal.invariant_of-self-in-Going-clause-given
+invariant_of-self-in-Going-clause-given g c =
+    let s = c.args.self.now in
+    given_entered s.sent.items c.in-Going.next c.in-Going.number s.core c.given.new.core
+    (λ slot e. s.own slot c.in-Going.number (subst (λ x. gave slot c.in-Going.number x ≡ true) (sym (sym c.replace.ensures.value ∙ c.in-Going.is)) e)) s.given c.given.ensures.enters
+
+pub invariant_of-self-in-Going-clause-named : goal.invariant_of-self-in-Going-clause-named
+invariant_of-self-in-Going-clause-named g c =
+    let s = c.args.self.now in
+    named_entered c.in-Going.next c.in-Going.number s.core c.given.new.core s.named c.given.ensures.enters
+
+pub settle-requires-clause-slot : goal.settle-requires-clause-slot
+settle-requires-clause-slot g c =
+    let s = c.args.self.now in
+    let slot = c.in-Awaiting.slot in
+    let number = c.in-Awaiting.number in
+    slot_given s.sent.items slot number s.sent_slots
+    (s.own slot number (subst (λ x. gave slot number x ≡ true) (sym (sym c.replace.ensures.value ∙ c.in-Awaiting.is)) (at_itself slot number))).0
+
+pub settle-requires-clause-own : goal.settle-requires-clause-own
+settle-requires-clause-own g c = λ slot number e.
+    c.args.self.now.own slot number (subst (λ x. gave slot number x ≡ true) (sym (sym c.replace.ensures.value ∙ c.in-Awaiting.is)) e)

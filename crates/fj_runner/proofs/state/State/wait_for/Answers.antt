@@ -8,12 +8,13 @@ use Rattle.fj_units.specs.Files.{files_of}
 use Rattle.fj_runner.specs.Machine.{run_in}
 use Rattle.fj_runner.specs.Turned.{IsTurn}
 use Rattle.fj_runner.proofs.Beginnings.{none_of, waits_more, waits_none}
-use Rattle.fj_runner.proofs.Stepping.{kept_steps, ok_keeps}
+use Rattle.fj_runner.proofs.Numbering.{unsettled_slot}
+use Rattle.fj_runner.proofs.Stepping.{kept_steps, ok_keeps, went}
 use Rattle.fj_plain.specs.Telling.{tell_of}
 use Rattle.fj_turns.specs.Passing.{output_of}
 use Rattle.fj_turns.specs.Turns.{doing_told, unsettled, waited_now}
 use Rattle.fj_pending.specs.Plain.{tells_of}
-use Rattle.fj_runner.proofs.Failures.{fails_from}
+use Rattle.fj_runner.proofs.Failures.{fails_from, fails_still}
 use Rattle.fj_runner.proofs.state.State.wait_for.Goals as goal
 
 pub returns-in-Some-clause-turn : goal.returns-in-Some-clause-turn
@@ -63,3 +64,11 @@ returns-in-None-clause-fails g c = λ tells more stage.
     fails_from c.args.out.now c.tell.new.out s.core s.core c.tell.new.self.core c.tell.result _ _ _ _ _ _ refl (ap output_of (sym (waits_none st run es w u)))
     (λ k. ap (λ xs. unsettled xs run.book) w ∙ u) (ap (λ xs. tells_of s.core.tells ++ map (tell_of st.0.line) xs) (sym w))
     (ap (λ xs. Some (doing_told variables st xs run.core)) (sym w)) (c.tell.ensures.fails tells more stage)
+
+pub settle-requires-clause-slot : goal.settle-requires-clause-slot
+settle-requires-clause-slot g c =
+    let s = c.args.self.now in
+    unsettled_slot s.sent.items (waited_of c.args.whose (entries s.core.pending)) s.core.pending c.in-Some.slot s.sent_slots s.given (sym (c.in-Some.ensures.slot (none_of _ c.requires.from)))
+
+pub returns-in-Some-clause-fails : goal.returns-in-Some-clause-fails
+returns-in-Some-clause-fails g c = λ tells more stage. fails_still c.args.out.now c.args.self.now.core c.settle.new.self.core (went c.settle.result) _ _ _ (λ e. cc) (λ e. cc)
