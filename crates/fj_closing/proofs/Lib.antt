@@ -4,3 +4,4 @@ pub mod Returning
 pub mod Due
 pub mod Running
 pub mod Fitting
+pub mod Finding

@@ -1,4 +1,6 @@
 use Rattle.fj_closing.proofs.Running.{slots_running}
+use Rattle.fj_units.specs.Files.{files_of}
+use Rattle.fj_closing.proofs.Finding.{slots_leave}
 use Rattle.fj_closing.proofs.finishing.finish.Goals as goal
 
 pub returns-clause-files : goal.returns-clause-files
@@ -24,3 +26,8 @@ pub returns-clause-fits : goal.returns-clause-fits
 returns-clause-fits g c = λ fit.
     let each = fit c.what_remains-all.result.items c.what_remains-all.ensures.each in
     c.close_units.ensures.fits each.0 each.1
+
+pub returns-clause-found : goal.returns-clause-found
+returns-clause-found g c = λ tells may.
+    slots_leave g.D.File.FileStore.told g.D.File.FileStore.bytes g.D.File.FileStore.count c.args.slots.slots c.what_remains-all.result.items c.what_remains-all.ensures.each
+    (files_of (g.D.Disk.held c.close_units.new.disk)) c.args.units.now (c.close_units.ensures.found tells may)
