@@ -9,3 +9,6 @@ pub mod Deck
 pub mod Stops
 pub mod Connecting
 pub mod Turns
+pub mod Submitted
+pub mod Rests
+pub mod Given

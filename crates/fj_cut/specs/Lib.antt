@@ -1,3 +1,4 @@
 pub mod Others
 pub mod Turning
+pub mod Stopping
 pub mod Cases

@@ -1,5 +1,6 @@
 // What holds of every deck that is cut, as contracts of functions with nothing to do.
 ghost use Rattle.fj_cut.specs.Others.{OthersStay, UnitsKeepDesks, StopsLeaveOthers, CutRunsLeaveOthers};
+ghost use Rattle.fj_cut.specs.Stopping.{StopsAreGiven, TurnsAreGiven};
 ghost use Rattle.fj_cut.specs.Turning.{TurnsDo, TurnsLeaveOthers};
 
 /// Inside a statement each file that it is not about is as closing all units just before it leaves it.
@@ -30,4 +31,14 @@ pub fn turns_do()
 /// In each turn of a runner, once it knows the answers that it needs, so is each file that the statement at hand is not about.
 pub fn turns_leave_others()
     ensures { TurnsLeaveOthers }
+{}
+
+/// Where an answer is awaited each job of each slot was given by a statement not behind the one at hand.
+pub fn stops_are_given()
+    ensures { StopsAreGiven }
+{}
+
+/// So it is in each turn of a runner.
+pub fn turns_are_given()
+    ensures { TurnsAreGiven }
 {}

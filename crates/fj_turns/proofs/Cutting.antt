@@ -29,7 +29,7 @@ use Rattle.fj_turns.proofs.Finishing.{fits_hold}
 
 -- ---- the jobs of a statement
 
-walked_given : (k : ℕ) (ds : List Desk) (d : Doing) → (walked k ds d).0 ≡ carry_all ds (take k (given ds d))
+pub walked_given : (k : ℕ) (ds : List Desk) (d : Doing) → (walked k ds d).0 ≡ carry_all ds (take k (given ds d))
 walked_given zero ds d = refl
 walked_given (suc k) ds (finishes core condition) = refl
 walked_given (suc k) ds (gives slot job core next) = walked_given k (carry ds slot job) (next (log_length (slice_get ds slot)))
@@ -47,7 +47,7 @@ step_given variables st p allowed =
     ∙ ap (λ d. (completed variables st.0.line st.0.what d).0.desks) (sym (acts_are variables st p))
     ∙ acted_given p.desks (does variables st p)
 
-own_given : (variables : List Variable) (st : Stated) (before : Desked) (slot : ℕ) (run : Run) (ds : List Desk) → (a : AwaitsJob variables st before slot run ds) → ds ≡ carry_all before.desks (take (suc a.jobs) (jobs_of variables st before))
+pub own_given : (variables : List Variable) (st : Stated) (before : Desked) (slot : ℕ) (run : Run) (ds : List Desk) → (a : AwaitsJob variables st before slot run ds) → ds ≡ carry_all before.desks (take (suc a.jobs) (jobs_of variables st before))
 own_given variables st before slot run ds a =
     let w = walked a.jobs before.desks (does variables st before) in
     a.desks_are ∙ sym (ap (λ d. (walked 1 w.0 d).0) a.awaited) ∙ sym (ap (λ z. z.0) (walked_more a.jobs before.desks (does variables st before)))
