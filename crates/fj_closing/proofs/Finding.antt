@@ -2,7 +2,10 @@
 use Rattle.std.proofs.Common.{◌≡◌, ℕ, ◌-◌, ◌<◌, ◌≤◌, zero, suc, Bool, true, false, not, List, [], ◌∷◌, length, map, take, drop, get_or, Some, None, Option, IsSome, IfSome, is_some, slice_get, Result, Ok, Err, OnOk, OnErr, option_map, refl, sym, ap, ◌∙◌, subst, arith}
 use Rattle.std.specs.Prelude.{if◌then◌else◌}
 use Rattle.std.proofs.lemmas.List.{take_all, length-map}
-use Rattle.fj_outside.specs.Holdings.{Holdings, given, without}
+use Rattle.std.specs.Prelude.{◌||◌}
+use Rattle.std.specs.Str.{bytes_eq}
+use Rattle.std.proofs.lemmas.Slice.Eq.{bytes_eq-Decides}
+use Rattle.fj_outside.specs.Holdings.{Holdings, given, without, SameAt}
 use Rattle.fj_outside.specs.declared.errors.Stop.{Stop}
 use Rattle.fj_outside.proofs.HoldingLaws.{steps}
 use Rattle.fj_connect.specs.Connection.{Connection}
@@ -29,9 +32,10 @@ use Rattle.fj_plain.specs.State.{Files}
 use Rattle.fj_units.specs.Names.{stands}
 use Rattle.fj_units.specs.Files.{files_of}
 use Rattle.fj_closing.specs.Closing.{Lessens, AreOthersSame}
-use Rattle.fj_closing.specs.Finding.{IsEndedUpTo, IsFound, IsFoundOf, OfEach}
+use Rattle.fj_closing.specs.Finding.{IsEndedUpTo, IsFound, IsFoundOf, OfEach, has_name, AreSpared}
 use Rattle.fj_closing.specs.Remains.{IsWhatRemains}
 use Rattle.fj_closing.specs.declared.remains.Remains.{Remains}
+use Rattle.fj_closing.proofs.Due.{same_on}
 use Rattle.fj_closing.proofs.Desking.{at_home, front_get, last_get, of_both}
 use Rattle.fj_closing.proofs.Returning.{fewer, placed}
 
@@ -84,6 +88,22 @@ module _ {Y : Type 0} (all : List Y) (P : Connected → Option (List ℕ) → Y 
         (closed.0, closed.1, subst (λ o. P (f u) o closed.0) (sym still) closed.2),
         subst (λ zs. OfEach (map f zs) all (λ u. P u (files_of new u.name))) tail others,
       )
+
+-- a file that none of them has
+apart : (name other : List ℕ) (more : Bool) → (bytes_eq name other || more) ≡ false → (name ≡ other → ⊥) × (more ≡ false)
+apart name other more e = by (bytes_eq name other) refl e
+  where
+    by : (b : Bool) → bytes_eq name other ≡ b → (b || more) ≡ false → (name ≡ other → ⊥) × (more ≡ false)
+    by true is h = cc
+    by false is h = ((λ same. let z : false ≡ true = sym is ∙ (bytes_eq-Decides name other).1 same in cc), h)
+
+pub each_spared : {X : Type 0} → (f : X → Connected) (units : List X) (unit : X) (old mid new : Holdings) → 1 ≤ length units → unit ≡ get_or units 0 unit
+    → ((name : List ℕ) → (name ≡ (f unit).name → ⊥) → SameAt old mid name) → AreSpared (map f (take (length units - 1) (drop 1 units))) mid new → AreSpared (map f units) old new
+each_spared f [] unit old mid new long item first others = absurd (omega (arith, long))
+each_spared f (u ∷ us) unit old mid new long item first others = λ name none.
+    let tail : take (length (u ∷ us) - 1) (drop 1 (u ∷ us)) ≡ us = take_all (length (u ∷ us) - 1) us (omega arith) in
+    let parts = apart name (f u).name (has_name (map f us) name) none in
+    same_on old mid new name (first name (λ same. parts.0 (same ∙ ap (λ x. (f x).name) item))) (subst (λ zs. AreSpared (map f zs) mid new) tail others name parts.1)
 
 -- ---- what remains of slots that are sound
 

@@ -1,5 +1,8 @@
 -- What is found of a file whose connection was closed, whatever was lost: also where its slot stopped, or its record could not be ended.
-use Rattle.std.specs.Prelude.{◌≡◌, ℕ, Bool, true, not, List, [], ◌∷◌, Option, Some, None, IsSome, IfSome, slice_get}
+use Rattle.std.specs.Prelude.{◌≡◌, ℕ, Bool, true, false, not, List, [], ◌∷◌, Option, Some, None, IsSome, IfSome, slice_get}
+use Rattle.std.specs.List.{list_any}
+use Rattle.std.specs.Str.{bytes_eq}
+use Rattle.fj_outside.specs.Holdings.{Holdings, SameAt}
 use Rattle.fj_outside.specs.declared.errors.Stop.{Stop}
 use Rattle.fj_connect.specs.Connection.{Connection}
 use Rattle.fj_connect.specs.Linked.{Linked, connection_of}
@@ -30,3 +33,11 @@ pub record IsFoundOf {F : Type 0} (told : F → Bool) (bytes : F → List ℕ) (
 abbrev pub OfEach : {X : Type 0} → List Connected → List X → (Connected → X → Type 0) → Type 0
 OfEach [] all P = Unit {0}
 OfEach {X} (u ∷ us) all P = ((x : X) × (slice_get all u.slot ≡ Some x) × P u x) × OfEach us all P
+
+-- one of the units has the file
+abbrev pub has_name : List Connected → List ℕ → Bool
+has_name units name = list_any (λ (u : Connected). bytes_eq name u.name) units
+
+-- of a file that no unit has the disk tells the same as before
+abbrev pub AreSpared : List Connected → Holdings → Holdings → Type 0
+AreSpared units old new = (name : List ℕ) → has_name units name ≡ false → SameAt old new name

@@ -15,7 +15,7 @@ ghost use Rattle.fj_units.specs.Returning.{returned, IsAsDue};
 ghost use Rattle.fj_units.specs.Units.{connected_of};
 ghost use Rattle.fj_closing.specs.Losing.{is_memory, may_tell, may_want};
 ghost use Rattle.fj_closing.specs.Remains.{AreOfDesks};
-ghost use Rattle.fj_closing.specs.Finding.{IsEndedUpTo, IsFound, IsFoundOf, OfEach};
+ghost use Rattle.fj_closing.specs.Finding.{IsEndedUpTo, IsFound, IsFoundOf, OfEach, AreSpared};
 ghost use Rattle.fj_closing.specs.Closing.{Lessens, IsBack, AreBack, IsKept, AreAsDue, AreOthersSame, names_left, AreSeated, AreNamed, IfClear, may_lack, SomeMayLack};
 ghost use Rattle.fj_closing.specs.Fitting.{CountsStop, HasItsOwn, HaveTheirOwn, AreOwned, AreGone};
 ghost use Rattle.fj_closing.specs.declared.remains.Remains.{Remains as Remaining};
@@ -136,6 +136,7 @@ fn close_unit<D: Disk>(
         → set.contains (D.held disk.new).hurt unit.now.name ≡ false → (it : Remaining D.File) × (slice_get was unit.now.slot ≡ Some it) × (it.stop ≡ None) }
     ensures found { D.tells disk.old → may_tell result ≡ true → (was : List (Remaining D.File)) → Both (IsKept names.old) was all.old.items
         → (it : Remaining D.File) × (slice_get was unit.now.slot ≡ Some it) × IsFoundOf D.File.told D.File.bytes it unit.now.name (files_of (D.held disk.new) unit.now.name) }
+    ensures spared { D.tells disk.old → may_tell result ≡ true → (name : List ℕ) → name ≢ unit.now.name → SameAt (D.held disk.old) (D.held disk.new) name }
     ensures back { may_tell result ≡ true → stands names.new unit.now.name ≡ false }
     ensures same { D.tells disk.old → AreOthersSame names.old names.new (D.held disk.old) (D.held disk.new) }
     ensures own { D.tells disk.old → D.refusals disk.old ≤ D.refusals disk.new }
@@ -192,6 +193,7 @@ fn close_each<D: Disk>(
         → IfClear (D.held disk.new) (map connected_of units.now) was (λ it. it.stop ≡ None) }
     ensures found { D.tells disk.old → may_tell result ≡ true → (was : List (Remaining D.File)) → Both (IsKept names.old) was all.old.items
         → OfEach (map connected_of units.now) was (λ u it. IsFoundOf D.File.told D.File.bytes it u.name (files_of (D.held disk.new) u.name)) }
+    ensures spared { D.tells disk.old → may_tell result ≡ true → AreSpared (map connected_of units.now) (D.held disk.old) (D.held disk.new) }
     ensures same { D.tells disk.old → AreOthersSame names.old names.new (D.held disk.old) (D.held disk.new) }
     ensures own { D.tells disk.old → D.refusals disk.old ≤ D.refusals disk.new }
 
@@ -285,6 +287,7 @@ pub fn close_units<D: Disk>(
     ensures running { D.tells disk.old → may_tell result ≡ true → IfClear (D.held disk.new) units.now all.items (λ it. it.stop ≡ None) }
     ensures found { D.tells disk.old → may_tell result ≡ true
         → OfEach units.now all.items (λ u it. IsFoundOf D.File.told D.File.bytes it u.name (files_of (D.held disk.new) u.name)) }
+    ensures spared { D.tells disk.old → may_tell result ≡ true → AreSpared units.now (D.held disk.old) (D.held disk.new) }
     ensures same { D.tells disk.old → AreOthersSame names.old names.new (D.held disk.old) (D.held disk.new) }
     ensures own { D.tells disk.old → D.refusals disk.old ≤ D.refusals disk.new }
 

@@ -1,6 +1,7 @@
 -- The jobs of slots, each with the statement that gives it.
-use Rattle.std.proofs.Common.{◌≡◌, ◌⊎◌, ℕ, zero, suc, ◌-◌, ◌<◌, ◌≤◌, false, true, List, [], ◌∷◌, length, take, drop, replicate, Option, Some, None, is_some, slice_get, refl, sym, ap, ◌∙◌, subst, inl, inr, arith}
+use Rattle.std.proofs.Common.{◌≡◌, ◌⊎◌, ℕ, zero, suc, ◌-◌, ◌<◌, ◌≤◌, false, true, List, [], ◌∷◌, length, take, drop, replicate, Option, Some, None, IsSome, is_some, slice_get, refl, sym, ap, ◌∙◌, subst, inl, inr, arith}
 use Rattle.std.proofs.lemmas.List.{take_all}
+use Rattle.fj_value.specs.declared.condition.Rule.{Rule}
 use Rattle.fj_statement.specs.declared.deck.Variable.{Variable}
 use Rattle.fj_slot.specs.Serving.{Meaning}
 use Rattle.fj_world.specs.declared.ask.Ask.TheVariants.{Submit, Settle, Finished}
@@ -16,20 +17,24 @@ use Rattle.fj_plain.specs.Statement.{Stated, Ending}
 use Rattle.fj_desk.specs.Core.{Core}
 use Rattle.fj_desk.specs.Desks.{Desk, carry, outcome, log_length, most_slots}
 use Rattle.fj_desk.specs.Doing.{Doing, finishes, gives, awaits, Desked, given}
-use Rattle.fj_desk.specs.Desking.{desk_step, fresh}
+use Rattle.fj_desk.specs.Desking.{DesksRan, over_desks, goes_on, desk_step, fresh}
 use Rattle.fj_desk.specs.Giving.{carry_all}
 use Rattle.fj_turns.specs.Run.{Run}
+use Rattle.fj_turns.specs.Turns.{rule_of}
 use Rattle.fj_turns.specs.Serving.{over_bays, Shows, run_conduct, desk_of, desks_of, first_run, fresh_slots, begins}
 use Rattle.fj_turns.specs.Cutting.{stands}
 use Rattle.fj_turns.specs.Inside.{does, jobs_of, walked, cut_desks}
 use Rattle.fj_turns.specs.Passing.{passes}
 use Rattle.fj_turns.specs.Standing.{GivesNext, GivesJob, Asks, StandsIn}
 use Rattle.fj_turns.specs.Laws.{plain_bays, shown}
-use Rattle.fj_turns.proofs.Before.{Fares, fares_after}
-use Rattle.fj_turns.proofs.Cutting.{walked_given, own_given, each_entry}
-use Rattle.fj_turns.proofs.Passed.{passes_none, At, passes_stand, stands_at}
-use Rattle.fj_turns.proofs.Slots.{map_get}
-use Rattle.fj_cut.specs.Stopping.{GivesTo, WereGiven, EachStopGiven, EachTurnGiven, StopsAreGiven, TurnsAreGiven}
+use Rattle.fj_turns.proofs.Before.{Fares, over_at, fares_after}
+use Rattle.fj_turns.proofs.Cutting.{step_given, walked_given, own_given, each_entry}
+use Rattle.fj_turns.proofs.Decks.{runner_is_plain}
+use Rattle.fj_turns.proofs.Finishing.{one_end}
+use Rattle.fj_turns.proofs.Passed.{Over, passes_none, At, passes_stand, stands_at}
+use Rattle.fj_turns.proofs.Slots.{map_get, same_some}
+use Rattle.fj_turns.proofs.Statements.{step_is}
+use Rattle.fj_cut.specs.Stopping.{GivesTo, WereGiven, EachStopGiven, EachTurnGiven, EachEndGiven, StopsAreGiven, TurnsAreGiven, EndsAreGiven}
 use Rattle.fj_cut.proofs.Rests.{after_fewer, answered_same, passes_fewer}
 use Rattle.fj_cut.proofs.Submitted.{Submitted, each_submitted, last_or}
 
@@ -73,6 +78,43 @@ none_yet zero zero q x none e = cc
 none_yet zero (suc at) q x none e = cc
 none_yet (suc k) zero q x none e = let same : x ≡ q = cc in ap (λ (z : PlainSlot Bay Job). z.jobs) (sym same) ∙ none
 none_yet (suc k) (suc at) q x none e = none_yet k at q x none e
+
+-- ---- where a statement ends the execution
+
+ends_over : (variables : List Variable) (index : ℕ) (deck : List Stated) (p : Desked) (st : Stated) (before : Desked) → cut_desks variables index deck p ≡ Some (st, before) → IsSome (desk_step variables st before).1
+    → (over_desks variables deck p).desked ≡ (desk_step variables st before).0
+ends_over variables index [] p st before e some = cc
+ends_over variables zero (x ∷ deck) p st before e some =
+    ap (λ z. (over_desks variables (z.0 ∷ deck) z.1).desked) same ∙ here (desk_step variables st before).1 refl some
+  where
+    same : ◌≡◌ {A = Stated × Desked} (x, p) (st, before)
+    same = same_some e
+
+    here : (o : Option Ending) → (desk_step variables st before).1 ≡ o → IsSome o → (over_desks variables (st ∷ deck) before).desked ≡ (desk_step variables st before).0
+    here None f none = cc
+    here (Some ending) f none =
+        ap (λ o. (elim o as (λ _. DesksRan) [ None ↦ over_desks variables deck (desk_step variables st before).0 | Some y ↦ record { desked = (desk_step variables st before).0; ending = Some y } ]).desked) f
+ends_over variables (suc index) (x ∷ deck) p st before e some =
+    by (desk_step variables x p).1 refl (λ f. ends_over variables index deck (desk_step variables x p).0 st before f some)
+  where
+    by : (o : Option Ending) → (desk_step variables x p).1 ≡ o
+        → (cut_desks variables index deck (desk_step variables x p).0 ≡ Some (st, before) → (over_desks variables deck (desk_step variables x p).0).desked ≡ (desk_step variables st before).0)
+        → (over_desks variables (x ∷ deck) p).desked ≡ (desk_step variables st before).0
+    by None f later =
+        ap (λ o. (elim o as (λ _. DesksRan) [ None ↦ over_desks variables deck (desk_step variables x p).0 | Some y ↦ record { desked = (desk_step variables x p).0; ending = Some y } ]).desked) f
+        ∙ later (sym (ap (λ o. elim o as (λ _. Option (Stated × Desked)) [ None ↦ cut_desks variables index deck (desk_step variables x p).0 | Some y ↦ None ]) f) ∙ e)
+    by (Some ending) f later =
+        absurd (let z : None ≡ Some (st, before) = sym (ap (λ o. elim o as (λ _. Option (Stated × Desked)) [ None ↦ cut_desks variables index deck (desk_step variables x p).0 | Some y ↦ None ]) f) ∙ e in cc)
+
+-- all jobs that a statement gives, or none where it is prohibited
+step_jobs : (variables : List Variable) (st : Stated) (before : Desked) → (k : ℕ) × ((desk_step variables st before).0.desks ≡ carry_all before.desks (take k (jobs_of variables st before)))
+step_jobs variables st before = by (rule_of variables st before.core) refl
+  where
+    by : (o : Option Rule) → rule_of variables st before.core ≡ o → (k : ℕ) × ((desk_step variables st before).0.desks ≡ carry_all before.desks (take k (jobs_of variables st before)))
+    by None e =
+        let js = jobs_of variables st before in
+        (length js, step_given variables st before e ∙ ap (carry_all before.desks) (sym (take_all (length js) js (omega arith))))
+    by (Some rule) e = (0, ap (λ d. d.0.desks) (step_is variables st before) ∙ ap (λ o. (goes_on st.1 variables st.0.line st.0.what before o).0.desks) e)
 
 module _ {E J A S : Type 0} (m : Meaning E J A Bay Job Answer) (s : Shows S) (variables : List Variable) (deck : List Stated) (files : Files) where
   abbrev c : Conduct S Job Answer
@@ -170,6 +212,31 @@ module _ {E J A S : Type 0} (m : Meaning E J A Bay Job Answer) (s : Shows S) (va
   stop_given n slot hand =
       were_given n (there n).script (there n).slots refl (λ e h. after_fewer m s e n first (omega (arith, h))) (stop_stage n slot hand (each_entry m s variables deck files n))
 
+  -- ---- where the deck ended
+
+  end_stage : (n : ℕ) → (there n).hand ≡ Finished → IsSome (there n).script.ending → Over m variables deck (fresh variables files) (there n).script → Stage (there n).slots (there n).script.rest
+  end_stage n over some (inl (left, none)) = absurd (let z : false ≡ true = subst IsSome none some in cc)
+  end_stage n over some (inr x) =
+      let comes = runner_is_plain m s variables deck files in
+      let z : Plain Bay c = record { script = comes.run; hand = Finished; slots = comes.slots } in
+      let same : there n ≡ z = one_end (over_bays m) c n comes.reaches.0 first (there n) z refl over comes.reaches.1 refl in
+      let jobs = step_jobs variables x.statement x.before in
+      record {
+        index = x.index;
+        statement = x.statement;
+        before = x.before;
+        reached = x.reached;
+        place = x.place;
+        jobs = jobs.0;
+        desks = ap (λ (k : Plain Bay c). desks_of m k.slots) same ∙ comes.desks
+            ∙ ap (λ (d : Desked). d.desks) (ends_over variables x.index deck (fresh variables files) x.statement x.before x.reached (subst IsSome (sym x.ended) some)) ∙ jobs.1;
+      }
+
+  pub end_given : (n : ℕ) → (there n).hand ≡ Finished → IsSome (there n).script.ending → WereGiven variables deck files (there n).script (there n).slots
+  end_given n over some =
+      were_given n (there n).script (there n).slots refl (λ e h. after_fewer m s e n first (omega (arith, h)))
+      (end_stage n over some (over_at m s variables deck (fresh variables files) (there n) (before_ask (over_bays m) c n (first_run variables deck files) fresh_slots) (fares_after m s variables deck files n) over))
+
   -- ---- in a turn
 
   turn_stage : (run : Run) (slots : List (PlainSlot Bay Job)) → At m variables deck (fresh variables files) run slots → Stage slots run.rest
@@ -219,8 +286,14 @@ each_stop_given m s variables deck files n slot hand = stop_given m s variables 
 pub each_turn_given : {E J A S : Type 0} (m : Meaning E J A Bay Job Answer) (s : Shows S) → EachTurnGiven m s
 each_turn_given m s variables deck files n count run going passed = turn_given m s variables deck files n count run going passed
 
+pub each_end_given : {E J A S : Type 0} (m : Meaning E J A Bay Job Answer) (s : Shows S) → EachEndGiven m s
+each_end_given m s variables deck files n over some = end_given m s variables deck files n over some
+
 pub stops_are_given : StopsAreGiven
 stops_are_given s = each_stop_given plain_bays (shown s)
 
 pub turns_are_given : TurnsAreGiven
 turns_are_given s = each_turn_given plain_bays (shown s)
+
+pub ends_are_given : EndsAreGiven
+ends_are_given s = each_end_given plain_bays (shown s)

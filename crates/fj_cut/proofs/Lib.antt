@@ -6,6 +6,7 @@ pub mod Housed
 pub mod Detached
 pub mod EachKind
 pub mod Deck
+pub mod Keeping
 pub mod Stops
 pub mod Connecting
 pub mod Turns

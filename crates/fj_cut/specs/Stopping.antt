@@ -1,10 +1,10 @@
 -- The jobs of slots, each with the statement that gives it; and what is found of a file in which one of them was stopped.
-use Rattle.std.specs.Prelude.{◌≡◌, ◌⊎◌, ℕ, ◌<◌, ◌≤◌, List, [], ◌∷◌, ◌++◌, length, take, drop, Option, Some, None, slice_get}
+use Rattle.std.specs.Prelude.{◌≡◌, ◌⊎◌, ℕ, ◌<◌, ◌≤◌, List, [], ◌∷◌, ◌++◌, length, take, drop, Option, Some, None, IsSome, slice_get}
 use Rattle.fj_statement.specs.declared.deck.Variable.{Variable}
 use Rattle.fj_slot.specs.Ledger.{Ledger}
 use Rattle.fj_slot.specs.Serving.{Meaning}
 use Rattle.fj_slot.specs.Sound.{IsSound}
-use Rattle.fj_world.specs.declared.ask.Ask.TheVariants.{Settle}
+use Rattle.fj_world.specs.declared.ask.Ask.TheVariants.{Settle, Finished}
 use Rattle.fj_world.specs.Losing.{before_ask}
 use Rattle.fj_world.specs.Plain.{PlainSlot}
 use Rattle.fj_world.specs.Rack.{Rack}
@@ -78,8 +78,16 @@ module _ {E J A S : Type 0} (m : Meaning E J A Bay Job Answer) (s : Shows S) whe
       b.0.ending ≡ None → passes count b.0 ≡ Some run →
       (run.rest ≡ []) ⊎ WereGiven variables deck files run b.1
 
+  -- and where the deck ended
+  abbrev pub EachEndGiven : Type 0
+  EachEndGiven = (variables : List Variable) (deck : List Stated) (files : Files) (n : ℕ) →
+      let x = stands m s variables deck files n in x.hand ≡ Finished → IsSome x.script.ending → WereGiven variables deck files x.script x.slots
+
 abbrev pub StopsAreGiven : Type 0
 StopsAreGiven = (s : Seen Run) → EachStopGiven plain_bays (shown s)
 
 abbrev pub TurnsAreGiven : Type 0
 TurnsAreGiven = (s : Seen Run) → EachTurnGiven plain_bays (shown s)
+
+abbrev pub EndsAreGiven : Type 0
+EndsAreGiven = (s : Seen Run) → EachEndGiven plain_bays (shown s)

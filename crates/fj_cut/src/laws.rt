@@ -1,6 +1,6 @@
 // What holds of every deck that is cut, as contracts of functions with nothing to do.
 ghost use Rattle.fj_cut.specs.Others.{OthersStay, UnitsKeepDesks, StopsLeaveOthers, CutRunsLeaveOthers};
-ghost use Rattle.fj_cut.specs.Stopping.{StopsAreGiven, TurnsAreGiven};
+ghost use Rattle.fj_cut.specs.Stopping.{StopsAreGiven, TurnsAreGiven, EndsAreGiven};
 ghost use Rattle.fj_cut.specs.Turning.{TurnsDo, TurnsLeaveOthers};
 
 /// Inside a statement each file that it is not about is as closing all units just before it leaves it.
@@ -41,4 +41,9 @@ pub fn stops_are_given()
 /// So it is in each turn of a runner.
 pub fn turns_are_given()
     ensures { TurnsAreGiven }
+{}
+
+/// And where the deck ended.
+pub fn ends_are_given()
+    ensures { EndsAreGiven }
 {}

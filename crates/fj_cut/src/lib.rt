@@ -11,6 +11,6 @@ pub use cases::{
     end_leaves_others, is_about_one_file, is_at_its_slot, open_leaves_others, write_leaves_others,
 };
 pub use laws::{
-    cut_runs_leave_others, others_stay, stops_are_given, stops_leave_others, turns_are_given,
-    turns_do, turns_leave_others, units_keep_desks,
+    cut_runs_leave_others, ends_are_given, others_stay, stops_are_given, stops_leave_others,
+    turns_are_given, turns_do, turns_leave_others, units_keep_desks,
 };

@@ -41,7 +41,7 @@ acted_given ds (gives slot job core next) = acted_given (carry ds slot job) (nex
 acted_given ds (awaits slot job core next) = acted_given (carry ds slot job) (next (desks.outcome ds slot job))
 
 -- a statement that is not prohibited gives all its jobs
-step_given : (variables : List Variable) (st : Stated) (p : Desked) → rule_of variables st p.core ≡ None → (desk_step variables st p).0.desks ≡ carry_all p.desks (jobs_of variables st p)
+pub step_given : (variables : List Variable) (st : Stated) (p : Desked) → rule_of variables st p.core ≡ None → (desk_step variables st p).0.desks ≡ carry_all p.desks (jobs_of variables st p)
 step_given variables st p allowed =
     ap (λ d. d.0.desks) (step_is variables st p) ∙ ap (λ o. (goes_on st.1 variables st.0.line st.0.what p o).0.desks) allowed
     ∙ ap (λ d. (completed variables st.0.line st.0.what d).0.desks) (sym (acts_are variables st p))

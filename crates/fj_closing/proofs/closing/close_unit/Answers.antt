@@ -126,3 +126,12 @@ returns-then-due-clause-found g c = λ tells may was b.
 
 pub returns-else-due-clause-found : goal.returns-else-due-clause-found
 returns-else-due-clause-found g c = λ tells may. absurd (unfit_untold c.close-closed.result c.after.result c.after.ensures may)
+
+pub returns-then-due-clause-spared : goal.returns-then-due-clause-spared
+returns-then-due-clause-spared g c = λ tells may name other.
+    let due = (bytes_eq-Decides c.as_str.result.now c.as_str-2.result.now).0 (sym c.eq-due.ensures ∙ c.if-due.true) in
+    let own = sym c.name.ensures ∙ sym c.as_str.ensures.text ∙ due ∙ c.as_str-2.ensures.text in
+    c.close-closed.ensures.others tells name (λ same. other (same ∙ own))
+
+pub returns-else-due-clause-spared : goal.returns-else-due-clause-spared
+returns-else-due-clause-spared g c = λ tells may. absurd (unfit_untold c.close-closed.result c.after.result c.after.ensures may)
