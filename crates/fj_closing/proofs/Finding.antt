@@ -32,7 +32,7 @@ use Rattle.fj_plain.specs.State.{Files}
 use Rattle.fj_units.specs.Names.{stands}
 use Rattle.fj_units.specs.Files.{files_of}
 use Rattle.fj_closing.specs.Closing.{Lessens, AreOthersSame}
-use Rattle.fj_closing.specs.Finding.{IsEndedUpTo, IsFound, IsFoundOf, OfEach, has_name, AreSpared}
+use Rattle.fj_closing.specs.Finding.{IsEndedUpTo, IsFound, IsFoundOf, IsLeftBehind, OfEach, has_name, AreSpared}
 use Rattle.fj_closing.specs.Remains.{IsWhatRemains}
 use Rattle.fj_closing.specs.declared.remains.Remains.{Remains}
 use Rattle.fj_closing.proofs.Due.{same_on}
@@ -149,7 +149,7 @@ module _ {F : Type 0} (told : F → Bool) (bytes : F → List ℕ) (count : F �
     long = sym (sym (length-map l.jobs m.task) ∙ ap length sound.jobs ∙ length-map ts Some)
 
     -- the slot stopped in a job
-    stopped_in : (h : Halt) → l.halt ≡ Some h → (told c.file ≡ true → IsFound (not c.modes.scratch) found (IsEndedUpTo (Some h.stop) (connection_of bytes c))) → SomeMayLeave s ts name found
+    stopped_in : (h : Halt) → l.halt ≡ Some h → (told c.file ≡ true → IsFound (not c.modes.scratch) found (IsEndedUpTo (Some h.stop) (connection_of bytes c))) → (x : SomeMayLeave s ts name found) × (x.number ≡ l.done)
     stopped_in h halt file =
         let below = sound.counted.below (ap is_some halt) in
         let at = job_at ts l.done (omega (arith, below, long)) in
@@ -162,23 +162,25 @@ module _ {F : Type 0} (told : F → Bool) (bytes : F → List ℕ) (count : F �
         let here = holds_it bay p.0 c has p.1 in
         let same : spoilt.after ≡ connection_of bytes c = (let z : Some spoilt.after ≡ Some (connection_of bytes c) = sym spoilt.keeps ∙ here.1 in cc) in
         let by = as_found c.modes.scratch found (IsEndedUpTo (Some h.stop) (connection_of bytes c)) (AgreeBelow (first_change was was.connection at.0) spoilt.before.bytes)
-        (λ b e. subst (AgreeBelow (first_change was was.connection at.0) spoilt.before.bytes) (ap (λ (x : Connection). x.bytes) same ∙ sym e) spoilt.agrees) (file here.0) in
-        record {
-          number = l.done;
-          job = at.0;
-          at = front_get ts (detach None) at.0 l.done at.1;
-          leaves = subst (λ b. MayLeave b at.0 name found) (behind_is m refl s (take l.done ts)) (record {
-            before = spoilt.before;
-            full = spoilt.full;
-            named = sym spoilt.named ∙ ap (λ (x : Connection). x.name) same ∙ named;
-            may = spoilt.may;
-            agrees = by.0;
-            kept = λ e. by.1 (ap (λ (x : Connection). x.modes.scratch) (sym same) ∙ ap (λ (x : _). x.scratch) spoilt.modes ∙ e);
-          });
-        }
+        (λ b e. subst (AgreeBelow (first_change was was.connection at.0) spoilt.before.bytes) (ap (λ (x : Connection). x.bytes) same ∙ sym e) spoilt.agrees) (file here.0) in (
+          record {
+            number = l.done;
+            job = at.0;
+            at = front_get ts (detach None) at.0 l.done at.1;
+            leaves = subst (λ b. MayLeave b at.0 name found) (behind_is m refl s (take l.done ts)) (record {
+              before = spoilt.before;
+              full = spoilt.full;
+              named = sym spoilt.named ∙ ap (λ (x : Connection). x.name) same ∙ named;
+              may = spoilt.may;
+              agrees = by.0;
+              kept = λ e. by.1 (ap (λ (x : Connection). x.modes.scratch) (sym same) ∙ ap (λ (x : _). x.scratch) spoilt.modes ∙ e);
+            });
+          },
+          refl,
+        )
 
     -- its jobs were all done
-    ended_behind : l.halt ≡ None → l.done ≡ length l.jobs → (told c.file ≡ true → IsFound (not c.modes.scratch) found (IsEndedUpTo None (connection_of bytes c))) → SomeMayLeave s ts name found
+    ended_behind : l.halt ≡ None → l.done ≡ length l.jobs → (told c.file ≡ true → IsFound (not c.modes.scratch) found (IsEndedUpTo None (connection_of bytes c))) → (x : SomeMayLeave s ts name found) × (x.number ≡ l.done)
     ended_behind running done file =
         let is = at_home told bytes count l s ts bay sound running done home in
         let was = served_by m s ts in
@@ -186,37 +188,40 @@ module _ {F : Type 0} (told : F → Bool) (bytes : F → List ℕ) (count : F �
         let all : take (length ts) ts ≡ ts = take_all (length ts) ts (omega arith) in
         let first = unfolding_ends was (connection_of bytes c) here.1 in
         let by = as_found c.modes.scratch found (IsEndedUpTo None (connection_of bytes c)) (AgreeBelow (first_change was was.connection (detach None)) (bytes c.file))
-        (λ b e. subst (λ o. AgreeBelow o (bytes c.file) b) (sym first) e) (file here.0) in
-        record {
-          number = length ts;
-          job = detach None;
-          at = last_get ts (detach None);
-          leaves = subst (λ b. MayLeave b (detach None) name found) (behind_is m refl s ts ∙ ap (behind s) (sym all)) (record {
-            before = connection_of bytes c;
-            full = here.1;
-            named = named;
-            may = tt;
-            agrees = by.0;
-            kept = by.1;
-          });
-        }
+        (λ b e. subst (λ o. AgreeBelow o (bytes c.file) b) (sym first) e) (file here.0) in (
+          record {
+            number = length ts;
+            job = detach None;
+            at = last_get ts (detach None);
+            leaves = subst (λ b. MayLeave b (detach None) name found) (behind_is m refl s ts ∙ ap (behind s) (sym all)) (record {
+              before = connection_of bytes c;
+              full = here.1;
+              named = named;
+              may = tt;
+              agrees = by.0;
+              kept = by.1;
+            });
+          },
+          long ∙ sym done,
+        )
 
     pub leaves_by : (l.halt ≡ None → l.done ≡ length l.jobs) → (stop : Option Stop) → stop ≡ option_map (λ (h : Halt). h.stop) l.halt
-        → (told c.file ≡ true → IsFound (not c.modes.scratch) found (IsEndedUpTo stop (connection_of bytes c))) → SomeMayLeave s ts name found
+        → (told c.file ≡ true → IsFound (not c.modes.scratch) found (IsEndedUpTo stop (connection_of bytes c))) → (x : SomeMayLeave s ts name found) × (x.number ≡ l.done)
     leaves_by finished stop is file = by l.halt refl
       where
-        by : (o : Option Halt) → l.halt ≡ o → SomeMayLeave s ts name found
+        by : (o : Option Halt) → l.halt ≡ o → (x : SomeMayLeave s ts name found) × (x.number ≡ l.done)
         by None e = ended_behind e (finished e) (subst (λ x. told c.file ≡ true → IsFound (not c.modes.scratch) found (IsEndedUpTo x (connection_of bytes c))) (is ∙ ap (option_map (λ (h : Halt). h.stop)) e) file)
         by (Some h) e = stopped_in h e (subst (λ x. told c.file ≡ true → IsFound (not c.modes.scratch) found (IsEndedUpTo x (connection_of bytes c))) (is ∙ ap (option_map (λ (h : Halt). h.stop)) e) file)
 
   slot_leaves : (l : Ledger (Bay F) (Job F) Answer) (it : Remains F) (name : List ℕ) (found : Option (List ℕ)) → IsWhatRemains m l it → IsFoundOf told bytes it name found
-      → (s : PlainBay) (ts : List PlainJob) → IsSound m s ts l → SomeMayLeave s ts name found
+      → (s : PlainBay) (ts : List PlainJob) → IsSound m s ts l → IsLeftBehind l s ts name found
   slot_leaves l it name found is file s ts sound =
-      leaves_by is.ledger s ts (is.serves.sound s ts sound) is.bay is.home name found file.connection (sym is.connection ∙ file.has) file.named is.finished it.stop is.stop file.file
+      let it = leaves_by is.ledger s ts (is.serves.sound s ts sound) is.bay is.home name found file.connection (sym is.connection ∙ file.has) file.named is.finished it.stop is.stop file.file in
+      record { some = it.0; from = omega (arith, is.serves.done, it.1); stopped = λ e. it.1 ∙ ap (λ (k : Ledger (Bay F) (Job F) Answer). k.done) (is.stopped e) }
 
   pub slots_leave : (slots : List (Ledger (Bay F) (Job F) Answer)) (all : List (Remains F)) → Both (IsWhatRemains m) slots all → (files : Files) (units : List Connected)
       → OfEach units all (λ u it. IsFoundOf told bytes it u.name (files u.name))
-      → OfEach units slots (λ u l. (s : PlainBay) (ts : List PlainJob) → IsSound m s ts l → SomeMayLeave s ts u.name (files u.name))
+      → OfEach units slots (λ u l. (s : PlainBay) (ts : List PlainJob) → IsSound m s ts l → IsLeftBehind l s ts u.name (files u.name))
   slots_leave slots all both files [] h = tt
   slots_leave slots all both files (u ∷ us) h = (
     let it = h.0 in

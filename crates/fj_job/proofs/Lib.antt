@@ -21,3 +21,4 @@ pub mod CutRuns
 pub mod Told
 pub mod Reported
 pub mod Sends
+pub mod Giving

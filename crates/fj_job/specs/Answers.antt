@@ -127,7 +127,7 @@ pub record Told (task : Task) (status : Status) (SourceTells SinkTells DiskTells
   pub refused : SourceTells → IfRefused status (IsRefusal task text)
   -- A fault of the disk is that of the statement which learnt of it: behind what executing the deck tells up to there, the report
   -- says its line. The sink took all of it; or it failed then, and took a front of it. Each file that the disk does not tell as hurt,
-  -- and that the statement is not about, is left as closing all units leaves it there.
+  -- and that the statement is not about, is left as closing all units leaves it there; of the others `AreLeft` says how far they are.
   pub fault : SourceTells → DiskTells → IfFault status (λ line. IfExecute task (λ trace.
       (deck : Deck) × IsDeck text deck × ToldFault deck trace (files_in files) line SinkTells old new SinkRose left before now))
   -- A fault of the sink is met where the text is refused and that is told; or at a statement of the deck that is carried out, or in the
