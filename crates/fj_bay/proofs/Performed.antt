@@ -36,7 +36,7 @@ use Rattle.fj_bay.proofs.Controlled.{control_same, items_same}
 use Rattle.fj_bay.proofs.Differences.{finds_first_difference}
 
 -- what a stopped change leaves agrees below the first byte that was to change
-agree : (old due new : List ℕ) → KeepsUpToChange old due new → (o : Option ℕ) → first_difference old due ≡ o → AgreeBelow o old new
+pub agree : (old due new : List ℕ) → KeepsUpToChange old due new → (o : Option ℕ) → first_difference old due ≡ o → AgreeBelow o old new
 agree old due new kept None e = keeps_whole old due new kept (sym ((finds_first_difference old due).0.0 e))
 agree old due new kept (Some n) e = kept n (sym ((finds_first_difference old due).1 n e).0)
 
@@ -95,9 +95,9 @@ module _ {F : Type 0} (told : F → Bool) (bytes : F → List ℕ) (count : F �
 
   -- what a stop leaves
   pub stopped : (old new : Bay F) (c d : Linked F) (s : PlainBay) (t : PlainJob) (j : Job F) (stop : Stop) (due : List ℕ) → old.connection ≡ Some c → state_of told bytes old ≡ Some s → new.connection ≡ Some d
-      → MayStop t → bytes_left (serve (plain old c) t) ≡ due → (tells c.file ↔ tells d.file) → (tells c.file → KeepsUpToChange (bytes c.file) due (bytes d.file)) → d.name ≡ c.name
+      → MayStop t → bytes_left (serve (plain old c) t) ≡ due → (tells c.file ↔ tells d.file) → (tells c.file → KeepsUpToChange (bytes c.file) due (bytes d.file)) → d.name ≡ c.name → d.modes ≡ c.modes
       → (stop ≡ Failed → Rose (count c.file) (count d.file)) → Serves (bay_meaning told bytes count) s t (Err stop) new j
-  stopped old new c d s t j stop due full st after may left telling kept name rose =
+  stopped old new c d s t j stop due full st after may left telling kept name modes rose =
       let two = full_state old c s full st in
       let is = tells_state new d (telling.0 two.0) after in
       subst (λ v. IsSome (state_of told bytes new) × IfSome (state_of told bytes new) (λ p. IsSpoilt v t stop p (file_faults count new.connection))) two.1
@@ -110,6 +110,7 @@ module _ {F : Type 0} (told : F → Bool) (bytes : F → List ℕ) (count : F �
           after = connection_of bytes d;
           keeps = refl;
           named = name;
+          modes = modes;
           agrees = agree (bytes c.file) (bytes_left (serve (plain old c) t)) (bytes d.file) (subst (λ l. KeepsUpToChange (bytes c.file) l (bytes d.file)) (sym left) (kept two.0)) (first_change (plain old c) (plain old c).connection t) refl;
           failed = λ e. subst (λ o. 0 < file_faults count o) (sym after) (above (count c.file) (count d.file) (rose e));
         },
@@ -144,11 +145,11 @@ module _ {F : Type 0} (told : F → Bool) (bytes : F → List ℕ) (count : F �
       (λ tell. ((λ i. record { connection = Some (by tell i).0; halt = halt i }), refl, ap (λ two. done two.1) (by tell)))
 
   pub go_stopped : (old new : Bay F) (c d : Linked F) (s : PlainBay) (how : Positioning) (stop : Stop) → old.connection ≡ Some c → state_of told bytes old ≡ Some s → new.connection ≡ Some d → (tells c.file ↔ tells d.file)
-      → (tells c.file → KeepsUpToChange (bytes c.file) (moved (connection_of bytes c) how).0.bytes (bytes d.file)) → d.name ≡ c.name → (stop ≡ Failed → Rose (count c.file) (count d.file))
+      → (tells c.file → KeepsUpToChange (bytes c.file) (moved (connection_of bytes c) how).0.bytes (bytes d.file)) → d.name ≡ c.name → d.modes ≡ c.modes → (stop ≡ Failed → Rose (count c.file) (count d.file))
       → Serves (bay_meaning told bytes count) s (go how) (Err stop) new (job.Go how)
   unfolding serve
-  go_stopped old new c d s how stop full st after telling kept name rose =
-      stopped old new c d s (go how) (job.Go how) stop (moved (connection_of bytes c) how).0.bytes full st after tt refl telling kept name rose
+  go_stopped old new c d s how stop full st after telling kept name modes rose =
+      stopped old new c d s (go how) (job.Go how) stop (moved (connection_of bytes c) how).0.bytes full st after tt refl telling kept name modes rose
 
   pub change_empty : (bay : Bay F) (s : PlainBay) (edit : EditModes) → bay.connection ≡ None → state_of told bytes bay ≡ Some s → Serves (bay_meaning told bytes count) s (change edit) (Ok (answer.Done (Error 1))) bay (job.Change edit)
   unfolding serve
@@ -197,13 +198,13 @@ module _ {F : Type 0} (told : F → Bool) (bytes : F → List ℕ) (count : F �
       ))
 
   pub detach_stopped : (old new : Bay F) (c d : Linked F) (s : PlainBay) (t : PlainJob) (place : Option (Linked F)) (stop : Stop) → old.connection ≡ Some c → state_of told bytes old ≡ Some s → task_of told bytes (job.Detach place) ≡ Some t
-      → new.connection ≡ Some d → (tells c.file ↔ tells d.file) → (tells c.file → KeepsUpToChange (bytes c.file) (ended (connection_of bytes c)).bytes (bytes d.file)) → d.name ≡ c.name → (stop ≡ Failed → Rose (count c.file) (count d.file))
+      → new.connection ≡ Some d → (tells c.file ↔ tells d.file) → (tells c.file → KeepsUpToChange (bytes c.file) (ended (connection_of bytes c)).bytes (bytes d.file)) → d.name ≡ c.name → d.modes ≡ c.modes → (stop ≡ Failed → Rose (count c.file) (count d.file))
       → Serves (bay_meaning told bytes count) s t (Err stop) new (job.Detach place)
   unfolding serve
-  detach_stopped old new c d s t place stop full st e after telling kept name rose =
+  detach_stopped old new c d s t place stop full st e after telling kept name modes rose =
       let found = mapped detach (place_of told bytes place) t e in
       subst (λ u. Serves (bay_meaning told bytes count) s u (Err stop) new (job.Detach place)) found.2
-      (stopped old new c d s (detach found.0) (job.Detach place) stop (ended (connection_of bytes c)).bytes full st after tt refl telling kept name rose)
+      (stopped old new c d s (detach found.0) (job.Detach place) stop (ended (connection_of bytes c)).bytes full st after tt refl telling kept name modes rose)
 
   pub move_empty : (bay : Bay F) (s : PlainBay) (t : Transfer) → bay.connection ≡ None → state_of told bytes bay ≡ Some s → Serves (bay_meaning told bytes count) s (move (moving_of t)) (Ok (answer.Done (Error 1))) bay (job.Move t)
   unfolding serve
@@ -239,16 +240,16 @@ module _ {F : Type 0} (told : F → Bool) (bytes : F → List ℕ) (count : F �
       ((λ i. record { connection = Some y; halt = sets i }), ap (λ m. Some (move m)) (moving_left t u left y condition), refl)))
 
   pub move_stopped : (old new : Bay F) (c d : Linked F) (s : PlainBay) (t u : Transfer) (stop : Stop) → old.connection ≡ Some c → old.halt ≡ None → state_of told bytes old ≡ Some s → new.connection ≡ Some d
-      → (tells c.file ↔ tells d.file) → (tells c.file → KeepsUpToChange (bytes c.file) (transfer (connection_of bytes c) t.spec t.moved).connection.bytes (bytes d.file)) → d.name ≡ c.name
+      → (tells c.file ↔ tells d.file) → (tells c.file → KeepsUpToChange (bytes c.file) (transfer (connection_of bytes c) t.spec t.moved).connection.bytes (bytes d.file)) → d.name ≡ c.name → d.modes ≡ c.modes
       → (stop ≡ Failed → Rose (count c.file) (count d.file)) → Serves (bay_meaning told bytes count) s (move (moving_of t)) (Err stop) new (job.Move u)
   unfolding serve
-  move_stopped old new c d s t u stop full halt st after telling kept name rose =
+  move_stopped old new c d s t u stop full halt st after telling kept name modes rose =
       let x = connection_of bytes c in
       let mv = moving_of t in
       stopped old new c d s (move mv) (job.Move u) stop (transfer x t.spec t.moved).connection.bytes full st after tt
       (ap (λ h. (unless_halted h x t.spec.input t.moved.cells (transfer_by (λ n. mv.control) x t.spec t.moved)).connection.bytes) halt
       ∙ ap (λ z. z.connection.bytes) (control_same (control_of t.spec.layout) t.moved x t.spec))
-      telling kept name rose
+      telling kept name modes rose
 
   pub attached : (old new : Bay F) (brought left : Option (Linked F)) (condition : Condition) → (IsSome old.connection → (new ≡ old) × (left ≡ brought) × (condition ≡ Error 7))
       → (old.connection ≡ None → (new ≡ record old { connection = brought }) × (left ≡ None) × (condition ≡ Fine)) → (s : PlainBay) (t : PlainJob) → state_of told bytes old ≡ Some s → task_of told bytes (job.Attach brought) ≡ Some t

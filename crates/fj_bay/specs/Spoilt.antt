@@ -1,5 +1,5 @@
 -- Which bays a stop may leave.
-use Rattle.std.specs.Prelude.{◌≡◌, ℕ, suc, ◌<◌, ◌==◌, List, [], ◌∷◌, take, Option, Some, None, option_map, if◌then◌else◌}
+use Rattle.std.specs.Prelude.{◌≡◌, ℕ, suc, false, ◌<◌, ◌==◌, List, [], ◌∷◌, ◌++◌, take, Option, Some, None, IsSome, IfSome, option_map, slice_get, if◌then◌else◌}
 use Rattle.std.specs.Option.{option_or, option_map_or}
 use Rattle.fj_outside.specs.declared.errors.Stop.{Stop}
 use Rattle.fj_outside.specs.declared.errors.Stop.TheVariants.{Failed}
@@ -46,8 +46,8 @@ MayStop flush = ⊥
 MayStop (look place) = ⊥
 MayStop resume = ⊥
 
--- What a stop in a job leaves: the connection under its name, with those bytes; after a failure of the outside the count of faults
--- of its file is not 0. Nothing stops on an empty bay.
+-- What a stop in a job leaves: the connection under its name, with its modes and those bytes; after a failure of the outside the count
+-- of faults of its file is not 0. Nothing stops on an empty bay.
 pub record IsSpoilt (old : Bay) (job : Job) (stop : Stop) (new : Bay) (faults : ℕ) : Type 0 where
   pub before : Connection
   pub full : old.connection ≡ Some before
@@ -55,5 +55,30 @@ pub record IsSpoilt (old : Bay) (job : Job) (stop : Stop) (new : Bay) (faults : 
   pub after : Connection
   pub keeps : new.connection ≡ Some after
   pub named : after.name ≡ before.name
+  pub modes : after.modes ≡ before.modes
   pub agrees : AgreeBelow (first_change old old.connection job) before.bytes after.bytes
   pub failed : stop ≡ Failed → 0 < faults
+
+-- ---- the file then
+
+-- A file that is back under that name, if it is there: it is the one of the bay's connection, and the job was stopped in it. So its
+-- bytes are as before below the first one that the job changes, and all of them where it changes none. Only a scratch file is gone.
+pub record MayLeave (bay : Bay) (job : Job) (name : List ℕ) (found : Option (List ℕ)) : Type 0 where
+  pub before : Connection
+  pub full : bay.connection ≡ Some before
+  pub named : before.name ≡ name
+  pub may : MayStop job
+  pub agrees : IfSome found (λ bytes. AgreeBelow (first_change bay bay.connection job) before.bytes bytes)
+  pub kept : before.modes.scratch ≡ false → IsSome found
+
+-- a bay behind these jobs
+abbrev pub behind : Bay → List Job → Bay
+behind bay [] = bay
+behind bay (job ∷ jobs) = behind (serve bay job).engine jobs
+
+-- so one of these jobs leaves it, behind those in front of it, or the one behind all of them that takes the connection out
+pub record SomeMayLeave (bay : Bay) (jobs : List Job) (name : List ℕ) (found : Option (List ℕ)) : Type 0 where
+  pub number : ℕ
+  pub job : Job
+  pub at : slice_get (jobs ++ detach None ∷ []) number ≡ Some job
+  pub leaves : MayLeave (behind bay (take number jobs)) job name found

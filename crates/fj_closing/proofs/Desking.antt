@@ -31,7 +31,7 @@ place_in (Some p) halt bay e =
 
 module _ {F : Type 0} (told : F → Bool) (bytes : F → List ℕ) (count : F → ℕ) where
   -- the engine at home is what the jobs leave, once all are done
-  at_home : (l : Ledger (Bay F) (Job F) Answer) (s : PlainBay) (ts : List _) (bay : Bay F) → IsSound (bay_meaning told bytes count) s ts l
+  pub at_home : (l : Ledger (Bay F) (Job F) Answer) (s : PlainBay) (ts : List _) (bay : Bay F) → IsSound (bay_meaning told bytes count) s ts l
       → l.halt ≡ None → l.done ≡ length l.jobs → l.home ≡ Some bay → (bay_meaning told bytes count).state bay ≡ Some (served_by (bay_meaning told bytes count) s ts)
   at_home l s ts bay sound running done home =
       let m = bay_meaning told bytes count in

@@ -30,7 +30,7 @@ clash e = cc
 
 -- ---- what the disk tells of other names
 
-same_on : (x y z : Holdings) (name : List ℕ) → SameAt x y name → SameAt y z name → SameAt x z name
+pub same_on : (x y z : Holdings) (name : List ℕ) → SameAt x y name → SameAt y z name → SameAt x z name
 same_on x y z name p q = (q.0 ∙ p.0, q.1 ∙ p.1, q.2 ∙ p.2)
 
 pub others_on : (a b c : List (List ℕ)) (x y z : Holdings) → Lessens a b → Lessens b c → AreOthersSame a b x y → AreOthersSame b c y z → AreOthersSame a c x z
@@ -92,7 +92,7 @@ due_closed told bytes c c' (Ok x) stop keep faults count before now old held nam
 )
 due_closed told bytes c c' (Err e) stop keep faults count before now old held named was running same is_hurt due (inr ok) clear = absurd (cc)
 
-left_elsewhere : (o : Option Connection) (files : Files) (name n : List ℕ) → IfSome o (λ p. p.name ≡ n) → bytes_eq name n ≡ false → left_by o files name ≡ files name
+pub left_elsewhere : (o : Option Connection) (files : Files) (name n : List ℕ) → IfSome o (λ p. p.name ≡ n) → bytes_eq name n ≡ false → left_by o files name ≡ files name
 left_elsewhere None files name n named e = refl
 left_elsewhere (Some p) files name n named e = by (not p.modes.scratch) (ap (bytes_eq name) named ∙ e)
   where

@@ -5,3 +5,4 @@ pub mod Due
 pub mod Running
 pub mod Fitting
 pub mod Others
+pub mod Finding

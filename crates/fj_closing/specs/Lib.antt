@@ -1,5 +1,6 @@
 pub mod Serving
 pub mod Remains
 pub mod Losing
+pub mod Finding
 pub mod Closing
 pub mod Fitting

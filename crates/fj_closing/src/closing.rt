@@ -15,6 +15,7 @@ ghost use Rattle.fj_units.specs.Returning.{returned, IsAsDue};
 ghost use Rattle.fj_units.specs.Units.{connected_of};
 ghost use Rattle.fj_closing.specs.Losing.{is_memory, may_tell, may_want};
 ghost use Rattle.fj_closing.specs.Remains.{AreOfDesks};
+ghost use Rattle.fj_closing.specs.Finding.{IsEndedUpTo, IsFound, IsFoundOf, OfEach, AreSpared};
 ghost use Rattle.fj_closing.specs.Closing.{Lessens, IsBack, AreBack, IsKept, AreAsDue, AreOthersSame, names_left, AreSeated, AreNamed, IfClear, may_lack, SomeMayLack};
 ghost use Rattle.fj_closing.specs.Fitting.{CountsStop, HasItsOwn, HaveTheirOwn, AreOwned, AreGone};
 ghost use Rattle.fj_closing.specs.declared.remains.Remains.{Remains as Remaining};
@@ -33,6 +34,7 @@ fn end_open<F: FileStore>(connection: &mut Connection<F>, stop: Option<Stop>) ->
         (connection_of F.bytes connection.new ≡ ended (connection_of F.bytes connection.old)) }
     ensures running { OnOk result (stop ≡ None) }
     ensures stopped { IfErr result (λ e. IfSome stop (λ s. e ≡ s)) }
+    ensures until { F.told connection.old.file ≡ true → IsEndedUpTo stop (connection_of F.bytes connection.old) (F.bytes connection.new.file) }
     ensures name { connection.new.name ≡ connection.old.name }
     ensures failed { result ≡ Err Stop.Failed → CountsStop (F.count connection.old.file) stop → F.count connection.new.file ≢ 0 }
 {
@@ -57,6 +59,7 @@ fn give_back<D: Disk>(
         (files_of (D.held disk.new) ≡ returned connection.name (D.File.bytes connection.file) keep (files_of (D.held disk.old))) }
     ensures due { D.tells disk.old → (name : List ℕ) → IsAsDue (D.refusals disk.old) (D.refusals disk.new) (files_of (D.held disk.new) name)
         (returned connection.name (D.File.bytes connection.file) keep (files_of (D.held disk.old)) name) }
+    ensures found { D.tells disk.old → IsFound keep (files_of (D.held disk.new) connection.name) (λ bytes. bytes ≡ D.File.bytes connection.file) }
     ensures count { D.tells disk.old → set.contains (D.held disk.new).hurt connection.name ≡ not (D.File.count connection.file == 0) }
     ensures others { D.tells disk.old → (name : List ℕ) → name ≢ connection.name → SameAt (D.held disk.old) (D.held disk.new) name }
     ensures own { D.tells disk.old → D.refusals disk.old ≤ D.refusals disk.new }
@@ -85,6 +88,8 @@ fn close<D: Disk>(
     ensures due { D.tells disk.old → may_tell result ≡ true → set.contains (D.held disk.new).hurt connection.name ≡ false
         → (stop ≡ None) × (D.File.told connection.file ≡ true → (name : List ℕ) → IsAsDue (D.refusals disk.old) (D.refusals disk.new) (files_of (D.held disk.new) name)
         (left (connection_of D.File.bytes connection) keep (files_of (D.held disk.old)) name)) }
+    ensures found { D.tells disk.old → may_tell result ≡ true → D.File.told connection.file ≡ true
+        → IsFound keep (files_of (D.held disk.new) connection.name) (IsEndedUpTo stop (connection_of D.File.bytes connection)) }
     ensures others { D.tells disk.old → (name : List ℕ) → name ≢ connection.name → SameAt (D.held disk.old) (D.held disk.new) name }
     ensures same { D.tells disk.old → AreOthersSame names.old names.new (D.held disk.old) (D.held disk.new) }
     ensures own { D.tells disk.old → D.refusals disk.old ≤ D.refusals disk.new }
@@ -129,6 +134,9 @@ fn close_unit<D: Disk>(
         → AreAsDue (D.refusals disk.old) (D.refusals disk.new) names.new (D.held disk.new) (left_by d.bay.connection (files_of (D.held disk.old))) }
     ensures running { D.tells disk.old → may_tell result ≡ true → (was : List (Remaining D.File)) → Both (IsKept names.old) was all.old.items
         → set.contains (D.held disk.new).hurt unit.now.name ≡ false → (it : Remaining D.File) × (slice_get was unit.now.slot ≡ Some it) × (it.stop ≡ None) }
+    ensures found { D.tells disk.old → may_tell result ≡ true → (was : List (Remaining D.File)) → Both (IsKept names.old) was all.old.items
+        → (it : Remaining D.File) × (slice_get was unit.now.slot ≡ Some it) × IsFoundOf D.File.told D.File.bytes it unit.now.name (files_of (D.held disk.new) unit.now.name) }
+    ensures spared { D.tells disk.old → may_tell result ≡ true → (name : List ℕ) → name ≢ unit.now.name → SameAt (D.held disk.old) (D.held disk.new) name }
     ensures back { may_tell result ≡ true → stands names.new unit.now.name ≡ false }
     ensures same { D.tells disk.old → AreOthersSame names.old names.new (D.held disk.old) (D.held disk.new) }
     ensures own { D.tells disk.old → D.refusals disk.old ≤ D.refusals disk.new }
@@ -183,6 +191,9 @@ fn close_each<D: Disk>(
         → AreAsDue (D.refusals disk.old) (D.refusals disk.new) names.new (D.held disk.new) (all_left desks (map connected_of units.now) (files_of (D.held disk.old))) }
     ensures running { D.tells disk.old → may_tell result ≡ true → (was : List (Remaining D.File)) → Both (IsKept names.old) was all.old.items
         → IfClear (D.held disk.new) (map connected_of units.now) was (λ it. it.stop ≡ None) }
+    ensures found { D.tells disk.old → may_tell result ≡ true → (was : List (Remaining D.File)) → Both (IsKept names.old) was all.old.items
+        → OfEach (map connected_of units.now) was (λ u it. IsFoundOf D.File.told D.File.bytes it u.name (files_of (D.held disk.new) u.name)) }
+    ensures spared { D.tells disk.old → may_tell result ≡ true → AreSpared (map connected_of units.now) (D.held disk.old) (D.held disk.new) }
     ensures same { D.tells disk.old → AreOthersSame names.old names.new (D.held disk.old) (D.held disk.new) }
     ensures own { D.tells disk.old → D.refusals disk.old ≤ D.refusals disk.new }
 
@@ -277,6 +288,9 @@ pub fn close_units<D: Disk>(
         → AreSeated desks units.now → AreNamed desks units.now
         → AreAsDue (D.refusals disk.old) (D.refusals disk.new) names.new (D.held disk.new) (all_left desks units.now (files_of (D.held disk.old))) }
     ensures running { D.tells disk.old → may_tell result ≡ true → IfClear (D.held disk.new) units.now all.items (λ it. it.stop ≡ None) }
+    ensures found { D.tells disk.old → may_tell result ≡ true
+        → OfEach units.now all.items (λ u it. IsFoundOf D.File.told D.File.bytes it u.name (files_of (D.held disk.new) u.name)) }
+    ensures spared { D.tells disk.old → may_tell result ≡ true → AreSpared units.now (D.held disk.old) (D.held disk.new) }
     ensures same { D.tells disk.old → AreOthersSame names.old names.new (D.held disk.old) (D.held disk.new) }
     ensures own { D.tells disk.old → D.refusals disk.old ≤ D.refusals disk.new }
 

@@ -2,6 +2,9 @@
 ghost use Rattle.std.specs.Prelude.{◌≡◌, ◌≢◌, ◌↔◌, ◌≤◌, [], true, List, None, length, vec_capacity, Err, OnOk};
 ghost use Rattle.fj_outside.specs.Faults.{Rose};
 ghost use Rattle.fj_world.specs.Alone.{AllHome};
+ghost use Rattle.fj_slot.specs.Sound.{IsSound};
+ghost use Rattle.fj_bay.specs.Bay.{Bay as PlainBay};
+ghost use Rattle.fj_bay.specs.Jobs.{Job as PlainJob};
 ghost use Rattle.fj_bay.specs.Meaning.{bay_meaning};
 ghost use Rattle.fj_desk.specs.Both.{Both};
 ghost use Rattle.fj_desk.specs.Desks.{Desk};
@@ -11,6 +14,7 @@ ghost use Rattle.fj_units.specs.Names.{AreInUse};
 ghost use Rattle.fj_units.specs.Files.{files_of};
 ghost use Rattle.fj_closing.specs.Losing.{may_tell};
 ghost use Rattle.fj_closing.specs.Fitting.{HaveTheirOwn, AreOwned};
+ghost use Rattle.fj_closing.specs.Finding.{IsLeftBehind, OfEach, AreSpared};
 ghost use Rattle.fj_closing.specs.Remains.{IsWhatRemains};
 ghost use Rattle.fj_closing.specs.declared.remains.Remains.{Remains as Remaining};
 ghost use Rattle.fj_closing.specs.Closing.{AreAsDue, AreOthersSame, names_left, AreSeated, AreNamed, IfClear, OthersRun, IsFinished};
@@ -45,6 +49,9 @@ pub fn finish<D: Disk>(
         → AreAsDue (D.refusals disk.old) (D.refusals disk.new) names.new (D.held disk.new) (all_left desks units.now (files_of (D.held disk.old))) }
     ensures running { D.tells disk.old → may_tell result ≡ true → IfClear (D.held disk.new) units.now slots.slots (λ l. l.halt ≡ None) }
     ensures others { may_tell result ≡ true → (desks : List Desk) → HoldsDesks (bay_meaning D.File.told D.File.bytes D.File.count) slots desks → OthersRun units.now slots.slots desks }
+    ensures found { D.tells disk.old → may_tell result ≡ true → OfEach units.now slots.slots (λ u l. (s : PlainBay) (ts : List PlainJob)
+        → IsSound (bay_meaning D.File.told D.File.bytes D.File.count) s ts l → IsLeftBehind l s ts u.name (files_of (D.held disk.new) u.name)) }
+    ensures spared { D.tells disk.old → may_tell result ≡ true → AreSpared units.now (D.held disk.old) (D.held disk.new) }
     ensures same { D.tells disk.old → AreOthersSame names.old names.new (D.held disk.old) (D.held disk.new) }
     ensures own { D.tells disk.old → D.refusals disk.old ≤ D.refusals disk.new }
 

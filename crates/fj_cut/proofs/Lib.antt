@@ -6,8 +6,12 @@ pub mod Housed
 pub mod Detached
 pub mod EachKind
 pub mod Deck
+pub mod Keeping
 pub mod Stops
 pub mod Connecting
 pub mod Turns
 pub mod Seats
 pub mod Awaited
+pub mod Submitted
+pub mod Rests
+pub mod Given

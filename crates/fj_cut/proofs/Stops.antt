@@ -16,7 +16,9 @@ use Rattle.fj_desk.proofs.Forgetting.{results_same}
 use Rattle.fj_desk.proofs.Seen.{Seen}
 use Rattle.fj_turns.specs.Standing.{Waits, AwaitsJob}
 use Rattle.fj_turns.proofs.Meant.{CutTied, cut_of_deck}
-use Rattle.fj_cut.specs.Others.{Names, names_of, names_in, opens_on, file_opened, left_now, has_file, AreHoused, StopsLeaveOthers, CutRunsLeaveOthers}
+use Rattle.fj_modes.specs.declared.unit.Motion.TheVariants as motion
+use Rattle.fj_cut.specs.Others.{Names, names_of, names_in, opens_on, file_opened, file_about, file_renewed, has_name, core_now, left_now, has_file, AreHoused, StopsLeaveOthers, CutRunsLeaveOthers}
+use Rattle.fj_cut.proofs.Keeping.{has_before, has_behind}
 use Rattle.fj_cut.proofs.Deck.{others_stay, units_keep_desks, housed_before}
 
 -- ---- the same names
@@ -38,6 +40,10 @@ numbered_same : (names others : Names) (spec : OpenSpec) (number : Option ℕ) �
 numbered_same names others spec None h = refl
 numbered_same names others spec (Some n) h = ap (λ o. opens_on o spec n) (h n)
 
+pub numbered_alike : (names others : Names) (number : Option ℕ) → ((n : ℕ) → names n ≡ others n) → option_and_then names number ≡ option_and_then others number
+numbered_alike names others None h = refl
+numbered_alike names others (Some n) h = h n
+
 pub opened_same : (names others : Names) (st : Statement) → ((n : ℕ) → names n ≡ others n) → file_opened names st ≡ file_opened others st
 opened_same names others (statement.Assign to from) h = refl
 opened_same names others (statement.OpenUnit u spec iostat) h = numbered_same names others spec (number_of u) h
@@ -47,6 +53,33 @@ opened_same names others (statement.Move how u iostat) h = refl
 opened_same names others (statement.Inquire subject asked id iostat) h = refl
 opened_same names others (statement.Transfer t) h = refl
 opened_same names others statement.End h = refl
+
+pub about_same : (names others : Names) (st : Statement) → ((n : ℕ) → names n ≡ others n) → file_about names st ≡ file_about others st
+about_same names others (statement.Assign to from) h = refl
+about_same names others (statement.OpenUnit u spec iostat) h = opened_same names others (statement.OpenUnit u spec iostat) h
+about_same names others (statement.CloseUnit u None iostat) h = refl
+about_same names others (statement.CloseUnit u (Some true) iostat) h = refl
+about_same names others (statement.CloseUnit u (Some false) iostat) h = numbered_alike names others (number_of u) h
+about_same names others (statement.WaitFor u id iostat) h = refl
+about_same names others (statement.Move motion.Endfile u iostat) h = numbered_alike names others (number_of u) h
+about_same names others (statement.Move motion.Backspace u iostat) h = refl
+about_same names others (statement.Move motion.Rewind u iostat) h = refl
+about_same names others (statement.Move motion.Flush u iostat) h = refl
+about_same names others (statement.Inquire subject asked id iostat) h = refl
+about_same names others (statement.Transfer t) h = numbered_alike names others (number_of t.unit) h
+about_same names others statement.End h = refl
+
+pub renewed_same : (names others : Names) (st : Statement) → ((n : ℕ) → names n ≡ others n) → file_renewed names st ≡ file_renewed others st
+renewed_same names others (statement.Assign to from) h = refl
+renewed_same names others (statement.OpenUnit u spec iostat) h = opened_same names others (statement.OpenUnit u spec iostat) h
+renewed_same names others (statement.CloseUnit u None iostat) h = refl
+renewed_same names others (statement.CloseUnit u (Some true) iostat) h = refl
+renewed_same names others (statement.CloseUnit u (Some false) iostat) h = numbered_alike names others (number_of u) h
+renewed_same names others (statement.WaitFor u id iostat) h = refl
+renewed_same names others (statement.Move how u iostat) h = refl
+renewed_same names others (statement.Inquire subject asked id iostat) h = refl
+renewed_same names others (statement.Transfer t) h = refl
+renewed_same names others statement.End h = refl
 
 -- closing all units leaves the same files
 pub closed_same : (p : Desked) (s : State) → Same p s → left_now p.desks p.core ≡ (all_closed s).files
@@ -61,10 +94,22 @@ stops_leave_others variables deck files slot run desks stop = record {
   others = λ name free opened. by name free (λ e. opened (sym (opened_same (names_of stop.before.core.units) (names_in it.state.units) stop.statement.0.what (names_same stop.before.desks stop.before.core.units it.state.units it.tied.same.units)) ∙ e))
       ∙ ap (λ (f : Files). f name) (closed_same stop.before it.state it.tied.same);
   units = elim stop.learnt [ inl w ↦ as_before w | inr a ↦ after_job a ];
+  keeps = λ name about new. has_unit name (about_same (names_of stop.before.core.units) (names_in it.state.units) stop.statement.0.what names ∙ about)
+      (λ e. new (sym (renewed_same (names_of stop.before.core.units) (names_in it.state.units) stop.statement.0.what names) ∙ e));
 }
   where
     it : CutTied variables deck stop.index (start variables files) stop.statement stop.before
     it = cut_of_deck variables deck files stop.index stop.statement stop.before stop.reached
+
+    names : (n : ℕ) → names_of stop.before.core.units n ≡ names_in it.state.units n
+    names = names_same stop.before.desks stop.before.core.units it.state.units it.tied.same.units
+
+    has_unit : (name : List ℕ) → file_about (names_of stop.before.core.units) stop.statement.0.what ≡ Some name → file_renewed (names_of stop.before.core.units) stop.statement.0.what ≢ Some name
+        → has_name run.core.units name ≡ true
+    has_unit name about new = elim stop.learnt [
+      | inl w ↦ ap (λ (c : Core). has_name c.units name) w.core ∙ has_before variables stop.statement stop.before name about new
+      | inr a ↦ sym (ap (λ d. has_name (core_now d).units name) a.awaited) ∙ has_behind variables stop.statement stop.before a.jobs name about new
+    ]
 
     waits : (name : List ℕ) → Waits stop.statement stop.before slot run desks → left_now desks run.core name ≡ left_now stop.before.desks stop.before.core name
     waits name w = ap (λ ds. left_now ds run.core name) w.desks_are ∙ ap (λ c. left_now stop.before.desks c name) w.core

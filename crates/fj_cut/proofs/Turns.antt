@@ -1,17 +1,12 @@
 -- The turns of a runner: what each does is what the statement does behind so many of its jobs.
-use Rattle.std.proofs.Common.{◌≡◌, ◌⊎◌, ℕ, true, false, List, [], Option, Some, None, is_some, refl, sym, ap, ◌∙◌, subst, inl, inr}
-use Rattle.std.specs.Prelude.{option_and_then}
-use Rattle.fj_modes.specs.declared.unit.Motion.TheVariants as motion
+use Rattle.std.proofs.Common.{◌≡◌, ◌⊎◌, ℕ, true, false, List, [], Some, None, is_some, refl, sym, ap, ◌∙◌, subst, inl, inr}
 use Rattle.fj_statement.specs.declared.deck.Variable.{Variable}
-use Rattle.fj_statement.specs.declared.statement.Statement.{Statement}
-use Rattle.fj_statement.specs.declared.statement.Statement.TheVariants as statement
 use Rattle.fj_slot.specs.Serving.{Meaning}
 use Rattle.fj_world.specs.Losing.{before_ask}
 use Rattle.fj_world.specs.Plain.{PlainSlot, after}
 use Rattle.fj_world.specs.Conduct.{Conduct}
 use Rattle.fj_bay.specs.Bay.{Bay}
 use Rattle.fj_bay.specs.Jobs.{Job, Answer, attach}
-use Rattle.fj_plain.specs.Needs.{number_of}
 use Rattle.fj_plain.specs.State.{Files, start}
 use Rattle.fj_plain.specs.Statement.{Stated}
 use Rattle.fj_desk.specs.Desks.{Desk}
@@ -30,32 +25,12 @@ use Rattle.fj_turns.proofs.Reaching.{waited_is}
 use Rattle.fj_turns.proofs.Slots.{same_some}
 use Rattle.fj_turns.proofs.Stages.{AtStage}
 use Rattle.fj_turns.proofs.Ties.{Ties}
-use Rattle.fj_cut.specs.Others.{Names, names_of, names_in, file_opened, file_about, core_now, left_now, AreHoused}
+use Rattle.fj_cut.specs.Others.{names_of, names_in, file_opened, has_name, core_now, left_now, AreHoused}
 use Rattle.fj_cut.specs.Turning.{TurnsDo, doing_at, doing_due, turn_doing, TurnLeavesOthers, EachTurn, TurnsLeaveOthers}
 use Rattle.fj_cut.proofs.Connecting.{connects_at_point, told_connects, connects_one, opened_about}
 use Rattle.fj_cut.proofs.Deck.{others_stay, units_keep_desks}
-use Rattle.fj_cut.proofs.Stops.{names_same, opened_same, closed_same}
-
--- ---- the same file by the same names
-
-numbered_alike : (names others : Names) (number : Option ℕ) → ((n : ℕ) → names n ≡ others n) → option_and_then names number ≡ option_and_then others number
-numbered_alike names others None h = refl
-numbered_alike names others (Some n) h = h n
-
-about_same : (names others : Names) (st : Statement) → ((n : ℕ) → names n ≡ others n) → file_about names st ≡ file_about others st
-about_same names others (statement.Assign to from) h = refl
-about_same names others (statement.OpenUnit u spec iostat) h = opened_same names others (statement.OpenUnit u spec iostat) h
-about_same names others (statement.CloseUnit u None iostat) h = refl
-about_same names others (statement.CloseUnit u (Some true) iostat) h = refl
-about_same names others (statement.CloseUnit u (Some false) iostat) h = numbered_alike names others (number_of u) h
-about_same names others (statement.WaitFor u id iostat) h = refl
-about_same names others (statement.Move motion.Endfile u iostat) h = numbered_alike names others (number_of u) h
-about_same names others (statement.Move motion.Backspace u iostat) h = refl
-about_same names others (statement.Move motion.Rewind u iostat) h = refl
-about_same names others (statement.Move motion.Flush u iostat) h = refl
-about_same names others (statement.Inquire subject asked id iostat) h = refl
-about_same names others (statement.Transfer t) h = numbered_alike names others (number_of t.unit) h
-about_same names others statement.End h = refl
+use Rattle.fj_cut.proofs.Keeping.{has_behind}
+use Rattle.fj_cut.proofs.Stops.{names_same, about_same, renewed_same, closed_same}
 
 -- ---- behind so many jobs
 
@@ -96,6 +71,11 @@ module _ {E J A : Type 0} (m : Meaning E J A Bay Job Answer) where
         ∙ (others_stay variables deck files x.index x.statement x.before at.0 name x.reached).inside
         (λ q. about (sym (about_same (names_of x.before.core.units) (names_in it.state.units) x.statement.0.what (names_same x.before.desks x.before.core.units it.state.units it.tied.same.units)) ∙ q))
         ∙ ap (λ (f : Files). f name) (closed_same x.before it.state it.tied.same);
+    keeps = λ known d e name about new. let at = behind known d e in
+        let names = names_same x.before.desks x.before.core.units it.state.units it.tied.same.units in
+        ap (λ (z : List Desk × Doing). has_name (core_now z.1).units name) (sym at.1)
+        ∙ has_behind variables x.statement x.before at.0 name (about_same (names_of x.before.core.units) (names_in it.state.units) x.statement.0.what names ∙ about)
+        (λ q. new (sym (renewed_same (names_of x.before.core.units) (names_in it.state.units) x.statement.0.what names) ∙ q));
     connects = λ known slot c core next e. let at = behind known (awaits slot (attach (Some c)) core next) e in
         let opens = connects_at_point (Opens x) at.0 x.before.desks (does variables x.statement x.before) (told_connects (Opens x) variables x.statement (waited_at x.statement x.before) x.before.core (λ name q. q)) in
         sym (about_same (names_of x.before.core.units) (names_in it.state.units) x.statement.0.what (names_same x.before.desks x.before.core.units it.state.units it.tied.same.units))

@@ -1,6 +1,6 @@
 -- The one file that a statement is about: each other file is, inside the statement and behind it, as closing all units just before it
 -- leaves it (ISO/IEC 1539-1:2004, 9.4.5, 9.4.6, 9.5, 9.7).
-use Rattle.std.specs.Prelude.{◌≡◌, ◌≢◌, ℕ, ◌==◌, ◌&&◌, Bool, false, List, [], ◌∷◌, Option, Some, None, IfSome, IsSome, slice_get, option_map, option_and_then, if◌then◌else◌}
+use Rattle.std.specs.Prelude.{◌≡◌, ◌≢◌, ℕ, ◌==◌, ◌&&◌, Bool, true, false, List, [], ◌∷◌, Option, Some, None, IfSome, IsSome, slice_get, option_map, option_and_then, if◌then◌else◌}
 use Rattle.std.specs.List.{list_any}
 use Rattle.std.specs.Str.{bytes_eq}
 use Rattle.fj_modes.specs.declared.specifiers.OpenSpec.{OpenSpec}
@@ -57,6 +57,12 @@ file_about names (statement.Move motion.Endfile u iostat) = option_and_then name
 file_about names (statement.Transfer t) = option_and_then names (number_of t.unit)
 file_about names _ = None
 
+-- the file that the statement opens or removes
+abbrev pub file_renewed : Names → Statement → Option (List ℕ)
+file_renewed names (statement.OpenUnit u spec iostat) = file_opened names (statement.OpenUnit u spec iostat)
+file_renewed names (statement.CloseUnit u (Some false) iostat) = option_and_then names (number_of u)
+file_renewed names _ = None
+
 -- ---- inside a statement
 
 -- the core at this point
@@ -80,6 +86,10 @@ AreHoused desks (u ∷ us) = IsHoused desks u × AreHoused desks us
 -- a unit at that slot has the file
 abbrev pub has_file : List Connected → ℕ → List ℕ → Bool
 has_file units slot name = list_any (λ (u : Connected). (u.slot == slot) && bytes_eq name u.name) units
+
+-- a unit has the file
+abbrev pub has_name : List Connected → List ℕ → Bool
+has_name units name = list_any (λ (u : Connected). bytes_eq name u.name) units
 
 -- A file of that name, where the statement gave so many jobs. As far as the statement is not about it, it is as before. Where the
 -- statement waits for a job, nothing else of it has changed the file yet, unless it opens that; nor has the job itself, unless the
@@ -121,6 +131,8 @@ pub record LeavesOthers (variables : List Variable) (deck : List Stated) (files 
   pub others : (name : List ℕ) → has_file run.core.units slot name ≡ false → file_opened (names_in state.units) statement.0.what ≢ Some name →
       left_now desks run.core name ≡ (all_closed state).files name
   pub units : AreHoused desks run.core.units
+  -- a file that the statement is about, and neither opens nor removes, has its unit
+  pub keeps : (name : List ℕ) → file_about (names_in state.units) statement.0.what ≡ Some name → file_renewed (names_in state.units) statement.0.what ≢ Some name → has_name run.core.units name ≡ true
 
 abbrev pub StopsLeaveOthers : Type 0
 StopsLeaveOthers = (variables : List Variable) (deck : List Stated) (files : Files) (slot : ℕ) (run : Run) (desks : List Desk) →

@@ -1,5 +1,5 @@
 -- The turn of a statement, in which a call on the disk may fail: what it does, and what closing all units then leaves of the other files.
-use Rattle.std.specs.Prelude.{◌≡◌, ◌≢◌, ◌⊎◌, ℕ, List, [], ◌∷◌, drop, Option, Some, None}
+use Rattle.std.specs.Prelude.{◌≡◌, ◌≢◌, ◌⊎◌, ℕ, true, List, [], ◌∷◌, drop, Option, Some, None}
 use Rattle.fj_connect.specs.Connection.{Connection}
 use Rattle.fj_statement.specs.declared.deck.Variable.{Variable}
 use Rattle.fj_slot.specs.Serving.{Meaning}
@@ -16,7 +16,7 @@ use Rattle.fj_turns.specs.Turns.{turn, turn_act, rule_of, doing_told, waited_now
 use Rattle.fj_turns.specs.Serving.{over_bays, Shows, run_conduct, desks_of, first_run, fresh_slots}
 use Rattle.fj_turns.specs.Passing.{passes, KnowsAnswers}
 use Rattle.fj_turns.specs.Laws.{plain_bays, Seen, shown}
-use Rattle.fj_cut.specs.Others.{names_in, file_about, core_now, left_now, AreHoused}
+use Rattle.fj_cut.specs.Others.{names_in, file_about, file_renewed, has_name, core_now, left_now, AreHoused}
 
 -- what the turn of the statement does, once the answers that it needs are known; nothing, where it waits for its own job
 abbrev pub doing_at : Stated → Stage → Run → Option Doing
@@ -50,6 +50,9 @@ pub record TurnLeavesOthers (variables : List Variable) (deck : List Stated) (fi
   pub units : KnowsAnswers run → (d : Doing) → turn_doing run ≡ Some d → AreHoused desks (core_now d).units
   pub others : KnowsAnswers run → (d : Doing) → turn_doing run ≡ Some d → (name : List ℕ) → file_about (names_in state.units) statement.0.what ≢ Some name →
       left_now desks (core_now d) name ≡ (all_closed state).files name
+  -- one that the statement is about, and neither opens nor removes, has its unit
+  pub keeps : KnowsAnswers run → (d : Doing) → turn_doing run ≡ Some d → (name : List ℕ) → file_about (names_in state.units) statement.0.what ≡ Some name
+      → file_renewed (names_in state.units) statement.0.what ≢ Some name → has_name (core_now d).units name ≡ true
   -- a file that it waits to connect is the one that the statement opens
   pub connects : KnowsAnswers run → (slot : ℕ) (c : Connection) (core : Core) (next : Outcome → Doing) → turn_doing run ≡ Some (awaits slot (attach (Some c)) core next) →
       file_about (names_in state.units) statement.0.what ≡ Some c.name

@@ -1,5 +1,6 @@
 // What holds of every deck that is cut, as contracts of functions with nothing to do.
 ghost use Rattle.fj_cut.specs.Others.{OthersStay, UnitsKeepDesks, StopsLeaveOthers, CutRunsLeaveOthers};
+ghost use Rattle.fj_cut.specs.Stopping.{StopsAreGiven, TurnsAreGiven, EndsAreGiven};
 ghost use Rattle.fj_cut.specs.Turning.{TurnsDo, TurnsLeaveOthers};
 ghost use Rattle.fj_cut.specs.Awaiting.{StopsAreAwaited};
 
@@ -36,4 +37,19 @@ pub fn turns_leave_others()
 /// Where a stop was told, its slot is that of a unit at which the statement waits, or no unit is there.
 pub fn stops_are_awaited()
     ensures { StopsAreAwaited }
+{}
+
+/// Where an answer is awaited each job of each slot was given by a statement not behind the one at hand.
+pub fn stops_are_given()
+    ensures { StopsAreGiven }
+{}
+
+/// So it is in each turn of a runner.
+pub fn turns_are_given()
+    ensures { TurnsAreGiven }
+{}
+
+/// And where the deck ended.
+pub fn ends_are_given()
+    ensures { EndsAreGiven }
 {}

@@ -11,10 +11,15 @@ use Rattle.fj_world.specs.Alone.{ServedAlone}
 use Rattle.fj_world.specs.Rack.{Rack}
 use Rattle.fj_turns.specs.Run.{Run}
 use Rattle.fj_turns.specs.Serving.{over_bays, Shows, run_conduct, begins}
+use Rattle.fj_world.specs.Losing.{SlotsHold}
+use Rattle.fj_turns.specs.Cutting.{stands}
+use Rattle.fj_turns.proofs.Finishing.{asks_no_more}
 use Rattle.fj_turns.proofs.Meant.{leaves_result}
+use Rattle.fj_cut.proofs.Given.{each_end_given}
 use Rattle.fj_runner.specs.Machine.{run_of}
 use Rattle.fj_runner.specs.declared.machine.Machine.{Machine}
 use Rattle.fj_job.specs.Carrying.{HasRun}
+use Rattle.fj_job.proofs.Giving.{given_at}
 
 -- what is shown where a disk tells
 shown : (b : Bool) (o : Option Run) (r : Run) → cond b o None ≡ Some r → o ≡ Some r
@@ -36,4 +41,9 @@ has_run meaning s told bytes deck files left m rack script b alone going state =
       run = _;
       is = shown b (run_of told bytes left m) _ (sym state ∙ known);
       leaves = leaves_result meaning s deck.variables (stated deck.statements) files script rack _ alone going known;
+      given = λ some.
+          let w = each_end_given meaning s deck.variables (stated deck.statements) files alone.entries (asks_no_more (over_bays meaning) (run_conduct s) _ (alone.fits.script going).1) some in
+          let slots : SlotsHold (over_bays meaning) (stands meaning s deck.variables (stated deck.statements) files alone.entries).slots rack =
+          record { same = alone.fits.same_slots; each = λ at q l a b. (alone.fits.slots at q l a b).sound } in
+          record { index = w.index; rest = w.rest; within = w.within; given = given_at meaning rack deck.variables (stated deck.statements) files _ _ slots w w.index w.rest w.within };
     }

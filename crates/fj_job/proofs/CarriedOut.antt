@@ -55,10 +55,10 @@ module _ {W D F : Type 0} (tells_out : W → Type 0) (taken : W → List ℕ) (c
             (leaves.output w (elim s [ inl e ↦ inl (settled.nothing e) | inr e ↦ settled.alone e ])) (ap (λ k. k.output) settled.core);
         at_fault = λ t e. subst (λ (d : Deck). IsLeftAt d (files_of (held disk)) it.left (held disk'') (refusals disk) (refusals disk'')) same
             (left_at meaning rack' (held disk') (held disk'') (refusals disk) (refusals disk') (refusals disk'') (tells_out out) (taken out) (taken out') m.deck (files_of (held disk)) m' it.left (there t)
-            settled.at (leaves.own t) (settled.own (leaves.telling.0 t)) (settled.due (leaves.telling.0 t) (ap may_tell e)) (settled.running (leaves.telling.0 t) (ap may_tell e)) (settled.others (ap may_tell e)) (settled.alone e) settled.core);
+            settled.at (leaves.own t) (settled.own (leaves.telling.0 t)) (settled.due (leaves.telling.0 t) (ap may_tell e)) (settled.running (leaves.telling.0 t) (ap may_tell e)) (settled.others (ap may_tell e)) (settled.found (leaves.telling.0 t) (ap may_tell e)) (settled.spared (leaves.telling.0 t) (ap may_tell e)) (settled.alone e) settled.core);
         at_write = λ t e. subst (λ (d : Deck). IsLeftBegun d (files_of (held disk)) it.left (tells_out out) (taken out) (taken out') (held disk'') (refusals disk) (refusals disk'')) same
             (left_begun meaning rack' (held disk') (held disk'') (refusals disk) (refusals disk') (refusals disk'') (tells_out out) (taken out) (taken out') m.deck (files_of (held disk)) m' it.left (there t)
-            settled.at (leaves.own t) (settled.own (leaves.telling.0 t)) (settled.due (leaves.telling.0 t) (ap may_tell e)) (settled.running (leaves.telling.0 t) (ap may_tell e)) (settled.others (ap may_tell e)) (settled.sink e));
+            settled.at (leaves.own t) (settled.own (leaves.telling.0 t)) (settled.due (leaves.telling.0 t) (ap may_tell e)) (settled.running (leaves.telling.0 t) (ap may_tell e)) (settled.others (ap may_tell e)) (settled.found (leaves.telling.0 t) (ap may_tell e)) (settled.spared (leaves.telling.0 t) (ap may_tell e)) (settled.sink e));
         at_end = λ t s going ending ends. subst (λ (d : Deck). (x : IsLeftAt d (files_of (held disk)) it.left (held disk'') (refusals disk) (refusals disk'')) × (x.reach ≡ At)) same
             (left_end m.deck (files_of (held disk)) m' it.left (held disk'') (refusals disk) (refusals disk'') (ended t (sym settled.over ∙ going) ending (sym settled.ending ∙ ends)) settled.at
             (came meaning told bytes m.deck m.deck (files_of (held disk)) (files_of (held disk')) (files_of (held disk'')) m' rack' it.left

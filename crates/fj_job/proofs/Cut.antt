@@ -14,7 +14,7 @@ use Rattle.fj_plain.specs.Statement.{stated, step}
 use Rattle.fj_plain.specs.Telling.{tell_of}
 use Rattle.fj_desk.specs.Core.{Core}
 use Rattle.fj_desk.specs.Desking.{fresh}
-use Rattle.fj_turns.specs.Run.{Run, Stage}
+use Rattle.fj_turns.specs.Run.{Run}
 use Rattle.fj_turns.specs.Passing.{turn_output, AsksAt, KnowsAnswers}
 use Rattle.fj_turns.specs.Inside.{waited_at}
 use Rattle.fj_turns.specs.Meant.{IsCutOf}
@@ -25,7 +25,7 @@ use Rattle.fj_items.specs.declared.lost.Lost.{Lost}
 use Rattle.fj_items.specs.declared.lost.Lost.TheVariants.{Sink}
 use Rattle.fj_acts.specs.State.{core_of}
 use Rattle.fj_runner.specs.Failing.{FailsCall, FailsAtDisk, HandsThen, OfOutside}
-use Rattle.fj_runner.specs.Machine.{rest_of, run_at, stage_at, run_of}
+use Rattle.fj_runner.specs.Machine.{rest_of}
 use Rattle.fj_runner.specs.declared.machine.Machine.{Machine}
 use Rattle.fj_job.specs.Cut.{Untold, Told, Carried, ComesTo}
 use Rattle.fj_job.specs.Cutting.{IsExact, TookFront, TookBegun, IsCut}
@@ -38,16 +38,6 @@ use Rattle.fj_job.proofs.Learning.{LearnsAt}
 pub shown : (b : Bool) (o : Option Run) (r : Run) → cond b o None ≡ Some r → o ≡ Some r
 shown true o r e = e
 shown false o r e = cc
-
-module _ {F : Type 0} {ghosts : Ghosts F} (told : F → Bool) (bytes : F → List ℕ) (files : Files) (m : Machine F ghosts) where
-  rest_by : (o : Option Stage) (r : Run) → option_map (run_at files m) o ≡ Some r → r.rest ≡ rest_of m
-  rest_by None r e = cc
-  rest_by (Some stage) r e =
-      let same : run_at files m stage ≡ r = ap (λ (o : Option Run). unwrap_or o r) e in
-      ap (λ (x : Run). x.rest) (sym same)
-
-  pub rest_is : (r : Run) → run_of told bytes files m ≡ Some r → r.rest ≡ rest_of m
-  rest_is r e = rest_by (stage_at told bytes files m) r e
 
 pub lost_none : {o : Option Lost} {P : Type 0} → o ≡ None → o ≡ Some Sink → P
 lost_none none some = absurd (let z : None ≡ Some Sink = sym none ∙ some in cc)

@@ -22,9 +22,9 @@ use Rattle.fj_runner.specs.declared.ending.Ending.{Ending as Code}
 use Rattle.fj_runner.specs.declared.machine.Machine.{Machine}
 use Rattle.fj_job.specs.Cut.{Carried, ComesTo}
 use Rattle.fj_job.specs.Cutting.{HoldsFiles, IsExact, EndsHere}
-use Rattle.fj_job.proofs.Cut.{shown, rest_is}
+use Rattle.fj_job.proofs.Cut.{shown}
 use Rattle.fj_job.proofs.CutTexts.{at_hand}
-use Rattle.fj_job.proofs.Executed.{parts}
+use Rattle.fj_job.proofs.Executed.{rest_is, parts}
 
 module _ {F : Type 0} {ghosts : Ghosts F} (deck : Deck) (files : Files) (m : Machine F ghosts) where
   ends_here : (run : Run) → EndsAt deck.variables (stated deck.statements) files run → run.rest ≡ rest_of m → m.deck ≡ deck → EndsHere deck files m
@@ -34,6 +34,7 @@ module _ {F : Type 0} {ghosts : Ghosts F} (deck : Deck) (files : Files) (m : Mac
         comes = comes;
         ends = x.ends;
         at = at_hand deck files comes m.at (ap (λ (d : Deck). drop m.at (stated d.statements)) (sym same) ∙ sym rest ∙ x.rest);
+        place = sym rest ∙ x.rest;
         output = ap (λ (r : Ran). r.state.output) x.executed_is;
         tells = ap (λ (r : Ran). r.state.tells) x.executed_is;
         files_are = ap (λ (r : Ran). (all_closed r.state).files) x.executed_is;

@@ -16,7 +16,7 @@ use Rattle.fj_world.specs.Rack.{Rack}
 use Rattle.fj_world.proofs.Places.{slice_get_in}
 use Rattle.fj_bay.specs.Bay.{Bay}
 use Rattle.fj_bay.specs.Jobs.{Job, Answer}
-use Rattle.fj_plain.specs.State.{Files}
+use Rattle.fj_plain.specs.State.{Files, start}
 use Rattle.fj_plain.specs.Statement.{stated}
 use Rattle.fj_desk.specs.Desking.{fresh}
 use Rattle.fj_turns.specs.Run.{Run}
@@ -25,10 +25,12 @@ use Rattle.fj_turns.specs.Serving.{over_bays, Shows, run_conduct, desk_of, desks
 use Rattle.fj_turns.proofs.Before.{each_asks}
 use Rattle.fj_turns.proofs.Cutting.{cut_at_stop, world_is_cut}
 use Rattle.fj_turns.proofs.Slots.{map_get}
+use Rattle.fj_cut.specs.Stopping.{WereGiven}
 use Rattle.fj_cut.specs.Turning.{TurnLeavesOthers}
 use Rattle.fj_cut.proofs.Awaited.{stops_are_awaited}
 use Rattle.fj_cut.proofs.Stops.{stops_leave_others}
 use Rattle.fj_cut.proofs.Turns.{each_turn}
+use Rattle.fj_cut.proofs.Given.{within_deck, each_stop_given, each_turn_given}
 use Rattle.fj_items.specs.Handing.{whole_records}
 use Rattle.fj_items.specs.declared.lost.Lost.{Lost}
 use Rattle.fj_units.specs.Files.{files_of}
@@ -40,11 +42,12 @@ use Rattle.fj_runner.specs.declared.machine.Machine.{Machine}
 use Rattle.fj_job.specs.Carrying.{HasNotBegun}
 use Rattle.fj_job.specs.Cutting.{IsCut}
 use Rattle.fj_job.proofs.Cut.{shown, rest_is, cut_asking, cut_failing}
-use Rattle.fj_job.proofs.Executed.{parts, nothing_written, all_taken}
+use Rattle.fj_job.proofs.Executed.{parts, nothing_written, all_taken, rest_is}
 use Rattle.fj_job.proofs.Leading.{led_to, leaves_same, leaves_on, rose_earlier}
 use Rattle.fj_job.proofs.Holding.{stop_cause, stop_holds, turn_holds}
-use Rattle.fj_job.proofs.Leaving.{slots_hold}
+use Rattle.fj_job.proofs.Leaving.{slots_hold, within}
 use Rattle.fj_job.proofs.Learning.{LearnsAt, none_left, at_before, learns_before, learns_at, asked_slot}
+use Rattle.fj_job.proofs.Giving.{given_at}
 use Rattle.fj_job.proofs.Passes.{ends_so, some_statement}
 
 -- What a script shows is that of its machine, and what its calls may leave are those of a runner.
@@ -123,7 +126,10 @@ module _ {S W D F : Type 0} {ghosts : Ghosts F} (s : Shows S) (tells_out : W →
               cut_asking meaning rack (held (disk last)) (refusals (disk first)) (refusals (disk last)) (tells_out (out first)) (taken (out first)) (taken (out last)) deck files (machine last) (l.deck ∙ same) x.script left y both.0
               (rest_is told bytes left (machine last) x.script is) (took last l none) none
               (stop_holds meaning rack (held (disk last)) (refusals (disk first)) (refusals (disk last)) deck files (machine last) s x.script both.0 cut
-              (stops_leave_others deck.variables (stated deck.statements) files cut.slot x.script cut.desks cut.stop))
+              (stops_leave_others deck.variables (stated deck.statements) files cut.slot x.script cut.desks cut.stop)
+              (given_at meaning rack deck.variables (stated deck.statements) files x.script x.slots (record { same = alone.fits.same_slots; each = λ at q k a b. (alone.fits.slots at q k a b).sound })
+              (each_stop_given meaning s deck.variables (stated deck.statements) files alone.entries it.slot it.hand) cut.stop.index cut.stop.rest
+              (within_deck deck.variables cut.stop.index (stated deck.statements) (fresh deck.variables files) (cut.stop.statement, cut.stop.before) cut.stop.reached)))
               (stop_cause meaning rack (held (disk last)) (refusals (disk first)) (refusals (disk last)) deck files (machine last) x.script awaited.stop.index awaited.stop.statement it.slot both.0 awaited.stop.rest
               (stops_are_awaited deck.variables (stated deck.statements) files it.slot x.script (desks_of meaning x.slots) awaited.stop) (λ l found. (it.halted slot.0 l slot.1 found).0)
               (λ free. record {
@@ -167,6 +173,7 @@ module _ {S W D F : Type 0} {ghosts : Ghosts F} (s : Shows S) (tells_out : W →
         call : FailsCall (λ lost. (machine gone).tally.lost ≡ Some lost) (tells_out (out before)) (taken (out before)) (taken (out gone)) (held (disk gone)) (refusals (disk before)) (refusals (disk gone)) at (machine before) (machine gone)
         learns : LearnsAt deck.variables (stated deck.statements) (fresh deck.variables files) call.run
         turn : OfOutside (λ lost. (machine gone).tally.lost ≡ Some lost) → TurnLeavesOthers deck.variables (stated deck.statements) files call.run (desks_of meaning slots_then)
+        given : OfOutside (λ lost. (machine gone).tally.lost ≡ Some lost) → WereGiven deck.variables (stated deck.statements) files call.run slots_then
 
       gave_up : (machine gone).tally.stopped ≡ false → GaveUpAt
       gave_up stop =
@@ -183,6 +190,11 @@ module _ {S W D F : Type 0} {ghosts : Ghosts F} (s : Shows S) (tells_out : W →
                         | inl none ↦ absurd (none_left deck.variables (stated deck.statements) (fresh deck.variables files) f.run x none)
                         | inr t ↦ t
                       ];
+                  given = λ d. elim (each_turn_given meaning s deck.variables (stated deck.statements) files w.asks f.count f.run
+                      (at_before meaning s deck.variables (stated deck.statements) files (ends_so deck sound) (some_statement deck sound) w.asks asked).going f.passed) [
+                        | inl none ↦ absurd (none_left deck.variables (stated deck.statements) (fresh deck.variables files) f.run x none)
+                        | inr g ↦ g
+                      ];
                 }
             | inr (hand, state, due) ↦
                 let f = r.gives_up before gone w.call.leads (after (over_bays meaning) (run_conduct s) w.asks (begins meaning s deck.variables (stated deck.statements) files)).script state going over stop in
@@ -191,6 +203,7 @@ module _ {S W D F : Type 0} {ghosts : Ghosts F} (s : Shows S) (tells_out : W →
                   call = f;
                   learns = learns_at meaning s deck.variables (stated deck.statements) files (ends_so deck sound) (some_statement deck sound) w.asks f.count f.run hand f.passed;
                   turn = λ d. absurd (due (r.due before ∙ ap due_of (r.asking before gone w.call.leads going d)));
+                  given = λ d. absurd (due (r.due before ∙ ap due_of (r.asking before gone w.call.leads going d)));
                 }
           ]
 
@@ -202,7 +215,9 @@ module _ {S W D F : Type 0} {ghosts : Ghosts F} (s : Shows S) (tells_out : W →
           ((r.leaves before gone w.call.leads).deck ∙ led.deck ∙ same) (taken (out before)) (machine before) (refusals (disk before)) (refusals (disk gone)) (tells_out (out before)) led.telling_out.0
           (took before led (none_lost (machine before).tally.lost (machine before).tally.over (machine before).tally.lost_over going)) (rose_earlier _ _ _ (led.own on)) g.at g.call g.learns (some_not (machine gone).tally.lost some)
           (λ o. turn_holds meaning rack (held (disk gone)) (refusals (disk first)) (refusals (disk gone)) deck files (machine gone) (refusals (disk before)) (refusals (disk gone)) g.call.run (desks_of meaning slots_then)
-          (led.own on) (omega arith) (g.call.outside o) (g.turn o) (slots_hold meaning slots_then rack w.slots))
+          (led.own on) (omega arith) (g.call.outside o) (g.turn o) (slots_hold meaning slots_then rack w.slots)
+          (given_at meaning rack deck.variables (stated deck.statements) files g.call.run slots_then w.slots (g.given o) (g.turn o).index (g.turn o).rest
+          (within deck.variables (g.turn o).index (stated deck.statements) (start deck.variables files) ((g.turn o).statement, (g.turn o).state) (g.turn o).cut_is)))
 
       all_led : AllLeave first last
       all_led =

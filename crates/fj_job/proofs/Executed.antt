@@ -1,5 +1,5 @@
 -- What a deck that was carried out on slots replies.
-use Rattle.std.proofs.Common.{◌≡◌, ℕ, zero, suc, ◌-◌, Bool, true, false, List, [], ◌∷◌, ◌++◌, length, take, drop, Option, Some, None, IsSome, slice_get, unwrap_or, refl, ap, sym, ◌∙◌, subst, append_assoc, arith}
+use Rattle.std.proofs.Common.{◌≡◌, ℕ, zero, suc, ◌-◌, ◌<◌, Bool, true, false, List, [], ◌∷◌, ◌++◌, length, take, drop, Option, Some, None, IsSome, slice_get, unwrap_or, refl, ap, sym, ◌∙◌, subst, append_assoc, arith}
 use Rattle.std.proofs.Math.Seq.{take-length}
 use Rattle.std.specs.Option.{option_map}
 use Rattle.std.specs.Ordering.{nat_cmp}
@@ -21,6 +21,7 @@ use Rattle.fj_desk.specs.Desking.{all_left}
 use Rattle.fj_desk.specs.Forgetting.{IsSeen, bay_at}
 use Rattle.fj_world.specs.Rack.{Rack}
 use Rattle.fj_turns.specs.Executing.{HoldsDesks}
+use Rattle.fj_cut.specs.Stopping.{HoldsGiven}
 use Rattle.fj_turns.specs.Run.{Run, Stage}
 use Rattle.fj_turns.specs.Serving.{first_run}
 use Rattle.fj_items.specs.Handing.{HandsOver, whole_records, open_record}
@@ -30,12 +31,13 @@ use Rattle.fj_acts.specs.declared.state.Core.{Core as Kept}
 use Rattle.fj_closing.specs.Closing.{AreSeated, AreNamed}
 use Rattle.fj_closing.proofs.Returning.{named}
 use Rattle.fj_report.specs.declared.status.Status.{Status}
-use Rattle.fj_runner.specs.Machine.{run_of, run_at, stage_at, ending_of}
+use Rattle.fj_runner.specs.Machine.{rest_of, run_of, run_at, stage_at, ending_of}
 use Rattle.fj_runner.specs.declared.ending.Ending.{Ending as Code}
 use Rattle.fj_runner.specs.declared.left.Left.{Left}
 use Rattle.fj_runner.specs.declared.machine.Machine.{Machine}
 use Rattle.fj_job.specs.Carrying.{HasRun, HasNotBegun}
 use Rattle.fj_job.proofs.Closed.{IsClosed, outputs_are_closed}
+use Rattle.fj_job.proofs.Leaving.{one_index}
 use Rattle.fj_job.specs.Concluding.{HasEnded, IsReplied, IsResult, run_text}
 use Rattle.fj_job.specs.Making.{HasMade, IsMadeReplied, made_text}
 use Rattle.fj_job.specs.Reply.{open_feed, report_of, made_lines, made_report, no_files, files_in}
@@ -82,6 +84,15 @@ module _ {F : Type 0} {ghosts : Ghosts F} (told : F → Bool) (bytes : F → Lis
   pub parts : (r : Run) → run_of told bytes files m ≡ Some r → (r.core ≡ core_of files m.state.core) × (r.ending ≡ option_map ending_of m.state.ending)
   parts r e = parts_by (stage_at told bytes files m) r e
 
+  rest_by : (o : Option Stage) (r : Run) → option_map (run_at files m) o ≡ Some r → r.rest ≡ rest_of m
+  rest_by None r e = cc
+  rest_by (Some stage) r e =
+      let same : run_at files m stage ≡ r = ap (λ (o : Option Run). unwrap_or o r) e in
+      ap (λ (x : Run). x.rest) (sym same)
+
+  pub rest_is : (r : Run) → run_of told bytes files m ≡ Some r → r.rest ≡ rest_of m
+  rest_is r e = rest_by (stage_at told bytes files m) r e
+
   -- at first nothing was written
   pub nothing_written : HasNotBegun told bytes m → whole_records m.state.core.output ≡ []
   nothing_written b = ap whole_records (ap (λ (c : Core). c.output) (sym (parts (first_run m.deck.variables (stated m.deck.statements) files) (b.run files)).0))
@@ -99,6 +110,14 @@ module _ {E J A F : Type 0} {ghosts : Ghosts F} (meaning : Meaning E J A Bay Job
 
   pub ending_is : p.ending ≡ option_map ending_of m.state.ending
   ending_is = ap (λ (r : Result). r.ending) (sym h.leaves.result) ∙ both.1
+
+  -- each job of the slots was given by a statement not behind the one at hand
+  pub given_until : IsSome (option_map ending_of m.state.ending) → (index : ℕ) → rest_of m ≡ drop index (stated deck.statements) → index < length (stated deck.statements)
+      → HoldsGiven deck.variables (stated deck.statements) files meaning rack index
+  given_until some index place low =
+      let g = h.given (subst IsSome (sym both.1) some) in
+      subst (HoldsGiven deck.variables (stated deck.statements) files meaning rack)
+      (one_index (stated deck.statements) g.index index g.within low (sym g.rest ∙ rest_is told bytes left m h.run h.is ∙ place)) g.given
 
   pub output_is : p.output ≡ m.state.core.output
   output_is = ap (λ (r : Result). r.output) (sym h.leaves.result) ∙ ap (λ (c : Core). c.output) both.0

@@ -17,8 +17,9 @@ use Rattle.fj_turns.specs.Run.{Run}
 use Rattle.fj_turns.specs.Cutting.{IsCutRun}
 use Rattle.fj_turns.specs.Executing.{HoldsDesks}
 use Rattle.fj_turns.specs.Serving.{Shows}
-use Rattle.fj_cut.specs.Others.{names_in, file_about, has_file, core_now, AreHoused, LeavesOthers}
+use Rattle.fj_cut.specs.Others.{names_in, file_about, has_file, core_now, AreHoused, LeavesOthers, file_renewed, has_name}
 use Rattle.fj_cut.specs.Awaiting.{IsFree, StopsAt}
+use Rattle.fj_cut.specs.Stopping.{HoldsGiven}
 use Rattle.fj_cut.specs.Turning.{TurnLeavesOthers}
 use Rattle.fj_cut.proofs.Connecting.{opened_about}
 use Rattle.fj_acts.specs.State.{core_of, core_at}
@@ -29,12 +30,18 @@ use Rattle.fj_runner.specs.Failing.{StandsAt}
 use Rattle.fj_runner.specs.declared.machine.Machine.{Machine}
 use Rattle.fj_job.specs.Cut.{Untold, Told, ComesTo}
 use Rattle.fj_job.specs.Cutting.{IsServed, HoldsFiles, StopsAside, IsCause}
-use Rattle.fj_job.proofs.Leaving.{not_at, due_wider, core_same, next_named, told_files, one_place}
+use Rattle.fj_job.proofs.Leaving.{not_at, due_wider, core_same, next_named, told_files, one_place, within, one_index}
+use Rattle.fj_job.proofs.Giving.{not_left, no_slot, about_or}
 
 module _ {E J A F : Type 0} {ghosts : Ghosts F} (meaning : Meaning E J A Bay Job Answer) (rack : Rack E J A) (held : Holdings) (before now : ℕ) (deck : Deck) (files : Files) (m : Machine F ghosts) where
   abbrev LeavesSo : List Desk → Stated × State → Type 0
   LeavesSo desks at = (name : List ℕ) → IsServed rack m.state.core.units name → file_about (names_in at.1.units) at.0.0.what ≢ Some name
       → IsAsDue before now (all_left desks m.state.core.units (files_of held) name) ((all_closed at.1).files name)
+
+  -- so is a file that no unit has
+  abbrev FreesSo : Stated × State → Type 0
+  FreesSo at = (name : List ℕ) → has_name m.state.core.units name ≡ false → file_renewed (names_in at.1.units) at.0.0.what ≢ Some name
+      → IsAsDue before now (files_of held name) ((all_closed at.1).files name)
 
   -- The execution is cut just before a statement, the one in front of these, in this state; and what the slots' desks leave is as closing all
   -- units in that state leaves it.
@@ -48,6 +55,8 @@ module _ {E J A F : Type 0} {ghosts : Ghosts F} (meaning : Meaning E J A Bay Job
     pub slots : HoldsDesks meaning rack desks
     pub units : AreHoused desks m.state.core.units
     pub others : LeavesSo desks (statement, state)
+    pub freed : FreesSo (statement, state)
+    pub given : HoldsGiven deck.variables (stated deck.statements) files meaning rack index
 
   abbrev CausesSo : Stated × State → Type 0
   CausesSo at = IsCause meaning rack m.state.core.units at.0 at.1 before now
@@ -90,9 +99,15 @@ module _ {E J A F : Type 0} {ghosts : Ghosts F} (meaning : Meaning E J A Bay Job
     desks = h.desks;
     slots = h.slots;
     units = h.units;
-    others = subst (LeavesSo h.desks)
-        (one_place deck.variables (stated deck.statements) (start deck.variables files) h.index comes.index (h.statement, h.state) (comes.statement, comes.before) h.cut_is comes.there (sym h.place ∙ e)) h.others;
+    others = subst (LeavesSo h.desks) place h.others;
+    freed = subst FreesSo place h.freed;
+    given = subst (λ n. HoldsGiven deck.variables (stated deck.statements) files meaning rack n)
+        (one_index (stated deck.statements) h.index comes.index (within deck.variables h.index (stated deck.statements) (start deck.variables files) (h.statement, h.state) h.cut_is)
+        (within deck.variables comes.index (stated deck.statements) (start deck.variables files) (comes.statement, comes.before) comes.there) (sym h.place ∙ e)) h.given;
   }
+    where
+      place : ◌≡◌ {A = Stated × State} (h.statement, h.state) (comes.statement, comes.before)
+      place = one_place deck.variables (stated deck.statements) (start deck.variables files) h.index comes.index (h.statement, h.state) (comes.statement, comes.before) h.cut_is comes.there (sym h.place ∙ e)
 
   -- or the transfers that it waits for were told
   pub holds_told : (comes : ComesTo deck files) → HoldsFiles meaning rack held before now deck files comes Untold m → HoldsFiles meaning rack held before now deck files comes Told m
@@ -102,12 +117,24 @@ module _ {E J A F : Type 0} {ghosts : Ghosts F} (meaning : Meaning E J A Bay Job
     units = h.units;
     others = λ name served about.
         subst (λ (due : Files). IsAsDue before now (all_left h.desks m.state.core.units (files_of held) name) (due name)) (sym (told_files deck.variables comes.statement comes.before)) (h.others name served about);
+    freed = λ name none new.
+        subst (λ (due : Files). IsAsDue before now (files_of held name) (due name)) (sym (told_files deck.variables comes.statement comes.before)) (h.freed name none new);
+    given = h.given;
   }
+
+  -- a file that no unit has is as the others: one that the statement is about has its unit, unless it is opened or removed
+  frees_by : (desks : List Desk) (at : Stated × State) → AreHoused desks m.state.core.units → LeavesSo desks at
+      → ((name : List ℕ) → file_about (names_in at.1.units) at.0.0.what ≡ Some name → file_renewed (names_in at.1.units) at.0.0.what ≢ Some name → has_name m.state.core.units name ≡ true) → FreesSo at
+  frees_by desks at housed others keeps name none new = elim (about_or (file_about (names_in at.1.units) at.0.0.what) name) [
+    | inl about ↦ absurd (let z : true ≡ false = sym (keeps name about new) ∙ none in cc)
+    | inr about ↦ subst (λ (o : Option (List ℕ)). IsAsDue before now o ((all_closed at.1).files name)) (not_left desks m.state.core.units (files_of held) name housed none)
+        (others name (no_slot rack m.state.core.units name none) about)
+  ]
 
   -- where a stop was told
   pub stop_holds : {S : Type 0} (s : Shows S) (run : Run) → run.core ≡ core_of (files_of held) m.state.core → (it : IsCutRun meaning s deck.variables (stated deck.statements) files run rack)
-      → LeavesOthers deck.variables (stated deck.statements) files it.stop.index it.stop.statement it.slot run it.desks → HoldsAt run.rest
-  stop_holds s run core it lo = record {
+      → LeavesOthers deck.variables (stated deck.statements) files it.stop.index it.stop.statement it.slot run it.desks → HoldsGiven deck.variables (stated deck.statements) files meaning rack it.stop.index → HoldsAt run.rest
+  stop_holds s run core it lo given = record {
     index = it.stop.index;
     statement = it.stop.statement;
     state = lo.state;
@@ -115,17 +142,26 @@ module _ {E J A F : Type 0} {ghosts : Ghosts F} (meaning : Meaning E J A Bay Job
     place = it.stop.rest;
     desks = it.desks;
     slots = it.held;
-    units = subst (λ (us : List Connected). AreHoused it.desks us) (ap (λ (c : Core). c.units) core) lo.units;
-    others = λ name served about.
-        let free = not_at rack m.state.core.units name it.slot served (λ l e. (it.halted l e).0) in
-        inl (sym (ap (λ (c : Core). all_left it.desks c.units c.files name) core)
-        ∙ lo.others name (ap (λ (c : Core). has_file c.units it.slot name) core ∙ free) (λ opened. about (opened_about (names_in lo.state.units) it.stop.statement.0.what name opened)));
+    units = housed;
+    others = others;
+    freed = frees_by it.desks (it.stop.statement, lo.state) housed others (λ name about new. sym (ap (λ (c : Core). has_name c.units name) core) ∙ lo.keeps name about new);
+    given = given;
   }
+    where
+      housed : AreHoused it.desks m.state.core.units
+      housed = subst (λ (us : List Connected). AreHoused it.desks us) (ap (λ (c : Core). c.units) core) lo.units
+
+      others : LeavesSo it.desks (it.stop.statement, lo.state)
+      others name served about =
+          let free = not_at rack m.state.core.units name it.slot served (λ l e. (it.halted l e).0) in
+          inl (sym (ap (λ (c : Core). all_left it.desks c.units c.files name) core)
+          ∙ lo.others name (ap (λ (c : Core). has_file c.units it.slot name) core ∙ free) (λ opened. about (opened_about (names_in lo.state.units) it.stop.statement.0.what name opened)))
 
   -- where a call on the outside failed
   pub turn_holds : (early late : ℕ) (run : Run) (desks : List Desk) → before ≤ early → late ≤ now
-      → StandsAt held early late run m → TurnLeavesOthers deck.variables (stated deck.statements) files run desks → HoldsDesks meaning rack desks → HoldsAt run.rest
-  turn_holds early late run desks l k it t slots = record {
+      → StandsAt held early late run m → (t : TurnLeavesOthers deck.variables (stated deck.statements) files run desks) → HoldsDesks meaning rack desks
+      → HoldsGiven deck.variables (stated deck.statements) files meaning rack t.index → HoldsAt run.rest
+  turn_holds early late run desks l k it t slots given = record {
     index = t.index;
     statement = t.statement;
     state = t.state;
@@ -133,18 +169,26 @@ module _ {E J A F : Type 0} {ghosts : Ghosts F} (meaning : Meaning E J A Bay Job
     place = t.rest;
     desks = desks;
     slots = slots;
-    units = subst (λ (us : List Connected). AreHoused desks us) (sym same) (t.units it.known it.does.does it.does.is);
-    others = λ name served about.
-        let due : IsAsDue early late (files_of held name) ((core_at it.does.does).files name) =
-        it.does.stands.files name
-        (λ e. about (next_named it.does.does (file_about (names_in t.state.units) t.statement.0.what) (λ slot c core next d. t.connects it.known slot c core next (it.does.is ∙ ap Some d)) name e)) in
-        let left : all_left desks m.state.core.units (core_at it.does.does).files name ≡ (all_closed t.state).files name =
-        ap (λ (us : List Connected). all_left desks us (core_at it.does.does).files name) same ∙ ap (λ (c : Core). all_left desks (core_now it.does.does).units c.files name) (core_same it.does.does)
-        ∙ t.others it.known it.does.does it.does.is name about in
-        due_wider before early late now (all_left desks m.state.core.units (files_of held) name) ((all_closed t.state).files name) l k
-        (subst (λ (o : Option (List ℕ)). IsAsDue early late (all_left desks m.state.core.units (files_of held) name) o) left
-        (all_due early late desks m.state.core.units (files_of held) (core_at it.does.does).files name due));
+    units = housed;
+    others = others;
+    freed = frees_by desks (t.statement, t.state) housed others (λ name about new. ap (λ (us : List Connected). has_name us name) same ∙ t.keeps it.known it.does.does it.does.is name about new);
+    given = given;
   }
     where
       same : m.state.core.units ≡ (core_now it.does.does).units
       same = it.does.stands.units ∙ ap (λ (c : Core). c.units) (core_same it.does.does)
+
+      housed : AreHoused desks m.state.core.units
+      housed = subst (λ (us : List Connected). AreHoused desks us) (sym same) (t.units it.known it.does.does it.does.is)
+
+      others : LeavesSo desks (t.statement, t.state)
+      others name served about =
+          let due : IsAsDue early late (files_of held name) ((core_at it.does.does).files name) =
+          it.does.stands.files name
+          (λ e. about (next_named it.does.does (file_about (names_in t.state.units) t.statement.0.what) (λ slot c core next d. t.connects it.known slot c core next (it.does.is ∙ ap Some d)) name e)) in
+          let left : all_left desks m.state.core.units (core_at it.does.does).files name ≡ (all_closed t.state).files name =
+          ap (λ (us : List Connected). all_left desks us (core_at it.does.does).files name) same ∙ ap (λ (c : Core). all_left desks (core_now it.does.does).units c.files name) (core_same it.does.does)
+          ∙ t.others it.known it.does.does it.does.is name about in
+          due_wider before early late now (all_left desks m.state.core.units (files_of held) name) ((all_closed t.state).files name) l k
+          (subst (λ (o : Option (List ℕ)). IsAsDue early late (all_left desks m.state.core.units (files_of held) name) o) left
+          (all_due early late desks m.state.core.units (files_of held) (core_at it.does.does).files name due))

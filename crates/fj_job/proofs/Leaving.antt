@@ -128,7 +128,7 @@ length_dropped (suc k) [] = omega arith
 length_dropped (suc k) (x ∷ xs) = length_dropped k xs ∙ omega arith
 
 -- a statement that is come to is one of the deck
-within : (variables : List Variable) (index : ℕ) (deck : List Stated) (s : State) (x : Stated × State) → cut variables index deck s ≡ Some x → index < length deck
+pub within : (variables : List Variable) (index : ℕ) (deck : List Stated) (s : State) (x : Stated × State) → cut variables index deck s ≡ Some x → index < length deck
 within variables index [] s x e = cc
 within variables zero (st ∷ more) s x e = omega arith
 within variables (suc index) (st ∷ more) s x e = by (λ f. within variables index more (step variables st s).0 x f) (step variables st s).1 e
@@ -139,10 +139,12 @@ within variables (suc index) (st ∷ more) s x e = by (λ f. within variables in
     by later (Some ending) e = let z : None ≡ Some x = e in cc
 
 -- what is left of the deck says where that is
+pub one_index : {X : Type 0} (deck : List X) (i j : ℕ) → i < length deck → j < length deck → drop i deck ≡ drop j deck → i ≡ j
+one_index deck i j p q e =
+    let lengths : length deck - i ≡ length deck - j = sym (length_dropped i deck) ∙ ap length e ∙ length_dropped j deck in
+    omega (arith, p, q, lengths)
+
 pub one_place : (variables : List Variable) (deck : List Stated) (s : State) (i j : ℕ) (x y : Stated × State) → cut variables i deck s ≡ Some x → cut variables j deck s ≡ Some y → drop i deck ≡ drop j deck → x ≡ y
 one_place variables deck s i j x y a b e =
-    let p = within variables i deck s x a in
-    let q = within variables j deck s y b in
-    let lengths : length deck - i ≡ length deck - j = sym (length_dropped i deck) ∙ ap length e ∙ length_dropped j deck in
-    let same : i ≡ j = omega (arith, p, q, lengths) in
+    let same : i ≡ j = one_index deck i j (within variables i deck s x a) (within variables j deck s y b) e in
     let both : Some x ≡ Some y = sym a ∙ ap (λ n. cut variables n deck s) same ∙ b in cc

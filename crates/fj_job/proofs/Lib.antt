@@ -22,3 +22,4 @@ pub mod Told
 pub mod Reported
 pub mod Sends
 pub mod SomeReplies
+pub mod Giving

@@ -1,5 +1,5 @@
 -- What was told and written where a run met a fault, and what is reported then.
-use Rattle.std.proofs.Common.{◌≡◌, ◌⊎◌, inl, inr, ℕ, ◌≤◌, Bool, true, false, List, [], ◌++◌, Option, Some, None, IsSome, Ok, slice_get, refl, ap, sym, ◌∙◌, subst, append_assoc, is_some}
+use Rattle.std.proofs.Common.{◌≡◌, ◌⊎◌, inl, inr, ℕ, ◌≤◌, Bool, true, false, List, [], ◌++◌, Option, Some, None, IsSome, Ok, slice_get, refl, ap, sym, ◌∙◌, subst, append_assoc, is_some, ◌≢◌, arith}
 use Rattle.std.specs.FinMap as map
 use Rattle.std.specs.FinSet as set
 use Rattle.std.specs.Option.{option_map}
@@ -9,20 +9,25 @@ use Rattle.fj_statement.specs.Sound.{IsSound}
 use Rattle.fj_statement.specs.declared.deck.Deck.{Deck}
 use Rattle.fj_slot.specs.Ledger.{Ledger}
 use Rattle.fj_slot.specs.Serving.{Meaning}
+use Rattle.fj_slot.specs.Sound.{IsSound as IsSoundSlot}
 use Rattle.fj_bay.specs.Bay.{Bay}
 use Rattle.fj_bay.specs.Jobs.{Job, Answer}
 use Rattle.fj_world.specs.Rack.{Rack}
-use Rattle.fj_plain.specs.State.{State, Files, Output, Tell}
-use Rattle.fj_plain.specs.Statement.{plain_execution, step}
+use Rattle.fj_plain.specs.State.{State, Files, Output, Tell, all_closed, start}
+use Rattle.fj_plain.specs.Statement.{plain_execution, step, stated}
 use Rattle.fj_desk.specs.Desks.{Desk}
 use Rattle.fj_desk.specs.Desking.{all_left}
 use Rattle.fj_turns.specs.Executing.{HoldsDesks}
+use Rattle.fj_turns.specs.Serving.{over_bays}
+use Rattle.fj_cut.specs.Others.{names_in, file_renewed, has_name, AreHoused}
+use Rattle.fj_cut.specs.Stopping.{IsLeftShort}
 use Rattle.fj_pending.specs.Plain.{tells_of}
 use Rattle.fj_items.specs.Handing.{TakesFront, TakesPart, whole_records, open_record}
 use Rattle.fj_items.specs.declared.lost.Lost.TheVariants.{Sink, Disk}
 use Rattle.fj_units.specs.Files.{files_of}
 use Rattle.fj_units.specs.Returning.{IsAsDue}
 use Rattle.fj_closing.specs.Closing.{AreSeated, AreNamed, IfClear, OthersRun}
+use Rattle.fj_closing.specs.Finding.{IsLeftBehind, OfEach, AreSpared}
 use Rattle.fj_closing.proofs.Due.{due_on}
 use Rattle.fj_report.specs.Lines.{status_text}
 use Rattle.fj_report.specs.declared.status.Status.{Status}
@@ -45,9 +50,10 @@ use Rattle.fj_job.proofs.CutEnds.{ended_exact}
 use Rattle.fj_job.proofs.CutReports.{front_of_output, front_of_exact}
 use Rattle.fj_job.proofs.CutTexts.{text_and_feed, goes_on_behind}
 use Rattle.fj_job.proofs.Leading.{rose_later}
-use Rattle.fj_job.proofs.Leaving.{seated_of, named_of, housed_of, served_of}
-use Rattle.fj_job.proofs.Executed.{desks, ending_is, output_is, tells_are, files_are, holds, are_seated, are_named, replies, makes, none_there, taken_both}
+use Rattle.fj_job.proofs.Leaving.{seated_of, named_of, housed_of, served_of, due_wider, within}
+use Rattle.fj_job.proofs.Executed.{desks, ending_is, output_is, tells_are, files_are, holds, are_seated, are_named, replies, makes, none_there, taken_both, given_until}
 use Rattle.fj_job.proofs.Told.{front_behind, part_behind, front_more, deck_ends, some_by, not_lost}
+use Rattle.fj_job.proofs.Giving.{not_left, left_short}
 
 -- ---- where a run ended or was cut, at the statement at hand
 
@@ -62,11 +68,17 @@ module _ {E J A F : Type 0} {ghosts : Ghosts F} (meaning : Meaning E J A Bay Job
       let some : IsSome (option_map ending_of m.state.ending) = subst IsSome (ending_is meaning told bytes deck files left m rack ran) (deck_ends deck files sound) in
       let code = some_by ending_of m.state.ending some in
       let e = ended code.0 code.1 in
+      let housed : AreHoused (desks meaning told bytes deck files left m rack ran) m.state.core.units =
+      housed_of (desks meaning told bytes deck files left m rack ran) m.state.core.units (are_seated meaning told bytes deck files left m rack ran) (are_named meaning told bytes deck files left m rack ran) in
+      let due = λ (name : List ℕ). sym (ap (λ (f : Files). f name) (files_are meaning told bytes deck files left m rack ran)) ∙ ap (λ (f : Files). f name) e.files_are in
       let holds : HoldsFiles meaning rack held before now deck files e.comes At m = record {
         desks = desks meaning told bytes deck files left m rack ran;
         slots = holds meaning told bytes deck files left m rack ran;
-        units = housed_of (desks meaning told bytes deck files left m rack ran) m.state.core.units (are_seated meaning told bytes deck files left m rack ran) (are_named meaning told bytes deck files left m rack ran);
-        others = λ name served about. inl (sym (ap (λ (f : Files). f name) (files_are meaning told bytes deck files left m rack ran)) ∙ ap (λ (f : Files). f name) e.files_are);
+        units = housed;
+        others = λ name served about. inl (due name);
+        freed = λ name none new. inl (sym (not_left (desks meaning told bytes deck files left m rack ran) m.state.core.units left name housed none) ∙ due name);
+        given = given_until meaning told bytes deck files left m rack ran some e.comes.index e.place
+            (within deck.variables e.comes.index (stated deck.statements) (start deck.variables files) (e.comes.statement, e.comes.before) e.comes.there);
       } in
       let exact = ended_exact meaning rack held before now Tells old new deck files m e holds (output_is meaning told bytes deck files left m rack ran) (tells_are meaning told bytes deck files left m rack ran) taken in
       let none = not_lost m.tally.lost m.tally.over m.tally.lost_over going in
@@ -98,14 +110,26 @@ module _ {E J A F : Type 0} {ghosts : Ghosts F} (meaning : Meaning E J A Bay Job
     (due : (desks : List Desk) → HoldsDesks meaning rack desks → AreSeated desks m.state.core.units → AreNamed desks m.state.core.units → (name : List ℕ) → set.contains last.hurt name ≡ false
     → IsAsDue now end (files_of last name) (all_left desks m.state.core.units (files_of held) name))
     (running : IfClear last m.state.core.units rack.slots (λ (k : Ledger E J A). k.halt ≡ None))
-    (others : (desks : List Desk) → HoldsDesks meaning rack desks → OthersRun m.state.core.units rack.slots desks) where
+    (others : (desks : List Desk) → HoldsDesks meaning rack desks → OthersRun m.state.core.units rack.slots desks)
+    (found : OfEach m.state.core.units rack.slots (λ u k. (s : Bay) (ts : List Job) → IsSoundSlot (over_bays meaning) s ts k → IsLeftBehind k s ts u.name (files_of last u.name)))
+    (spared : AreSpared m.state.core.units held last) where
   hand : slice_get deck.statements l.at ≡ Some cut.comes.statement.0
   hand = ap (λ n. slice_get deck.statements n) at ∙ cut.at
 
   files_left : (reach : Reach) → HoldsFiles meaning rack held before now deck files cut.comes reach m → AreLeft deck files cut.comes reach last before end
-  files_left reach h = λ name clear about.
-      due_on before now end _ _ _ early late (due h.desks h.slots (seated_of h.desks m.state.core.units h.units) (named_of h.desks m.state.core.units h.units) name clear)
-      (h.others name (served_of rack last name m.state.core.units running clear) about)
+  files_left reach h = record {
+    clear = λ name clear about.
+        due_on before now end _ _ _ early late (due h.desks h.slots (seated_of h.desks m.state.core.units h.units) (named_of h.desks m.state.core.units h.units) name clear)
+        (h.others name (served_of rack last name m.state.core.units running clear) about);
+    others = λ name new. by name new (has_name m.state.core.units name) refl;
+  }
+    where
+      by : (name : List ℕ) → file_renewed (names_in cut.comes.before.units) cut.comes.statement.0.what ≢ Some name → (b : Bool) → has_name m.state.core.units name ≡ b
+          → IsLeftShort deck.variables (stated deck.statements) files cut.comes.index name (files_of last name)
+          ⊎ IsAsDue before end (files_of last name) ((all_closed (reached reach deck.variables cut.comes.statement cut.comes.before)).files name)
+      by name new true e = inl (left_short meaning rack deck.variables (stated deck.statements) files (files_of last) cut.comes.index name m.state.core.units found h.given e)
+      by name new false e = inr (subst (λ (o : Option (List ℕ)). IsAsDue before end o ((all_closed (reached reach deck.variables cut.comes.statement cut.comes.before)).files name)) (sym (spared name e).0)
+          (due_wider before before now end (files_of held name) _ (omega arith) late (h.freed name e new)))
 
   -- a unit whose slot has stopped has a file that is hurt, and no other slot has stopped
   learnt_by : IsCause meaning rack m.state.core.units cut.comes.statement cut.comes.before before now → IsLearnt cut.comes.statement cut.comes.before last before end
@@ -148,7 +172,10 @@ left_end deck files m l last before end e at is = (
     at = ap (λ n. slice_get deck.statements n) at ∙ e.at;
     output = sym is.output ∙ e.output;
     tells = sym is.tells ∙ e.tells;
-    files_are = λ name clear about. inl (ap (λ (f : Files). f name) (sym is.files ∙ e.files_are));
+    files_are = record {
+      clear = λ name clear about. inl (ap (λ (f : Files). f name) (sym is.files ∙ e.files_are));
+      others = λ name new. inr (inl (ap (λ (f : Files). f name) (sym is.files ∙ e.files_are)));
+    };
     learnt = inl refl;
   },
   refl,

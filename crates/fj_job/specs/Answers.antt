@@ -161,7 +161,7 @@ pub record Told (task : Task) (status : Status) (source sink : Seen (List ℕ)) 
   -- A fault of the disk is that of the statement which learnt of it: behind what executing the deck tells up to there, the report
   -- says its line: unless the deck stops at the statement, it waits at a unit whose file is told as hurt, or the disk's own number rose.
   -- The sink took all of it; or it failed then, and took a front of it, and not all. Each file that the disk does not tell as hurt,
-  -- and that the statement is not about, is left as closing all units leaves it there.
+  -- and that the statement is not about, is left as closing all units leaves it there; of the others `AreLeft` says how far they are.
   pub fault : source.tells → OfDisk task source.before disk.tells → IfFault status (λ line. IfExecute task (λ trace. (deck : Deck) × IsDeck source.before deck
       × ToldFault deck trace (files_in disk.before.held.files) line sink.tells sink.before sink.after sink.rose disk.after.held disk.before.own disk.after.own))
   -- A fault of the sink is met where the text is refused and that is told; or at a statement of the deck that is carried out, or in the

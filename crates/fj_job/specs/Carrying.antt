@@ -1,5 +1,5 @@
 -- A deck that is carried out on its slots.
-use Rattle.std.specs.Prelude.{◌≡◌, ◌^◌, ◌<◌, ℕ, Bool, false, List, [], replicate, length, All, Some, None, is_some, true}
+use Rattle.std.specs.Prelude.{◌≡◌, ◌^◌, ◌<◌, ℕ, Bool, false, List, [], replicate, length, All, Some, None, IsSome, is_some, drop, true}
 use Rattle.fj_statement.specs.declared.deck.Deck.{Deck}
 use Rattle.fj_slot.specs.Ledger.{Ledger}
 use Rattle.fj_slot.specs.Serving.{Meaning}
@@ -9,6 +9,7 @@ use Rattle.fj_bay.specs.Jobs.{Job, Answer}
 use Rattle.fj_plain.specs.State.{Files}
 use Rattle.fj_plain.specs.Statement.{stated}
 use Rattle.fj_world.specs.Rack.{Rack}
+use Rattle.fj_cut.specs.Stopping.{HoldsGiven}
 use Rattle.fj_turns.specs.Run.{Run}
 use Rattle.fj_turns.specs.Meant.{Leaves}
 use Rattle.fj_turns.specs.Serving.{first_run}
@@ -40,9 +41,18 @@ pub record HasNotBegun {F : Type 0} {ghosts : Ghosts F} (told : F → Bool) (byt
   pub owed : m.tally.owed.items ≡ replicate 16 0
   pub names : m.state.core.names ≡ []
 
+-- the runner is at a statement, and the slots are sound for jobs that were given until there
+pub record IsGivenAt {E J A : Type 0} (meaning : Meaning E J A Bay Job Answer) (deck : Deck) (files : Files) (rack : Rack E J A) (run : Run) : Type 0 where
+  pub index : ℕ
+  pub rest : run.rest ≡ drop index (stated deck.statements)
+  pub within : index < length (stated deck.statements)
+  pub given : HoldsGiven deck.variables (stated deck.statements) files meaning rack index
+
 -- The machine and the slots are what carrying out the deck over those files leaves.
 pub record HasRun {E J A F : Type 0} {ghosts : Ghosts F} (meaning : Meaning E J A Bay Job Answer) (told : F → Bool) (bytes : F → List ℕ) (deck : Deck) (files left : Files)
     (m : Machine F ghosts) (rack : Rack E J A) : Type 0 where
   pub run : Run
   pub is : run_of told bytes left m ≡ Some run
   pub leaves : Leaves meaning deck.variables (stated deck.statements) files run rack
+  -- each job of the slots was given by a statement not behind the one at which the deck ended
+  pub given : IsSome run.ending → IsGivenAt meaning deck files rack run

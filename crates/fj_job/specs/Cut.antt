@@ -8,8 +8,9 @@ use Rattle.fj_statement.specs.declared.deck.Deck.{Deck}
 use Rattle.fj_plain.specs.State.{State, Files, all_closed, start}
 use Rattle.fj_plain.specs.Telling.{waited, after_tells}
 use Rattle.fj_plain.specs.Statement.{Stated, step, stated, cut}
-use Rattle.fj_cut.specs.Others.{names_in, file_about}
+use Rattle.fj_cut.specs.Others.{names_in, file_about, file_renewed}
 use Rattle.fj_cut.specs.Awaiting.{AwaitedUnit}
+use Rattle.fj_cut.specs.Stopping.{IsLeftShort}
 use Rattle.fj_units.specs.Files.{files_of}
 use Rattle.fj_units.specs.Returning.{IsAsDue}
 use Rattle.fj_report.specs.Lines.{status_text}
@@ -57,11 +58,16 @@ pub record IsFaultReport (deck : Deck) (trace : Bool) (files : Files) (line : �
   pub line_is : comes.statement.0.line ≡ line
   pub output_is : output ≡ fault_report trace line (reached reach deck.variables comes.statement comes.before)
 
--- Each file that is not hurt, and that the statement is not about, is left as closing all units leaves it there. One that is gone then
--- may be there, where the disk's own number rose from `before` to `now`.
-abbrev pub AreLeft : (deck : Deck) (files : Files) → ComesTo deck files → Reach → Holdings → ℕ → ℕ → Type 0
-AreLeft deck files comes reach left before now = (name : List ℕ) → set.contains left.hurt name ≡ false → file_about (names_in comes.before.units) comes.statement.0.what ≢ Some name
-    → IsAsDue before now (files_of left name) ((all_closed (reached reach deck.variables comes.statement comes.before)).files name)
+-- How files are left, where the disk's own number was `before` and is `now`. Each one that is not hurt, and that the statement is not
+-- about, is as closing all units leaves it there; one that is gone then may be there, where that number rose. So is each other one that the
+-- statement neither opens nor removes; or a job of its unit was stopped in it, and its bytes are as before below the first one that the
+-- job changes.
+pub record AreLeft (deck : Deck) (files : Files) (comes : ComesTo deck files) (reach : Reach) (left : Holdings) (before now : ℕ) : Type 0 where
+  pub clear : (name : List ℕ) → set.contains left.hurt name ≡ false → file_about (names_in comes.before.units) comes.statement.0.what ≢ Some name
+      → IsAsDue before now (files_of left name) ((all_closed (reached reach deck.variables comes.statement comes.before)).files name)
+  pub others : (name : List ℕ) → file_renewed (names_in comes.before.units) comes.statement.0.what ≢ Some name
+      → IsLeftShort deck.variables (stated deck.statements) files comes.index name (files_of left name)
+      ⊎ IsAsDue before now (files_of left name) ((all_closed (reached reach deck.variables comes.statement comes.before)).files name)
 
 -- Why a fault of the disk is learnt at a statement, in that state: it waits at a unit whose file is told as hurt; or the disk's own
 -- number rose.

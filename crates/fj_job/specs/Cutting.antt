@@ -1,5 +1,5 @@
 -- What the machine and its sink are where a run was cut, and where a deck ended.
-use Rattle.std.specs.Prelude.{◌≡◌, ◌≢◌, ◌⊎◌, ℕ, true, false, List, ◌++◌, Some, None, is_some, slice_get}
+use Rattle.std.specs.Prelude.{◌≡◌, ◌≢◌, ◌⊎◌, ℕ, true, false, List, ◌++◌, Some, None, is_some, slice_get, drop}
 use Rattle.fj_outside.specs.Faults.{Rose}
 use Rattle.fj_outside.specs.Holdings.{Holdings}
 use Rattle.fj_outside.specs.declared.outside.FileStore.{Ghosts}
@@ -10,19 +10,21 @@ use Rattle.fj_world.specs.Rack.{Rack}
 use Rattle.fj_bay.specs.Bay.{Bay}
 use Rattle.fj_bay.specs.Jobs.{Job, Answer}
 use Rattle.fj_plain.specs.State.{State, Files, all_closed}
-use Rattle.fj_plain.specs.Statement.{Stated, plain_execution, step}
+use Rattle.fj_plain.specs.Statement.{Stated, plain_execution, step, stated}
 use Rattle.fj_desk.specs.Core.{Connected}
 use Rattle.fj_desk.specs.Desks.{Desk}
 use Rattle.fj_desk.specs.Desking.{all_left}
 use Rattle.fj_turns.specs.Executing.{HoldsDesks}
-use Rattle.fj_cut.specs.Others.{names_in, file_about, has_file, AreHoused}
+use Rattle.fj_cut.specs.Others.{names_in, file_about, has_file, AreHoused, file_renewed, has_name}
 use Rattle.fj_cut.specs.Awaiting.{AwaitedUnit}
+use Rattle.fj_cut.specs.Stopping.{HoldsGiven}
 use Rattle.fj_pending.specs.Plain.{tells_of}
 use Rattle.fj_units.specs.Files.{files_of}
 use Rattle.fj_units.specs.Returning.{IsAsDue}
 use Rattle.fj_units.specs.Units.{has_slot}
 use Rattle.fj_items.specs.Handing.{whole_records, HandsPart}
 use Rattle.fj_items.specs.declared.lost.Lost.TheVariants.{Disk, Sink}
+use Rattle.fj_runner.specs.Machine.{rest_of}
 use Rattle.fj_runner.specs.declared.left.Left.{Left}
 use Rattle.fj_runner.specs.declared.machine.Machine.{Machine}
 use Rattle.fj_job.specs.Cut.{Reach, Untold, Carried, reached, MayReach, ComesTo, AreLeft, IsLearnt}
@@ -32,7 +34,8 @@ abbrev pub IsServed : {E J A : Type 0} → Rack E J A → List Connected → Lis
 IsServed {E} {J} {A} rack units name = (slot : ℕ) → has_file units slot name ≡ true → (l : Ledger E J A) × (slice_get rack.slots slot ≡ Some l) × (l.halt ≡ None)
 
 -- The slots hold desks, one for each unit. Were all units closed then, each file that is at no slot that has stopped, and that the
--- statement is not about, would be as closing all units leaves it there. The disk holds `held`, and its own number rose or not.
+-- statement is not about, would be as closing all units leaves it there; and so is each one that no unit has, and that the statement
+-- neither opens nor removes. The slots' jobs were given by statements until then. The disk holds `held`, and its own number rose or not.
 pub record HoldsFiles {E J A F : Type 0} {ghosts : Ghosts F} (meaning : Meaning E J A Bay Job Answer) (rack : Rack E J A) (held : Holdings) (before now : ℕ)
     (deck : Deck) (files : Files) (comes : ComesTo deck files) (reach : Reach) (m : Machine F ghosts) : Type 0 where
   pub desks : List Desk
@@ -40,6 +43,9 @@ pub record HoldsFiles {E J A F : Type 0} {ghosts : Ghosts F} (meaning : Meaning 
   pub units : AreHoused desks m.state.core.units
   pub others : (name : List ℕ) → IsServed rack m.state.core.units name → file_about (names_in comes.before.units) comes.statement.0.what ≢ Some name
       → IsAsDue before now (all_left desks m.state.core.units (files_of held) name) ((all_closed (reached reach deck.variables comes.statement comes.before)).files name)
+  pub freed : (name : List ℕ) → has_name m.state.core.units name ≡ false → file_renewed (names_in comes.before.units) comes.statement.0.what ≢ Some name
+      → IsAsDue before now (files_of held name) ((all_closed (reached reach deck.variables comes.statement comes.before)).files name)
+  pub given : HoldsGiven deck.variables (stated deck.statements) files meaning rack comes.index
 
 -- A slot that has stopped, and that no unit has.
 pub record StopsAside {E J A : Type 0} (meaning : Meaning E J A Bay Job Answer) (rack : Rack E J A) (units : List Connected) : Type 0 where
@@ -107,6 +113,7 @@ pub record EndsHere {F : Type 0} {ghosts : Ghosts F} (deck : Deck) (files : File
   pub comes : ComesTo deck files
   pub ends : MayReach Carried deck.variables comes.statement comes.before
   pub at : slice_get deck.statements m.at ≡ Some comes.statement.0
+  pub place : rest_of m ≡ drop comes.index (stated deck.statements)
   pub output : (plain_execution deck.variables deck.statements files).output ≡ (reached Carried deck.variables comes.statement comes.before).output
   pub tells : (plain_execution deck.variables deck.statements files).tells ≡ (reached Carried deck.variables comes.statement comes.before).tells
   pub files_are : (plain_execution deck.variables deck.statements files).files ≡ (all_closed (reached Carried deck.variables comes.statement comes.before)).files

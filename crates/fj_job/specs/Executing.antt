@@ -7,6 +7,7 @@ use Rattle.fj_outside.specs.declared.outside.FileStore.{Ghosts}
 use Rattle.fj_statement.specs.declared.deck.Lined.{Lined}
 use Rattle.fj_statement.specs.declared.deck.Deck.{Deck}
 use Rattle.fj_slot.specs.Serving.{Meaning}
+use Rattle.fj_slot.specs.Sound.{IsSound}
 use Rattle.fj_world.specs.Rack.{Rack}
 use Rattle.fj_bay.specs.Bay.{Bay}
 use Rattle.fj_bay.specs.Jobs.{Job, Answer}
@@ -15,11 +16,13 @@ use Rattle.fj_desk.specs.Desks.{Desk}
 use Rattle.fj_desk.specs.Desking.{all_left}
 use Rattle.fj_turns.specs.Executing.{HoldsDesks}
 use Rattle.fj_items.specs.Handing.{whole_records, open_record, TakesFront, TakesPart}
+use Rattle.fj_turns.specs.Serving.{over_bays}
 use Rattle.fj_pending.specs.Plain.{tells_of}
 use Rattle.fj_items.specs.declared.lost.Lost.TheVariants.{Sink, Disk, Unfit}
 use Rattle.fj_units.specs.Files.{files_of}
 use Rattle.fj_units.specs.Returning.{IsAsDue}
 use Rattle.fj_closing.specs.Closing.{AreSeated, AreNamed, IfClear, OthersRun}
+use Rattle.fj_closing.specs.Finding.{IsLeftBehind, OfEach, AreSpared}
 use Rattle.fj_closing.specs.Losing.{may_tell}
 use Rattle.fj_report.specs.declared.status.Status.{Status}
 use Rattle.fj_report.specs.declared.status.Status.TheVariants.{WriteFault, DiskFault, Memory}
@@ -48,6 +51,9 @@ pub record IsSettled {D F E J A : Type 0} {ghosts : Ghosts F} (tells : D → Typ
       → (name : List ℕ) → set.contains (held disk').hurt name ≡ false → IsAsDue (refusals disk) (refusals disk') (files_of (held disk') name) (all_left desks m.state.core.units (files_of (held disk)) name)
   pub running : tells disk → may_tell it.settled ≡ true → IfClear (held disk') m.state.core.units rack.slots (λ l. l.halt ≡ None)
   pub others : may_tell it.settled ≡ true → (desks : List Desk) → HoldsDesks meaning rack desks → OthersRun m.state.core.units rack.slots desks
+  -- the file of each unit is as one of its slot's jobs may leave it, or the end of its record; and of others the disk tells the same
+  pub found : tells disk → may_tell it.settled ≡ true → OfEach m.state.core.units rack.slots (λ u l. (s : Bay) (ts : List Job) → IsSound (over_bays meaning) s ts l → IsLeftBehind l s ts u.name (files_of (held disk') u.name))
+  pub spared : tells disk → may_tell it.settled ≡ true → AreSpared m.state.core.units (held disk) (held disk')
   pub own : tells disk → refusals disk ≤ refusals disk'
   pub sink : it.settled ≡ Err Sink → m.tally.lost ≡ Some Sink
   pub of_disk : it.settled ≡ Err Disk → (m.tally.lost ≡ Some Disk) ⊎ Rose (count disk) (count disk')

@@ -4,6 +4,9 @@ ghost use Rattle.std.specs.FinSet as set;
 ghost use Rattle.fj_outside.specs.Faults.{Rose};
 ghost use Rattle.fj_statement.specs.Sound.{IsSound};
 ghost use Rattle.fj_world.specs.Alone.{AllHome};
+ghost use Rattle.fj_slot.specs.Sound.{IsSound as IsSoundSlot};
+ghost use Rattle.fj_bay.specs.Bay.{Bay as PlainBay};
+ghost use Rattle.fj_bay.specs.Jobs.{Job as PlainJob};
 ghost use Rattle.fj_bay.specs.Meaning.{bay_meaning};
 ghost use Rattle.fj_desk.specs.Desks.{Desk};
 ghost use Rattle.fj_desk.specs.Desking.{all_left};
@@ -16,6 +19,7 @@ ghost use Rattle.fj_runner.specs.Machine.{ending_of};
 ghost use Rattle.fj_units.specs.Returning.{IsAsDue};
 ghost use Rattle.fj_closing.specs.Losing.{is_fault, may_tell};
 ghost use Rattle.fj_closing.specs.Closing.{AreSeated, AreNamed, IfClear, OthersRun};
+ghost use Rattle.fj_closing.specs.Finding.{IsLeftBehind, OfEach, AreSpared};
 ghost use Rattle.fj_job.specs.Answers.{IsAnswer, IsLost, IsOfRun, HasCause};
 ghost use Rattle.fj_job.specs.Reply.{status_of};
 ghost use Rattle.fj_job.specs.Concluding.{HasEnded, run_text, fault_text};
@@ -193,6 +197,9 @@ fn give_back<D: Disk>(
     ensures running { D.tells disk.old → may_tell result ≡ true → IfClear (D.held disk.new) left.old.core.units slots.slots (λ l. l.halt ≡ None) }
     ensures others { may_tell result ≡ true → (desks : List Desk) → HoldsDesks (bay_meaning D.File.told D.File.bytes D.File.count) slots desks
         → OthersRun left.old.core.units slots.slots desks }
+    ensures found { D.tells disk.old → may_tell result ≡ true → OfEach left.old.core.units slots.slots (λ u l. (s : PlainBay) (ts : List PlainJob)
+        → IsSoundSlot (bay_meaning D.File.told D.File.bytes D.File.count) s ts l → IsLeftBehind l s ts u.name (files_of (D.held disk.new) u.name)) }
+    ensures spared { D.tells disk.old → may_tell result ≡ true → AreSpared left.old.core.units (D.held disk.old) (D.held disk.new) }
     ensures own { D.tells disk.old → D.refusals disk.old ≤ D.refusals disk.new }
     ensures sink { result ≡ Err Lost.Sink → left.old.lost ≡ Some Lost.Sink }
     ensures disk { result ≡ Err Lost.Disk → (left.old.lost ≡ Some Lost.Disk) ⊎ Rose (D.count disk.old) (D.count disk.new) }

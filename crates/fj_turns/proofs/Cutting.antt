@@ -29,7 +29,7 @@ use Rattle.fj_turns.proofs.Finishing.{fits_hold}
 
 -- ---- the jobs of a statement
 
-walked_given : (k : ℕ) (ds : List Desk) (d : Doing) → (walked k ds d).0 ≡ carry_all ds (take k (given ds d))
+pub walked_given : (k : ℕ) (ds : List Desk) (d : Doing) → (walked k ds d).0 ≡ carry_all ds (take k (given ds d))
 walked_given zero ds d = refl
 walked_given (suc k) ds (finishes core condition) = refl
 walked_given (suc k) ds (gives slot job core next) = walked_given k (carry ds slot job) (next (log_length (slice_get ds slot)))
@@ -41,13 +41,13 @@ acted_given ds (gives slot job core next) = acted_given (carry ds slot job) (nex
 acted_given ds (awaits slot job core next) = acted_given (carry ds slot job) (next (desks.outcome ds slot job))
 
 -- a statement that is not prohibited gives all its jobs
-step_given : (variables : List Variable) (st : Stated) (p : Desked) → rule_of variables st p.core ≡ None → (desk_step variables st p).0.desks ≡ carry_all p.desks (jobs_of variables st p)
+pub step_given : (variables : List Variable) (st : Stated) (p : Desked) → rule_of variables st p.core ≡ None → (desk_step variables st p).0.desks ≡ carry_all p.desks (jobs_of variables st p)
 step_given variables st p allowed =
     ap (λ d. d.0.desks) (step_is variables st p) ∙ ap (λ o. (goes_on st.1 variables st.0.line st.0.what p o).0.desks) allowed
     ∙ ap (λ d. (completed variables st.0.line st.0.what d).0.desks) (sym (acts_are variables st p))
     ∙ acted_given p.desks (does variables st p)
 
-own_given : (variables : List Variable) (st : Stated) (before : Desked) (slot : ℕ) (run : Run) (ds : List Desk) → (a : AwaitsJob variables st before slot run ds) → ds ≡ carry_all before.desks (take (suc a.jobs) (jobs_of variables st before))
+pub own_given : (variables : List Variable) (st : Stated) (before : Desked) (slot : ℕ) (run : Run) (ds : List Desk) → (a : AwaitsJob variables st before slot run ds) → ds ≡ carry_all before.desks (take (suc a.jobs) (jobs_of variables st before))
 own_given variables st before slot run ds a =
     let w = walked a.jobs before.desks (does variables st before) in
     a.desks_are ∙ sym (ap (λ d. (walked 1 w.0 d).0) a.awaited) ∙ sym (ap (λ z. z.0) (walked_more a.jobs before.desks (does variables st before)))

@@ -4,6 +4,10 @@ use Rattle.fj_units.specs.Files.{files_of}
 use Rattle.fj_units.proofs.Returning.{name_off}
 use Rattle.fj_closing.proofs.Returning.{off_lessens, wanted}
 use Rattle.fj_closing.proofs.Due.{due_closed, others_of_one}
+use Rattle.std.proofs.Common.{subst}
+use Rattle.fj_connect.specs.Linked.{connection_of}
+use Rattle.fj_closing.specs.Finding.{IsEndedUpTo, IsFound}
+use Rattle.fj_closing.proofs.Finding.{found_so}
 use Rattle.fj_closing.proofs.closing.close.Goals as goal
 
 pub returns-clause-back : goal.returns-clause-back
@@ -35,3 +39,9 @@ returns-clause-same g c = λ tells.
     others_of_one c.args.names.now c.give_back-given.new.names (g.D.Disk.held c.args.disk.now) (g.D.Disk.held c.give_back-given.new.disk) c.args.connection.name
     (sym (ap (stands c.args.names.now) c.name.ensures) ∙ sym c.holds.ensures ∙ c.if-not-holds.false) (ap (λ ns. stands ns c.args.connection.name) off ∙ name_off c.args.names.now c.args.connection.name)
     (λ name other. c.give_back-given.ensures.others tells name (λ same. other (same ∙ c.end_open-ended.ensures.name)))
+
+pub returns-clause-found : goal.returns-clause-found
+returns-clause-found g c = λ tells may told.
+    subst (λ name. IsFound c.args.keep (files_of (g.D.Disk.held c.give_back-given.new.disk) name) (IsEndedUpTo c.args.stop (connection_of g.D.File.FileStore.bytes c.args.connection))) c.end_open-ended.ensures.name
+    (found_so c.args.keep (files_of (g.D.Disk.held c.give_back-given.new.disk) c.end_open-ended.new.connection.name) (g.D.File.FileStore.bytes c.end_open-ended.new.connection.file)
+    (IsEndedUpTo c.args.stop (connection_of g.D.File.FileStore.bytes c.args.connection)) (c.give_back-given.ensures.found tells) (c.end_open-ended.ensures.until told))

@@ -12,6 +12,7 @@ use Rattle.fj_closing.specs.Losing.{is_memory}
 use Rattle.fj_closing.proofs.Returning.{kept_gone, kept_get, closes_desk, lack_at, no_more_memory, unfit_untold}
 use Rattle.fj_closing.proofs.Due.{due_at_desk}
 use Rattle.fj_closing.proofs.Fitting.{own_name}
+use Rattle.fj_closing.specs.Finding.{IsEndedUpTo, IsFound}
 use Rattle.fj_closing.proofs.closing.close_unit.Goals as goal
 
 pub returns-then-due-clause-files : goal.returns-then-due-clause-files
@@ -103,3 +104,34 @@ returns-else-due-clause-fits g c = λ own.
     let same : c.as_str.result.now ≡ c.as_str-2.result.now = c.as_str.ensures.text ∙ c.name.ensures ∙ name ∙ sym c.as_str-2.ensures.text in
     let never : true ≡ false = sym ((bytes_eq-Decides c.as_str.result.now c.as_str-2.result.now).1 same) ∙ sym c.eq-due.ensures ∙ c.if-due.false in
     cc
+
+pub returns-then-due-clause-found : goal.returns-then-due-clause-found
+returns-then-due-clause-found g c = λ tells may was b.
+    let within : c.args.unit.now.slot < length c.args.all.now.items = omega (arith, c.if-at-len.false, c.len.ensures, c.args.all.now.ok.0) in
+    let found = slice_get_read c.args.all.now.items (length c.args.all.now.items) c.args.unit.now.slot c.index_mut-it.result.now refl within c.index_mut-it.ensures.value in
+    let due = (bytes_eq-Decides c.as_str.result.now c.as_str-2.result.now).0 (sym c.eq-due.ensures ∙ c.if-due.true) in
+    let name = sym c.name.ensures ∙ sym c.as_str.ensures.text ∙ due ∙ c.as_str-2.ensures.text in (
+      c.index_mut-it.result.now,
+      kept_get c.args.names.now was c.args.all.now.items c.args.unit.now.slot c.index_mut-it.result.now c.in-Some.connection b found (sym c.in-Some.ensures.value),
+      record {
+        connection = c.in-Some.connection;
+        has = sym c.in-Some.ensures.value;
+        named = name;
+        file = λ told.
+            subst (λ n. IsFound (not c.in-Some.connection.modes.scratch) (files_of (g.D.Disk.held c.close-closed.new.disk) n) (IsEndedUpTo c.index_mut-it.result.now.stop (connection_of g.D.File.FileStore.bytes c.in-Some.connection))) name
+            (subst (λ m. IsFound (not m.scratch) (files_of (g.D.Disk.held c.close-closed.new.disk) c.in-Some.connection.name) (IsEndedUpTo c.index_mut-it.result.now.stop (connection_of g.D.File.FileStore.bytes c.in-Some.connection))) c.modes.ensures.value
+            (c.close-closed.ensures.found tells may told));
+      },
+    )
+
+pub returns-else-due-clause-found : goal.returns-else-due-clause-found
+returns-else-due-clause-found g c = λ tells may. absurd (unfit_untold c.close-closed.result c.after.result c.after.ensures may)
+
+pub returns-then-due-clause-spared : goal.returns-then-due-clause-spared
+returns-then-due-clause-spared g c = λ tells may name other.
+    let due = (bytes_eq-Decides c.as_str.result.now c.as_str-2.result.now).0 (sym c.eq-due.ensures ∙ c.if-due.true) in
+    let own = sym c.name.ensures ∙ sym c.as_str.ensures.text ∙ due ∙ c.as_str-2.ensures.text in
+    c.close-closed.ensures.others tells name (λ same. other (same ∙ own))
+
+pub returns-else-due-clause-spared : goal.returns-else-due-clause-spared
+returns-else-due-clause-spared g c = λ tells may. absurd (unfit_untold c.close-closed.result c.after.result c.after.ensures may)

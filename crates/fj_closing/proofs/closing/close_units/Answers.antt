@@ -7,6 +7,8 @@ use Rattle.fj_closing.specs.Fitting.{HaveTheirOwn, AreOwned}
 use Rattle.fj_closing.proofs.Returning.{both_ok, both_tell, fine_told, either_lacks, kept_all, lack_kept, back_all}
 use Rattle.fj_closing.proofs.Due.{others_on}
 use Rattle.fj_closing.proofs.Fitting.{both_fit}
+use Rattle.fj_closing.specs.Finding.{IsFoundOf, OfEach}
+use Rattle.fj_closing.specs.Finding.{AreSpared}
 use Rattle.fj_closing.proofs.closing.close_units.Goals as goal
 
 pub returns-clause-files : goal.returns-clause-files
@@ -74,3 +76,16 @@ pub returns-clause-owned : goal.returns-clause-owned
 returns-clause-owned g c = λ may.
     let told = both_tell c.close_each-first.result c.close_rest-then.result c.after.result c.after.ensures may in
     subst (λ us. AreOwned us c.args.all.items) c.as_slice.ensures (c.close_each-first.ensures.owned (c.close_rest-then.ensures.left told.1))
+
+pub returns-clause-found : goal.returns-clause-found
+returns-clause-found g c = λ tells may.
+    let told = both_tell c.close_each-first.result c.close_rest-then.result c.after.result c.after.ensures may in
+    let found = c.close_each-first.ensures.found tells told.0 c.args.all.items (kept_all c.args.names.now c.args.all.items) in
+    subst (λ d. OfEach c.args.units.now c.args.all.items (λ u it. IsFoundOf g.D.File.FileStore.told g.D.File.FileStore.bytes it u.name (files_of (g.D.Disk.held d) u.name))) (sym (c.close_rest-then.ensures.none told.1).0)
+    (subst (λ us. OfEach us c.args.all.items (λ u it. IsFoundOf g.D.File.FileStore.told g.D.File.FileStore.bytes it u.name (files_of (g.D.Disk.held c.close_each-first.new.disk) u.name))) c.as_slice.ensures found)
+
+pub returns-clause-spared : goal.returns-clause-spared
+returns-clause-spared g c = λ tells may.
+    let told = both_tell c.close_each-first.result c.close_rest-then.result c.after.result c.after.ensures may in
+    subst (λ d. AreSpared c.args.units.now (g.D.Disk.held c.args.disk.now) (g.D.Disk.held d)) (sym (c.close_rest-then.ensures.none told.1).0)
+    (subst (λ us. AreSpared us (g.D.Disk.held c.args.disk.now) (g.D.Disk.held c.close_each-first.new.disk)) c.as_slice.ensures (c.close_each-first.ensures.spared tells told.0))

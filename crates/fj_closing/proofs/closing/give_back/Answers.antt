@@ -2,6 +2,7 @@ use Rattle.std.proofs.Common.{ap, ◌∙◌}
 use Rattle.fj_units.specs.Names.{left_of}
 use Rattle.fj_units.proofs.Returning.{names_back, files_back, due_back, never_falls}
 use Rattle.fj_closing.proofs.Due.{hurt_back, others_back}
+use Rattle.fj_closing.proofs.Finding.{found_back}
 use Rattle.fj_closing.proofs.closing.give_back.Goals as goal
 
 pub returns-clause-names : goal.returns-clause-names
@@ -32,3 +33,8 @@ returns-clause-others g c = λ tells.
 
 pub returns-clause-own : goal.returns-clause-own
 returns-clause-own g c = λ tells. never_falls _ (g.D.Disk.refusals c.args.disk.now) (g.D.Disk.refusals c.close_file.new.disk) (c.close_file.ensures.own tells)
+
+pub returns-clause-found : goal.returns-clause-found
+returns-clause-found g c = λ tells.
+    found_back (g.D.Disk.held c.args.disk.now) (g.D.Disk.held c.close_file.new.disk) c.args.connection.name (g.D.File.FileStore.bytes c.args.connection.file) _ c.args.keep
+    c.close_file.result (c.close_file.ensures.back tells) (c.close_file.ensures.err tells)

@@ -1,5 +1,7 @@
 use Rattle.fj_closing.proofs.Others.{others_run}
 use Rattle.fj_closing.proofs.Running.{slots_running}
+use Rattle.fj_units.specs.Files.{files_of}
+use Rattle.fj_closing.proofs.Finding.{slots_leave}
 use Rattle.fj_closing.proofs.finishing.finish.Goals as goal
 
 pub returns-clause-files : goal.returns-clause-files
@@ -29,3 +31,8 @@ returns-clause-fits g c = λ fit.
 pub returns-clause-others : goal.returns-clause-others
 returns-clause-others g c = λ may desks holds.
     others_run g.D.File.FileStore.told g.D.File.FileStore.bytes g.D.File.FileStore.count c.args.slots c.what_remains-all.result.items c.args.units.now desks c.what_remains-all.ensures.each holds (c.close_units.ensures.owned may)
+
+pub returns-clause-found : goal.returns-clause-found
+returns-clause-found g c = λ tells may.
+    slots_leave g.D.File.FileStore.told g.D.File.FileStore.bytes g.D.File.FileStore.count c.args.slots.slots c.what_remains-all.result.items c.what_remains-all.ensures.each
+    (files_of (g.D.Disk.held c.close_units.new.disk)) c.args.units.now (c.close_units.ensures.found tells may)

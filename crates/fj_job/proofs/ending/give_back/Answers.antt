@@ -7,6 +7,12 @@ use Rattle.fj_closing.specs.Closing.{IfClear}
 use Rattle.fj_closing.specs.Losing.{may_tell}
 use Rattle.fj_items.specs.declared.lost.Lost.TheVariants.{Sink, Disk}
 use Rattle.fj_job.proofs.Settling.{none_in_use, empty_by, where_ok, where_none, before, lost_disk, lost_alone, not_sink, not_disk, both_fit}
+use Rattle.std.proofs.Common.{List}
+use Rattle.fj_slot.specs.Sound.{IsSound}
+use Rattle.fj_bay.specs.Bay.{Bay as PlainBay}
+use Rattle.fj_bay.specs.Jobs.{Job as PlainJob}
+use Rattle.fj_bay.specs.Meaning.{bay_meaning}
+use Rattle.fj_closing.specs.Finding.{IsLeftBehind, OfEach, AreSpared}
 use Rattle.fj_job.proofs.ending.give_back.Goals as goal
 
 pub give_kept-given-requires : goal.give_kept-given-requires
@@ -97,3 +103,25 @@ returns-in-Some-clause-others g c = λ e.
 pub returns-in-None-clause-others : goal.returns-in-None-clause-others
 returns-in-None-clause-others g c = λ e.
     c.finish-closed.ensures.others (ap may_tell (where_none _ _ c.in-None.ensures.none.0 c.first_lost.ensures.none).1)
+
+pub returns-in-Some-clause-found : goal.returns-in-Some-clause-found
+returns-in-Some-clause-found g c = λ t e.
+    let fit = both_fit _ c.finish-closed.result c.give_kept-given.result c.in-Some.lost c.give_kept-given.ensures.unfit c.in-Some.ensures.fits c.in-Some.ensures.ok c.first_lost.ensures.fits e in
+    subst (λ d. OfEach c.args.left.now.core.units c.args.slots.slots (λ u l. (s : PlainBay) (ts : List PlainJob) → IsSound (bay_meaning g.D.File.FileStore.told g.D.File.FileStore.bytes g.D.File.FileStore.count) s ts l → IsLeftBehind l s ts u.name (files_of (g.D.Disk.held d) u.name))) (sym (where_ok _ _ fit.0 c.give_kept-given.ensures.none)) (c.finish-closed.ensures.found t fit.1)
+
+pub returns-in-None-clause-found : goal.returns-in-None-clause-found
+returns-in-None-clause-found g c = λ t e.
+    let none = c.in-None.ensures.none in
+    let closed = (where_none _ _ none.0 c.first_lost.ensures.none).1 in
+    subst (λ d. OfEach c.args.left.now.core.units c.args.slots.slots (λ u l. (s : PlainBay) (ts : List PlainJob) → IsSound (bay_meaning g.D.File.FileStore.told g.D.File.FileStore.bytes g.D.File.FileStore.count) s ts l → IsLeftBehind l s ts u.name (files_of (g.D.Disk.held d) u.name))) (sym (where_ok _ _ none.1 c.give_kept-given.ensures.none)) (c.finish-closed.ensures.found t (ap may_tell closed))
+
+pub returns-in-Some-clause-spared : goal.returns-in-Some-clause-spared
+returns-in-Some-clause-spared g c = λ t e.
+    let fit = both_fit _ c.finish-closed.result c.give_kept-given.result c.in-Some.lost c.give_kept-given.ensures.unfit c.in-Some.ensures.fits c.in-Some.ensures.ok c.first_lost.ensures.fits e in
+    subst (λ d. AreSpared c.args.left.now.core.units (g.D.Disk.held c.args.disk.now) (g.D.Disk.held d)) (sym (where_ok _ _ fit.0 c.give_kept-given.ensures.none)) (c.finish-closed.ensures.spared t fit.1)
+
+pub returns-in-None-clause-spared : goal.returns-in-None-clause-spared
+returns-in-None-clause-spared g c = λ t e.
+    let none = c.in-None.ensures.none in
+    let closed = (where_none _ _ none.0 c.first_lost.ensures.none).1 in
+    subst (λ d. AreSpared c.args.left.now.core.units (g.D.Disk.held c.args.disk.now) (g.D.Disk.held d)) (sym (where_ok _ _ none.1 c.give_kept-given.ensures.none)) (c.finish-closed.ensures.spared t (ap may_tell closed))

@@ -8,6 +8,12 @@ use Rattle.fj_units.specs.Files.{files_of}
 use Rattle.fj_units.specs.Returning.{IsAsDue}
 use Rattle.fj_units.specs.Names.{stands}
 use Rattle.fj_job.proofs.Settling.{where_ok, lost_then}
+use Rattle.std.proofs.Common.{List}
+use Rattle.fj_slot.specs.Sound.{IsSound}
+use Rattle.fj_bay.specs.Bay.{Bay as PlainBay}
+use Rattle.fj_bay.specs.Jobs.{Job as PlainJob}
+use Rattle.fj_bay.specs.Meaning.{bay_meaning}
+use Rattle.fj_closing.specs.Finding.{IsLeftBehind, OfEach, AreSpared}
 use Rattle.fj_job.proofs.ending.settle.Goals as goal
 
 pub give_back-settled-requires-clause-names : goal.give_back-settled-requires-clause-names
@@ -35,6 +41,9 @@ returns g c = record {
         (c.give_back-settled.ensures.due t e desks h (subst (λ us. AreSeated desks us) (sym us) seats) (subst (λ us. AreNamed desks us) (sym us) named) name clear);
     running = λ t e. subst (λ us. IfClear (g.D.Disk.held c.give_back-settled.new.disk) us c.args.slots.slots (λ l. l.halt ≡ None)) (ap (λ k. k.units) c.into_left-left.ensures.core) (c.give_back-settled.ensures.running t e);
     others = λ e desks h. subst (λ us. OthersRun us c.args.slots.slots desks) (ap (λ k. k.units) c.into_left-left.ensures.core) (c.give_back-settled.ensures.others e desks h);
+    found = λ t e. subst (λ us. OfEach us c.args.slots.slots (λ u l. (s : PlainBay) (ts : List PlainJob) → IsSound (bay_meaning g.D.File.FileStore.told g.D.File.FileStore.bytes g.D.File.FileStore.count) s ts l
+        → IsLeftBehind l s ts u.name (files_of (g.D.Disk.held c.give_back-settled.new.disk) u.name))) (ap (λ k. k.units) c.into_left-left.ensures.core) (c.give_back-settled.ensures.found t e);
+    spared = λ t e. subst (λ us. AreSpared us (g.D.Disk.held c.args.disk.now) (g.D.Disk.held c.give_back-settled.new.disk)) (ap (λ k. k.units) c.into_left-left.ensures.core) (c.give_back-settled.ensures.spared t e);
     own = c.give_back-settled.ensures.own;
     in_use = c.give_back-settled.ensures.in_use;
     telling = c.give_back-settled.ensures.telling;

@@ -20,7 +20,7 @@ returns-in_err-end_record-clause-serves g c =
     let p = err_from_is_err_and c.from_residual.result c.from_residual.ensures.1 in
     λ s t st e. subst (λ r. Serves (bay_meaning g.F.FileStore.told g.F.FileStore.bytes g.F.FileStore.count) s t r (record c.args.self.now { connection = Some c.end_record.new.self }) (job.Detach c.args.place.now)) (sym p.1)
     (detach_stopped g.F.FileStore.told g.F.FileStore.bytes g.F.FileStore.count g.F.FileStore.tells g.met.F.FileStore.decided c.args.self.now (record c.args.self.now { connection = Some c.end_record.new.self }) c.in-Some.connection c.end_record.new.self s t c.args.place.now p.0 c.in-Some.is st e refl
-    c.in_err-end_record.ensures.telling c.in_err-end_record.ensures.stopped c.in_err-end_record.ensures.name (λ f. c.end_record.ensures.failed (c.in_err-end_record.was ∙ ap Err (sym p.2 ∙ f))))
+    c.in_err-end_record.ensures.telling c.in_err-end_record.ensures.stopped c.in_err-end_record.ensures.name c.in_err-end_record.ensures.modes (λ f. c.end_record.ensures.failed (c.in_err-end_record.was ∙ ap Err (sym p.2 ∙ f))))
 
 pub returns-in_ok-end_record-clause-serves : goal.returns-in_ok-end_record-clause-serves
 returns-in_ok-end_record-clause-serves g c =

@@ -22,7 +22,7 @@ returns-in_err-condition-clause-serves g c =
     λ s t st e. subst (λ r. Serves (bay_meaning g.F.FileStore.told g.F.FileStore.bytes g.F.FileStore.count) s t r (record c.args.self.now { connection = Some c.move_to.new.self }) (job.Go c.args.how)) (sym p.1)
     (for_task (λ u. Serves (bay_meaning g.F.FileStore.told g.F.FileStore.bytes g.F.FileStore.count) s u (Err p.0) (record c.args.self.now { connection = Some c.move_to.new.self }) (job.Go c.args.how)) (go c.args.how) t e
     (go_stopped g.F.FileStore.told g.F.FileStore.bytes g.F.FileStore.count g.F.FileStore.tells g.met.F.FileStore.decided c.args.self.now (record c.args.self.now { connection = Some c.move_to.new.self }) c.in-Some.connection c.move_to.new.self s c.args.how p.0 c.in-Some.is st refl
-    c.in_err-condition.ensures.telling c.in_err-condition.ensures.stopped c.in_err-condition.ensures.name (λ f. c.move_to.ensures.failed (c.in_err-condition.was ∙ ap Err (sym p.2 ∙ f)))))
+    c.in_err-condition.ensures.telling c.in_err-condition.ensures.stopped c.in_err-condition.ensures.name c.in_err-condition.ensures.modes (λ f. c.move_to.ensures.failed (c.in_err-condition.was ∙ ap Err (sym p.2 ∙ f)))))
 
 pub returns-clause-serves : goal.returns-clause-serves
 returns-clause-serves g c =
