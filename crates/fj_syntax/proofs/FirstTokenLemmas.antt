@@ -19,7 +19,7 @@ use Rattle.fj_syntax.specs.declared.token.Sign.{Sign}
 use Rattle.fj_syntax.specs.declared.token.Sign.TheVariants.{Unsigned, Plus, Minus}
 use Rattle.fj_syntax.specs.FirstToken.{word_at, number_at, closed_by, literal_at, as_literal, truth_at, mark_of, mark_at, first_token}
 use Rattle.fj_syntax.specs.Tokens.{begins, doubled, IsDelimiter, IsWordText, IsNumberText, IsLiteralText, IsWritten, sign_bytes, mark_bytes, truth_bytes}
-use Rattle.fj_syntax.proofs.TokenLemmas.{begun_some, both, is_either, choose_true, choose_false, chosen, word_again, word_is, number_again, number_is, same_byte, closed_is, closed_again, Closes, Part}
+use Rattle.fj_syntax.proofs.TokenLemmas.{begun_some, both, is_either, choose_true, choose_false, chosen, either_way, some_is, word_again, word_is, number_again, number_is, same_byte, closed_is, closed_again, Closes, Part}
 
 -- a token is written at the front of the line, and the rest is behind it
 abbrev pub StandsFirst : List ℕ → Token × List ℕ → Type 0
@@ -67,17 +67,11 @@ literal_first q line (inr e) = subst (λ d. first_token (d ∷ line) ≡ literal
 truth_is : (line : List ℕ) (x : Token × List ℕ) → truth_at line ≡ Some x → StandsFirst line x
 unfolding truth_at
 truth_is line x h =
-    elim (chosen (bytes_eq (str_to_ascii_lowercase (take 6 line)) (codes ".true.")) _ _ _ h) [
-      | inl e ↦
-          let same : x ≡ (token.Truth true, drop 6 line) = cc in
-          subst (StandsFirst line) (sym same) (take 6 line, sym (take-append-drop 6 line), (bytes_eq-Decides _ _).0 e.0)
-      | inr e ↦ elim (chosen (bytes_eq (str_to_ascii_lowercase (take 7 line)) (codes ".false.")) _ _ _ e.1) [
-        | inl f ↦
-            let same : x ≡ (token.Truth false, drop 7 line) = cc in
-            subst (StandsFirst line) (sym same) (take 7 line, sym (take-append-drop 7 line), (bytes_eq-Decides _ _).0 f.0)
-        | inr f ↦ cc
-      ]
-    ]
+    let P : Type 0 = StandsFirst line x in
+    either_way (bytes_eq (str_to_ascii_lowercase (take 6 line)) (codes ".true.")) _ _ x P (stands true 6)
+    (either_way (bytes_eq (str_to_ascii_lowercase (take 7 line)) (codes ".false.")) _ _ x P (stands false 7) (λ k. cc)) h where
+      stands : (truth : Bool) (n : ℕ) → bytes_eq (str_to_ascii_lowercase (take n line)) (truth_bytes truth) ≡ true → Some (token.Truth truth, drop n line) ≡ Some x → StandsFirst line x
+      stands truth n e k = subst (StandsFirst line) (some_is (token.Truth truth, drop n line) x k) (take n line, sym (take-append-drop n line), (bytes_eq-Decides _ _).0 e)
 
 truth_again : (truth : Bool) (bytes line : List ℕ) → str_to_ascii_lowercase bytes ≡ truth_bytes truth → truth_at (bytes ++ line) ≡ Some (token.Truth truth, line)
 unfolding truth_at
@@ -122,27 +116,13 @@ mark_case c k n m written h same =
 mark_byte : (c : ℕ) (m : Mark) → mark_of c ≡ Some m → c ∷ [] ≡ mark_bytes m
 unfolding mark_of
 mark_byte c m h =
-    elim (chosen (eqb c 40) _ _ _ h) [
-      | inl e ↦ mark_case c 40 LeftParenthesis m refl e.0 e.1
-      | inr h ↦
-          elim (chosen (eqb c 41) _ _ _ h.1) [
-            | inl e ↦ mark_case c 41 RightParenthesis m refl e.0 e.1
-            | inr h ↦
-                elim (chosen (eqb c 44) _ _ _ h.1) [
-                  | inl e ↦ mark_case c 44 Comma m refl e.0 e.1
-                  | inr h ↦
-                      elim (chosen (eqb c 61) _ _ _ h.1) [
-                        | inl e ↦ mark_case c 61 Equals m refl e.0 e.1
-                        | inr h ↦
-                            elim (chosen (eqb c 47) _ _ _ h.1) [
-                              | inl e ↦ mark_case c 47 Slash m refl e.0 e.1
-                              | inr h ↦
-                                  elim (chosen (eqb c 42) _ _ _ h.1) [ inl e ↦ mark_case c 42 Asterisk m refl e.0 e.1 | inr h ↦ cc ]
-                            ]
-                      ]
-                ]
-          ]
-    ]
+    let P : Type 0 = c ∷ [] ≡ mark_bytes m in
+    either_way (eqb c 40) _ _ m P (mark_case c 40 LeftParenthesis m refl)
+    (either_way (eqb c 41) _ _ m P (mark_case c 41 RightParenthesis m refl)
+    (either_way (eqb c 44) _ _ m P (mark_case c 44 Comma m refl)
+    (either_way (eqb c 61) _ _ m P (mark_case c 61 Equals m refl)
+    (either_way (eqb c 47) _ _ m P (mark_case c 47 Slash m refl)
+    (either_way (eqb c 42) _ _ m P (mark_case c 42 Asterisk m refl) (λ k. cc)))))) h
 
 two_bytes : (c : ℕ) (line : List ℕ) → eqb c 58 ≡ true → eqb (slice_index line 0) 58 ≡ true → c ∷ line ≡ codes "::" ++ drop 1 line
 two_bytes c [] h k = cc
@@ -183,27 +163,13 @@ pub first_is : (line : List ℕ) (x : Token × List ℕ) → first_token line �
 unfolding first_token
 first_is [] x h = cc
 first_is (c ∷ line) x h =
-    elim (chosen (is_ascii_alphabetic c) _ _ _ h) [
-      | inl e ↦ word_is c line x e.0 e.1
-      | inr h ↦
-          elim (chosen (is_ascii_digit c) _ _ _ h.1) [
-            | inl e ↦ number_is Unsigned (c ∷ line) x e.1
-            | inr h ↦
-                elim (chosen (eqb c 43) _ _ _ h.1) [
-                  | inl e ↦ number_case Plus c line x (ap (λ b. b ∷ []) (same_byte c 43 e.0)) e.1
-                  | inr h ↦
-                      elim (chosen (eqb c 45) _ _ _ h.1) [
-                        | inl e ↦ number_case Minus c line x (ap (λ b. b ∷ []) (same_byte c 45 e.0)) e.1
-                        | inr h ↦
-                            elim (chosen (eqb c 39 || eqb c 34) _ _ _ h.1) [
-                              | inl e ↦ literal_is c line x (delimiter_of c e.0) e.1
-                              | inr h ↦
-                                  elim (chosen (eqb c 46) _ _ _ h.1) [ inl e ↦ truth_is (c ∷ line) x e.1 | inr h ↦ mark_is c line x h.1 ]
-                            ]
-                      ]
-                ]
-          ]
-    ]
+    let P : Type 0 = StandsFirst (c ∷ line) x in
+    either_way (is_ascii_alphabetic c) _ _ x P (word_is c line x)
+    (either_way (is_ascii_digit c) _ _ x P (λ e k. number_is Unsigned (c ∷ line) x k)
+    (either_way (eqb c 43) _ _ x P (λ e k. number_case Plus c line x (ap (λ b. b ∷ []) (same_byte c 43 e)) k)
+    (either_way (eqb c 45) _ _ x P (λ e k. number_case Minus c line x (ap (λ b. b ∷ []) (same_byte c 45 e)) k)
+    (either_way (eqb c 39 || eqb c 34) _ _ x P (λ e k. literal_is c line x (delimiter_of c e) k)
+    (either_way (eqb c 46) _ _ x P (λ e k. truth_is (c ∷ line) x k) (mark_is c line x)))))) h
 
 word_first : (bytes line : List ℕ) → begins is_ascii_alphabetic bytes ≡ true → first_token (bytes ++ line) ≡ word_at (bytes ++ line)
 unfolding first_token

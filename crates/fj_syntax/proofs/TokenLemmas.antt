@@ -52,6 +52,11 @@ pub chosen : {X : Type 0} (b : Bool) (x y z : X) → cond b x y ≡ z → ((b �
 chosen true x y z h = inl (refl, h)
 chosen false x y z h = inr (refl, h)
 
+-- what follows from either side of a choice that is some
+pub either_way : {A : Type 0} (b : Bool) (o r : Option A) (x : A) (P : Type 0) → (b ≡ true → o ≡ Some x → P) → (r ≡ Some x → P) → cond b o r ≡ Some x → P
+either_way true o r x P f g h = f refl h
+either_way false o r x P f g h = g h
+
 -- ---- the longest front
 
 -- a front that passes before a line that doesn't
