@@ -2,7 +2,7 @@
 ghost use Rattle.std.specs.Prelude.{◌≡◌, ◌≤◌, ◌<◌, ◌^◌, ◌↔◌, [], length, All, IfOk};
 ghost use Rattle.std.specs.FinSet as set;
 ghost use Rattle.fj_value.specs.Kind.{IsOfKind};
-ghost use Rattle.fj_list.specs.Moved.{IsOrdered};
+ghost use Rattle.fj_list.specs.Moved.{AreDistinct, IsOrdered};
 ghost use Rattle.fj_namelist.specs.GroupText.{IsWithin};
 ghost use Rattle.fj_outside.specs.Holdings.{IsInUse};
 ghost use Rattle.fj_transfer.specs.Moving.{HasValues, members_of};
@@ -93,6 +93,7 @@ fn disk_of(alloc: Global, bytes: &[u8]) -> Result<MemoryDisk, AllocError>
 /// One item with a text.
 fn moved(alloc: Global, bytes: &[u8]) -> Result<Moved, AllocError>
     ensures cells { IfOk result (λ moved. length moved.cells ≡ 1) }
+    ensures distinct { IfOk result (λ moved. AreDistinct moved.cells) }
     ensures ordered { IfOk result (λ moved. IsOrdered moved) }
     ensures few { IfOk result (λ moved. length moved.order ≤ 1) }
     ensures defined { IfOk result (λ moved. HasValues moved) }
