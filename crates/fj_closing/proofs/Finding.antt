@@ -27,12 +27,12 @@ use Rattle.fj_bay.specs.declared.job.Answer.{Answer}
 use Rattle.fj_bay.proofs.Behind.{behind_is}
 use Rattle.fj_bay.proofs.Performed.{agree}
 use Rattle.fj_desk.specs.Both.{Both}
-use Rattle.fj_desk.specs.Core.{Connected}
+use Rattle.fj_desk.specs.Core.{Connected, has_name}
 use Rattle.fj_plain.specs.State.{Files}
 use Rattle.fj_units.specs.Names.{stands}
 use Rattle.fj_units.specs.Files.{files_of}
 use Rattle.fj_closing.specs.Closing.{Lessens, AreOthersSame}
-use Rattle.fj_closing.specs.Finding.{IsEndedUpTo, IsFound, IsFoundOf, IsLeftBehind, OfEach, has_name, AreSpared}
+use Rattle.fj_closing.specs.Finding.{IsEndedUpTo, IsFound, IsFoundOf, IsLeftBehind, OfEach, AreSpared}
 use Rattle.fj_closing.specs.Remains.{IsWhatRemains}
 use Rattle.fj_closing.specs.declared.remains.Remains.{Remains}
 use Rattle.fj_closing.proofs.Due.{same_on}

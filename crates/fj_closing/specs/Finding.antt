@@ -1,7 +1,5 @@
 -- What is found of a file whose connection was closed, whatever was lost: also where its slot stopped, or its record could not be ended.
 use Rattle.std.specs.Prelude.{◌≡◌, ℕ, ◌≤◌, is_some, Bool, true, false, not, List, [], ◌∷◌, Option, Some, None, IsSome, IfSome, slice_get}
-use Rattle.std.specs.List.{list_any}
-use Rattle.std.specs.Str.{bytes_eq}
 use Rattle.fj_outside.specs.Holdings.{Holdings, SameAt}
 use Rattle.fj_outside.specs.declared.errors.Stop.{Stop}
 use Rattle.fj_connect.specs.Connection.{Connection}
@@ -11,7 +9,7 @@ use Rattle.fj_slot.specs.Ledger.{Ledger}
 use Rattle.fj_bay.specs.Bay.{Bay}
 use Rattle.fj_bay.specs.Jobs.{Job}
 use Rattle.fj_bay.specs.Spoilt.{first_difference, AgreeBelow, SomeMayLeave}
-use Rattle.fj_desk.specs.Core.{Connected}
+use Rattle.fj_desk.specs.Core.{Connected, has_name}
 use Rattle.fj_closing.specs.declared.remains.Remains.{Remains}
 
 -- The bytes of a file whose open record was to be ended. Where its slot had stopped they are as before, and else as before below the
@@ -43,10 +41,6 @@ pub record IsLeftBehind {E J A : Type 0} (l : Ledger E J A) (start : Bay) (jobs 
 abbrev pub OfEach : {X : Type 0} → List Connected → List X → (Connected → X → Type 0) → Type 0
 OfEach [] all P = Unit {0}
 OfEach {X} (u ∷ us) all P = ((x : X) × (slice_get all u.slot ≡ Some x) × P u x) × OfEach us all P
-
--- one of the units has the file
-abbrev pub has_name : List Connected → List ℕ → Bool
-has_name units name = list_any (λ (u : Connected). bytes_eq name u.name) units
 
 -- of a file that no unit has the disk tells the same as before
 abbrev pub AreSpared : List Connected → Holdings → Holdings → Type 0

@@ -23,7 +23,7 @@ use Rattle.fj_plain.proofs.Reached.{sound_reached}
 use Rattle.fj_plain.proofs.Sound.{Sound}
 use Rattle.fj_plain.proofs.Units.{bytes_differ}
 use Rattle.fj_desk.specs.Core.{Core, Connected}
-use Rattle.fj_desk.specs.Desks.{Desk, Outcome, carry, log_length, most_slots}
+use Rattle.fj_desk.specs.Desks.{Desk, Outcome, carry, log_length}
 use Rattle.fj_desk.specs.Desks as desks
 use Rattle.fj_desk.specs.Doing.{Doing, finishes, gives, awaits, Desked}
 use Rattle.fj_desk.specs.Desking.{connection_at, fresh, all_left}

@@ -35,7 +35,7 @@ use Rattle.fj_plain.specs.Connecting.{file_due, keeps_name}
 use Rattle.fj_plain.specs.Statement.{Stated, file_asked}
 use Rattle.fj_plain.proofs.Units.{bytes_differ}
 use Rattle.fj_desk.specs.Core.{Core, Connected, connected_at, unit_named, with_connected, inserted, without_connected}
-use Rattle.fj_desk.specs.Desks.{Desk, Outcome, carry, log_length, most_slots}
+use Rattle.fj_desk.specs.Desks.{Desk, carry, log_length, most_slots}
 use Rattle.fj_desk.specs.Desks as desks
 use Rattle.fj_desk.specs.Desking.{connection_at, all_left, told_core}
 use Rattle.fj_desk.specs.Doing.{Doing, finishes, gives, awaits}

@@ -21,7 +21,7 @@ use Rattle.fj_plain.specs.State.{Entry}
 use Rattle.fj_plain.specs.Telling.{is_asynchronous, condition_of}
 use Rattle.fj_plain.specs.Transfers.{moved_in, layout_of, refusal}
 use Rattle.fj_plain.specs.Statement.{Stated}
-use Rattle.fj_desk.specs.Core.{Core, Connected, connected_at}
+use Rattle.fj_desk.specs.Core.{Core, Connected, connected_at, has_name}
 use Rattle.fj_desk.specs.Desks.{Desk, Outcome, carry, log_length}
 use Rattle.fj_desk.specs.Desks as desks
 use Rattle.fj_desk.specs.Desking.{told_core}
@@ -29,7 +29,7 @@ use Rattle.fj_desk.specs.Doing.{Doing, finishes, gives, awaits, Desked}
 use Rattle.fj_desk.specs.Acting.{finishes_behind, unless_refused, on_unit, transfer_at, moves, unit_at, doing}
 use Rattle.fj_turns.specs.Turns.{halted_slots, ends_halts, doing_told}
 use Rattle.fj_turns.specs.Inside.{waited_at, does, walked}
-use Rattle.fj_cut.specs.Others.{names_of, file_about, file_renewed, has_name, core_now}
+use Rattle.fj_cut.specs.Others.{names_of, file_about, file_renewed, core_now}
 
 -- the units stay as they are
 abbrev Stays : List Connected → Doing → Type 0

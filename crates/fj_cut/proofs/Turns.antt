@@ -9,6 +9,7 @@ use Rattle.fj_bay.specs.Bay.{Bay}
 use Rattle.fj_bay.specs.Jobs.{Job, Answer, attach}
 use Rattle.fj_plain.specs.State.{Files, start}
 use Rattle.fj_plain.specs.Statement.{Stated}
+use Rattle.fj_desk.specs.Core.{has_name}
 use Rattle.fj_desk.specs.Desks.{Desk}
 use Rattle.fj_desk.specs.Doing.{Doing, awaits, Desked}
 use Rattle.fj_desk.specs.Desking.{fresh}
@@ -25,7 +26,7 @@ use Rattle.fj_turns.proofs.Reaching.{waited_is}
 use Rattle.fj_turns.proofs.Slots.{same_some}
 use Rattle.fj_turns.proofs.Stages.{AtStage}
 use Rattle.fj_turns.proofs.Ties.{Ties}
-use Rattle.fj_cut.specs.Others.{names_of, names_in, file_opened, has_name, core_now, left_now, AreHoused}
+use Rattle.fj_cut.specs.Others.{names_of, names_in, file_opened, core_now, left_now, AreHoused}
 use Rattle.fj_cut.specs.Turning.{TurnsDo, doing_at, doing_due, turn_doing, TurnLeavesOthers, EachTurn, TurnsLeaveOthers}
 use Rattle.fj_cut.proofs.Connecting.{connects_at_point, told_connects, connects_one, opened_about}
 use Rattle.fj_cut.proofs.Deck.{others_stay, units_keep_desks}

@@ -14,7 +14,7 @@ use Rattle.fj_plain.specs.Needs.{number_of}
 use Rattle.fj_plain.specs.State.{State, Files, found, all_closed, start}
 use Rattle.fj_plain.specs.State as plain
 use Rattle.fj_plain.specs.Statement.{Stated, cut}
-use Rattle.fj_desk.specs.Core.{Core, Connected, connected_at}
+use Rattle.fj_desk.specs.Core.{Core, Connected, connected_at, has_name}
 use Rattle.fj_desk.specs.Desks.{Desk, Outcome, carry}
 use Rattle.fj_desk.specs.Doing.{Doing, finishes, gives, awaits, Desked}
 use Rattle.fj_desk.specs.Desking.{connection_at, fresh, all_left}
@@ -86,10 +86,6 @@ AreHoused desks (u ∷ us) = IsHoused desks u × AreHoused desks us
 -- a unit at that slot has the file
 abbrev pub has_file : List Connected → ℕ → List ℕ → Bool
 has_file units slot name = list_any (λ (u : Connected). (u.slot == slot) && bytes_eq name u.name) units
-
--- a unit has the file
-abbrev pub has_name : List Connected → List ℕ → Bool
-has_name units name = list_any (λ (u : Connected). bytes_eq name u.name) units
 
 -- A file of that name, where the statement gave so many jobs. As far as the statement is not about it, it is as before. Where the
 -- statement waits for a job, nothing else of it has changed the file yet, unless it opens that; nor has the job itself, unless the

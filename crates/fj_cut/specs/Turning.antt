@@ -8,7 +8,7 @@ use Rattle.fj_bay.specs.Bay.{Bay}
 use Rattle.fj_bay.specs.Jobs.{Job, Answer, attach}
 use Rattle.fj_plain.specs.State.{State, Files, all_closed, start}
 use Rattle.fj_plain.specs.Statement.{Stated, cut}
-use Rattle.fj_desk.specs.Core.{Core}
+use Rattle.fj_desk.specs.Core.{Core, has_name}
 use Rattle.fj_desk.specs.Desks.{Desk, Outcome}
 use Rattle.fj_desk.specs.Doing.{Doing, awaits}
 use Rattle.fj_turns.specs.Run.{Run, Stage, Start, Waiting, Acting, Awaiting}
@@ -16,7 +16,7 @@ use Rattle.fj_turns.specs.Turns.{turn, turn_act, rule_of, doing_told, waited_now
 use Rattle.fj_turns.specs.Serving.{over_bays, Shows, run_conduct, desks_of, first_run, fresh_slots}
 use Rattle.fj_turns.specs.Passing.{passes, KnowsAnswers}
 use Rattle.fj_turns.specs.Laws.{plain_bays, Seen, shown}
-use Rattle.fj_cut.specs.Others.{names_in, file_about, file_renewed, has_name, core_now, left_now, AreHoused}
+use Rattle.fj_cut.specs.Others.{names_in, file_about, file_renewed, core_now, left_now, AreHoused}
 
 -- what the turn of the statement does, once the answers that it needs are known; nothing, where it waits for its own job
 abbrev pub doing_at : Stated → Stage → Run → Option Doing

@@ -1,5 +1,6 @@
 -- What the execution of a deck holds above its connections.
 use Rattle.std.specs.Prelude.{ℕ, ◌==◌, not, nat_lt, Bool, List, [], ◌∷◌, ◌++◌, map, filter, Option, Some, None, if◌then◌else◌}
+use Rattle.std.specs.List.{list_any}
 use Rattle.std.specs.Str.{bytes_eq}
 use Rattle.fj_value.specs.declared.place.Place.{Place}
 use Rattle.fj_modes.specs.declared.modes.Modes.{Modes}
@@ -48,6 +49,10 @@ connected_at (u ∷ us) number = if u.number == number then Some u else connecte
 abbrev pub unit_named : List Connected → List ℕ → Option ℕ
 unit_named [] name = None
 unit_named (u ∷ us) name = if bytes_eq u.name name then Some u.number else unit_named us name
+
+-- a unit has the file
+abbrev pub has_name : List Connected → List ℕ → Bool
+has_name units name = list_any (λ (u : Connected). bytes_eq name u.name) units
 
 abbrev pub with_connected : Connected → List Connected → List Connected
 with_connected new us = map (λ (u : Connected). if u.number == new.number then new else u) us

@@ -15,12 +15,12 @@ use Rattle.fj_bay.specs.Bay.{Bay}
 use Rattle.fj_bay.specs.Jobs.{Job, Answer}
 use Rattle.fj_plain.specs.State.{Files}
 use Rattle.fj_plain.specs.Statement.{Stated}
-use Rattle.fj_desk.specs.Core.{Connected}
+use Rattle.fj_desk.specs.Core.{Connected, has_name}
 use Rattle.fj_desk.specs.Desks.{Desk}
 use Rattle.fj_desk.specs.Desking.{all_left, connection_at, left_by}
 use Rattle.fj_turns.specs.Run.{Run}
 use Rattle.fj_turns.specs.Serving.{over_bays}
-use Rattle.fj_cut.specs.Others.{AreHoused, has_name, has_file}
+use Rattle.fj_cut.specs.Others.{AreHoused, has_file}
 use Rattle.fj_cut.specs.Stopping.{WereGiven, HoldsGiven, IsLeftShort}
 use Rattle.fj_closing.specs.Finding.{IsLeftBehind, OfEach}
 use Rattle.fj_closing.proofs.Due.{left_elsewhere}

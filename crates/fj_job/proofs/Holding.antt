@@ -10,14 +10,14 @@ use Rattle.fj_bay.specs.Bay.{Bay}
 use Rattle.fj_bay.specs.Jobs.{Job, Answer}
 use Rattle.fj_plain.specs.State.{State, Files, all_closed, start}
 use Rattle.fj_plain.specs.Statement.{Stated, stated, cut}
-use Rattle.fj_desk.specs.Core.{Core, Connected}
+use Rattle.fj_desk.specs.Core.{Core, Connected, has_name}
 use Rattle.fj_desk.specs.Desks.{Desk}
 use Rattle.fj_desk.specs.Desking.{all_left}
 use Rattle.fj_turns.specs.Run.{Run}
 use Rattle.fj_turns.specs.Cutting.{IsCutRun}
 use Rattle.fj_turns.specs.Executing.{HoldsDesks}
 use Rattle.fj_turns.specs.Serving.{Shows}
-use Rattle.fj_cut.specs.Others.{names_in, file_about, has_file, core_now, AreHoused, LeavesOthers, file_renewed, has_name}
+use Rattle.fj_cut.specs.Others.{names_in, file_about, has_file, core_now, AreHoused, LeavesOthers, file_renewed}
 use Rattle.fj_cut.specs.Awaiting.{IsFree, StopsAt}
 use Rattle.fj_cut.specs.Stopping.{HoldsGiven}
 use Rattle.fj_cut.specs.Turning.{TurnLeavesOthers}

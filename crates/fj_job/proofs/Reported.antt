@@ -15,11 +15,12 @@ use Rattle.fj_bay.specs.Jobs.{Job, Answer}
 use Rattle.fj_world.specs.Rack.{Rack}
 use Rattle.fj_plain.specs.State.{State, Files, Output, Tell, all_closed, start}
 use Rattle.fj_plain.specs.Statement.{plain_execution, step, stated}
+use Rattle.fj_desk.specs.Core.{has_name}
 use Rattle.fj_desk.specs.Desks.{Desk}
 use Rattle.fj_desk.specs.Desking.{all_left}
 use Rattle.fj_turns.specs.Executing.{HoldsDesks}
 use Rattle.fj_turns.specs.Serving.{over_bays}
-use Rattle.fj_cut.specs.Others.{names_in, file_renewed, has_name, AreHoused}
+use Rattle.fj_cut.specs.Others.{names_in, file_renewed, AreHoused}
 use Rattle.fj_cut.specs.Stopping.{IsLeftShort}
 use Rattle.fj_pending.specs.Plain.{tells_of}
 use Rattle.fj_items.specs.Handing.{TakesFront, TakesPart, whole_records, open_record}

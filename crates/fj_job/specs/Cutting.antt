@@ -11,11 +11,11 @@ use Rattle.fj_bay.specs.Bay.{Bay}
 use Rattle.fj_bay.specs.Jobs.{Job, Answer}
 use Rattle.fj_plain.specs.State.{State, Files, all_closed}
 use Rattle.fj_plain.specs.Statement.{Stated, plain_execution, step, stated}
-use Rattle.fj_desk.specs.Core.{Connected}
+use Rattle.fj_desk.specs.Core.{Connected, has_name}
 use Rattle.fj_desk.specs.Desks.{Desk}
 use Rattle.fj_desk.specs.Desking.{all_left}
 use Rattle.fj_turns.specs.Executing.{HoldsDesks}
-use Rattle.fj_cut.specs.Others.{names_in, file_about, has_file, AreHoused, file_renewed, has_name}
+use Rattle.fj_cut.specs.Others.{names_in, file_about, has_file, AreHoused, file_renewed}
 use Rattle.fj_cut.specs.Awaiting.{AwaitedUnit}
 use Rattle.fj_cut.specs.Stopping.{HoldsGiven}
 use Rattle.fj_pending.specs.Plain.{tells_of}
