@@ -13,3 +13,4 @@ pub mod Answered
 pub mod Failures
 pub mod GivingUp
 pub mod Numbering
+pub mod Fits

@@ -1,5 +1,5 @@
 -- Numbers of jobs, identifiers and slots, after each step.
-use Rattle.std.proofs.Common.{◌≡◌, ℕ, ◌+◌, ◌<◌, ◌≤◌, ◌⊎◌, ◌==◌, ◌&&◌, ◌||◌, Bool, true, false, cond, List, [], ◌∷◌, map, filter, length, get_or, slice_set, All, Option, Some, Result, Ok, Err, OnOk, OnErr, refl, sym, ap, ◌∙◌, subst, inl, inr, arith}
+use Rattle.std.proofs.Common.{◌≡◌, ℕ, ◌+◌, ◌<◌, ◌≤◌, ◌⊎◌, ◌==◌, ◌&&◌, ◌||◌, Bool, true, false, cond, List, [], ◌∷◌, map, length, get_or, slice_set, All, Option, Some, Result, Ok, Err, OnOk, OnErr, refl, sym, ap, ◌∙◌, subst, inl, inr, arith}
 use Rattle.std.specs.List.{list_any}
 use Rattle.std.proofs.lemmas.Bool.{eq-eqb, ne_eqb, cases_lt, cases_Bool}
 use Rattle.std.proofs.lemmas.Bool.Decides.{eqb_tells}
@@ -71,7 +71,7 @@ module _ (sent : List ℕ) (slot more : ℕ) (within : slot < length sent) (is :
       let low : number < get_or (slice_set sent slot more) slot 0 = omega (arith, here, is, o.1) in (
         subst (λ k. number < get_or (slice_set sent slot more) k 0) (sym o.0) low,
         All-weaker (λ (h : Held). h.number < get_or sent h.slot 0) (λ (h : Held). h.slot ≡ at → h.number < number)
-        (λ h given same. let e : get_or sent h.slot 0 ≡ number = ap (λ k. get_or sent k 0) (same ∙ o.0) ∙ sym o.1 in omega (arith, given, e)) hs all,
+            (λ h given same. let e : get_or sent h.slot 0 ≡ number = ap (λ k. get_or sent k 0) (same ∙ o.0) ∙ sym o.1 in omega (arith, given, e)) hs all,
       )
 
 -- ---- a slot that was given a job is one that there is

@@ -11,3 +11,4 @@ pub mod Refused
 pub mod Failing
 pub mod Leaving
 pub mod Making
+pub mod Fitting

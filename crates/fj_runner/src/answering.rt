@@ -1,5 +1,5 @@
 // What is done with an answer.
-ghost use Rattle.std.specs.Prelude.{◌≡◌, true, List, Some, OnOk, OnErr};
+ghost use Rattle.std.specs.Prelude.{◌≡◌, ◌≢◌, ◌+◌, ◌<◌, ◌^◌, true, List, get_or, Some, Err, OnOk, OnErr};
 ghost use Rattle.std.specs.List.{list_any};
 ghost use Rattle.fj_statement.specs.declared.deck.Variable.{Variable};
 ghost use Rattle.fj_bay.specs.Jobs.{Job as Task};
@@ -11,6 +11,7 @@ ghost use Rattle.fj_turns.specs.Turns.{is_at, told_of};
 ghost use Rattle.fj_pending.specs.Plain.{held};
 ghost use Rattle.fj_acts.specs.State.{core_of};
 ghost use Rattle.fj_runner.specs.Answering.{IsAnswered, with_own};
+ghost use Rattle.fj_runner.specs.Fitting.{IsMove};
 ghost use Rattle.fj_runner.specs.Machine.{run_in, stage_of};
 ghost use Rattle.fj_runner.specs.Turned.{Stands};
 
@@ -33,6 +34,7 @@ fn keep<F: FileStore>(
     requires { list_any (λ h. is_at slot number h.pending) (held pending.old) ≡ true }
     ensures told { OnOk result (IsAnswered F.told F.bytes slot number job answer pending.old pending.new) }
     ensures none { OnErr result (pending.new ≡ pending.old) }
+    ensures fits { IsMove job → result ≢ Err Lost.Unfit }
 {
     let Job::Move(transfer) = job else {
         return Err(Lost::Unfit);
@@ -81,6 +83,9 @@ impl<F: FileStore> State<F> {
             → stage_of F.told F.bytes variables rest (core_of files self.old.core) self.old.stage ≡ Some stage
             → OnOk result (Stands F.told F.bytes variables rest files self.new (told_of (run_in variables rest files self.old stage) (task, reply_of answer))) }
         ensures kept { self.new.core ≡ record (self.old.core) { pending = self.new.core.pending } }
+        ensures fits { get_or self.old.told.items self.old.due 0 + 1 < 2 ^ 64
+            → (list_any (λ h. is_at self.old.due (get_or self.old.told.items self.old.due 0) h.pending) (held self.old.core.pending) ≡ true → IsMove job)
+            → result ≢ Err Lost.Unfit }
     {
         let at = self.due as usize;
         let number = self.told[at];

@@ -1,5 +1,6 @@
 // A statement goes on from its stage.
-ghost use Rattle.std.specs.Prelude.{◌≡◌, List, ◌∷◌, Some, IfOk};
+ghost use Rattle.std.specs.Prelude.{◌≡◌, ◌≢◌, List, ◌∷◌, Some, IfOk, Err};
+ghost use Rattle.fj_statement.specs.Sound.{IsSoundStatement};
 ghost use Rattle.fj_items.specs.Kinds.{kinds_of};
 ghost use Rattle.fj_plain.specs.Statement.{Stated, control_by};
 ghost use Rattle.fj_turns.specs.Run.{Stage as PlainStage};
@@ -11,6 +12,7 @@ ghost use Rattle.fj_runner.specs.Machine.{run_in, stage_of};
 ghost use Rattle.fj_runner.specs.Turned.{IsTurn};
 ghost use Rattle.fj_runner.specs.Stepping.{Steps};
 ghost use Rattle.fj_runner.specs.Failing.{FailsStage};
+ghost use Rattle.fj_runner.specs.Fitting.{FitsStage, HasRoom};
 
 use crate::stage::Stage;
 use crate::state::State;
@@ -40,6 +42,8 @@ impl<F: FileStore> State<F> {
             (turns.turn (lined.now, control_by lined.now.what) stage
             (run_in variables.now ((lined.now, control_by lined.now.what) ∷ more) (files_of (D.held disk.old)) self.old stage))) }
         ensures steps { Steps W.tells W.taken W.count D.tells D.held D.count D.refusals out.old disk.old self.old.core result out.new disk.new self.new.core }
+        ensures fits { IsSoundStatement variables.now lined.now.what → HasRoom self.old.sent.items
+            → FitsStage variables.now lined.now.what self.old.core self.old.stage → result ≢ Err Lost.Unfit }
         ensures fails { D.tells disk.old → (more : List Stated) (stage : PlainStage)
             → stage_of F.told F.bytes variables.now ((lined.now, control_by lined.now.what) ∷ more) (core_of (files_of (D.held disk.old)) self.old.core) self.old.stage ≡ Some stage
             → FailsStage W.tells W.taken out.old self.old.core result out.new self.new.core (D.held disk.new) (D.refusals disk.old) (D.refusals disk.new) (lined.now, control_by lined.now.what) stage

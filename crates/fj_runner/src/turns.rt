@@ -1,6 +1,8 @@
 // The turns of a statement once its transfers are told: each comes to an ask, passes on to the next statement, or stops at an ending.
-ghost use Rattle.std.specs.Prelude.{◌≡◌, ◌≢◌, ◌<◌, ℕ, List, ◌∷◌, true, Some, Err, IfOk, drop, map, get_or};
+ghost use Rattle.std.specs.Prelude.{◌≡◌, ◌≢◌, ◌<◌, ◌+◌, ◌^◌, ℕ, List, ◌∷◌, true, Some, Err, IfOk, drop, map, get_or};
 ghost use Rattle.fj_statement.specs.declared.deck.Variable.{Variable};
+ghost use Rattle.fj_statement.specs.Sound.{IsSoundStatement};
+ghost use Rattle.fj_value.specs.declared.condition.Condition.TheVariants.{Fine};
 ghost use Rattle.fj_items.specs.Kinds.{kinds_of};
 ghost use Rattle.fj_bay.specs.Jobs.{Job as Task};
 ghost use Rattle.fj_bay.specs.Plain.{task_of};
@@ -15,11 +17,13 @@ ghost use Rattle.fj_turns.specs.Passing.{output_of};
 ghost use Rattle.fj_turns.specs.Turns.{submits, turn_finish, turn_act, matched, ends_halts};
 ghost use Rattle.fj_pending.specs.Plain.{held, tells_of};
 ghost use Rattle.fj_acts.specs.Doing.{IsDoing};
+ghost use Rattle.fj_acts.specs.Fitting.{Meets};
 ghost use Rattle.fj_acts.specs.Placing.{IsPlaced};
 ghost use Rattle.fj_units.specs.Names.{AreInUse};
 ghost use Rattle.fj_acts.specs.State.{core_of};
 ghost use Rattle.fj_units.specs.Files.{files_of};
 ghost use Rattle.fj_runner.specs.Machine.{run_in, stage_of};
+ghost use Rattle.fj_runner.specs.Fitting.{HasRoom};
 ghost use Rattle.fj_runner.specs.Numbering.{AreSlots, gave, slots_behind};
 ghost use Rattle.fj_runner.specs.Passing.{is_passed};
 ghost use Rattle.fj_runner.specs.Turned.{IsTurn};
@@ -56,6 +60,7 @@ impl<F: FileStore> State<F> {
             → IfOk result (λ t. IsTurn F.told F.bytes variables rest files self.new t (submits slot task after (run_in variables rest files self.old before))) }
         ensures core { self.new.core ≡ self.old.core }
         ensures causes { (result ≢ Err Lost.Disk) × (result ≢ Err Lost.Sink) }
+        ensures fits { get_or self.old.sent.items slot 0 + 1 < 2 ^ 64 → result ≢ Err Lost.Unfit }
     {
         let at = slot as usize;
         let Some(further) = self.sent[at].checked_add(1) else {
@@ -90,6 +95,7 @@ impl<F: FileStore> State<F> {
             (turn_finish (lined.now, control_by lined.now.what) (core_of files self.old.core) condition
             (record (run_in variables.now ((lined.now, control_by lined.now.what) ∷ more) files self.old stage) { core = core; book = book }))) }
         ensures keeps { Keeps self.old.core result self.new.core }
+        ensures fits { IsSoundStatement variables.now lined.now.what → result ≢ Err Lost.Unfit }
     {
         put_stage(&mut self.stage, Stage::Start);
         let iostat = iostat_of(&lined.what);
@@ -122,6 +128,7 @@ impl<F: FileStore> State<F> {
             (turn_act (lined.now, control_by lined.now.what) plain
             (record (run_in variables.now ((lined.now, control_by lined.now.what) ∷ more) files self.old stage) { core = core; book = book }))) }
         ensures keeps { Keeps self.old.core result self.new.core }
+        ensures fits { IsSoundStatement variables.now lined.now.what → HasRoom self.old.sent.items → result ≢ Err Lost.Unfit }
     {
         match doing {
             Doing::Finishes(condition) => self.finish(variables, lined, condition),
@@ -158,6 +165,8 @@ impl<F: FileStore> State<F> {
             (doing (control_by lined.now.what) variables.now lined.now.line (core_of (files_of (D.held disk.old)) self.old.core) lined.now.what condition))
             (run_in variables.now ((lined.now, control_by lined.now.what) ∷ more) (files_of (D.held disk.old)) self.old stage))) }
         ensures steps { Steps W.tells W.taken W.count D.tells D.held D.count D.refusals out.old disk.old self.old.core result out.new disk.new self.new.core }
+        ensures fits { IsSoundStatement variables.now lined.now.what → HasRoom self.old.sent.items
+            → (condition ≡ Fine → Meets variables.now self.old.core lined.now.what) → result ≢ Err Lost.Unfit }
         ensures fails { D.tells disk.old → (more : List Stated) (stage : PlainStage)
             → FailsTurn W.tells W.taken out.old self.old.core result out.new self.new.core (D.held disk.new) (D.refusals disk.old) (D.refusals disk.new)
             (output_of (turn_act (lined.now, control_by lined.now.what)

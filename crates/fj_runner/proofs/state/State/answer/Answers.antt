@@ -4,7 +4,9 @@ use Rattle.fj_bay.specs.Plain.{reply_of}
 use Rattle.fj_acts.specs.State.{core_of}
 use Rattle.fj_desk.specs.Desks.{Outcome}
 use Rattle.fj_pending.specs.Plain.{held}
-use Rattle.fj_turns.specs.Turns.{stage_told}
+use Rattle.fj_turns.specs.Run.{Held}
+use Rattle.fj_turns.specs.Turns.{is_at, stage_told}
+use Rattle.std.specs.List.{list_any}
 use Rattle.fj_runner.specs.Answering.{with_own}
 use Rattle.fj_runner.specs.Machine.{stage_of}
 use Rattle.fj_runner.specs.Numbering.{AreSlots, OwnIsLast, slots_behind}
@@ -77,3 +79,10 @@ returns-clause-told g c = λ variables rest files task stage t e.
     (sym (c.own.ensures ∙ ap (with_own s.due number c.args.job c.args.answer) c.replace-stage.ensures.value))
     (own_stage told bytes variables (core_of files s.core) s.due number c.args.job c.args.answer task t rest s.stage stage e))
     refl (sym (none_answered s.due number it (held s.core.pending) (sym c.has.ensures ∙ c.if-has.false))) refl (ap (slice_set s.told.items s.due) more) refl refl
+
+pub returns-then-has-clause-fits : goal.returns-then-has-clause-fits
+returns-then-has-clause-fits g c = λ room moves.
+    let s = c.args.self.now in
+    let number = c.index-number.result.now in
+    let n : number ≡ get_or s.told.items s.due 0 = get_or_read s.told.items s.due number (omega (arith, s.told_slots, s.due_slot)) c.index-number.ensures 0 in
+    c.keep.ensures.fits (moves (subst (λ k. list_any (λ (h : Held). is_at s.due k h.pending) (held s.core.pending) ≡ true) n (sym c.has.ensures ∙ c.if-has.true)))

@@ -18,7 +18,9 @@ use Rattle.fj_turns.specs.Passing.{output_of}
 use Rattle.fj_runner.specs.Failing.{FailsStage}
 use Rattle.fj_runner.proofs.Failures.{fails_still, fails_quiet, fails_at}
 use Rattle.fj_runner.proofs.Stepping.{went, given_up}
+use Rattle.fj_runner.specs.Fitting.{FitsStage}
 use Rattle.fj_runner.specs.Numbering.{gave}
+use Rattle.fj_runner.proofs.Fits.{may_go_on}
 use Rattle.fj_runner.proofs.Numbering.{at_itself, given_entered, named_entered, slot_given}
 use Rattle.fj_runner.proofs.state.State.turn.Goals as goal
 
@@ -233,3 +235,39 @@ settle-requires-clause-slot g c =
 pub settle-requires-clause-own : goal.settle-requires-clause-own
 settle-requires-clause-own g c = λ slot number e.
     c.args.self.now.own slot number (subst (λ x. gave slot number x ≡ true) (sym (sym c.replace.ensures.value ∙ c.in-Awaiting.is)) e)
+
+pub returns-in-Start-clause-fits : goal.returns-in-Start-clause-fits
+returns-in-Start-clause-fits g c = λ sound room f.
+    let fits = subst (FitsStage c.args.variables.now c.args.lined.now.what c.args.self.now.core) (sym c.replace.ensures.value ∙ c.in-Start.is) f in
+    absurd fits
+
+pub returns-in-Waiting-clause-fits : goal.returns-in-Waiting-clause-fits
+returns-in-Waiting-clause-fits g c = λ sound room f.
+    let fits = subst (FitsStage c.args.variables.now c.args.lined.now.what c.args.self.now.core) (sym c.replace.ensures.value ∙ c.in-Waiting.is) f in
+    absurd fits
+
+pub returns-in-Resuming-clause-fits : goal.returns-in-Resuming-clause-fits
+returns-in-Resuming-clause-fits g c = λ sound room f.
+    let fits = subst (FitsStage c.args.variables.now c.args.lined.now.what c.args.self.now.core) (sym c.replace.ensures.value ∙ c.in-Resuming.is) f in
+    c.resume.ensures.fits sound room fits
+
+pub returns-in-Ok-clause-fits : goal.returns-in-Ok-clause-fits
+returns-in-Ok-clause-fits g c = λ sound room f.
+    c.act.ensures.fits sound room
+
+pub returns-in-Err-clause-fits : goal.returns-in-Err-clause-fits
+returns-in-Err-clause-fits g c = λ sound room f.
+    let fits = subst (FitsStage c.args.variables.now c.args.lined.now.what c.args.self.now.core) (sym c.replace.ensures.value ∙ c.in-Going.is) f in
+    let s = c.args.self.now in
+    λ e. c.given.ensures.fits sound
+    (may_go_on s.sent.items c.in-Going.next c.in-Going.number s.core s.sent_slots s.named
+    (λ slot e. s.own slot c.in-Going.number (subst (λ x. gave slot c.in-Going.number x ≡ true) (sym (sym c.replace.ensures.value ∙ c.in-Going.is)) e)) fits) (cc (c.in-Err.is, e))
+
+pub returns-in-Ok-doing-clause-fits : goal.returns-in-Ok-doing-clause-fits
+returns-in-Ok-doing-clause-fits g c = λ sound room f.
+    c.act-in-Ok-doing.ensures.fits sound room
+
+pub returns-in-Err-doing-clause-fits : goal.returns-in-Err-doing-clause-fits
+returns-in-Err-doing-clause-fits g c = λ sound room f.
+    let fits = subst (FitsStage c.args.variables.now c.args.lined.now.what c.args.self.now.core) (sym c.replace.ensures.value ∙ c.in-Answered.is) f in
+    λ e. c.answered-doing.ensures.fits sound fits (cc (c.in-Err-doing.is, e))
