@@ -41,7 +41,7 @@ use Rattle.fj_runner.specs.Tallying.{due_of}
 use Rattle.fj_runner.specs.declared.machine.Machine.{Machine}
 use Rattle.fj_job.specs.Carrying.{HasNotBegun}
 use Rattle.fj_job.specs.Cutting.{IsCut}
-use Rattle.fj_job.proofs.Cut.{shown, rest_is, cut_asking, cut_failing}
+use Rattle.fj_job.proofs.Cut.{shown, cut_asking, cut_failing}
 use Rattle.fj_job.proofs.Executed.{parts, nothing_written, all_taken, rest_is}
 use Rattle.fj_job.proofs.Leading.{led_to, leaves_same, leaves_on, rose_earlier}
 use Rattle.fj_job.proofs.Holding.{stop_cause, stop_holds, turn_holds}

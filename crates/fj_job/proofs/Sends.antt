@@ -33,7 +33,7 @@ use Rattle.fj_pending.specs.contracts.pendings.Pendings as Pendings
 use Rattle.fj_pending.specs.contracts.tell.Tell as Tell
 use Rattle.fj_items.specs.contracts.star.Output as Output
 use Rattle.fj_units.specs.contracts.names.Names as Names
-use Rattle.fj_units.specs.contracts.units.Connected as Connected
+use Rattle.fj_units.specs.contracts.connected.Connected as Connected
 use Rattle.fj_units.specs.contracts.units.Units as Units
 use Rattle.fj_acts.specs.contracts.doing.Given as Given
 use Rattle.fj_acts.specs.contracts.doing.Then as Then
