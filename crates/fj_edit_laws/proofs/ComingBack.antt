@@ -17,7 +17,8 @@ use Rattle.fj_value.specs.declared.kind.Kind.TheVariants.{Int4, Int8, Logical, C
 use Rattle.fj_value.specs.declared.value.Value.{Value}
 use Rattle.fj_value.specs.declared.value.Value.TheVariants as value
 use Rattle.fj_edit_out.specs.Item.{integer_in, bits_in, logical_in}
-use Rattle.fj_edit_out.specs.OutputField.{sign, with_sign as signed_text, zero_filled, integer_field, bits_field, logical_field, text_field, field_of, output_field}
+use Rattle.fj_edit_out.specs.OutputField.{with_sign as signed_text, zero_filled, integer_field, bits_field, logical_field, text_field, field_of, output_field}
+use Rattle.fj_value.specs.Shown.{sign}
 use Rattle.fj_value.specs.Reading.{with_sign, truth_read, assigned_text}
 use Rattle.fj_edit_in.specs.InputField.{trimmed, blanks_read, signed_number, unsigned_number, characters_read, integer_value, bits_value, logical_value, read_by, logical_kind, input_field}
 use Rattle.fj_edit_laws.proofs.Blanks.{trimmed-blanks, trimmed-first, trimmed-none, trimmed-adjusted, none_or_some}

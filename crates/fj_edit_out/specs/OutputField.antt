@@ -1,6 +1,7 @@
 -- The characters of an output field (ISO/IEC 1539-1:2004, 10.6).
-use Rattle.std.specs.Prelude.{ℕ, ◌-◌, ◌<◌, ◌≡◌, Bool, true, false, ◌==◌, nat_lt, if◌then◌else◌, List, [], ◌∷◌, ◌++◌, length, take, replicate, Option, Some, None, pos, negsuc, ℤ, unsigned_abs}
+use Rattle.std.specs.Prelude.{ℕ, ◌-◌, ◌<◌, ◌≡◌, Bool, ◌==◌, nat_lt, if◌then◌else◌, List, [], ◌∷◌, ◌++◌, length, take, replicate, Option, Some, None, ℤ, unsigned_abs}
 use Rattle.fj_value.specs.Digits.{numeral}
+use Rattle.fj_value.specs.Shown.{letter, sign}
 use Rattle.fj_value.specs.declared.edit.Edit.{Edit}
 use Rattle.fj_value.specs.declared.edit.Edit.TheVariants as edit
 use Rattle.fj_value.specs.declared.kind.Kind.{Kind}
@@ -19,12 +20,6 @@ least_digits (Some m) = m
 -- digits, with zeros in front up to the least number
 abbrev pub zero_filled : Option ℕ → List ℕ → List ℕ
 zero_filled m digits = replicate (least_digits m - length digits) 48 ++ digits
-
--- `-` of a negative number; of another one `+` under SIGN='PLUS', and else nothing
-abbrev pub sign : Bool → ℤ → List ℕ
-sign plus (negsuc n) = 45 ∷ []
-sign true (pos n) = 43 ∷ []
-sign false (pos n) = []
 
 -- a sign stands where there are digits
 abbrev pub with_sign : List ℕ → List ℕ → List ℕ
@@ -46,7 +41,7 @@ bits_field (base, w, m) bits = adjusted w (zero_filled m (numeral base bits))
 
 -- L (10.6.2)
 abbrev pub logical_field : ℕ → Bool → List ℕ
-logical_field w truth = replicate (w - 1) 32 ++ (if truth then 84 else 70) ∷ []
+logical_field w truth = replicate (w - 1) 32 ++ letter truth ∷ []
 
 -- A (10.6.3): with a width the first characters, behind the blanks that they leave
 abbrev pub text_field : Option ℕ → List ℕ → List ℕ

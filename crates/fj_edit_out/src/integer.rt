@@ -2,10 +2,10 @@
 ghost use Rattle.std.specs.Prelude.{◌≡◌, ◌++◌, ◌≤◌, length, unsigned_abs, IfOk, OnOk, OnErr};
 ghost use Rattle.fj_value.specs.Digits.{numeral};
 ghost use Rattle.fj_edit_out.specs.Item.{integer_in};
-ghost use Rattle.fj_edit_out.specs.OutputField.{sign, integer_field, integer_output, Appends};
+ghost use Rattle.fj_edit_out.specs.OutputField.{integer_field, integer_output, Appends};
 
 use crate::adjust::{push_adjusted, zeros_before};
-use fj_value::{Condition, Edit, EditModes, Kind, Text, Value};
+use fj_value::{Condition, Edit, EditModes, Kind, Text, Value, sign_of};
 use itoa::Buffer;
 use std::alloc::AllocError;
 
@@ -16,18 +16,6 @@ fn integer_of(kind: Kind, value: &Value) -> Option<i64>
     match (kind, value) {
         (Kind::Int4 | Kind::Int8, Value::Int(n)) => Some(*n),
         _ => None,
-    }
-}
-
-fn sign_of(plus: bool, n: i64) -> &'static [u8]
-    ensures { result.now ≡ sign plus n }
-{
-    if n < 0 {
-        b"-"
-    } else if plus {
-        b"+"
-    } else {
-        b""
     }
 }
 

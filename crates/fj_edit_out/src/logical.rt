@@ -1,10 +1,10 @@
 // Logicals: L, and G at logicals.
-ghost use Rattle.std.specs.Prelude.{◌≡◌, ◌∷◌, [], ◌++◌, if◌then◌else◌, IfOk, OnOk, OnErr};
+ghost use Rattle.std.specs.Prelude.{◌≡◌, IfOk, OnErr};
 ghost use Rattle.fj_edit_out.specs.Item.{logical_in};
 ghost use Rattle.fj_edit_out.specs.OutputField.{logical_field, logical_output, Appends};
 
 use crate::adjust::push_behind_blanks;
-use fj_value::{Condition, Edit, EditModes, Kind, Text, Value};
+use fj_value::{Condition, Edit, EditModes, Kind, Text, Value, letter_of};
 use std::alloc::AllocError;
 
 fn truth_of(kind: Kind, value: &Value) -> Option<bool>
@@ -14,12 +14,6 @@ fn truth_of(kind: Kind, value: &Value) -> Option<bool>
         (Kind::Logical, Value::Log(truth)) => Some(*truth),
         _ => None,
     }
-}
-
-fn letter_of(truth: bool) -> &'static [u8]
-    ensures { result.now ≡ (if truth then 84 else 70) ∷ [] }
-{
-    if truth { b"T" } else { b"F" }
 }
 
 /// Appends the field of a logical under L or G. Width 0 gives the letter alone.

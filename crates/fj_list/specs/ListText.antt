@@ -1,7 +1,8 @@
 -- List-directed output (ISO/IEC 1539-1:2004, 10.9.2): the records of a list of values.
-use Rattle.std.specs.Prelude.{ℕ, ℤ, pos, negsuc, suc, Bool, true, false, ◌&&◌, ◌==◌, nat_lt, if◌then◌else◌, List, [], ◌∷◌, ◌++◌, length, Option, Some, None, is_none}
+use Rattle.std.specs.Prelude.{ℕ, ℤ, unsigned_abs, Bool, true, false, ◌&&◌, ◌==◌, nat_lt, if◌then◌else◌, List, [], ◌∷◌, ◌++◌, length, Option, Some, None, is_none}
 use Rattle.std.specs.List.{flat_map}
 use Rattle.std.specs.Fmt.{decimal}
+use Rattle.fj_value.specs.Shown.{letter, sign}
 use Rattle.fj_value.specs.declared.edit.Delim.{Delim}
 use Rattle.fj_value.specs.declared.edit.Delim.TheVariants.{Plain, Apostrophe, Quote}
 use Rattle.fj_value.specs.declared.edit.EditModes.{EditModes}
@@ -24,11 +25,7 @@ characters_shown (Some mark) cs = mark ∷ [] ++ doubled mark cs ++ mark ∷ []
 
 -- as I0, with a plus sign under SIGN='PLUS'
 abbrev pub integer_shown : Bool → ℤ → List ℕ
-integer_shown plus (pos n) = (if plus then 43 ∷ [] else []) ++ decimal n
-integer_shown plus (negsuc n) = 45 ∷ decimal (suc n)
-
-abbrev pub letter : Bool → ℕ
-letter truth = if truth then 84 else 70
+integer_shown plus z = sign plus z ++ decimal (unsigned_abs z)
 
 -- the text of a value; an undefined one has none
 abbrev pub shown : EditModes → Value → List ℕ

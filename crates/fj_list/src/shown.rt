@@ -2,7 +2,7 @@
 ghost use Rattle.std.specs.Prelude.{◌≡◌, ◌++◌, OnOk, length, take};
 ghost use Rattle.fj_list.specs.ListText.{mark_of, doubled, characters_shown, integer_shown, shown, gap, is_characters};
 
-use fj_value::{Delim, EditModes, Text, Value};
+use fj_value::{Delim, EditModes, Text, Value, letter_of, sign_of};
 use itoa::Buffer;
 use std::alloc::AllocError;
 
@@ -40,11 +40,9 @@ fn push_integer(out: &mut Text, plus: bool, n: i64) -> Result<(), AllocError>
     ensures ok { OnOk result (out.new ≡ out.old ++ integer_shown plus n) }
     ensures kept { take (length out.old) out.new ≡ out.old }
 {
-    if plus && n >= 0 {
-        out.push_all(b"+")?;
-    }
+    out.push_all(sign_of(plus, n))?;
     let mut buffer = Buffer::new();
-    out.push_all(buffer.format(n).as_bytes())
+    out.push_all(buffer.format(n.unsigned_abs()).as_bytes())
 }
 
 /// Appends characters with each mark among them doubled.
@@ -84,7 +82,7 @@ pub fn push_value(out: &mut Text, modes: EditModes, value: &Value) -> Result<(),
     match value {
         Value::Undefined => Ok(()),
         Value::Int(n) => push_integer(out, modes.plus, *n),
-        Value::Log(truth) => out.push_all(if *truth { b"T" } else { b"F" }),
+        Value::Log(truth) => out.push_all(letter_of(*truth)),
         Value::Chars(text) => push_characters(out, mark_of(modes.delim), text.bytes()),
     }
 }

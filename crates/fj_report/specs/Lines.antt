@@ -2,6 +2,7 @@
 use Rattle.std.specs.Prelude.{◌≡◌, ℕ, ℤ, ◌/◌, ◌%◌, ◌==◌, ◌||◌, nat_lt, true, if◌then◌else◌, List, [], ◌∷◌, ◌++◌, length, take, codes, Option, Some}
 use Rattle.std.specs.List.{flat_map}
 use Rattle.std.specs.Fmt.{decimal, signed_decimal, digit_glyph}
+use Rattle.fj_value.specs.Shown.{letter}
 use Rattle.fj_value.specs.declared.value.Value.{Value}
 use Rattle.fj_value.specs.declared.value.Value.TheVariants as value
 use Rattle.fj_value.specs.declared.condition.Rule.{Rule}
@@ -86,7 +87,7 @@ shown_byte c =
 -- a value; one that is not there or not defined is a question mark
 abbrev pub shown_value : Option Value → List ℕ
 shown_value (Some (value.Int n)) = signed_decimal n
-shown_value (Some (value.Log truth)) = (if truth then 84 else 70) ∷ []
+shown_value (Some (value.Log truth)) = letter truth ∷ []
 shown_value (Some (value.Chars text)) = 39 ∷ [] ++ flat_map shown_byte text ++ 39 ∷ []
 shown_value _ = codes "?"
 

@@ -1,11 +1,11 @@
 // Lines of variables.
-ghost use Rattle.std.specs.Prelude.{◌≡◌, ◌<◌, ◌++◌, ◌∷◌, [], OnOk, OnErr, option_copied, true, if◌then◌else◌};
+ghost use Rattle.std.specs.Prelude.{◌≡◌, ◌<◌, ◌++◌, ◌∷◌, [], OnOk, OnErr, option_copied, true};
 ghost use Rattle.std.specs.List.{flat_map};
 ghost use Rattle.std.specs.Fmt.{digit_glyph};
 ghost use Rattle.fj_report.specs.Lines.{KeepsFront, shown_byte, shown_value, shown_index, variable_text};
 
 use crate::pieces::push_pieces;
-use fj_value::{Text, Value};
+use fj_value::{Text, Value, letter_of};
 use itoa::Buffer;
 use std::alloc::AllocError;
 
@@ -54,12 +54,6 @@ fn append_quoted(out: &mut Text, bytes: &[u8]) -> Result<(), AllocError>
     out.push_all(b"'")?;
     append_bytes(out, bytes)?;
     out.push_all(b"'")
-}
-
-fn letter_of(truth: bool) -> &'static [u8]
-    ensures { result.now ≡ (if truth then 84 else 70) ∷ [] }
-{
-    if truth { b"T" } else { b"F" }
 }
 
 fn append_value(out: &mut Text, value: Option<&Value>) -> Result<(), AllocError>

@@ -5,3 +5,4 @@ pub mod Kind
 pub mod Digits
 pub mod Order
 pub mod Reading
+pub mod Shown

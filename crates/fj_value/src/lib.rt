@@ -9,6 +9,7 @@ mod items;
 mod kind;
 mod place;
 mod reading;
+mod shown;
 mod text;
 mod value;
 
@@ -20,5 +21,6 @@ pub use items::Items;
 pub use kind::Kind;
 pub use place::{Place, Tag};
 pub use reading::{signed, truth_of};
+pub use shown::{letter_of, sign_of};
 pub use text::Text;
 pub use value::{Cell, Value};
