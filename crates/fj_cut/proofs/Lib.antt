@@ -12,6 +12,7 @@ pub mod Connecting
 pub mod Turns
 pub mod Seats
 pub mod Awaited
+pub mod OneUnit
 pub mod Submitted
 pub mod Rests
 pub mod Given

@@ -1,6 +1,6 @@
 -- The units at which a statement waits for a job, and the unit of the slot that stopped (ISO/IEC 1539-1:2004, 9.4.5, 9.4.6, 9.5, 9.6, 9.7,
 -- 9.9).
-use Rattle.std.specs.Prelude.{◌≡◌, ◌⊎◌, ℕ, ◌==◌, true, false, List, Option, Some}
+use Rattle.std.specs.Prelude.{◌≡◌, ◌≢◌, ◌⊎◌, ℕ, ◌==◌, true, false, List, Option, Some}
 use Rattle.std.specs.List.{list_any}
 use Rattle.fj_modes.specs.declared.asked.Wanted.{Wanted}
 use Rattle.fj_statement.specs.declared.deck.Variable.{Variable}
@@ -34,6 +34,10 @@ WaitsBy unit_named statement.End number = Unit {0}
 
 abbrev pub WaitsAt : State → Statement → ℕ → Type 0
 WaitsAt s what number = WaitsBy (unit_of_file s.units) what number
+
+-- any statement but END waits at one unit at most
+abbrev pub WaitsAtOneUnit : Type 0
+WaitsAtOneUnit = (s : State) (what : Statement) (number other : ℕ) → what ≢ statement.End → WaitsAt s what number → WaitsAt s what other → number ≡ other
 
 -- a unit at which the statement waits, and the name of the file that is connected to it
 pub record AwaitedUnit (s : State) (what : Statement) : Type 0 where

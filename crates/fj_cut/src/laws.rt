@@ -2,7 +2,7 @@
 ghost use Rattle.fj_cut.specs.Others.{OthersStay, UnitsKeepDesks, StopsLeaveOthers, CutRunsLeaveOthers};
 ghost use Rattle.fj_cut.specs.Stopping.{StopsAreGiven, TurnsAreGiven, EndsAreGiven};
 ghost use Rattle.fj_cut.specs.Turning.{TurnsDo, TurnsLeaveOthers};
-ghost use Rattle.fj_cut.specs.Awaiting.{StopsAreAwaited};
+ghost use Rattle.fj_cut.specs.Awaiting.{StopsAreAwaited, WaitsAtOneUnit};
 
 /// Inside a statement each file that it is not about is as closing all units just before it leaves it.
 pub fn others_stay()
@@ -37,6 +37,11 @@ pub fn turns_leave_others()
 /// Where a stop was told, its slot is that of a unit at which the statement waits, or no unit is there.
 pub fn stops_are_awaited()
     ensures { StopsAreAwaited }
+{}
+
+/// A statement but END waits at one unit at most.
+pub fn waits_at_one_unit()
+    ensures { WaitsAtOneUnit }
 {}
 
 /// Where an answer is awaited each job of each slot was given by a statement not behind the one at hand.
