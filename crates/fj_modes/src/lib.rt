@@ -26,4 +26,4 @@ pub use modes::Modes;
 pub use settle::settle_open;
 pub use specifiers::{Access, Action, FileStatus, OpenSpec, Start};
 pub use unit::{Motion, UnitRef};
-pub use words::{Answer, Blank, Decimal, Disposition, Form, Sign, WordKind};
+pub use words::{Answer, Blank, Decimal, Disposition, Form, Sign, WordKind, look_up};

@@ -12,8 +12,8 @@ fn is_same_word(word: &str, text: &[u8]) -> bool
     word.as_bytes().eq_ignore_ascii_case(text)
 }
 
-/// The mode of the word that a text is, in either case.
-fn look_up<T: Copy>(words: &[(&str, T)], text: &[u8]) -> Option<T>
+/// The mode of the word that a text is, in either case: what the word stands for in a table.
+pub fn look_up<T: Copy>(words: &[(&str, T)], text: &[u8]) -> Option<T>
     ensures { result ≡ mode_of (map (λ word. (word.0.now, word.1)) words.now) text.now }
 {
     for word in words {

@@ -2,9 +2,8 @@ pub mod ClassLemmas
 pub mod DigitLemmas
 pub mod FirstTokenLemmas
 pub mod KnownLemmas
-pub mod LineLemmas
 pub mod ParseLemmas
 pub mod NameLemmas
 pub mod ScanLemmas
 pub mod TokenLemmas
-pub mod CutLemmas
+pub mod SplitLemmas

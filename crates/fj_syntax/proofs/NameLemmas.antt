@@ -1,6 +1,7 @@
 -- The names that a declaration gives are words of its line.
 use Rattle.std.proofs.Common.{◌≡◌, ℕ, ◌+◌, Bool, true, false, cond, List, [], ◌∷◌, take, drop, Option, Some, None, refl, sym, subst, codes}
 use Rattle.std.specs.Prelude.{All, option_map, position}
+use Rattle.std.specs.List.{onto_first}
 use Rattle.std.specs.Str.{bytes_eq}
 use Rattle.std.proofs.lemmas.List.Elements.{All-cons, All-drop, All-head, All-map, All-nil, All-tail}
 use Rattle.fj_value.specs.declared.kind.Kind.{Kind}
@@ -21,14 +22,20 @@ use Rattle.fj_syntax.specs.Arguments.{call_of}
 use Rattle.fj_syntax.specs.Calls.{open_of, close_of, wait_of, move_of, inquire_of, transfer_of}
 use Rattle.fj_syntax.specs.Given.{unit_number}
 use Rattle.fj_syntax.specs.Parsing.{IsWord, NamesAreWords, names_given}
-use Rattle.fj_syntax.specs.Parts.{Tokens, cut, designator_of, is_from_to, is_mark, is_name, list_of, name_of, named, operand_of, parted, with_first}
+use Rattle.fj_syntax.specs.Parts.{Tokens, cut, designator_of, is_from_to, is_mark, is_name, list_of, name_of, named, operand_of, parted}
 use Rattle.fj_syntax.specs.Reading.{◌>>=◌, each}
 use Rattle.fj_syntax.specs.Statement.{assignment_of, begun, begun_by, behind_colons, character_kind, declaration_of, end_from, group_of, integer_kind, items_of, motion_from, number_in, transfer_from, value_of, written_of}
 use Rattle.fj_syntax.specs.Tokens.{AreTokens, IsWritten, none, comment, blank, token as first}
 use Rattle.fj_syntax.specs.Words.{keyword_of}
-use Rattle.fj_syntax.proofs.TokenLemmas.{bound, some_is}
 
 -- ---- steps
+
+bound : {A B : Type 0} (o : Option A) (f : A → Option B) (y : B) → (o >>= f) ≡ Some y → (x : A) × (o ≡ Some x) × (f x ≡ Some y)
+bound None f y h = cc
+bound (Some x) f y h = (x, refl, h)
+
+some_is : {A : Type 0} (x y : A) → Some x ≡ Some y → x ≡ y
+some_is x y h = cc
 
 passed : {A : Type 0} (b : Bool) (o : Option A) (y : A) → cond b o None ≡ Some y → o ≡ Some y
 passed true o y h = h
@@ -57,18 +64,14 @@ are_of_line _ _ (comment text) = All-nil IsOfLine
 are_of_line _ _ (blank {line = line} {tokens = ts} is more) = are_of_line line ts more
 are_of_line _ _ (first bytes line {first = t} {tokens = ts} is more) = All-cons IsOfLine t ts (written_is t bytes line is) (are_of_line line ts more)
 
-with_first_are : (t : Token) (ps : List Tokens) → IsOfLine t → All AreOfLine ps → All AreOfLine (with_first t ps)
-with_first_are t [] is all = All-cons AreOfLine (t ∷ []) [] (All-cons IsOfLine t [] is (All-nil IsOfLine)) (All-nil AreOfLine)
-with_first_are t (p ∷ ps) is all = All-cons AreOfLine (t ∷ p) ps (All-cons IsOfLine t p is (All-head AreOfLine p ps all)) (All-tail AreOfLine p ps all)
-
 parts_are : (ts : Tokens) → AreOfLine ts → All AreOfLine (cut ts)
 parts_are [] all = All-cons AreOfLine [] [] (All-nil IsOfLine) (All-nil AreOfLine)
 parts_are (t ∷ ts) all =
-    let more = parts_are ts (All-tail IsOfLine t ts all) in
-    either (is_mark mark.Comma t) ([] ∷ cut ts) (with_first t (cut ts)) (All-cons AreOfLine [] (cut ts) (All-nil IsOfLine) more) (with_first_are t (cut ts) (All-head IsOfLine t ts all) more) where
-      either : (b : Bool) (xs ys : List Tokens) → All AreOfLine xs → All AreOfLine ys → All AreOfLine (cond b xs ys)
-      either true xs ys h k = h
-      either false xs ys h k = k
+    by (is_mark mark.Comma t) (cut ts) (All-head IsOfLine t ts all) (parts_are ts (All-tail IsOfLine t ts all)) where
+      by : (b : Bool) (ps : List Tokens) → IsOfLine t → All AreOfLine ps → All AreOfLine (cond b ([] ∷ ps) (onto_first t ps))
+      by true ps is more = All-cons AreOfLine [] ps (All-nil IsOfLine) more
+      by false [] is more = All-cons AreOfLine (t ∷ []) [] (All-cons IsOfLine t [] is (All-nil IsOfLine)) (All-nil AreOfLine)
+      by false (p ∷ ps) is more = All-cons AreOfLine (t ∷ p) ps (All-cons IsOfLine t p is (All-head AreOfLine p ps more)) (All-tail AreOfLine p ps more)
 
 -- what holds of each part holds of all
 each_is : {B : Type 0} (f : Tokens → Option B) (P : B → Type 0) → ((ts : Tokens) (y : B) → f ts ≡ Some y → AreOfLine ts → P y) → (ps : List Tokens) (ys : List B) → each f ps ≡ Some ys → All AreOfLine ps → All P ys
@@ -179,13 +182,9 @@ keyword_words keyword.Character ts s h all =
 keyword_words keyword.Namelist ts s h all = group_words ts s h all
 keyword_words keyword.Open ts s h all = gives_none (open_of ts) written.Open s (λ x. refl) h
 keyword_words keyword.Close ts s h all = gives_none (close_of ts) written.Close s (λ x. refl) h
-keyword_words keyword.Read ts s h all = transfer_words true ts s h
-keyword_words keyword.Write ts s h all = transfer_words false ts s h
+keyword_words (keyword.Transfer input) ts s h all = transfer_words input ts s h
 keyword_words keyword.Wait ts s h all = gives_none (wait_of ts) written.Wait s (λ x. refl) h
-keyword_words keyword.Backspace ts s h all = motion_words motion.Backspace ts s h
-keyword_words keyword.Rewind ts s h all = motion_words motion.Rewind ts s h
-keyword_words keyword.Endfile ts s h all = motion_words motion.Endfile ts s h
-keyword_words keyword.Flush ts s h all = motion_words motion.Flush ts s h
+keyword_words (keyword.Move how) ts s h all = motion_words how ts s h
 keyword_words keyword.Inquire ts s h all = gives_none (inquire_of ts) written.Inquire s (λ x. refl) h
 keyword_words keyword.End ts s h all = end_words ts s h
 

@@ -1,41 +1,33 @@
 -- Reading the tokens of a line from the front.
-use Rattle.std.proofs.Common.{◌≡◌, ℕ, zero, suc, ◌+◌, ◌<◌, ◌≤◌, Bool, true, false, List, [], ◌∷◌, ◌++◌, length, drop, Some, None, eqb, ◌||◌, refl, sym, ap, ◌∙◌, subst, inl, inr, arith, append_assoc, append-nil, length-append, add_comm, add-one, Err, length-drop}
+use Rattle.std.proofs.Common.{◌≡◌, ℕ, zero, suc, ◌<◌, ◌≤◌, true, false, List, [], ◌∷◌, ◌++◌, length, drop, Some, None, eqb, refl, sym, ap, ◌∙◌, subst, inl, inr, arith, append_assoc, append-nil, length-append, add_comm, add-one, Err, length-drop}
 use Rattle.std.specs.List.{prefix_len}
-use Rattle.std.specs.Char.{is_ascii_alphabetic}
-use Rattle.std.specs.Str.{str_to_ascii_lowercase}
 use Rattle.fj_syntax.specs.Class.{is_of}
 use Rattle.fj_syntax.specs.declared.class.Class.TheVariants.{Blank}
 use Rattle.fj_syntax.specs.declared.token.Token.{Token}
 use Rattle.fj_syntax.specs.declared.token.Token.TheVariants as token
-use Rattle.fj_syntax.specs.declared.token.Mark.TheVariants.{LeftParenthesis, RightParenthesis, Comma, Equals, Slash, Asterisk, DoubleColon}
 use Rattle.fj_syntax.specs.FirstToken.{first_token, mark_at, mark_of}
 use Rattle.fj_syntax.specs.declared.fault.SyntaxFault.{SyntaxFault}
 use Rattle.fj_syntax.specs.declared.fault.SyntaxFault.TheVariants as fault
 use Rattle.fj_syntax.specs.Reading.{Fails}
-use Rattle.fj_syntax.specs.Tokens.{begins, IsWritten, sign_bytes, truth_bytes, AreTokens, none, comment, blank, token as first, HasTokens, HasNoTokens, ends_line, Scanned}
-use Rattle.fj_syntax.proofs.TokenLemmas.{begun_some, is_either, choose_true, choose_false, none_and_some, same_byte, some_is, run_ends}
-use Rattle.fj_syntax.proofs.FirstTokenLemmas.{StandsFirst, first_is, first_again}
+use Rattle.fj_syntax.specs.Tokens.{begins, IsWritten, sign_bytes, AreTokens, none, comment, blank, token as first, HasTokens, HasNoTokens, ends_line, Scanned}
+use Rattle.std.proofs.lemmas.Bool.{cases_Bool, eqb-true, or_cases}
+use Rattle.fj_syntax.proofs.TokenLemmas.{StandsFirst, none_and_some, run_ends}
+use Rattle.fj_syntax.proofs.FirstTokenLemmas.{first_is, first_again}
 
 -- ---- what a line begins with
 
 -- neither a blank nor the end of a line begins a token
 blank_first : (b : ℕ) (line : List ℕ) → is_of Blank b ≡ true → first_token (b ∷ line) ≡ None
 unfolding first_token mark_at mark_of
-blank_first b line h = elim (is_either (eqb b 32)) [
-  | inl e ↦ subst (λ c. first_token (c ∷ line) ≡ None) (sym (same_byte b 32 e)) refl
-  | inr e ↦ subst (λ c. first_token (c ∷ line) ≡ None) (sym (same_byte b 9 (sym (ap (λ d. d || eqb b 9) e) ∙ h))) refl
-]
+blank_first b line h = elim (or_cases (eqb b 32) (eqb b 9) h) [ inl e ↦ rw (eqb-true b 32 e) refl | inr e ↦ rw (eqb-true b 9 e) refl ]
 
 end_first : (line : List ℕ) → ends_line line ≡ true → first_token line ≡ None
 unfolding first_token mark_at mark_of
 end_first [] h = refl
-end_first (c ∷ line) h = subst (λ d. first_token (d ∷ line) ≡ None) (sym (same_byte c 33 h)) refl
+end_first (c ∷ line) h = rw (eqb-true c 33 h) refl
 
 blank_no_end : (b : ℕ) (line : List ℕ) → is_of Blank b ≡ true → ends_line (b ∷ line) ≡ false
-blank_no_end b line h = elim (is_either (eqb b 32)) [
-  | inl e ↦ subst (λ c. ends_line (c ∷ line) ≡ false) (sym (same_byte b 32 e)) refl
-  | inr e ↦ subst (λ c. ends_line (c ∷ line) ≡ false) (sym (same_byte b 9 (sym (ap (λ d. d || eqb b 9) e) ∙ h))) refl
-]
+blank_no_end b line h = elim (or_cases (eqb b 32) (eqb b 9) h) [ inl e ↦ rw (eqb-true b 32 e) refl | inr e ↦ rw (eqb-true b 9 e) refl ]
 
 -- the three ways in which a line can have tokens
 pub data Begins : List ℕ → List Token → Type 0 where
@@ -53,7 +45,7 @@ begins_so _ _ (first bytes line {first = t} {tokens = tokens} written more) = wi
 
 end_is : (line : List ℕ) → ends_line line ≡ true → AreTokens line []
 end_is [] h = none
-end_is (c ∷ line) h = subst (λ d. AreTokens (d ∷ line) []) (sym (same_byte c 33 h)) (comment line)
+end_is (c ∷ line) h = rw (eqb-true c 33 h) (comment line)
 
 end_only : (line : List ℕ) (other : List Token) → ends_line line ≡ true → Begins line other → other ≡ []
 end_only _ _ h (with_blank b line is more) = let no : false ≡ true = sym (blank_no_end b line is) ∙ h in cc
@@ -62,8 +54,7 @@ end_only _ _ h (with_token line rest t tokens is more) = absurd (none_and_some (
 
 token_is : (line rest : List ℕ) (t : Token) (us : List Token) → first_token line ≡ Some (t, rest) → AreTokens rest us → AreTokens line (t ∷ us)
 token_is line rest t us h more =
-    let stands : StandsFirst line (t, rest) = first_is line (t, rest) h in
-    subst (λ l. AreTokens l (t ∷ us)) (sym stands.1) (first stands.0 rest stands.2 more)
+    let stands : StandsFirst line (t, rest) = first_is line (t, rest) h in rw stands.1 (first stands.0 rest stands.2 more)
 
 -- the tokens behind the first
 pub record HasFirst (t : Token) (rest : List ℕ) (tokens : List Token) : Type 0 where
@@ -75,10 +66,8 @@ token_only : (line rest : List ℕ) (t : Token) (tokens : List Token) → first_
 token_only _ rest t _ h (with_blank b line is more) = absurd (none_and_some (first_token (b ∷ line)) (t, rest) (blank_first b line is) h)
 token_only _ rest t _ h (with_end line is) = absurd (none_and_some (first_token line) (t, rest) (end_first line is) h)
 token_only _ rest t _ h (with_token line after s tokens is more) =
-    let same : (s, after) ≡ (t, rest) = some_is (s, after) (t, rest) (sym is ∙ h) in
-    let same_token : s ≡ t = ap (λ x. x.0) same in
-    let same_rest : after ≡ rest = ap (λ x. x.1) same in
-    record { others = tokens; is = ap (λ x. x ∷ tokens) same_token; are = subst (λ l. AreTokens l tokens) same_rest more }
+    let same : ◌≡◌ {A = Token × List ℕ} (s, after) (t, rest) = cc in
+    record { others = tokens; is = ap (λ x. x.0 ∷ tokens) same; are = subst (λ x. AreTokens x.1 tokens) same more }
 
 none_first : (line : List ℕ) (tokens : List Token) → first_token line ≡ None → ends_line line ≡ false → begins (is_of Blank) line ≡ false → Begins line tokens → ⊥
 none_first _ _ h no_end no_blank (with_blank b line is more) = let no : true ≡ false = sym is ∙ no_blank in cc
@@ -96,23 +85,23 @@ behind_blanks line = drop (prefix_len (is_of Blank) line) line
 -- behind one blank more
 blanks_step : (b : ℕ) (line : List ℕ) → is_of Blank b ≡ true → behind_blanks (b ∷ line) ≡ behind_blanks line
 blanks_step b line h =
-    ap (λ n. drop n (b ∷ line)) (choose_true (is_of Blank b) (1 + prefix_len (is_of Blank) line) 0 h ∙ add_comm 1 (prefix_len (is_of Blank) line) ∙ add-one (prefix_len (is_of Blank) line))
+    rw (h, add_comm 1 (prefix_len (is_of Blank) line), add-one) refl
 
 blanks_stop : (b : ℕ) (line : List ℕ) → is_of Blank b ≡ false → behind_blanks (b ∷ line) ≡ b ∷ line
-blanks_stop b line h = ap (λ n. drop n (b ∷ line)) (choose_false (is_of Blank b) (1 + prefix_len (is_of Blank) line) 0 h)
+blanks_stop b line h = rw h refl
 
 blanks_is : (line : List ℕ) (tokens : List Token) → AreTokens (behind_blanks line) tokens → AreTokens line tokens
 blanks_is [] tokens are = are
-blanks_is (b ∷ line) tokens are = elim (is_either (is_of Blank b)) [
-  | inl h ↦ blank h (blanks_is line tokens (subst (λ l. AreTokens l tokens) (blanks_step b line h) are))
-  | inr h ↦ subst (λ l. AreTokens l tokens) (blanks_stop b line h) are
+blanks_is (b ∷ line) tokens are = elim (cases_Bool (is_of Blank b)) [
+  | inl h ↦ blank h (blanks_is line tokens (rw (blanks_step b line h) at are))
+  | inr h ↦ rw (blanks_stop b line h) at are
 ]
 
 blanks_only : (line : List ℕ) (tokens : List Token) → AreTokens line tokens → AreTokens (behind_blanks line) tokens
 blanks_only [] tokens are = are
-blanks_only (b ∷ line) tokens are = elim (is_either (is_of Blank b)) [
-  | inl h ↦ subst (λ l. AreTokens l tokens) (sym (blanks_step b line h)) (blanks_only line tokens (behind_blank b line tokens h (begins_so (b ∷ line) tokens are)))
-  | inr h ↦ subst (λ l. AreTokens l tokens) (sym (blanks_stop b line h)) are
+blanks_only (b ∷ line) tokens are = elim (cases_Bool (is_of Blank b)) [
+  | inl h ↦ rw (blanks_step b line h) (blanks_only line tokens (behind_blank b line tokens h (begins_so (b ∷ line) tokens are)))
+  | inr h ↦ rw (blanks_stop b line h) are
 ]
 
 -- ---- the scanner's way along a line
@@ -155,22 +144,14 @@ scans_refused line rest found s no_end no_blank h = λ ts are.
 
 -- ---- each token takes some bytes
 
-truth_some : (truth : Bool) (bytes : List ℕ) → str_to_ascii_lowercase bytes ≡ truth_bytes truth → 0 < length bytes
-truth_some truth [] h = elim truth as (λ b. ([] ≡ truth_bytes b) → 0 < length {A = ℕ} []) [ true ↦ λ e. cc | false ↦ λ e. cc ] h
-truth_some truth (c ∷ bytes) h = omega arith
-
 written_some : (t : Token) (bytes line : List ℕ) → IsWritten t bytes line → 0 < length bytes
-written_some (token.Word word) bytes line w = begun_some is_ascii_alphabetic bytes w.letter
-written_some (token.Number sign amount) bytes line w = omega (arith, ap length w.written, length-append (sign_bytes sign) w.digits, w.some)
-written_some (token.Literal text) bytes line w = omega (arith, ap length w.written)
-written_some (token.Truth truth) bytes line w = truth_some truth bytes w
-written_some (token.Mark LeftParenthesis) bytes line w = omega (arith, ap length w)
-written_some (token.Mark RightParenthesis) bytes line w = omega (arith, ap length w)
-written_some (token.Mark Comma) bytes line w = omega (arith, ap length w)
-written_some (token.Mark Equals) bytes line w = omega (arith, ap length w)
-written_some (token.Mark Slash) bytes line w = omega (arith, ap length w)
-written_some (token.Mark Asterisk) bytes line w = omega (arith, ap length w)
-written_some (token.Mark DoubleColon) bytes line w = omega (arith, ap length w)
+unfolding first_token
+written_some t (c ∷ bytes) line w = omega arith
+written_some (token.Word word) [] line w = w.run.some
+written_some (token.Number sign amount) [] line w = omega (arith, ap length w.written, length-append (sign_bytes sign) w.digits, w.run.some)
+written_some (token.Literal text) [] line w = omega (arith, ap length w.written)
+written_some (token.Truth truth) [] line w = absurd (none_and_some None (token.Truth truth, []) refl (first_again (token.Truth truth) [] [] w))
+written_some (token.Mark mark) [] line w = absurd (none_and_some None (token.Mark mark, []) refl (first_again (token.Mark mark) [] [] w))
 
 pub shorter : (line rest : List ℕ) (t : Token) → first_token line ≡ Some (t, rest) → length rest < length line
 shorter line rest t h =

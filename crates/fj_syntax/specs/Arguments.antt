@@ -1,6 +1,6 @@
 -- The arguments of an input/output statement (ISO/IEC 1539-1:2004, 9.4.5, 9.5.1): by specifiers in any order, each at most once.
 use Rattle.std.specs.Prelude.{ℕ, ◌+◌, ◌-◌, Bool, true, false, ◌&&◌, ◌==◌, not, List, [], ◌∷◌, take, drop, length, Option, Some, None, option_map, if◌then◌else◌}
-use Rattle.std.specs.List.{list_any, list_all}
+use Rattle.std.specs.List.{find, list_any, list_all}
 use Rattle.fj_syntax.specs.declared.token.Token.{Token}
 use Rattle.fj_syntax.specs.declared.token.Token.TheVariants.{Word, Mark}
 use Rattle.fj_syntax.specs.declared.token.Mark.TheVariants as mark
@@ -87,8 +87,7 @@ whole_call_of ts = do
 
 -- what is given for a specifier
 abbrev pub given_for : Specifier → List Argument → Option givens.Given
-given_for s [] = None
-given_for s (a ∷ args) = if same_specifier a.specifier s then Some a.value else given_for s args
+given_for s args = option_map (λ a. a.value) (find (λ a. same_specifier a.specifier s) args)
 
 abbrev pub is_known : List Specifier → Specifier → Bool
 is_known known s = list_any (λ one. same_specifier one s) known

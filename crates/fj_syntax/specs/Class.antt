@@ -1,11 +1,10 @@
 -- Which bytes are of a class.
-use Rattle.std.specs.Prelude.{ℕ, Bool, ◌||◌, ◌==◌, not, nat_le}
+use Rattle.std.specs.Prelude.{ℕ, Bool, ◌||◌, ◌==◌, nat_le}
 use Rattle.std.specs.Char.{is_ascii_alphanumeric, is_ascii_digit}
 use Rattle.fj_syntax.specs.declared.class.Class.{Class}
-use Rattle.fj_syntax.specs.declared.class.Class.TheVariants.{InLine, Blank, InWord, InLiteral, Digit}
+use Rattle.fj_syntax.specs.declared.class.Class.TheVariants.{Blank, InWord, InLiteral, Digit}
 
 abbrev pub is_of : Class → ℕ → Bool
-is_of InLine b = not (b == 10)
 is_of Blank b = (b == 32) || (b == 9)
 is_of InWord b = is_ascii_alphanumeric b || (b == 95)
 is_of InLiteral b = nat_le 32 b || (b == 9)

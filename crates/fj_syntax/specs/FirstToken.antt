@@ -12,29 +12,27 @@ use Rattle.fj_syntax.specs.declared.token.Mark.{Mark}
 use Rattle.fj_syntax.specs.declared.token.Mark.TheVariants as mark
 use Rattle.fj_syntax.specs.declared.token.Sign.{Sign}
 use Rattle.fj_syntax.specs.declared.token.Sign.TheVariants as sign
-use Rattle.fj_syntax.specs.Reading.{◌>>=◌}
 
 -- a token, and the line behind it
 abbrev pub Found : Type 0
 Found = Option (Token × List ℕ)
 
--- the longest front that passes, of 1 byte at least and so many at most, and the line behind it
-abbrev pub run_at : (ℕ → Bool) → ℕ → List ℕ → Option (List ℕ × List ℕ)
-run_at p most line = let n = prefix_len p line in
-    if (n == 0) || nat_lt most n then None else Some (take n line, drop n line)
+-- what the longest front that passes, of 1 byte at least and so many at most, is read as, and the line behind it
+abbrev pub run_at : {X : Type 0} → (ℕ → Bool) → ℕ → (List ℕ → X) → List ℕ → Option (X × List ℕ)
+run_at p most read line = let n = prefix_len p line in
+    if (n == 0) || nat_lt most n then None else Some (read (take n line), drop n line)
 
 -- up to 63 characters
 unfoldable pub word_at : List ℕ → Found
-word_at line = run_at (is_of class.InWord) 63 line >>= (λ run. Some (token.Word (map to_ascii_uppercase run.0), run.1))
+word_at line = run_at (is_of class.InWord) 63 (λ run. token.Word (map to_ascii_uppercase run)) line
 
 -- up to 19 digits
 unfoldable pub number_at : Sign → List ℕ → Found
-number_at s line = run_at (is_of class.Digit) 19 line >>= (λ run. Some (token.Number s (digits_value 10 run.0), run.1))
+number_at s line = run_at (is_of class.Digit) 19 (λ run. token.Number s (digits_value 10 run)) line
 
 -- with this before the text
 abbrev pub with_front : List ℕ → Option (List ℕ × List ℕ) → Option (List ℕ × List ℕ)
-with_front front None = None
-with_front front (Some (text, behind)) = Some (front ++ text, behind)
+with_front front read = option_map (λ r. (front ++ r.0, r.1)) read
 
 abbrev mutual
   -- the text up to the closing delimiter, and the line behind that
@@ -47,12 +45,8 @@ abbrev mutual
   behind_delimiter q [] = Some ([], [])
   behind_delimiter q (c ∷ line) = if c == q then with_front (q ∷ []) (closed_by q line) else Some ([], c ∷ line)
 
-abbrev pub as_literal : Option (List ℕ × List ℕ) → Found
-as_literal None = None
-as_literal (Some (text, behind)) = Some (token.Literal text, behind)
-
 unfoldable pub literal_at : ℕ → List ℕ → Found
-literal_at q line = as_literal (closed_by q line)
+literal_at q line = option_map (λ r. (token.Literal r.0, r.1)) (closed_by q line)
 
 -- `.TRUE.` and `.FALSE.`, in either case
 unfoldable pub truth_at : List ℕ → Found

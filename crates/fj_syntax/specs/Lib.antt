@@ -6,7 +6,6 @@ pub mod FirstToken
 pub mod Given
 pub mod KnownLaws
 pub mod Parsing
-pub mod PartLaws
 pub mod Parts
 pub mod Reading
 pub mod Statement

@@ -1,5 +1,8 @@
 -- The parts of a statement: names, designators and operands, and lists of them (ISO/IEC 1539-1:2004, clauses 3, 4 and 6, in part).
-use Rattle.std.specs.Prelude.{ℕ, ◌+◌, Bool, false, ◌&&◌, ◌==◌, nat_le, List, [], ◌∷◌, take, drop, position, Option, Some, None, is_none, option_map, if◌then◌else◌}
+use denote.Enum.Bare.{sameb}
+use Rattle.std.specs.Prelude.{ℕ, ◌+◌, Bool, false, ◌&&◌, nat_le, List, [], ◌∷◌, take, drop, position, Option, Some, None, is_none, option_map, if◌then◌else◌}
+use Rattle.std.specs.List.{slice_split}
+use Rattle.fj_syntax.specs.contracts.token.Mark.{the_type}
 use Rattle.fj_syntax.specs.declared.token.Token.{Token}
 use Rattle.fj_syntax.specs.declared.token.Token.TheVariants.{Word, Number, Literal, Truth, Mark}
 use Rattle.fj_syntax.specs.declared.token.Mark as marks
@@ -14,18 +17,9 @@ use Rattle.fj_syntax.specs.Words.{keyword_of}
 abbrev pub Tokens : Type 0
 Tokens = List Token
 
-abbrev pub mark_number : marks.Mark → ℕ
-mark_number mark.LeftParenthesis = 0
-mark_number mark.RightParenthesis = 1
-mark_number mark.Comma = 2
-mark_number mark.Equals = 3
-mark_number mark.Slash = 4
-mark_number mark.Asterisk = 5
-mark_number mark.DoubleColon = 6
-
 -- the token is this mark
 abbrev pub is_mark : marks.Mark → Token → Bool
-is_mark m (Mark n) = mark_number n == mark_number m
+is_mark m (Mark n) = sameb the_type n m
 is_mark m t = false
 
 abbrev pub is_from_to : ℕ → ℕ → ℕ → Bool
@@ -61,14 +55,9 @@ operand_of ts = designator_of ts >>= (λ d. Some (operand.Place d))
 abbrev pub parted : marks.Mark → Tokens → Option (Tokens × Tokens)
 parted m ts = option_map (λ n. (take n ts, drop (n + 1) ts)) (position (is_mark m) ts)
 
-abbrev pub with_first : Token → List Tokens → List Tokens
-with_first t [] = (t ∷ []) ∷ []
-with_first t (p ∷ ps) = (t ∷ p) ∷ ps
-
 -- the parts between commas
 abbrev pub cut : Tokens → List Tokens
-cut [] = [] ∷ []
-cut (t ∷ ts) = if is_mark mark.Comma t then [] ∷ cut ts else with_first t (cut ts)
+cut ts = slice_split (is_mark mark.Comma) ts
 
 -- each part between commas
 abbrev pub list_of : {X : Type 0} → (Tokens → Option X) → Tokens → Option (List X)

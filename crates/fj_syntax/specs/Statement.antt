@@ -1,5 +1,5 @@
 -- The statement that tokens are, all of them (ISO/IEC 1539-1:2004, clauses 5, 7 and 9, in part).
-use Rattle.std.specs.Prelude.{ℕ, Bool, true, false, ◌==◌, List, [], ◌∷◌, Option, Some, None, if◌then◌else◌, codes}
+use Rattle.std.specs.Prelude.{ℕ, Bool, ◌==◌, List, [], ◌∷◌, Option, Some, None, if◌then◌else◌, codes}
 use Rattle.std.specs.Str.{bytes_eq}
 use Rattle.fj_value.specs.declared.kind.Kind.{Kind}
 use Rattle.fj_value.specs.declared.kind.Kind.TheVariants.{Int4, Int8, Logical, Chars}
@@ -107,13 +107,9 @@ begun_by keyword.Character ts = number_in (codes "LEN") ts >>= (λ n. declaratio
 begun_by keyword.Namelist ts = group_of ts
 begun_by keyword.Open ts = open_of ts >>= (λ o. Some (written.Open o))
 begun_by keyword.Close ts = close_of ts >>= (λ c. Some (written.Close c))
-begun_by keyword.Read ts = transfer_from true ts
-begun_by keyword.Write ts = transfer_from false ts
+begun_by (keyword.Transfer input) ts = transfer_from input ts
 begun_by keyword.Wait ts = wait_of ts >>= (λ w. Some (written.Wait w))
-begun_by keyword.Backspace ts = motion_from motion.Backspace ts
-begun_by keyword.Rewind ts = motion_from motion.Rewind ts
-begun_by keyword.Endfile ts = motion_from motion.Endfile ts
-begun_by keyword.Flush ts = motion_from motion.Flush ts
+begun_by (keyword.Move how) ts = motion_from how ts
 begun_by keyword.Inquire ts = inquire_of ts >>= (λ i. Some (written.Inquire i))
 begun_by keyword.End ts = end_from ts
 

@@ -47,23 +47,25 @@ abbrev pub doubled : ℕ → List ℕ → List ℕ
 doubled q [] = []
 doubled q (c ∷ text) = if c == q then q ∷ q ∷ doubled q text else c ∷ doubled q text
 
+-- bytes that pass, some and at most so many, before a line that begins with none
+pub record IsRun (p : ℕ → Bool) (most : ℕ) (bytes line : List ℕ) : Type 0 where
+  pub all : AllPass p bytes
+  pub some : 0 < length bytes
+  pub short : length bytes ≤ most
+  pub ends : begins p line ≡ false
+
 -- letters, digits and underscores, at most 63, a letter first; letters of both cases are equal
 pub record IsWordText (word bytes line : List ℕ) : Type 0 where
   pub letter : begins is_ascii_alphabetic bytes ≡ true
-  pub all : AllPass (is_of InWord) bytes
-  pub short : length bytes ≤ 63
+  pub run : IsRun (is_of InWord) 63 bytes line
   pub upper : word ≡ map to_ascii_uppercase bytes
-  pub ends : begins (is_of InWord) line ≡ false
 
 -- a sign or none, and 1 to 19 digits
 pub record IsNumberText (sign : Sign) (amount : ℕ) (bytes line : List ℕ) : Type 0 where
   pub digits : List ℕ
-  pub all : AllPass (is_of Digit) digits
-  pub some : 0 < length digits
-  pub short : length digits ≤ 19
+  pub run : IsRun (is_of Digit) 19 digits line
   pub value : amount ≡ digits_value 10 digits
   pub written : bytes ≡ sign_bytes sign ++ digits
-  pub ends : begins (is_of Digit) line ≡ false
 
 -- a text between delimiters, which are doubled in it
 pub record IsLiteralText (text bytes line : List ℕ) : Type 0 where

@@ -171,12 +171,13 @@ pub fn whole_call(alloc: Global, tokens: &[Token]) -> Result<Arguments, SyntaxFa
 pub fn given_for(arguments: &[Argument], specifier: Specifier) -> Option<&Given>
     ensures { option_copied result ≡ given_for specifier arguments.now }
 {
-    for argument in arguments {
-        if argument.specifier == specifier {
-            return Some(&argument.value);
-        }
+    match arguments
+        .iter()
+        .find(|argument| argument.specifier == specifier)
+    {
+        Some(argument) => Some(&argument.value),
+        None => None,
     }
-    None
 }
 
 pub fn is_known(known: &[Specifier], specifier: Specifier) -> bool

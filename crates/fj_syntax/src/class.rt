@@ -6,8 +6,6 @@ ghost use Rattle.fj_syntax.specs.Class.{is_of};
 /// A class of bytes.
 #[derive(Clone, Copy)]
 pub enum Class {
-    /// Any byte but a line feed.
-    InLine,
     /// A blank or a tab.
     Blank,
     /// A letter, a digit or an underscore.
@@ -21,7 +19,6 @@ pub fn is_of(class: Class, byte: u8) -> bool
     ensures { result ≡ is_of class byte }
 {
     match class {
-        Class::InLine => byte != b'\n',
         Class::Blank => byte == b' ' || byte == b'\t',
         Class::InWord => byte.is_ascii_alphanumeric() || byte == b'_',
         Class::InLiteral => byte >= b' ' || byte == b'\t',
@@ -30,15 +27,9 @@ pub fn is_of(class: Class, byte: u8) -> bool
 }
 
 /// How many bytes of the class a text begins with.
-#[tactic(auto, using(std::proofs::lemmas::List::Sums::prefix_len_is))]
 pub fn run_len(class: Class, bytes: &[u8]) -> usize
     ensures len { result ≡ prefix_len (is_of class) bytes.now }
     ensures within { result ≤ length bytes.now }
 {
-    for (at, byte) in bytes.iter().enumerate() {
-        if !is_of(class, *byte) {
-            return at;
-        }
-    }
-    bytes.len()
+    bytes.iter().take_while(|byte| is_of(class, **byte)).count()
 }

@@ -1,5 +1,6 @@
 // What is given for a specifier, by its form.
-ghost use Rattle.std.specs.Prelude.{◌≡◌, ◌≤◌, IfOk, length};
+ghost use Rattle.std.specs.Prelude.{◌≡◌, ◌≤◌, ◌==◌, IfOk, length};
+ghost use Rattle.std.specs.List.{suffix_len};
 ghost use Rattle.fj_syntax.specs.Given.{trimmed, place_at, integer_at, mode_at, file_given, file_at, unit_number, unit_given, unit_at, format_at, group_at, recl_at};
 ghost use Rattle.fj_syntax.specs.Reading.{Gives};
 
@@ -27,15 +28,18 @@ impl Designator {
     }
 }
 
+fn blanks_at_end(text: &[u8]) -> usize
+    ensures blanks { result ≡ suffix_len (λ c. c == 32) text.now }
+    ensures within { result ≤ length text.now }
+{
+    text.iter().rev().take_while(|byte| **byte == b' ').count()
+}
+
 /// A text without the blanks at its end.
 fn trimmed(text: &[u8]) -> &[u8]
     ensures { result.now ≡ trimmed text.now }
 {
-    let mut len = text.len();
-    while len > 0 && text[len - 1] == b' ' {
-        len -= 1;
-    }
-    &text[..len]
+    &text[..text.len() - blanks_at_end(text)]
 }
 
 /// The place for a specifier.

@@ -1,8 +1,6 @@
 // The parts of a statement from the tokens that they are, and lists of parts.
-ghost use Rattle.std.specs.Prelude.{◌≡◌, ◌<◌, ◌&&◌, nat_le, IfOk, IfSome, ◌∷◌, [], length, option_map, position};
-ghost use Rattle.std.specs.Option.{option_copied};
+ghost use Rattle.std.specs.Prelude.{◌≡◌, ◌<◌, ◌&&◌, nat_le, IfNone, IfOk, IfSome, ◌∷◌, [], length, option_map, position};
 ghost use Rattle.fj_syntax.specs.Parts.{is_mark, is_from_to, is_name, named, name_of, designator_of, operand_of, parted, cut, list_of};
-ghost use Rattle.fj_syntax.specs.PartLaws.{parts_behind};
 ghost use Rattle.fj_syntax.specs.Reading.{Gives};
 
 use crate::fault::SyntaxFault;
@@ -135,13 +133,14 @@ pub fn parted(tokens: &[Token], mark: Mark) -> Option<(&[Token], &[Token])>
 }
 
 /// The part before the first comma, and the tokens behind the comma, if there is one.
-#[tactic(auto, using(crate::proofs::CutLemmas::last_cut))]
+#[tactic(auto, using(crate::proofs::SplitLemmas::first_split, crate::proofs::SplitLemmas::no_split))]
 pub fn first_part(tokens: &[Token]) -> (&[Token], Option<&[Token]>)
-    ensures parts { cut tokens.now ≡ result.0.now ∷ parts_behind (option_copied result.1) }
+    ensures last { IfNone result.1 (cut tokens.now ≡ result.0.now ∷ []) }
+    ensures more { IfSome result.1 (λ behind. cut tokens.now ≡ result.0.now ∷ cut behind.now) }
     ensures shorter { IfSome result.1 (λ behind. length behind.now < length tokens.now) }
 {
-    match parted(tokens, Mark::Comma) {
-        Some((part, behind)) => (part, Some(behind)),
+    match place_of(tokens, Mark::Comma) {
+        Some(at) => (&tokens[..at], Some(&tokens[at + 1..])),
         None => (tokens, None),
     }
 }

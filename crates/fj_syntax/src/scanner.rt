@@ -35,7 +35,7 @@ fn upper(alloc: Global, bytes: &[u8]) -> Result<Text, AllocError>
 /// The longest front of a class, of one byte at least and so many at most, and the line behind it.
 #[tactic(auto, using(crate::proofs::ClassLemmas::part_passes))]
 fn run(class: Class, most: usize, line: &[u8]) -> Result<(&[u8], &[u8]), SyntaxFault>
-    ensures run { Gives (λ x. (x.0.now, x.1.now)) result (run_at (is_of class) most line.now) }
+    ensures run { Gives (λ x. (x.0.now, x.1.now)) result (run_at (is_of class) most (λ run. run) line.now) }
     ensures all { IfOk result (λ x. AllPass (is_of class) x.0.now) }
     ensures short { IfOk result (λ x. length x.0.now ≤ most) }
 {
@@ -55,6 +55,7 @@ fn word(alloc: Global, line: &[u8]) -> Result<(Token, &[u8]), SyntaxFault>
 }
 
 /// The number that digits write.
+#[tactic(auto, using(crate::proofs::DigitLemmas::digit_more))]
 fn amount(digits: &[u8]) -> u64
     requires short { length digits.now ≤ 19 }
     requires digits { AllPass is_ascii_digit digits.now }
@@ -62,7 +63,8 @@ fn amount(digits: &[u8]) -> u64
 {
     let mut amount = 0;
     for digit in digits {
-        amount = amount * 10 + u64::from(*digit - b'0');
+        let value = u64::from(*digit - b'0');
+        amount = amount * 10 + value;
     }
     amount
 }

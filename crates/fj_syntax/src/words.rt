@@ -1,9 +1,11 @@
 // The words of the grammar.
-ghost use Rattle.std.specs.Prelude.{◌≡◌, map};
-ghost use Rattle.fj_syntax.specs.Words.{look_up, keyword_of, specifier_of};
+ghost use Rattle.std.specs.Prelude.{◌≡◌};
+ghost use Rattle.fj_syntax.specs.Words.{keyword_of, specifier_of};
+
+use fj_modes::{Motion, look_up};
 
 /// A word that begins a statement or declaration. None of them is a name.
-#[derive(Clone, Copy, Debug, PartialEq, Eq)]
+#[derive(Clone, Copy, Debug)]
 pub enum Keyword {
     Integer,
     Logical,
@@ -11,13 +13,10 @@ pub enum Keyword {
     Namelist,
     Open,
     Close,
-    Read,
-    Write,
+    /// READ, which is input, or WRITE.
+    Transfer { input: bool },
     Wait,
-    Backspace,
-    Rewind,
-    Endfile,
-    Flush,
+    Move(Motion),
     Inquire,
     End,
 }
@@ -29,13 +28,13 @@ pub const KEYWORDS: [(&str, Keyword); 15] = [
     ("NAMELIST", Keyword::Namelist),
     ("OPEN", Keyword::Open),
     ("CLOSE", Keyword::Close),
-    ("READ", Keyword::Read),
-    ("WRITE", Keyword::Write),
+    ("READ", Keyword::Transfer { input: true }),
+    ("WRITE", Keyword::Transfer { input: false }),
     ("WAIT", Keyword::Wait),
-    ("BACKSPACE", Keyword::Backspace),
-    ("REWIND", Keyword::Rewind),
-    ("ENDFILE", Keyword::Endfile),
-    ("FLUSH", Keyword::Flush),
+    ("BACKSPACE", Keyword::Move(Motion::Backspace)),
+    ("REWIND", Keyword::Move(Motion::Rewind)),
+    ("ENDFILE", Keyword::Move(Motion::Endfile)),
+    ("FLUSH", Keyword::Move(Motion::Flush)),
     ("INQUIRE", Keyword::Inquire),
     ("END", Keyword::End),
 ];
@@ -106,28 +105,16 @@ pub const SPECIFIERS: [(&str, Specifier); 29] = [
     ("PENDING", Specifier::Pending),
 ];
 
-/// What a word stands for in a table.
-fn find<T: Copy>(table: &[(&str, T)], word: &[u8]) -> Option<T>
-    ensures { result ≡ look_up (map (λ entry. (entry.0.now, entry.1)) table.now) word.now }
-{
-    for entry in table {
-        if entry.0.as_bytes() == word {
-            return Some(entry.1);
-        }
-    }
-    None
-}
-
 #[tactic(auto, unfolding(crate::specs::Words::keyword_of))]
 pub fn keyword_of(word: &[u8]) -> Option<Keyword>
     ensures { result ≡ keyword_of word.now }
 {
-    find(&KEYWORDS, word)
+    look_up(&KEYWORDS, word)
 }
 
 #[tactic(auto, unfolding(crate::specs::Words::specifier_of))]
 pub fn specifier_of(word: &[u8]) -> Option<Specifier>
     ensures { result ≡ specifier_of word.now }
 {
-    find(&SPECIFIERS, word)
+    look_up(&SPECIFIERS, word)
 }

@@ -1,10 +1,7 @@
-use Rattle.std.proofs.Common.{◌≡◌, ◌<◌, ◌^◌, take}
+use Rattle.std.proofs.Common.{◌≡◌, take}
 use Rattle.std.specs.Str.Parse.{digits_value}
 use Rattle.fj_syntax.proofs.scanner.amount.Given as goal
 
 -- the number of the digits so far
 abbrev pub invariant-loop-digit : goal.invariant-loop-digit
-invariant-loop-digit l = record {
-  value : l.amount ≡ digits_value 10 (take l.digit-index l.digits);
-  small : l.amount < 10 ^ l.digit-index;
-}
+invariant-loop-digit l = l.amount ≡ digits_value 10 (take l.digit-index l.digits)

@@ -1,8 +1,0 @@
-use Rattle.std.proofs.Common.{◌≡◌, map, drop}
-use Rattle.fj_syntax.specs.Words.{look_up}
-use Rattle.fj_syntax.proofs.words.find.Given as goal
-
--- what is left of the table says what the whole table says
-abbrev pub invariant-loop-entry : goal.invariant-loop-entry
-invariant-loop-entry g l =
-    look_up (map (λ entry. (entry.0.now, entry.1)) (drop l.entry-index l.table)) l.word ≡ look_up (map (λ entry. (entry.0.now, entry.1)) l.table) l.word
