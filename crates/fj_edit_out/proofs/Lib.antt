@@ -1,2 +1,4 @@
+pub mod Digits
+pub mod Rows
 pub mod Numerals
 pub mod FieldCases

@@ -10,7 +10,7 @@ use itoa::Buffer;
 use std::alloc::AllocError;
 
 /// The integer that a defined item of an integer kind holds.
-fn integer_of(kind: Kind, value: &Value) -> Option<i64>
+pub fn integer_of(kind: Kind, value: &Value) -> Option<i64>
     ensures { result ≡ integer_in kind value.now }
 {
     match (kind, value) {

@@ -7,6 +7,7 @@ mod general;
 mod integer;
 mod laws;
 mod logical;
+mod row;
 #[cfg(test)]
 mod tests;
 mod text;
@@ -16,4 +17,5 @@ pub use general::field;
 pub use integer::int_field;
 pub use laws::fields_fill_their_width;
 pub use logical::logical_field;
+pub use row::integer_fields;
 pub use text::text_field;

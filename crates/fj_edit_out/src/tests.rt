@@ -1,6 +1,6 @@
 // Fields of gfortran, and the conditions.
-use crate::{bits_field, field, int_field, logical_field, text_field};
-use fj_value::{Condition, Delim, Edit, EditModes, Kind, Text, Value};
+use crate::{bits_field, field, int_field, integer_fields, logical_field, text_field};
+use fj_value::{Cell, Condition, Delim, Edit, EditModes, Kind, Place, Text, Value};
 use std::alloc::{AllocError, Global};
 use std::test::Fail;
 
@@ -391,6 +391,41 @@ fn general_fields(rt: HostRuntime) -> Result<(), Fail> {
         &mut out,
     )?;
     assert_eq!(rt; out.bytes(), b"   42    T  abc  A".as_slice());
+    Ok(())
+}
+
+fn cell_of(n: i64) -> Cell {
+    Cell {
+        place: Place { var: 0, index: 1 },
+        kind: Kind::Int8,
+        value: Value::Int(n),
+    }
+}
+
+/// Integers in a row, as gfortran writes them, up to a cell that holds none.
+#[test]
+fn rows(rt: HostRuntime) -> Result<(), Fail> {
+    let cells = [
+        cell_of(0),
+        cell_of(-123),
+        cell_of(99999),
+        cell_of(i64::MIN),
+        Cell {
+            value: Value::Undefined,
+            ..cell_of(0)
+        },
+        cell_of(1),
+    ];
+    let mut out = Text::from_bytes(rt.alloc(), b"=")?;
+    let count = integer_fields(5, false, &cells, &mut out)?;
+    assert!(rt; count == 4);
+    assert_eq!(rt; out.bytes(), b"=    0 -12399999*****".as_slice());
+    let signed = integer_fields(5, true, &cells[..3], &mut out)?;
+    assert!(rt; signed == 3);
+    assert_eq!(rt;
+        out.bytes(),
+        b"=    0 -12399999*****   +0 -123*****".as_slice()
+    );
     Ok(())
 }
 
