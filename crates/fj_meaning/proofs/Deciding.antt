@@ -1,5 +1,6 @@
 -- A transfer that keeps the rules passes the test.
 use Rattle.std.proofs.Common.{◌≡◌, ℕ, Bool, true, false, not, ◌&&◌, ◌||◌, List, [], ◌∷◌, length, map, Option, Some, None, refl, sym, ap, ◌∙◌, subst, eqb, is_some}
+use Rattle.std.proofs.lemmas.Bool.{and_parts}
 use Rattle.std.specs.Prelude.{All}
 use Rattle.std.specs.List.{list_all}
 use Rattle.std.proofs.lemmas.List.Elements.{All-head, All-tail}
@@ -22,7 +23,8 @@ use Rattle.fj_meaning.specs.Operands.{integer_operand, integer_place, meant, num
 use Rattle.fj_meaning.specs.Scope.{members}
 use Rattle.fj_meaning.specs.Sound.{HasOneForm, KeepsRules, RulesAreDecided}
 use Rattle.fj_meaning.specs.Transfer.{◌implies◌, assembled, can_be_read, changes_some, control_of, given, goes_together, is_allowed, is_explicit, is_list_directed, is_place, is_star, is_true, stands_alone}
-use Rattle.fj_meaning.proofs.SoundLemmas.{bound, both, given_same, no_is, some_is}
+use Rattle.fj_syntax.proofs.TokenLemmas.{bound, some_is}
+use Rattle.fj_meaning.proofs.SoundLemmas.{given_same, no_is}
 use Rattle.fj_meaning.proofs.StatementSound.{IsMade, allowed_is, implied, made_is, what}
 
 -- ---- tests
@@ -172,9 +174,9 @@ allowed_from s items t p ms made is keeps =
 one_form : (items : Option (List FormatItem)) (t : Transfer) → is_allowed items t ≡ true → HasOneForm t
 unfolding is_allowed
 one_form items t rules given_group =
-    let alone = (both (stands_alone t) _ (both (goes_together t) _ rules).1).0 in
-    let group = (both (given t.group implies (not (given t.format) && eqb (length t.items) 0)) _ (both (given t.rec implies not (given t.pos || (is_list_directed t.format || given t.group))) _ alone).1).0 in
-    no_format t.format (no_is (given t.format) (both (not (given t.format)) _ (implied (given t.group) _ group given_group)).0) where
+    let alone = (and_parts (stands_alone t) _ (and_parts (goes_together t) _ rules).1).0 in
+    let group = (and_parts (given t.group implies (not (given t.format) && eqb (length t.items) 0)) _ (and_parts (given t.rec implies not (given t.pos || (is_list_directed t.format || given t.group))) _ alone).1).0 in
+    no_format t.format (no_is (given t.format) (and_parts (not (given t.format)) _ (implied (given t.group) _ group given_group)).0) where
       no_format : (f : Option Format) → is_some f ≡ false → f ≡ None
       no_format None h = refl
       no_format (Some f) h = cc

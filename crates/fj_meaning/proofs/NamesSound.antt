@@ -4,7 +4,7 @@ use Rattle.std.specs.Prelude.{All, option_map, slice_get}
 use Rattle.std.specs.List.{Contains, list_all, position, position_from}
 use Rattle.std.specs.Option.{option_or}
 use Rattle.std.specs.Str.{bytes_eq}
-use Rattle.std.proofs.lemmas.Bool.{cases_Bool}
+use Rattle.std.proofs.lemmas.Bool.{and_parts, cases_Bool}
 use Rattle.std.proofs.lemmas.Iterator.Adapters.{position_from-zero}
 use Rattle.std.proofs.lemmas.List.{length-map}
 use Rattle.std.proofs.lemmas.List.Elements.{All-head, All-nil, All-push, All-tail}
@@ -33,7 +33,8 @@ use Rattle.fj_meaning.specs.Scope.{empty, group_at, is_group, is_variable, membe
 use Rattle.fj_meaning.specs.Sound.{AreNamed, GroupsAreDeclared, NamesAreApart, groups_of}
 use Rattle.fj_meaning.specs.Transfer.{assembled, control_of, is_allowed, parts, transferred}
 use Rattle.fj_meaning.proofs.NameLemmas.{are_new_more, free_is_none, more_groups, more_variables, named_group, named_variable, none_at, with_more}
-use Rattle.fj_meaning.proofs.SoundLemmas.{both, bound, chosen, passed, some_is}
+use Rattle.fj_syntax.proofs.TokenLemmas.{bound, passed, some_is}
+use Rattle.fj_meaning.proofs.SoundLemmas.{chosen}
 use Rattle.fj_meaning.proofs.StatementSound.{made_is}
 
 -- ---- lists
@@ -113,7 +114,7 @@ pub variables_more : (s : Scope) (line : ℕ) (kind : Kind) (ds : List Designato
 variables_more s line kind [] are names new = subst (λ (vs : List Variable). let t : Scope = record s { variables = vs } in AreNamed t) (sym (append-nil s.variables)) are
 variables_more s line kind (d ∷ ds) are names new =
     let others = map (λ d. d.name) ds in
-    let free = both (is_free s d.name) (list_all (is_free s) others) (both (list_all (is_free s) (d.name ∷ others)) (are_apart (d.name ∷ others)) new).0 in
+    let free = and_parts (is_free s d.name) (list_all (is_free s) others) (and_parts (list_all (is_free s) (d.name ∷ others)) (are_apart (d.name ∷ others)) new).0 in
     let v = variable line kind d in
     subst AreNamed (sym (with_more s line kind d ds))
     (variables_more (more_variables s v) line kind ds

@@ -1,8 +1,8 @@
 -- What is declared is sound.
-use Rattle.std.proofs.Common.{◌≡◌, ℕ, ◌+◌, ◌<◌, ◌≤◌, true, List, [], ◌∷◌, ◌++◌, length, map, Some, refl, subst, arith, leb, ◌&&◌, length-append}
+use Rattle.std.proofs.Common.{◌≡◌, ℕ, ◌<◌, ◌≤◌, true, List, [], ◌∷◌, ◌++◌, length, map, Some, refl, subst, arith, leb, ◌&&◌, length-append}
 use Rattle.std.specs.Prelude.{All}
 use Rattle.std.specs.List.{sum_by}
-use Rattle.std.proofs.lemmas.Bool.{leb-true}
+use Rattle.std.proofs.lemmas.Bool.{and_parts, leb-true}
 use Rattle.std.proofs.lemmas.List.Elements.{All-nil, All-cons, All-append}
 use Rattle.std.proofs.lemmas.Option.{slice_get_within}
 use Rattle.fj_statement.specs.declared.deck.Variable.{Variable}
@@ -13,15 +13,16 @@ use Rattle.fj_meaning.specs.Declaring.{is_free, are_new, variable, with_variable
 use Rattle.fj_meaning.specs.Giving.{each}
 use Rattle.fj_meaning.specs.Scope.{empty, found}
 use Rattle.fj_meaning.specs.Sound.{AreNamed, IsSoundScope, EmptyIsSound, DeclaredIsSound, GroupedIsSound}
-use Rattle.fj_meaning.proofs.SoundLemmas.{bound, some_is, passed, both, FoundIs, found_is}
+use Rattle.fj_syntax.proofs.TokenLemmas.{bound, passed, some_is}
+use Rattle.fj_meaning.proofs.SoundLemmas.{FoundIs, found_is}
 use Rattle.fj_meaning.proofs.NameLemmas.{free_is_none}
 use Rattle.fj_meaning.proofs.NamesSound.{group_more, nothing_named, variables_more}
 use Rattle.fj_meaning.proofs.StatementSound.{each_is}
 
 within_is : (vs : List Variable) → is_within vs ≡ true → AreWithin vs
 within_is vs h =
-    let b = both (leb (length vs) 4096) (leb (sum_by places vs) 1000000 && leb (sum_by characters vs) 16777216) h in
-    let c = both (leb (sum_by places vs) 1000000) (leb (sum_by characters vs) 16777216) b.1 in
+    let b = and_parts (leb (length vs) 4096) (leb (sum_by places vs) 1000000 && leb (sum_by characters vs) 16777216) h in
+    let c = and_parts (leb (sum_by places vs) 1000000) (leb (sum_by characters vs) 16777216) b.1 in
     record {
       variables = leb-true (length vs) 4096 b.0;
       places = leb-true (sum_by places vs) 1000000 c.0;

@@ -3,7 +3,7 @@ use Rattle.std.proofs.Common.{◌≡◌, ℕ, ◌<◌, ◌≤◌, Bool, true, fa
 use Rattle.std.proofs.lemmas.Int.{ints}
 use Rattle.std.proofs.lemmas.Bool.Decides.{nat_tests}
 use Rattle.std.specs.Prelude.{IsSome, IfSome, slice_get}
-use Rattle.std.proofs.lemmas.Bool.{leb-true}
+use Rattle.std.proofs.lemmas.Bool.{and_parts, leb-true}
 use Rattle.fj_value.specs.declared.kind.Kind.{Kind}
 use Rattle.fj_value.specs.declared.kind.Kind.TheVariants.{Int4, Int8}
 use Rattle.fj_value.specs.declared.place.Place.{Place}
@@ -21,31 +21,16 @@ use Rattle.fj_meaning.specs.declared.scope.Found.{Found}
 use Rattle.fj_meaning.specs.declared.scope.Named.{Named}
 use Rattle.fj_meaning.specs.declared.scope.Named.TheVariants as stands_for
 use Rattle.fj_meaning.specs.declared.scope.Scope.{Scope}
-use Rattle.fj_meaning.specs.Giving.{◌>>=◌, optional}
+use Rattle.fj_meaning.specs.Giving.{optional}
 use Rattle.fj_meaning.specs.Operands.{index_in, placed, is_integer, integer_place, signed, number_kind, number, element, whole, part, variable_meant, meant, is_whole, integer_operand}
+use Rattle.fj_syntax.proofs.TokenLemmas.{bound, passed, some_is}
 use Rattle.fj_meaning.specs.Scope.{found, variable_at, named}
 
 -- ---- steps
 
-pub bound : {A B : Type 0} (o : Option A) (f : A → Option B) (y : B) → (o >>= f) ≡ Some y → (x : A) × (o ≡ Some x) × (f x ≡ Some y)
-bound None f y h = cc
-bound (Some x) f y h = (x, refl, h)
-
-pub some_is : {A : Type 0} (x y : A) → Some x ≡ Some y → x ≡ y
-some_is x y h = cc
-
 pub chosen : {X : Type 0} (b : Bool) (x y z : X) → cond b x y ≡ z → ((b ≡ true) × (x ≡ z)) ⊎ ((b ≡ false) × (y ≡ z))
 chosen true x y z h = inl (refl, h)
 chosen false x y z h = inr (refl, h)
-
--- where it is some, the test passed
-pub passed : {A : Type 0} (b : Bool) (o : Option A) (y : A) → cond b o None ≡ Some y → (b ≡ true) × (o ≡ Some y)
-passed true o y h = (refl, h)
-passed false o y h = cc
-
-pub both : (a b : Bool) → (a && b) ≡ true → (a ≡ true) × (b ≡ true)
-both true b h = (refl, h)
-both false b h = cc
 
 pub no_is : (b : Bool) → not b ≡ true → b ≡ false
 no_is true h = cc
@@ -82,7 +67,7 @@ index_is count None i h =
     subst (IsIndex count) (some_is 1 i p.1) (record { from = omega arith; to = omega arith })
 index_is count (Some n) i h =
     let p = passed (leb 1 n && leb n count) (Some n) i h in
-    let b = both (leb 1 n) (leb n count) p.0 in
+    let b = and_parts (leb 1 n) (leb n count) p.0 in
     let low : 1 ≤ n = leb-true 1 n b.0 in
     let high : n ≤ count = leb-true n count b.1 in
     subst (IsIndex count) (some_is n i p.1) (record { from = low; to = omega arith })
@@ -170,7 +155,7 @@ unfolding integer_operand
 integer_operand_is s o m h =
     let b = bound (meant s o) _ m h in
     let p = passed (is_integer b.0.kind && not (is_whole b.0.operand)) (Some b.0.operand) m b.2 in
-    let t = both (is_integer b.0.kind) (not (is_whole b.0.operand)) p.0 in
+    let t = and_parts (is_integer b.0.kind) (not (is_whole b.0.operand)) p.0 in
     subst (IsIntegerOperand s.variables) (some_is b.0.operand m p.1) (integer_of s b.0.operand b.0.kind b.0.count (meant_is s o b.0 b.1) t.0 (no_is (is_whole b.0.operand) t.1))
 
 -- of what may be given

@@ -3,7 +3,7 @@ use Rattle.std.proofs.Common.{◌≡◌, ℕ, ◌+◌, ◌*◌, ◌<◌, ◌≤�
 use Rattle.std.specs.Prelude.{All, IsSome, slice_get}
 use Rattle.std.proofs.lemmas.Option.{slice_get_within, get_or_from_slice_get}
 use Rattle.std.specs.List.{sum_by, list_all, fold}
-use Rattle.std.proofs.lemmas.Bool.{leb-true, eqb-true}
+use Rattle.std.proofs.lemmas.Bool.{and_parts, leb-true, eqb-true}
 use Rattle.std.proofs.lemmas.List.Elements.{All-nil, All-cons}
 use Rattle.fj_value.specs.declared.kind.Kind.{Kind}
 use Rattle.fj_value.specs.declared.kind.Kind.TheVariants.{Int4, Int8, Logical, Chars}
@@ -19,7 +19,6 @@ use Rattle.fj_statement.specs.declared.statement.Operand as operands
 use Rattle.fj_statement.specs.declared.statement.Operand.TheVariants.{Literal, One, Whole}
 use Rattle.fj_statement.specs.declared.statement.Statement.{Statement}
 use Rattle.fj_statement.specs.declared.statement.Statement.TheVariants as statement
-use Rattle.fj_statement.specs.declared.statement.Transfer as made
 use Rattle.fj_statement.specs.Sound.{bytes_of, IsIntegerPlace, IsIntegerOperand, IsVariable, Takes, TakesLiteral, Fits, IsAnswerKind, IsAsked, IsExplicit, IsFormatted, MayHaveRecord, HasNoZeroWidth, HasMembers, HasNoItems, AreItems, IsList, IsAllowed, IsSoundStatement}
 use Rattle.fj_syntax.specs.declared.operand.Designator.{Designator}
 use Rattle.fj_syntax.specs.declared.operand.Operand.{Operand}
@@ -38,14 +37,15 @@ use Rattle.fj_meaning.specs.declared.scope.Found.{Found}
 use Rattle.fj_meaning.specs.declared.scope.Named.{Named}
 use Rattle.fj_meaning.specs.declared.scope.Named.TheVariants as stands_for
 use Rattle.fj_meaning.specs.declared.scope.Scope.{Scope}
-use Rattle.fj_meaning.specs.Giving.{◌>>=◌, optional, each}
+use Rattle.fj_meaning.specs.Giving.{optional, each}
 use Rattle.fj_meaning.specs.Operands.{is_whole, placed, integer_place, element, whole, part, variable_meant, meant, integer_operand}
 use Rattle.fj_meaning.specs.Calls.{takes, takes_literal, goes_from, goes_to, assigned, opened, closed, awaited, moved, is_logical, is_characters, suits, wanted, inquired}
-use Rattle.fj_meaning.specs.Transfer.{◌implies◌, given, is_true, is_list_directed, is_explicit, is_place, is_star, changes_some, goes_together, stands_alone, can_be_read, is_allowed, size_of, elements, bytes, are_few, chosen, parts, control_of, assembled, transferred, is_short, of_parts, fits}
+use Rattle.fj_meaning.specs.Transfer.{◌implies◌, given, is_true, is_list_directed, is_explicit, is_place, is_star, changes_some, goes_together, stands_alone, can_be_read, is_allowed, size_of, elements, bytes, are_few, parts, parts_with, control_of, assembled, transferred, is_short, of_items, fits}
 use Rattle.fj_meaning.specs.Meaning.{literal_of, IsFormatOf, meaning, is_within_limits, format_text}
 use Rattle.fj_meaning.specs.Scope.{found, members, group_at, named}
 use Rattle.fj_meaning.specs.Sound.{IsSoundScope, MeaningIsSound}
-use Rattle.fj_meaning.proofs.SoundLemmas.{bound, some_is, passed, both, no_is, is_there, placed_is, integer_place_is, variable_is, meant_is, integer_operand_is, given_is, given_same}
+use Rattle.fj_syntax.proofs.TokenLemmas.{bound, passed, some_is}
+use Rattle.fj_meaning.proofs.SoundLemmas.{no_is, is_there, placed_is, integer_place_is, variable_is, meant_is, integer_operand_is, given_is, given_same}
 
 -- ---- assignments
 
@@ -74,9 +74,9 @@ takes_literal_is to from h = takes_is to from h
 fits_is : (from to : operands.Operand) (from_meant to_meant : Meant) → to_meant.operand ≡ to → IsVariable to → goes_from from to_meant from_meant ≡ true → Fits from to from_meant.kind to_meant.kind
 fits_is (Literal kind value) to from_meant to_meant e v h = takes_literal_is to_meant.kind from_meant.kind h
 fits_is (One place) (Literal kind value) from_meant to_meant e v h = absurd v
-fits_is (One place) (One to) from_meant to_meant e v h = takes_is to_meant.kind from_meant.kind (both (not (is_whole to_meant.operand)) (takes to_meant.kind from_meant.kind) h).1
+fits_is (One place) (One to) from_meant to_meant e v h = takes_is to_meant.kind from_meant.kind (and_parts (not (is_whole to_meant.operand)) (takes to_meant.kind from_meant.kind) h).1
 fits_is (One place) (Whole var) from_meant to_meant e v h =
-    let differs : false ≡ true = ap (λ o. not (is_whole o)) (sym e) ∙ (both (not (is_whole to_meant.operand)) (takes to_meant.kind from_meant.kind) h).0 in cc
+    let differs : false ≡ true = ap (λ o. not (is_whole o)) (sym e) ∙ (and_parts (not (is_whole to_meant.operand)) (takes to_meant.kind from_meant.kind) h).0 in cc
 fits_is (Whole var) to from_meant to_meant e v h = cc
 
 assigned_is : (s : Scope) (a : Assignment) (m : Statement) → assigned s a ≡ Some m → IsSoundStatement s.variables m
@@ -181,7 +181,7 @@ same_bytes ms = same_sum (λ m. m.count * size_of m.kind) (λ s. s.1 * bytes_of 
 list_is : (s : Scope) (os : List Operand) (ms : List Meant) → each (meant s) os ≡ Some ms → are_few ms ≡ true → IsList s.variables (map what ms)
 unfolding are_few
 list_is s os ms h few =
-    let b = both (leb (elements ms) 1000000) (leb (bytes ms) 16777216) few in
+    let b = and_parts (leb (elements ms) 1000000) (leb (bytes ms) 16777216) few in
     record {
       shapes = map shape ms;
       are = are_items s os ms h;
@@ -199,7 +199,7 @@ place_only s (operand.Literal text) m h e = cc
 are_variables : (s : Scope) (os : List Operand) (ms : List Meant) → each (meant s) os ≡ Some ms → list_all is_place os ≡ true → All IsVariable (map what ms)
 are_variables s [] ms h all = subst (λ l. All IsVariable (map what l)) (some_is [] ms h) (All-nil IsVariable)
 are_variables s (o ∷ os) ms h all =
-    let b = both (is_place o) (list_all is_place os) all in
+    let b = and_parts (is_place o) (list_all is_place os) all in
     let m = bound (meant s o) _ ms h in
     let more = bound (each (meant s) os) _ ms m.2 in
     subst (λ l. All IsVariable (map what l)) (some_is (m.0 ∷ more.0) ms more.2) (All-cons IsVariable m.0.operand (map what more.0) (place_only s o m.0 m.1 b.0) (are_variables s os more.0 more.1 b.1))
@@ -254,16 +254,16 @@ record_is None vars (Some (format.Literal text)) (Some items) listed single is =
 
 width_is : (g : Option (List ℕ)) (vars : Option (List ℕ)) (f : Option Format) (items : Option (List FormatItem)) (os : List Operand) → can_be_read items os ≡ true → HasNoZeroWidth (control_of g vars f items)
 width_is (Some name) (Some vars) f items os h = tt
-width_is (Some name) None f (Some items) os h = no_is (has_width_zero items) (both (list_all is_place os) (not (has_width_zero items)) h).1
+width_is (Some name) None f (Some items) os h = no_is (has_width_zero items) (and_parts (list_all is_place os) (not (has_width_zero items)) h).1
 width_is (Some name) None (Some f) None os h = tt
 width_is (Some name) None None None os h = tt
-width_is None vars f (Some items) os h = no_is (has_width_zero items) (both (list_all is_place os) (not (has_width_zero items)) h).1
+width_is None vars f (Some items) os h = no_is (has_width_zero items) (and_parts (list_all is_place os) (not (has_width_zero items)) h).1
 width_is None vars (Some f) None os h = tt
 width_is None vars None None os h = tt
 
 places_read : (items : Option (List FormatItem)) (os : List Operand) → can_be_read items os ≡ true → list_all is_place os ≡ true
 places_read None os h = h
-places_read (Some items) os h = (both (list_all is_place os) (not (has_width_zero items)) h).0
+places_read (Some items) os h = (and_parts (list_all is_place os) (not (has_width_zero items)) h).0
 
 no_items : (s : Scope) (os : List Operand) (ms : List Meant) → each (meant s) os ≡ Some ms → eqb (length os) 0 ≡ true → map what ms ≡ []
 no_items s [] ms h e = ap (map what) (sym (some_is [] ms h))
@@ -271,7 +271,7 @@ no_items s (o ∷ os) ms h e = let none : length (o ∷ os) ≡ 0 = eqb-true (le
 
 group_is : (s : Scope) (os : List Operand) (ms : List Meant) (g : Option (List ℕ)) (vars : Option (List ℕ)) (f : Option Format) (items : Option (List FormatItem)) → each (meant s) os ≡ Some ms
     → (given g implies (not (given f) && eqb (length os) 0)) ≡ true → HasNoItems (control_of g vars f items) (map what ms)
-group_is s os ms (Some name) (Some vars) f items h rule = no_items s os ms h (both (not (given f)) (eqb (length os) 0) rule).1
+group_is s os ms (Some name) (Some vars) f items h rule = no_items s os ms h (and_parts (not (given f)) (eqb (length os) 0) rule).1
 group_is s os ms (Some name) None f (Some items) h rule = tt
 group_is s os ms (Some name) None (Some f) None h rule = tt
 group_is s os ms (Some name) None None None h rule = tt
@@ -316,7 +316,6 @@ pub record IsMade (s : Scope) (t : Transfer) (p : Parts) (ms : List Meant) : Typ
   pub group : optional (members s) t.group ≡ Some p.group
   pub each_is : each (meant s) t.items ≡ Some ms
   pub items : map what ms ≡ p.items
-  pub few : are_few ms ≡ p.few
   pub rec : optional (integer_operand s) t.rec ≡ Some p.rec
   pub pos : optional (integer_operand s) t.pos ≡ Some p.pos
   pub id : optional (integer_place s) t.id ≡ Some p.id
@@ -324,24 +323,21 @@ pub record IsMade (s : Scope) (t : Transfer) (p : Parts) (ms : List Meant) : Typ
   pub iostat : optional (integer_place s) t.iostat ≡ Some p.iostat
 
 pub made_is : (s : Scope) (t : Transfer) (p : Parts) → parts s t ≡ Some p → (ms : List Meant) × IsMade s t p ms
-unfolding parts chosen
+unfolding parts parts_with
 made_is s t p h =
-    let g = bound (optional (members s) t.group) _ p h in
-    let c = bound (each (meant s) t.items >>= (λ ms. Some (record { items = map (λ m. m.operand) ms; few = are_few ms }))) _ p g.2 in
-    let ms = bound (each (meant s) t.items) _ c.0 c.1 in
-    let same : record { items = map what ms.0; few = are_few ms.0 } ≡ c.0 = some_is _ c.0 ms.2 in
-    let rec = bound (optional (integer_operand s) t.rec) _ p c.2 in
+    let ms = bound (each (meant s) t.items) _ p h in
+    let g = bound (optional (members s) t.group) _ p ms.2 in
+    let rec = bound (optional (integer_operand s) t.rec) _ p g.2 in
     let pos = bound (optional (integer_operand s) t.pos) _ p rec.2 in
     let id = bound (optional (integer_place s) t.id) _ p pos.2 in
     let size = bound (optional (integer_place s) t.size) _ p id.2 in
     let told = bound (optional (integer_place s) t.iostat) _ p size.2 in
-    let made : record { group = g.0; items = c.0.items; few = c.0.few; rec = rec.0; pos = pos.0; id = id.0; size = size.0; iostat = told.0 } ≡ p = some_is _ p told.2 in (
+    let made : record { group = g.0; items = map what ms.0; rec = rec.0; pos = pos.0; id = id.0; size = size.0; iostat = told.0 } ≡ p = some_is _ p told.2 in (
       ms.0,
       subst (λ q. IsMade s t q ms.0) made (record {
         group = g.1;
         each_is = ms.1;
-        items = ap (λ x. x.items) same;
-        few = ap (λ x. x.few) same;
+        items = refl;
         rec = rec.1;
         pos = pos.1;
         id = id.1;
@@ -354,15 +350,15 @@ pub allowed_is : (s : Scope) (items : Option (List FormatItem)) (t : Transfer) (
     → IsAllowed (assembled items t p)
 unfolding is_allowed
 allowed_is s items t p ms made is rules =
-    let a = both (goes_together t) (stands_alone t && (t.input implies can_be_read items t.items)) rules in
-    let b = both (stands_alone t) (t.input implies can_be_read items t.items) a.1 in
+    let a = and_parts (goes_together t) (stands_alone t && (t.input implies can_be_read items t.items)) rules in
+    let b = and_parts (stands_alone t) (t.input implies can_be_read items t.items) a.1 in
     let g = t.group in
     let f = t.format in
-    let id_rule = both (given t.id implies is_true t.asynchronous) _ a.0 in
-    let size_rule = both (given t.size implies given t.advance) _ id_rule.1 in
-    let advance_rule = both (given t.advance implies is_explicit f) (changes_some t implies (given f || given g)) size_rule.1 in
-    let rec_rule = both (given t.rec implies not (given t.pos || (is_list_directed f || given g))) _ b.0 in
-    let group_rule = both (given g implies (not (given f) && eqb (length t.items) 0)) (is_star t.unit implies not (given t.rec || given t.pos)) rec_rule.1 in
+    let id_rule = and_parts (given t.id implies is_true t.asynchronous) _ a.0 in
+    let size_rule = and_parts (given t.size implies given t.advance) _ id_rule.1 in
+    let advance_rule = and_parts (given t.advance implies is_explicit f) (changes_some t implies (given f || given g)) size_rule.1 in
+    let rec_rule = and_parts (given t.rec implies not (given t.pos || (is_list_directed f || given g))) _ b.0 in
+    let group_rule = and_parts (given g implies (not (given f) && eqb (length t.items) 0)) (is_star t.unit implies not (given t.rec || given t.pos)) rec_rule.1 in
     let same_rec : is_some p.rec ≡ is_some t.rec = given_same (integer_operand s) t.rec p.rec made.rec in
     let same_pos : is_some p.pos ≡ is_some t.pos = given_same (integer_operand s) t.pos p.pos made.pos in
     let same_group : is_some p.group ≡ is_some g = given_same (members s) g p.group made.group in
@@ -406,10 +402,10 @@ transferred_is s sound items t m is h limits =
     let p = bound (parts s t) _ m h in
     let r = passed (is_allowed items t) (Some (statement.Transfer (assembled items t p.0))) m p.2 in
     let made = made_is s t p.0 p.1 in
-    let few : p.0.few ≡ true = sym (ap of_parts p.1) ∙ (both (is_short items) (of_parts (parts s t)) limits).1 in
+    let few : are_few made.0 ≡ true = sym (ap of_items made.1.each_is) ∙ (and_parts (is_short items) (of_items (each (meant s) t.items)) limits).1 in
     subst (IsSoundStatement s.variables) (some_is (statement.Transfer (assembled items t p.0)) m r.1) (record {
       allowed = allowed_is s items t p.0 made.0 made.1 is r.0;
-      items = subst (IsList s.variables) made.1.items (list_is s t.items made.0 made.1.each_is (made.1.few ∙ few));
+      items = subst (IsList s.variables) made.1.items (list_is s t.items made.0 made.1.each_is few);
       members = has_members s sound t.group p.0.group t.format items made.1.group;
       rec = given_is (integer_operand s) (IsIntegerOperand s.variables) (integer_operand_is s) t.rec p.0.rec made.1.rec;
       pos = given_is (integer_operand s) (IsIntegerOperand s.variables) (integer_operand_is s) t.pos p.0.pos made.1.pos;

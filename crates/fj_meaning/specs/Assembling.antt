@@ -1,5 +1,5 @@
 -- What the steps from a written transfer to its statement answer.
-use Rattle.std.specs.Prelude.{◌≡◌, ℕ, ◌&&◌, true, false, List, Result, Ok, Err, Option, Some, None}
+use Rattle.std.specs.Prelude.{◌≡◌, ℕ, true, false, List, Result, Ok, Err, Option, Some, None}
 use Rattle.fj_format.specs.declared.item.FormatItem.{FormatItem}
 use Rattle.fj_format.specs.Parsing.{IsNoFormat}
 use Rattle.fj_format.specs.Sound.{IsWritten}
@@ -35,10 +35,10 @@ abbrev pub Controls : Option (List FormatItem) → Control → Option Control �
 Controls items c None = is_short items ≡ false
 Controls items c (Some made) = (made ≡ c) × (is_short items ≡ true)
 
--- this statement, unless a limit is passed
+-- this statement, unless the format is too long
 abbrev pub Assembles : Option (List FormatItem) → written.Transfer → Parts → Result Statement Fault → Type 0
-Assembles items t p (Ok s) = (s ≡ statement.Transfer (assembled items t p)) × ((is_short items && p.few) ≡ true)
+Assembles items t p (Ok s) = (s ≡ statement.Transfer (assembled items t p)) × (is_short items ≡ true)
 Assembles items t p (Err (fault.Memory error)) = Unit {0}
 Assembles items t p (Err (fault.Format at)) = ⊥
 Assembles items t p (Err fault.NoMeaning) = ⊥
-Assembles items t p (Err fault.TooMany) = (is_short items && p.few) ≡ false
+Assembles items t p (Err fault.TooMany) = is_short items ≡ false

@@ -18,7 +18,7 @@ use Rattle.fj_syntax.specs.declared.written.Format.{Format}
 use Rattle.fj_syntax.specs.declared.written.Format.TheVariants as format
 use Rattle.fj_syntax.specs.declared.written.Transfer as written
 use Rattle.fj_meaning.specs.declared.operand.Meant.{Meant}
-use Rattle.fj_meaning.specs.declared.items.Chosen.{Chosen}
+use Rattle.fj_statement.specs.declared.statement.Operand.{Operand}
 use Rattle.fj_meaning.specs.declared.transfer.Parts.{Parts}
 use Rattle.fj_meaning.specs.declared.scope.Scope.{Scope}
 use Rattle.fj_meaning.specs.Giving.{◌>>=◌, optional, each}
@@ -102,22 +102,21 @@ bytes ms = sum_by (λ m. m.count * size_of m.kind) ms
 unfoldable pub are_few : List Meant → Bool
 are_few ms = nat_le (elements ms) 1000000 && nat_le (bytes ms) 16777216
 
--- the items, and whether they are few
-unfoldable pub chosen : Scope → List operand.Operand → Option Chosen
-chosen s os = each (meant s) os >>= (λ ms. Some (record { items = map (λ m. m.operand) ms; few = are_few ms }))
-
 -- ---- what the names stand for
 
-unfoldable pub parts : Scope → written.Transfer → Option Parts
-parts s t = do
+-- with these items
+unfoldable pub parts_with : Scope → written.Transfer → List Operand → Option Parts
+parts_with s t items = do
   g ← optional (members s) t.group
-  c ← chosen s t.items
   rec ← optional (integer_operand s) t.rec
   pos ← optional (integer_operand s) t.pos
   id ← optional (integer_place s) t.id
   size ← optional (integer_place s) t.size
   iostat ← optional (integer_place s) t.iostat
-  Some (record { group = g; items = c.items; few = c.few; rec = rec; pos = pos; id = id; size = size; iostat = iostat })
+  Some (record { group = g; items = items; rec = rec; pos = pos; id = id; size = size; iostat = iostat })
+
+unfoldable pub parts : Scope → written.Transfer → Option Parts
+parts s t = each (meant s) t.items >>= (λ ms. parts_with s t (map (λ m. m.operand) ms))
 
 -- a group with its members, an explicit format, a list-directed one, or none
 abbrev pub control_of : Option (List ℕ) → Option (List ℕ) → Option Format → Option (List FormatItem) → Control
@@ -158,9 +157,10 @@ abbrev pub is_short : Option (List FormatItem) → Bool
 is_short None = true
 is_short (Some items) = nat_le (length (pass items)) 1000000
 
-abbrev pub of_parts : Option Parts → Bool
-of_parts None = true
-of_parts (Some p) = p.few
+-- and the items are few, if all of them mean something
+abbrev pub of_items : Option (List Meant) → Bool
+of_items None = true
+of_items (Some ms) = are_few ms
 
 unfoldable pub fits : Scope → Option (List FormatItem) → written.Transfer → Bool
-fits s items t = is_short items && of_parts (parts s t)
+fits s items t = is_short items && of_items (each (meant s) t.items)

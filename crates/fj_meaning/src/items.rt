@@ -1,7 +1,8 @@
 // The items of READ and WRITE (ISO/IEC 1539-1:2004, 9.5.2).
-ghost use Rattle.std.specs.Prelude.{◌≡◌, map};
-ghost use Rattle.fj_meaning.specs.Giving.{Gives};
-ghost use Rattle.fj_meaning.specs.Transfer.{chosen};
+ghost use Rattle.std.specs.Prelude.{◌≡◌, map, option_map};
+ghost use Rattle.fj_meaning.specs.Giving.{Gives, each};
+ghost use Rattle.fj_meaning.specs.Transfer.{are_few};
+ghost use Rattle.fj_meaning.specs.Operands.{meant};
 
 use crate::fault::Fault;
 use crate::limits::{capped, size_of};
@@ -17,17 +18,10 @@ const MOST_ELEMENTS: u64 = 1_000_000;
 
 const MOST_BYTES: u64 = 16_777_216;
 
-/// Items, and whether they are no more than a statement may have.
-#[derive(Debug, Drop)]
-pub struct Chosen {
-    pub items: Operands,
-    pub few: bool,
-}
-
-/// What the items mean.
-#[tactic(auto, unfolding(crate::specs::Transfer::chosen, crate::specs::Transfer::are_few))]
-pub fn choose(alloc: Global, names: &Names, operands: &[Operand]) -> Result<Chosen, Fault>
-    ensures { Gives result (chosen names.now operands.now) }
+/// What the items mean, and whether they are no more than a statement may have.
+#[tactic(auto, unfolding(crate::specs::Transfer::are_few))]
+pub fn choose(alloc: Global, names: &Names, operands: &[Operand]) -> Result<(Operands, bool), Fault>
+    ensures { Gives result (option_map (λ ms. (map (λ m. m.operand) ms, are_few ms)) (each (meant names.now) operands.now)) }
 {
     let mut items = Items::new(alloc);
     let mut elements = 0;
@@ -39,5 +33,5 @@ pub fn choose(alloc: Global, names: &Names, operands: &[Operand]) -> Result<Chos
         items.push(meant.operand)?;
     }
     let few = elements <= MOST_ELEMENTS && bytes <= MOST_BYTES;
-    Ok(Chosen { items, few })
+    Ok((items, few))
 }

@@ -2,7 +2,7 @@
 ghost use Rattle.std.specs.Prelude.{◌≡◌, IfOk, MatchOption, true, false};
 ghost use Rattle.fj_meaning.specs.Giving.{Gives, each, optional};
 ghost use Rattle.fj_meaning.specs.Scope.{members};
-ghost use Rattle.fj_meaning.specs.Transfer.{parts, control_of, is_short};
+ghost use Rattle.fj_meaning.specs.Transfer.{parts_with, control_of, is_short};
 ghost use Rattle.fj_meaning.specs.Meaning.{literal_of, Means};
 ghost use Rattle.fj_meaning.specs.Assembling.{ReadsFormat, AreWritten, Controls, Assembles};
 ghost use Rattle.fj_syntax.specs.declared.written.Written.TheVariants as written;
@@ -24,8 +24,6 @@ pub struct Parts {
     /// The members of its group.
     pub group: Option<Vars>,
     pub items: Operands,
-    /// Whether the items are no more than a statement may have.
-    pub few: bool,
     pub rec: Option<Operand>,
     pub pos: Option<Operand>,
     pub id: Option<Place>,
@@ -78,12 +76,16 @@ fn optional_group(names: &Names, group: &Option<Text>) -> Result<Option<Vars>, F
     }
 }
 
-#[tactic(auto, unfolding(crate::specs::Transfer::parts))]
-fn parts_of(alloc: Global, names: &Names, transfer: &fj_syntax::Transfer) -> Result<Parts, Fault>
-    ensures { Gives result (parts names.now transfer.now) }
+/// With these items.
+#[tactic(auto, unfolding(crate::specs::Transfer::parts_with))]
+fn parts_with(
+    names: &Names,
+    transfer: &fj_syntax::Transfer,
+    items: Operands,
+) -> Result<Parts, Fault>
+    ensures { Gives result (parts_with names.now transfer.now items) }
 {
     let group = optional_group(names, &transfer.group)?;
-    let chosen = choose(alloc, names, transfer.items.as_slice())?;
     let rec = optional_operand(names, &transfer.rec)?;
     let pos = optional_operand(names, &transfer.pos)?;
     let id = optional_place(names, &transfer.id)?;
@@ -91,8 +93,7 @@ fn parts_of(alloc: Global, names: &Names, transfer: &fj_syntax::Transfer) -> Res
     let iostat = optional_place(names, &transfer.iostat)?;
     Ok(Parts {
         group,
-        items: chosen.items,
-        few: chosen.few,
+        items,
         rec,
         pos,
         id,
@@ -131,7 +132,7 @@ fn control_of(
     }
 }
 
-/// The statement of these parts, where no limit is passed.
+/// The statement of these parts, unless its format is too long.
 fn assembled(
     transfer: fj_syntax::Transfer,
     parts: Parts,
@@ -140,9 +141,6 @@ fn assembled(
     requires { AreWritten items }
     ensures { Assembles items transfer parts result }
 {
-    if !parts.few {
-        return Err(Fault::TooMany);
-    }
     let Some(control) = control_of(transfer.group, parts.group, &transfer.format, items) else {
         return Err(Fault::TooMany);
     };
@@ -178,6 +176,10 @@ pub fn transferred(
     if !is_allowed(&items, &transfer) {
         return Err(Fault::NoMeaning);
     }
-    let parts = parts_of(alloc, names, &transfer)?;
+    let (operands, few) = choose(alloc, names, transfer.items.as_slice())?;
+    let parts = parts_with(names, &transfer, operands)?;
+    if !few {
+        return Err(Fault::TooMany);
+    }
     assembled(transfer, parts, items)
 }

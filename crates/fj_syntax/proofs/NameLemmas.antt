@@ -27,19 +27,7 @@ use Rattle.fj_syntax.specs.Reading.{◌>>=◌, each}
 use Rattle.fj_syntax.specs.Statement.{assignment_of, begun, begun_by, behind_colons, character_kind, declaration_of, end_from, group_of, integer_kind, items_of, motion_from, number_in, transfer_from, value_of, written_of}
 use Rattle.fj_syntax.specs.Tokens.{AreTokens, IsWritten, none, comment, blank, token as first}
 use Rattle.fj_syntax.specs.Words.{keyword_of}
-
--- ---- steps
-
-bound : {A B : Type 0} (o : Option A) (f : A → Option B) (y : B) → (o >>= f) ≡ Some y → (x : A) × (o ≡ Some x) × (f x ≡ Some y)
-bound None f y h = cc
-bound (Some x) f y h = (x, refl, h)
-
-some_is : {A : Type 0} (x y : A) → Some x ≡ Some y → x ≡ y
-some_is x y h = cc
-
-passed : {A : Type 0} (b : Bool) (o : Option A) (y : A) → cond b o None ≡ Some y → o ≡ Some y
-passed true o y h = h
-passed false o y h = cc
+use Rattle.fj_syntax.proofs.TokenLemmas.{bound, passed, some_is}
 
 -- ---- words among tokens
 
@@ -85,13 +73,13 @@ each_is f P is (p ∷ ps) ys h all =
 -- ---- declarations
 
 named_word : (w : List ℕ) (n : Option ℕ) (d : Designator) → named w n ≡ Some d → IsWord w → IsWord d.name
-named_word w n d h is = subst (λ (e : Designator). IsWord e.name) (some_is _ d (passed (is_name w) _ d h)) is
+named_word w n d h is = subst (λ (e : Designator). IsWord e.name) (some_is _ d (passed (is_name w) _ d h).1) is
 
 designator_word : (ts : Tokens) (d : Designator) → designator_of ts ≡ Some d → AreOfLine ts → IsWord d.name
 unfolding designator_of
 designator_word (Word w ∷ []) d h all = named_word w None d h (All-head IsOfLine (Word w) [] all)
 designator_word (Word w ∷ Mark mark.LeftParenthesis ∷ Number Unsigned n ∷ Mark mark.RightParenthesis ∷ []) d h all =
-    named_word w (Some n) d (passed (is_from_to 1 1000000 n) _ d h) (All-head IsOfLine (Word w) (Mark mark.LeftParenthesis ∷ Number Unsigned n ∷ Mark mark.RightParenthesis ∷ []) all)
+    named_word w (Some n) d (passed (is_from_to 1 1000000 n) _ d h).1 (All-head IsOfLine (Word w) (Mark mark.LeftParenthesis ∷ Number Unsigned n ∷ Mark mark.RightParenthesis ∷ []) all)
 designator_word ts d h all = cc
 
 behind_colons_are : (ts : Tokens) → AreOfLine ts → AreOfLine (behind_colons ts)
@@ -131,7 +119,7 @@ declaration_words kind ts s h all =
 group_words : (ts : Tokens) (s : Written) → group_of ts ≡ Some s → AreOfLine ts → GivesWords s
 unfolding group_of
 group_words (Mark mark.Slash ∷ Word name ∷ Mark mark.Slash ∷ ts) s h all =
-    let members = bound (list_of name_of ts) (λ ms. Some (written.Group (record { name = name; members = ms }))) s (passed (is_name name) _ s h) in
+    let members = bound (list_of name_of ts) (λ ms. Some (written.Group (record { name = name; members = ms }))) s (passed (is_name name) _ s h).1 in
     let word : IsWord name = All-head IsOfLine (Word name) (Mark mark.Slash ∷ ts) (All-tail IsOfLine (Mark mark.Slash) (Word name ∷ Mark mark.Slash ∷ ts) all) in
     subst GivesWords (some_is (written.Group (record { name = name; members = members.0 })) s members.2) (All-cons IsWord name [] word (All-nil IsWord))
 group_words ts s h all = cc
@@ -151,7 +139,7 @@ motion_words how ts s h = gives_none (move_of how ts) written.Move s (λ x. refl
 end_words : (ts : Tokens) (s : Written) → end_from ts ≡ Some s → GivesWords s
 unfolding end_from
 end_words [] s h = subst GivesWords (some_is written.End s h) (All-nil IsWord)
-end_words (Word w ∷ ts) s h = motion_words motion.Endfile ts s (passed (bytes_eq w (codes "FILE")) _ s h)
+end_words (Word w ∷ ts) s h = motion_words motion.Endfile ts s (passed (bytes_eq w (codes "FILE")) _ s h).1
 end_words ts s h = cc
 
 transfer_words : (input : Bool) (ts : Tokens) (s : Written) → transfer_from input ts ≡ Some s → GivesWords s

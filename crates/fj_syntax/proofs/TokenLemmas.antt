@@ -16,10 +16,23 @@ use Rattle.fj_syntax.specs.declared.token.Token.{Token}
 use Rattle.fj_syntax.specs.declared.token.Token.TheVariants as token
 use Rattle.fj_syntax.specs.declared.token.Sign.{Sign}
 use Rattle.fj_syntax.specs.FirstToken.{run_at, word_at, number_at, closed_by, behind_delimiter, literal_at}
+use Rattle.fj_syntax.specs.Reading.{◌>>=◌}
 use Rattle.fj_syntax.specs.Tokens.{begins, doubled, IsDelimiter, IsRun, IsWritten, sign_bytes}
 use Rattle.fj_syntax.proofs.ClassLemmas.{front_passes}
 
 -- ---- choices
+
+pub bound : {A B : Type 0} (o : Option A) (f : A → Option B) (y : B) → (o >>= f) ≡ Some y → (x : A) × (o ≡ Some x) × (f x ≡ Some y)
+bound None f y h = cc
+bound (Some x) f y h = (x, refl, h)
+
+pub some_is : {A : Type 0} (x y : A) → Some x ≡ Some y → x ≡ y
+some_is x y h = cc
+
+-- where it is some, the test passed
+pub passed : {A : Type 0} (b : Bool) (o : Option A) (y : A) → cond b o None ≡ Some y → (b ≡ true) × (o ≡ Some y)
+passed true o y h = (refl, h)
+passed false o y h = cc
 
 -- what follows from either side of a choice that is some
 pub either : {A : Type 0} (b : Bool) (o r : Option A) (x : A) (P : Type 0) → (b ≡ true → o ≡ Some x → P) → (b ≡ false → r ≡ Some x → P) → cond b o r ≡ Some x → P
