@@ -67,8 +67,8 @@ impl<'a> Cursor<'a> {
         self.advance(left)
     }
 
-    /// Where the same data descriptor comes again, up to so many times: the descriptor, and how often it comes. These steps
-    /// are then behind the cursor. It may be more often still.
+    /// Where a data descriptor is next, up to so many times: the descriptor, and how often it comes. These steps are then
+    /// behind the cursor. It may be more often still.
     pub fn run(&mut self, most: usize) -> Option<(Edit, usize)>
         ensures due { IfSome result (λ (run : Edit × ℕ). (n : ℕ) → run.1 ≤ n
             → due self.old n ≡ replicate run.1 (gives (edit run.0)) ++ due self.new (n - run.1)) }

@@ -175,15 +175,16 @@ fn steps(rt: HostRuntime) -> Result<(), Fail> {
     Ok(())
 }
 
-/// A data descriptor that comes again.
+/// A data descriptor that comes several times.
 #[test]
 fn runs(rt: HostRuntime) -> Result<(), Fail> {
     let format = parse(rt.alloc(), b"(3I8,A)")?;
     let mut cursor = Cursor::new(&format);
-    assert!(rt; cursor.run(5).is_none());
-    assert!(rt; matches!(cursor.next(true), Step::Edit(Edit::Int { w: 8, m: None })));
+    assert!(rt; cursor.run(0).is_none());
     assert!(rt; matches!(cursor.run(1), Some((Edit::Int { w: 8, m: None }, 1))));
+    assert!(rt; matches!(cursor.next(true), Step::Edit(Edit::Int { w: 8, m: None })));
     assert!(rt; matches!(cursor.run(5), Some((Edit::Int { w: 8, m: None }, 1))));
+    assert!(rt; matches!(cursor.run(5), Some((Edit::Chars { w: None }, 1))));
     assert!(rt; cursor.run(5).is_none());
     Ok(())
 }

@@ -222,8 +222,41 @@ impl<'a> Walker<'a> {
 }
 
 impl<'a> Walker<'a> {
-    /// Takes the data descriptor that is being repeated, up to so many times.
+    /// Begins to repeat the next item, where it is a data descriptor.
+    fn begin_repeat(&mut self)
+        requires sound { IsSound self.old }
+        requires times { self.old.times ≡ 0 }
+        ensures rest { rest_of self.new ≡ rest_of self.old }
+        ensures sound { IsSound self.new }
+    {
+        let items = self.top.items;
+        let at = self.top.at;
+        if at >= items.len() {
+            return;
+        }
+        if let FormatItem::Field { r, edit } = &items[at] {
+            self.top.at = at + 1;
+            self.times = *r;
+            self.repeat = Repeat::Edit(*edit);
+        }
+    }
+
+    /// Takes the data descriptor that is next, up to so many times.
     pub fn run(&mut self, most: usize) -> Option<(Edit, usize)>
+        requires { IsSound self.old }
+        ensures some { IfSome result (λ (run : Edit × ℕ). rest_of self.old ≡ repeated run.1 (edit run.0 ∷ []) ++ rest_of self.new) }
+        ensures few { IfSome result (λ (run : Edit × ℕ). (1 ≤ run.1) × (run.1 ≤ most)) }
+        ensures none { IfNone result (rest_of self.new ≡ rest_of self.old) }
+        ensures sound { IsSound self.new }
+    {
+        if self.times == 0 {
+            self.begin_repeat();
+        }
+        self.repeats(most)
+    }
+
+    /// Takes the data descriptor that is being repeated, up to so many times.
+    fn repeats(&mut self, most: usize) -> Option<(Edit, usize)>
         requires { IsSound self.old }
         ensures some { IfSome result (λ (run : Edit × ℕ). rest_of self.old ≡ repeated run.1 (edit run.0 ∷ []) ++ rest_of self.new) }
         ensures few { IfSome result (λ (run : Edit × ℕ). (1 ≤ run.1) × (run.1 ≤ most)) }

@@ -1,6 +1,7 @@
 -- Doubling marks, a piece at a time.
 use Rattle.std.proofs.Common.{◌≡◌, ℕ, ◌+◌, ◌-◌, ◌<◌, ◌≤◌, cond, eqb, true, false, List, [], ◌∷◌, ◌++◌, length, get_or, take, drop, sym, ap, ◌∙◌, arith, append_assoc, append-nil}
-use Rattle.std.proofs.lemmas.List.{take_more, take-append-le, drop-append-le, drop_at, drop-take, length-take, length-take-le}
+use Rattle.std.proofs.Math.Seq.{take-append_seam}
+use Rattle.std.proofs.lemmas.List.{take_more, take-append-drop, take-append-le, drop-append-le, drop_at, drop-take, length-take, length-take-le}
 use Rattle.std.proofs.lemmas.Grind.{flat_map-append}
 use Rattle.fj_list.specs.ListText.{doubled}
 
@@ -53,3 +54,8 @@ slice_is xs start i within =
 -- what stood in front stays in front
 pub take_grown : (old out more : List ℕ) → take (length old) out ≡ old → take (length old) (out ++ more) ≡ old
 take_grown old out more e = take-append-le (length old) out more (omega (arith, ap length e, length-take (length old) out)) ∙ e
+
+pub front_grown : (old more mid new : List ℕ) → mid ≡ old ++ more → take (length mid) new ≡ mid → take (length old) new ≡ old
+front_grown old more mid new grown kept =
+    ap (take (length old)) (sym (take-append-drop (length mid) new) ∙ ap (λ l. l ++ drop (length mid) new) (kept ∙ grown) ∙ append_assoc old more (drop (length mid) new))
+    ∙ take-append_seam old (more ++ drop (length mid) new)

@@ -1,10 +1,11 @@
 -- The items that are left, one by one.
-use Rattle.std.proofs.Common.{◌≡◌, ℕ, zero, suc, ◌+◌, ◌≤◌, ◌<◌, List, [], ◌∷◌, ◌++◌, length, drop, get_or, slice_get, Option, Some, None, refl, sym, ap, ◌∙◌, arith}
-use Rattle.std.proofs.lemmas.List.{at_drop_more, at_drop_all}
+use Rattle.std.proofs.Common.{◌≡◌, ℕ, zero, suc, ◌+◌, ◌-◌, ◌≤◌, ◌<◌, List, [], ◌∷◌, ◌++◌, length, take, drop, get_or, slice_get, Option, Some, None, refl, sym, ap, ◌∙◌, arith}
+use Rattle.std.proofs.lemmas.List.{at_drop_more, at_drop_all, take_more, take_rest, take-append-drop, map-append, append-nil}
+use Rattle.std.proofs.lemmas.Grind.{flat_map-append}
 use Rattle.fj_value.specs.declared.value.Value.{Value}
 use Rattle.fj_value.specs.declared.value.Cell.{Cell}
 use Rattle.fj_list.specs.declared.items.Run.{Run}
-use Rattle.fj_list.specs.Items.{in_cell, in_cells, values_of, of_kind, in_runs, in_runs_from}
+use Rattle.fj_list.specs.Items.{in_cell, in_cells, in_each, values_of, of_kind, in_runs, in_runs_from}
 
 pub some_there : (xs : List Cell) (i : ℕ) (d : Cell) → i < length xs → slice_get xs i ≡ Some (get_or xs i d)
 some_there [] i d h = absurd (omega arith)
@@ -23,6 +24,35 @@ cells_more cells order at o h e = at_drop_more (in_cells cells) order at 0 h ∙
 
 pub cells_all : (cells : List Cell) (order : List ℕ) (at : ℕ) → length order ≤ at → in_cells cells (drop at order) ≡ []
 cells_all cells order at h = at_drop_all (in_cells cells) order at h
+
+-- ---- cells with one item each
+
+each_more : (cells : List Cell) (i : ℕ) → i < length cells → in_each (take (suc i) cells) ≡ in_each (take i cells) ++ in_cell (slice_get cells i)
+each_more [] i h = absurd (omega arith)
+each_more (cell ∷ cells) zero h = refl
+each_more (cell ∷ cells) (suc i) h = ap (λ l. (cell.kind, cell.value) ∷ l) (each_more cells i (omega arith))
+
+-- the cells in order so far
+pub in_order_more : (cells : List Cell) (order : List ℕ) (i : ℕ) → i < length order → i < length cells → get_or order i 0 ≡ i → in_cells cells (take i order) ≡ in_each (take i cells)
+    → in_cells cells (take (i + 1) order) ≡ in_each (take (i + 1) cells)
+in_order_more cells order i h k same before =
+    let next : suc i ≡ i + 1 = omega arith in
+    ap (in_cells cells) (take_more order i 0 h)
+    ∙ flat_map-append (λ at. in_cell (slice_get cells at)) (take i order) (get_or order i 0 ∷ [])
+    ∙ ap (λ l. l ++ in_cells cells (get_or order i 0 ∷ [])) before
+    ∙ ap (λ n. in_each (take i cells) ++ in_cells cells (n ∷ [])) same
+    ∙ ap (λ l. in_each (take i cells) ++ l) (append-nil (in_cell (slice_get cells i)))
+    ∙ sym (each_more cells i k)
+    ∙ ap (λ n. in_each (take n cells)) next
+
+-- so many of them, and the others
+pub each_cut : (cells all : List Cell) (count : ℕ) → all ≡ cells → in_each all ≡ in_each (take count all) ++ in_each (take (length cells - count) (drop count cells))
+each_cut cells all count is =
+    ap in_each (sym (take-append-drop count all))
+    ∙ map-append (λ (cell : Cell). (cell.kind, cell.value)) (take count all) (drop count all)
+    ∙ ap (λ l. in_each (take count all) ++ in_each l) (ap (drop count) is ∙ sym (take_rest cells count))
+
+-- ---- runs
 
 -- a run of the runs that are left
 runs_here : (runs : List Run) (run at : ℕ) (r : Run) → run < length runs → get_or runs run r ≡ r → in_runs_from at (drop run runs) ≡ of_kind r.kind (drop at (values_of r.values)) ++ in_runs (drop (run + 1) runs)

@@ -15,6 +15,7 @@ pub mod Understanding
 pub mod Meaning
 pub mod Constants
 mod ListLaws
+pub mod Integers
 pub mod ItemLemmas
 pub mod Cutting
 pub mod MovedLemmas

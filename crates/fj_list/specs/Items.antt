@@ -10,11 +10,15 @@ use Rattle.fj_list.specs.declared.items.Values.{Values}
 use Rattle.fj_list.specs.declared.items.Values.TheVariants.{One, Many}
 use Rattle.fj_list.specs.declared.items.Run.{Run}
 use Rattle.fj_list.specs.declared.items.OutputItems.{OutputItems}
-use Rattle.fj_list.specs.declared.items.OutputItems.TheVariants.{Cells, Runs}
+use Rattle.fj_list.specs.declared.items.OutputItems.TheVariants.{Each, Cells, Runs}
 
 -- a value that is written, with its kind
 abbrev pub Output : Type 0
 Output = Kind × Value
+
+-- of cells, each with one item
+abbrev pub in_each : List Cell → List Output
+in_each cells = map (λ (cell : Cell). (cell.kind, cell.value)) cells
 
 -- of cells, with the number of the cell of each item
 abbrev pub in_cell : Option Cell → List Output
@@ -48,8 +52,14 @@ in_runs_from at (run ∷ runs) = of_kind run.kind (drop at (values_of run.values
 
 -- the items that are left
 abbrev pub items_left : OutputItems → List Output
+items_left (Each cells) = in_each cells.now
 items_left (Cells cells order at) = in_cells cells.now (drop at order.now)
 items_left (Runs runs run at) = in_runs_from at (drop run runs.now)
+
+-- the cells of the next items, where they have one each
+abbrev pub cells_ahead : OutputItems → List Cell
+cells_ahead (Each cells) = cells.now
+cells_ahead _ = []
 
 abbrev pub with_next : Option Item → List Output → List Output
 with_next None more = more

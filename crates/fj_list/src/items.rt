@@ -1,6 +1,6 @@
 // The items of an output that are still to be written.
-ghost use Rattle.std.specs.Prelude.{◌≡◌, ◌∷◌, [], drop, IfSome, IfNone};
-ghost use Rattle.fj_list.specs.Items.{in_cells, in_runs, in_runs_from, items_left, values_of, with_next};
+ghost use Rattle.std.specs.Prelude.{◌≡◌, ◌≤◌, ◌∷◌, ◌++◌, [], length, take, drop, nat_lt, IsTrue, IfSome, IfNone};
+ghost use Rattle.fj_list.specs.Items.{in_cells, in_each, cells_ahead, in_runs, in_runs_from, items_left, values_of, with_next};
 
 use fj_value::{Cell, Kind, Value};
 
@@ -28,6 +28,8 @@ pub struct Run<'a> {
 /// The items of an output that are left, in their order. They are borrowed.
 #[derive(Clone, Copy)]
 pub enum OutputItems<'a> {
+    /// Cells, each with one item, in their own order.
+    Each(&'a [Cell]),
     /// Cells, the number of the cell of each item, and how many of these numbers were taken.
     Cells {
         cells: &'a [Cell],
@@ -40,6 +42,58 @@ pub enum OutputItems<'a> {
         run: usize,
         at: usize,
     },
+}
+
+/// Whether the first cells have the items, one each, in their own order.
+fn is_in_order(cells: &[Cell], order: &[u32]) -> bool
+    ensures { IsTrue result → (length order.now ≤ length cells.now) × (in_cells cells.now order.now ≡ in_each (take (length order.now) cells.now)) }
+{
+    if order.len() > cells.len() {
+        return false;
+    }
+    for (i, number) in order.iter().enumerate() {
+        if *number as usize != i {
+            return false;
+        }
+    }
+    true
+}
+
+/// The item of the next cell.
+#[inline]
+fn next_of_each<'a>(cells: &mut &'a [Cell]) -> Option<Item<'a>>
+    ensures items { with_next result (in_each cells.new.now) ≡ in_each cells.old.now }
+    ensures none { IfNone result (in_each cells.new.now ≡ []) }
+{
+    let cell = cells.first()?;
+    *cells = &cells[1..];
+    Some(Item {
+        kind: cell.kind,
+        value: &cell.value,
+    })
+}
+
+/// Whether a number from a place on is that of a cell.
+fn is_cell_left(cells: &[Cell], order: &[u32], from: usize) -> bool
+    ensures { result ≡ nat_lt 0 (length (in_cells cells.now (drop from order.now))) }
+{
+    let mut at = from;
+    while at < order.len() {
+        if (order[at] as usize) < cells.len() {
+            return true;
+        }
+        at += 1;
+    }
+    false
+}
+
+/// Whether a value is left.
+fn is_value_left(runs: &[Run], run: usize, at: usize) -> bool
+    ensures { result ≡ nat_lt 0 (length (in_runs_from at (drop run runs.now))) }
+{
+    let mut run = run;
+    let mut at = at;
+    next_value(runs, &mut run, &mut at).is_some()
 }
 
 /// The next item of cells.
@@ -111,6 +165,9 @@ impl<'a> OutputItems<'a> {
     pub fn of_cells(cells: &'a [Cell], order: &'a [u32]) -> OutputItems<'a>
         ensures { items_left result ≡ in_cells cells.entry.now order.entry.now }
     {
+        if is_in_order(cells, order) {
+            return OutputItems::Each(&cells[..order.len()]);
+        }
         OutputItems::Cells {
             cells,
             order,
@@ -129,12 +186,48 @@ impl<'a> OutputItems<'a> {
         }
     }
 
+    /// Whether an item is left.
+    #[inline]
+    pub fn is_some_left(&self) -> bool
+        ensures { result ≡ nat_lt 0 (length (items_left self.now)) }
+    {
+        match self {
+            OutputItems::Each(cells) => !cells.is_empty(),
+            OutputItems::Cells { cells, order, at } => is_cell_left(cells, order, *at),
+            OutputItems::Runs { runs, run, at } => is_value_left(runs, *run, *at),
+        }
+    }
+
+    /// The cells of the next items, where they have one each, in their own order.
+    #[inline]
+    pub fn ahead(&self) -> &'a [Cell]
+        ensures { result.now ≡ cells_ahead self.now }
+    {
+        match self {
+            OutputItems::Each(cells) => cells,
+            OutputItems::Cells { .. } | OutputItems::Runs { .. } => &[],
+        }
+    }
+
+    /// Takes the items of so many of these cells.
+    #[inline]
+    pub fn pass(&mut self, count: usize)
+        requires { count ≤ length (cells_ahead self.old) }
+        ensures { items_left self.old ≡ in_each (take count (cells_ahead self.old)) ++ items_left self.new }
+    {
+        if let OutputItems::Each(cells) = self {
+            *cells = &cells[count..];
+        }
+    }
+
     /// Takes the next item.
+    #[inline]
     pub fn next(&mut self) -> Option<Item<'a>>
         ensures items { with_next result (items_left self.new) ≡ items_left self.old }
         ensures none { IfNone result (items_left self.new ≡ []) }
     {
         match self {
+            OutputItems::Each(cells) => next_of_each(cells),
             OutputItems::Cells { cells, order, at } => next_cell(cells, order, at),
             OutputItems::Runs { runs, run, at } => next_value(runs, run, at),
         }

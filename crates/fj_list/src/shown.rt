@@ -1,9 +1,9 @@
 // The text of a value in list-directed output.
-ghost use Rattle.std.specs.Prelude.{◌≡◌, ◌++◌, OnOk, length, take};
+ghost use Rattle.std.specs.Prelude.{◌≡◌, ◌≤◌, ◌++◌, OnOk, OnErr, length, take, replicate};
 ghost use Rattle.fj_list.specs.ListText.{mark_of, doubled, characters_shown, integer_shown, shown, gap, is_characters};
 
 use fj_value::{Delim, EditModes, Text, Value, letter_of, sign_of};
-use itoa::Buffer;
+use itoa::write_digits;
 use std::alloc::AllocError;
 
 /// The mark round characters.
@@ -35,14 +35,30 @@ pub fn gap(modes: EditModes, before: bool, after: bool) -> &'static [u8]
     }
 }
 
-#[tactic(auto, using(crate::proofs::Doubling::take_grown))]
-fn push_integer(out: &mut Text, plus: bool, n: i64) -> Result<(), AllocError>
-    ensures ok { OnOk result (out.new ≡ out.old ++ integer_shown plus n) }
-    ensures kept { take (length out.old) out.new ≡ out.old }
+/// Writes an integer before the end of blanks, and answers where it begins.
+fn write_integer(buffer: &mut [u8; 24], plus: bool, n: i64) -> usize
+    requires { buffer.old ≡ replicate 24 32 }
+    ensures room { 3 ≤ result }
+    ensures written { buffer.new ≡ replicate result 32 ++ integer_shown plus n }
 {
-    out.push_all(sign_of(plus, n))?;
-    let mut buffer = Buffer::new();
-    out.push_all(buffer.format(n.unsigned_abs()).as_bytes())
+    let sign = sign_of(plus, n);
+    let start = write_digits(n.unsigned_abs(), buffer, 24);
+    if sign.is_empty() {
+        return start;
+    }
+    buffer[start - 1] = sign[0];
+    start - 1
+}
+
+/// Appends at most three blanks and an integer.
+fn push_integer(out: &mut Text, blanks: usize, plus: bool, n: i64) -> Result<(), AllocError>
+    requires { blanks ≤ 3 }
+    ensures ok { OnOk result (out.new ≡ out.old ++ (replicate blanks 32 ++ integer_shown plus n)) }
+    ensures err { OnErr result (out.new ≡ out.old) }
+{
+    let mut buffer = [b' '; 24];
+    let start = write_integer(&mut buffer, plus, n);
+    out.push_all(&buffer[start - blanks..])
 }
 
 /// Appends characters with each mark among them doubled.
@@ -81,8 +97,26 @@ pub fn push_value(out: &mut Text, modes: EditModes, value: &Value) -> Result<(),
 {
     match value {
         Value::Undefined => Ok(()),
-        Value::Int(n) => push_integer(out, modes.plus, *n),
+        Value::Int(n) => push_integer(out, 0, modes.plus, *n),
         Value::Log(truth) => out.push_all(letter_of(*truth)),
         Value::Chars(text) => push_characters(out, mark_of(modes.delim), text.bytes()),
     }
+}
+
+/// Appends a value with what stands between it and the one before it, or after want of memory a part of that.
+#[tactic(auto, using(crate::proofs::Doubling::take_grown))]
+pub fn push_next(
+    out: &mut Text,
+    modes: EditModes,
+    characters: bool,
+    value: &Value,
+) -> Result<(), AllocError>
+    ensures ok { OnOk result (out.new ≡ out.old ++ (gap modes characters (is_characters value.now) ++ shown modes value.now)) }
+    ensures kept { take (length out.old) out.new ≡ out.old }
+{
+    if let Value::Int(n) = value {
+        return push_integer(out, 1, modes.plus, *n);
+    }
+    out.push_all(gap(modes, characters, is_characters(value)))?;
+    push_value(out, modes, value)
 }

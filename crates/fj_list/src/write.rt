@@ -9,7 +9,7 @@ ghost use Rattle.fj_list.specs.ReadAgain.{AreReadAgain};
 
 use crate::items::OutputItems;
 use crate::moved::Moved;
-use crate::shown::{gap, is_characters, push_value};
+use crate::shown::{is_characters, push_next, push_value};
 use fj_line::{Page, Unwritten};
 use fj_value::{EditModes, Text, Value};
 use std::alloc::{AllocError, Global};
@@ -95,8 +95,7 @@ fn put_next(
     ensures kept { Keeps page.old text.old page.new text.new }
 {
     let end = text.len();
-    text.push_all(gap(modes, characters, is_characters(value)))?;
-    push_value(text, modes, value)?;
+    push_next(text, modes, characters, value)?;
     if page.width(text) <= COLUMNS {
         return page.take_in(text);
     }

@@ -1,7 +1,7 @@
 use Rattle.std.proofs.Common.{◌≡◌, ℕ, zero, suc, ◌-◌, ◌≤◌, List, [], ◌∷◌, ◌++◌, refl, sym, ap, ◌∙◌, arith, append_assoc}
 use Rattle.fj_format.specs.Unfolding.{Steps, repeated, edit}
 use Rattle.fj_control.specs.Walker.{repeated_step, frame_rest, outer_rest, stack}
-use Rattle.fj_control.proofs.walker.Walker.run.Goals as goal
+use Rattle.fj_control.proofs.walker.Walker.repeats.Goals as goal
 
 cut : (s : Steps) (k n : ℕ) → k ≤ n → repeated n s ≡ repeated k s ++ repeated (n - k) s
 cut s zero n h = let same : n - 0 ≡ n = omega arith in ap (λ m. repeated m s) (sym same)
