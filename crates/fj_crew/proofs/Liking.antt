@@ -1,5 +1,5 @@
 -- What holds of submitters that are as they were, but for their hands.
-use Rattle.std.proofs.Common.{Bool, ◌≡◌, ℕ, List, Option, sym, ap, ◌∙◌, inl, inr, arith}
+use Rattle.std.proofs.Common.{Bool, ◌≡◌, ℕ, List, Option, refl, sym, ap, ◌∙◌, inl, inr, arith}
 use Rattle.fj_slot.specs.Serving.{Meaning}
 use Rattle.fj_slot.specs.Ledger.{Ledger}
 use Rattle.fj_world.specs.declared.ask.Ask.{Ask}
@@ -12,7 +12,8 @@ use Rattle.fj_queue.specs.Knows.{knows}
 use Rattle.fj_crew.specs.Seats.{Paired}
 use Rattle.std.proofs.lemmas.Option.{slice_get_within}
 use Rattle.fj_world.proofs.Places.{slice_get_in, same_some}
-use Rattle.fj_crew.specs.Fits.{AllAnswered, SomeTold, Begun, CrewGoes, CrewGaveUp}
+use Rattle.fj_crew.specs.Fits.{AllAnswered, AllReached, SomeTold, Begun, CrewGoes, CrewGaveUp}
+use Rattle.fj_crew.proofs.Serving.{still_reached}
 use Rattle.fj_crew.specs.Plan.{Opened}
 use Rattle.fj_crew.specs.Team.{HandsAre, SeatsLike, CanServe, HasServed}
 
@@ -39,6 +40,11 @@ module _ {C G J A T : Type 0} where
 module _ {C G T : Type 0} where
   pub answered_like : (old new : List (SubmitterOf C G T)) → SeatsLike old new → AllAnswered old → AllAnswered new
   answered_like old new like all k w e = let was = like.each k w e in was.2.answered ∙ all k was.0 was.1
+
+  pub reached_like : {P : Type 0} (qs : List (PlainSlot P T)) (old new : List (SubmitterOf C G T)) → SeatsLike old new → AllReached qs old → AllReached qs new
+  reached_like qs old new like all k q w eq e =
+      let was = like.each k w e in
+      still_reached q q (knows was.0) (knows w) refl was.2.answered was.2.numbers.heard_is was.2.stopped was.2.stopped_at (all k q was.0 eq was.1)
 
   pub told_like : (old new : List (SubmitterOf C G T)) → SeatsLike old new → SomeTold old → SomeTold new
   told_like old new like some =
@@ -95,18 +101,20 @@ module _ {S C G J A P T R : Type 0} (m : Meaning G J A P T R) (c : Conduct S T R
           let was = like.each k w e in
           let fit = g.fits.slots k q was.0 eq was.1 in
           record { sent = was.2.numbers.sent_is ∙ fit.sent; heard = λ h. was.2.numbers.heard_is ∙ fit.heard h };
+      reached = λ l. reached_like _ old new like (g.fits.reached (levels l));
     };
   }
 
-  pub gave_up_like : (most : ℕ) (s : c.State) (qs : List (PlainSlot P T)) (first last : S) (old new : List (SubmitterOf C G T)) → SeatsLike old new
-      → CrewGaveUp m c most s qs first last old → CrewGaveUp m c most s qs first last new
-  gave_up_like most s qs first last old new like g = record {
+  pub gave_up_like : {level level' : Type 0} (most : ℕ) (s : c.State) (qs : List (PlainSlot P T)) (first last : S) (old new : List (SubmitterOf C G T)) → (level' → level) → SeatsLike old new
+      → CrewGaveUp m c level most s qs first last old → CrewGaveUp m c level' most s qs first last new
+  gave_up_like most s qs first last old new levels like g = record {
     asks = g.asks;
     few = g.few;
     call = g.call;
     slots = record {
       same = g.slots.same ∙ sym like.long;
       sent = λ k q w eq e. let was = like.each k w e in was.2.numbers.sent_is ∙ g.slots.sent k q was.0 eq was.1;
+      reached = λ l. reached_like _ old new like (g.slots.reached (levels l));
     };
   }
 
@@ -145,5 +153,5 @@ module _ {S C G J A P T R L : Type 0} (m : Meaning G J A P T R) (c : Conduct S T
     stopped = λ was is. told_like d e folded (h.stopped was is);
     leads = h.leads;
     alone = λ begun. goes_like m c _ _ script' _ d e (answered_like a b hired) folded (h.alone (begun_like m c script a b hired begun));
-    gave_up = λ begun going over. gave_up_like m c _ _ _ script script' d e folded (h.gave_up (begun_like m c script a b hired begun) going over);
+    gave_up = λ begun going over. gave_up_like m c _ _ _ script script' d e (answered_like a b hired) folded (h.gave_up (begun_like m c script a b hired begun) going over);
   }

@@ -1,5 +1,5 @@
 -- The plans: the slots are sound for them, and what is closed fits the script served alone.
-use Rattle.std.proofs.Common.{◌≡◌, ◌⊎◌, ℕ, zero, suc, ◌+◌, ◌-◌, Bool, true, false, List, [], ◌∷◌, ◌++◌, length, map, take, Option, Some, None, is_some, slice_get, option_map, refl, sym, ap, ◌∙◌, subst, inl, inr, arith}
+use Rattle.std.proofs.Common.{◌≡◌, ◌⊎◌, ℕ, zero, suc, ◌+◌, ◌-◌, ◌≤◌, Bool, true, false, List, [], ◌∷◌, ◌++◌, length, map, take, Option, Some, None, is_some, slice_get, option_map, refl, sym, ap, ◌∙◌, subst, inl, inr, arith}
 use Rattle.std.proofs.lemmas.List.{length-append}
 use Rattle.std.proofs.lemmas.Bool.{cases_lt}
 use Rattle.std.proofs.lemmas.Option.{slice_get_within}
@@ -13,7 +13,7 @@ use Rattle.fj_world.specs.Rack.{Rack}
 use Rattle.fj_world.specs.Plain.{Plain, PlainSlot, asked_next, after}
 use Rattle.fj_world.specs.Fits.{SlotFits, SlotsFit}
 use Rattle.fj_world.specs.Alone.{ServedAlone}
-use Rattle.fj_world.specs.Losing.{WasLost}
+use Rattle.fj_world.specs.Losing.{WasLost, before_ask}
 use Rattle.fj_world.proofs.Losing.{before_slots}
 use Rattle.fj_world.proofs.Places.{slice_get_in, same_some}
 use Rattle.fj_queue.specs.declared.view.View.{View}
@@ -22,7 +22,7 @@ use Rattle.fj_queue.specs.declared.seats.SubmitterOf.{SubmitterOf}
 use Rattle.fj_queue.specs.Knows.{knows}
 use Rattle.fj_queue.specs.Cell.{IsFor}
 use Rattle.fj_queue.specs.Tokens.{Begins, IsLast}
-use Rattle.fj_crew.specs.Fits.{NoJobs, SeatsSame, AllAnswered, Planned, Begun, CrewGoes, CrewGaveUp}
+use Rattle.fj_crew.specs.Fits.{HasReached, NoJobs, SeatsSame, AllAnswered, Planned, Begun, CrewGoes, CrewGaveUp}
 use Rattle.fj_crew.specs.Plan.{with_both, told_jobs, told_slot, told_slots, AllSound, begun, agenda_with, jobs_in, plan_at, Opened, Shut, NoHands}
 use Rattle.fj_crew.proofs.Looking.{code_halts}
 use Rattle.fj_crew.proofs.Growing.{grows_after, grows_later}
@@ -102,13 +102,18 @@ module _ {G J A P T R : Type 0} (m : Meaning G J A P T R) where
       ∙ ap (λ n. Some (let z : PlainSlot P T = record { start = q.start; jobs = q.jobs; told = n } in z)) (fit.told refl) in
       both_are (λ q qs. q ∷ qs) (told_slot m l) (told_slots m ls) q qs first (slots_told ls qs (omega (arith, long)) (λ k x y ex ey. fits (suc k) x y ex ey))
 
+  -- what was told is done, as the submitter knew
+  done_by : (q : PlainSlot P T) (l : Ledger G J A) (v : View G T) → IsLast m v l → HasReached q v → q.told ≤ l.done
+  done_by q l v last (inl (all, low)) = let told = last.answered all in omega (arith, told, last.told_is, low)
+  done_by q l v last (inr (code, low)) = let at = (last.stopped code).1 in omega (arith, at, low)
+
   -- what was closed is the slot of a script served alone
   pub closed_fits : (over : Bool) (q : PlainSlot P T) (it : Agenda G T) (js more : List T) (l : Ledger G J A) (v : View G T)
-      → IsLast m v l → v.plan ≡ Some it → it.jobs ≡ Some js → js ≡ q.jobs ++ more → m.state it.start ≡ Some q.start → v.sent ≡ length q.jobs → (over ≡ false → v.heard ≡ q.told) → (over ≡ false → v.answered ≡ true) → SlotFits m over q l
-  closed_fits over q it js more l v last plan named jobs start sent heard answered =
+      → IsLast m v l → v.plan ≡ Some it → it.jobs ≡ Some js → js ≡ q.jobs ++ more → m.state it.start ≡ Some q.start → v.sent ≡ length q.jobs → (over ≡ false → v.heard ≡ q.told) → HasReached q v → SlotFits m over q l
+  closed_fits over q it js more l v last plan named jobs start sent heard reached =
       let sound = ((last.sound it plan).1 q.start js named start).sound in
       let first : take (length l.jobs) js ≡ q.jobs = ap (λ n. take n js) (last.jobs ∙ sent) ∙ ap (take (length q.jobs)) jobs ∙ take_all q.jobs more in
-      record { sound = subst (λ ts. IsSound m q.start ts l) first sound; told = λ e. last.told_is ∙ heard e; done = λ e. last.answered (answered e) }
+      record { sound = subst (λ ts. IsSound m q.start ts l) first sound; told = λ e. last.told_is ∙ heard e; done = done_by q l v last reached }
 
 module _ {S G J A P T R : Type 0} (m : Meaning G J A P T R) (c : Conduct S T R) where
   begun_is : (script : S) (slots : List (Ledger G J A)) (w : Plain P c) → begun m c script slots ≡ Some w
@@ -210,8 +215,8 @@ module _ {S C G J A P T R : Type 0} (m : Meaning G J A P T R) (c : Conduct S T R
 
   -- the slots at the end are those of the script served alone
   pub ends_alone : {ever : Bool} {level : Type 0} (p : Plain P c) (most : ℕ) (script : S) (seats seats' : List (SubmitterOf C G T)) (closed : Rack G J A)
-      → Planned m c p most seats → SeatsSame seats seats' → CrewGoes m c ever level p most script Finished seats' → ever ≡ false → level → (c.over script ≡ false → AllAnswered seats') → Shut m [] seats' closed.slots → ServedAlone m c p script closed
-  ends_alone p most script seats seats' closed planned same goes on levels answered shut =
+      → Planned m c p most seats → SeatsSame seats seats' → CrewGoes m c ever level p most script Finished seats' → ever ≡ false → level → Shut m [] seats' closed.slots → ServedAlone m c p script closed
+  ends_alone p most script seats seats' closed planned same goes on levels shut =
       let fits = goes.fits in
       let n = goes.entries in
       record {
@@ -240,7 +245,7 @@ module _ {S C G J A P T R : Type 0} (m : Meaning G J A P T R) (c : Conduct S T R
               let later = (grows_later m c n most p (omega (arith, goes.few))).each k q eq in
               let plan = planned.plans k was.0 later.0 was.1 later.1 in
               let fit = fits.slots k q x.0 eq x.1 in
-              closed_fits m (c.over script) q plan.0 later.0.jobs later.2.more l (knows x.0) (shut.each k x.0 l x.1 el') (was.2 ∙ plan.1) plan.2 later.2.jobs (plan.3 ∙ ap (λ z. Some z) later.2.start) fit.sent fit.heard (λ o. answered o k x.0 x.1);
+              closed_fits m (c.over script) q plan.0 later.0.jobs later.2.more l (knows x.0) (shut.each k x.0 l x.1 el') (was.2 ∙ plan.1) plan.2 later.2.jobs (plan.3 ∙ ap (λ z. Some z) later.2.start) fit.sent fit.heard (fits.reached levels k q x.0 eq x.1);
           held = λ k busy q l e eq el. absurd (nobody k (Some busy) e);
         };
       }
@@ -250,24 +255,28 @@ module _ {S C G J A P T R : Type 0} (m : Meaning G J A P T R) (c : Conduct S T R
       nobody (suc k) x e = cc
 
   -- the slots at the end are sound for the jobs that were submitted until the script was over
-  pub ends_lost : (s : c.State) (qs : List (PlainSlot P T)) (most : ℕ) (script new : S) (seats seats' : List (SubmitterOf C G T)) (closed : Rack G J A)
-      → Planned m c (asked_next m c s qs) most seats → SeatsSame seats seats' → CrewGaveUp m c most s qs script new seats' → Shut m [] seats' closed.slots → WasLost m c s qs script new closed
-  ends_lost s qs most script new seats seats' closed planned same g shut =
+  pub ends_lost : {level : Type 0} (s : c.State) (qs : List (PlainSlot P T)) (most : ℕ) (script new : S) (seats seats' : List (SubmitterOf C G T)) (closed : Rack G J A)
+      → Planned m c (asked_next m c s qs) most seats → SeatsSame seats seats' → CrewGaveUp m c level most s qs script new seats' → level → Shut m [] seats' closed.slots → WasLost m c s qs script new closed
+  ends_lost s qs most script new seats seats' closed planned same g levels shut =
       record {
         asks = g.asks;
         call = g.call;
         slots = record {
           same = g.slots.same ∙ sym (shut.same) ∙ sym (ap length shut.is);
-          each = λ k q l eq el.
-              let el' = ap (λ z. slice_get z k) (sym shut.is) ∙ el in
-              let x = slice_get_in seats' k (omega (arith, shut.same, slice_get_within shut.closed k l el')) in
-              let was = same.each k x.0 x.1 in
-              let later = (grows_later m c g.asks most (asked_next m c s qs) g.few).each k q (ap (λ z. slice_get z k) (before_slots m c g.asks s qs) ∙ eq) in
-              let plan = planned.plans k was.0 later.0 was.1 later.1 in
-              (closed_fits m true q plan.0 later.0.jobs later.2.more l (knows x.0) (shut.each k x.0 l x.1 el') (was.2 ∙ plan.1) plan.2 later.2.jobs (plan.3 ∙ ap (λ z. Some z) later.2.start)
-              (g.slots.sent k q x.0 eq x.1) (λ e. absurd (cc)) (λ e. absurd (cc))).sound;
+          each = λ k q l eq el. (fit k q l eq el).sound;
+          done = λ k q l eq el. (fit k q l eq el).done;
         };
       }
+    where
+      fit : (k : ℕ) (q : PlainSlot P T) (l : Ledger G J A) → slice_get (before_ask m c g.asks s qs).1 k ≡ Some q → slice_get closed.slots k ≡ Some l → SlotFits m true q l
+      fit k q l eq el =
+          let el' = ap (λ z. slice_get z k) (sym shut.is) ∙ el in
+          let x = slice_get_in seats' k (omega (arith, shut.same, slice_get_within shut.closed k l el')) in
+          let was = same.each k x.0 x.1 in
+          let later = (grows_later m c g.asks most (asked_next m c s qs) g.few).each k q (ap (λ z. slice_get z k) (before_slots m c g.asks s qs) ∙ eq) in
+          let plan = planned.plans k was.0 later.0 was.1 later.1 in
+          closed_fits m true q plan.0 later.0.jobs later.2.more l (knows x.0) (shut.each k x.0 l x.1 el') (was.2 ∙ plan.1) plan.2 later.2.jobs (plan.3 ∙ ap (λ z. Some z) later.2.start)
+          (g.slots.sent k q x.0 eq x.1) (λ e. absurd (cc)) (g.slots.reached levels k q x.0 eq x.1)
 
 -- each slot has a plan with its starting engine
 abbrev pub NamesStarts : {G J A T : Type 0} → (ℕ → Option (Agenda G T)) → List (Ledger G J A) → Type 0
@@ -352,7 +361,11 @@ module _ {S C G J A P T R : Type 0} (m : Meaning G J A P T R) (c : Conduct S T R
                   closed_fits m false q (agenda_with m c (Some later.0.jobs) l.0) later.0.jobs later.2.more l' (knows b.seat) b.last
                   (b.begins.plan ∙ plan_is m c script old.slots s qs k l.0 later.0 state told l.1 later.1) refl later.2.jobs is.start
                   (b.begins.sent_is ∙ length_mapped l.0.jobs q.jobs m.task is.jobs) (λ _. b.begins.heard_is ∙ sym is.told)
-                  (λ _. b.begins.answered (let told = (fits.each k q l.0 eq l.1).done refl in told))
+                  (let fit = fits.each k q l.0 eq l.1 in
+                  let same = fit.told refl in
+                  let low = fit.done in
+                  let heard = b.begins.heard_is in
+                  inl (b.begins.answered (omega (arith, same, low)), omega (arith, same, heard)))
             ];
       }
 
@@ -364,6 +377,15 @@ module _ {C G J A T : Type 0} where
       let l = slice_get_in opened.taken k (omega (arith, opened.same, slice_get_within seats k x e)) in
       let at : 0 + k ≡ k = omega arith in
       (l.0, ap (λ z. slice_get z k) opened.is ∙ l.1, subst (λ n. Begins (plans n) l.0 (knows x)) at (opened.each k l.0 x l.1 e))
+
+module _ {C G J A P T R : Type 0} (m : Meaning G J A P T R) where
+  -- where the slots fit, each job that was told before is done
+  pub opened_answered : (plans : ℕ → Option (Agenda G T)) (old : Rack G J A) (seats : List (SubmitterOf C G T)) (qs : List (PlainSlot P T)) → Opened plans old.slots [] seats → SlotsFit m qs old → AllAnswered seats
+  opened_answered plans old seats qs opened fits k x e =
+      let begins = opened_begins plans old.slots seats opened k x e in
+      let q = slice_get_in qs k (omega (arith, fits.same, slice_get_within old.slots k begins.0 begins.1)) in
+      let fit = fits.each k q.0 begins.0 q.1 begins.1 in
+      begins.2.answered (let same = fit.told refl in let low = fit.done in omega (arith, same, low))
 
 module _ {C G J A P T R : Type 0} where
   pub closed_home : (m : Meaning G J A P T R) (seats : List (SubmitterOf C G T)) (closed : List (Ledger G J A)) → Shut m [] seats closed

@@ -3,6 +3,7 @@ use Rattle.std.proofs.Common.{◌≡◌, ◌≢◌, ◌⊎◌, ℕ, suc, ◌+◌
 use Rattle.std.proofs.lemmas.List.{length-set, length-append}
 use Rattle.std.proofs.lemmas.Bool.{eq-eqb, ne_eqb}
 use Rattle.std.proofs.lemmas.Option.{slice_get_within}
+use Rattle.fj_outside.specs.declared.errors.Stop.{Stop}
 use Rattle.fj_slot.specs.declared.told.Refused.{Refused}
 use Rattle.fj_slot.specs.declared.told.Told.{Told}
 use Rattle.fj_slot.specs.declared.told.Told.TheVariants.{Done, Stopped}
@@ -22,7 +23,7 @@ use Rattle.fj_queue.proofs.Counts.{code_some}
 use Rattle.fj_queue.specs.Cell.{IsNext}
 use Rattle.fj_queue.specs.Answers.{IsStop, KnowsStop}
 use Rattle.fj_crew.specs.Seats.{SeatAt, Sends, Submits, Settles}
-use Rattle.fj_crew.specs.Fits.{SeatFits, NoJobs, SeatsSame, OwesAsSaid, FewJobs, AllAnswered, SomeTold, Planned, Begun, CrewFits, CrewGoes}
+use Rattle.fj_crew.specs.Fits.{SeatFits, HasReached, AllReached, NoJobs, SeatsSame, OwesAsSaid, FewJobs, AllAnswered, SomeTold, Planned, Begun, CrewFits, CrewGoes}
 use Rattle.fj_crew.proofs.Looking.{get_at_end}
 use Rattle.fj_crew.proofs.Growing.{grows_later, outcome_before}
 
@@ -55,6 +56,47 @@ module _ {C G P T : Type 0} where
       elim (slice_get_set ss at k s y ey) [
         | inl b ↦ subst (λ z. SeatFits over' x (knows z)) (sym b.1) (new x (subst (λ n. slice_get qs n ≡ Some x) b.0 ex))
         | inr b ↦ let fit = old k x y ex b.1 in record { sent = fit.sent; heard = λ h. fit.heard (still h) }
+      ]
+
+module _ {G P T : Type 0} where
+  -- what was told stays done, where the submitter knows as much
+  pub still_reached : (q q' : PlainSlot P T) (v w : View G T) → q'.told ≡ q.told → w.answered ≡ v.answered → w.heard ≡ v.heard → w.stopped ≡ v.stopped → w.stopped_at ≡ v.stopped_at → HasReached q v → HasReached q' w
+  still_reached q q' v w told answered heard stopped at (inl (all, low)) = inl (answered ∙ all, omega (arith, low, told, heard))
+  still_reached q q' v w told answered heard stopped at (inr (code, low)) = inr ((λ z. code (sym stopped ∙ z)), omega (arith, low, told, at))
+
+  -- one more was told, which is done
+  pub told_reached : (q q' : PlainSlot P T) (v w : View G T) → q'.told ≡ q.told + 1 → v.heard ≡ q.told → w.heard ≡ v.heard + 1 → w.answered ≡ true → HasReached q' w
+  told_reached q q' v w told heard more answered = inl (answered, omega (arith, told, heard, more))
+
+  -- so it is of one fewer
+  pub one_less : (q : PlainSlot P T) (v : View G T) → (let more : PlainSlot P T = record { start = q.start; jobs = q.jobs; told = q.told + 1 } in HasReached more v) → HasReached q v
+  one_less q v (inl (all, low)) = inl (all, omega (arith, low))
+  one_less q v (inr (code, low)) = inr (code, omega (arith, low))
+
+-- a stop was told, which stands behind what was told
+pub stop_reached : {G J A P T R : Type 0} → (m : Meaning G J A P T R) (q : PlainSlot P T) (v w : View G T) (job : J) (stop : Stop) (before after : ℕ) → IsStop m v w job stop before after → v.heard ≡ q.told → v.answered ≡ true → HasReached q w
+stop_reached m q v w job stop before after is heard answered = let exact = is.exact answered in inr ((λ z. code_some stop (sym is.kind ∙ z)), omega (arith, exact, heard))
+
+module _ {C G P T : Type 0} where
+  pub reached_set : (qs : List (PlainSlot P T)) (ss ss' : List (SubmitterOf C G T)) (at : ℕ) (q : PlainSlot P T) (s : SubmitterOf C G T) → ss' ≡ set ss at s → AllReached qs ss → HasReached q (knows s) → AllReached (set qs at q) ss'
+  reached_set qs ss ss' at q s after old new k x y ex ey =
+      elim (slice_get_set qs at k q x ex) [
+        | inl a ↦ elim (slice_get_set ss at k s y (subst (λ z. slice_get z k ≡ Some y) after ey)) [
+          | inl b ↦ subst (λ z. HasReached z (knows y)) (sym a.1) (subst (λ z. HasReached q (knows z)) (sym b.1) new)
+          | inr b ↦ absurd (b.0 a.0)
+        ]
+        | inr a ↦ elim (slice_get_set ss at k s y (subst (λ z. slice_get z k ≡ Some y) after ey)) [
+          | inl b ↦ absurd (a.0 b.0)
+          | inr b ↦ old k x y a.1 b.1
+        ]
+      ]
+
+  pub reached_here : (qs : List (PlainSlot P T)) (ss ss' : List (SubmitterOf C G T)) (at : ℕ) (s : SubmitterOf C G T) → ss' ≡ set ss at s → AllReached qs ss
+      → ((x : PlainSlot P T) → slice_get qs at ≡ Some x → HasReached x (knows s)) → AllReached qs ss'
+  reached_here qs ss ss' at s after old new k x y ex ey =
+      elim (slice_get_set ss at k s y (subst (λ z. slice_get z k ≡ Some y) after ey)) [
+        | inl b ↦ subst (λ z. HasReached x (knows z)) (sym b.1) (new x (subst (λ n. slice_get qs n ≡ Some x) b.0 ex))
+        | inr b ↦ old k x y ex b.1
       ]
 
 module _ {C G T : Type 0} where
@@ -140,6 +182,8 @@ module _ {S C G J A P T R : Type 0} (m : Meaning G J A P T R) (c : Conduct S T R
           same = length-set now.slots at q' ∙ fits.same ∙ sym (length-set seats at did.seat) ∙ sym (ap length did.after);
           slots = λ k x y ex ey. seats_fit_set (c.over script) (c.over new) now.slots seats at q' did.seat (λ e. going) fits.slots
               (record { sent = omega (arith, sends.1.numbers.sent_is, fit.sent, length-append q.jobs (t ∷ [])); heard = λ e. sends.1.numbers.heard_is ∙ fit.heard going }) k x y ex (subst (λ z. slice_get z k ≡ Some y) did.after ey);
+          reached = λ l. reached_set now.slots seats seats' at q' did.seat did.after (fits.reached l)
+              (still_reached q q' (knows s) (knows did.seat) refl sends.1.answered sends.1.numbers.heard_is sends.1.stopped sends.1.stopped_at (fits.reached l at q s here.1 found));
         });
       }
   submit_goes {ever} {level} p most script mid new hand hand' seats seats' at job (Err refused) s goes going is found did takes asks =
@@ -157,6 +201,8 @@ module _ {S C G J A P T R : Type 0} (m : Meaning G J A P T R) (c : Conduct S T R
           same = fits.same ∙ sym (length-set seats at did.seat) ∙ sym (ap length did.after);
           slots = λ k x y ex ey. seats_fit_here (c.over script) (c.over new) now.slots seats at did.seat (λ e. absurd (none e)) fits.slots
               (λ x e. let fit = fits.slots at x s e found in record { sent = sends.numbers.sent_is ∙ fit.sent; heard = λ e. absurd (none e) }) k x y ex (subst (λ z. slice_get z k ≡ Some y) did.after ey);
+          reached = λ l. reached_here now.slots seats seats' at did.seat did.after (fits.reached l)
+              (λ x e. still_reached x x (knows s) (knows did.seat) refl sends.answered sends.numbers.heard_is sends.stopped sends.stopped_at (fits.reached l at x s e found));
         };
       }
 
@@ -196,6 +242,7 @@ module _ {S C G J A P T R : Type 0} (m : Meaning G J A P T R) (c : Conduct S T R
           same = length-set now.slots at q' ∙ fits.same ∙ sym (length-set seats at did.seat) ∙ sym (ap length did.after);
           slots = λ k x y ex ey. seats_fit_set (c.over script) (c.over new) now.slots seats at q' did.seat (λ e. going) fits.slots
               (record { sent = numbers.sent_is ∙ fit.sent; heard = λ e. numbers.heard_is ∙ ap (λ n. n + 1) heard }) k x y ex (subst (λ z. slice_get z k ≡ Some y) did.after ey);
+          reached = λ l. reached_set now.slots seats seats' at q' did.seat did.after (fits.reached l) (let kept : KnowsStop m (knows s) (knows did.seat) (Done job answer) = (did.told s found).stop in told_reached q q' (knows s) (knows did.seat) refl heard numbers.heard_is (kept.2 ∙ answers l));
         });
       }
   settle_goes {ever} {level} p most old script mid new hand hand' seats seats' at (Stopped job stop before after') s planned kept goes going left is found waits answers did tells asks =
@@ -231,6 +278,8 @@ module _ {S C G J A P T R : Type 0} (m : Meaning G J A P T R) (c : Conduct S T R
           same = fits.same ∙ sym (length-set seats at did.seat) ∙ sym (ap length did.after);
           slots = λ k x y ex ey. seats_fit_here (c.over script) (c.over new) now.slots seats at did.seat (λ e. absurd (none e)) fits.slots
               (λ x e. let fit = fits.slots at x s e found in record { sent = numbers.sent_is ∙ fit.sent; heard = λ e. absurd (none e) }) k x y ex (subst (λ z. slice_get z k ≡ Some y) did.after ey);
+          reached = λ l. reached_here now.slots seats seats' at did.seat did.after (fits.reached l)
+              (λ x e. stop_reached m x (knows s) (knows did.seat) job stop before after' (did.told s found).stop ((fits.slots at x s e found).heard going) (answers l));
         };
       }
 
@@ -243,10 +292,14 @@ kept_by v w (Ok n) h = (h.1.numbers.plan, h.1.numbers.hands_is, h.1.answered, om
 kept_by v w (Err e) h = (h.numbers.plan, h.numbers.hands_is, h.answered, omega (arith, h.numbers.sent_is), omega (arith, h.numbers.heard_is))
 
 module _ {S C G J A P T R : Type 0} (m : Meaning G J A P T R) (c : Conduct S T R) where
+  -- at first what was told is done, where the submitters know so
+  pub begins_reached : (script : S) (seats : List (SubmitterOf C G T)) (b : Begun m c script seats) → AllAnswered seats → AllReached b.slots seats
+  begins_reached script seats b all k q s eq es = let same = (b.fits k q s eq es).heard refl in inl (all k s es, omega (arith, same))
+
   -- the first ask was taken
   pub first_goes : (script new : S) (hand : Ask J) (seats : List (SubmitterOf C G T)) (b : Begun m c script seats) → Asks m c script hand new
-      → {level : Type 0} → CrewGoes m c (c.stopped script) level (asked_next m c b.state b.slots) (c.left script) new hand seats
-  first_goes script new hand seats b asks = record {
+      → {level : Type 0} → (level → AllAnswered seats) → CrewGoes m c (c.stopped script) level (asked_next m c b.state b.slots) (c.left script) new hand seats
+  first_goes script new hand seats b asks levels = record {
     entries = 0;
     few = omega (arith, asks.left);
     fits = record {
@@ -254,6 +307,7 @@ module _ {S C G J A P T R : Type 0} (m : Meaning G J A P T R) (c : Conduct S T R
       stop = λ w e. absurd (let o = (asks.stops e).0 in cc);
       same = b.planned.same;
       slots = λ k q s eq es. let fit = b.fits k q s eq es in record { sent = fit.sent; heard = λ _. fit.heard refl };
+      reached = λ l. begins_reached script seats b (levels l);
     };
   }
 

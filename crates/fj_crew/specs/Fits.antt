@@ -1,5 +1,5 @@
 -- When submitters fit a script served alone, and the plans of their queues.
-use Rattle.std.specs.Prelude.{◌≡◌, ◌≢◌, ℕ, ◌+◌, ◌<◌, ◌≤◌, ◌^◌, Bool, true, false, List, length, Some, None, slice_get}
+use Rattle.std.specs.Prelude.{◌≡◌, ◌≢◌, ◌⊎◌, ℕ, ◌+◌, ◌<◌, ◌≤◌, ◌^◌, Bool, true, false, List, length, Some, None, slice_get}
 use Rattle.fj_slot.specs.Serving.{Meaning}
 use Rattle.fj_world.specs.declared.ask.Ask.{Ask}
 use Rattle.fj_world.specs.declared.ask.Ask.TheVariants.{Settle}
@@ -16,10 +16,19 @@ pub record SeatFits {G P T : Type 0} (over : Bool) (q : PlainSlot P T) (v : View
   pub sent : v.sent ≡ length q.jobs
   pub heard : over ≡ false → v.heard ≡ q.told
 
--- each submitter has submitted as many jobs as the plain slot has
-pub record SeatsHold {C G P T : Type 0} (qs : List (PlainSlot P T)) (seats : List (SubmitterOf C G T)) : Type 0 where
+-- each job of the slot that was told is done, as the submitter knows: so far all are, or it was told a stop, and that stands behind them
+abbrev pub HasReached : {G P T : Type 0} → PlainSlot P T → View G T → Type 0
+HasReached q v = ((v.answered ≡ true) × (q.told ≤ v.heard)) ⊎ ((v.stopped ≢ 0) × (q.told ≤ v.stopped_at))
+
+-- so it is of each
+abbrev pub AllReached : {C G P T : Type 0} → List (PlainSlot P T) → List (SubmitterOf C G T) → Type 0
+AllReached {C} {G} {P} {T} qs seats = (k : ℕ) (q : PlainSlot P T) (s : SubmitterOf C G T) → slice_get qs k ≡ Some q → slice_get seats k ≡ Some s → HasReached q (knows s)
+
+-- each submitter has submitted as many jobs as the plain slot has; level: each job told before the run was done
+pub record SeatsHold {C G P T : Type 0} (level : Type 0) (qs : List (PlainSlot P T)) (seats : List (SubmitterOf C G T)) : Type 0 where
   pub same : length qs ≡ length seats
   pub sent : (k : ℕ) (q : PlainSlot P T) (s : SubmitterOf C G T) → slice_get qs k ≡ Some q → slice_get seats k ≡ Some s → (knows s).sent ≡ length q.jobs
+  pub reached : level → AllReached qs seats
 
 module _ {C G T : Type 0} where
   -- no queue's plan has jobs
@@ -82,6 +91,7 @@ module _ {S C G J A P T R : Type 0} (m : Meaning G J A P T R) (c : Conduct S T R
     pub stop : was ≡ false → c.stopped script ≡ true → CrewStopped level p script seats
     pub same : length p.slots ≡ length seats
     pub slots : (k : ℕ) (q : PlainSlot P T) (s : SubmitterOf C G T) → slice_get p.slots k ≡ Some q → slice_get seats k ≡ Some s → SeatFits (c.over script) q (knows s)
+    pub reached : level → AllReached p.slots seats
 
   -- after some entries, which leave the script enough
   pub record CrewGoes (was : Bool) (level : Type 0) (p : Plain P c) (most : ℕ) (script : S) (hand : Ask J) (seats : List (SubmitterOf C G T)) : Type 0 where
@@ -90,8 +100,8 @@ module _ {S C G J A P T R : Type 0} (m : Meaning G J A P T R) (c : Conduct S T R
     pub fits : CrewFits was level (after m c entries p) script hand seats
 
   -- The script is over since one call, for which it had asks enough, and the submitters have submitted the jobs until then.
-  pub record CrewGaveUp (most : ℕ) (s : c.State) (qs : List (PlainSlot P T)) (first last : S) (seats : List (SubmitterOf C G T)) : Type 0 where
+  pub record CrewGaveUp (level : Type 0) (most : ℕ) (s : c.State) (qs : List (PlainSlot P T)) (first last : S) (seats : List (SubmitterOf C G T)) : Type 0 where
     pub asks : ℕ
     pub few : asks ≤ most
     pub call : GaveUp m c asks s qs first last
-    pub slots : SeatsHold (before_ask m c asks s qs).1 seats
+    pub slots : SeatsHold level (before_ask m c asks s qs).1 seats

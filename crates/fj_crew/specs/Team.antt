@@ -64,4 +64,4 @@ module _ {S C G J A P T R L : Type 0} (m : Meaning G J A P T R) (c : Conduct S T
     pub stopped : c.stopped script ≡ false → c.stopped new ≡ true → SomeTold seats'
     pub leads : LeadsTo c.leads script new
     pub alone : (b : Begun m c script seats) → CrewGoes m c (c.stopped script) (AllAnswered seats) (asked_next m c b.state b.slots) (c.left script) new Finished seats'
-    pub gave_up : (b : Begun m c script seats) → c.over script ≡ false → c.over new ≡ true → CrewGaveUp m c (c.left script) b.state b.slots script new seats'
+    pub gave_up : (b : Begun m c script seats) → c.over script ≡ false → c.over new ≡ true → CrewGaveUp m c (AllAnswered seats) (c.left script) b.state b.slots script new seats'

@@ -38,7 +38,7 @@ pub(crate) fn serve<S: Script, R: Wait>(
     ensures alone { (b : Begun S.Gear.meaning S.conduct script.old seats.old.items)
         → CrewGoes S.Gear.meaning S.conduct (S.conduct.stopped script.old) (AllAnswered seats.old.items) (asked_next S.Gear.meaning S.conduct b.state b.slots) (S.conduct.left script.old) script.new Finished seats.new.items }
     ensures gave_up { (b : Begun S.Gear.meaning S.conduct script.old seats.old.items) → S.conduct.over script.old ≡ false → S.conduct.over script.new ≡ true
-        → CrewGaveUp S.Gear.meaning S.conduct (S.conduct.left script.old) b.state b.slots script.old script.new seats.new.items }
+        → CrewGaveUp S.Gear.meaning S.conduct (AllAnswered seats.old.items) (S.conduct.left script.old) b.state b.slots script.old script.new seats.new.items }
 {
     let mut hand = script.ask();
     loop {

@@ -112,7 +112,7 @@ module _ {S G J A P T R : Type 0} (m : Meaning G J A P T R) (c : Conduct S T R) 
       let rack1 : Rack G J A = record { slots = set rack.slots at v; spare = rack.spare } in
       let inside = slice_get_within rack.slots at l found in
       let served = changed_fits m c p (record { start = script; script = script; hand = hand; rack = rack; workers = [] }) script hand rack1 [] at l v fits found refl settles.serves.start (λ e. e)
-      (λ q e. let fit = fits.slots at q l e found in record { sound = settles.serves.sound q.start q.jobs fit.sound; told = λ o. settles.serves.told ∙ fit.told o; done = λ o. omega (arith, settles.serves.told, settles.serves.done, fit.done o) })
+      (λ q e. let fit = fits.slots at q l e found in record { sound = settles.serves.sound q.start q.jobs fit.sound; told = λ o. settles.serves.told ∙ fit.told o; done = let was = fit.done in omega (arith, settles.serves.done, was) })
       fits.script (λ e. absurd (let o = (fits.stop e).over in cc)) (λ k busy e. inl e) in
       settle_advances m c p (record { start = script; script = script; hand = hand; rack = rack1; workers = [] }) mid new hand' rack' at v it
       served going is (set_same rack.slots at v inside) settles.ready settles.tells

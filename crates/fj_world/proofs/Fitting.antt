@@ -72,7 +72,7 @@ slots_fit_set {G} {J} {A} m over over' qs ls at q l still old new k x y ex ey =
       ]
       | inr a ↦ elim (slice_get_set ls at k l y ey) [
         | inl b ↦ absurd (a.0 b.0)
-        | inr b ↦ let fit = old k x y a.1 b.1 in record { sound = fit.sound; told = λ h. fit.told (still h); done = λ h. fit.done (still h) }
+        | inr b ↦ let fit = old k x y a.1 b.1 in record { sound = fit.sound; told = λ h. fit.told (still h); done = fit.done }
       ]
     ]
 
@@ -85,7 +85,7 @@ pub slots_fit_here : {G J A P T R : Type 0} → (m : Meaning G J A P T R) (over 
 slots_fit_here {G} {J} {A} m over over' qs ls at l still old new k x y ex ey =
     elim (slice_get_set ls at k l y ey) [
       | inl b ↦ subst (λ z. SlotFits m over' x z) (sym b.1) (new x (subst (λ n. slice_get qs n ≡ Some x) b.0 ex))
-      | inr b ↦ let fit = old k x y ex b.1 in record { sound = fit.sound; told = λ h. fit.told (still h); done = λ h. fit.done (still h) }
+      | inr b ↦ let fit = old k x y ex b.1 in record { sound = fit.sound; told = λ h. fit.told (still h); done = fit.done }
     ]
 
 module _ {S G J A P T R : Type 0} (m : Meaning G J A P T R) (c : Conduct S T R) where
@@ -120,7 +120,7 @@ module _ {S G J A P T R : Type 0} (m : Meaning G J A P T R) (c : Conduct S T R) 
         stop = λ e. absurd (let o = (fits.stop (takes.stops (asks.stops e).0)).over in cc);
         same_slots = length-set p.slots at q' ∙ fits.same_slots ∙ sym (length-set w.rack.slots at l') ∙ sym (ap length after);
         slots = λ k x y ex ey. slots_fit_set m (c.over w.script) (c.over new) p.slots w.rack.slots at q' l' (λ e. going) fits.slots
-            (record { sound = sound; told = λ e. fit.told going; done = λ e. fit.done going }) k x y ex (subst (λ s. slice_get s k ≡ Some y) after ey);
+            (record { sound = sound; told = λ e. fit.told going; done = fit.done }) k x y ex (subst (λ s. slice_get s k ≡ Some y) after ey);
         held = λ k busy x y eb ex ey. elim (slice_get_set p.slots at busy.slot q' x ex) [
           | inl a ↦ elim (slice_get_set w.rack.slots at busy.slot l' y (subst (λ s. slice_get s busy.slot ≡ Some y) after ey)) [
             | inl b ↦
@@ -149,7 +149,7 @@ module _ {S G J A P T R : Type 0} (m : Meaning G J A P T R) (c : Conduct S T R) 
           script = λ q. absurd (none q);
           stop = λ q. absurd (let o = (fits.stop (takes.stops (asks.stops q).0)).over in cc);
           same_slots = fits.same_slots;
-          slots = λ k x y ex ey. let fit = fits.slots k x y ex ey in record { sound = fit.sound; told = λ q. absurd (none q); done = λ q. absurd (none q) };
+          slots = λ k x y ex ey. let fit = fits.slots k x y ex ey in record { sound = fit.sound; told = λ q. absurd (none q); done = fit.done };
           held = fits.held;
         }),
       )
@@ -192,7 +192,7 @@ module _ {S G J A P T R : Type 0} (m : Meaning G J A P T R) (c : Conduct S T R) 
         stop = λ e. absurd (let o = (tells.stops (asks.stops e).0).0 in cc);
         same_slots = length-set p.slots at q' ∙ fits.same_slots ∙ sym (length-set w.rack.slots at l') ∙ sym (ap length after);
         slots = λ k x y ex ey. slots_fit_set m (c.over w.script) (c.over new) p.slots w.rack.slots at q' l' (λ e. going) fits.slots
-            (record { sound = tell_keeps m q.start q.jobs l fit.sound can; told = λ e. ap (λ n. n + 1) (fit.told going); done = λ e. omega (arith, it.0) }) k x y ex (subst (λ s. slice_get s k ≡ Some y) after ey);
+            (record { sound = tell_keeps m q.start q.jobs l fit.sound can; told = λ e. ap (λ n. n + 1) (fit.told going); done = let same = fit.told going in omega (arith, it.0, same) }) k x y ex (subst (λ s. slice_get s k ≡ Some y) after ey);
         held = λ k busy x y eb ex ey. elim (slice_get_set p.slots at busy.slot q' x ex) [
           | inl a ↦ elim (slice_get_set w.rack.slots at busy.slot l' y (subst (λ s. slice_get s busy.slot ≡ Some y) after ey)) [
             | inl b ↦
@@ -280,7 +280,7 @@ module _ {S G J A P T R : Type 0} (m : Meaning G J A P T R) (c : Conduct S T R) 
       let none : c.over new ≡ false → ⊥ = λ q. let o = over in cc in (
         over,
         changed_fits p w new hand rack w.workers at l (with_tell l) fits found after refl (λ q. absurd (none q))
-            (λ q e. let fit = fits.slots at q l e found in record { sound = tell_keeps m q.start q.jobs l fit.sound can; told = λ z. absurd (none z); done = λ z. absurd (none z) })
+            (λ q e. let fit = fits.slots at q l e found in record { sound = tell_keeps m q.start q.jobs l fit.sound can; told = λ z. absurd (none z); done = fit.done })
             (λ q. absurd (none q))
             (λ e. let before = asks.stops e in
             let script = fits.script going in
@@ -293,7 +293,7 @@ module _ {S G J A P T R : Type 0} (m : Meaning G J A P T R) (c : Conduct S T R) 
                 | inl b ↦
                     let fit = fits.slots at q l eq found in
                     let told : l.told ≡ q.told = fit.told going in
-                    subst (λ z. (is_some z.halt ≡ true) × (z.done ≤ q.told) × (q.told ≤ z.done)) (sym b.1) (halt.0, omega (arith, halt.1, told), omega (arith, fit.done going, told))
+                    subst (λ z. (is_some z.halt ≡ true) × (z.done ≤ q.told) × (q.told ≤ z.done)) (sym b.1) (halt.0, omega (arith, halt.1, told), fit.done)
                 | inr b ↦ absurd (b.0 refl)
               ];
             })
@@ -368,7 +368,7 @@ module _ {S G J A P T R : Type 0} (m : Meaning G J A P T R) (c : Conduct S T R) 
       (λ q e. record {
         sound = end_sound p w worker busy l (with_answer l engine job answer) engine job (Ok answer) q order fits holds found e serves cause refl tt;
         told = (fits.slots busy.slot q l e found).told;
-        done = λ z. omega (arith, (fits.slots busy.slot q l e found).done z);
+        done = let was = (fits.slots busy.slot q l e found).done in omega (arith, was);
       })
       fits.script
       (λ e. still_stopped p w rack busy.slot l (with_answer l engine job answer) (fits.stop e) found ok (λ q eq h. absurd (away_going p w worker busy l q order fits holds found eq h)))
@@ -379,7 +379,7 @@ module _ {S G J A P T R : Type 0} (m : Meaning G J A P T R) (c : Conduct S T R) 
       (λ q e. record {
         sound = end_sound p w worker busy l (with_halt l engine halt) engine job (Err stop) q order fits holds found e serves cause tt refl;
         told = (fits.slots busy.slot q l e found).told;
-        done = λ z. omega (arith, (fits.slots busy.slot q l e found).done z);
+        done = let was = (fits.slots busy.slot q l e found).done in omega (arith, was);
       })
       fits.script
       (λ e. still_stopped p w rack busy.slot l (with_halt l engine halt) (fits.stop e) found err (λ q eq h. absurd (away_going p w worker busy l q order fits holds found eq h)))

@@ -1,5 +1,5 @@
 -- Where a script that was served alone stood before the call by which it was over.
-use Rattle.std.proofs.Common.{◌≡◌, ◌≢◌, ℕ, zero, suc, ◌+◌, Bool, true, false, List, [], ◌∷◌, ◌++◌, length, Option, Some, None, slice_get, set, Result, Ok, Err, IfOk, OnErr, refl, sym, ap, ◌∙◌, subst, inl, inr, arith}
+use Rattle.std.proofs.Common.{◌≡◌, ◌≢◌, ℕ, zero, suc, ◌+◌, ◌≤◌, Bool, true, false, List, [], ◌∷◌, ◌++◌, length, Option, Some, None, slice_get, set, Result, Ok, Err, IfOk, OnErr, refl, sym, ap, ◌∙◌, subst, inl, inr, arith}
 use Rattle.std.proofs.lemmas.List.{length-set}
 use Rattle.std.proofs.lemmas.Option.{slice_get_within}
 use Rattle.fj_slot.specs.declared.told.Refused.{Refused}
@@ -27,25 +27,33 @@ use Rattle.fj_world.proofs.Runs.{after_next}
 module _ {G J A P T R : Type 0} (m : Meaning G J A P T R) where
   -- one slot was changed, and is sound as before
   pub holds_here : (qs : List (PlainSlot P T)) (old new : Rack G J A) (at : ℕ) (l l' : Ledger G J A) → SlotsHold m qs old → slice_get old.slots at ≡ Some l → new.slots ≡ set old.slots at l'
-      → ((s : P) (ts : List T) → IsSound m s ts l → IsSound m s ts l') → SlotsHold m qs new
-  holds_here qs old new at l l' h found after keeps = record {
+      → ((s : P) (ts : List T) → IsSound m s ts l → IsSound m s ts l') → l.done ≤ l'.done → SlotsHold m qs new
+  holds_here qs old new at l l' h found after keeps more = record {
     same = h.same ∙ sym (length-set old.slots at l') ∙ sym (ap length after);
     each = λ k q y eq ey. elim (slice_get_set old.slots at k l' y (subst (λ s. slice_get s k ≡ Some y) after ey)) [
       | inl b ↦ subst (λ z. IsSound m q.start q.jobs z) (sym b.1) (keeps q.start q.jobs (h.each k q l eq (ap (slice_get old.slots) b.0 ∙ found)))
       | inr b ↦ h.each k q y eq b.1
     ];
+    done = λ k q y eq ey. elim (slice_get_set old.slots at k l' y (subst (λ s. slice_get s k ≡ Some y) after ey)) [
+      | inl b ↦ let was = h.done k q l eq (ap (slice_get old.slots) b.0 ∙ found) in subst (λ z. q.told ≤ z.done) (sym b.1) (omega (arith, was, more))
+      | inr b ↦ h.done k q y eq b.1
+    ];
   }
 
   -- an answer was told, by which no slot has other jobs
   pub holds_told : (qs : List (PlainSlot P T)) (rack : Rack G J A) (at n : ℕ) (q : PlainSlot P T) → SlotsHold m qs rack → slice_get qs at ≡ Some q
-      → SlotsHold m (set qs at (record { start = q.start; jobs = q.jobs; told = n })) rack
-  holds_told qs rack at n q h found =
+      → ((l : Ledger G J A) → slice_get rack.slots at ≡ Some l → n ≤ l.done) → SlotsHold m (set qs at (record { start = q.start; jobs = q.jobs; told = n })) rack
+  holds_told qs rack at n q h found most =
       let q' : PlainSlot P T = record { start = q.start; jobs = q.jobs; told = n } in
       record {
         same = length-set qs at q' ∙ h.same;
         each = λ k x l ex el. elim (slice_get_set qs at k q' x ex) [
           | inl a ↦ subst (λ z. IsSound m z.start z.jobs l) (sym a.1) (h.each k q l (ap (slice_get qs) a.0 ∙ found) el)
           | inr a ↦ h.each k x l a.1 el
+        ];
+        done = λ k x l ex el. elim (slice_get_set qs at k q' x ex) [
+          | inl a ↦ subst (λ z. z.told ≤ l.done) (sym a.1) (most l (ap (slice_get rack.slots) (sym a.0) ∙ el))
+          | inr a ↦ h.done k x l a.1 el
         ];
       }
 
@@ -75,7 +83,7 @@ module _ {S G J A P T R : Type 0} (m : Meaning G J A P T R) (c : Conduct S T R) 
       ap (λ z. z.slots) (after_next m c n (asked_next m c s qs)) ∙ served_slots now.hand now
 
   fits_hold : (p : Plain P c) (start script : S) (hand : Ask J) (rack : Rack G J A) → Fits m c p (record { start = start; script = script; hand = hand; rack = rack; workers = [] }) → SlotsHold m p.slots rack
-  fits_hold p start script hand rack fits = record { same = fits.same_slots; each = λ at q l eq el. (fits.slots at q l eq el).sound }
+  fits_hold p start script hand rack fits = record { same = fits.same_slots; each = λ at q l eq el. (fits.slots at q l eq el).sound; done = λ at q l eq el. (fits.slots at q l eq el).done }
 
   -- what the answer to a submit gives, and to a settle
   pub answered_submit : (p : Plain P c) (at : ℕ) (t : T) (q : PlainSlot P T) → p.hand ≡ Submit at t → slice_get p.slots at ≡ Some q
@@ -111,7 +119,7 @@ module _ {S G J A P T R : Type 0} (m : Meaning G J A P T R) (c : Conduct S T R) 
   first_lost s qs script new hand rack state going fit asks over = record {
     asks = 0;
     call = by_first_ask s qs script new hand state going asks over;
-    slots = record { same = fit.same; each = λ at q l eq el. (fit.each at q l eq el).sound };
+    slots = record { same = fit.same; each = λ at q l eq el. (fit.each at q l eq el).sound; done = λ at q l eq el. (fit.each at q l eq el).done };
   }
 
   -- by a submit or the ask behind it
@@ -166,7 +174,7 @@ module _ {S G J A P T R : Type 0} (m : Meaning G J A P T R) (c : Conduct S T R) 
 
       holds : SlotsHold m now.slots rack'
       holds = holds_here m now.slots rack rack' at l (with_tell settles.ledger) (fits_hold now script script hand rack fits) found settles.after
-          (λ s ts sound. tell_keeps m s ts settles.ledger (settles.serves.sound s ts sound) settles.ready)
+          (λ s ts sound. tell_keeps m s ts settles.ledger (settles.serves.sound s ts sound) settles.ready) settles.serves.done
 
       by_it : c.over mid ≡ true → WasLost m c s qs first new rack'
       by_it e = record {
@@ -191,7 +199,11 @@ module _ {S G J A P T R : Type 0} (m : Meaning G J A P T R) (c : Conduct S T R) 
           record {
             asks = suc n;
             call = by_ask s qs n first script mid new hand' path tells.leads goes (λ z. absurd (let no = sym plain ∙ z in cc)) (tells'.told now.script reply told.0 goes (out.1, refl) ∙ ap (λ z. Some z.0) (sym then)) asks over;
-            slots = subst (λ z. SlotsHold m z.1 rack') (sym then) (holds_told m now.slots rack' at (q.told + 1) q holds here.1);
+            slots = subst (λ z. SlotsHold m z.1 rack') (sym then) (holds_told m now.slots rack' at (q.told + 1) q holds here.1
+                (λ y ey. elim (slice_get_set rack.slots at at (with_tell v) y (subst (λ s. slice_get s at ≡ Some y) settles.after ey)) [
+                  | inl b ↦ subst (λ z. q.told + 1 ≤ z.done) (sym b.1) (let low = (subst (telling.Tells v) e settles.tells).0 in omega (arith, low, count))
+                  | inr b ↦ absurd (b.0 refl)
+                ]));
           }
 
       go : (x : Told G J A P T R) → it ≡ x → WasLost m c s qs first new rack'

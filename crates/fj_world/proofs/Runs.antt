@@ -52,7 +52,7 @@ module _ {S G J A P T R : Type 0} (m : Meaning G J A P T R) (c : Conduct S T R) 
     stop = λ e. absurd (let o = (asks.stops e).0 in cc);
     script = λ e. asks.told s state e;
     same_slots = fit.same;
-    slots = λ at q l eq el. let one = fit.each at q l eq el in record { sound = one.sound; told = λ _. one.told refl; done = λ _. one.done refl };
+    slots = λ at q l eq el. let one = fit.each at q l eq el in record { sound = one.sound; told = λ _. one.told refl; done = one.done };
     held = λ k busy q l e eq el. absurd (none_held n k busy (ap (λ ws. slice_get ws k) (sym idle) ∙ e));
   }
 

@@ -12,11 +12,11 @@ use Rattle.fj_world.specs.Rack.{Rack}
 use Rattle.fj_world.specs.Scene.{Scene}
 use Rattle.fj_world.specs.Plain.{Plain, PlainSlot, next}
 
--- the slot has those jobs and is sound for them; while the script is not over, it was told as often, and what was told was done
+-- the slot has those jobs and is sound for them, and those that were told are done; while the script is not over, it was told as often
 pub record SlotFits {G J A P T R : Type 0} (m : Meaning G J A P T R) (over : Bool) (q : PlainSlot P T) (l : Ledger G J A) : Type 0 where
   pub sound : IsSound m q.start q.jobs l
   pub told : over ≡ false → l.told ≡ q.told
-  pub done : over ≡ false → l.told ≤ l.done
+  pub done : q.told ≤ l.done
 
 -- a stop was told where the plain script awaited an answer
 pub record HasStopped {S G J A P T R : Type 0} (c : Conduct S T R) (p : Plain P c) (script : S) (rack : Rack G J A) : Type 0 where

@@ -1,5 +1,5 @@
 -- Where a script stood before the call by which it was over.
-use Rattle.std.specs.Prelude.{◌≡◌, ◌≢◌, ◌⊎◌, ℕ, zero, suc, ◌+◌, true, false, List, [], ◌∷◌, ◌++◌, length, Option, Some, None, slice_get, slice_set}
+use Rattle.std.specs.Prelude.{◌≡◌, ◌≢◌, ◌⊎◌, ℕ, zero, suc, ◌+◌, ◌≤◌, true, false, List, [], ◌∷◌, ◌++◌, length, Option, Some, None, slice_get, slice_set}
 use Rattle.fj_slot.specs.Ledger.{Ledger}
 use Rattle.fj_slot.specs.Serving.{Meaning}
 use Rattle.fj_slot.specs.Sound.{IsSound, outcome}
@@ -10,10 +10,11 @@ use Rattle.fj_world.specs.Leading.{LeadsTo}
 use Rattle.fj_world.specs.Plain.{Plain, PlainSlot, asked_next, after}
 use Rattle.fj_world.specs.Rack.{Rack}
 
--- each slot is sound for the jobs of the plain one
+-- each slot is sound for the jobs of the plain one, and has done those that were told
 pub record SlotsHold {G J A P T R : Type 0} (m : Meaning G J A P T R) (qs : List (PlainSlot P T)) (rack : Rack G J A) : Type 0 where
   pub same : length qs ≡ length rack.slots
   pub each : (at : ℕ) (q : PlainSlot P T) (l : Ledger G J A) → slice_get qs at ≡ Some q → slice_get rack.slots at ≡ Some l → IsSound m q.start q.jobs l
+  pub done : (at : ℕ) (q : PlainSlot P T) (l : Ledger G J A) → slice_get qs at ≡ Some q → slice_get rack.slots at ≡ Some l → q.told ≤ l.done
 
 module _ {S G J A P T R : Type 0} (m : Meaning G J A P T R) (c : Conduct S T R) where
   -- a job is appended to its slot, and the script has its number

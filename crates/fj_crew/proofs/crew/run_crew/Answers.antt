@@ -4,11 +4,8 @@ use Rattle.fj_world.specs.Plain.{asked_next}
 use Rattle.fj_crew.specs.Plan.{Opened, Shut, plan_at}
 use Rattle.fj_crew.proofs.Looking.{on_ok, on_err}
 use Rattle.fj_crew.proofs.Liking.{opened_like}
-use Rattle.fj_crew.proofs.Planning.{plan_sound, planned_or_not, begun_from, ends_alone, ends_lost, slots_told, opened_begins, closed_home, back_home, back_long, back_numbers, back_counted, back_fits, plan_names}
+use Rattle.fj_crew.proofs.Planning.{plan_sound, planned_or_not, begun_from, ends_alone, ends_lost, slots_told, opened_begins, opened_answered, closed_home, back_home, back_long, back_numbers, back_counted, back_fits, plan_names}
 use Rattle.fj_crew.proofs.Closing.{numbers_go_on, counted_at_last, some_stopped, owes_at_last}
-use Rattle.std.proofs.lemmas.Option.{slice_get_within}
-use Rattle.fj_world.proofs.Places.{slice_get_in}
-use Rattle.fj_crew.specs.Fits.{AllAnswered}
 use Rattle.fj_crew.proofs.crew.run_crew.Goals as goal
 
 pub open-requires : goal.open-requires
@@ -50,10 +47,8 @@ returns-in-Ok-done-clause-alone g c = λ s qs state on fits.
     let served = on_ok c.employ-queues.result.1 c.in-Ok-done.field-0 c.in-Ok-done.is c.employ-queues.ensures.served in
     let shut = subst (λ z. Shut m z seats c.shut.new.slots.slots) c.in-Ok.ensures.all c.shut.ensures.shut in
     let b = begun_from m con c.args.script.now c.args.slots.slots c.open.new.seats.items s qs state (slots_told m c.args.slots.slots qs fits.same fits.each) opened in
-    let all : AllAnswered c.open.new.seats.items = λ k x e. (let begins = opened_begins (plan_at m con c.args.script.now c.args.slots.slots) c.args.slots.slots c.open.new.seats.items opened k x e in
-    let q = slice_get_in qs k (omega (arith, fits.same, slice_get_within c.args.slots.slots k begins.0 begins.1)) in
-    begins.2.answered ((fits.each k q.0 begins.0 q.1 begins.1).done refl)) in
-    ends_alone m con (asked_next m con s qs) (con.left c.args.script.now) c.employ-queues.new.script c.open.new.seats.items seats c.shut.new.slots b.planned served.same (served.alone b) on all (λ going. served.answered all going) shut
+    let all = opened_answered m (plan_at m con c.args.script.now c.args.slots.slots) c.args.slots c.open.new.seats.items qs opened fits in
+    ends_alone m con (asked_next m con s qs) (con.left c.args.script.now) c.employ-queues.new.script c.open.new.seats.items seats c.shut.new.slots b.planned served.same (served.alone b) on all shut
 
 pub returns-in-Ok-done-clause-gave_up : goal.returns-in-Ok-done-clause-gave_up
 returns-in-Ok-done-clause-gave_up g c = λ s qs state on start fits over.
@@ -63,7 +58,8 @@ returns-in-Ok-done-clause-gave_up g c = λ s qs state on start fits over.
     let served = on_ok c.employ-queues.result.1 c.in-Ok-done.field-0 c.in-Ok-done.is c.employ-queues.ensures.served in
     let shut = subst (λ z. Shut m z seats c.shut.new.slots.slots) c.in-Ok.ensures.all c.shut.ensures.shut in
     let b = begun_from m con c.args.script.now c.args.slots.slots c.open.new.seats.items s qs state (slots_told m c.args.slots.slots qs fits.same fits.each) opened in
-    ends_lost m con s qs (con.left c.args.script.now) c.args.script.now c.employ-queues.new.script c.open.new.seats.items seats c.shut.new.slots b.planned served.same (served.gave_up b start over) shut
+    let all = opened_answered m (plan_at m con c.args.script.now c.args.slots.slots) c.args.slots c.open.new.seats.items qs opened fits in
+    ends_lost m con s qs (con.left c.args.script.now) c.args.script.now c.employ-queues.new.script c.open.new.seats.items seats c.shut.new.slots b.planned served.same (served.gave_up b start over) all shut
 
 pub returns-in-Err-done-clause-lost : goal.returns-in-Err-done-clause-lost
 returns-in-Err-done-clause-lost g c =

@@ -27,8 +27,8 @@ loop-slot-init g c =
       answered = λ all _. all;
       stopped = λ was is. absurd (let o = (asks.stops is).0 in cc);
       leads = led_once k.leads c.args.script.now c.ask-hand.new.self asks.leads;
-      gave_up = λ b start over. first_gave_up m k c.args.script.now c.ask-hand.new.self c.ask-hand.result c.args.seats.now.items b start asks over;
-      goes = λ b. first_goes m k c.args.script.now c.ask-hand.new.self c.ask-hand.result c.args.seats.now.items b asks;
+      gave_up = λ b start over. first_gave_up m k c.args.script.now c.ask-hand.new.self c.ask-hand.result c.args.seats.now.items b (λ all. all) start asks over;
+      goes = λ b. first_goes m k c.args.script.now c.ask-hand.new.self c.ask-hand.result c.args.seats.now.items b asks (λ all. all);
     }
 
 pub submit_at-number-requires-clause-next : goal.submit_at-number-requires-clause-next
@@ -106,7 +106,7 @@ loop-slot-preserved g c =
       leads = led_twice k.leads c.args.script.now c.loop-slot.script c.told.new.self c.ask-hand-in-Settle.new.self inv.leads c.told.ensures.leads asks.leads;
       stopped = λ was is. settle_told m k c.loop-slot.script c.told.new.self c.ask-hand-in-Settle.new.self c.ask-hand-in-Settle.result old new c.in-Settle.slot c.settle_at-told.result found.0 found.1 did c.told.ensures asks is;
       gave_up = λ b start over. settle_gave_up m k b.state b.slots (k.left c.args.script.now) c.args.seats.now.items c.args.script.now c.loop-slot.script c.told.new.self c.ask-hand-in-Settle.new.self c.loop-slot.hand c.ask-hand-in-Settle.result
-          old new c.in-Settle.slot c.settle_at-told.result found.0 b.planned inv.same inv.leads (inv.goes b) going keeps.1 hand due found.1 (omega (arith, owes, keeps.2)) did c.told.ensures asks over;
+          old new c.in-Settle.slot c.settle_at-told.result found.0 b.planned inv.same inv.leads (inv.goes b) going keeps.1 hand due found.1 (omega (arith, owes, keeps.2)) (λ all. inv.answered all going c.in-Settle.slot found.0 found.1) did c.told.ensures asks over;
       goes = λ b. settle_goes m k (asked_next m k b.state b.slots) (k.left c.args.script.now) c.args.seats.now.items c.loop-slot.script c.told.new.self c.ask-hand-in-Settle.new.self c.loop-slot.hand c.ask-hand-in-Settle.result
           old new c.in-Settle.slot c.settle_at-told.result found.0 b.planned inv.same (inv.goes b) going keeps.1 hand found.1 (omega (arith, owes, keeps.2)) (λ all. inv.answered all going c.in-Settle.slot found.0 found.1) did c.told.ensures asks;
     }

@@ -23,7 +23,7 @@ invariant-loop-slot g l = record {
   goes : (b : Begun g.S.Gear.Engine.meaning g.S.Script.conduct l.fn.script l.fn.seats.items)
       → CrewGoes g.S.Gear.Engine.meaning g.S.Script.conduct (g.S.Script.conduct.stopped l.fn.script) (AllAnswered l.fn.seats.items) (asked_next g.S.Gear.Engine.meaning g.S.Script.conduct b.state b.slots) (g.S.Script.conduct.left l.fn.script) l.script l.hand l.seats.items;
   gave_up : (b : Begun g.S.Gear.Engine.meaning g.S.Script.conduct l.fn.script l.fn.seats.items) → g.S.Script.conduct.over l.fn.script ≡ false → g.S.Script.conduct.over l.script ≡ true
-      → CrewGaveUp g.S.Gear.Engine.meaning g.S.Script.conduct (g.S.Script.conduct.left l.fn.script) b.state b.slots l.fn.script l.script l.seats.items;
+      → CrewGaveUp g.S.Gear.Engine.meaning g.S.Script.conduct (AllAnswered l.fn.seats.items) (g.S.Script.conduct.left l.fn.script) b.state b.slots l.fn.script l.script l.seats.items;
 }
 
 abbrev pub decreases-loop-slot : goal.decreases-loop-slot
