@@ -28,7 +28,7 @@ is_end : IsStatement (codes "end") written.End
 unfolding written_of keyword_of begun_by end_from
 is_end = (
   token.Word (codes "END") ∷ [],
-  AreTokens.token (codes "end") [] (record { letter = refl; all = search rules; short = lit≤ tt; upper = refl; ends = refl }) AreTokens.none,
+  AreTokens.token (codes "end") [] (record { letter = refl; run = record { all = search rules; some = lit< tt; short = lit≤ tt; ends = refl }; upper = refl }) AreTokens.none,
   refl,
 )
 

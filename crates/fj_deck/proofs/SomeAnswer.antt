@@ -30,7 +30,7 @@ use Rattle.fj_syntax.specs.Statement.{written_of}
 use Rattle.fj_syntax.specs.Tokens.{HasNoTokens, HasTokens, ends_line}
 use Rattle.fj_syntax.proofs.ParseLemmas.{statement_none, tokens_none}
 use Rattle.fj_syntax.proofs.ScanLemmas.{Scans, no_blank, rest_shorter, scans_blanks, scans_done, scans_first, scans_refused, scans_token}
-use Rattle.fj_syntax.proofs.TokenLemmas.{is_either}
+use Rattle.std.proofs.lemmas.Bool.{cases_Bool}
 use Rattle.fj_meaning.specs.Declaring.{Declares, Groups, is_within, with_declaration, with_group}
 use Rattle.fj_meaning.specs.Meaning.{HasMeaning, IsFormatOf, Means, format_text, is_within_limits, meaning}
 use Rattle.fj_meaning.specs.declared.fault.Fault.{Fault}
@@ -38,8 +38,7 @@ use Rattle.fj_meaning.specs.declared.fault.Fault.TheVariants as fault
 use Rattle.fj_meaning.specs.declared.scope.Scope.{Scope}
 use Rattle.fj_deck.specs.Deck.{AreGood, IsDeck, IsRefused, SomeAnswer, deck_of}
 use Rattle.fj_deck.specs.Faults.{of_meaning}
-use Rattle.fj_deck.specs.Line.{Answer, Adds, Declaring, LineIs, Stating, empty, is_misplaced, with_names, with_statement}
-use Rattle.fj_deck.specs.declared.draft.Draft.{Draft}
+use Rattle.fj_deck.specs.Line.{Adds, Answer, Begun, Declaring, LineIs, Stating, empty, is_misplaced, with_names, with_statement, has_ended}
 use Rattle.fj_deck.specs.declared.fault.LineFault.TheVariants.{Refused}
 
 -- an option is none, or something
@@ -84,7 +83,7 @@ tokens_by : (line rest : List ℕ) (found : List Token) → Scans line rest foun
     → ((t : Token) (behind : List ℕ) → first_token (behind_blanks rest) ≡ Some (t, behind) → TokenAnswer line) → TokenAnswer line
 tokens_by line rest found s more =
     let here : Scans line (behind_blanks rest) found = scans_blanks line rest found s in
-    elim (is_either (ends_line (behind_blanks rest))) [
+    elim (cases_Bool (ends_line (behind_blanks rest))) [
       | inl e ↦ inl (found, scans_done line (behind_blanks rest) found here e)
       | inr e ↦ elim (none_or (first_token (behind_blanks rest))) [
         | inl n ↦ inr (scans_refused line (behind_blanks rest) found here e (no_blank rest (behind_blanks rest) refl) n)
@@ -135,7 +134,7 @@ MeaningAnswer s w = ((m : Statement) × HasMeaning s w m) ⊎ Reasoned s w
 with_format : (s : Scope) (w : Written) (items : Option (List FormatItem)) → IsFormatOf (format_text w) items → MeaningAnswer s w
 with_format s w items format = elim (none_or (meaning s items w)) [
   | inl n ↦ inr (record { fault = fault.NoMeaning; reason = reasons.Meaning; is = refl; means = record { items = items; format = format; none = n } })
-  | inr m ↦ elim (is_either (is_within_limits s items w)) [
+  | inr m ↦ elim (cases_Bool (is_within_limits s items w)) [
     | inl e ↦ inl (m.0, record { items = items; format = format; is = m.1; within = e })
     | inr e ↦ inr (record {
       fault = fault.TooMany;
@@ -158,77 +157,77 @@ meaning_answer s w = by_text s w (format_text w) refl
 
 -- ---- what a line adds
 
-stating : (draft : Draft) (number : ℕ) (w : Written) → (answer : Answer) × Stating draft number w answer
-stating draft number w = elim (meaning_answer draft.names w) [
-  | inl m ↦ elim (is_either (nat_lt (length draft.statements) 100000)) [
-    | inl few ↦ (Ok (with_statement draft number m.0), Stating.added m.0 m.1 (ltb-true (length draft.statements) 100000 few))
-    | inr many ↦ (Err reasons.TooMany, Stating.full m.0 m.1 (ltb-false (length draft.statements) 100000 many))
+stating : (begun : Begun) (number : ℕ) (w : Written) → (answer : Answer) × Stating begun number w answer
+stating begun number w = elim (meaning_answer begun.names w) [
+  | inl m ↦ elim (cases_Bool (nat_lt (length begun.statements) 100000)) [
+    | inl few ↦ (Ok (with_statement begun number m.0), Stating.added m.0 m.1 (ltb-true (length begun.statements) 100000 few))
+    | inr many ↦ (Err reasons.TooMany, Stating.full m.0 m.1 (ltb-false (length begun.statements) 100000 many))
   ]
   | inr r ↦ (Err r.reason, Stating.refused r.fault r.means r.is)
 ]
 
-declaring : (draft : Draft) (next : Option Scope) → (answer : Answer) × Declaring draft (Declares next) answer
-declaring draft next = elim (none_or next) [
-  | inl n ↦ (Err reasons.Meaning, Declaring.refused draft.names fault.NoMeaning n refl)
-  | inr s ↦ elim (is_either (is_within s.0.variables)) [
-    | inl e ↦ (Ok (with_names draft s.0), Declaring.added s.0 (s.1, e))
-    | inr e ↦ (Err reasons.TooMany, Declaring.refused draft.names fault.TooMany (s.0, s.1, e) refl)
+declaring : (begun : Begun) (next : Option Scope) → (answer : Answer) × Declaring begun (Declares next) answer
+declaring begun next = elim (none_or next) [
+  | inl n ↦ (Err reasons.Meaning, Declaring.refused begun.names fault.NoMeaning n refl)
+  | inr s ↦ elim (cases_Bool (is_within s.0.variables)) [
+    | inl e ↦ (Ok (with_names begun s.0), Declaring.added s.0 (s.1, e))
+    | inr e ↦ (Err reasons.TooMany, Declaring.refused begun.names fault.TooMany (s.0, s.1, e) refl)
   ]
 ]
 
-grouping : (draft : Draft) (next : Option Scope) → (answer : Answer) × Declaring draft (Groups next) answer
-grouping draft next = elim (none_or next) [
-  | inl n ↦ (Err reasons.Meaning, Declaring.refused draft.names fault.NoMeaning n refl)
-  | inr s ↦ (Ok (with_names draft s.0), Declaring.added s.0 s.1)
+grouping : (begun : Begun) (next : Option Scope) → (answer : Answer) × Declaring begun (Groups next) answer
+grouping begun next = elim (none_or next) [
+  | inl n ↦ (Err reasons.Meaning, Declaring.refused begun.names fault.NoMeaning n refl)
+  | inr s ↦ (Ok (with_names begun s.0), Declaring.added s.0 s.1)
 ]
 
-adding : (draft : Draft) (number : ℕ) (w : Written) → (answer : Answer) × Adds draft number w answer
-adding draft number (written.Declaration d) = declaring draft (with_declaration draft.names number d)
-adding draft number (written.Group g) = grouping draft (with_group draft.names number g)
-adding draft number w = stating draft number w
+adding : (begun : Begun) (number : ℕ) (w : Written) → (answer : Answer) × Adds begun number w answer
+adding begun number (written.Declaration d) = declaring begun (with_declaration begun.names number d)
+adding begun number (written.Group g) = grouping begun (with_group begun.names number g)
+adding begun number w = stating begun number w
 
-abbrev LineAnswer : List ℕ → ℕ → Draft → Type 0
-LineAnswer line number draft = (answer : Answer) × LineIs line number draft answer
+abbrev LineAnswer : List ℕ → ℕ → Begun → Type 0
+LineAnswer line number begun = (answer : Answer) × LineIs line number begun answer
 
-written_answer : (line : List ℕ) (number : ℕ) (draft : Draft) (w : Written) → length line ≤ 1000 → IsStatement line w → LineAnswer line number draft
-written_answer line number draft w short is = elim (is_either (is_misplaced draft w)) [
+written_answer : (line : List ℕ) (number : ℕ) (begun : Begun) (w : Written) → length line ≤ 1000 → IsStatement line w → LineAnswer line number begun
+written_answer line number begun w short is = elim (cases_Bool (is_misplaced begun w)) [
   | inl e ↦ (Err reasons.Syntax, LineIs.misplaced w short is e)
-  | inr e ↦ let adds = adding draft number w in (adds.0, LineIs.placed w short is e adds.1)
+  | inr e ↦ let adds = adding begun number w in (adds.0, LineIs.placed w short is e adds.1)
 ]
 
-short_answer : (line : List ℕ) (number : ℕ) (draft : Draft) → length line ≤ 1000 → LineAnswer line number draft
-short_answer line number draft short = elim (parse_answer line) [
-  | inl bare ↦ (Ok draft, LineIs.blank short bare)
+short_answer : (line : List ℕ) (number : ℕ) (begun : Begun) → length line ≤ 1000 → LineAnswer line number begun
+short_answer line number begun short = elim (parse_answer line) [
+  | inl bare ↦ (Ok begun, LineIs.blank short bare)
   | inr some ↦ elim some [
-    | inl w ↦ written_answer line number draft w.0 short w.1
+    | inl w ↦ written_answer line number begun w.0 short w.1
     | inr none ↦ (Err reasons.Syntax, LineIs.garbled short none)
   ]
 ]
 
-line_answer : (line : List ℕ) (number : ℕ) (draft : Draft) → LineAnswer line number draft
-line_answer line number draft = elim (is_either (nat_lt 1000 (length line))) [
+line_answer : (line : List ℕ) (number : ℕ) (begun : Begun) → LineAnswer line number begun
+line_answer line number begun = elim (cases_Bool (nat_lt 1000 (length line))) [
   | inl e ↦ (Err reasons.LineTooLong, LineIs.long (ltb-true 1000 (length line) e))
-  | inr e ↦ short_answer line number draft (ltb-false 1000 (length line) e)
+  | inr e ↦ short_answer line number begun (ltb-false 1000 (length line) e)
 ]
 
 -- ---- lines
 
 -- the first line that is refused, behind those that are good
-record IsBad (number : ℕ) (draft : Draft) (text : List (List ℕ)) : Type 0 where
+record IsBad (number : ℕ) (begun : Begun) (text : List (List ℕ)) : Type 0 where
   before : List (List ℕ)
   line : List ℕ
   behind : List (List ℕ)
-  reached : Draft
+  reached : Begun
   reason : Reason
   all : text ≡ before ++ line ∷ behind
-  good : AreGood number draft before reached
+  good : AreGood number begun before reached
   is : LineIs line (length before + number) reached (Err reason)
 
-abbrev LinesAnswer : ℕ → Draft → List (List ℕ) → Type 0
-LinesAnswer number draft text = ((last : Draft) × AreGood number draft text last) ⊎ IsBad number draft text
+abbrev LinesAnswer : ℕ → Begun → List (List ℕ) → Type 0
+LinesAnswer number begun text = ((last : Begun) × AreGood number begun text last) ⊎ IsBad number begun text
 
-bad_behind : (line : List ℕ) (more : List (List ℕ)) (number : ℕ) (draft next : Draft) → LineIs line number draft (Ok next) → IsBad (number + 1) next more → IsBad number draft (line ∷ more)
-bad_behind line more number draft next is bad = record {
+bad_behind : (line : List ℕ) (more : List (List ℕ)) (number : ℕ) (begun next : Begun) → LineIs line number begun (Ok next) → IsBad (number + 1) next more → IsBad number begun (line ∷ more)
+bad_behind line more number begun next is bad = record {
   before = line ∷ bad.before;
   line = bad.line;
   behind = bad.behind;
@@ -239,31 +238,31 @@ bad_behind line more number draft next is bad = record {
   is = subst (λ n. LineIs bad.line n bad.reached (Err bad.reason)) (omega arith) bad.is;
 }
 
-first_bad : (line : List ℕ) (more : List (List ℕ)) (number : ℕ) (draft : Draft) (reason : Reason) → LineIs line number draft (Err reason) → IsBad number draft (line ∷ more)
-first_bad line more number draft reason is = record {
+first_bad : (line : List ℕ) (more : List (List ℕ)) (number : ℕ) (begun : Begun) (reason : Reason) → LineIs line number begun (Err reason) → IsBad number begun (line ∷ more)
+first_bad line more number begun reason is = record {
   before = [];
   line = line;
   behind = more;
-  reached = draft;
+  reached = begun;
   reason = reason;
   all = refl;
   good = refl;
-  is = subst (λ n. LineIs line n draft (Err reason)) (omega arith) is;
+  is = subst (λ n. LineIs line n begun (Err reason)) (omega arith) is;
 }
 
-behind_line : (line : List ℕ) (more : List (List ℕ)) (number : ℕ) (draft : Draft) (answer : Answer) → LineIs line number draft answer
-    → ((next : Draft) → LinesAnswer (number + 1) next more) → LinesAnswer number draft (line ∷ more)
-behind_line line more number draft (Err reason) is rest = inr (first_bad line more number draft reason is)
-behind_line line more number draft (Ok next) is rest = elim (rest next) [
+behind_line : (line : List ℕ) (more : List (List ℕ)) (number : ℕ) (begun : Begun) (answer : Answer) → LineIs line number begun answer
+    → ((next : Begun) → LinesAnswer (number + 1) next more) → LinesAnswer number begun (line ∷ more)
+behind_line line more number begun (Err reason) is rest = inr (first_bad line more number begun reason is)
+behind_line line more number begun (Ok next) is rest = elim (rest next) [
   | inl good ↦ inl (good.0, (next, is, good.1))
-  | inr bad ↦ inr (bad_behind line more number draft next is bad)
+  | inr bad ↦ inr (bad_behind line more number begun next is bad)
 ]
 
-lines_answer : (number : ℕ) (draft : Draft) (text : List (List ℕ)) → LinesAnswer number draft text
-lines_answer number draft [] = inl (draft, refl)
-lines_answer number draft (line ∷ more) =
-    let here = line_answer line number draft in
-    behind_line line more number draft here.0 here.1 (λ next. lines_answer (number + 1) next more)
+lines_answer : (number : ℕ) (begun : Begun) (text : List (List ℕ)) → LinesAnswer number begun text
+lines_answer number begun [] = inl (begun, refl)
+lines_answer number begun (line ∷ more) =
+    let here = line_answer line number begun in
+    behind_line line more number begun here.0 here.1 (λ next. lines_answer (number + 1) next more)
 
 -- ---- texts
 
@@ -272,7 +271,7 @@ TextAnswer text = ((deck : Deck) × IsDeck text deck) ⊎ ((line : ℕ) × (reas
 
 short_text : (text : List ℕ) → length text ≤ 4194304 → TextAnswer text
 short_text text short = elim (lines_answer 1 empty (lines text)) [
-  | inl good ↦ elim (is_either good.0.ended) [
+  | inl good ↦ elim (cases_Bool (has_ended good.0.statements)) [
     | inl e ↦ inl (deck_of good.0, record { short = short; last = good.0; good = good.1; ended = e; is = refl })
     | inr e ↦ inr (length (lines text) + 1, reasons.NoEnd, IsRefused.endless good.0 short good.1 e)
   ]
@@ -280,7 +279,7 @@ short_text text short = elim (lines_answer 1 empty (lines text)) [
 ]
 
 pub some_answer : SomeAnswer
-some_answer text = elim (is_either (nat_lt 4194304 (length text))) [
+some_answer text = elim (cases_Bool (nat_lt 4194304 (length text))) [
   | inl e ↦ inr (1, reasons.TextTooLong, IsRefused.long (ltb-true 4194304 (length text) e))
   | inr e ↦ short_text text (ltb-false 4194304 (length text) e)
 ]

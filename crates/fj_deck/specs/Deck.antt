@@ -5,34 +5,33 @@ use Rattle.fj_statement.specs.declared.deck.Deck.{Deck}
 use Rattle.fj_statement.specs.declared.reason.Reason.{Reason}
 use Rattle.fj_statement.specs.declared.reason.Reason.TheVariants.{TextTooLong, NoEnd}
 use Rattle.fj_statement.specs.Sound.{IsSound}
-use Rattle.fj_deck.specs.Line.{empty, LineIs}
-use Rattle.fj_deck.specs.declared.draft.Draft.{Draft}
+use Rattle.fj_deck.specs.Line.{Begun, LineIs, empty, has_ended}
 use Rattle.fj_deck.specs.declared.fault.DeckFault.{DeckFault}
 use Rattle.fj_deck.specs.declared.fault.DeckFault.TheVariants as fault
 
--- these lines, the first of which has this number, are good one after another, and lead from one draft to another
-abbrev pub AreGood : ℕ → Draft → List (List ℕ) → Draft → Type 0
-AreGood number draft [] last = last ≡ draft
-AreGood number draft (line ∷ more) last = (next : Draft) × LineIs line number draft (Ok next) × AreGood (number + 1) next more last
+-- these lines, the first of which has this number, are good one after another, and lead from one deck that is begun to another
+abbrev pub AreGood : ℕ → Begun → List (List ℕ) → Begun → Type 0
+AreGood number begun [] last = last ≡ begun
+AreGood number begun (line ∷ more) last = (next : Begun) × LineIs line number begun (Ok next) × AreGood (number + 1) next more last
 
-abbrev pub deck_of : Draft → Deck
-deck_of draft = record { variables = draft.names.variables; groups = draft.names.lines; statements = draft.statements }
+abbrev pub deck_of : Begun → Deck
+deck_of begun = record { variables = begun.names.variables; groups = begun.names.lines; statements = begun.statements }
 
 -- every line is good, and END is among them
 pub record IsDeck (text : List ℕ) (deck : Deck) : Type 0 where
   pub short : length text ≤ 4194304
-  pub last : Draft
+  pub last : Begun
   pub good : AreGood 1 empty (lines text) last
-  pub ended : last.ended ≡ true
+  pub ended : has_ended last.statements ≡ true
   pub is : deck ≡ deck_of last
 
 -- a text that is too long at its first line; else the first line that is not good; else the line behind the last
 pub data IsRefused (text : List ℕ) : ℕ → Reason → Type 0 where
   long : 4194304 < length text → IsRefused text 1 TextTooLong
-  bad : (before : List (List ℕ)) (line : List ℕ) (behind : List (List ℕ)) {draft : Draft} {reason : Reason}
-      → length text ≤ 4194304 → lines text ≡ before ++ line ∷ behind → AreGood 1 empty before draft → LineIs line (length before + 1) draft (Err reason)
+  bad : (before : List (List ℕ)) (line : List ℕ) (behind : List (List ℕ)) {begun : Begun} {reason : Reason}
+      → length text ≤ 4194304 → lines text ≡ before ++ line ∷ behind → AreGood 1 empty before begun → LineIs line (length before + 1) begun (Err reason)
       → IsRefused text (length before + 1) reason
-  endless : (last : Draft) → length text ≤ 4194304 → AreGood 1 empty (lines text) last → last.ended ≡ false → IsRefused text (length (lines text) + 1) NoEnd
+  endless : (last : Begun) → length text ≤ 4194304 → AreGood 1 empty (lines text) last → has_ended last.statements ≡ false → IsRefused text (length (lines text) + 1) NoEnd
 
 -- what was answered is what the text is, unless memory ran out
 abbrev pub Reads : List ℕ → Result Deck DeckFault → Type 0

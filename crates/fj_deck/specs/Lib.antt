@@ -1,3 +1,4 @@
 pub mod Deck
 pub mod Faults
 pub mod Line
+pub mod Seen

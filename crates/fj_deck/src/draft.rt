@@ -1,7 +1,8 @@
 // The deck so far, line after line.
 ghost use Rattle.std.specs.Prelude.{◌≡◌};
 ghost use Rattle.fj_deck.specs.Deck.{deck_of};
-ghost use Rattle.fj_deck.specs.Line.{empty, is_declaration, is_end, is_misplaced, Adds, LineIs, Stating, Takes};
+ghost use Rattle.fj_deck.specs.Seen.{begun_of};
+ghost use Rattle.fj_deck.specs.Line.{empty, has_ended, is_declaration, is_end, is_misplaced, Adds, LineIs, Stating, Takes};
 
 use crate::fault::LineFault;
 use fj_meaning::{Names, statement};
@@ -21,8 +22,6 @@ pub const MAX_STATEMENTS: usize = 100_000;
 pub struct Draft {
     pub names: Names,
     pub statements: Statements,
-    /// END was read.
-    pub ended: bool,
 }
 
 /// A type declaration or NAMELIST.
@@ -40,38 +39,46 @@ fn is_end(statement: &Statement) -> bool
 
 impl Draft {
     pub fn new(alloc: Global) -> Draft
-        ensures { result ≡ empty }
+        ensures { begun_of result ≡ empty }
     {
         Draft {
             names: Names::new(alloc),
             statements: Items::new(alloc),
-            ended: false,
+        }
+    }
+
+    /// Whether END is the last statement.
+    pub fn has_ended(&self) -> bool
+        ensures { result ≡ has_ended self.now.statements }
+    {
+        match self.statements.as_slice().last() {
+            Some(last) => is_end(&last.what),
+            None => false,
         }
     }
 
     /// Whether it stands behind END, or is a declaration behind a statement.
     fn is_misplaced(&self, written: &Written) -> bool
-        ensures { result ≡ is_misplaced self.now written.now }
+        ensures { result ≡ is_misplaced (begun_of self.now) written.now }
     {
-        self.ended || (is_declaration(written) && !self.statements.is_empty())
+        self.has_ended() || (is_declaration(written) && !self.statements.is_empty())
     }
 
     /// Adds an executable statement.
     fn state(&mut self, alloc: Global, number: u32, written: Written) -> Result<(), LineFault>
-        ensures { Takes (Stating self.old number written) self.new result }
+        ensures { Takes (Stating (begun_of self.old) number written) (begun_of self.new) result }
     {
         let what = statement(alloc, &self.names, written)?;
         if self.statements.len() >= MAX_STATEMENTS {
             return Err(LineFault::Refused(Reason::TooMany));
         }
-        self.ended = is_end(&what);
         self.statements.push(Lined { line: number, what })?;
         Ok(())
     }
 
     /// Adds a statement or declaration.
     fn add(&mut self, alloc: Global, number: u32, written: Written) -> Result<(), LineFault>
-        ensures { Takes (Adds self.old number written) self.new result }
+        ensures { Takes (Adds (begun_of self.old) number written) (begun_of self.new) result }
     {
         match written {
             Written::Declaration(declaration) => Ok(self.names.declare(number, declaration)?),
@@ -82,7 +89,7 @@ impl Draft {
 
     /// Takes the next line. Of a line that is refused nothing is known but that.
     pub fn take(&mut self, alloc: Global, number: u32, line: &[u8]) -> Result<(), LineFault>
-        ensures { Takes (LineIs line.now number self.old) self.new result }
+        ensures { Takes (LineIs line.now number (begun_of self.old)) (begun_of self.new) result }
     {
         if line.len() > MAX_LINE {
             return Err(LineFault::Refused(Reason::LineTooLong));
@@ -97,7 +104,7 @@ impl Draft {
     }
 
     pub fn into_deck(self) -> Deck
-        ensures { result ≡ deck_of self }
+        ensures { result ≡ deck_of (begun_of self) }
     {
         let (variables, groups) = self.names.into_parts();
         Deck {

@@ -33,7 +33,7 @@ pub fn parse_deck(alloc: Global, text: &[u8]) -> Result<Deck, DeckFault>
         rest = more;
         number += 1;
     }
-    if !draft.ended {
+    if !draft.has_ended() {
         return Err(DeckFault::Refused {
             line: number,
             reason: Reason::NoEnd,

@@ -13,4 +13,4 @@ pub returns-then-len-ge-MAX_STATEMENTS : goal.returns-then-len-ge-MAX_STATEMENTS
 returns-then-len-ge-MAX_STATEMENTS c = Stating.full c.in_ok-what.what c.in_ok-what.ensures (omega arith)
 
 pub returns : goal.returns
-returns c = rw (c.in_ok-push.ensures.ok, c.is_end-self.ensures) (Stating.added c.in_ok-what.what c.in_ok-what.ensures (omega arith))
+returns c = rw c.in_ok-push.ensures.ok (Stating.added c.in_ok-what.what c.in_ok-what.ensures (omega arith))

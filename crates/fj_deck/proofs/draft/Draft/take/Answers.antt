@@ -2,6 +2,7 @@ use Rattle.std.proofs.Common.{arith, sym, ◌∙◌}
 use Rattle.std.proofs.lemmas.Result.{err_from_is_err_and}
 use Rattle.fj_syntax.specs.Parsing.{IsBlankLine, IsOnlyStatement}
 use Rattle.fj_deck.specs.Line.{Adds, LineIs}
+use Rattle.fj_deck.specs.Seen.{begun_of}
 use Rattle.fj_deck.proofs.LineLemmas.{line_refused, takes_as}
 use Rattle.fj_deck.proofs.draft.Draft.take.Goals as goal
 
@@ -26,6 +27,6 @@ returns-then-is_misplaced c =
 pub returns : goal.returns
 returns c =
     let only : IsOnlyStatement c.args.line.now c.in-Some.written = rw c.in-Some.is at c.in_ok-written.ensures in
-    takes_as (Adds c.args.self.now c.args.number c.in-Some.written) (LineIs c.args.line.now c.args.number c.args.self.now) _ _
+    takes_as (Adds (begun_of c.args.self.now) c.args.number c.in-Some.written) (LineIs c.args.line.now c.args.number (begun_of c.args.self.now)) _ _
     (λ answer adds. LineIs.placed c.in-Some.written (omega arith) only.is (sym c.is_misplaced.ensures ∙ c.if-is_misplaced.false) adds)
     c.add.ensures
