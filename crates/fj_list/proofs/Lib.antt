@@ -14,7 +14,7 @@ pub mod GrammarLaws
 pub mod Understanding
 pub mod Meaning
 pub mod Constants
-mod ListLaws
+pub mod ListLaws
 pub mod Integers
 pub mod ItemLemmas
 pub mod Cutting

@@ -17,7 +17,7 @@ use Rattle.fj_list.specs.ListText.{shown, gap, is_characters, passes_columns, co
 use Rattle.fj_list.specs.Listing.{texts_behind, list_actions, RecordsAreListed}
 
 -- a line with the position behind it
-abbrev at_end : List ℕ → LineState
+abbrev pub at_end : List ℕ → LineState
 at_end line = record { at = length line; text = line }
 
 abbrev last_end : List Action
@@ -32,7 +32,7 @@ with_chars-end text (c ∷ cs) =
     ∙ ap (λ t. text ++ ((c ∷ cs) ++ t)) (drop_of_length-le text (omega arith))
     ∙ ap (λ t. text ++ t) (append-nil (c ∷ cs))
 
-longer_line : (line more : List ℕ) → written more (at_end line) ≡ at_end (line ++ more)
+pub longer_line : (line more : List ℕ) → written more (at_end line) ≡ at_end (line ++ more)
 longer_line line more =
     ap (λ (t : List ℕ). record { at = length line + length more; text = t }) (with_chars-end line more)
     ∙ ap (λ (n : ℕ). record { at = n; text = line ++ more }) (sym (length-append line more))

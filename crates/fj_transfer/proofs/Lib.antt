@@ -14,3 +14,4 @@ pub mod GroupLemmas
 pub mod PutLemmas
 pub mod FillLemmas
 pub mod Kept
+pub mod RowLemmas

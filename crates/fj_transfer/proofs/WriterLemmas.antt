@@ -1,8 +1,9 @@
 -- A writer's steps, one by one.
-use Rattle.std.proofs.Common.{◌≡◌, ℕ, Bool, List, [], ◌∷◌, ◌++◌, length, take, Option, Some, None, Result, Ok, Err, refl, sym, ap, subst, ◌∙◌}
-use Rattle.std.specs.Prelude.{IfNone, IfOk, IfErr, is_some, OnOk, OnErr}
+use Rattle.std.proofs.Common.{◌≡◌, ℕ, zero, suc, nat_lt, List, ◌∷◌, ◌++◌, length, take, Result, Ok, Err, refl, sym, ap, subst, ◌∙◌, ◌≤◌, arith}
+use Rattle.std.specs.Prelude.{IfOk, IfErr, OnOk, OnErr}
 use Rattle.std.specs.declared.alloc.AllocError.{AllocError}
 use Rattle.std.proofs.Math.Seq.{take-length}
+use Rattle.std.proofs.lemmas.List.{length-map}
 use Rattle.fj_value.specs.declared.condition.Condition.{Condition}
 use Rattle.fj_value.specs.declared.condition.Condition.TheVariants.{Fine}
 use Rattle.fj_line.specs.declared.page.Page.{Page}
@@ -12,17 +13,15 @@ use Rattle.fj_line.specs.Actions.{Action, AtHand, carried_out, text_in, output, 
 use Rattle.fj_line.specs.Page.{at_hand, IsIn, Keeps, Carries, told_by}
 use Rattle.fj_line.proofs.Carrying.{stops, went_on}
 use Rattle.fj_line.proofs.PageLemmas.{written_whole}
+use Rattle.std.proofs.lemmas.Bool.Decides.{nat_tests}
 use Rattle.fj_control.specs.Steps.{Given}
 use Rattle.fj_control.specs.Walk.{is_left}
-use Rattle.fj_list.specs.declared.items.Item.{Item}
-use Rattle.fj_list.specs.Items.{Output, with_next}
+use Rattle.fj_value.specs.declared.value.Cell.{Cell}
+use Rattle.fj_list.specs.declared.items.OutputItems.{OutputItems}
+use Rattle.fj_list.specs.declared.items.OutputItems.TheVariants.{Each, Cells, Runs}
+use Rattle.fj_list.specs.Items.{Output, items_left, cells_ahead}
 use Rattle.fj_transfer.specs.declared.writer.Writer.{Writer}
 use Rattle.fj_transfer.specs.Writing.{actions_left, CarriesFirst}
-
--- whether an item is left, as the code asks
-pub next_left : (o : Option Item) (rest : List Output) (left : Bool) → IfNone o (rest ≡ []) → left ≡ is_some o → left ≡ is_left (length (with_next o rest))
-next_left None rest left none e = e ∙ sym (ap (λ (l : List Output). is_left (length l)) none)
-next_left (Some item) rest left none e = e
 
 -- a step met the first condition of what was still to do
 pub step_stops : (begun here new : AtHand) (all : List Action) (w w' : Writer) (gs more : List Given) (g : Given) (u : Unwritten) → carried_out begun all ≡ carried_out here (actions_left w gs) → gs ≡ g ∷ more
@@ -79,3 +78,30 @@ is_kept (Err u) told page page' old text new end begin from kept ok err =
     always : {P : Type 0} (t : Result Condition AllocError) → P → OnErr t P
     always (Ok x) h = tt
     always (Err x) h = h
+
+-- ---- a part of what was still to do
+
+-- a call met the first condition of what was still to do
+pub first_stops : (begun here new : AtHand) (all left rest rest' : List Action) (u : Unwritten) → carried_out begun all ≡ carried_out here left → CarriesFirst here left (Err u) new rest → CarriesFirst begun all (Err u) new rest'
+first_stops begun here new all left rest rest' (Met condition) same h = same ∙ h
+first_stops begun here new all left rest rest' (Memory error) same h = tt
+
+-- the same with other names for what was to do, and for how much is left
+pub first_as : (begun new : AtHand) (all all' : List Action) (rest : ℕ → List Action) (m n : ℕ) (r : Result (Unit {0}) Unwritten) → all ≡ all' → CarriesFirst begun all' r new (rest m) → OnOk r (n ≡ m) → CarriesFirst begun all r new (rest n)
+first_as begun new all all' rest m n (Ok u) same h last = ap (carried_out begun) same ∙ h ∙ ap (λ k. carried_out new (rest k)) (sym last)
+first_as begun new all all' rest m n (Err (Met condition)) same h last = ap (carried_out begun) same ∙ h
+first_as begun new all all' rest m n (Err (Memory error)) same h last = tt
+
+pub ahead_few : (o : OutputItems) → length (cells_ahead o) ≤ length (items_left o)
+ahead_few (Each cells) = omega (arith, length-map {B = Output} cells.now (λ (cell : Cell). (cell.kind, cell.value)))
+ahead_few (Cells cells order at) = omega arith
+ahead_few (Runs runs run at) = omega arith
+
+pub run_stops : (begun here new : AtHand) (all left rest : List Action) (u : Unwritten) → carried_out begun all ≡ carried_out here left → CarriesFirst here left (Err u) new rest → Carries begun all (Err u) new
+run_stops begun here new all left rest (Met condition) same h = same ∙ h
+run_stops begun here new all left rest (Memory error) same h = tt
+
+-- whether an item is left, as the code asks
+pub left_is : (n : ℕ) → nat_lt 0 n ≡ is_left n
+left_is zero = refl
+left_is (suc n) = grind (arith, nat_tests)

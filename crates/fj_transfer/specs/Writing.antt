@@ -1,26 +1,28 @@
 -- What a writer has still to do.
-use Rattle.std.specs.Prelude.{ℕ, ◌≡◌, ◌<◌, ◌≤◌, List, [], ◌∷◌, ◌++◌, map, length, Result, Ok, Err, IfNone}
+use Rattle.std.specs.Prelude.{ℕ, ℤ, Bool, ◌≡◌, ◌<◌, ◌≤◌, List, [], ◌∷◌, ◌++◌, map, length, None, Result, Ok, Err}
 use Rattle.fj_value.specs.declared.condition.Condition.{Condition}
 use Rattle.fj_control.specs.Steps.{Given}
 use Rattle.fj_control.specs.Paired.{paired}
 use Rattle.fj_byterec.specs.Runs.{run_of}
 use Rattle.fj_line.specs.declared.unwritten.Unwritten.{Unwritten}
 use Rattle.fj_line.specs.declared.unwritten.Unwritten.TheVariants.{Met, Memory}
-use Rattle.fj_line.specs.Actions.{Action, AtHand, carried_out}
+use Rattle.fj_line.specs.Actions.{Action, put, AtHand, carried_out}
 use Rattle.fj_line.specs.Page.{at_hand}
 use Rattle.fj_line.specs.Records.{texts_from}
-use Rattle.fj_list.specs.Items.{Output, items_left, with_next}
+use Rattle.fj_edit_out.specs.OutputField.{integer_field}
+use Rattle.fj_list.specs.Items.{Output, items_left}
 use Rattle.fj_list.specs.ListText.{text_of}
 use Rattle.fj_transfer.specs.declared.writer.Writer.{Writer}
 use Rattle.fj_transfer.specs.Explicit.{action_of}
 use Rattle.fj_transfer.specs.Printing.{Printed, open_count}
 
--- the items that it has still to write; there is none where there is no next one
+-- the items that it has still to write
 abbrev pub items_of_writer : Writer → List Output
-items_of_writer w = with_next w.item (items_left w.items)
+items_of_writer w = items_left w.items
 
-abbrev pub IsReady : Writer → Type 0
-IsReady w = IfNone w.item (items_left w.items ≡ [])
+-- integers one after another in fields of a width
+abbrev pub row_of : Bool → ℕ → List ℤ → List Action
+row_of plus w numbers = map (λ n. put (integer_field plus (w, None) n)) numbers
 
 -- what it has still to do where these steps are due
 abbrev pub actions_left : Writer → List Given → List Action

@@ -17,6 +17,7 @@ mod pieces;
 mod print;
 mod reached;
 mod reader;
+mod run;
 mod stored;
 #[cfg(test)]
 mod tests;

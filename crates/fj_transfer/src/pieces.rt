@@ -15,7 +15,7 @@ ghost use Rattle.fj_transfer.specs.Explicit.{explicit_actions};
 ghost use Rattle.fj_transfer.specs.Places.{before_number};
 ghost use Rattle.fj_transfer.specs.Printing.{printed_by};
 ghost use Rattle.fj_transfer.specs.Transfer.{told_with, output_done, with_pieces, pieces_written};
-ghost use Rattle.fj_transfer.specs.Writing.{items_of_writer, IsReady, texts_left, actions_left, Fills, HasPieces};
+ghost use Rattle.fj_transfer.specs.Writing.{items_of_writer, texts_left, actions_left, Fills, HasPieces};
 
 use crate::formatted::begun_at;
 use crate::writer::Writer;
@@ -50,14 +50,14 @@ impl<'a> Writer<'a> {
         recl: u32,
         run: &mut Text,
     ) -> Result<(), Unwritten>
-        requires within { IsIn self.old.page text.old }
-        requires ready { IsReady self.old }
+        requires { IsIn self.old.page text.old }
         ensures done { Carries (at_hand self.old.page text.old)
             (actions_left self.old (due cursor.entry (length (items_of_writer self.old))) ++ end_record ∷ []) result (at_hand self.new.page text.new) }
         ensures run { OnOk result (run.new ≡ run.old ++ run_of recl 32 (texts_left text.old self.old (due cursor.entry (length (items_of_writer self.old))))) }
     {
         loop {
-            match cursor.next(self.item.is_some()) {
+            self.write_run(text, &mut cursor)?;
+            match cursor.next(self.items.is_some_left()) {
                 Step::Done => {
                     add_piece(&self.page, text, recl, run)?;
                     return self.page.end_record(text);
@@ -76,7 +76,7 @@ impl<'a> Writer<'a> {
 fn fill_records(
     format: &Format,
     modes: EditModes,
-    mut items: OutputItems,
+    items: OutputItems,
     recl: u32,
     begun: u32,
     run: &mut Text,
@@ -85,11 +85,9 @@ fn fill_records(
 {
     let mut text = Text::new(run.allocator());
     let page = Page::new(&text, recl, begun);
-    let item = items.next();
     let mut writer = Writer {
         page,
         modes,
-        item,
         items,
         field: Text::new(run.allocator()),
     };

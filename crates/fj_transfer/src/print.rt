@@ -28,18 +28,16 @@ fn write_explicit(
     modes: EditModes,
     format: &Format,
     advance: bool,
-    mut items: OutputItems,
+    items: OutputItems,
 ) -> Result<(), Unwritten>
     requires { IsIn page.old text.old }
     ensures done { Carries (at_hand page.old text.old) (explicit_actions modes advance format.now (items_left items.entry)) result (at_hand page.new text.new) }
     ensures within { OnOk result (IsIn page.new text.new) }
     ensures kept { Keeps page.old text.old page.new text.new }
 {
-    let item = items.next();
     let mut writer = Writer {
         page: *page,
         modes,
-        item,
         items,
         field: Text::new(text.allocator()),
     };

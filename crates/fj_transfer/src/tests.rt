@@ -152,7 +152,7 @@ type Row = (
 );
 
 /// With ADVANCE='YES'.
-static ROWS: [Row; 27] = [
+static ROWS: [Row; 32] = [
     // Reversion, groups, the colon and slashes.
     (
         "(I3,2(1X,I2))",
@@ -229,6 +229,18 @@ static ROWS: [Row; 27] = [
     ("(2X,'a')", &[], 2, 5, Ok(b"  a\n")),
     ("(2X,'a')", &[], 3, 5, Err(15)),
     ("(I2/I5)", &[I4(1), I4(2)], 3, 5, Ok(b" 1\n    2\n")),
+    // Integers in a row: asterisks, a position that is not at the end, and a row that the record has no room for.
+    (
+        "(4I3)",
+        &[I4(1), I4(-22), I8(333), I4(4444)],
+        0,
+        12,
+        Ok(b"  1-22333***\n"),
+    ),
+    ("(I3,T1,2I2)", &[I4(1), I4(2), I4(3)], 0, 80, Ok(b" 2 3\n")),
+    ("(4I3)", &[I4(1), I4(2), I4(3), I4(4)], 0, 11, Err(15)),
+    ("(3I3)", &[I4(1), I4(2), A(b"x")], 0, 5, Err(15)),
+    ("(3I3)", &[I4(1), I4(2), A(b"x")], 0, 6, Err(12)),
     // Error 12: the descriptor is not for the item.
     ("(I3)", &[A(b"abc")], 0, 80, Err(12)),
     ("(A2,I9)", &[A(b"a"), A(b"b")], 0, 1, Err(15)),

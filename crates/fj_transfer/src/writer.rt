@@ -6,7 +6,7 @@ ghost use Rattle.fj_line.specs.Actions.{move, behind};
 ghost use Rattle.fj_control.specs.Steps.{Given, gives, no_data};
 ghost use Rattle.fj_control.specs.Walk.{given, due, items_behind};
 ghost use Rattle.fj_transfer.specs.Explicit.{item_put, explicit_actions};
-ghost use Rattle.fj_transfer.specs.Writing.{items_of_writer, IsReady, actions_left, texts_left, CarriesFirst};
+ghost use Rattle.fj_transfer.specs.Writing.{items_of_writer, actions_left, texts_left, CarriesFirst};
 
 use fj_control::{Cursor, Move, Step, modes_behind};
 use fj_edit_out::field;
@@ -20,9 +20,6 @@ use fj_value::{Condition, Edit, EditModes, Text};
 pub struct Writer<'a> {
     pub page: Page,
     pub modes: EditModes,
-    /// The next item.
-    pub item: Option<Item<'a>>,
-    /// The items behind it.
     pub items: OutputItems<'a>,
     /// A field that is written over others.
     pub field: Text,
@@ -73,18 +70,16 @@ fn put_field(
 
 impl<'a> Writer<'a> {
     /// Writes the next item's field.
-    fn put_item(&mut self, text: &mut Text, edit: Edit) -> Result<(), Unwritten>
-        requires within { IsIn self.old.page text.old }
-        requires ready { IsReady self.old }
+    pub fn put_item(&mut self, text: &mut Text, edit: Edit) -> Result<(), Unwritten>
+        requires { IsIn self.old.page text.old }
         ensures done { (more : List Given) → CarriesFirst (at_hand self.old.page text.old)
             (actions_left self.old (gives (elementary.edit edit) ∷ more)) result (at_hand self.new.page text.new) (actions_left self.new more) }
         ensures texts { (more : List Given) → OnOk result (texts_left text.old self.old (gives (elementary.edit edit) ∷ more) ≡ texts_left text.new self.new more) }
         ensures left { OnOk result (length (items_of_writer self.new) ≡ items_behind (gives (elementary.edit edit)) (length (items_of_writer self.old))) }
         ensures within { OnOk result (IsIn self.new.page text.new) }
-        ensures ready { OnOk result (IsReady self.new) }
         ensures kept { Keeps self.old.page text.old self.new.page text.new }
     {
-        let Some(item) = self.item else {
+        let Some(item) = self.items.next() else {
             return Ok(());
         };
         put_field(
@@ -94,14 +89,12 @@ impl<'a> Writer<'a> {
             item,
             self.modes,
             &mut self.field,
-        )?;
-        self.item = self.items.next();
-        Ok(())
+        )
     }
 
     /// Moves the position.
     fn go(&mut self, text: &Text, how: Move) -> Result<(), Unwritten>
-        requires within { IsIn self.old.page text.now }
+        requires { IsIn self.old.page text.now }
         ensures page { (at_hand self.new.page text.now ≡ behind (move how) (at_hand self.old.page text.now)) × (self.new ≡ record self.old { page = self.new.page }) }
         ensures ok { result ≡ Ok tt }
         ensures within { IsIn self.new.page text.now }
@@ -113,8 +106,7 @@ impl<'a> Writer<'a> {
 
     /// Carries out a step of format control.
     pub fn carry_out(&mut self, text: &mut Text, step: Step) -> Result<(), Unwritten>
-        requires within { IsIn self.old.page text.old }
-        requires ready { IsReady self.old }
+        requires { IsIn self.old.page text.old }
         ensures done { (more : List Given) → CarriesFirst (at_hand self.old.page text.old)
             (actions_left self.old (given step.entry ∷ more)) result (at_hand self.new.page text.new) (actions_left self.new more) }
         ensures texts { given step.entry ≢ gives elementary.slash → (more : List Given) → OnOk result
@@ -124,7 +116,6 @@ impl<'a> Writer<'a> {
         ensures left { OnOk result (length (items_of_writer self.new) ≡ items_behind (given step.entry) (length (items_of_writer self.old))) }
         ensures some { OnOk result (given step.entry ≢ no_data) }
         ensures within { OnOk result (IsIn self.new.page text.new) }
-        ensures ready { OnOk result (IsReady self.new) }
         ensures kept { Keeps self.old.page text.old self.new.page text.new }
     {
         match step {
@@ -145,15 +136,15 @@ impl<'a> Writer<'a> {
 
     /// Carries out all steps of format control.
     pub fn write_steps(&mut self, text: &mut Text, mut cursor: Cursor) -> Result<(), Unwritten>
-        requires within { IsIn self.old.page text.old }
-        requires ready { IsReady self.old }
+        requires { IsIn self.old.page text.old }
         ensures done { Carries (at_hand self.old.page text.old)
             (actions_left self.old (due cursor.entry (length (items_of_writer self.old)))) result (at_hand self.new.page text.new) }
         ensures within { OnOk result (IsIn self.new.page text.new) }
         ensures kept { Keeps self.old.page text.old self.new.page text.new }
     {
         loop {
-            match cursor.next(self.item.is_some()) {
+            self.write_run(text, &mut cursor)?;
+            match cursor.next(self.items.is_some_left()) {
                 Step::Done => return Ok(()),
                 step => self.carry_out(text, step)?,
             }
@@ -167,8 +158,7 @@ impl<'a> Writer<'a> {
         format: &Format,
         advance: bool,
     ) -> Result<(), Unwritten>
-        requires within { IsIn self.old.page text.old }
-        requires ready { IsReady self.old }
+        requires { IsIn self.old.page text.old }
         ensures done { Carries (at_hand self.old.page text.old)
             (explicit_actions self.old.modes advance format.now (items_of_writer self.old)) result (at_hand self.new.page text.new) }
         ensures within { OnOk result (IsIn self.new.page text.new) }

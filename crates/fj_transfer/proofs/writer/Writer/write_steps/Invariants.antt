@@ -2,17 +2,16 @@ use Rattle.std.proofs.Common.{◌≡◌, length}
 use Rattle.fj_line.specs.Actions.{carried_out}
 use Rattle.fj_line.specs.Page.{at_hand, IsIn, Keeps}
 use Rattle.fj_control.specs.Walk.{due}
-use Rattle.fj_transfer.specs.Writing.{items_of_writer, IsReady, actions_left}
+use Rattle.fj_transfer.specs.Writing.{items_of_writer, actions_left}
 use Rattle.fj_transfer.proofs.writer.Writer.write_steps.Given as goal
 
-abbrev pub invariant-loop-step : goal.invariant-loop-step
-invariant-loop-step l = record {
+abbrev pub invariant-loop-cursor : goal.invariant-loop-cursor
+invariant-loop-cursor l = record {
   within : IsIn l.self.page l.text;
-  ready : IsReady l.self;
   kept : Keeps l.initial.self.page l.initial.text l.self.page l.text;
   same : carried_out (at_hand l.initial.self.page l.initial.text) (actions_left l.initial.self (due l.initial.cursor (length (items_of_writer l.initial.self))))
       ≡ carried_out (at_hand l.self.page l.text) (actions_left l.self (due l.cursor (length (items_of_writer l.self))));
 }
 
-abbrev pub decreases-loop-step : goal.decreases-loop-step
-decreases-loop-step l = length (due l.cursor (length (items_of_writer l.self)))
+abbrev pub decreases-loop-cursor : goal.decreases-loop-cursor
+decreases-loop-cursor l = length (due l.cursor (length (items_of_writer l.self)))
