@@ -21,14 +21,14 @@ nothing = IsRefused.endless empty (lit≤ tt) refl refl
 pub no_statements : IsRefused (33 ∷ 120 ∷ 10 ∷ 32 ∷ 10 ∷ []) 3 NoEnd
 no_statements =
     IsRefused.endless empty (lit≤ tt)
-    (empty, LineIs.blank (lit≤ tt) (AreTokens.comment (120 ∷ [])), (empty, LineIs.blank (lit≤ tt) (AreTokens.blank refl AreTokens.none), refl)) refl
+    (empty, LineIs.blank (lit≤ tt) (AreTokens.end (33 ∷ 120 ∷ []) refl), (empty, LineIs.blank (lit≤ tt) (AreTokens.end (32 ∷ []) refl), refl)) refl
 
 -- `end`
 is_end : IsStatement (codes "end") written.End
 unfolding written_of keyword_of begun_by end_from
 is_end = (
   token.Word (codes "END") ∷ [],
-  AreTokens.token (codes "end") [] (record { letter = refl; run = record { all = search rules; some = lit< tt; short = lit≤ tt; ends = refl }; upper = refl }) AreTokens.none,
+  AreTokens.token (codes "end") (codes "end") [] refl (record { letter = refl; run = record { all = search rules; some = lit< tt; short = lit≤ tt; ends = refl }; upper = refl }) (AreTokens.end [] refl),
   refl,
 )
 
@@ -48,7 +48,7 @@ an_end = record {
 -- a comment, and a line of 1,001 blanks, which is the first that is refused, whatever is behind it
 pub a_long_line : IsRefused (33 ∷ 10 ∷ (replicate 1001 32 ++ 10 ∷ 63 ∷ [])) 2 LineTooLong
 a_long_line =
-    IsRefused.bad ((33 ∷ []) ∷ []) (replicate 1001 32) ((63 ∷ []) ∷ []) (lit≤ tt) refl (empty, LineIs.blank (lit≤ tt) (AreTokens.comment []), refl) (LineIs.long (lit< tt))
+    IsRefused.bad ((33 ∷ []) ∷ []) (replicate 1001 32) ((63 ∷ []) ∷ []) (lit≤ tt) refl (empty, LineIs.blank (lit≤ tt) (AreTokens.end (33 ∷ []) refl), refl) (LineIs.long (lit< tt))
 
 -- END behind END, and NAMELIST behind a statement and before it
 pub an_end_behind_end : is_misplaced (with_statement empty 1 End) written.End ≡ true

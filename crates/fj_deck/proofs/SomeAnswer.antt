@@ -1,7 +1,6 @@
 -- Each text is a deck or is refused: what each layer answers, found by its definitions.
-use Rattle.std.proofs.Common.{◌≡◌, ◌≢◌, ℕ, zero, suc, ◌+◌, ◌≤◌, true, false, List, [], ◌∷◌, ◌++◌, length, take, drop, get_or, Ok, Err, Option, Some, None, ◌⊎◌, inl, inr, refl, sym, ap, subst, arith}
+use Rattle.std.proofs.Common.{◌≡◌, ◌≢◌, ℕ, zero, suc, ◌+◌, ◌≤◌, true, false, List, [], ◌∷◌, ◌++◌, length, take, get_or, Ok, Err, Option, Some, None, ◌⊎◌, inl, inr, refl, sym, ap, subst, arith}
 use Rattle.std.specs.Prelude.{IsSome, nat_lt}
-use Rattle.std.specs.List.{prefix_len}
 use Rattle.std.specs.Str.Lines.{lines}
 use Rattle.std.proofs.Math.Dec.{eqb-suc-zero}
 use Rattle.std.proofs.lemmas.Bool.{ltb-true, ltb-false}
@@ -19,17 +18,14 @@ use Rattle.fj_statement.specs.declared.deck.Deck.{Deck}
 use Rattle.fj_statement.specs.declared.reason.Reason.{Reason}
 use Rattle.fj_statement.specs.declared.reason.Reason.TheVariants as reasons
 use Rattle.fj_statement.specs.declared.statement.Statement.{Statement}
-use Rattle.fj_syntax.specs.Class.{is_of}
-use Rattle.fj_syntax.specs.declared.class.Class.TheVariants.{Blank}
 use Rattle.fj_syntax.specs.declared.token.Token.{Token}
 use Rattle.fj_syntax.specs.declared.written.Written.{Written}
 use Rattle.fj_syntax.specs.declared.written.Written.TheVariants as written
-use Rattle.fj_syntax.specs.FirstToken.{first_token}
 use Rattle.fj_syntax.specs.Parsing.{IsBlankLine, IsNoStatement, IsStatement}
 use Rattle.fj_syntax.specs.Statement.{written_of}
-use Rattle.fj_syntax.specs.Tokens.{HasNoTokens, HasTokens, ends_line}
+use Rattle.fj_syntax.specs.Tokens.{HasTokens}
 use Rattle.fj_syntax.proofs.ParseLemmas.{statement_none, tokens_none}
-use Rattle.fj_syntax.proofs.ScanLemmas.{Scans, no_blank, rest_shorter, scans_blanks, scans_done, scans_first, scans_refused, scans_token}
+use Rattle.fj_syntax.proofs.ScanLemmas.{token_answer}
 use Rattle.std.proofs.lemmas.Bool.{cases_Bool}
 use Rattle.fj_meaning.specs.Declaring.{Declares, Groups, is_within, with_declaration, with_group}
 use Rattle.fj_meaning.specs.Meaning.{HasMeaning, IsFormatOf, Means, format_text, is_within_limits, meaning}
@@ -70,36 +66,6 @@ format_from (suc left) text i s all st = elim (is_done s.reader.place) [
 
 format_answer : (text : List ℕ) → FormatAnswer text
 format_answer text = format_from (length text) text 0 first (omega arith) stands_first
-
--- ---- tokens
-
-abbrev TokenAnswer : List ℕ → Type 0
-TokenAnswer line = ((tokens : List Token) × HasTokens line tokens) ⊎ HasNoTokens line
-
-abbrev behind_blanks : List ℕ → List ℕ
-behind_blanks rest = drop (prefix_len (is_of Blank) rest) rest
-
-tokens_by : (line rest : List ℕ) (found : List Token) → Scans line rest found
-    → ((t : Token) (behind : List ℕ) → first_token (behind_blanks rest) ≡ Some (t, behind) → TokenAnswer line) → TokenAnswer line
-tokens_by line rest found s more =
-    let here : Scans line (behind_blanks rest) found = scans_blanks line rest found s in
-    elim (cases_Bool (ends_line (behind_blanks rest))) [
-      | inl e ↦ inl (found, scans_done line (behind_blanks rest) found here e)
-      | inr e ↦ elim (none_or (first_token (behind_blanks rest))) [
-        | inl n ↦ inr (scans_refused line (behind_blanks rest) found here e (no_blank rest (behind_blanks rest) refl) n)
-        | inr n ↦ more n.0.0 n.0.1 n.1
-      ]
-    ]
-
-tokens_from : (left : ℕ) (line rest : List ℕ) (found : List Token) → length rest ≤ left → Scans line rest found → TokenAnswer line
-tokens_from zero line rest found most s =
-    tokens_by line rest found s (λ t behind e. absurd (omega (arith, rest_shorter rest (behind_blanks rest) behind t refl e)))
-tokens_from (suc left) line rest found most s =
-    tokens_by line rest found s (λ t behind e. tokens_from left line behind (found ++ t ∷ []) (omega (arith, rest_shorter rest (behind_blanks rest) behind t refl e))
-    (scans_token line (behind_blanks rest) behind t found (scans_blanks line rest found s) e))
-
-token_answer : (line : List ℕ) → TokenAnswer line
-token_answer line = tokens_from (length line) line line [] (omega arith) (scans_first line)
 
 -- ---- statements as they are written
 

@@ -1,4 +1,3 @@
-pub mod ClassLemmas
 pub mod DigitLemmas
 pub mod FirstTokenLemmas
 pub mod KnownLemmas

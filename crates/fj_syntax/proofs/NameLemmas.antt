@@ -25,7 +25,7 @@ use Rattle.fj_syntax.specs.Parsing.{IsWord, NamesAreWords, names_given}
 use Rattle.fj_syntax.specs.Parts.{Tokens, cut, designator_of, is_from_to, is_mark, is_name, list_of, name_of, named, operand_of, parted}
 use Rattle.fj_syntax.specs.Reading.{◌>>=◌, each}
 use Rattle.fj_syntax.specs.Statement.{assignment_of, begun, begun_by, behind_colons, character_kind, declaration_of, end_from, group_of, integer_kind, items_of, motion_from, number_in, transfer_from, value_of, written_of}
-use Rattle.fj_syntax.specs.Tokens.{AreTokens, IsWritten, none, comment, blank, token as first}
+use Rattle.fj_syntax.specs.Tokens.{AreTokens, IsWritten, end, token as first}
 use Rattle.fj_syntax.specs.Words.{keyword_of}
 use Rattle.fj_syntax.proofs.TokenLemmas.{bound, passed, some_is}
 
@@ -47,10 +47,8 @@ written_is (Truth truth) bytes line is = tt
 written_is (Mark m) bytes line is = tt
 
 are_of_line : (line : List ℕ) (ts : Tokens) → AreTokens line ts → AreOfLine ts
-are_of_line _ _ none = All-nil IsOfLine
-are_of_line _ _ (comment text) = All-nil IsOfLine
-are_of_line _ _ (blank {line = line} {tokens = ts} is more) = are_of_line line ts more
-are_of_line _ _ (first bytes line {first = t} {tokens = ts} is more) = All-cons IsOfLine t ts (written_is t bytes line is) (are_of_line line ts more)
+are_of_line _ _ (end line is) = All-nil IsOfLine
+are_of_line _ _ (first line bytes rest {first = t} {tokens = ts} e is more) = All-cons IsOfLine t ts (written_is t bytes rest is) (are_of_line rest ts more)
 
 parts_are : (ts : Tokens) → AreOfLine ts → All AreOfLine (cut ts)
 parts_are [] all = All-cons AreOfLine [] [] (All-nil IsOfLine) (All-nil AreOfLine)

@@ -1,5 +1,5 @@
 -- The token that is read first is the one that is written first: words, numbers and literals.
-use Rattle.std.proofs.Common.{◌≡◌, ℕ, ◌<◌, ◌≤◌, Bool, true, false, cond, List, [], ◌∷◌, ◌++◌, length, take, drop, map, Option, Some, None, eqb, ltb, ◌||◌, refl, sym, ap, ◌∙◌, subst, inl, inr, arith, add_comm, add-one, append_assoc}
+use Rattle.std.proofs.Common.{get_or, ◌≡◌, ℕ, ◌<◌, ◌≤◌, Bool, true, false, cond, List, [], ◌∷◌, ◌++◌, length, take, drop, map, Option, Some, None, eqb, ltb, ◌||◌, refl, sym, ap, ◌∙◌, subst, inl, inr, arith, add_comm, add-one, append_assoc}
 use Rattle.std.specs.Prelude.{option_map}
 use Rattle.std.specs.List.{AllPass, prefix_len}
 use Rattle.std.specs.Char.{is_ascii_alphabetic, to_ascii_uppercase}
@@ -10,6 +10,8 @@ use Rattle.std.proofs.lemmas.Bool.Decides.{nat_tests}
 use Rattle.std.proofs.lemmas.List.{take-append-drop}
 use Rattle.std.proofs.lemmas.List.Elements.{All-cons, All-head, All-nil, All-tail}
 use Rattle.std.proofs.lemmas.List.Folds.{length-prefix_len}
+use Rattle.std.proofs.lemmas.List.{get_or-take}
+use Rattle.std.proofs.lemmas.List.Sums.{prefix_len_passes}
 use Rattle.fj_syntax.specs.Class.{is_of}
 use Rattle.fj_syntax.specs.declared.class.Class.TheVariants.{InWord, InLiteral, Digit}
 use Rattle.fj_syntax.specs.declared.token.Token.{Token}
@@ -18,7 +20,6 @@ use Rattle.fj_syntax.specs.declared.token.Sign.{Sign}
 use Rattle.fj_syntax.specs.FirstToken.{run_at, word_at, number_at, closed_by, behind_delimiter, literal_at}
 use Rattle.fj_syntax.specs.Reading.{◌>>=◌}
 use Rattle.fj_syntax.specs.Tokens.{begins, doubled, IsDelimiter, IsRun, IsWritten, sign_bytes}
-use Rattle.fj_syntax.proofs.ClassLemmas.{front_passes}
 
 -- ---- choices
 
@@ -53,6 +54,15 @@ StandsFirst line x = (bytes : List ℕ) × (line ≡ bytes ++ x.1) × IsWritten 
 
 -- ---- the longest front
 
+pub front_passes : (p : ℕ → Bool) (xs : List ℕ) → AllPass p (take (prefix_len p xs) xs)
+front_passes p xs k d below =
+    let within : k < prefix_len p xs = subst (λ n. k < n) (length-prefix_len p xs) below in
+    let passes : p (get_or xs k d) ≡ true = prefix_len_passes p xs k d within in
+    subst (λ c. p c ≡ true) (sym (get_or-take (prefix_len p xs) xs k d within)) passes
+
+pub part_passes : (p : ℕ → Bool) (xs front : List ℕ) (n : ℕ) → n ≡ prefix_len p xs → front ≡ take n xs → AllPass p front
+part_passes p xs front n e f = subst (AllPass p) (sym (f ∙ subst (λ k. take n xs ≡ take k xs) e refl)) (front_passes p xs)
+
 run_is : (p : ℕ → Bool) (front line : List ℕ) → AllPass p front → begins p line ≡ false → prefix_len p (front ++ line) ≡ length front
 run_is p [] [] all ends = refl
 run_is p [] (c ∷ line) all ends = cond-false (p c) _ _ ends
@@ -61,7 +71,7 @@ run_is p (c ∷ front) line all ends =
     cond-true (p c) _ _ (All-head (λ b. p b ≡ true) c front all) ∙ omega (arith, more)
 
 -- what stands behind the longest front doesn't pass
-pub run_ends : (p : ℕ → Bool) (line : List ℕ) → begins p (drop (prefix_len p line) line) ≡ false
+run_ends : (p : ℕ → Bool) (line : List ℕ) → begins p (drop (prefix_len p line) line) ≡ false
 run_ends p [] = refl
 run_ends p (c ∷ line) = elim (cases_Bool (p c)) [
   | inl e ↦ rw (e, add_comm 1 (prefix_len p line), add-one) (run_ends p line)

@@ -19,7 +19,7 @@ use Rattle.fj_syntax.specs.declared.written.Asking.{Asking}
 use Rattle.fj_syntax.specs.declared.written.Inquire.{Inquire}
 use Rattle.fj_syntax.specs.declared.written.Transfer.{Transfer}
 use Rattle.fj_syntax.specs.Arguments.{given_for, is_known, are_known, known_call_of, whole_call_of}
-use Rattle.fj_syntax.specs.Given.{place_given, place_at, integer_at, mode_at, file_given, file_at, unit_given, unit_at, format_at, group_at, recl_at}
+use Rattle.fj_syntax.specs.Given.{given_at, place_given, integer_given, mode_at, file_given, unit_given, unit_at, format_given, group_given, recl_given}
 use Rattle.fj_syntax.specs.Parts.{Tokens}
 use Rattle.fj_syntax.specs.Reading.{◌>>=◌}
 
@@ -85,11 +85,11 @@ unfoldable pub open_of : Tokens → Option Open
 open_of ts = do
   args ← known_call_of of_open ts
   unit ← unit_at false args
-  file ← file_at args
+  file ← given_at file_given specifier.File args
   status ← mode_at status_words specifier.Status args
   access ← mode_at access_words specifier.Access args
   formatted ← mode_at form_words specifier.Form args
-  recl ← recl_at args
+  recl ← given_at recl_given specifier.Recl args
   position ← mode_at position_words specifier.Position args
   action ← mode_at action_words specifier.Action args
   blank_zero ← mode_at blank_words specifier.Blank args
@@ -98,7 +98,7 @@ open_of ts = do
   comma ← mode_at decimal_words specifier.Decimal args
   plus ← mode_at sign_words specifier.Sign args
   asynchronous ← mode_at answer_words specifier.Asynchronous args
-  iostat ← place_at specifier.Iostat args
+  iostat ← given_at place_given specifier.Iostat args
   Some (record {
     unit = unit;
     spec = record {
@@ -124,22 +124,22 @@ close_of ts = do
   args ← known_call_of of_close ts
   unit ← unit_at false args
   keep ← mode_at disposition_words specifier.Status args
-  iostat ← place_at specifier.Iostat args
+  iostat ← given_at place_given specifier.Iostat args
   Some (record { unit = unit; keep = keep; iostat = iostat })
 
 unfoldable pub wait_of : Tokens → Option Wait
 wait_of ts = do
   args ← known_call_of of_wait ts
   unit ← unit_at false args
-  id ← integer_at specifier.Id args
-  iostat ← place_at specifier.Iostat args
+  id ← given_at integer_given specifier.Id args
+  iostat ← given_at place_given specifier.Iostat args
   Some (record { unit = unit; id = id; iostat = iostat })
 
 unfoldable pub move_of : Motion → Tokens → Option Move
 move_of how ts = do
   args ← known_call_of of_motions ts
   unit ← unit_at false args
-  iostat ← place_at specifier.Iostat args
+  iostat ← given_at place_given specifier.Iostat args
   Some (record { how = how; unit = unit; iostat = iostat })
 
 -- a question with the place for its answer; other specifiers of INQUIRE ask nothing
@@ -172,16 +172,16 @@ inquire_of ts = do
   args ← whole_call_of ts
   about ← subject_of args
   asked ← asked_of args
-  id ← integer_at specifier.Id args
-  iostat ← place_at specifier.Iostat args
+  id ← given_at integer_given specifier.Id args
+  iostat ← given_at place_given specifier.Iostat args
   Some (record { about = about; asked = asked; id = id; iostat = iostat })
 
 -- only WRITE takes an asterisk for its unit
 unfoldable pub transfer_of : Bool → List Argument → List Operand → Option Transfer
 transfer_of input args items = if are_known (of_transfer input) args then (do
   unit ← unit_at (not input) args
-  format ← format_at args
-  group ← group_at args
+  format ← given_at format_given specifier.Fmt args
+  group ← given_at group_given specifier.Nml args
   advance ← mode_at answer_words specifier.Advance args
   asynchronous ← mode_at answer_words specifier.Asynchronous args
   blank_zero ← mode_at blank_words specifier.Blank args
@@ -189,11 +189,11 @@ transfer_of input args items = if are_known (of_transfer input) args then (do
   delim ← mode_at delim_words specifier.Delim args
   pad ← mode_at answer_words specifier.Pad args
   plus ← mode_at sign_words specifier.Sign args
-  rec ← integer_at specifier.Rec args
-  pos ← integer_at specifier.Pos args
-  id ← place_at specifier.Id args
-  size ← place_at specifier.Size args
-  iostat ← place_at specifier.Iostat args
+  rec ← given_at integer_given specifier.Rec args
+  pos ← given_at integer_given specifier.Pos args
+  id ← given_at place_given specifier.Id args
+  size ← given_at place_given specifier.Size args
+  iostat ← given_at place_given specifier.Iostat args
   Some (record {
     input = input;
     unit = unit;

@@ -24,22 +24,20 @@ use Rattle.fj_syntax.specs.Reading.{◌>>=◌, optional}
 abbrev pub trimmed : List ℕ → List ℕ
 trimmed text = take (length text - suffix_len (λ c. c == 32) text) text
 
+-- what is given for a specifier has this form, where it stands
+unfoldable pub given_at : {A : Type 0} → (givens.Given → Option A) → Specifier → List Argument → Option (Option A)
+given_at form s args = optional form (given_for s args)
+
 -- IOSTAT=, SIZE= and others: a place
 abbrev pub place_given : givens.Given → Option Designator
 place_given (Given (Place d)) = Some d
 place_given g = None
-
-unfoldable pub place_at : Specifier → List Argument → Option (Option Designator)
-place_at s args = optional place_given (given_for s args)
 
 -- REC=, POS= and others: an integer literal or a place
 abbrev pub integer_given : givens.Given → Option Operand
 integer_given (Given (Number s n)) = Some (Number s n)
 integer_given (Given (Place d)) = Some (Place d)
 integer_given g = None
-
-unfoldable pub integer_at : Specifier → List Argument → Option (Option Operand)
-integer_at s args = optional integer_given (given_for s args)
 
 -- a literal of one of the words, blanks at its end ignored
 abbrev pub mode_given : {M : Type 0} → Table M → givens.Given → Option M
@@ -53,9 +51,6 @@ mode_at words s args = optional (mode_given words) (given_for s args)
 unfoldable pub file_given : givens.Given → Option (List ℕ)
 file_given (Given (Literal text)) = if is_file_name (trimmed text) then Some (trimmed text) else None
 file_given g = None
-
-unfoldable pub file_at : List Argument → Option (Option (List ℕ))
-file_at args = optional file_given (given_for specifier.File args)
 
 -- without a sign, 0 to 2147483647
 abbrev pub unit_number : ℕ → Option UnitRef
@@ -76,9 +71,6 @@ format_given Asterisk = Some format.Asterisk
 format_given (Given (Literal text)) = Some (format.Literal text)
 format_given g = None
 
-unfoldable pub format_at : List Argument → Option (Option Format)
-format_at args = optional format_given (given_for specifier.Fmt args)
-
 -- NML=: a name alone
 abbrev pub name_alone : List ℕ → Option ℕ → Option (List ℕ)
 name_alone name None = Some name
@@ -88,9 +80,6 @@ abbrev pub group_given : givens.Given → Option (List ℕ)
 group_given (Given (Place d)) = name_alone d.name d.number
 group_given g = None
 
-unfoldable pub group_at : List Argument → Option (Option (List ℕ))
-group_at args = optional group_given (given_for specifier.Nml args)
-
 -- RECL=: a literal of 0 to 2147483647, with a sign or without
 abbrev pub length_from : Sign → ℕ → Option ℕ
 length_from sign.Minus n = if n == 0 then Some 0 else None
@@ -99,6 +88,3 @@ length_from s n = if nat_le n 2147483647 then Some n else None
 abbrev pub recl_given : givens.Given → Option ℕ
 recl_given (Given (Number s n)) = length_from s n
 recl_given g = None
-
-unfoldable pub recl_at : List Argument → Option (Option ℕ)
-recl_at args = optional recl_given (given_for specifier.Recl args)

@@ -1,5 +1,4 @@
 pub mod Arguments
-pub mod CallWords
 pub mod Calls
 pub mod Class
 pub mod FirstToken

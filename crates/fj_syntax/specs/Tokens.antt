@@ -1,6 +1,6 @@
 -- The tokens of a line, by how each is written.
-use Rattle.std.specs.Prelude.{◌≡◌, ℕ, ◌<◌, ◌≤◌, Bool, true, false, ◌==◌, List, [], ◌∷◌, ◌++◌, length, map, if◌then◌else◌, codes, ◌⊎◌, Result, Ok, Err}
-use Rattle.std.specs.List.{AllPass}
+use Rattle.std.specs.Prelude.{◌≡◌, ℕ, ◌<◌, ◌≤◌, Bool, true, false, ◌==◌, List, [], ◌∷◌, ◌++◌, drop, length, map, if◌then◌else◌, codes, ◌⊎◌, Result, Ok, Err}
+use Rattle.std.specs.List.{AllPass, prefix_len}
 use Rattle.std.specs.Char.{is_ascii_alphabetic, to_ascii_uppercase}
 use Rattle.std.specs.Str.{str_to_ascii_lowercase}
 use Rattle.std.specs.Str.Parse.{digits_value}
@@ -88,12 +88,14 @@ abbrev pub ends_line : List ℕ → Bool
 ends_line [] = true
 ends_line (c ∷ line) = c == 33
 
--- the line is its tokens as they are written, with blanks between them, and a comment
+-- without the blanks at the front
+abbrev pub behind_blanks : List ℕ → List ℕ
+behind_blanks line = drop (prefix_len (is_of Blank) line) line
+
+-- the line is its tokens as they are written, with blanks before and between them, and a comment
 pub data AreTokens : List ℕ → List Token → Type 0 where
-  none : AreTokens [] []
-  comment : (text : List ℕ) → AreTokens (33 ∷ text) []
-  blank : {b : ℕ} {line : List ℕ} {tokens : List Token} → is_of Blank b ≡ true → AreTokens line tokens → AreTokens (b ∷ line) tokens
-  token : (bytes line : List ℕ) {first : Token} {tokens : List Token} → IsWritten first bytes line → AreTokens line tokens → AreTokens (bytes ++ line) (first ∷ tokens)
+  end : (line : List ℕ) → ends_line (behind_blanks line) ≡ true → AreTokens line []
+  token : (line bytes rest : List ℕ) {first : Token} {tokens : List Token} → behind_blanks line ≡ bytes ++ rest → IsWritten first bytes rest → AreTokens rest tokens → AreTokens line (first ∷ tokens)
 
 -- it has these tokens, and no others
 pub record HasTokens (line : List ℕ) (tokens : List Token) : Type 0 where

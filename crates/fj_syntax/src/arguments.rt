@@ -6,10 +6,11 @@ ghost use Rattle.fj_syntax.specs.declared.words.Specifier.TheVariants as specifi
 ghost use Rattle.fj_syntax.specs.Arguments.{given_of, argument_for, argument_of, is_keyed, behind_bare, next_bare, arguments_of, is_given, are_once, depth_behind, closing, call_of, whole_call_of, known_call_of, given_for, is_known, are_known};
 ghost use Rattle.fj_syntax.specs.Reading.{Gives};
 
-use crate::fault::SyntaxFault;
+use crate::fault::{SyntaxFault, some};
 use crate::operand::{Argument, Arguments, Given, Operand};
 use crate::parts::{Part, first_part, is_mark};
-use crate::token::{Mark, Token};
+use crate::token::Mark::{Asterisk, Equals, LeftParenthesis, RightParenthesis};
+use crate::token::Token;
 use crate::words::{Specifier, specifier_of};
 use fj_value::Items;
 use std::alloc::Global;
@@ -19,7 +20,7 @@ fn given(tokens: &[Token]) -> Result<Given, SyntaxFault>
     ensures { Gives (λ x. x) result (given_of tokens.now) }
 {
     match tokens {
-        [Token::Mark(Mark::Asterisk)] => Ok(Given::Asterisk),
+        [Token::Mark(Asterisk)] => Ok(Given::Asterisk),
         _ => Ok(Given::Operand(Operand::read(tokens)?)),
     }
 }
@@ -27,9 +28,7 @@ fn given(tokens: &[Token]) -> Result<Given, SyntaxFault>
 fn argument_for(specifier: Option<Specifier>, tokens: &[Token]) -> Result<Argument, SyntaxFault>
     ensures { Gives (λ x. x) result (argument_for specifier tokens.now) }
 {
-    let Some(specifier) = specifier else {
-        return Err(SyntaxFault::NotAStatement);
-    };
+    let specifier = some(specifier)?;
     let value = given(tokens)?;
     Ok(Argument { specifier, value })
 }
@@ -40,7 +39,7 @@ fn argument(bare: Option<Specifier>, tokens: &[Token]) -> Result<Argument, Synta
     ensures { Gives (λ x. x) result (argument_of bare tokens.now) }
 {
     match tokens {
-        [Token::Word(word), Token::Mark(Mark::Equals), value @ ..] => {
+        [Token::Word(word), Token::Mark(Equals), value @ ..] => {
             argument_for(specifier_of(word.bytes()), value)
         }
         _ => argument_for(bare, tokens),
@@ -50,7 +49,7 @@ fn argument(bare: Option<Specifier>, tokens: &[Token]) -> Result<Argument, Synta
 fn is_keyed(tokens: &[Token]) -> bool
     ensures { result ≡ is_keyed tokens.now }
 {
-    matches!(tokens, [Token::Word(_), Token::Mark(Mark::Equals), ..])
+    matches!(tokens, [Token::Word(_), Token::Mark(Equals), ..])
 }
 
 /// What a bare argument stands for behind this one.
@@ -112,9 +111,9 @@ fn depth_behind(depth: usize, token: &Token) -> usize
     requires { depth < usize.MAX }
     ensures { result ≡ depth_behind depth token.now }
 {
-    if is_mark(token, Mark::LeftParenthesis) {
+    if is_mark(token, LeftParenthesis) {
         depth + 1
-    } else if is_mark(token, Mark::RightParenthesis) {
+    } else if is_mark(token, RightParenthesis) {
         depth.saturating_sub(1)
     } else {
         depth
@@ -128,7 +127,7 @@ fn closing(tokens: &[Token]) -> Option<usize>
 {
     let mut depth = 0;
     for (at, token) in tokens.iter().enumerate() {
-        if depth == 0 && is_mark(token, Mark::RightParenthesis) {
+        if depth == 0 && is_mark(token, RightParenthesis) {
             return Some(at);
         }
         depth = depth_behind(depth, token);
@@ -141,12 +140,10 @@ fn closing(tokens: &[Token]) -> Option<usize>
 pub fn call(alloc: Global, tokens: &[Token]) -> Result<(Arguments, &[Token]), SyntaxFault>
     ensures { Gives (λ x. (x.0, x.1.now)) result (call_of tokens.now) }
 {
-    let [Token::Mark(Mark::LeftParenthesis), inside @ ..] = tokens else {
+    let [Token::Mark(LeftParenthesis), inside @ ..] = tokens else {
         return Err(SyntaxFault::NotAStatement);
     };
-    let Some(end) = closing(inside) else {
-        return Err(SyntaxFault::NotAStatement);
-    };
+    let end = some(closing(inside))?;
     let arguments = arguments(alloc, &inside[..end])?;
     if !are_once(arguments.as_slice()) {
         return Err(SyntaxFault::NotAStatement);

@@ -2,7 +2,7 @@
 ghost use Rattle.std.specs.Prelude.{◌≡◌, ◌++◌, [], ◌∷◌, Bool, true, false, List};
 ghost use Rattle.fj_syntax.specs.Calls.{of_transfer, open_of, close_of, wait_of, move_of, question_of, asking_of, asked_of, subject_of, inquire_of, transfer_of};
 ghost use Rattle.fj_syntax.specs.Arguments.{are_known};
-ghost use Rattle.fj_syntax.specs.CallWords.{as_list};
+ghost use Rattle.std.specs.Option.{option_to_list};
 ghost use Rattle.fj_syntax.specs.Reading.{Gives};
 
 use crate::arguments::{are_known, given_for, is_known, known_call, whole_call};
@@ -180,19 +180,14 @@ fn question_of(specifier: Specifier) -> Option<Question>
 /// The question of an argument, if it asks one.
 #[tactic(auto, unfolding(crate::specs::Calls::asking_of))]
 fn asking_of(argument: &Argument) -> Result<Option<Asking>, SyntaxFault>
-    ensures { Gives as_list result (asking_of argument.now) }
+    ensures { Gives option_to_list result (asking_of argument.now) }
 {
-    let Some(what) = question_of(argument.specifier) else {
-        if is_known(&OF_INQUIRE, argument.specifier) {
-            return Ok(None);
-        }
-        return Err(SyntaxFault::NotAStatement);
-    };
-    match &argument.value {
-        Given::Operand(Operand::Place(place)) => Ok(Some(Asking {
+    match (question_of(argument.specifier), &argument.value) {
+        (Some(what), Given::Operand(Operand::Place(place))) => Ok(Some(Asking {
             what,
             place: place.try_clone()?,
         })),
+        (None, _) if is_known(&OF_INQUIRE, argument.specifier) => Ok(None),
         _ => Err(SyntaxFault::NotAStatement),
     }
 }
@@ -215,15 +210,13 @@ fn asked_of(alloc: Global, arguments: &[Argument]) -> Result<Items<Asking>, Synt
 fn subject(alloc: Global, arguments: &[Argument]) -> Result<Subject, SyntaxFault>
     ensures { Gives (λ x. x) result (subject_of arguments.now) }
 {
-    match given_for(arguments, Specifier::Unit) {
-        Some(unit) => match given_for(arguments, Specifier::File) {
-            Some(_) => Err(SyntaxFault::NotAStatement),
-            None => Ok(Subject::Unit(unit_given(false, unit)?)),
-        },
-        None => match given_for(arguments, Specifier::File) {
-            Some(file) => Ok(Subject::File(file_given(alloc, file)?)),
-            None => Err(SyntaxFault::NotAStatement),
-        },
+    match (
+        given_for(arguments, Specifier::Unit),
+        given_for(arguments, Specifier::File),
+    ) {
+        (Some(unit), None) => Ok(Subject::Unit(unit_given(false, unit)?)),
+        (None, Some(file)) => Ok(Subject::File(file_given(alloc, file)?)),
+        _ => Err(SyntaxFault::NotAStatement),
     }
 }
 

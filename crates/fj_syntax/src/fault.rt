@@ -1,5 +1,6 @@
 // Why a line is no statement.
 ghost use Rattle.std.specs.Prelude.{◌≡◌};
+ghost use Rattle.fj_syntax.specs.Reading.{Gives};
 
 use std::alloc::{AllocError, AllocFailed};
 
@@ -8,6 +9,13 @@ pub enum SyntaxFault {
     Memory(AllocError),
     /// The line is not in the grammar.
     NotAStatement,
+}
+
+/// What is there; the line is no statement where nothing is.
+pub fn some<T: Drop>(there: Option<T>) -> Result<T, SyntaxFault>
+    ensures { Gives (λ x. x) result there }
+{
+    there.ok_or(SyntaxFault::NotAStatement)
 }
 
 impl From<AllocError> for SyntaxFault {

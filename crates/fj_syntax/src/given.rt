@@ -1,11 +1,12 @@
 // What is given for a specifier, by its form.
 ghost use Rattle.std.specs.Prelude.{◌≡◌, ◌≤◌, ◌==◌, IfOk, length};
 ghost use Rattle.std.specs.List.{suffix_len};
-ghost use Rattle.fj_syntax.specs.Given.{trimmed, place_at, integer_at, mode_at, file_given, file_at, unit_number, unit_given, unit_at, format_at, group_at, recl_at};
+ghost use Rattle.fj_syntax.specs.Given.{trimmed, given_at, place_given, integer_given, mode_at, file_given, unit_number, unit_given, unit_at, format_given, group_given, recl_given};
+ghost use Rattle.fj_syntax.specs.declared.words.Specifier.TheVariants as specifier;
 ghost use Rattle.fj_syntax.specs.Reading.{Gives};
 
 use crate::arguments::given_for;
-use crate::fault::SyntaxFault;
+use crate::fault::{SyntaxFault, some};
 use crate::operand::{Argument, Designator, Given, Operand};
 use crate::token::Sign;
 use crate::words::Specifier;
@@ -43,12 +44,12 @@ fn trimmed(text: &[u8]) -> &[u8]
 }
 
 /// The place for a specifier.
-#[tactic(auto, unfolding(crate::specs::Given::place_at))]
+#[tactic(auto, unfolding(crate::specs::Given::given_at))]
 pub fn place(
     arguments: &[Argument],
     specifier: Specifier,
 ) -> Result<Option<Designator>, SyntaxFault>
-    ensures { Gives (λ x. x) result (place_at specifier arguments.now) }
+    ensures { Gives (λ x. x) result (given_at place_given specifier arguments.now) }
 {
     match given_for(arguments, specifier) {
         None => Ok(None),
@@ -58,9 +59,9 @@ pub fn place(
 }
 
 /// The integer literal or place for a specifier.
-#[tactic(auto, unfolding(crate::specs::Given::integer_at))]
+#[tactic(auto, unfolding(crate::specs::Given::given_at))]
 pub fn integer(arguments: &[Argument], specifier: Specifier) -> Result<Option<Operand>, SyntaxFault>
-    ensures { Gives (λ x. x) result (integer_at specifier arguments.now) }
+    ensures { Gives (λ x. x) result (given_at integer_given specifier arguments.now) }
 {
     match given_for(arguments, specifier) {
         None => Ok(None),
@@ -83,10 +84,9 @@ pub fn mode<W: WordKind>(
 {
     match given_for(arguments, specifier) {
         None => Ok(None),
-        Some(Given::Operand(Operand::Literal(text))) => match W::mode_of(trimmed(text.bytes())) {
-            Some(mode) => Ok(Some(mode)),
-            None => Err(SyntaxFault::NotAStatement),
-        },
+        Some(Given::Operand(Operand::Literal(text))) => {
+            Ok(Some(some(W::mode_of(trimmed(text.bytes())))?))
+        }
         Some(_) => Err(SyntaxFault::NotAStatement),
     }
 }
@@ -107,9 +107,9 @@ pub fn file_given(alloc: Global, given: &Given) -> Result<FileName, SyntaxFault>
 }
 
 /// FILE=.
-#[tactic(auto, unfolding(crate::specs::Given::file_at))]
+#[tactic(auto, unfolding(crate::specs::Given::given_at))]
 pub fn file(alloc: Global, arguments: &[Argument]) -> Result<Option<FileName>, SyntaxFault>
-    ensures { Gives (λ x. x) result (file_at arguments.now) }
+    ensures { Gives (λ x. x) result (given_at file_given specifier.File arguments.now) }
 {
     match given_for(arguments, Specifier::File) {
         None => Ok(None),
@@ -148,16 +148,13 @@ pub fn unit_given(star: bool, given: &Given) -> Result<UnitRef, SyntaxFault>
 pub fn unit(star: bool, arguments: &[Argument]) -> Result<UnitRef, SyntaxFault>
     ensures { Gives (λ x. x) result (unit_at star arguments.now) }
 {
-    match given_for(arguments, Specifier::Unit) {
-        Some(given) => unit_given(star, given),
-        None => Err(SyntaxFault::NotAStatement),
-    }
+    unit_given(star, some(given_for(arguments, Specifier::Unit))?)
 }
 
 /// The format of a transfer.
-#[tactic(auto, unfolding(crate::specs::Given::format_at))]
+#[tactic(auto, unfolding(crate::specs::Given::given_at))]
 pub fn format(arguments: &[Argument]) -> Result<Option<Format>, SyntaxFault>
-    ensures { Gives (λ x. x) result (format_at arguments.now) }
+    ensures { Gives (λ x. x) result (given_at format_given specifier.Fmt arguments.now) }
 {
     match given_for(arguments, Specifier::Fmt) {
         None => Ok(None),
@@ -170,9 +167,9 @@ pub fn format(arguments: &[Argument]) -> Result<Option<Format>, SyntaxFault>
 }
 
 /// NML=.
-#[tactic(auto, unfolding(crate::specs::Given::group_at))]
+#[tactic(auto, unfolding(crate::specs::Given::given_at))]
 pub fn group(arguments: &[Argument]) -> Result<Option<Text>, SyntaxFault>
-    ensures { Gives (λ x. x) result (group_at arguments.now) }
+    ensures { Gives (λ x. x) result (given_at group_given specifier.Nml arguments.now) }
 {
     match given_for(arguments, Specifier::Nml) {
         None => Ok(None),
@@ -184,19 +181,14 @@ pub fn group(arguments: &[Argument]) -> Result<Option<Text>, SyntaxFault>
 }
 
 /// RECL=.
-#[tactic(auto, unfolding(crate::specs::Given::recl_at))]
+#[tactic(auto, unfolding(crate::specs::Given::given_at))]
 pub fn recl(arguments: &[Argument]) -> Result<Option<u32>, SyntaxFault>
-    ensures { Gives (λ x. x) result (recl_at arguments.now) }
+    ensures { Gives (λ x. x) result (given_at recl_given specifier.Recl arguments.now) }
 {
     match given_for(arguments, Specifier::Recl) {
         None => Ok(None),
-        Some(Given::Operand(Operand::Number { sign, amount })) => {
-            if *amount > MAX_UNIT {
-                return Err(SyntaxFault::NotAStatement);
-            }
-            if *sign == Sign::Minus && *amount != 0 {
-                return Err(SyntaxFault::NotAStatement);
-            }
+        Some(Given::Operand(Operand::Number { sign, amount }))
+            if *amount <= MAX_UNIT && (*sign != Sign::Minus || *amount == 0) => {
             Ok(Some(*amount as u32))
         }
         Some(_) => Err(SyntaxFault::NotAStatement),

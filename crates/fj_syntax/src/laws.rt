@@ -15,6 +15,7 @@ pub fn names_are_words()
 {}
 
 /// Each statement takes the arguments of its specifiers, and none of another's.
+#[tactic(auto, using(crate::proofs::KnownLemmas::taken))]
 pub fn arguments_are_taken()
     ensures { ArgumentsAreTaken }
 {}

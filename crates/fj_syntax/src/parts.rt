@@ -5,6 +5,7 @@ ghost use Rattle.fj_syntax.specs.Reading.{Gives};
 
 use crate::fault::SyntaxFault;
 use crate::operand::{Designator, Operand};
+use crate::token::Mark::{LeftParenthesis, RightParenthesis};
 use crate::token::{Mark, Sign, Token};
 use crate::words::keyword_of;
 use fj_value::{Items, Text};
@@ -79,18 +80,10 @@ impl Part for Designator {
             [Token::Word(word)] => named(word, None),
             [
                 Token::Word(word),
-                Token::Mark(Mark::LeftParenthesis),
-                Token::Number {
-                    sign: Sign::Unsigned,
-                    amount,
-                },
-                Token::Mark(Mark::RightParenthesis),
-            ] => {
-                if *amount < 1 || *amount > MAX_ELEMENTS {
-                    return Err(SyntaxFault::NotAStatement);
-                }
-                named(word, Some(*amount as u32))
-            }
+                Token::Mark(LeftParenthesis),
+                Token::Number(Sign::Unsigned, amount),
+                Token::Mark(RightParenthesis),
+            ] if *amount >= 1 && *amount <= MAX_ELEMENTS => named(word, Some(*amount as u32)),
             _ => Err(SyntaxFault::NotAStatement),
         }
     }
@@ -104,7 +97,7 @@ impl Part for Operand {
     #[tactic(auto, unfolding(crate::specs::Parts::operand_of))]
     fn read(tokens: &[Token]) -> Result<Operand, SyntaxFault> {
         match tokens {
-            [Token::Number { sign, amount }] => Ok(Operand::Number {
+            [Token::Number(sign, amount)] => Ok(Operand::Number {
                 sign: *sign,
                 amount: *amount,
             }),

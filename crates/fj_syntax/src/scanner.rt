@@ -1,8 +1,7 @@
 // A line as tokens.
 ghost use Rattle.std.specs.Prelude.{◌≡◌, ◌≤◌, ◌==◌, ◌||◌, Bool, length, take, map, IfOk, Ok, slice_index, option_map, drop};
 ghost use Rattle.fj_syntax.specs.Class.{is_of};
-ghost use Rattle.fj_syntax.specs.declared.class.Class.TheVariants as class;
-ghost use Rattle.fj_syntax.specs.Tokens.{ends_line, Scanned};
+ghost use Rattle.fj_syntax.specs.Tokens.{behind_blanks, ends_line, Scanned};
 ghost use Rattle.std.specs.Char.{is_ascii_digit, to_ascii_uppercase};
 ghost use Rattle.std.specs.List.{prefix_len, AllPass};
 ghost use Rattle.std.specs.Str.{bytes_eq, str_to_ascii_lowercase};
@@ -11,7 +10,7 @@ ghost use Rattle.fj_syntax.specs.FirstToken.{mark_of, first_token, run_at, word_
 ghost use Rattle.fj_syntax.specs.Reading.{Gives};
 
 use crate::class::{Class, is_of, run_len};
-use crate::fault::SyntaxFault;
+use crate::fault::{SyntaxFault, some};
 use crate::token::{Mark, Sign, Token};
 use fj_value::Text;
 use std::alloc::{AllocError, Global};
@@ -33,7 +32,7 @@ fn upper(alloc: Global, bytes: &[u8]) -> Result<Text, AllocError>
 }
 
 /// The longest front of a class, of one byte at least and so many at most, and the line behind it.
-#[tactic(auto, using(crate::proofs::ClassLemmas::part_passes))]
+#[tactic(auto, using(crate::proofs::TokenLemmas::part_passes))]
 fn run(class: Class, most: usize, line: &[u8]) -> Result<(&[u8], &[u8]), SyntaxFault>
     ensures run { Gives (λ x. (x.0.now, x.1.now)) result (run_at (is_of class) most (λ run. run) line.now) }
     ensures all { IfOk result (λ x. AllPass (is_of class) x.0.now) }
@@ -74,8 +73,7 @@ fn number(sign: Sign, line: &[u8]) -> Result<(Token, &[u8]), SyntaxFault>
     ensures { Gives (λ x. (x.0, x.1.now)) result (number_at sign line.now) }
 {
     let (front, behind) = run(Class::Digit, MAX_DIGITS, line)?;
-    let amount = amount(front);
-    Ok((Token::Number { sign, amount }, behind))
+    Ok((Token::Number(sign, amount(front)), behind))
 }
 
 /// The text up to the closing delimiter, and what stands behind that.
@@ -158,10 +156,7 @@ fn mark(line: &[u8]) -> Result<(Token, &[u8]), SyntaxFault>
 {
     match line {
         [b':', b':', behind @ ..] => Ok((Token::Mark(Mark::DoubleColon), behind)),
-        [byte, behind @ ..] => match mark_of(*byte) {
-            Some(mark) => Ok((Token::Mark(mark), behind)),
-            None => Err(SyntaxFault::NotAStatement),
-        },
+        [byte, behind @ ..] => Ok((Token::Mark(some(mark_of(*byte))?), behind)),
         [] => Err(SyntaxFault::NotAStatement),
     }
 }
@@ -191,7 +186,7 @@ fn first_token(alloc: Global, line: &[u8]) -> Result<(Token, &[u8]), SyntaxFault
 
 /// A line without the blanks at its front.
 fn behind_blanks(line: &[u8]) -> &[u8]
-    ensures { result.now ≡ drop (prefix_len (is_of class.Blank) line.now) line.now }
+    ensures { result.now ≡ behind_blanks line.now }
 {
     line.split_at(run_len(Class::Blank, line)).1
 }

@@ -6,11 +6,12 @@ ghost use Rattle.fj_syntax.specs.Reading.{Gives};
 
 use crate::arguments::call;
 use crate::calls::{make_close, make_inquire, make_move, make_open, make_transfer, make_wait};
-use crate::fault::SyntaxFault;
+use crate::fault::{SyntaxFault, some};
 use crate::given::unit_number;
 use crate::operand::{Designator, Operand};
 use crate::parts::{Part, is_name, list, parted};
-use crate::token::{Mark, Sign, Token};
+use crate::token::Mark::{Comma, DoubleColon, Equals, LeftParenthesis, RightParenthesis, Slash};
+use crate::token::{Sign, Token};
 use crate::words::{Keyword, keyword_of};
 use crate::written::{Assignment, Declaration, Group, Move, Written};
 use fj_modes::Motion;
@@ -32,26 +33,12 @@ fn value(keyword: &str, tokens: &[Token]) -> Option<u64>
     ensures { result ≡ value_of keyword.now tokens.now }
 {
     match tokens {
-        [
-            Token::Number {
-                sign: Sign::Unsigned,
-                amount,
-            },
-        ] => Some(*amount),
+        [Token::Number(Sign::Unsigned, amount)] => Some(*amount),
         [
             Token::Word(word),
-            Token::Mark(Mark::Equals),
-            Token::Number {
-                sign: Sign::Unsigned,
-                amount,
-            },
-        ] => {
-            if is_text(word, keyword) {
-                Some(*amount)
-            } else {
-                None
-            }
-        }
+            Token::Mark(Equals),
+            Token::Number(Sign::Unsigned, amount),
+        ] if is_text(word, keyword) => Some(*amount),
         _ => None,
     }
 }
@@ -64,16 +51,12 @@ fn number_in<'a>(
 ) -> Result<(Option<u64>, &'a [Token]), SyntaxFault>
     ensures { Gives (λ x. (x.0, x.1.now)) result (number_in keyword.now tokens.now) }
 {
-    let [Token::Mark(Mark::LeftParenthesis), rest @ ..] = tokens else {
+    let [Token::Mark(LeftParenthesis), rest @ ..] = tokens else {
         return Ok((None, tokens));
     };
-    let Some((inside, behind)) = parted(rest, Mark::RightParenthesis) else {
-        return Err(SyntaxFault::NotAStatement);
-    };
-    match value(keyword, inside) {
-        Some(number) => Ok((Some(number), behind)),
-        None => Err(SyntaxFault::NotAStatement),
-    }
+    let (inside, behind) = some(parted(rest, RightParenthesis))?;
+    let number = some(value(keyword, inside))?;
+    Ok((Some(number), behind))
 }
 
 fn integer_kind(number: Option<u64>) -> Option<Kind>
@@ -91,12 +74,8 @@ fn character_kind(number: Option<u64>) -> Option<Kind>
 {
     match number {
         None => Some(Kind::Chars(1)),
-        Some(length) => {
-            if length < 1 || length > MAX_LENGTH {
-                return None;
-            }
-            Some(Kind::Chars(length as u32))
-        }
+        Some(length) if length >= 1 && length <= MAX_LENGTH => Some(Kind::Chars(length as u32)),
+        Some(_) => None,
     }
 }
 
@@ -106,19 +85,13 @@ fn behind_colons(tokens: &[Token]) -> &[Token]
     ensures { result.now ≡ behind_colons tokens.now }
 {
     match tokens {
-        [Token::Mark(Mark::DoubleColon), behind @ ..] => behind,
+        [Token::Mark(DoubleColon), behind @ ..] => behind,
         [
-            Token::Mark(Mark::Comma),
+            Token::Mark(Comma),
             Token::Word(word),
-            Token::Mark(Mark::DoubleColon),
+            Token::Mark(DoubleColon),
             behind @ ..,
-        ] => {
-            if is_text(word, "ASYNCHRONOUS") {
-                behind
-            } else {
-                tokens
-            }
-        }
+        ] if is_text(word, "ASYNCHRONOUS") => behind,
         _ => tokens,
     }
 }
@@ -128,9 +101,7 @@ fn behind_colons(tokens: &[Token]) -> &[Token]
 fn declaration(alloc: Global, kind: Option<Kind>, tokens: &[Token]) -> Result<Written, SyntaxFault>
     ensures { Gives (λ x. x) result (declaration_of kind tokens.now) }
 {
-    let Some(kind) = kind else {
-        return Err(SyntaxFault::NotAStatement);
-    };
+    let kind = some(kind)?;
     let entities = list(alloc, behind_colons(tokens))?;
     Ok(Written::Declaration(Declaration { kind, entities }))
 }
@@ -140,30 +111,26 @@ fn declaration(alloc: Global, kind: Option<Kind>, tokens: &[Token]) -> Result<Wr
 fn group(alloc: Global, tokens: &[Token]) -> Result<Written, SyntaxFault>
     ensures { Gives (λ x. x) result (group_of tokens.now) }
 {
-    let [
-        Token::Mark(Mark::Slash),
-        Token::Word(name),
-        Token::Mark(Mark::Slash),
-        names @ ..,
-    ] = tokens
-    else {
-        return Err(SyntaxFault::NotAStatement);
-    };
-    if !is_name(name.bytes()) {
-        return Err(SyntaxFault::NotAStatement);
+    match tokens {
+        [
+            Token::Mark(Slash),
+            Token::Word(name),
+            Token::Mark(Slash),
+            names @ ..,
+        ] if is_name(name.bytes()) => {
+            let members = list(alloc, names)?;
+            let name = name.try_clone()?;
+            Ok(Written::Group(Group { name, members }))
+        }
+        _ => Err(SyntaxFault::NotAStatement),
     }
-    let members = list(alloc, names)?;
-    let name = name.try_clone()?;
-    Ok(Written::Group(Group { name, members }))
 }
 
 #[tactic(auto, unfolding(crate::specs::Statement::assignment_of))]
 fn assignment(tokens: &[Token]) -> Result<Written, SyntaxFault>
     ensures { Gives (λ x. x) result (assignment_of tokens.now) }
 {
-    let Some((to, from)) = parted(tokens, Mark::Equals) else {
-        return Err(SyntaxFault::NotAStatement);
-    };
+    let (to, from) = some(parted(tokens, Equals))?;
     let to = Designator::read(to)?;
     let from = Operand::read(from)?;
     Ok(Written::Assignment(Assignment { to, from }))
@@ -197,12 +164,7 @@ fn motion(alloc: Global, how: Motion, tokens: &[Token]) -> Result<Written, Synta
     ensures { Gives (λ x. x) result (motion_from how tokens.now) }
 {
     match tokens {
-        [
-            Token::Number {
-                sign: Sign::Unsigned,
-                amount,
-            },
-        ] => Ok(Written::Move(Move {
+        [Token::Number(Sign::Unsigned, amount)] => Ok(Written::Move(Move {
             how,
             unit: unit_number(*amount)?,
             iostat: None,
@@ -218,10 +180,7 @@ fn end(alloc: Global, tokens: &[Token]) -> Result<Written, SyntaxFault>
 {
     match tokens {
         [] => Ok(Written::End),
-        [Token::Word(word), behind @ ..] => {
-            if !is_text(word, "FILE") {
-                return Err(SyntaxFault::NotAStatement);
-            }
+        [Token::Word(word), behind @ ..] if is_text(word, "FILE") => {
             motion(alloc, Motion::Endfile, behind)
         }
         _ => Err(SyntaxFault::NotAStatement),

@@ -27,7 +27,7 @@ pub enum Token {
     /// A name or keyword, in upper case.
     Word(Text),
     /// An integer literal of up to 19 digits.
-    Number { sign: Sign, amount: u64 },
+    Number(Sign, u64),
     /// A character literal: the characters between its delimiters, a doubled delimiter being one.
     Literal(Text),
     /// `.TRUE.` or `.FALSE.`.
