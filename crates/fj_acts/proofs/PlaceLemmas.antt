@@ -286,24 +286,3 @@ pub gathered_all : (it : List Place) (runs ordered : List Run) (i var end : ℕ)
     → AreGathered (take i ordered) var end places → it ≡ places → (p : Place) → is_among it p ≡ is_among (places_in runs) p
 gathered_all it runs ordered i var end places moves past h is p =
     ap (λ l. is_among l p) is ∙ h.once.same p ∙ ap (λ rs. is_among (places_in rs) p) (whole ordered i past) ∙ moved_same runs ordered p moves
-
--- ---- the places of a run, one after another
-
-pub next_place : (var first n i : ℕ) (p : Place) (old new whole : List Place) → i < n → p.var ≡ var → p.index ≡ first + i → new ≡ old ++ p ∷ [] → old ++ counted_from var (first + i) (n - i) ≡ whole
-    → new ++ counted_from var (first + (i + 1)) (n - (i + 1)) ≡ whole
-next_place var first n i p old new whole low var_is index_is more so_far =
-    let rest : List Place = counted_from var (first + (i + 1)) (n - (i + 1)) in
-    let left : n - i ≡ suc (n - (i + 1)) = omega arith in
-    let behind_it : first + i + 1 ≡ first + (i + 1) = omega arith in
-    ap (λ l. l ++ rest) more
-    ∙ append_assoc old (p ∷ []) rest
-    ∙ ap (λ v. old ++ (let q : Place = record { var = v; index = p.index } in q) ∷ rest) var_is
-    ∙ ap (λ m. old ++ (let q : Place = record { var = var; index = m } in q) ∷ rest) index_is
-    ∙ sym (ap (λ m. old ++ (let q : Place = record { var = var; index = first + i } in q) ∷ counted_from var m (n - (i + 1))) behind_it)
-    ∙ sym (ap (λ m. old ++ counted_from var (first + i) m) left)
-    ∙ so_far
-
-pub none_left : (var first n i : ℕ) (old whole : List Place) → n ≤ i → old ++ counted_from var (first + i) (n - i) ≡ whole → old ≡ whole
-none_left var first n i old whole past so_far =
-    let none : n - i ≡ 0 = omega arith in
-    sym (append-nil old) ∙ sym (ap (λ m. old ++ counted_from var (first + i) m) none) ∙ so_far

@@ -7,7 +7,7 @@ ghost use Rattle.fj_acts.specs.Places.{key_of, reached_at};
 
 use fj_book::Places;
 use fj_store::Run;
-use fj_value::{Items, Place};
+use fj_value::Items;
 use std::alloc::{AllocError, Global};
 
 /// Runs in the order of their variables and, of one variable, of their first elements.
@@ -40,17 +40,21 @@ fn skipped(run: Run, end: u64) -> u32
 }
 
 /// Adds the places of a run but so many of the first.
-fn add_rest(places: &mut Items<Place>, run: Run, skipped: u32) -> Result<(), AllocError>
-    ensures { OnOk result (places.new ≡ places.old ++ counted_from run.var (run.first + skipped) (run.count - skipped)) }
+fn add_rest(places: &mut Items<Run>, run: Run, skipped: u32) -> Result<(), AllocError>
+    ensures { OnOk result (places_in places.new ≡ places_in places.old ++ counted_from run.var (run.first + skipped) (run.count - skipped)) }
 {
-    places.reserve(run.count.saturating_sub(skipped) as usize)?;
-    for at in skipped..run.count {
-        places.push(run.place_at(at))?;
+    if skipped >= run.count {
+        return Ok(());
     }
+    places.push(Run {
+        var: run.var,
+        first: run.first + skipped,
+        count: run.count - skipped,
+    })?;
     Ok(())
 }
 
-/// The places of runs, each once. It looks at each run and at each place once.
+/// The places of runs, each once. It looks at each run once.
 pub(crate) fn distinct_places(alloc: Global, runs: &[Run]) -> Result<Places, AllocError>
     ensures { IfOk result (λ places. (p : Place) → is_among places p ≡ is_among (places_in runs.now) p) }
 {
@@ -66,5 +70,5 @@ pub(crate) fn distinct_places(alloc: Global, runs: &[Run]) -> Result<Places, All
         var = run.var;
         end = front.max(u64::from(run.first) + u64::from(run.count));
     }
-    Ok(Places::of_items(places))
+    Ok(Places::of_runs(places))
 }

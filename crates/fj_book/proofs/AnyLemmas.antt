@@ -1,12 +1,12 @@
 -- Loops that look for an element.
-use Rattle.std.proofs.Common.{◌≡◌, ℕ, zero, suc, ◌+◌, ◌-◌, ◌<◌, ◌≤◌, ◌||◌, cond, Bool, true, false, List, [], ◌∷◌, length, length-drop, drop, take, get_or, Some, refl, sym, ap, ◌∙◌, arith}
+use Rattle.std.proofs.Common.{◌≡◌, ℕ, zero, suc, ◌+◌, ◌-◌, ◌<◌, ◌≤◌, ◌||◌, cond, Bool, true, false, List, [], ◌∷◌, ◌++◌, length, length-drop, drop, take, get_or, Some, refl, sym, ap, ◌∙◌, arith}
 use Rattle.std.proofs.Math.Seq.{drop-cons}
 use Rattle.std.proofs.lemmas.List.Folds.{list_any-append}
 use Rattle.std.specs.List.{list_any, find}
 use Rattle.fj_value.specs.declared.place.Place.{Place}
 use Rattle.fj_store.specs.declared.run.Run.{Run}
-use Rattle.fj_store.specs.Places.{is_among, has_twice, counted_from, places_of, places_in}
-use Rattle.fj_store.proofs.TableLemmas.{same_fields}
+use Rattle.fj_store.specs.Places.{same_place, is_among, has_twice, places_of, places_in}
+use Rattle.fj_store.proofs.RunLemmas.{any_same}
 use Rattle.fj_store.proofs.TakingLemmas.{run_at}
 use Rattle.fj_store.proofs.StoreLemmas.{whole}
 
@@ -22,22 +22,31 @@ none_left (x ∷ xs) (suc n) h = none_left xs n (omega arith)
 pub any_step : {X : Type 0} → (f : X → Bool) (xs : List X) (i : ℕ) (x : X) (b : Bool) → i < length xs → x ≡ get_or xs i x → b ≡ f x → list_any f (drop i xs) ≡ (b || list_any f (drop (i + 1) xs))
 any_step f xs i x b low is made = ap (list_any f) (item_at xs i x low is) ∙ ap (λ c. c || list_any f (drop (i + 1) xs)) (sym made)
 
-pub run_step : (f : Place → Bool) (var first count at : ℕ) (p : Place) (b : Bool) → at < count → p.var ≡ var → p.index ≡ first + at → b ≡ f p
-    → list_any f (counted_from var (first + at) (count - at)) ≡ (b || list_any f (counted_from var (first + (at + 1)) (count - (at + 1))))
-run_step f var first count at p b low var_is index_is made =
-    let here : Place = record { var = var; index = first + at } in
-    let left : count - at ≡ suc (count - (at + 1)) = omega arith in
-    let next : (first + at) + 1 ≡ first + (at + 1) = omega arith in
-    ap (λ n. list_any f (counted_from var (first + at) n)) left
-    ∙ ap (λ n. f here || list_any f (counted_from var n (count - (at + 1)))) next
-    ∙ ap (λ c. c || list_any f (counted_from var (first + (at + 1)) (count - (at + 1)))) (sym (made ∙ ap f (same_fields p here var_is index_is)))
-
 pub runs_step : (f : Place → Bool) (runs : List Run) (i : ℕ) (run : Run) (b : Bool) → i < length runs → run ≡ get_or runs i run → b ≡ list_any f (places_of run)
     → list_any f (places_in (drop i runs)) ≡ (b || list_any f (places_in (drop (i + 1) runs)))
 runs_step f runs i run b low is made =
     ap (λ rs. list_any f (places_in rs)) (run_at runs i run low is)
     ∙ list_any-append f (places_of run) (places_in (drop (i + 1) runs))
     ∙ ap (λ c. c || list_any f (places_in (drop (i + 1) runs))) (sym made)
+
+pub any_or : {X : Type 0} → (f g : X → Bool) (xs : List X) → list_any (λ x. f x || g x) xs ≡ (list_any f xs || list_any g xs)
+any_or f g [] = refl
+any_or f g (x ∷ xs) = ap (λ b. (f x || g x) || b) (any_or f g xs) ∙ four (f x) (g x) (list_any f xs) (list_any g xs)
+  where
+    four : (a b c d : Bool) → ((a || b) || (c || d)) ≡ ((a || c) || (b || d))
+    four true b c d = refl
+    four false true true d = refl
+    four false true false d = refl
+    four false false c d = refl
+
+pub among_step : (runs : List Run) (i : ℕ) (other : Run) (places : List Place) (b : Bool) → i < length runs → other ≡ get_or runs i other → b ≡ list_any (is_among (places_of other)) places
+    → list_any (is_among (places_in (drop i runs))) places ≡ (b || list_any (is_among (places_in (drop (i + 1) runs))) places)
+among_step runs i other places b low is made =
+    ap (λ rs. list_any (is_among (places_in rs)) places) (run_at runs i other low is)
+    ∙ any_same (is_among (places_of other ++ places_in (drop (i + 1) runs))) (λ p. is_among (places_of other) p || is_among (places_in (drop (i + 1) runs)) p)
+    (λ p. list_any-append (same_place p) (places_of other) (places_in (drop (i + 1) runs))) places
+    ∙ any_or (is_among (places_of other)) (is_among (places_in (drop (i + 1) runs))) places
+    ∙ ap (λ c. c || list_any (is_among (places_in (drop (i + 1) runs))) places) (sym made)
 
 pub find_step : {X : Type 0} → (f : X → Bool) (xs : List X) (i : ℕ) (x : X) → i < length xs → x ≡ get_or xs i x → find f (drop i xs) ≡ cond (f x) (Some x) (find f (drop (i + 1) xs))
 find_step f xs i x low is = ap (find f) (item_at xs i x low is)
@@ -60,3 +69,7 @@ same_item (x ∷ xs) (suc i) d low = same_item xs i d (omega arith)
 
 pub rest_whole : {X : Type 0} → (xs : List X) (n : ℕ) → take (length xs - n) (drop n xs) ≡ drop n xs
 rest_whole xs n = whole (drop n xs) (length xs - n) (omega (arith, length-drop n xs))
+
+pub any_never : {X : Type 0} → (xs : List X) → list_any (λ x. false) xs ≡ false
+any_never [] = refl
+any_never (x ∷ xs) = any_never xs

@@ -14,6 +14,8 @@ use Rattle.fj_book.specs.declared.pending.Pending.{Pending}
 use Rattle.fj_book.specs.Entries.{tag_of, has_tag, IsAscending, holders}
 use Rattle.fj_book.specs.Counting.{holds_in}
 use Rattle.fj_book.specs.Prohibitions.{is_read, is_held, has_id}
+use Rattle.fj_book.proofs.AnyLemmas.{any_or}
+use Rattle.fj_store.proofs.RunLemmas.{any_same}
 
 pos_same : (a b : ℕ) → pos a ≡ pos b → a ≡ b
 pos_same a b e = cc
@@ -132,6 +134,11 @@ both false false r s = refl
 pub held_is : (es : List Pending) (p : Place) → (list_any (holds_in true p) es || list_any (holds_in false p) es) ≡ is_held (holders es) p
 held_is [] p = refl
 held_is (e ∷ es) p = both e.input (is_among e.places p) (list_any (holds_in true p) es) (list_any (holds_in false p) es) ∙ ap (λ b. is_among e.places p || b) (held_is es p)
+
+pub either_is : (es : List Pending) (places : List Place) → (list_any (λ place. list_any (holds_in true place) es) places || list_any (λ place. list_any (holds_in false place) es) places) ≡ list_any (is_held (holders es)) places
+either_is es places =
+    sym (any_or (λ place. list_any (holds_in true place) es) (λ place. list_any (holds_in false place) es) places)
+    ∙ any_same (λ place. list_any (holds_in true place) es || list_any (holds_in false place) es) (is_held (holders es)) (λ p. held_is es p) places
 
 pub ids_low : (unit : Option ℕ) (id : ℤ) (es : List Pending) → id <ℤ pos 0 → list_any (has_id unit id) (holders es) ≡ false
 ids_low unit (pos n) es low = absurd (omega (arith, ints, low))

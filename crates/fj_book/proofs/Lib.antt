@@ -4,3 +4,4 @@ pub mod CountLemmas
 pub mod SiftLemmas
 pub mod LawLemmas
 pub mod MeetLemmas
+pub mod RowLemmas

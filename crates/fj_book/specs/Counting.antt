@@ -3,14 +3,10 @@ use Rattle.std.specs.Prelude.{◌≡◌, ℕ, ◌&&◌, not, Bool, true, false, 
 use Rattle.std.specs.Prelude.{cond}
 use Rattle.std.specs.List.{count_by}
 use Rattle.fj_value.specs.declared.place.Place.{Place}
-use Rattle.fj_store.specs.Places.{same_place, is_among}
+use Rattle.fj_store.specs.Places.{is_among}
 use Rattle.fj_store.specs.Tables.{element_at}
 use Rattle.fj_book.specs.declared.pending.Pending.{Pending}
 use Rattle.fj_book.specs.Entries.{IsAscending}
-
--- how often a place stands in a list
-abbrev pub occurrences : Place → List Place → ℕ
-occurrences place places = count_by (same_place place) places
 
 -- a transfer of this direction (true for an input) holds a place
 abbrev pub holds_in : Bool → Place → Pending → Bool

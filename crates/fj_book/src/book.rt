@@ -1,7 +1,9 @@
 // The book: the pending transfers in ascending order of their identifiers.
-ghost use Rattle.std.specs.Prelude.{◌≡◌, ◌<◌, ◌≤◌, ◌≢◌, not, List, [], ◌∷◌, ◌++◌, ℕ, length, filter, find, map, replicate, remove, take, drop, All, HoldsAt, pos, ◌<ℤ◌, MatchOption, IfOk, IfSome, IfNone, OnOk, OnErr};
+ghost use Rattle.std.specs.Prelude.{◌≡◌, ◌<◌, ◌≤◌, ◌≢◌, ◌^◌, not, List, [], ◌∷◌, ◌++◌, ℕ, length, filter, find, map, replicate, remove, take, drop, All, HoldsAt, pos, ◌<ℤ◌, MatchOption, IfOk, IfSome, IfNone, OnOk, OnErr};
 ghost use Rattle.std.specs.List.Sorted.{IsPartitionPoint};
+ghost use Rattle.std.specs.List.{list_any};
 ghost use Rattle.std.specs.Option.{option_map};
+ghost use Rattle.fj_store.specs.Places.{places_of};
 ghost use Rattle.fj_store.specs.Storage.{values_of};
 ghost use Rattle.fj_store.specs.Variables.{value_at, is_undefined};
 ghost use Rattle.fj_book.specs.declared.pending.Pending.{Pending};
@@ -10,12 +12,12 @@ ghost use Rattle.fj_book.specs.Entries.{holders, has_tag, is_of_unit, is_of, is_
 ghost use Rattle.fj_book.specs.Needs.{need_of};
 ghost use Rattle.fj_book.specs.Prohibitions.{prohibited, is_read, is_held, names_pending};
 
-use crate::counts::{is_held, lower, raise};
+use crate::counts::{Counts, any_held};
 use crate::need::Need;
 use crate::pending::Pending;
-use crate::place_test::{PlaceTest, any_in_runs};
-use fj_store::{Store, Table};
-use fj_value::{Items, Kind, Place, Rule, Tag, Value};
+use crate::place_test::{RunTest, any_in_runs};
+use fj_store::{Run, Store};
+use fj_value::{Kind, Rule, Tag};
 use std::alloc::{AllocError, Global};
 use std::collections::VecDeque;
 use std::marker::Model;
@@ -24,8 +26,8 @@ use std::marker::Model;
 #[derive(Debug, Drop)]
 pub struct Book {
     entries: VecDeque<Pending>,
-    inputs: Table<u64>,
-    outputs: Table<u64>,
+    inputs: Counts,
+    outputs: Counts,
 }
 
 impl Model for Book {
@@ -38,24 +40,6 @@ impl Model for Book {
     ghost view = { λ book. book.entries.items };
 
     ghost invariant = { λ book. IsKept book.entries.items book.inputs book.outputs };
-}
-
-/// So many places that nothing holds.
-fn zeros(alloc: Global, count: u32) -> Result<Items<u64>, AllocError>
-    ensures { IfOk result (λ row. row ≡ replicate count 0) }
-{
-    Ok(Items::from_vec(vec![in alloc; 0; count as usize]?))
-}
-
-/// A table for variables with so many elements, where nothing is held.
-fn no_holders(alloc: Global, variables: &[(Kind, u32)]) -> Result<Table<u64>, AllocError>
-    ensures { IfOk result (λ table. table ≡ map (λ v. replicate v.1 0) variables.now) }
-{
-    let mut table = Table::new(alloc);
-    for (_, count) in variables {
-        table.push(zeros(alloc, *count)?)?;
-    }
-    Ok(table)
 }
 
 /// The value of ID= as a number, where it is not below 0.
@@ -104,39 +88,42 @@ fn is_of(unit: Option<u32>, entry: &Pending) -> bool
     }
 }
 
+/// What makes a number that wraps one less.
+const ONE_LESS: u64 = 18446744073709551615;
+
 /// Counts a transfer more.
 fn count_in(
     entries: &VecDeque<Pending>,
-    inputs: &mut Table<u64>,
-    outputs: &mut Table<u64>,
+    inputs: &mut Counts,
+    outputs: &mut Counts,
     pending: &Pending,
 )
     requires { IsKept entries.now.items inputs.old outputs.old }
     ensures { IsAscending (entries.now.items ++ pending.now ∷ []) → IsKept (entries.now.items ++ pending.now ∷ []) inputs.new outputs.new }
 {
     if pending.input {
-        raise(inputs, pending.places.as_slice());
+        inputs.add_all(&pending.places, 1);
     } else {
-        raise(outputs, pending.places.as_slice());
+        outputs.add_all(&pending.places, 1);
     }
 }
 
 /// Counts a transfer no more.
-fn count_out(inputs: &mut Table<u64>, outputs: &mut Table<u64>, pending: &Pending)
-    ensures { (entries : List Pending) (at : ℕ) → at < length entries → HoldsAt (λ e. e ≡ pending.now) entries at → AreCounted entries inputs.old outputs.old → AreCounted (remove entries at) inputs.new outputs.new }
+fn count_out(inputs: &mut Counts, outputs: &mut Counts, pending: &Pending)
+    ensures { (entries : List Pending) (at : ℕ) → at < length entries → length entries < 2 ^ 64 → HoldsAt (λ e. e ≡ pending.now) entries at → AreCounted entries inputs.old outputs.old → AreCounted (remove entries at) inputs.new outputs.new }
 {
     if pending.input {
-        lower(inputs, pending.places.as_slice());
+        inputs.add_all(&pending.places, ONE_LESS);
     } else {
-        lower(outputs, pending.places.as_slice());
+        outputs.add_all(&pending.places, ONE_LESS);
     }
 }
 
 /// Goes over so many of the first transfers. Those of the unit are taken off, and the others go behind all that are left.
 fn sift(
     entries: &mut VecDeque<Pending>,
-    inputs: &mut Table<u64>,
-    outputs: &mut Table<u64>,
+    inputs: &mut Counts,
+    outputs: &mut Counts,
     unit: Option<u32>,
     count: usize,
 )
@@ -174,8 +161,8 @@ impl Book {
     pub fn new(alloc: Global, variables: &[(Kind, u32)]) -> Result<Book, AllocError>
         ensures { IfOk result (λ book. book ≡ []) }
     {
-        let inputs = no_holders(alloc, variables)?;
-        let outputs = no_holders(alloc, variables)?;
+        let inputs = Counts::new(alloc, variables)?;
+        let outputs = Counts::new(alloc, variables)?;
         Ok(Book {
             entries: VecDeque::new(alloc),
             inputs,
@@ -199,19 +186,19 @@ impl Book {
         first_in(&self.entries, unit)
     }
 
-    /// A place of a pending input.
-    fn reads(&self, place: Place) -> bool
-        ensures { result ≡ is_read (holders self.now) place }
+    /// Whether a place of a run is one of a pending input.
+    fn reads(&self, run: Run) -> bool
+        ensures { result ≡ list_any (is_read (holders self.now)) (places_of run) }
     {
-        is_held(&self.inputs, &self.entries, true, place)
+        any_held(&self.inputs, &self.entries, true, run)
     }
 
-    /// A place of a pending transfer.
-    fn holds(&self, place: Place) -> bool
-        ensures { result ≡ is_held (holders self.now) place }
+    /// Whether a place of a run is one of a pending transfer.
+    fn holds(&self, run: Run) -> bool
+        ensures { result ≡ list_any (is_held (holders self.now)) (places_of run) }
     {
-        is_held(&self.inputs, &self.entries, true, place)
-            || is_held(&self.outputs, &self.entries, false, place)
+        any_held(&self.inputs, &self.entries, true, run)
+            || any_held(&self.outputs, &self.entries, false, run)
     }
 
     /// Whether ID= names a transfer that is pending on the unit.
@@ -302,11 +289,11 @@ struct Reads<'a> {
     book: &'a Book,
 }
 
-impl<'a> PlaceTest for Reads<'a> {
+impl<'a> RunTest for Reads<'a> {
     ghost passes = { λ reads place. is_read (holders reads.book.now) place };
 
-    fn test(&self, place: Place) -> bool {
-        self.book.reads(place)
+    fn test(&self, run: Run) -> bool {
+        self.book.reads(run)
     }
 }
 
@@ -316,11 +303,11 @@ struct Holds<'a> {
     book: &'a Book,
 }
 
-impl<'a> PlaceTest for Holds<'a> {
+impl<'a> RunTest for Holds<'a> {
     ghost passes = { λ holds place. is_held (holders holds.book.now) place };
 
-    fn test(&self, place: Place) -> bool {
-        self.book.holds(place)
+    fn test(&self, run: Run) -> bool {
+        self.book.holds(run)
     }
 }
 
@@ -330,13 +317,10 @@ struct IsUndefined<'a> {
     store: &'a Store,
 }
 
-impl<'a> PlaceTest for IsUndefined<'a> {
+impl<'a> RunTest for IsUndefined<'a> {
     ghost passes = { λ test place. is_undefined (value_at (values_of test.store.now) place) };
 
-    fn test(&self, place: Place) -> bool {
-        match self.store.read(place) {
-            None | Some(Value::Undefined) => true,
-            Some(_) => false,
-        }
+    fn test(&self, run: Run) -> bool {
+        self.store.has_undefined(run)
     }
 }

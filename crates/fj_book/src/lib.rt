@@ -8,6 +8,7 @@ mod laws;
 mod need;
 mod pending;
 mod place_test;
+mod row;
 
 pub use book::Book;
 pub use laws::{

@@ -1,10 +1,9 @@
 // What a statement references, defines and names.
 ghost use Rattle.std.specs.Prelude.{◌≡◌};
-ghost use Rattle.fj_store.specs.Places.{has_twice};
+ghost use Rattle.fj_store.specs.Places.{is_among, has_twice};
 ghost use Rattle.fj_book.specs.Prohibitions.{defines_twice};
 ghost use Rattle.fj_book.specs.Needs.{need_of};
 
-use crate::pending::stands_among;
 use crate::place_test::{Among, any_in_runs, any_of};
 use fj_store::Run;
 use fj_value::Place;
@@ -20,6 +19,13 @@ pub struct Need<'a> {
     pub items: &'a [Run],
     pub internal: &'a [Run],
     pub id: Option<i64>,
+}
+
+/// Whether a place is one of some places.
+fn stands_among(places: &[Place], place: Place) -> bool
+    ensures { result ≡ is_among places.now place }
+{
+    places.iter().any(|other| place.var == other.var && place.index == other.index)
 }
 
 /// Whether a place stands twice.

@@ -1,56 +1,55 @@
 // A pending transfer, and the places that it holds.
 ghost use Rattle.std.specs.Prelude.{◌≡◌, false};
-ghost use Rattle.fj_store.specs.Places.{is_among, has_twice};
+ghost use Rattle.std.specs.List.{list_any};
+ghost use Rattle.fj_store.specs.Places.{is_among, has_twice, places_in, places_of};
 
-use fj_value::{Items, Place, Tag};
+use crate::place_test::{Among, RunTest};
+use fj_store::Run;
+use fj_value::{Items, Tag};
 use std::marker::Model;
 
-/// Whether a place is one of some places.
-pub(crate) fn stands_among(places: &[Place], place: Place) -> bool
-    ensures { result ≡ is_among places.now place }
-{
-    places.iter().any(|other| place.var == other.var && place.index == other.index)
-}
-
-/// Places of which no two are the same.
+/// Places of which no two are the same, as runs.
 #[derive(Debug, Drop)]
 pub struct Places {
-    items: Items<Place>,
+    runs: Items<Run>,
 }
 
 impl Model for Places {
     ghost use Rattle.std.specs.Prelude.{◌≡◌, false, List};
     ghost use Rattle.fj_value.specs.declared.place.Place.{Place};
-    ghost use Rattle.fj_store.specs.Places.{has_twice};
+    ghost use Rattle.fj_store.specs.Places.{has_twice, places_in};
 
     ghost Value = { List Place };
 
-    ghost view = { λ places. places.items };
+    ghost view = { λ places. places_in places.runs };
 
-    ghost invariant = { λ places. has_twice places.items ≡ false };
+    ghost invariant = { λ places. has_twice (places_in places.runs) ≡ false };
 }
 
 impl Places {
-    /// These places.
-    pub fn of_items(items: Items<Place>) -> Places
-        requires { has_twice items ≡ false }
-        ensures { result ≡ items }
+    /// The places of these runs.
+    pub fn of_runs(runs: Items<Run>) -> Places
+        requires { has_twice (places_in runs) ≡ false }
+        ensures { result ≡ places_in runs }
     {
-        Places { items }
+        Places { runs }
     }
 
-    pub fn as_slice(&self) -> &[Place]
-        ensures places { result.now ≡ self.now }
+    pub fn runs(&self) -> &[Run]
+        ensures places { places_in result.now ≡ self.now }
         ensures distinct { has_twice self.now ≡ false }
     {
-        self.items.as_slice()
+        self.runs.as_slice()
     }
 
-    /// Whether a place is one of them.
-    pub fn holds(&self, place: Place) -> bool
-        ensures { result ≡ is_among self.now place }
+    /// Whether a place of a run is one of them.
+    pub fn meet(&self, run: Run) -> bool
+        ensures { result ≡ list_any (is_among self.now) (places_of run) }
     {
-        stands_among(self.items.as_slice(), place)
+        let among = Among {
+            runs: self.runs.as_slice(),
+        };
+        among.test(run)
     }
 }
 

@@ -1,40 +1,30 @@
 // Tests of places, and whether some place of runs passes one.
-ghost use Rattle.std.specs.Prelude.{◌≡◌, ◌||◌};
+ghost use Rattle.std.specs.Prelude.{◌≡◌, ◌||◌, [], ◌∷◌};
 ghost use Rattle.std.specs.List.{list_any};
 ghost use Rattle.fj_store.specs.Places.{places_of, places_in, is_among};
 
 use fj_store::Run;
 use fj_value::Place;
 
-/// A test of places.
-pub(crate) trait PlaceTest {
+/// A test of places, which answers for a whole run whether some place passes.
+pub(crate) trait RunTest {
     ghost use Rattle.std.specs.Prelude.{◌≡◌, Bool};
+    ghost use Rattle.std.specs.List.{list_any};
     ghost use Rattle.fj_value.specs.declared.place.Place.{Place};
+    ghost use Rattle.fj_store.specs.Places.{places_of};
 
     ghost passes: { Self → Place → Bool };
 
-    fn test(&self, place: Place) -> bool
-        ensures { result ≡ passes self.now place };
-}
-
-/// Whether a place of a run passes.
-fn any_in_run<T: PlaceTest>(run: Run, test: &T) -> bool
-    ensures { result ≡ list_any (T.passes test.now) (places_of run) }
-{
-    for at in 0..run.count {
-        if test.test(run.place_at(at)) {
-            return true;
-        }
-    }
-    false
+    fn test(&self, run: Run) -> bool
+        ensures { result ≡ list_any (passes self.now) (places_of run) };
 }
 
 /// Whether a place of runs passes.
-pub(crate) fn any_in_runs<T: PlaceTest>(runs: &[Run], test: &T) -> bool
+pub(crate) fn any_in_runs<T: RunTest>(runs: &[Run], test: &T) -> bool
     ensures { result ≡ list_any (T.passes test.now) (places_in runs.now) }
 {
     for run in runs {
-        if any_in_run(*run, test) {
+        if test.test(*run) {
             return true;
         }
     }
@@ -42,11 +32,11 @@ pub(crate) fn any_in_runs<T: PlaceTest>(runs: &[Run], test: &T) -> bool
 }
 
 /// Whether one of some places passes.
-pub(crate) fn any_of<T: PlaceTest>(places: &[Place], test: &T) -> bool
+pub(crate) fn any_of<T: RunTest>(places: &[Place], test: &T) -> bool
     ensures { result ≡ list_any (T.passes test.now) places.now }
 {
     for place in places {
-        if test.test(*place) {
+        if test.test(Run::of_place(*place)) {
             return true;
         }
     }
@@ -59,12 +49,12 @@ pub(crate) struct Among<'a> {
     pub runs: &'a [Run],
 }
 
-impl<'a> PlaceTest for Among<'a> {
+impl<'a> RunTest for Among<'a> {
     ghost passes = { λ among place. is_among (places_in among.runs.now) place };
 
-    fn test(&self, place: Place) -> bool {
-        for run in self.runs {
-            if run.holds(place) {
+    fn test(&self, run: Run) -> bool {
+        for other in self.runs {
+            if run.meets(*other) {
                 return true;
             }
         }

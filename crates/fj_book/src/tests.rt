@@ -37,13 +37,13 @@ fn pending(
 ) -> Result<Pending, AllocError>
     ensures { IfOk result (λ p. tag_of p ≡ id) }
 {
-    let mut places = Items::new(alloc);
-    places.push(place)?;
+    let mut runs = Items::new(alloc);
+    runs.push(Run::of_place(place))?;
     Ok(Pending {
         tag: Tag(id),
         unit,
         input,
-        places: Places::of_items(places),
+        places: Places::of_runs(runs),
         number: 0,
     })
 }
@@ -139,7 +139,9 @@ fn transfers_hold_until_told(rt: HostRuntime) -> Result<(), Fail> {
     assert!(rt; book.first_of(10) == Some(Tag(1)) && book.first_of(11) == Some(Tag(3)));
     assert!(rt; book.first_of(12).is_none());
     let first = book.tell(Tag(1));
-    assert!(rt; matches!(&first, Some(it) if it.unit == 10 && it.input && it.places.holds(A)));
+    assert!(rt;
+        matches!(&first, Some(it) if it.unit == 10 && it.input && it.places.meet(Run::of_place(A)))
+    );
     assert!(rt; book.tell(Tag(1)).is_none());
     assert!(rt; are_told(&book, &store, &BESIDE_TWO));
     assert!(rt; book.first_of(10) == Some(Tag(2)));

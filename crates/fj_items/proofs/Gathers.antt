@@ -182,24 +182,6 @@ all_more_at {A} P xs i d low so_far this =
 pub all_taken : {A : Type 0} → (P : A → Type 0) (xs : List A) (i : ℕ) → length xs ≤ i → All P (take i xs) → All P xs
 all_taken {A} P xs i past h = let Q : List A → Type 0 = λ ys. All P ys in subst Q (whole xs i past) h
 
-counted_more : (var first n : ℕ) → counted_from var first (suc n) ≡ counted_from var first n ++ record { var = var; index = first + n } ∷ []
-counted_more var first zero =
-    let e : first ≡ first + zero = omega arith in
-    ap (λ (i : ℕ). let ps : List Place = record { var = var; index = i } ∷ [] in ps) e
-counted_more var first (suc n) =
-    let e : (first + 1) + n ≡ first + suc n = omega arith in
-    ap (λ (ps : List Place). record { var = var; index = first } ∷ ps) (counted_more var (first + 1) n
-    ∙ ap (λ (i : ℕ). let ps : List Place = counted_from var (first + 1) n ++ record { var = var; index = i } ∷ [] in ps) e)
-
-pub home_more : (s : Storage) (var first at : ℕ) (p : Place) → p.var ≡ var → p.index ≡ first + at → AreHome s (counted_from var first at) → IsSome (value_at s p) → AreHome s (counted_from var first (at + 1))
-home_more s var first at p var_is index_is so_far this =
-    let q : Place = record { var = var; index = first + at } in
-    let same : p ≡ q = same_fields p q var_is index_is in
-    let P : Place → Type 0 = λ x. IsSome (value_at s x) in
-    let one : at + 1 ≡ suc at = omega arith in
-    let list : counted_from var first (at + 1) ≡ counted_from var first at ++ q ∷ [] = ap (counted_from var first) one ∙ counted_more var first at in
-    subst (AreHome s) (sym list) (All-push P (counted_from var first at) q so_far (subst P same this))
-
 -- ---- the ends
 
 pub no_members : (variables : List Variable) (s : Storage) (t : Transfer) (g : Gathered) (slice : List Operand) → members_in t.control ≡ [] → slice ≡ t.items → IsGathered variables s slice g → IsGathered variables s (all_items t) g

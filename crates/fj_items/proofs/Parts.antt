@@ -1,5 +1,5 @@
 -- Pieces of items, whose places are there.
-use Rattle.std.proofs.Common.{◌≡◌, Bool, true, false, List, [], ◌∷◌, ◌++◌, length, map, All, refl, sym, ap, subst, ◌∙◌}
+use Rattle.std.proofs.Common.{◌≡◌, ◌↔◌, Bool, IsTrue, not, is_none, true, false, List, [], ◌∷◌, ◌++◌, length, map, All, refl, sym, ap, subst, ◌∙◌}
 use Rattle.std.specs.List.{flat_map, list_any}
 use Rattle.std.proofs.lemmas.Bool.{false≢true}
 use Rattle.std.proofs.lemmas.List.Elements.{All-head, All-tail}
@@ -15,8 +15,9 @@ use Rattle.fj_store.specs.declared.piece.Piece.TheVariants.{Places, Own}
 use Rattle.fj_store.specs.declared.run.Run.{Run}
 use Rattle.fj_store.specs.Pieces.{places_among, size_of}
 use Rattle.fj_store.specs.Places.{places_of}
-use Rattle.fj_store.specs.Storage.{Storage}
+use Rattle.fj_store.specs.Storage.{Storage, value_at}
 use Rattle.fj_store.proofs.PlaceLemmas.{length-counted_from}
+use Rattle.fj_store.proofs.RunLemmas.{none_out, out_none}
 use Rattle.fj_plain.specs.Items.{operand_places}
 use Rattle.fj_items.specs.Gathering.{IsPiece, ArePieces, IsReady, AreHome, count_of}
 
@@ -89,3 +90,13 @@ some_own (run ∷ runs) kind v rest = some_own runs kind v rest
 -- a value of its own is not among runs
 pub no_own : (runs all : List Run) (kind : Kind) (v : Value) (rest : List Piece) → map Places runs ++ Own kind v ∷ rest ≡ map Places all → ⊥
 no_own runs all kind v rest e = false≢true (sym (none_own all) ∙ sym (ap (list_any is_own) e) ∙ some_own runs kind v rest)
+
+-- a piece whose run has no place that is moved out
+pub ready_is : (s : Storage) (run : Run) (piece : Piece) (b : Bool) → piece ≡ Places run → b ≡ list_any (λ place. is_none (value_at s place)) (places_of run) → IsTrue (not b) ↔ IsReady s piece
+ready_is s run piece b is made =
+    let go : (x : Bool) → x ≡ list_any (λ place. is_none (value_at s place)) (places_of run) → IsTrue (not x) ↔ IsReady s (Places run) =
+    λ x. elim x as (λ z. z ≡ list_any (λ place. is_none (value_at s place)) (places_of run) → IsTrue (not z) ↔ IsReady s (Places run)) [
+      | true ↦ λ e. (λ h. absurd (false≢true h), λ home. absurd (false≢true (sym (e ∙ out_none (value_at s) (places_of run) home))))
+      | false ↦ λ e. (λ h. none_out (value_at s) (places_of run) (sym e), λ home. refl)
+    ] in
+    subst (λ p. IsTrue (not b) ↔ IsReady s p) (sym is) (go b made)

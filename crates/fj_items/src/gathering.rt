@@ -60,24 +60,12 @@ pub(crate) fn is_home(store: &Store, place: Place) -> bool
     }
 }
 
-/// Whether the places of a run have values.
-fn are_home(store: &Store, run: Run) -> bool
-    ensures { IsTrue result ↔ AreHome store.now (places_of run) }
-{
-    for at in 0..run.count {
-        if !is_home(store, run.place_at(at)) {
-            return false;
-        }
-    }
-    true
-}
-
 /// Whether a piece may be taken.
 fn is_ready(store: &Store, piece: &Piece) -> bool
     ensures { IsTrue result ↔ IsReady store.now piece.now }
 {
     match piece {
-        Piece::Places(run) => are_home(store, *run),
+        Piece::Places(run) => !store.has_out(*run),
         Piece::Own(_, _) => true,
     }
 }

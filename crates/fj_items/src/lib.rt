@@ -10,7 +10,6 @@ mod lost;
 mod number;
 mod refusing;
 mod sink;
-mod sound;
 mod star;
 mod taking;
 mod undefining;

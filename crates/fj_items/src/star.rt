@@ -220,7 +220,8 @@ pub fn write_star<W: Sink>(
     if !is_formatted(&t.control) {
         return Ok(Condition::Error(16));
     }
-    let moved = copied(alloc, variables, store, t)?;
+    let copy = copied(alloc, variables, store, t)?;
+    let moved = copy.moved;
     let layout = layout_for(alloc, variables, moved.cells.as_slice(), &t.control)?;
     if !is_grouped(moved.cells.len(), &layout) {
         return Err(Lost::Unfit);

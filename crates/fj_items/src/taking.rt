@@ -1,5 +1,5 @@
 // A READ or WRITE as a job: its items are moved or copied out of the variables.
-ghost use Rattle.std.specs.Prelude.{◌≡◌, ◌≢◌, ◌∷◌, [], length, map, true, false, None, unwrap_or, option_map, List, All, Err, IsSome, IfSome, IfOk, OnOk};
+ghost use Rattle.std.specs.Prelude.{◌≡◌, ◌≢◌, ◌↔◌, ◌∷◌, [], length, map, true, false, None, unwrap_or, option_map, List, All, Err, IsTrue, IsSome, IfSome, IfOk, OnOk};
 ghost use Rattle.std.specs.Option.{option_map_or};
 ghost use Rattle.fj_list.specs.declared.moved.Moved.{Moved as MovedCells};
 ghost use Rattle.fj_bay.specs.Jobs.{items_for};
@@ -27,7 +27,6 @@ use crate::gathering::{gather, is_home};
 use crate::laying::{is_grouped, layout_for};
 use crate::lost::Lost;
 use crate::number::number_given;
-use crate::sound::has_values;
 use crate::star::edit_of;
 use fj_list::Moved;
 use fj_statement::{Transfer, Variables};
@@ -109,6 +108,8 @@ struct Parts {
     size: Option<Moved>,
     rec: Option<i64>,
     pos: Option<i64>,
+    /// Each item has a defined value of its kind.
+    defined: bool,
 }
 
 /// The job of these parts. `Unfit`: a variable of its group has no cells of its own, or an output has a value that is not of its
@@ -123,6 +124,7 @@ fn job_with(
 ) -> Result<Moving, Lost>
     requires numbered { IsNumbered parts.moved }
     requires single { option_map_or (λ (size : MovedCells). length size.cells) parts.size 1 ≡ 1 }
+    requires defined { t.now.input ≡ false → IsTrue parts.defined ↔ HasValues parts.moved }
     ensures job { IfOk result (λ job. job_of job ≡ record {
       stmt = line;
       tag = tag.0;
@@ -147,7 +149,7 @@ fn job_with(
     if !is_grouped(parts.moved.cells.len(), &layout) {
         return Err(Lost::Unfit);
     }
-    if !t.input && !has_values(parts.moved.cells.as_slice()) {
+    if !t.input && !parts.defined {
         return Err(Lost::Unfit);
     }
     let spec = TransferSpec {
@@ -199,16 +201,18 @@ pub fn moving(
             size,
             rec,
             pos,
+            defined: false,
         };
         return job_with(alloc, variables, line, tag, t, parts);
     }
-    let moved = copied(alloc, variables, store, t)?;
+    let copy = copied(alloc, variables, store, t)?;
     let size = size_copied(alloc, variables, store, t.size)?;
     let parts = Parts {
-        moved,
+        moved: copy.moved,
         size,
         rec,
         pos,
+        defined: copy.defined,
     };
     job_with(alloc, variables, line, tag, t, parts)
 }

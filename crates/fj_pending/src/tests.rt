@@ -28,7 +28,7 @@ fn enter(
         number,
         answer: None,
     };
-    pendings.enter(held, Places::of_items(Items::new(alloc)))
+    pendings.enter(held, Places::of_runs(Items::new(alloc)))
 }
 
 fn told(alloc: Global, id: u32, condition: Condition) -> Told {

@@ -1,8 +1,11 @@
 -- Taking pieces gives the cells of the items, and putting the cells back leaves the table as it was.
-use Rattle.std.proofs.Common.{◌≡◌, ℕ, zero, suc, ◌+◌, ◌-◌, ◌<◌, ◌≤◌, eqb, cond, true, false, List, [], ◌∷◌, ◌++◌, length, map, Option, Some, None, IsSome, All, refl, sym, ap, subst, ◌∙◌, inl, inr, arith}
+use Rattle.std.proofs.Common.{◌≡◌, ◌↔◌, ◌&&◌, ◌||◌, ℕ, zero, suc, ◌+◌, ◌-◌, ◌<◌, ◌≤◌, eqb, cond, Bool, IsTrue, true, false, List, [], ◌∷◌, ◌++◌, length, map, Option, Some, None, is_none, IsSome, All, refl, sym, ap, subst, ◌∙◌, inl, inr, arith, rules}
+use Rattle.std.proofs.lemmas.Bool.{false≢true}
+use Rattle.std.specs.List.{list_any}
+use Rattle.fj_value.specs.Kind.{IsOfKind}
 use Rattle.std.proofs.lemmas.Bool.Decides.{eqb_tells, nat_tests}
 use Rattle.std.proofs.lemmas.List.Folds.{position_or_len_push}
-use Rattle.std.proofs.lemmas.List.Elements.{All-head, All-tail}
+use Rattle.std.proofs.lemmas.List.Elements.{All-head, All-tail, All-push}
 use Rattle.std.proofs.Common.{length-append}
 use Rattle.std.proofs.lemmas.List.{length-map}
 use Rattle.std.proofs.lemmas.List.{get_or_append_left}
@@ -20,7 +23,7 @@ use Rattle.fj_store.specs.declared.run.Run.{Run}
 use Rattle.fj_store.specs.declared.slot.Slot.{Slot}
 use Rattle.fj_store.specs.declared.slot.Slot.TheVariants.{Home, Out}
 use Rattle.fj_store.specs.Kinds.{kind_at}
-use Rattle.fj_store.specs.Pieces.{no_variable, own_cell, cells_from, places_among, size_of, sizes}
+use Rattle.fj_store.specs.Pieces.{no_variable, own_cell, cells_from, places_among, size_of, sizes, AreDefined}
 use Rattle.fj_store.specs.Places.{same_place, counted_from, places_of}
 use Rattle.fj_store.specs.Tables.{element_at, with_element, with_cells}
 use Rattle.fj_store.specs.Variables.{is_at, with_item, moved_from, moved_of}
@@ -282,3 +285,42 @@ run_item s var first count at t t' want cell low cell_is step free so_far =
           ∙ sym (ap (λ n. moved_from (moved_in t) (map (cell_at s) (counted_from var (first + at) n))) left)
           ∙ so_far,
     )
+
+-- one place more that is not moved out
+pub out_step : (s : Storage) (var first count at : ℕ) (want : Bool) → at < count → (let p : Place = record { var = var; index = first + at } in IsSome (value_at s p))
+    → list_any (λ place. is_none (value_at s place)) (counted_from var (first + at) (count - at)) ≡ want → list_any (λ place. is_none (value_at s place)) (counted_from var (first + (at + 1)) (count - (at + 1))) ≡ want
+out_step s var first count at want low here so_far =
+    let p : Place = record { var = var; index = first + at } in
+    let left : count - at ≡ suc (count - (at + 1)) = omega arith in
+    let next : first + (at + 1) ≡ (first + at) + 1 = omega arith in
+    let rest : List Place = counted_from var ((first + at) + 1) (count - (at + 1)) in
+    let go : (o : Option Value) → IsSome o → is_none o ≡ false = λ o. elim o as (λ z. IsSome z → is_none z ≡ false) [ None ↦ λ e. cc | Some v ↦ λ e. refl ] in
+    ap (λ n. list_any (λ place. is_none (value_at s place)) (counted_from var n (count - (at + 1)))) next
+    ∙ sym (ap (λ b. b || list_any (λ place. is_none (value_at s place)) rest) (go (value_at s p) here))
+    ∙ sym (ap (λ n. list_any (λ place. is_none (value_at s place)) (counted_from var (first + at) n)) left)
+    ∙ so_far
+
+-- and one that is
+pub out_found : (s : Storage) (var first count at : ℕ) (want : Bool) → at < count → (let p : Place = record { var = var; index = first + at } in value_at s p ≡ None)
+    → list_any (λ place. is_none (value_at s place)) (counted_from var (first + at) (count - at)) ≡ want → true ≡ want
+out_found s var first count at want low here so_far =
+    let left : count - at ≡ suc (count - (at + 1)) = omega arith in
+    let rest : List Place = counted_from var ((first + at) + 1) (count - (at + 1)) in
+    sym (ap (λ (o : Option Value). is_none o || list_any (λ place. is_none (value_at s place)) rest) here)
+    ∙ sym (ap (λ n. list_any (λ place. is_none (value_at s place)) (counted_from var (first + at) n)) left)
+    ∙ so_far
+
+-- one cell more that has a defined value of its kind, or has none
+pub defined_step : (cells cells' : List Cell) (cell : Cell) (so_far this all : Bool) → cells' ≡ cells ++ cell ∷ [] → all ≡ (so_far && this) → (IsTrue this ↔ IsOfKind cell.kind cell.value) → (IsTrue so_far ↔ AreDefined cells)
+    → IsTrue all ↔ AreDefined cells'
+defined_step cells cells' cell so_far this all step both one before =
+    let P : Cell → Type 0 = λ c. IsOfKind c.kind c.value in
+    let there : (a b : Bool) → IsTrue (a && b) → IsTrue a × IsTrue b = λ a b h. elim a as (λ z. IsTrue (z && b) → IsTrue z × IsTrue b) [ true ↦ λ e. (search rules, e) | false ↦ λ e. absurd (false≢true e) ] h in
+    let back : (a b : Bool) → IsTrue a → IsTrue b → IsTrue (a && b) = λ a b h k. elim a as (λ z. IsTrue z → IsTrue (z && b)) [ true ↦ λ e. k | false ↦ λ e. absurd (false≢true e) ] h in (
+      λ h. subst (All P) (sym step) (let parts = there so_far this (subst IsTrue both h) in All-push P cells cell (before.0 parts.0) (one.0 parts.1)),
+      λ h. subst IsTrue (sym both) (let all_are = subst (All P) step h in back so_far this (before.1 (all_front P cells (cell ∷ []) all_are)) (one.1 (All-head P cell [] (all_behind P cells (cell ∷ []) all_are)))),
+    )
+
+pub out_is_none : (x : Slot) → ((v : Value) → x ≡ Home v → ⊥) → value_in x ≡ None
+out_is_none (Home v) h = absurd (h v refl)
+out_is_none (Out n) h = refl

@@ -1,17 +1,23 @@
 -- The store's slots, seen as values.
-use Rattle.std.proofs.Common.{◌≡◌, ℕ, zero, suc, ◌≤◌, List, [], ◌∷◌, ◌++◌, length, map, take, replicate, Option, Some, refl, sym, ap, ◌∙◌, arith}
+use Rattle.std.proofs.Common.{◌≡◌, ℕ, zero, suc, ◌≤◌, Bool, true, List, [], ◌∷◌, ◌++◌, length, map, take, replicate, Option, Some, None, is_none, unwrap_or, refl, sym, ap, ◌∙◌, arith}
+use Rattle.std.specs.List.{list_any}
+use Rattle.std.specs.Option.{option_map, option_map_or, option_flatten}
 use Rattle.fj_value.specs.declared.kind.Kind.{Kind}
 use Rattle.fj_value.specs.declared.place.Place.{Place}
 use Rattle.fj_value.specs.declared.value.Cell.{Cell}
 use Rattle.fj_value.specs.declared.value.Value.{Value}
 use Rattle.fj_value.specs.declared.value.Value.TheVariants.{Undefined}
+use Rattle.fj_store.specs.declared.run.Run.{Run}
 use Rattle.fj_store.specs.declared.slot.Slot.{Slot}
 use Rattle.fj_store.specs.declared.slot.Slot.TheVariants.{Home}
 use Rattle.fj_store.specs.Kinds.{kind_at, of_kind}
-use Rattle.fj_store.specs.Tables.{with_element, with_cells}
-use Rattle.fj_store.specs.Storage.{Storage, storage, value_in, all_undefined, with_value, returned, given_back}
-use Rattle.fj_store.specs.Taking.{home}
-use Rattle.fj_store.proofs.TableLemmas.{mapped_with}
+use Rattle.fj_store.specs.Places.{places_of}
+use Rattle.fj_store.specs.Tables.{element_at, with_element, with_cells}
+use Rattle.fj_store.specs.Storage.{Storage, storage, value_in, all_undefined, value_at, values_of, with_value, returned, given_back}
+use Rattle.fj_store.specs.Taking.{home, value_read}
+use Rattle.fj_store.specs.Variables.{is_undefined, value_at as plain_value}
+use Rattle.fj_store.proofs.RunLemmas.{any_at_run, any_lost}
+use Rattle.fj_store.proofs.TableLemmas.{mapped_at, mapped_with}
 
 abbrev with_values : List Kind → List (List (Option Value)) → Storage
 with_values kinds values = record { kinds = kinds; values = values }
@@ -77,3 +83,42 @@ new_is variables kinds slots i past kinds_are slots_are =
     ap (λ ks. storage ks slots) (kinds_are ∙ ap (map (λ v. v.0)) all)
     ∙ ap (storage (map (λ v. v.0) variables)) (slots_are ∙ ap (map (λ v. replicate v.1 (Home Undefined))) all)
     ∙ ap (with_values (map (λ v. v.0) variables)) (rows_undefined variables)
+
+-- ---- tests of the places of a run
+
+-- what is read of a slot, as a plain variable
+abbrev read_by : Option Slot → Value
+read_by o = option_map_or value_read o Undefined
+
+plain_read : (kinds : List Kind) (slots : List (List Slot)) (s : Storage) (p : Place) → storage kinds slots ≡ s → plain_value (values_of s) p ≡ read_by (element_at slots p)
+plain_read kinds slots s p view =
+    let go : (o : Option Slot) → unwrap_or (option_map (λ v. unwrap_or v Undefined) (option_map value_in o)) Undefined ≡ read_by o =
+    λ o. elim o as (λ z. unwrap_or (option_map (λ v. unwrap_or v Undefined) (option_map value_in z)) Undefined ≡ read_by z) [ None ↦ refl | Some x ↦ refl ] in
+    ap (λ z. plain_value (values_of z) p) (sym view)
+    ∙ ap (λ o. unwrap_or o Undefined) (mapped_at (λ v. unwrap_or v Undefined) (map (map value_in) slots) p ∙ ap (option_map (λ v. unwrap_or v Undefined)) (mapped_at value_in slots p))
+    ∙ go (element_at slots p)
+
+pub stored_read : (kinds : List Kind) (slots : List (List Slot)) (s : Storage) (p : Place) → storage kinds slots ≡ s → value_at s p ≡ option_flatten (option_map value_in (element_at slots p))
+stored_read kinds slots s p view = ap (λ z. value_at z p) (sym view) ∙ ap option_flatten (mapped_at value_in slots p)
+
+pub undefined_at_run : (kinds : List Kind) (slots : List (List Slot)) (s : Storage) (row : List Slot) (run : Run) (b : Bool) → storage kinds slots ≡ s → map Some row ≡ map (element_at slots) (places_of run)
+    → b ≡ list_any (λ slot. is_undefined (value_read slot)) row → b ≡ list_any (λ place. is_undefined (plain_value (values_of s) place)) (places_of run)
+undefined_at_run kinds slots s row run b view read made =
+    made ∙ any_at_run slots row (places_of run) (λ slot. is_undefined (value_read slot)) (λ o. is_undefined (read_by o)) (λ place. is_undefined (plain_value (values_of s) place)) read (λ x. refl)
+    (λ p. ap is_undefined (plain_read kinds slots s p view))
+
+pub undefined_lost : (kinds : List Kind) (slots : List (List Slot)) (s : Storage) (run : Run) → storage kinds slots ≡ s → list_any (λ place. is_none (element_at slots place)) (places_of run) ≡ true
+    → true ≡ list_any (λ place. is_undefined (plain_value (values_of s) place)) (places_of run)
+undefined_lost kinds slots s run view lost =
+    any_lost slots (places_of run) (λ o. is_undefined (read_by o)) (λ place. is_undefined (plain_value (values_of s) place)) lost refl (λ p. ap is_undefined (plain_read kinds slots s p view))
+
+pub out_at_run : (kinds : List Kind) (slots : List (List Slot)) (s : Storage) (row : List Slot) (run : Run) (b : Bool) → storage kinds slots ≡ s → map Some row ≡ map (element_at slots) (places_of run)
+    → b ≡ list_any (λ slot. is_none (value_in slot)) row → b ≡ list_any (λ place. is_none (value_at s place)) (places_of run)
+out_at_run kinds slots s row run b view read made =
+    made ∙ any_at_run slots row (places_of run) (λ slot. is_none (value_in slot)) (λ o. is_none (option_flatten (option_map value_in o))) (λ place. is_none (value_at s place)) read (λ x. refl)
+    (λ p. ap (λ (o : Option Value). is_none o) (stored_read kinds slots s p view))
+
+pub out_lost : (kinds : List Kind) (slots : List (List Slot)) (s : Storage) (run : Run) → storage kinds slots ≡ s → list_any (λ place. is_none (element_at slots place)) (places_of run) ≡ true
+    → true ≡ list_any (λ place. is_none (value_at s place)) (places_of run)
+out_lost kinds slots s run view lost =
+    any_lost slots (places_of run) (λ o. is_none (option_flatten (option_map value_in o))) (λ place. is_none (value_at s place)) lost refl (λ p. ap (λ (o : Option Value). is_none o) (stored_read kinds slots s p view))

@@ -1,8 +1,10 @@
 -- What taking places out one behind the other comes to: a place that was taken has the number of its cell.
-use Rattle.std.specs.Prelude.{◌+◌, ◌≤◌, ℕ, List, [], ◌∷◌, ◌++◌, length, vec_capacity, Option, Some, None}
+use Rattle.std.specs.Prelude.{◌+◌, ◌≤◌, ℕ, List, [], ◌∷◌, ◌++◌, length, vec_capacity, Option, Some, None, unwrap_or}
 use Rattle.fj_value.specs.declared.kind.Kind.{Kind}
 use Rattle.fj_value.specs.declared.place.Place.{Place}
 use Rattle.fj_value.specs.declared.value.Cell.{Cell}
+use Rattle.fj_value.specs.declared.value.Value.{Value}
+use Rattle.fj_value.specs.declared.value.Value.TheVariants.{Undefined}
 use Rattle.fj_store.specs.declared.piece.Piece.{Piece}
 use Rattle.fj_store.specs.declared.piece.Piece.TheVariants.{Places, Own}
 use Rattle.fj_store.specs.declared.run.Run.{Run}
@@ -12,6 +14,7 @@ use Rattle.fj_store.specs.declared.taken.Taken.{Taken}
 use Rattle.fj_store.specs.Kinds.{kind_at, of_kind}
 use Rattle.fj_store.specs.Pieces.{own_cell}
 use Rattle.fj_store.specs.Places.{places_of}
+use Rattle.fj_store.specs.Storage.{value_in}
 use Rattle.fj_store.specs.Tables.{element_at, with_element}
 
 pub record Taking : Type 0 where
@@ -64,3 +67,7 @@ take_pieces kinds number t (Own kind value ∷ pieces) = take_pieces kinds (numb
 -- the value of a cell, at home again as it was
 abbrev pub home_again : Cell → Slot
 home_again cell = Home cell.value
+
+-- what reading a slot gives: a value that is moved out is undefined
+abbrev pub value_read : Slot → Value
+value_read slot = unwrap_or (value_in slot) Undefined

@@ -1,5 +1,6 @@
 // The kinds of variables, and values as their kinds have them.
-ghost use Rattle.std.specs.Prelude.{◌≡◌};
+ghost use Rattle.std.specs.Prelude.{◌≡◌, ◌↔◌, IsTrue};
+ghost use Rattle.fj_value.specs.Kind.{IsOfKind};
 ghost use Rattle.fj_store.specs.Kinds.{kind_at, is_of_kind, of_kind};
 
 use fj_value::{Kind, Value};
@@ -35,5 +36,20 @@ pub(crate) fn of_kind(kind: Kind, value: Value) -> Value
         value
     } else {
         Value::Undefined
+    }
+}
+
+/// Whether a value is a defined one of a kind.
+pub(crate) fn is_defined(kind: Kind, value: &Value) -> bool
+    ensures { IsTrue result ↔ IsOfKind kind value.now }
+{
+    match (kind, value) {
+        (Kind::Int4, Value::Int(number)) => *number >= -2147483648 && *number < 2147483648,
+        (Kind::Int8, Value::Int(number)) => {
+            *number >= -9223372036854775808 && *number <= 9223372036854775807
+        }
+        (Kind::Logical, Value::Log(_)) => true,
+        (Kind::Chars(length), Value::Chars(text)) => text.bytes().len() == length as usize,
+        _ => false,
     }
 }

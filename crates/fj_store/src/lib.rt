@@ -2,6 +2,7 @@
 //! pending transfers uses too.
 #![tactic(auto)]
 
+mod copied;
 mod kinds;
 mod laws;
 mod piece;
@@ -11,6 +12,7 @@ mod store;
 mod table;
 mod taken;
 
+pub use copied::Copied;
 pub use kinds::is_of_kind;
 pub use laws::{
     all_comes_back, cells_are_distinct, cells_come_back, items_have_cells, just_these_are_out,

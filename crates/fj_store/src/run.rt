@@ -14,6 +14,7 @@ pub struct Run {
 
 impl Run {
     ghost use Rattle.std.specs.Prelude.{◌≡◌, ◌+◌, ◌<◌, ◌∷◌, []};
+    ghost use Rattle.std.specs.List.{list_any};
     ghost use Rattle.fj_store.specs.Places.{places_of, is_among};
 
     /// One place.
@@ -38,6 +39,22 @@ impl Run {
             return false;
         }
         place.index - self.first < self.count
+    }
+
+    /// The index behind its places.
+    fn end(self) -> u64
+        ensures { result ≡ self.first + self.count }
+    {
+        u64::from(self.first) + u64::from(self.count)
+    }
+
+    /// Whether it has a place of another run.
+    pub fn meets(self, other: Run) -> bool
+        ensures { result ≡ list_any (is_among (places_of other)) (places_of self) }
+    {
+        let first = self.first.max(other.first);
+        let end = self.end().min(other.end());
+        self.var == other.var && u64::from(first) < end
     }
 
     /// The place behind so many others.

@@ -1,21 +1,23 @@
 // The variables of a deck: what their places hold, and taking values out and giving them back.
-ghost use Rattle.std.specs.Prelude.{◌≡◌, ◌<◌, ◌≤◌, ◌∷◌, [], length, All, map, replicate, IsSome, IfSome, IfOk, OnOk, OnErr};
+ghost use Rattle.std.specs.Prelude.{◌≡◌, ◌↔◌, ◌<◌, ◌≤◌, ◌∷◌, [], length, All, map, replicate, is_none, IsTrue, IsSome, IfSome, IfOk, OnOk, OnErr};
+ghost use Rattle.std.specs.List.{list_any};
 ghost use Rattle.std.specs.Option.{option_copied};
 ghost use Rattle.fj_store.specs.Places.{places_of, places_in};
 ghost use Rattle.fj_store.specs.Tables.{with_element, with_cells};
 ghost use Rattle.fj_store.specs.Kinds.{kind_at, of_kind};
-ghost use Rattle.fj_store.specs.Storage.{all_undefined, value_at, cell_at, with_value, without, given_back};
-ghost use Rattle.fj_store.specs.Variables.{moved_of};
-ghost use Rattle.fj_store.specs.Pieces.{no_variable, cells_in, places_among, sizes};
+ghost use Rattle.fj_store.specs.Storage.{all_undefined, value_at, cell_at, with_value, without, given_back, values_of};
+ghost use Rattle.fj_store.specs.Variables.{moved_of, is_undefined, value_at as plain_value};
+ghost use Rattle.fj_store.specs.Pieces.{no_variable, cells_in, places_among, sizes, AreDefined};
 ghost use Rattle.fj_store.specs.Taking.{home, home_again};
 ghost use Rattle.fj_store.specs.declared.piece.Piece.TheVariants.{Places};
 ghost use Rattle.fj_store.specs.declared.slot.Slot.TheVariants.{Home};
 ghost use Rattle.fj_value.specs.declared.value.Value.TheVariants.{Undefined};
 
-use crate::kinds::{kind_in, of_kind};
+use crate::copied::{Copied, are_defined, both, copies};
+use crate::kinds::{is_defined, kind_in, of_kind};
 use crate::piece::Piece;
 use crate::run::Run;
-use crate::slot::Slot;
+use crate::slot::{Slot, any_out, any_undefined};
 use crate::table::Table;
 use crate::taken::{add_cell, count_of, room_for, take_pieces, take_places};
 use fj_list::{Cells, Moved};
@@ -81,32 +83,16 @@ fn put_again(slots: &mut Table<Slot>, cells: Vec<Cell>)
     }
 }
 
-/// The same cells once more.
-fn copies(alloc: Global, cells: &[Cell]) -> Result<Items<Cell>, AllocError>
-    ensures { IfOk result (λ copies. copies ≡ cells.now) }
-{
-    let mut copies = Items::new(alloc);
-    copies.reserve(cells.len())?;
-    for cell in cells {
-        copies.push(Cell {
-            place: cell.place,
-            kind: cell.kind,
-            value: cell.value.try_clone()?,
-        })?;
-    }
-    Ok(copies)
-}
-
-/// The run that the items are, where they are one run.
+/// The run that the items are, where they are one run that has places.
 fn only_run(pieces: &VecDeque<Piece>) -> Option<Run>
-    ensures { IfSome result (λ run. pieces.now.items ≡ Places run ∷ []) }
+    ensures { IfSome result (λ run. (pieces.now.items ≡ Places run ∷ []) × (0 < run.count)) }
 {
     if pieces.len() != 1 {
         return None;
     }
     match pieces.front() {
-        Some(Piece::Places(run)) => Some(*run),
-        Some(Piece::Own(_, _)) | None => None,
+        Some(Piece::Places(run)) if run.count > 0 => Some(*run),
+        Some(_) | None => None,
     }
 }
 
@@ -134,6 +120,32 @@ impl Store {
         }
     }
 
+    /// Whether a place of a run is undefined. One that is moved out is.
+    pub fn has_undefined(&self, run: Run) -> bool
+        ensures { result ≡ list_any (λ place. is_undefined (plain_value (values_of self.now) place)) (places_of run) }
+    {
+        if run.count == 0 {
+            return false;
+        }
+        match self.slots.at_run(run) {
+            Some(slots) => any_undefined(slots),
+            None => true,
+        }
+    }
+
+    /// Whether a place of a run is moved out. One that there is not counts as moved out.
+    pub fn has_out(&self, run: Run) -> bool
+        ensures { result ≡ list_any (λ place. is_none (value_at self.now place)) (places_of run) }
+    {
+        if run.count == 0 {
+            return false;
+        }
+        match self.slots.at_run(run) {
+            Some(slots) => any_out(slots),
+            None => true,
+        }
+    }
+
     /// Gives a place a value. One of another kind leaves it undefined.
     pub fn set(&mut self, place: Place, value: Value)
         ensures { self.new ≡ with_value self.old place value }
@@ -152,10 +164,7 @@ impl Store {
     {
         let mut taken = room_for(alloc, count_of(runs))?;
         take_places(&mut self.slots, &self.kinds, runs, &mut taken);
-        Ok(Moved {
-            cells: Items::from_vec(taken.cells),
-            order: Items::from_vec(taken.order),
-        })
+        Ok(taken.into_moved())
     }
 
     /// The number of its variables.
@@ -165,29 +174,48 @@ impl Store {
         self.slots.count()
     }
 
-    /// Copies the values of a run, whose places are distinct, in their order.
-    fn copy_of_run(&self, alloc: Global, run: Run) -> Result<Moved, AllocError>
-        requires { All (λ place. IsSome (value_at self.now place)) (places_of run) }
-        ensures { IfOk result (λ moved. moved ≡ moved_of (map (cell_at self.now) (places_of run))) }
+    /// Whether a place among items is moved out.
+    fn any_out(&self, pieces: &VecDeque<Piece>) -> bool
+        ensures { result ≡ list_any (λ place. is_none (value_at self.now place)) (places_among pieces.now.items) }
     {
+        for at in 0..pieces.len() {
+            if let Piece::Places(run) = &pieces[at] {
+                if self.has_out(*run) {
+                    return true;
+                }
+            }
+        }
+        false
+    }
+
+    /// Copies the values of a run, whose places are distinct, in their order; none where one is moved out.
+    fn copy_of_run(&self, alloc: Global, run: Run) -> Result<Option<Copied>, AllocError>
+        requires { 0 < run.count }
+        ensures out { IfOk result (λ o. is_none o ≡ list_any (λ place. is_none (value_at self.now place)) (places_of run)) }
+        ensures moved { IfOk result (λ o. IfSome o (λ copied. copied.moved ≡ moved_of (map (cell_at self.now) (places_of run)))) }
+        ensures defined { IfOk result (λ o. IfSome o (λ copied. IsTrue copied.defined ↔ AreDefined copied.moved.cells)) }
+    {
+        let Some(slots) = self.slots.at_run(run) else {
+            return Ok(None);
+        };
         let kind = kind_in(&self.kinds, run.var);
         let mut taken = room_for(alloc, run.count as usize)?;
+        let mut defined = true;
         for at in 0..run.count {
-            let place = run.place_at(at);
-            let Some(value) = self.read(place) else {
-                unreachable!();
+            let Slot::Home(value) = &slots[at as usize] else {
+                return Ok(None);
             };
+            defined = both(defined, is_defined(kind, value));
+            let place = run.place_at(at);
             let value = value.try_clone()?;
             add_cell(Cell { place, kind, value }, &mut taken);
         }
-        Ok(Moved {
-            cells: Items::from_vec(taken.cells),
-            order: Items::from_vec(taken.order),
-        })
+        let moved = taken.into_moved();
+        Ok(Some(Copied { moved, defined }))
     }
 
     /// Copies the values of so many items, each place once, in the order of the items. It changes nothing.
-    pub fn copy_of(
+    fn copy_of_pieces(
         &mut self,
         alloc: Global,
         pieces: VecDeque<Piece>,
@@ -199,9 +227,6 @@ impl Store {
         ensures moved { IfOk result (λ moved. moved ≡ moved_of (cells_in self.old pieces.items)) }
         ensures same { self.new ≡ self.old }
     {
-        if let Some(run) = only_run(&pieces) {
-            return self.copy_of_run(alloc, run);
-        }
         let mut taken = room_for(alloc, size as usize)?;
         take_pieces(&mut self.slots, &self.kinds, pieces, &mut taken);
         let cells = copies(alloc, &taken.cells);
@@ -210,6 +235,32 @@ impl Store {
             cells: cells?,
             order: Items::from_vec(taken.order),
         })
+    }
+
+    /// Copies the values of so many items, each place once, in the order of the items, where none of their places is moved out. It
+    /// changes nothing.
+    pub fn copy_of(
+        &mut self,
+        alloc: Global,
+        pieces: VecDeque<Piece>,
+        size: u32,
+    ) -> Result<Option<Copied>, AllocError>
+        requires size { sizes pieces.items ≤ size }
+        requires rows { length self.old.values ≤ no_variable }
+        ensures out { IfOk result (λ o. is_none o ≡ list_any (λ place. is_none (value_at self.old place)) (places_among pieces.items)) }
+        ensures moved { IfOk result (λ o. IfSome o (λ copied. copied.moved ≡ moved_of (cells_in self.old pieces.items))) }
+        ensures defined { IfOk result (λ o. IfSome o (λ copied. IsTrue copied.defined ↔ AreDefined copied.moved.cells)) }
+        ensures same { self.new ≡ self.old }
+    {
+        if let Some(run) = only_run(&pieces) {
+            return self.copy_of_run(alloc, run);
+        }
+        if self.any_out(&pieces) {
+            return Ok(None);
+        }
+        let moved = self.copy_of_pieces(alloc, pieces, size)?;
+        let defined = are_defined(moved.cells.as_slice());
+        Ok(Some(Copied { moved, defined }))
     }
 
     /// Puts the values of cells back to their places. One of another kind than its place leaves that undefined.

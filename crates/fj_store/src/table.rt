@@ -1,8 +1,11 @@
 // Tables with an element at each place of each variable.
-ghost use Rattle.std.specs.Prelude.{◌≡◌, [], ◌∷◌, ◌++◌, length, OnOk, OnErr};
+ghost use Rattle.std.specs.Prelude.{◌≡◌, ◌<◌, [], ◌∷◌, ◌++◌, true, length, map, is_none, Some, IfSome, IfNone, OnOk, OnErr};
+ghost use Rattle.std.specs.List.{list_any};
 ghost use Rattle.std.specs.Option.{option_copied};
+ghost use Rattle.fj_store.specs.Places.{places_of};
 ghost use Rattle.fj_store.specs.Tables.{element_at, with_element};
 
+use crate::run::Run;
 use fj_value::{Items, Place};
 use std::alloc::{AllocError, Global};
 use std::marker::Model;
@@ -48,6 +51,20 @@ impl<T> Table<T> {
         let at = place.index.checked_sub(1)?;
         let row = self.rows.get(place.var as usize)?;
         row.get(at as usize)
+    }
+
+    /// What stands at the places of a run, one behind the other, if it has them all.
+    pub fn at_run(&self, run: Run) -> Option<&[T]>
+        ensures some { IfSome result (λ row. map Some row.now ≡ map (element_at self.now) (places_of run)) }
+        ensures none { IfNone result (0 < run.count → list_any (λ place. is_none (element_at self.now place)) (places_of run) ≡ true) }
+    {
+        let first = run.first.checked_sub(1)? as usize;
+        let row = self.rows.get(run.var as usize)?;
+        let end = first + run.count as usize;
+        if end > row.len() {
+            return None;
+        }
+        Some(&row.as_slice()[first..end])
     }
 }
 

@@ -2,7 +2,7 @@
 ghost use Rattle.std.specs.Prelude.{◌≡◌, [], ◌∷◌, IfOk};
 ghost use Rattle.fj_store.specs.Pieces.{places_among, sizes};
 
-use crate::{Piece, Run, Store};
+use crate::{Copied, Piece, Run, Store};
 use fj_list::Moved;
 use fj_value::{Cell, Kind, Place, Value};
 use std::alloc::{AllocError, Global};
@@ -76,14 +76,14 @@ fn pieces_of(alloc: Global) -> Result<VecDeque<Piece>, AllocError>
 }
 
 /// Copies these, once more where memory was refused.
-fn copy(store: &mut Store, alloc: Global) -> Option<Moved> {
+fn copy(store: &mut Store, alloc: Global) -> Option<Copied> {
     for _ in 0..2u8 {
-        if store.read(A).is_none() || store.count() > 4294967295 {
+        if store.count() > 4294967295 {
             return None;
         }
         if let Ok(pieces) = pieces_of(alloc) {
-            if let Ok(moved) = store.copy_of(alloc, pieces, 4) {
-                return Some(moved);
+            if let Ok(copied) = store.copy_of(alloc, pieces, 4) {
+                return copied;
             }
         }
     }
@@ -148,10 +148,12 @@ fn items_are_copied(rt: HostRuntime) -> Result<(), Fail> {
     let alloc = rt.alloc();
     let mut store = new_store(alloc)?;
     store.set(A, Value::Int(7));
-    let Some(moved) = copy(&mut store, alloc) else {
+    let Some(copied) = copy(&mut store, alloc) else {
         assert!(rt; false, "nothing is copied");
         return Ok(());
     };
+    let moved = copied.moved;
+    assert!(rt; copied.defined);
     assert!(rt; has_cells(&moved, &[(0, 1, 7), (4294967295, 1, 4), (4294967295, 2, 0)]));
     assert!(rt; moved.order.as_slice() == [0, 1, 2, 0].as_slice());
     assert!(rt; has(&store, A, 7));

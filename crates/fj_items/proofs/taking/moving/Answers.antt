@@ -46,8 +46,8 @@ returns-then-t-clause-fits c = λ is finds.
 
 pub returns-clause-fits : goal.returns-clause-fits
 returns-clause-fits c = λ is finds.
-    c.job_with-2.ensures.fits (grouped c.args.variables.now (values_of c.args.store.now) c.args.t.now c.in_ok-moved-2.moved is c.in_ok-moved-2.ensures.moved)
-    (has_values c.args.variables.now c.args.store.now c.args.t.now c.in_ok-moved-2.moved is finds c.in_ok-moved-2.ensures.moved)
+    c.job_with-2.ensures.fits (grouped c.args.variables.now (values_of c.args.store.now) c.args.t.now c.in_ok-copy.copy.moved is c.in_ok-copy.ensures.moved)
+    (has_values c.args.variables.now c.args.store.now c.args.t.now c.in_ok-copy.copy.moved is finds c.in_ok-copy.ensures.moved)
 
 pub returns-then-t-clause-keeps : goal.returns-then-t-clause-keeps
 returns-then-t-clause-keeps c = λ kept.

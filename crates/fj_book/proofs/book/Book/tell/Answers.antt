@@ -1,4 +1,4 @@
-use Rattle.std.proofs.Common.{◌≡◌, not, filter, remove, sym, ap, ◌∙◌}
+use Rattle.std.proofs.Common.{◌≡◌, not, filter, remove, sym, ap, ◌∙◌, arith}
 use Rattle.std.specs.List.{find}
 use Rattle.fj_book.specs.Entries.{has_tag, tag_of}
 use Rattle.fj_book.proofs.BookLemmas.{ascending_removed, find_absent, filter_absent, find_at, filter_at, same_read}
@@ -21,7 +21,7 @@ invariant_of-self-2 c =
     let at = c.in_ok-at.at in
     let low = c.in_ok-at.ensures.some.0 in
     kept_as (remove es at) c.remove.new.self.items c.count_out.new.inputs c.count_out.new.outputs c.in_ok-pending.ensures.items (ascending_removed es at low c.self.invariant.ascending)
-    (c.count_out.ensures es at low (λ d. same_read es at d c.in_ok-pending.pending low ∙ sym c.in_ok-pending.ensures.value) (c.self.invariant.inputs_counted, c.self.invariant.outputs_counted))
+    (c.count_out.ensures es at low (omega (arith, c.self.inside.entries.ok, c.self.inside.entries.small)) (λ d. same_read es at d c.in_ok-pending.pending low ∙ sym c.in_ok-pending.ensures.value) (c.self.invariant.inputs_counted, c.self.invariant.outputs_counted))
 
 pub returns-clause-told : goal.returns-clause-told
 returns-clause-told c =
