@@ -289,6 +289,9 @@ impl<'a> Walker<'a> {
         ensures came { CameTo left (rest_of self.old) result (rest_of self.new) }
         ensures sound { IsSound self.new }
     {
+        if left && let Some((edit, _)) = self.repeats(1) {
+            return Walked::Gave(Step::Edit(edit));
+        }
         loop {
             let Some(piece) = self.piece() else {
                 return Walked::Ended;

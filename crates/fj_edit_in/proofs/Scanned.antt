@@ -1,5 +1,5 @@
 -- Reading digits one by one.
-use Rattle.std.proofs.Common.{◌≡◌, ◌≢◌, ℕ, ◌+◌, ◌*◌, ◌^◌, ◌<◌, ◌≤◌, Bool, true, false, not, ◌&&◌, cond, eqb, ltb, List, [], ◌∷◌, ◌++◌, length, get_or, take, drop, map, Option, Some, None, ok_or, append-nil, subst, inl, inr, ◌⊎◌, refl, sym, ap, ◌∙◌, arith}
+use Rattle.std.proofs.Common.{◌≡◌, ◌≢◌, ℕ, ◌+◌, ◌-◌, ◌*◌, ◌^◌, ◌<◌, ◌≤◌, Bool, true, false, not, ◌&&◌, cond, eqb, ltb, List, [], ◌∷◌, ◌++◌, length, get_or, take, drop, map, Option, Some, None, Ok, ok_or, append-nil, subst, inl, inr, ◌⊎◌, refl, sym, ap, ◌∙◌, arith}
 use Rattle.std.proofs.lemmas.List.{map-append, take_more, length_push, nil_from_length, take-append-drop, take_all}
 use Rattle.std.proofs.lemmas.List.Elements.{filter-append}
 use Rattle.std.proofs.lemmas.List.Folds.{list_all-append}
@@ -150,3 +150,21 @@ field_fails base blank_zero chars i some amount end any before =
     let P : List ℕ → Bool → Type 0 = λ xs b. Scanned base (blanks_read blank_zero xs) b amount in
     let all = subst (λ (b : Bool). P (take i chars) b) any before in
     number_fails base (blanks_read blank_zero chars) amount (subst (λ (xs : List ℕ). P xs false) (take_all i chars end) all)
+
+-- ---- decimal digits alone
+
+pub plain_more : (blank_zero : Bool) (chars : List ℕ) (i : ℕ) (some : Bool) (amount next : ℕ) → i < length chars → 48 ≤ get_or chars i 0 → get_or chars i 0 ≤ 57 → next ≡ amount * 10 + (get_or chars i 0 - 48) → next < 2 ^ 64
+    → Scanned 10 (blanks_read blank_zero (take i chars)) some (Some amount) → Scanned 10 (blanks_read blank_zero (take (i + 1) chars)) (ltb 0 (i + 1)) (Some next)
+plain_more blank_zero chars i some amount next within low high is fits before =
+    let c = get_or chars i 0 in
+    let other : c ≢ 32 = λ e. absurd (omega arith) in
+    let value : digit_value (as_digit c) ≡ c - 48 = grind (arith, nat_tests) in
+    let P : Bool → Option ℕ → Type 0 = λ b o. Scanned 10 (blanks_read blank_zero (take (i + 1) chars)) b o in
+    let number : next_amount 10 (digit_value (as_digit c)) (Some amount) ≡ Some next =
+    ap (λ d. below_64_bits (amount * 10 + d)) value ∙ ap below_64_bits (sym is) ∙ below_low next fits in
+    subst (λ (b : Bool). P b (Some next)) (sym (some_true (i + 1) (omega arith)))
+    (subst (λ (o : Option ℕ). P true o) number (scanned_more 10 blank_zero chars i some (Some amount) (omega arith) within (inr other) (omega (arith, value)) before))
+
+pub plain_ends : (blank_zero : Bool) (chars : List ℕ) (i amount : ℕ) → length chars ≤ i → 0 < length chars → Scanned 10 (blanks_read blank_zero (take i chars)) (ltb 0 i) (Some amount)
+    → amount_or_condition (number_in 10 (blanks_read blank_zero chars)) ≡ Ok amount
+plain_ends blank_zero chars i amount end some before = sym (field_ends 10 blank_zero chars i (ltb 0 i) (Some amount) end (some_true i (omega arith)) before)
