@@ -17,6 +17,7 @@ pub mod FewJobs
 pub mod Counts
 pub mod Steady
 pub mod Bounded
+pub mod Awaited
 pub mod Stages
 pub mod Turned
 pub mod Passed

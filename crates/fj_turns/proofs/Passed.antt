@@ -1,5 +1,5 @@
 -- Where in a deck the runner stands, and the statements that it passes from there.
-use Rattle.std.proofs.Common.{◌≡◌, ◌⊎◌, ℕ, zero, suc, true, List, [], ◌∷◌, set, Option, Some, None, is_some, slice_get, drop, refl, sym, ap, ◌∙◌, subst, inl, inr}
+use Rattle.std.proofs.Common.{◌≡◌, ◌⊎◌, ℕ, zero, suc, ◌<◌, ◌≤◌, true, List, [], ◌∷◌, set, get_or, Option, Some, None, is_some, slice_get, drop, refl, sym, ap, ◌∙◌, subst, inl, inr, arith}
 use Rattle.std.specs.Prelude.{option_and_then, if◌then◌else◌}
 use Rattle.fj_statement.specs.declared.deck.Variable.{Variable}
 use Rattle.fj_slot.specs.Serving.{Meaning}
@@ -16,9 +16,11 @@ use Rattle.fj_desk.specs.Desking.{desk_step}
 use Rattle.fj_turns.specs.Run.{Stage, Start, Waiting, Acting, Awaiting, Run}
 use Rattle.fj_turns.specs.Turns.{Turn, Pauses, Passes, Stops, turn, Asked, goes, by_turn, asked, told_of}
 use Rattle.fj_turns.specs.Serving.{over_bays, desks_of}
+use Rattle.fj_turns.specs.Awaiting.{IsAwaited, AwaitedAreTold}
 use Rattle.fj_turns.specs.Inside.{does, cut_desks}
 use Rattle.fj_turns.specs.Passing.{passed_by, passed_on, passes, output_due, known_due, tells_due, IsBefore, IsOnward, StandsAt}
 use Rattle.fj_turns.specs.Standing.{HasTold}
+use Rattle.fj_turns.proofs.Awaited.{bump_more, below_or, TurnTold, turn_told}
 use Rattle.fj_turns.proofs.Slots.{same_some}
 use Rattle.fj_turns.proofs.Ties.{Ties, more, given}
 use Rattle.fj_turns.proofs.Reaching.{asked_at}
@@ -52,6 +54,23 @@ cut_next variables (suc index) (x ∷ deck) p st before e none =
     by (Some ending) f later =
         absurd (let z : None ≡ Some (st, before) = sym (ap (λ o. elim o as (λ _. Option (Stated × Desked)) [ None ↦ cut_desks variables index deck (desk_step variables x p).0 | Some y ↦ None ]) f) ∙ e in cc)
 
+-- ---- the jobs that earlier statements wait for
+
+-- more of each slot were told
+told_more : (variables : List Variable) (deck : List Stated) (first : Desked) (last : ℕ) (told more : List ℕ) → ((k : ℕ) → get_or told k 0 ≤ get_or more k 0) → AwaitedAreTold variables deck first last told
+    → AwaitedAreTold variables deck first last more
+told_more variables deck first last told more h all slot number x = let was = all slot number x in let less = h slot in omega (arith, was, less)
+
+-- and those of one more statement
+one_place_more : (variables : List Variable) (deck : List Stated) (first : Desked) (index : ℕ) (st : Stated) (before : Desked) (told : List ℕ) → cut_desks variables index deck first ≡ Some (st, before)
+    → AwaitedAreTold variables deck first index told → ((slot number : ℕ) → IsAwaited variables st before slot number → number < get_or told slot 0) → AwaitedAreTold variables deck first (suc index) told
+one_place_more variables deck first index st before told e all here slot number x = elim (below_or x.index index x.earlier) [
+  | inl low ↦ all slot number (record { index = x.index; earlier = low; statement = x.statement; before = x.before; reached = x.reached; awaited = x.awaited })
+  | inr same ↦
+      let is : ◌≡◌ {A = Stated × Desked} (x.statement, x.before) (st, before) = same_some (sym x.reached ∙ ap (λ i. cut_desks variables i deck first) same ∙ e) in
+      here slot number (subst (λ y. IsAwaited variables y.0 y.1 slot number) is x.awaited)
+]
+
 -- where a statement is passed, the runner goes on at the next one
 goes_asked : (sts : List Stated) (r : Run) → r.ending ≡ None → r.stage ≡ Start → goes sts r ≡ asked (record r { rest = sts })
 goes_asked [] r none start =
@@ -78,6 +97,8 @@ module _ {E J A : Type 0} (m : Meaning E J A Bay Job Answer) (variables : List V
     pub variables_are : r.variables ≡ variables
     pub going : r.ending ≡ None
     pub stands : AtStage m variables statement before r qs r.stage
+    -- each job that an earlier statement waits for was told
+    pub earlier : AwaitedAreTold variables deck first index r.told
 
   -- the deck ended at a statement, which is the one at hand
   pub record EndedAt (run : Run) : Type 0 where
@@ -88,6 +109,7 @@ module _ {E J A : Type 0} (m : Meaning E J A Bay Job Answer) (variables : List V
     pub place : run.rest ≡ drop index deck
     pub ended : (desk_step variables statement before).1 ≡ run.ending
     pub some : is_some run.ending ≡ true
+    pub earlier : AwaitedAreTold variables deck first index run.told
 
   -- no statement is left, or the deck ended
   abbrev pub Over : Run → Type 0
@@ -108,8 +130,8 @@ module _ {E J A : Type 0} (m : Meaning E J A Bay Job Answer) (variables : List V
   moved_ties : (rest : List Stated) (r : Run) (qs : List (PlainSlot Bay Job)) (p : Desked) → Ties m r qs p → Ties m (record r { rest = rest }) qs p
   moved_ties rest r qs p t = record { core = t.core; desks = t.desks; sent = t.sent; told = t.told; within = t.within; slots = t.slots; housed = t.housed; same = t.same; kept = t.kept }
 
-  next_at : (r : Run) (qs : List (PlainSlot Bay Job)) (x : At r qs) (run : Run) → Passed m variables x.statement x.before run qs → (x.behind ≡ []) ⊎ At (record run { rest = x.behind }) qs
-  next_at r qs x run w = by x.behind refl
+  next_at : (r : Run) (qs : List (PlainSlot Bay Job)) (x : At r qs) (run : Run) → run.told ≡ r.told → Passed m variables x.statement x.before run qs → (x.behind ≡ []) ⊎ At (record run { rest = x.behind }) qs
+  next_at r qs x run same w = by x.behind refl
     where
       left : drop (suc x.index) deck ≡ x.behind
       left = drop_next x.index deck x.statement x.behind (sym x.place ∙ x.here)
@@ -127,15 +149,17 @@ module _ {E J A : Type 0} (m : Meaning E J A Bay Job Answer) (variables : List V
         variables_are = w.variables_same;
         going = w.going;
         stands = subst (AtStage m variables st (desk_step variables x.statement x.before).0 (record run { rest = x.behind }) qs) (sym w.start) (moved_ties x.behind run qs (desk_step variables x.statement x.before).0 w.ties);
+        earlier = subst (AwaitedAreTold variables deck first (suc x.index)) (sym same)
+            (one_place_more variables deck first x.index x.statement x.before r.told x.reached x.earlier (subst (λ ts. (slot number : ℕ) → IsAwaited variables x.statement x.before slot number → number < get_or ts slot 0) same w.awaited));
       })
 
   passed_at : (r : Run) (qs : List (PlainSlot Bay Job)) (x : At r qs) (count : ℕ) (run : Run)
       → ((r2 : Run) → At r2 qs → passes count r2 ≡ Some run → (run.rest ≡ []) ⊎ At run qs)
-      → (t : Turn) → TurnComes m variables x.statement x.before r.rest qs t → option_and_then (passes count) (passed_by x.behind t) ≡ Some run → (run.rest ≡ []) ⊎ At run qs
-  passed_at r qs x count run later (Pauses ask r2) w e = absurd (let z : None ≡ Some run = e in cc)
-  passed_at r qs x count run later (Stops r2) w e = absurd (let z : None ≡ Some run = e in cc)
-  passed_at r qs x count run later (Passes r2) w e =
-      elim (next_at r qs x r2 w) [
+      → (t : Turn) → TurnTold r.told t → TurnComes m variables x.statement x.before r.rest qs t → option_and_then (passes count) (passed_by x.behind t) ≡ Some run → (run.rest ≡ []) ⊎ At run qs
+  passed_at r qs x count run later (Pauses ask r2) told w e = absurd (let z : None ≡ Some run = e in cc)
+  passed_at r qs x count run later (Stops r2) told w e = absurd (let z : None ≡ Some run = e in cc)
+  passed_at r qs x count run later (Passes r2) told w e =
+      elim (next_at r qs x r2 told w) [
         | inl none ↦ inl (passes_none count (record r2 { rest = x.behind }) run none e)
         | inr y ↦ later (record r2 { rest = x.behind }) y e
       ]
@@ -144,7 +168,7 @@ module _ {E J A : Type 0} (m : Meaning E J A Bay Job Answer) (variables : List V
   pub passes_stand : (count : ℕ) (r : Run) (qs : List (PlainSlot Bay Job)) → At r qs → (run : Run) → passes count r ≡ Some run → (run.rest ≡ []) ⊎ At run qs
   passes_stand zero r qs x run e = let same : r ≡ run = same_some e in inr (subst (λ k. At k qs) same x)
   passes_stand (suc count) r qs x run e =
-      passed_at r qs x count run (λ r2 y f. passes_stand count r2 qs y run f) (turn x.statement r.stage r) (comes_at r qs x)
+      passed_at r qs x count run (λ r2 y f. passes_stand count r2 qs y run f) (turn x.statement r.stage r) (turn_told x.statement r.stage r) (comes_at r qs x)
       (sym (ap (λ l. option_and_then (passes count) (passed_on l r)) x.here) ∙ e)
 
   -- ---- where it stands
@@ -192,23 +216,24 @@ module _ {E J A : Type 0} (m : Meaning E J A Bay Job Answer) (variables : List V
 
   -- ---- what it asks next
 
-  -- inside a statement that leaves the output that there was
-  pub record AtAsk (r : Run) (qs : List (PlainSlot Bay Job)) : Type 0 where
+  -- inside a statement that leaves the output that there was; so many were told before the answer
+  pub record AtAsk (told : List ℕ) (r : Run) (qs : List (PlainSlot Bay Job)) : Type 0 where
     pub stands : At r qs
     pub leaves : r.core.output ≡ (desk_step variables stands.statement stands.before).0.core.output
+    pub before_it : AwaitedAreTold variables deck first stands.index told
 
   -- once the ask is answered it stands inside a statement; or it has finished
   abbrev pub Led : Ask Job → Run → List (PlainSlot Bay Job) → Type 0
-  Led (Submit slot job) run qs = (q : PlainSlot Bay Job) × (slice_get qs slot ≡ Some q) × AtAsk run (set qs slot (given q job))
+  Led (Submit slot job) run qs = (q : PlainSlot Bay Job) × (slice_get qs slot ≡ Some q) × AtAsk run.told run (set qs slot (given q job))
   Led (Settle slot) run qs =
-      (q : PlainSlot Bay Job) × (slice_get qs slot ≡ Some q) × (o : Outcome) × (outcome (over_bays m) q.start q.jobs q.told ≡ Some o) × AtAsk (told_of run o) (set qs slot (more q))
+      (q : PlainSlot Bay Job) × (slice_get qs slot ≡ Some q) × (o : Outcome) × (outcome (over_bays m) q.start q.jobs q.told ≡ Some o) × AtAsk run.told (told_of run o) (set qs slot (more q))
   Led Finished run qs = Over run
 
   abbrev LedBy : Asked → List (PlainSlot Bay Job) → Type 0
   LedBy a qs = Led a.ask a.run qs
 
-  paused_at : (r : Run) (qs : List (PlainSlot Bay Job)) (x : At r qs) (run : Run) (qs2 : List (PlainSlot Bay Job)) → Paused m variables x.statement x.before r.rest run qs2 → At run qs2
-  paused_at r qs x run qs2 w = record {
+  paused_at : (r : Run) (qs : List (PlainSlot Bay Job)) (x : At r qs) (run : Run) (qs2 : List (PlainSlot Bay Job)) → ((k : ℕ) → get_or r.told k 0 ≤ get_or run.told k 0) → Paused m variables x.statement x.before r.rest run qs2 → At run qs2
+  paused_at r qs x run qs2 further w = record {
     index = x.index;
     statement = x.statement;
     behind = x.behind;
@@ -219,15 +244,35 @@ module _ {E J A : Type 0} (m : Meaning E J A Bay Job Answer) (variables : List V
     variables_are = w.variables_same;
     going = w.going;
     stands = w.stands;
+    earlier = told_more variables deck first x.index r.told run.told further x.earlier;
   }
 
   turn_leads : (r : Run) (qs : List (PlainSlot Bay Job)) (x : At r qs) → ((r2 : Run) → At r2 qs → r2.rest ≡ x.behind → LedBy (asked r2) qs)
-      → (t : Turn) → TurnComes m variables x.statement x.before r.rest qs t → Leaves m variables x.statement x.before t → LedBy (by_turn x.behind t) qs
+      → (t : Turn) → TurnTold r.told t → TurnComes m variables x.statement x.before r.rest qs t → Leaves m variables x.statement x.before t → LedBy (by_turn x.behind t) qs
   unfolding paused_at
-  turn_leads r qs x later (Pauses (Submit slot job) run) (q, at, w) out = (q, at, record { stands = paused_at r qs x run (set qs slot (given q job)) w; leaves = out })
-  turn_leads r qs x later (Pauses (Settle slot) run) (q, at, o, is, w) out = (q, at, o, is, record { stands = paused_at r qs x (told_of run o) (set qs slot (more q)) w; leaves = out })
-  turn_leads r qs x later (Pauses Finished run) w out = absurd w
-  turn_leads r qs x later (Stops run) w out = inr (record {
+  turn_leads r qs x later (Pauses (Submit slot job) run) (told, due) (q, at, w) out = (
+    q,
+    at,
+    record {
+      stands = paused_at r qs x run (set qs slot (given q job)) (λ k. let same : get_or run.told k 0 ≡ get_or r.told k 0 = ap (λ ts. get_or ts k 0) told in omega (arith, same)) w;
+      leaves = out;
+      before_it = subst (AwaitedAreTold variables deck first x.index) (sym told) x.earlier;
+    },
+  )
+  turn_leads r qs x later (Pauses (Settle slot) run) (told, due) (q, at, o, is, w) out = (
+    q,
+    at,
+    o,
+    is,
+    record {
+      stands = paused_at r qs x (told_of run o) (set qs slot (more q))
+          (λ k. let same : get_or run.told k 0 ≡ get_or r.told k 0 = ap (λ ts. get_or ts k 0) told in let less = bump_more run.told run.due k in omega (arith, same, less)) w;
+      leaves = out;
+      before_it = subst (AwaitedAreTold variables deck first x.index) (sym told) x.earlier;
+    },
+  )
+  turn_leads r qs x later (Pauses Finished run) told w out = absurd w
+  turn_leads r qs x later (Stops run) told w out = inr (record {
     index = x.index;
     statement = x.statement;
     before = x.before;
@@ -235,9 +280,10 @@ module _ {E J A : Type 0} (m : Meaning E J A Bay Job Answer) (variables : List V
     place = w.rest_same ∙ x.place;
     ended = w.ended;
     some = w.some;
+    earlier = subst (AwaitedAreTold variables deck first x.index) (sym told) x.earlier;
   })
-  turn_leads r qs x later (Passes run) w out =
-      elim (next_at r qs x run w) [
+  turn_leads r qs x later (Passes run) told w out =
+      elim (next_at r qs x run told w) [
         | inl none ↦ subst (λ l. LedBy (goes l run) qs) (sym none) (inl (refl, w.going))
         | inr y ↦ subst (λ a. LedBy a qs) (sym (goes_asked x.behind run w.going w.start)) (later (record run { rest = x.behind }) y refl)
       ]
@@ -248,7 +294,7 @@ module _ {E J A : Type 0} (m : Meaning E J A Bay Job Answer) (variables : List V
       let same : x.statement ∷ x.behind ≡ st ∷ sts = sym x.here ∙ e in
       let behind : x.behind ≡ sts = cc in
       subst (λ a. LedBy a qs) (sym (asked_at x.statement x.behind r x.going x.here))
-      (turn_leads r qs x (λ r2 y f. asks_lead sts r2 qs y (f ∙ behind)) (turn x.statement r.stage r) (comes_at r qs x) (leaves_at r qs x))
+      (turn_leads r qs x (λ r2 y f. asks_lead sts r2 qs y (f ∙ behind)) (turn x.statement r.stage r) (turn_told x.statement r.stage r) (comes_at r qs x) (leaves_at r qs x))
 
   pub asked_leads : (r : Run) (qs : List (PlainSlot Bay Job)) → At r qs → LedBy (asked r) qs
   asked_leads r qs x = asks_lead r.rest r qs x refl

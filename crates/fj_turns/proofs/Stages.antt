@@ -22,6 +22,8 @@ use Rattle.fj_turns.specs.Turns.{Turn, Pauses, Passes, Stops, with_core, bump, s
 use Rattle.fj_turns.specs.Serving.{over_bays}
 use Rattle.fj_turns.specs.Inside.{waited_at, does, walked}
 use Rattle.fj_turns.specs.Passing.{output_of}
+use Rattle.fj_turns.specs.Awaiting.{IsAwaited}
+use Rattle.fj_turns.proofs.Awaited.{OwnTold, TransfersTold, own_given, all_awaited}
 use Rattle.fj_turns.proofs.Slots.{each_at, set_found}
 use Rattle.fj_turns.proofs.Ties.{Ties, more, given, told_found, sent_found}
 use Rattle.fj_turns.proofs.Tying.{core_ties, pending_ties, submit_ties}
@@ -47,6 +49,8 @@ module _ {E J A : Type 0} (m : Meaning E J A Bay Job Answer) (variables : List V
     pub ties : Ties m r qs now
     pub jobs : ℕ
     pub walk : walked jobs p.desks (does variables st p) ≡ (now.desks, d)
+    pub own : OwnTold variables st p jobs r.told
+    pub transfers : TransfersTold variables st p r.told
     pub from : Core
     pub book : r.core.book ≡ from.book
     pub keeps : Keeps from d ⊎ Pended from r now.desks d
@@ -63,6 +67,9 @@ module _ {E J A : Type 0} (m : Meaning E J A Bay Job Answer) (variables : List V
     pub at : List Desk
     pub job : Job
     pub walk : walked jobs p.desks (does variables st p) ≡ (at, awaits slot job now.core next)
+    pub own : OwnTold variables st p jobs r.told
+    pub transfers : TransfersTold variables st p r.told
+    pub number_is : number ≡ log_length (slice_get at slot)
     pub carried : now.desks ≡ carry at slot job
     pub logged : log_at (slice_get now.desks slot) number ≡ Some (desks.outcome at slot job)
     pub inside : slot < most_slots
@@ -94,10 +101,11 @@ module _ {E J A : Type 0} (m : Meaning E J A Bay Job Answer) (variables : List V
     pub variables_same : run.variables ≡ variables
     pub going : run.ending ≡ None
 
-  -- the statement is done, and with it what it does over desks
+  -- the statement is done, and with it what it does over desks; each job that it waits for was told
   pub record Passed (run : Run) (qs : List (PlainSlot Bay Job)) : Type 0 where
     pub ties : Ties m run qs (desk_step variables st p).0
     pub onward : (desk_step variables st p).1 ≡ None
+    pub awaited : (slot number : ℕ) → IsAwaited variables st p slot number → number < get_or run.told slot 0
     pub start : run.stage ≡ Start
     pub variables_same : run.variables ≡ variables
     pub going : run.ending ≡ None
@@ -153,15 +161,16 @@ module _ {E J A : Type 0} (m : Meaning E J A Bay Job Answer) where
   -- ---- it finishes
 
   finish_comes : (st : Stated) (p : Desked) (run : Run) (qs : List (PlainSlot Bay Job)) (ds : List Desk) (o : Option Ending) → Ties m run qs (record { core = run.core; desks = ds })
-      → desk_step run.variables st p ≡ (record { core = run.core; desks = ds }, o) → run.ending ≡ None → TurnComes m run.variables st p run.rest qs (finish_by o run)
-  finish_comes st p run qs ds None t e none = record {
+      → desk_step run.variables st p ≡ (record { core = run.core; desks = ds }, o) → ((slot number : ℕ) → IsAwaited run.variables st p slot number → number < get_or run.told slot 0) → run.ending ≡ None → TurnComes m run.variables st p run.rest qs (finish_by o run)
+  finish_comes st p run qs ds None t e awaited none = record {
     ties = subst (λ d. Ties m (record run { stage = Start }) qs d) (sym (ap (λ s. s.0) e)) (restart Start run qs (record { core = run.core; desks = ds }) t);
     onward = ap (λ s. s.1) e;
+    awaited = awaited;
     start = refl;
     variables_same = refl;
     going = none;
   }
-  finish_comes st p run qs ds (Some ending) t e none = record { ended = ap (λ s. s.1) e; some = refl; rest_same = refl }
+  finish_comes st p run qs ds (Some ending) t e awaited none = record { ended = ap (λ s. s.1) e; some = refl; rest_same = refl }
 
   -- ---- it acts
 
@@ -169,7 +178,8 @@ module _ {E J A : Type 0} (m : Meaning E J A Bay Job Answer) where
       → TurnComes m r.variables st p r.rest qs (turn_act st d r)
   act_comes st p r qs (finishes core condition) w allowed none =
       finish_comes st p (with_core last r) qs w.now.desks (ends st.0.line st.0.what condition) (by w.keeps)
-      (step_walked r.variables st p w.jobs w.now.desks (finishes core condition) allowed w.walk) none
+      (step_walked r.variables st p w.jobs w.now.desks (finishes core condition) allowed w.walk)
+      (all_awaited r.variables st p w.jobs r.told w.now.desks core condition w.walk w.own w.transfers) none
     where
       last : Core
       last = with_iostat st condition r core
@@ -203,6 +213,8 @@ module _ {E J A : Type 0} (m : Meaning E J A Bay Job Answer) where
                 ties = submit_ties m (Acting (next number)) (with_core core r) qs (record { core = core; desks = w.now.desks }) slot q job t at;
                 jobs = suc w.jobs;
                 walk = walk_on w.jobs p.desks w.now.desks (does r.variables st p) (gives slot job core next) w.walk ∙ ap (λ n. (carry w.now.desks slot job, next n)) (sym logged);
+                own = own_given r.variables st p w.jobs r.told w.now.desks slot job core next w.walk w.own;
+                transfers = w.transfers;
                 from = w.from;
                 book = book;
                 keeps = kept keeps
@@ -255,6 +267,9 @@ module _ {E J A : Type 0} (m : Meaning E J A Bay Job Answer) where
                 at = w.now.desks;
                 job = job;
                 walk = w.walk;
+                own = w.own;
+                transfers = w.transfers;
+                number_is = sent_log m r qs w.now slot q w.ties at;
                 carried = refl;
                 logged = ap (log_at (slice_get (carry w.now.desks slot job) slot)) (sent_log m r qs w.now slot q w.ties at) ∙ logged_at m r qs w.now slot q job w.ties at;
                 inside = inside;

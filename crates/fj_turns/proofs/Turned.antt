@@ -15,7 +15,7 @@ use Rattle.fj_plain.specs.State.{Entry}
 use Rattle.fj_plain.specs.Statement.{Stated}
 use Rattle.fj_plain.specs.Telling.{tell_of}
 use Rattle.fj_desk.specs.Core.{Core}
-use Rattle.fj_desk.specs.Desks.{Outcome, log_at}
+use Rattle.fj_desk.specs.Desks.{Outcome, log_at, log_length}
 use Rattle.fj_desk.specs.Desks as desks
 use Rattle.fj_desk.specs.Doing.{Doing, awaits, Desked}
 use Rattle.fj_desk.specs.Desking.{told_core, goes_on}
@@ -24,6 +24,7 @@ use Rattle.fj_turns.specs.Turns.{unsettled, settles, doing_told, turn_act, with_
 use Rattle.fj_turns.specs.Serving.{over_bays}
 use Rattle.fj_turns.specs.Inside.{waited_at, does}
 use Rattle.fj_turns.specs.Passing.{told_at, knows_at}
+use Rattle.fj_turns.proofs.Awaited.{bump_more, own_more, own_awaited, transfers_more, transfers_told}
 use Rattle.fj_turns.proofs.Slots.{same_some, set_found}
 use Rattle.fj_turns.proofs.Ties.{Ties, more, told_found, sent_found, log_found, settle_ties}
 use Rattle.fj_turns.proofs.Tying.{tell_ties}
@@ -37,8 +38,8 @@ module _ {E J A : Type 0} (m : Meaning E J A Bay Job Answer) where
   -- ---- it waits for transfers
 
   -- all that it waits for is known: it tells them, and acts
-  first : (st : Stated) (p : Desked) (r : Run) (qs : List (PlainSlot Bay Job)) → Ties m r qs p → Onward m r.variables st p (with_tells st (waited_at st p) r) qs (does r.variables st p)
-  first st p r qs t =
+  first : (st : Stated) (p : Desked) (r : Run) (qs : List (PlainSlot Bay Job)) → Ties m r qs p → unsettled (waited_now st r) r.book ≡ None → Onward m r.variables st p (with_tells st (waited_at st p) r) qs (does r.variables st p)
+  first st p r qs t none =
       let told : List Entry = waited_at st p in
       let new : Core = told_core r.variables st.0.line told p.core in
       let t2 = tell_ties m st told r qs p t in
@@ -47,6 +48,8 @@ module _ {E J A : Type 0} (m : Meaning E J A Bay Job Answer) where
         ties = t2;
         jobs = 0;
         walk = refl;
+        own = λ j low slot job core onward e. absurd (omega (arith, low));
+        transfers = transfers_told m st p r qs t none;
         from = new;
         book = ap (λ k. k.book) t2.core;
         keeps = inl (told_keeps r.variables st told p.core (subst (λ k. Housed k.units) t.core t.housed));
@@ -66,7 +69,7 @@ module _ {E J A : Type 0} (m : Meaning E J A Bay Job Answer) where
       → (o : Option ℕ) → unsettled (waited_now st r) r.book ≡ o → TurnComes m r.variables st p r.rest qs (wait_by st (waited_now st r) o r)
   wait_comes st p r qs t allowed none None e =
       subst (TurnComes m r.variables st p r.rest qs) (sym (tell_is st p r qs t e))
-      (act_comes m st p (with_tells st (waited_at st p) r) qs (does r.variables st p) (first st p r qs t) allowed none)
+      (act_comes m st p (with_tells st (waited_at st p) r) qs (does r.variables st p) (first st p r qs t e) allowed none)
   wait_comes st p r qs t allowed none (Some slot) e =
       let found = waits_at m (waited_now st r) r qs p slot t e in
       let answer = answer_of m found.0 found.2 in (
@@ -86,7 +89,7 @@ module _ {E J A : Type 0} (m : Meaning E J A Bay Job Answer) where
       → (o : Option ℕ) → unsettled (waited_now st r) r.book ≡ o → Leaves m r.variables st p (wait_by st (waited_now st r) o r)
   wait_leaves st p r qs t allowed None e =
       subst (Leaves m r.variables st p) (sym (tell_is st p r qs t e))
-      (act_leaves m st p (with_tells st (waited_at st p) r) qs (does r.variables st p) (first st p r qs t) allowed)
+      (act_leaves m st p (with_tells st (waited_at st p) r) qs (does r.variables st p) (first st p r qs t e) allowed)
   wait_leaves st p r qs t allowed (Some slot) e =
       ap (λ k. k.output) t.core
       ∙ sym (step_output r.variables st p 0 p.desks (does r.variables st p) p.core.output allowed refl (waits_silent r.variables st p _ _ r.book slot e))
@@ -139,6 +142,13 @@ module _ {E J A : Type 0} (m : Meaning E J A Bay Job Answer) where
               let same : number ≡ q.told = eqb-true number (get_or r.told slot 0) e ∙ was in
               same_some (sym answer.1 ∙ sym (log_found m r qs w.now slot q.told q w.ties at) ∙ ap (log_at (slice_get w.now.desks slot)) (sym same) ∙ w.logged)
 
+          behind : (number == get_or r.told slot 0) ≡ true → log_length (slice_get w.at slot) < get_or run.told slot 0
+          behind e =
+              let same = eqb-true number (get_or r.told slot 0) e in
+              let now = told_found m run (set qs slot (more q)) w.now slot (more q) ties (set_found qs slot (more q) q at) in
+              let here = w.number_is in
+              omega (arith, same, now, here, was)
+
           by : (b : Bool) → (number == get_or r.told slot 0) ≡ b → AtStage m r.variables st p run (set qs slot (more q)) run.stage
           by true e =
               subst (AtStage m r.variables st p run (set qs slot (more q))) (sym (stage_is true e)) (
@@ -148,6 +158,8 @@ module _ {E J A : Type 0} (m : Meaning E J A Bay Job Answer) where
                   jobs = suc w.jobs;
                   walk = walk_on w.jobs p.desks w.at (does r.variables st p) (awaits slot w.job w.now.core next) w.walk
                       ∙ ap (λ ds. (ds, next (desks.outcome w.at slot w.job))) (sym w.carried) ∙ ap (λ o. (w.now.desks, next o)) (sym (own e));
+                  own = own_awaited r.variables st p w.jobs run.told w.at slot w.job w.now.core next w.walk (behind e) (own_more r.variables st p w.jobs r.told run.told (bump_more r.told slot) w.own);
+                  transfers = transfers_more r.variables st p r.told run.told (bump_more r.told slot) w.transfers;
                   from = w.from;
                   book = w.book;
                   keeps = inl (w.keeps answer.0);
@@ -167,6 +179,9 @@ module _ {E J A : Type 0} (m : Meaning E J A Bay Job Answer) where
                   at = w.at;
                   job = w.job;
                   walk = w.walk;
+                  own = own_more r.variables st p w.jobs r.told run.told (bump_more r.told slot) w.own;
+                  transfers = transfers_more r.variables st p r.told run.told (bump_more r.told slot) w.transfers;
+                  number_is = w.number_is;
                   carried = w.carried;
                   logged = w.logged;
                   inside = w.inside;

@@ -11,6 +11,7 @@ use Rattle.fj_turns.specs.Serving.{Shows}
 use Rattle.fj_turns.specs.Whole.{RunnerIsPlain}
 use Rattle.fj_turns.specs.Executing.{ExecutesDecks}
 use Rattle.fj_turns.specs.Meant.{LeavesResult}
+use Rattle.fj_turns.specs.Awaiting.{EachAwaited}
 use Rattle.fj_turns.specs.Cutting.{EachEntry, CutAtStop, WorldIsCut}
 use Rattle.fj_turns.specs.Passing.{EachStands, EachAsks, RunsEnd}
 
@@ -66,6 +67,9 @@ RunsStand = (s : Seen Run) → EachStands plain_bays (shown s)
 
 abbrev pub AsksStand : Type 0
 AsksStand = (s : Seen Run) → EachAsks plain_bays (shown s)
+
+abbrev pub JobsAreAwaited : Type 0
+JobsAreAwaited = (s : Seen Run) → EachAwaited plain_bays (shown s)
 
 abbrev pub EndsAreMet : Type 0
 EndsAreMet = (s : Seen Run) → RunsEnd plain_bays (shown s)

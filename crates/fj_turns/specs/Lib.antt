@@ -2,6 +2,7 @@ pub mod Run
 pub mod Turns
 pub mod Serving
 pub mod Inside
+pub mod Awaiting
 pub mod Standing
 pub mod Whole
 pub mod Executing

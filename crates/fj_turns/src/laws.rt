@@ -1,5 +1,5 @@
 // What holds of every deck, as contracts of functions with nothing to do.
-ghost use Rattle.fj_turns.specs.Laws.{RunnersArePlain, RunsExecute, RunsLeaveResults, EntriesStand, StopsCut, WorldsAreCut, RunsStand, AsksStand, EndsAreMet};
+ghost use Rattle.fj_turns.specs.Laws.{RunnersArePlain, RunsExecute, RunsLeaveResults, EntriesStand, StopsCut, WorldsAreCut, RunsStand, AsksStand, EndsAreMet, JobsAreAwaited};
 ghost use Rattle.fj_turns.specs.Bounds.{AsksKeepToSlots, AsksEnd};
 ghost use Rattle.fj_turns.specs.Few.{GivesFewJobs};
 ghost use Rattle.fj_turns.specs.Meant.{CutsAgree};
@@ -73,4 +73,9 @@ pub fn asks_stand()
 /// Where a deck ended, the statement at hand is the one at which it ends.
 pub fn ends_are_met()
     ensures { EndsAreMet }
+{}
+
+/// Each job that a statement waits for is told before the next statement asks: that of a transfer which it tells, and its own.
+pub fn jobs_are_awaited()
+    ensures { JobsAreAwaited }
 {}

@@ -10,6 +10,6 @@ mod laws;
 pub use cases::{fine_ends_no_halt_alone, skipped_tell_their_cause_alone};
 pub use laws::{
     asks_end, asks_keep_to_slots, asks_stand, cuts_agree, ends_are_met, entries_stand,
-    gives_few_jobs, pending_awaits_nothing, runners_are_plain, runs_execute, runs_leave_results,
-    runs_stand, stops_cut, worlds_are_cut,
+    gives_few_jobs, jobs_are_awaited, pending_awaits_nothing, runners_are_plain, runs_execute,
+    runs_leave_results, runs_stand, stops_cut, worlds_are_cut,
 };
