@@ -1,9 +1,11 @@
 -- The jobs of slots, each with the statement that gives it.
-use Rattle.std.proofs.Common.{◌≡◌, ◌⊎◌, ℕ, zero, suc, ◌-◌, ◌<◌, ◌≤◌, false, true, List, [], ◌∷◌, length, take, drop, replicate, Option, Some, None, IsSome, is_some, slice_get, refl, sym, ap, ◌∙◌, subst, inl, inr, arith}
-use Rattle.std.proofs.lemmas.List.{take_all}
+use Rattle.std.proofs.Common.{◌≡◌, ◌⊎◌, ℕ, zero, suc, ◌-◌, ◌<◌, ◌≤◌, false, true, List, [], ◌∷◌, length, map, get_or, take, drop, replicate, Option, Some, None, IsSome, is_some, slice_get, refl, sym, ap, ◌∙◌, subst, inl, inr, arith}
+use Rattle.std.proofs.lemmas.List.{take_all, length-take-le}
+use Rattle.std.proofs.lemmas.Option.{slice_get_within}
 use Rattle.fj_value.specs.declared.condition.Rule.{Rule}
 use Rattle.fj_statement.specs.declared.deck.Variable.{Variable}
 use Rattle.fj_slot.specs.Serving.{Meaning}
+use Rattle.fj_slot.proofs.Serving.{length-outcomes}
 use Rattle.fj_world.specs.declared.ask.Ask.TheVariants.{Submit, Settle, Finished}
 use Rattle.fj_world.specs.Conduct.{Conduct}
 use Rattle.fj_world.specs.Losing.{before_ask}
@@ -27,12 +29,13 @@ use Rattle.fj_turns.specs.Inside.{does, jobs_of, walked, cut_desks}
 use Rattle.fj_turns.specs.Passing.{passes}
 use Rattle.fj_turns.specs.Standing.{GivesNext, GivesJob, Asks, StandsIn}
 use Rattle.fj_turns.specs.Laws.{plain_bays, shown}
-use Rattle.fj_turns.proofs.Before.{Fares, over_at, fares_after}
+use Rattle.fj_turns.specs.Awaiting.{IsAwaitedBefore, HasAwaited}
+use Rattle.fj_turns.proofs.Before.{Fares, over_at, fares_after, each_awaited, counts_after}
 use Rattle.fj_turns.proofs.Cutting.{step_given, walked_given, own_given, each_entry}
 use Rattle.fj_turns.proofs.Decks.{runner_is_plain}
 use Rattle.fj_turns.proofs.Finishing.{one_end}
-use Rattle.fj_turns.proofs.Passed.{Over, passes_none, At, passes_stand, stands_at}
-use Rattle.fj_turns.proofs.Slots.{map_get, same_some}
+use Rattle.fj_turns.proofs.Passed.{Over, passes_none, At, passes_stand, stands_at, counts_at}
+use Rattle.fj_turns.proofs.Slots.{map_get, get_mapped, same_some}
 use Rattle.fj_turns.proofs.Statements.{step_is}
 use Rattle.fj_cut.specs.Stopping.{GivesTo, WereGiven, EachStopGiven, EachTurnGiven, EachEndGiven, StopsAreGiven, TurnsAreGiven, EndsAreGiven}
 use Rattle.fj_cut.proofs.Rests.{after_fewer, answered_same, passes_fewer}
@@ -141,7 +144,7 @@ module _ {E J A S : Type 0} (m : Meaning E J A Bay Job Answer) (s : Shows S) (va
 
   by_entry : (n at : ℕ) (start : Bay) (front : List Job) (job : Job) (last : ℕ) (rest : List Stated) → rest ≡ drop last deck → last < length deck
       → ((e : ℕ) → e < n → length rest ≤ length (there e).script.rest) → (w : Submitted (over_bays m) c first n at start front job)
-      → ((there w.entry).hand ≡ Finished) ⊎ StandsIn m s variables deck (fresh variables files) (there w.entry) → GivesTo variables deck files last at (behind start front) job
+      → ((there w.entry).hand ≡ Finished) ⊎ StandsIn m s variables deck (fresh variables files) (there w.entry) → GivesTo variables deck files last at (length front) (behind start front) job
   by_entry n at start front job last rest place low less w (inl over) = absurd (let z : Submit at job ≡ Finished = sym w.hand ∙ over in cc)
   by_entry n at start front job last rest place low less w (inr t) =
       let g : GivesJob variables t.statement t.before at job (there w.entry).script (desks_of m (there w.entry).slots) =
@@ -157,12 +160,13 @@ module _ {E J A S : Type 0} (m : Meaning E J A Bay Job Answer) (s : Shows S) (va
         desk = desk_of m w.slot;
         there = ap (λ ds. slice_get ds at) (sym (walked_given g.jobs t.before.desks (does variables t.statement t.before)) ∙ sym g.desks_are) ∙ here;
         bay_is = desk_bay w.slot start front w.start_is w.jobs_are;
+        number_is = length-outcomes (over_bays m) w.slot.start w.slot.jobs ∙ ap length w.jobs_are;
         gives = inl (next_given g.jobs t.before.desks (does variables t.statement t.before) at job (there w.entry).script.core g.gives);
       }
 
   were_given : (n : ℕ) (run : Run) (slots : List (PlainSlot Bay Job)) → slots ≡ (there n).slots → ((e : ℕ) → e < n → length run.rest ≤ length (there e).script.rest) → Stage slots run.rest
-      → WereGiven variables deck files run slots
-  were_given n run slots same less x = record {
+      → HasAwaited variables deck files run → run.told ≡ map (λ (q : PlainSlot Bay Job). q.told) slots → WereGiven variables deck files run slots
+  were_given n run slots same less x awaited counts = record {
     index = x.index;
     rest = x.place;
     within = low;
@@ -170,7 +174,8 @@ module _ {E J A S : Type 0} (m : Meaning E J A Bay Job Answer) (s : Shows S) (va
         elim (last_or q.jobs (detach None) job number f) [
           | inl old ↦
               let w = each_submitted (over_bays m) c first (λ k p h. none_yet most_slots k p (record { start = record { connection = None; halt = None }; jobs = []; told = 0 }) refl h) n at q number job (ap (λ l. slice_get l at) (sym same) ∙ e) old.0 in
-              by_entry n at q.start (take number q.jobs) job x.index run.rest x.place low less w (each_entry m s variables deck files w.entry)
+              subst (λ k. GivesTo variables deck files x.index at k (behind q.start (take number q.jobs)) job) (length-take-le number q.jobs (let inside = slice_get_within q.jobs number job old.0 in omega (arith, inside)))
+              (by_entry n at q.start (take number q.jobs) job x.index run.rest x.place low less w (each_entry m s variables deck files w.entry))
           | inr new ↦ record {
             index = x.index;
             until = omega arith;
@@ -181,13 +186,26 @@ module _ {E J A S : Type 0} (m : Meaning E J A Bay Job Answer) (s : Shows S) (va
             desk = desk_of m q;
             there = ap (λ ds. slice_get ds at) (sym x.desks) ∙ map_get (desk_of m) slots at q e;
             bay_is = desk_bay q q.start (take number q.jobs) refl (all_of q.jobs number new.2);
+            number_is = length-outcomes (over_bays m) q.start q.jobs ∙ sym new.2;
             gives = inr (refl, new.0);
           }
         ];
+    told = λ at q e number was.
+        let one : number < get_or run.told at 0 = awaited.told at number (subst (λ i. IsAwaitedBefore variables deck (fresh variables files) i at number) here was) in
+        let count : get_or run.told at 0 ≡ q.told = ap (λ ts. get_or ts at 0) counts ∙ get_mapped (λ (z : PlainSlot Bay Job). z.told) slots at q e in
+        omega (arith, one, count);
   }
     where
       low : x.index < length deck
       low = within_deck variables x.index deck (fresh variables files) (x.statement, x.before) x.reached
+
+      -- the same place
+      here : x.index ≡ awaited.index
+      here =
+          let high = within_deck variables awaited.index deck (fresh variables files) (awaited.statement, awaited.before) awaited.reached in
+          let one = not_earlier deck run.rest run.rest x.index awaited.index x.place awaited.rest low high (omega arith) in
+          let other = not_earlier deck run.rest run.rest awaited.index x.index awaited.rest x.place high low (omega arith) in
+          omega (arith, one, other)
 
       all_of : (js : List Job) (k : ℕ) → k ≡ length js → js ≡ take k js
       all_of js k e = sym (ap (λ z. take z js) e ∙ take_all (length js) js (omega arith))
@@ -208,9 +226,14 @@ module _ {E J A S : Type 0} (m : Meaning E J A Bay Job Answer) (s : Shows S) (va
         }
       ]
 
+  -- what earlier statements wait for was told, unless no statement is left
+  was_awaited : (n : ℕ) → ((there n).hand ≡ Finished → (there n).script.ending ≡ None → ⊥) → HasAwaited variables deck files (there n).script
+  was_awaited n some = elim (each_awaited m s variables deck files n) [ inl (over, none) ↦ absurd (some over none) | inr h ↦ h ]
+
   pub stop_given : (n slot : ℕ) → (there n).hand ≡ Settle slot → WereGiven variables deck files (there n).script (there n).slots
   stop_given n slot hand =
       were_given n (there n).script (there n).slots refl (λ e h. after_fewer m s e n first (omega (arith, h))) (stop_stage n slot hand (each_entry m s variables deck files n))
+      (was_awaited n (λ over none. let z : Settle slot ≡ Finished = sym hand ∙ over in cc)) (counts_after m s variables deck files n)
 
   -- ---- where the deck ended
 
@@ -236,6 +259,7 @@ module _ {E J A S : Type 0} (m : Meaning E J A Bay Job Answer) (s : Shows S) (va
   end_given n over some =
       were_given n (there n).script (there n).slots refl (λ e h. after_fewer m s e n first (omega (arith, h)))
       (end_stage n over some (over_at m s variables deck (fresh variables files) (there n) (before_ask (over_bays m) c n (first_run variables deck files) fresh_slots) (fares_after m s variables deck files n) over))
+      (was_awaited n (λ f none. let z : false ≡ true = subst IsSome none some in cc)) (counts_after m s variables deck files n)
 
   -- ---- in a turn
 
@@ -275,7 +299,7 @@ module _ {E J A S : Type 0} (m : Meaning E J A Bay Job Answer) (s : Shows S) (va
             | inl left ↦ inl left
             | inr z ↦ inr (were_given n run b.1 (sym (ap (λ (x : Plain Bay c). x.slots) e))
                 (λ k h. let a = passes_fewer count b.0 run p in let d = before_fewer n k h in let f = ap (λ (x : Run × List (PlainSlot Bay Job)). length x.0.rest) is in omega (arith, a, d, f))
-                (turn_stage run b.1 z))
+                (turn_stage run b.1 z) (record { index = z.index; statement = z.statement; before = z.before; reached = z.reached; rest = z.place; told = z.earlier }) (counts_at m variables deck (fresh variables files) run b.1 z))
           ]
       by b is (inr (h, over, inl (left, f))) none p = inl (passes_none count b.0 run left p)
       by b is (inr (h, over, inr ended)) none p = absurd (let z : true ≡ false = sym ended.some ∙ ap is_some none in cc)

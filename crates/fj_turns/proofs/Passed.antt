@@ -1,5 +1,5 @@
 -- Where in a deck the runner stands, and the statements that it passes from there.
-use Rattle.std.proofs.Common.{◌≡◌, ◌⊎◌, ℕ, zero, suc, ◌<◌, ◌≤◌, true, List, [], ◌∷◌, set, get_or, Option, Some, None, is_some, slice_get, drop, refl, sym, ap, ◌∙◌, subst, inl, inr, arith}
+use Rattle.std.proofs.Common.{◌≡◌, ◌⊎◌, ℕ, zero, suc, ◌<◌, ◌≤◌, true, List, [], ◌∷◌, map, set, get_or, Option, Some, None, is_some, slice_get, drop, refl, sym, ap, ◌∙◌, subst, inl, inr, arith}
 use Rattle.std.specs.Prelude.{option_and_then, if◌then◌else◌}
 use Rattle.fj_statement.specs.declared.deck.Variable.{Variable}
 use Rattle.fj_slot.specs.Serving.{Meaning}
@@ -189,6 +189,16 @@ module _ {E J A : Type 0} (m : Meaning E J A Bay Job Answer) (variables : List V
   stage_output st p r qs Waiting (t, allowed) = ap (λ k. k.output) t.core
   stage_output st p r qs (Acting d) (w, allowed) = w.output
   stage_output st p r qs (Awaiting slot number next) (w, allowed) = w.output
+
+  -- it has counted the jobs that were told
+  stage_counts : (st : Stated) (p : Desked) (r : Run) (qs : List (PlainSlot Bay Job)) (stage : Stage) → AtStage m variables st p r qs stage → r.told ≡ map (λ (q : PlainSlot Bay Job). q.told) qs
+  stage_counts st p r qs Start t = t.told
+  stage_counts st p r qs Waiting (t, allowed) = t.told
+  stage_counts st p r qs (Acting d) (w, allowed) = w.ties.told
+  stage_counts st p r qs (Awaiting slot number next) (w, allowed) = w.ties.told
+
+  pub counts_at : (r : Run) (qs : List (PlainSlot Bay Job)) → At r qs → r.told ≡ map (λ (q : PlainSlot Bay Job). q.told) qs
+  counts_at r qs x = stage_counts x.statement x.before r qs r.stage x.stands
 
   -- the statement's transfers are told, or none of them
   pub tells_at : (r : Run) (qs : List (PlainSlot Bay Job)) (x : At r qs) → (r.core.tells ≡ x.before.core.tells) ⊎ HasTold x.statement x.before r
