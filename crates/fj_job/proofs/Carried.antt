@@ -44,6 +44,6 @@ has_run meaning s told bytes deck files left m rack script b alone going state =
       given = λ some.
           let w = each_end_given meaning s deck.variables (stated deck.statements) files alone.entries (asks_no_more (over_bays meaning) (run_conduct s) _ (alone.fits.script going).1) some in
           let slots : SlotsHold (over_bays meaning) (stands meaning s deck.variables (stated deck.statements) files alone.entries).slots rack =
-          record { same = alone.fits.same_slots; each = λ at q l a b. (alone.fits.slots at q l a b).sound } in
+          record { same = alone.fits.same_slots; each = λ at q l a b. (alone.fits.slots at q l a b).sound; done = λ at q l a b. (alone.fits.slots at q l a b).done } in
           record { index = w.index; rest = w.rest; within = w.within; given = given_at meaning rack deck.variables (stated deck.statements) files _ _ slots w w.index w.rest w.within };
     }

@@ -127,7 +127,7 @@ module _ {S W D F : Type 0} {ghosts : Ghosts F} (s : Shows S) (tells_out : W →
               (rest_is told bytes left (machine last) x.script is) (took last l none) none
               (stop_holds meaning rack (held (disk last)) (refusals (disk first)) (refusals (disk last)) deck files (machine last) s x.script both.0 cut
               (stops_leave_others deck.variables (stated deck.statements) files cut.slot x.script cut.desks cut.stop)
-              (given_at meaning rack deck.variables (stated deck.statements) files x.script x.slots (record { same = alone.fits.same_slots; each = λ at q k a b. (alone.fits.slots at q k a b).sound })
+              (given_at meaning rack deck.variables (stated deck.statements) files x.script x.slots (record { same = alone.fits.same_slots; each = λ at q k a b. (alone.fits.slots at q k a b).sound; done = λ at q k a b. (alone.fits.slots at q k a b).done })
               (each_stop_given meaning s deck.variables (stated deck.statements) files alone.entries it.slot it.hand) cut.stop.index cut.stop.rest
               (within_deck deck.variables cut.stop.index (stated deck.statements) (fresh deck.variables files) (cut.stop.statement, cut.stop.before) cut.stop.reached)))
               (stop_cause meaning rack (held (disk last)) (refusals (disk first)) (refusals (disk last)) deck files (machine last) x.script awaited.stop.index awaited.stop.statement it.slot both.0 awaited.stop.rest

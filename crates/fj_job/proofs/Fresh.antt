@@ -53,7 +53,7 @@ module _ {E J A : Type 0} (m : Meaning E J A Bay Job Answer) (rack : Rack E J A)
   fits_fresh q l e f = subst (λ (x : PlainSlot Bay Job). SlotFits m false x l) (sym e) (record {
     sound = f.sound;
     told = λ _. f.told;
-    done = λ _. rw f.told (omega arith);
+    done = omega arith;
   })
 
   pub fit : SlotsFit m fresh_slots rack

@@ -32,7 +32,7 @@ holds_given : {E J A : Type 0} (m : Meaning E J A Bay Job Answer) (rack : Rack E
     → SlotsHold (over_bays m) qs rack → (w : WereGiven variables deck files run qs) → HoldsGiven variables deck files m rack w.index
 holds_given m rack variables deck files run qs h w at l found =
     let q = slice_get_in qs at (omega (arith, slice_get_within rack.slots at l found, h.same)) in
-    (q.0, h.each at q.0 l q.1 found, w.each at q.0 q.1)
+    (q.0, h.each at q.0 l q.1 found, w.each at q.0 q.1, λ number was. let told = w.told at q.0 q.1 number was in let done = h.done at q.0 l q.1 found in omega (arith, told, done))
 
 -- the same at that place of the deck
 pub given_at : {E J A : Type 0} (m : Meaning E J A Bay Job Answer) (rack : Rack E J A) (variables : List Variable) (deck : List Stated) (files : Files) (run : Run) (qs : List (PlainSlot Bay Job))
@@ -79,8 +79,17 @@ left_short m rack variables deck files left last name (u ∷ us) each given e = 
     here same =
         let l = each.0 in
         let q = given u.slot l.0 l.1 in
-        let it = (l.2 q.0.start q.0.jobs q.1).some in
-        subst (λ n. IsLeftShort variables deck files last n (left n)) (sym same) (record { slot = u.slot; bay = _; job = it.job; gives = q.2 it.number it.job it.at; leaves = it.leaves })
+        let short = l.2 q.0.start q.0.jobs q.1 in
+        let it = short.some in
+        subst (λ n. IsLeftShort variables deck files last n (left n)) (sym same) (record {
+          slot = u.slot;
+          number = it.number;
+          bay = _;
+          job = it.job;
+          gives = q.2 it.number it.job it.at;
+          behind_them = λ other was. let done = q.3 other was in let from = short.from in omega (arith, done, from);
+          leaves = it.leaves;
+        })
 
     by : (b : Bool) → bytes_eq name u.name ≡ b → (has_name us name ≡ true → IsLeftShort variables deck files last name (left name)) → (b || has_name us name) ≡ true → IsLeftShort variables deck files last name (left name)
     by true is later h = here ((bytes_eq-Decides name u.name).0 is)

@@ -61,7 +61,7 @@ pub record IsFaultReport (deck : Deck) (trace : Bool) (files : Files) (line : �
 -- How files are left, where the disk's own number was `before` and is `now`. Each one that is not hurt, and that the statement is not
 -- about, is as closing all units leaves it there; one that is gone then may be there, where that number rose. So is each other one that the
 -- statement neither opens nor removes; or a job of its unit was stopped in it, and its bytes are as before below the first one that the
--- job changes.
+-- job changes. That job stands behind each one of its slot that a statement before this one waits for.
 pub record AreLeft (deck : Deck) (files : Files) (comes : ComesTo deck files) (reach : Reach) (left : Holdings) (before now : ℕ) : Type 0 where
   pub clear : (name : List ℕ) → set.contains left.hurt name ≡ false → file_about (names_in comes.before.units) comes.statement.0.what ≢ Some name
       → IsAsDue before now (files_of left name) ((all_closed (reached reach deck.variables comes.statement comes.before)).files name)
