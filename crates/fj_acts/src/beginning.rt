@@ -1,5 +1,5 @@
 // What a statement does once the transfers that it waits for are told.
-ghost use Rattle.std.specs.Prelude.{◌≡◌, ◌↔◌, ◌≤◌, ◌≢◌, List, Some, IfOk, OnOk, OnErr, Err};
+ghost use Rattle.std.specs.Prelude.{◌≡◌, ◌↔◌, ◌≤◌, ◌≢◌, List, Some, IfOk, true, OnOk, OnErr, Err};
 ghost use Rattle.fj_outside.specs.Faults.{Rose};
 ghost use Rattle.fj_plain.specs.Statement.{Stated, control_by};
 ghost use Rattle.fj_desk.specs.Acting.{doing, own, instead, moves, job_of, unit_at};
@@ -12,6 +12,8 @@ ghost use Rattle.fj_plain.specs.State.{Files};
 ghost use Rattle.fj_items.specs.Kinds.{kinds_of};
 ghost use Rattle.fj_items.specs.Handing.{HandsOver, HandsFront, HandsPart};
 ghost use Rattle.fj_units.specs.Names.{AreInUse};
+ghost use Rattle.fj_statement.specs.declared.statement.Statement.{Statement as PlainStatement};
+ghost use Rattle.fj_acts.specs.Calling.{calls_disk, may_do};
 ghost use Rattle.fj_acts.specs.Placing.{IsPlaced};
 ghost use Rattle.fj_acts.specs.Fitting.{IsKept, Meets};
 ghost use Rattle.fj_acts.specs.State.{KeepsAnswers, KeepsPending, core_of, core_at};
@@ -52,6 +54,7 @@ fn motion<F: FileStore>(how: Motion, unit: UnitRef, core: &Core) -> Doing<F>
     ensures doing { (variables : List Variable) (st : Stated) (files : Files) → IsDoing F.told F.bytes variables st (core_of files core.now) result
         (moves (core_of files core.now) how (unit_at (core_of files core.now) (number_of unit))) }
     ensures placed { IsPlaced result }
+    ensures closes { (what : PlainStatement) → may_do what result ≡ true }
 {
     match core.units.at(unit) {
         Some(unit) => Doing::Awaits {
@@ -104,6 +107,8 @@ fn own<W: Sink, D: Disk>(
     ensures keeps { IsKept variables.now core.old → OnOk result (IsKept variables.now core.new) }
     ensures fits { IsSoundStatement variables.now lined.now.what → Meets variables.now core.old lined.now.what → result ≢ Err Lost.Unfit }
     ensures placed { IfOk result IsPlaced }
+    ensures closes { IfOk result (λ next. may_do lined.now.what next ≡ true) }
+    ensures called { result ≡ Err Lost.Disk → calls_disk lined.now.what ≡ true }
 {
     let fine = Condition::Fine;
     match &lined.what {
@@ -162,6 +167,7 @@ fn instead<F: FileStore>(
     ensures keeps { IsKept variables.now core.old → OnOk result (IsKept variables.now core.new) }
     ensures fits { IsSoundStatement variables.now lined.now.what → result ≢ Err Lost.Unfit }
     ensures placed { IfOk result IsPlaced }
+    ensures closes { IfOk result (λ next. may_do lined.now.what next ≡ true) }
 {
     match &lined.what {
         Statement::CloseUnit {
@@ -218,6 +224,8 @@ pub fn begin<W: Sink, D: Disk>(
     ensures fits { IsSoundStatement variables.now lined.now.what → (condition ≡ Fine → Meets variables.now core.old lined.now.what)
         → result ≢ Err Lost.Unfit }
     ensures placed { IfOk result IsPlaced }
+    ensures closes { IfOk result (λ next. may_do lined.now.what next ≡ true) }
+    ensures called { result ≡ Err Lost.Disk → calls_disk lined.now.what ≡ true }
 {
     match condition {
         Condition::Fine => own(alloc, variables, lined, core, disk, out),

@@ -1,5 +1,5 @@
 // INQUIRE (ISO/IEC 1539-1:2004, 9.9).
-ghost use Rattle.std.specs.Prelude.{◌≡◌, ◌≢◌, ◌↔◌, ◌≤◌, ℕ, All, IsOk, List, Some, false, pos, is_some, IfOk, IfSome, OnOk, Err};
+ghost use Rattle.std.specs.Prelude.{◌≡◌, ◌≢◌, ◌↔◌, ◌≤◌, ℕ, All, IsOk, List, Some, true, false, pos, is_some, IfOk, IfSome, OnOk, Err};
 ghost use Rattle.std.specs.Option.{option_map, option_copied, option_and_then};
 ghost use Rattle.std.specs.List.{list_any};
 ghost use Rattle.fj_outside.specs.Faults.{Rose};
@@ -19,6 +19,8 @@ ghost use Rattle.fj_desk.specs.Acting.{answers, asks_connection, inquires, unit_
 ghost use Rattle.fj_items.specs.Fitting.{AreKept};
 ghost use Rattle.fj_items.specs.Kinds.{kinds_of};
 ghost use Rattle.fj_pending.specs.Plain.{holders};
+ghost use Rattle.fj_statement.specs.declared.statement.Statement.{Statement as PlainStatement};
+ghost use Rattle.fj_acts.specs.Calling.{may_do};
 ghost use Rattle.fj_acts.specs.Placing.{IsPlaced};
 ghost use Rattle.fj_acts.specs.Answers.{AnswersAlike, is_meant};
 ghost use Rattle.fj_units.specs.Names.{AreInUse, stands};
@@ -152,6 +154,7 @@ fn answer<F: FileStore>(
     ensures keeps { IsKept variables.now core.old → OnOk result (IsKept variables.now core.new) }
     ensures fits { All (IsAsked variables.now) asked.now → result ≢ Err Lost.Unfit }
     ensures placed { IfOk result IsPlaced }
+    ensures closes { (what : PlainStatement) → IfOk result (λ next. may_do what next ≡ true) }
 {
     give_answers(variables, asked, cells, &mut core.store)?;
     Ok(Doing::Finishes(Condition::Fine))
@@ -213,6 +216,8 @@ fn answer_other<D: Disk>(
     ensures fits { All (IsAsked variables.now) asked.now → IfSome (file_asked subject.now) (λ name. stands core.old.names name ≡ false)
         → result ≢ Err Lost.Unfit }
     ensures placed { IfOk result IsPlaced }
+    ensures closes { (what : PlainStatement) → IfOk result (λ next. may_do what next ≡ true) }
+    ensures called { result ≡ Err Lost.Disk → is_some (file_asked subject.now) ≡ true }
 {
     let mut cells = Items::new(alloc);
     match subject {
@@ -282,6 +287,7 @@ pub(crate) fn answer_look<F: FileStore>(
     ensures keeps { IsKept variables.now core.old → OnOk result (IsKept variables.now core.new) }
     ensures fits { All (IsAsked variables.now) asked.now → result ≢ Err Lost.Unfit }
     ensures placed { IfOk result IsPlaced }
+    ensures closes { (what : PlainStatement) → IfOk result (λ next. may_do what next ≡ true) }
 {
     let Some(number) = unit_about(&core.units, subject) else {
         return Ok(Doing::Finishes(Condition::Fine));
@@ -331,6 +337,8 @@ pub(crate) fn inquire<D: Disk>(
     ensures keeps { IsKept variables.now core.old → OnOk result (IsKept variables.now core.new) }
     ensures fits { All (IsAsked variables.now) asked.now → AreConnected core.old.names core.old.units → result ≢ Err Lost.Unfit }
     ensures placed { IfOk result IsPlaced }
+    ensures closes { (what : PlainStatement) → IfOk result (λ next. may_do what next ≡ true) }
+    ensures called { result ≡ Err Lost.Disk → is_some (file_asked subject.now) ≡ true }
 {
     let Some(number) = unit_about(&core.units, subject) else {
         return answer_other(alloc, variables, subject, asked, core, disk);

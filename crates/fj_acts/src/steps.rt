@@ -15,6 +15,8 @@ ghost use Rattle.fj_desk.specs.Desks.{condition_in};
 ghost use Rattle.fj_items.specs.Kinds.{CellFits, kinds_of};
 ghost use Rattle.fj_units.specs.Names.{AreInUse, left_of};
 ghost use Rattle.fj_desk.specs.Desks.{most_slots};
+ghost use Rattle.fj_statement.specs.declared.statement.Statement.{Statement as PlainStatement};
+ghost use Rattle.fj_acts.specs.Calling.{may_await, may_close, may_do};
 ghost use Rattle.fj_acts.specs.Placing.{IsPlaced, slot_behind};
 ghost use Rattle.fj_acts.specs.Fitting.{Brings, IsKept, MayGoOn, NextIsHome};
 ghost use Rattle.fj_acts.specs.Holding.{MayEnter};
@@ -62,6 +64,7 @@ pub fn given<F: FileStore>(
     ensures keeps { IsKept variables.now core.old → OnOk result (IsKept variables.now core.new) }
     ensures fits { IsSoundStatement variables.now lined.now.what → MayGoOn core.old next number → result ≢ Err Lost.Unfit }
     ensures placed { IfOk result IsPlaced }
+    ensures closes { IfOk result (λ next. may_do lined.now.what next ≡ true) }
 {
     match next {
         Given::Finishes(condition) => Ok(Doing::Finishes(condition)),
@@ -254,6 +257,7 @@ fn looked<F: FileStore>(
     ensures keeps { IsKept variables.now core.old → OnOk result (IsKept variables.now core.new) }
     ensures fits { IsSoundStatement variables.now lined.now.what → result ≢ Err Lost.Unfit }
     ensures placed { IfOk result IsPlaced }
+    ensures closes { (what : PlainStatement) → IfOk result (λ next. may_do what next ≡ true) }
 {
     match &lined.what {
         Statement::Inquire {
@@ -288,6 +292,7 @@ fn carried<F: FileStore>(
     ensures keeps { IsKept variables.now core.old → OnOk result (IsKept variables.now core.new) }
     ensures fits { IsSoundStatement variables.now lined.now.what → All (CellFits variables.now) moved.moved.cells → result ≢ Err Lost.Unfit }
     ensures placed { slot < most_slots → IfOk result IsPlaced }
+    ensures closes { (what : PlainStatement) → IfOk result (λ next. may_do what next ≡ true) }
 {
     match &lined.what {
         Statement::Transfer(t) => carry(variables, t, slot, moved, condition, core),
@@ -338,6 +343,8 @@ pub fn answered<D: Disk>(
     ensures keeps { IsKept variables.now core.old → OnOk result (IsKept variables.now core.new) }
     ensures fits { IsSoundStatement variables.now lined.now.what → Brings variables.now core.old lined.now.what then job → result ≢ Err Lost.Unfit }
     ensures placed { slot_behind then < most_slots → IfOk result IsPlaced }
+    ensures closes { may_await lined.now.what then ≡ true → IfOk result (λ next. may_do lined.now.what next ≡ true) }
+    ensures called { may_await lined.now.what then ≡ true → result ≡ Err Lost.Disk → may_close lined.now.what ≡ true }
 {
     let condition = condition_in(answer);
     match (then, job) {

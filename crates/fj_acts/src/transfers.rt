@@ -1,5 +1,5 @@
 // READ and WRITE (ISO/IEC 1539-1:2004, 9.5).
-ghost use Rattle.std.specs.Prelude.{◌<◌, ◌≡◌, ◌≢◌, ◌↔◌, ◌≤◌, ◌++◌, [], ◌∷◌, ℕ, All, List, Some, IfOk, OnOk, OnErr, Err};
+ghost use Rattle.std.specs.Prelude.{◌<◌, ◌≡◌, ◌≢◌, ◌↔◌, ◌≤◌, ◌++◌, [], ◌∷◌, ℕ, All, List, Some, true, IfOk, OnOk, OnErr, Err};
 ghost use Rattle.std.specs.Option.{option_map, option_copied};
 ghost use Rattle.fj_outside.specs.Faults.{Rose};
 ghost use Rattle.fj_outside.specs.Holdings.{Holdings};
@@ -21,6 +21,8 @@ ghost use Rattle.fj_pending.specs.Plain.{held};
 ghost use Rattle.fj_pending.specs.declared.held.Held.{Held};
 ghost use Rattle.fj_units.specs.Files.{files_of};
 ghost use Rattle.fj_desk.specs.Desks.{most_slots};
+ghost use Rattle.fj_statement.specs.declared.statement.Statement.{Statement as PlainStatement};
+ghost use Rattle.fj_acts.specs.Calling.{may_do};
 ghost use Rattle.fj_acts.specs.Placing.{IsPlaced};
 ghost use Rattle.fj_acts.specs.Failing.{StandsWhere};
 ghost use Rattle.fj_acts.specs.Fitting.{IsKept, MayPend};
@@ -63,6 +65,7 @@ pub(crate) fn refuse<F: FileStore>(
     ensures keeps { IsKept variables.now core.old → OnOk result (IsKept variables.now core.new) }
     ensures fits { IsAllowed t.now → result ≢ Err Lost.Unfit }
     ensures placed { IfOk result IsPlaced }
+    ensures closes { (what : PlainStatement) → IfOk result (λ next. may_do what next ≡ true) }
 {
     undefine(variables, &mut core.store, t).map_err(lost_by_items)?;
     Ok(Doing::Finishes(condition))
@@ -93,6 +96,7 @@ fn transfer<F: FileStore>(
     ensures keeps { IsKept variables.now core.old → OnOk result (IsKept variables.now core.new) }
     ensures fits { IsTransfer variables.now t.now → Finds variables.now core.old.store t.now → result ≢ Err Lost.Unfit }
     ensures placed { slot < most_slots → IfOk result IsPlaced }
+    ensures closes { (what : PlainStatement) → IfOk result (λ next. may_do what next ≡ true) }
 {
     if t.asynchronous.unwrap_or(false) {
         let tag = Tag(core.next);
@@ -136,6 +140,7 @@ fn transfer_on<F: FileStore>(
     ensures keeps { IsKept variables.now core.old → OnOk result (IsKept variables.now core.new) }
     ensures fits { IsTransfer variables.now t.now → Finds variables.now core.old.store t.now → result ≢ Err Lost.Unfit }
     ensures placed { IfOk result IsPlaced }
+    ensures closes { (what : PlainStatement) → IfOk result (λ next. may_do what next ≡ true) }
 {
     let Some(unit) = core.units.find(number) else {
         return refuse(variables, t, Condition::Error(1), core);
@@ -181,6 +186,7 @@ pub(crate) fn read_or_write<F: FileStore, W: Sink>(
     ensures keeps { IsKept variables.now core.old → OnOk result (IsKept variables.now core.new) }
     ensures fits { IsTransfer variables.now t.now → Finds variables.now core.old.store t.now → core.old.output.begun ≤ star_limit → result ≢ Err Lost.Unfit }
     ensures placed { IfOk result IsPlaced }
+    ensures closes { (what : PlainStatement) → IfOk result (λ next. may_do what next ≡ true) }
 {
     match t.unit {
         UnitRef::Star => {
@@ -288,6 +294,7 @@ pub(crate) fn carry<F: FileStore>(
     ensures keeps { IsKept variables.now core.old → OnOk result (IsKept variables.now core.new) }
     ensures fits { IsTransfer variables.now t.now → All (CellFits variables.now) job.moved.cells → result ≢ Err Lost.Unfit }
     ensures placed { slot < most_slots → IfOk result IsPlaced }
+    ensures closes { (what : PlainStatement) → IfOk result (λ next. may_do what next ≡ true) }
 {
     give_cells(variables, &mut core.store, t.input, t.size, job).map_err(lost_by_items)?;
     match condition {
