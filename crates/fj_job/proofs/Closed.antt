@@ -1,5 +1,6 @@
 -- What a statement adds to the output on unit `*`: it prints behind what is there, and a record that is not open has no character.
-use Rattle.std.proofs.Common.{◌≡◌, ℕ, ◌+◌, ◌<◌, Bool, true, false, not, ◌||◌, List, [], ◌∷◌, ◌++◌, length, Option, Some, None, Result, Ok, Err, refl, sym, ap, ◌∙◌, subst, append_assoc, append-nil, arith}
+use Rattle.std.proofs.Common.{◌≡◌, ℕ, ◌+◌, ◌-◌, ◌<◌, ◌≤◌, Bool, true, false, not, ◌||◌, List, [], ◌∷◌, ◌++◌, length, take, drop, length-append, take-append-drop, Option, Some, None, Result, Ok, Err, refl, sym, ap, ◌∙◌, subst, append_assoc, append-nil, arith}
+use Rattle.std.proofs.lemmas.List.{take-take, take-append-le}
 use Rattle.std.specs.Prelude.{◌==◌, if◌then◌else◌, nat_lt}
 use Rattle.std.proofs.lemmas.Bool.Decides.{nat_tests}
 use Rattle.fj_value.specs.declared.condition.Condition.{Condition}
@@ -32,6 +33,7 @@ use Rattle.fj_statement.specs.declared.statement.Statement.{Statement}
 use Rattle.fj_statement.specs.declared.statement.Statement.TheVariants as statement
 use Rattle.fj_book.specs.Prohibitions.{prohibited}
 use Rattle.fj_value.specs.declared.condition.Rule.{Rule}
+use Rattle.fj_items.specs.Handing.{whole_records}
 use Rattle.fj_plain.specs.Needs.{need, holders}
 use Rattle.fj_plain.specs.Telling.{is_asynchronous, after_tells, waited, condition_of}
 use Rattle.fj_plain.specs.Transfers.{moved_by, spec_of, transferred, unless_refused, on_unit, star_limit, with_printed, printed_to, on_star, transfer_at}
@@ -43,18 +45,37 @@ use Rattle.fj_plain.specs.Statement.{Stated, Ending, Ran, own, instead, acts, go
 abbrev pub IsClosed : Output → Type 0
 IsClosed o = o.is_open ≡ false → o.begun ≡ 0
 
--- more was printed, or nothing
+-- more was printed, or nothing, and no fewer characters are in records that have ended
 pub record Follows (o p : Output) : Type 0 where
   pub more : List ℕ
   pub text : p.text ≡ o.text ++ more
+  pub ended : length o.text - o.begun ≤ length p.text - p.begun
   pub closed : IsClosed o → IsClosed p
 
 pub follows_same : (o p : Output) → p ≡ o → Follows o p
-follows_same o p e = record { more = []; text = ap (λ (x : Output). x.text) e ∙ sym (append-nil o.text); closed = λ c. subst (λ (x : Output). IsClosed x) (sym e) c }
+follows_same o p e = record {
+  more = [];
+  text = ap (λ (x : Output). x.text) e ∙ sym (append-nil o.text);
+  ended = subst (λ (x : Output). length o.text - o.begun ≤ length x.text - x.begun) (sym e) (omega arith);
+  closed = λ c. subst (λ (x : Output). IsClosed x) (sym e) c;
+}
 
 pub follows_on : (o p q : Output) → Follows o p → Follows p q → Follows o q
-follows_on o p q f g =
-    record { more = f.more ++ g.more; text = g.text ∙ ap (λ x. x ++ g.more) f.text ∙ append_assoc o.text f.more g.more; closed = λ c. g.closed (f.closed c) }
+follows_on o p q f g = record {
+  more = f.more ++ g.more;
+  text = g.text ∙ ap (λ x. x ++ g.more) f.text ∙ append_assoc o.text f.more g.more;
+  ended = let first = f.ended in let second = g.ended in omega (arith, first, second);
+  closed = λ c. g.closed (f.closed c);
+}
+
+-- the records that ended go on
+pub records_follow : (o p : Output) → Follows o p → (part : List ℕ) × (whole_records p ≡ whole_records o ++ part)
+records_follow o p f =
+    let count = length o.text - o.begun in
+    let whole = whole_records p in
+    let front : take count whole ≡ whole_records o =
+    take-take count (length p.text - p.begun) p.text f.ended ∙ ap (take count) f.text ∙ take-append-le count o.text f.more (omega arith) in
+    (drop count whole, sym (take-append-drop count whole) ∙ ap (λ t. t ++ drop count whole) front)
 
 -- ---- what ends with the end of a record
 
@@ -103,6 +124,13 @@ closed_by : (output : Output) (p : Printed) (ends : Bool) → (ends ≡ true →
 closed_by output p true e = λ _. counted output.begun p (e refl)
 closed_by output p false e = λ k. cc
 
+more_ended : (text : List ℕ) (begun : ℕ) (records : List (List ℕ)) (open_now : List ℕ)
+    → length text - begun ≤ length (text ++ text_of records ++ open_now) - ((if length records == 0 then begun else 0) + length open_now)
+more_ended text begun [] open_now = omega (arith, length-append (text ++ []) open_now, length-append text [])
+more_ended text begun (first ∷ more) open_now =
+    rw (not_none (length (first ∷ more)) (omega arith))
+    omega (arith, length-append (text ++ text_of (first ∷ more)) open_now, length-append text (text_of (first ∷ more)))
+
 follows_printed : (output : Output) (ends : Bool) (actions : List Action) (hand : Result AtHand Condition) → (ends ≡ true → EndsSo actions) → Follows output (printed_to ends output (if_fine actions hand)).0
 follows_printed output ends actions (Err condition) e = follows_same _ _ refl
 follows_printed output ends actions (Ok hand) e =
@@ -110,6 +138,7 @@ follows_printed output ends actions (Ok hand) e =
     record {
       more = text_of p.records ++ p.«open»;
       text = append_assoc output.text (text_of p.records) p.«open»;
+      ended = more_ended output.text output.begun p.records p.«open»;
       closed = λ c. closed_by output p ends (λ k. let so = e k in subst (λ (x : List Action). Ended (printed_of (texts_of x))) (sym so.1) (ended_texts empty_line so.0));
     }
 

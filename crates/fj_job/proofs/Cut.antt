@@ -8,7 +8,7 @@ use Rattle.fj_slot.specs.Serving.{Meaning}
 use Rattle.fj_world.specs.Rack.{Rack}
 use Rattle.fj_bay.specs.Bay.{Bay}
 use Rattle.fj_bay.specs.Jobs.{Job, Answer}
-use Rattle.fj_plain.specs.State.{Files}
+use Rattle.fj_plain.specs.State.{Files, start}
 use Rattle.fj_plain.specs.Statement.{stated, step}
 use Rattle.fj_plain.specs.Telling.{tell_of}
 use Rattle.fj_desk.specs.Core.{Core}
@@ -22,13 +22,14 @@ use Rattle.fj_pending.specs.Plain.{tells_of}
 use Rattle.fj_items.specs.Handing.{whole_records, HandsOver, HandsFront, HandsPart}
 use Rattle.fj_items.specs.declared.lost.Lost.{Lost}
 use Rattle.fj_items.specs.declared.lost.Lost.TheVariants.{Sink}
+use Rattle.fj_acts.specs.Calling.{calls_disk}
 use Rattle.fj_acts.specs.State.{core_of}
-use Rattle.fj_runner.specs.Failing.{FailsCall, FailsAtDisk, HandsThen, OfOutside}
+use Rattle.fj_runner.specs.Failing.{FailsCall, FailsAtDisk, HandsThen, OfOutside, CallsDisk}
 use Rattle.fj_runner.specs.Machine.{rest_of}
 use Rattle.fj_runner.specs.declared.machine.Machine.{Machine}
 use Rattle.fj_job.specs.Cut.{Untold, Told, Carried, ComesTo}
 use Rattle.fj_job.specs.Cutting.{IsExact, TookFront, TookBegun, IsCut}
-use Rattle.fj_job.proofs.CutTexts.{at_hand}
+use Rattle.fj_job.proofs.CutTexts.{at_hand, cut_place}
 use Rattle.fj_job.proofs.Holding.{HoldsAt, CauseAt, cause_there, holds_there, holds_told}
 use Rattle.fj_job.proofs.Learning.{LearnsAt}
 
@@ -98,7 +99,7 @@ module _ {E J A F : Type 0} {ghosts : Ghosts F} (meaning : Meaning E J A Bay Job
         let there = holds_there meaning rack held before now deck files m run.rest holds comes x.rest in
         let output : m.state.core.output ≡ it.state.output = k.output ∙ x.output ∙ it.same.output in
         elim (x.tells known) [
-          | inl e ↦ record { reach = Untold; may = tt; output = output; tells = k.tells ∙ e ∙ it.same.tells; taken = all; files_are = there; cause = inr (inr (inr (wide k.rose))) }
+          | inl e ↦ record { reach = Untold; may = tt; output = output; tells = k.tells ∙ e ∙ it.same.tells; taken = all; files_are = there; cause = inr (inr (inr (called, wide k.rose))) }
           | inr e ↦ record {
             reach = Told;
             may = tt;
@@ -106,10 +107,15 @@ module _ {E J A F : Type 0} {ghosts : Ghosts F} (meaning : Meaning E J A Bay Job
             tells = k.tells ∙ e ∙ ap (λ ts. ts ++ map (tell_of x.statement.0.line) (waited_at x.statement x.before)) it.same.tells ∙ ap (λ es. it.state.tells ++ map (tell_of x.statement.0.line) es) it.waited_is;
             taken = all;
             files_are = holds_told meaning rack held before now deck files m comes there;
-            cause = inr (inr (inr (wide k.rose)));
+            cause = inr (inr (inr (called, wide k.rose)));
           }
         ]
       where
+        called : calls_disk x.statement.0.what ≡ true
+        called =
+            let place = cut_place deck.variables x.index (stated deck.statements) (start deck.variables files) x.statement it.state it.cut_is in
+            subst CallsDisk (x.rest ∙ place.1) k.called
+
         all : Tells → new ≡ old ++ whole_records m.state.core.output
         all t =
             let h : HandsOver taken new was.state.core.output run.core.output = k.handed (on t) in

@@ -6,19 +6,17 @@ use Rattle.fj_statement.specs.declared.deck.Deck.{Deck}
 use Rattle.fj_plain.specs.State.{State, Files, Output, start}
 use Rattle.fj_plain.specs.Statement.{Stated, Ran, stated, control_by, step, executed, Ending, cut, plain_execution}
 use Rattle.fj_items.specs.Handing.{whole_records, open_record}
+use Rattle.fj_turns.proofs.Slots.{same_some}
 use Rattle.fj_job.specs.Cut.{Reach, Untold, Told, Carried, reached, ComesTo}
 use Rattle.fj_job.specs.Reply.{open_feed}
 use Rattle.fj_job.proofs.Closed.{IsClosed, Follows, follows_same, follows_on, step_follows, executed_follows}
 use Rattle.fj_job.proofs.Executed.{whole_and_open}
 
-same_some : {X : Type 0} → {x y : X} → Some x ≡ Some y → x ≡ y
-same_some e = cc
-
 -- ---- one statement of a cut
 
 module _ (variables : List Variable) where
   -- a cut behind a statement, by the ending of that
-  abbrev cut_by : ℕ → List Stated → State → Option Ending → Option (Stated × State)
+  abbrev pub cut_by : ℕ → List Stated → State → Option Ending → Option (Stated × State)
   cut_by index sts next o = elim o as (λ _. Option (Stated × State)) [ None ↦ cut variables index sts next | Some e ↦ None ]
 
   -- the statement stands there in the deck
@@ -33,7 +31,7 @@ module _ (variables : List Variable) where
       by later (Some ending) f = absurd (let z : None ≡ Some (st, before) = sym (ap (cut_by index sts (step variables x s).0) f) ∙ e in cc)
 
   -- what is printed up to there, and as far as the statement came
-  cut_follows : (index : ℕ) (sts : List Stated) (s : State) (st : Stated) (before : State) → cut variables index sts s ≡ Some (st, before) → Follows s.output before.output
+  pub cut_follows : (index : ℕ) (sts : List Stated) (s : State) (st : Stated) (before : State) → cut variables index sts s ≡ Some (st, before) → Follows s.output before.output
   cut_follows index [] s st before e = cc
   cut_follows zero (x ∷ sts) s st before e = let same : ◌≡◌ {A = Stated × State} (x, s) (st, before) = same_some e in subst (λ y. Follows s.output y.1.output) same (follows_same _ _ refl)
   cut_follows (suc index) (x ∷ sts) s st before e = by (step variables x s) (step_follows variables x s) (λ f. cut_follows index sts (step variables x s).0 st before f) e
@@ -43,7 +41,7 @@ module _ (variables : List Variable) where
       by (next, None) k later f = follows_on _ _ _ k (later f)
       by (next, Some ending) k later f = absurd (let z : None ≡ Some (st, before) = f in cc)
 
-  reached_follows : (reach : Reach) (st : Stated) (s : State) → Follows s.output (reached reach variables st s).output
+  pub reached_follows : (reach : Reach) (st : Stated) (s : State) → Follows s.output (reached reach variables st s).output
   reached_follows Untold st s = follows_same _ _ refl
   reached_follows Told st s = follows_same _ _ refl
   reached_follows Carried st s = step_follows variables st s

@@ -79,15 +79,15 @@ left_short m rack variables deck files left last name (u ∷ us) each given e = 
     here same =
         let l = each.0 in
         let q = given u.slot l.0 l.1 in
-        let left = l.2 q.0.start q.0.jobs q.1 in
-        let it = left.some in
+        let short = l.2 q.0.start q.0.jobs q.1 in
+        let it = short.some in
         subst (λ n. IsLeftShort variables deck files last n (left n)) (sym same) (record {
           slot = u.slot;
           number = it.number;
           bay = _;
           job = it.job;
           gives = q.2 it.number it.job it.at;
-          behind_them = λ other was. let done = q.3 other was in let from = left.from in omega (arith, done, from);
+          behind_them = λ other was. let done = q.3 other was in let from = short.from in omega (arith, done, from);
           leaves = it.leaves;
         })
 

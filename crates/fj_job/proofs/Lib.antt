@@ -12,6 +12,8 @@ pub mod CarriedOut
 pub mod Passes
 pub mod Learning
 pub mod CutTexts
+pub mod FaultLaws
+pub mod Calling
 pub mod Leaving
 pub mod Holding
 pub mod Cut

@@ -141,7 +141,7 @@ module _ {E J A F : Type 0} {ghosts : Ghosts F} (meaning : Meaning E J A Bay Job
       by false e = absurd (stopped (served_of rack last u.name m.state.core.units running e))
   learnt_by (inr (inl aside)) =
       absurd (let z : false ≡ true = sym (ap is_some (others aside.desks aside.held aside.slot aside.ledger aside.desk aside.here aside.has_desk aside.free)) ∙ aside.halted in cc)
-  learnt_by (inr (inr rose)) = inr (rose_later before now end rose late)
+  learnt_by (inr (inr (called, rose))) = inr (called, rose_later before now end rose late)
 
   -- where nothing was lost, or by the disk
   pub left_at : (m.tally.lost ≡ None) ⊎ (m.tally.lost ≡ Some Disk) → l.core ≡ record (m.state.core) { names = l.core.names } → IsLeftAt deck files l last before end

@@ -159,7 +159,8 @@ pub record Told (task : Task) (status : Status) (source sink : Seen (List ℕ)) 
       → Replied task source.before disk.before.held.files status disk.after.held.files (λ output. sink.tells → sink.after ≡ sink.before ++ output)
   pub rightly : AnswersRightly task status source
   -- A fault of the disk is that of the statement which learnt of it: behind what executing the deck tells up to there, the report
-  -- says its line: unless the deck stops at the statement, it waits at a unit whose file is told as hurt, or the disk's own number rose.
+  -- says its line: unless the deck stops at the statement, it waits at a unit whose file is told as hurt, or it calls the disk itself and
+  -- the disk's own number rose.
   -- The sink took all of it; or it failed then, and took a front of it, and not all. Each file that the disk does not tell as hurt,
   -- and that the statement is not about, is left as closing all units leaves it there; of the others `AreLeft` says how far they are.
   pub fault : source.tells → OfDisk task source.before disk.tells → IfFault status (λ line. IfExecute task (λ trace. (deck : Deck) × IsDeck source.before deck

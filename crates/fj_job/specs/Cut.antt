@@ -11,6 +11,7 @@ use Rattle.fj_plain.specs.Statement.{Stated, step, stated, cut}
 use Rattle.fj_cut.specs.Others.{names_in, file_about, file_renewed}
 use Rattle.fj_cut.specs.Awaiting.{AwaitedUnit}
 use Rattle.fj_cut.specs.Stopping.{IsLeftShort}
+use Rattle.fj_acts.specs.Calling.{calls_disk}
 use Rattle.fj_units.specs.Files.{files_of}
 use Rattle.fj_units.specs.Returning.{IsAsDue}
 use Rattle.fj_report.specs.Lines.{status_text}
@@ -69,10 +70,10 @@ pub record AreLeft (deck : Deck) (files : Files) (comes : ComesTo deck files) (r
       → IsLeftShort deck.variables (stated deck.statements) files comes.index name (files_of left name)
       ⊎ IsAsDue before now (files_of left name) ((all_closed (reached reach deck.variables comes.statement comes.before)).files name)
 
--- Why a fault of the disk is learnt at a statement, in that state: it waits at a unit whose file is told as hurt; or the disk's own
--- number rose.
+-- Why a fault of the disk is learnt at a statement, in that state: it waits at a unit whose file is told as hurt; or it is one that calls
+-- the disk itself, to open or to close a file or to ask whether there is one, and the disk's own number rose.
 abbrev pub IsLearnt : Stated → State → Holdings → ℕ → ℕ → Type 0
-IsLearnt statement s left before now = ((u : AwaitedUnit s statement.0.what) × (set.contains left.hurt u.name ≡ true)) ⊎ Rose before now
+IsLearnt statement s left before now = ((u : AwaitedUnit s statement.0.what) × (set.contains left.hurt u.name ≡ true)) ⊎ ((calls_disk statement.0.what ≡ true) × Rose before now)
 
 -- a sink took a front of the reply to a deck that is carried out
 abbrev pub TookRun : Deck → Bool → Files → List ℕ → List ℕ → Type 0

@@ -19,6 +19,7 @@ use Rattle.fj_cut.specs.Others.{names_in, file_about, has_file, AreHoused, file_
 use Rattle.fj_cut.specs.Awaiting.{AwaitedUnit}
 use Rattle.fj_cut.specs.Stopping.{HoldsGiven}
 use Rattle.fj_pending.specs.Plain.{tells_of}
+use Rattle.fj_acts.specs.Calling.{calls_disk}
 use Rattle.fj_units.specs.Files.{files_of}
 use Rattle.fj_units.specs.Returning.{IsAsDue}
 use Rattle.fj_units.specs.Units.{has_slot}
@@ -59,10 +60,11 @@ pub record StopsAside {E J A : Type 0} (meaning : Meaning E J A Bay Job Answer) 
   pub free : has_slot units slot ≡ false
   pub halted : is_some ledger.halt ≡ true
 
--- why no more was done: the statement waits at a unit whose slot has stopped, or for one that no unit has; or the disk's own number rose
+-- why no more was done: the statement waits at a unit whose slot has stopped, or for one that no unit has; or it calls the disk itself, and
+-- the disk's own number rose
 abbrev pub IsCause : {E J A : Type 0} → Meaning E J A Bay Job Answer → Rack E J A → List Connected → Stated → State → ℕ → ℕ → Type 0
 IsCause meaning rack units statement s before now =
-    ((u : AwaitedUnit s statement.0.what) × (IsServed rack units u.name → ⊥)) ⊎ StopsAside meaning rack units ⊎ Rose before now
+    ((u : AwaitedUnit s statement.0.what) × (IsServed rack units u.name → ⊥)) ⊎ StopsAside meaning rack units ⊎ ((calls_disk statement.0.what ≡ true) × Rose before now)
 
 -- Output and tells are what the execution tells up to that statement, the sink took the records that ended, and so it is of the files.
 pub record IsExact {E J A F : Type 0} {ghosts : Ghosts F} (meaning : Meaning E J A Bay Job Answer) (rack : Rack E J A) (held : Holdings) (before now : ℕ) (Tells : Type 0) (old new : List ℕ)

@@ -4,6 +4,7 @@ pub mod Task
 pub mod Reply
 pub mod Cut
 pub mod Cutting
+pub mod Faulting
 pub mod Answers
 pub mod Asking
 pub mod Carrying

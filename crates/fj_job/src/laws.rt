@@ -1,4 +1,5 @@
-// What holds of all replies.
+// What holds of all replies, and of the faults that are told.
+ghost use Rattle.fj_job.specs.Faulting.{LinesNameStatements, OneWriteFault, OthersLeaveFiles, SomeLearnNothing, WriteFaultsAreFirst};
 ghost use Rattle.fj_job.specs.Reply.{OneReply, SomeReply};
 
 use fj_deck::{decks_are_sound, one_answer, some_answer};
@@ -17,3 +18,30 @@ pub fn some_reply()
     some_answer();
     decks_are_sound();
 }
+
+/// The line of a fault of the disk names one statement.
+pub fn lines_name_statements()
+    ensures { LinesNameStatements }
+{
+    decks_are_sound();
+}
+
+/// A fault of the sink is that of the first statement that ends a record which was not taken whole, or of the report behind the last one.
+pub fn write_faults_are_first()
+    ensures { WriteFaultsAreFirst }
+{}
+
+/// So what the sink took fits one statement of the deck, and no other, or the report alone.
+pub fn one_write_fault()
+    ensures { OneWriteFault }
+{}
+
+/// An assignment, a READ or WRITE on `*`, and one that will be pending learn of no fault of the disk.
+pub fn some_learn_nothing()
+    ensures { SomeLearnNothing }
+{}
+
+/// A statement that does not call the disk itself leaves the files that no unit has.
+pub fn others_leave_files()
+    ensures { OthersLeaveFiles }
+{}

@@ -20,4 +20,7 @@ mod workers;
 pub use fj_report::Status;
 pub use fj_statement::Reason;
 pub use job::{alone_job, run_job};
-pub use laws::{one_reply, some_reply};
+pub use laws::{
+    lines_name_statements, one_reply, one_write_fault, others_leave_files, some_learn_nothing,
+    some_reply, write_faults_are_first,
+};

@@ -1,10 +1,12 @@
 -- Turns that are given up.
-use Rattle.std.proofs.Common.{◌≡◌, ◌≢◌, ℕ, Bool, List, [], ◌++◌, Option, Some, None, Result, Ok, Err, OnErr, inl, inr, refl, sym, ap, ◌∙◌, subst}
+use Rattle.std.proofs.Common.{◌≡◌, ◌≢◌, ℕ, Bool, true, List, [], ◌++◌, Option, Some, None, Result, Ok, Err, OnErr, inl, inr, refl, sym, ap, ◌∙◌, subst}
 use Rattle.std.specs.Prelude.{◌⊎◌}
 use Rattle.std.proofs.lemmas.List.{append-nil}
 use Rattle.fj_outside.specs.Faults.{Rose}
 use Rattle.fj_outside.specs.Holdings.{Holdings}
 use Rattle.fj_statement.specs.declared.deck.Variable.{Variable}
+use Rattle.fj_statement.specs.declared.statement.Statement.{Statement}
+use Rattle.fj_statement.specs.declared.statement.Statement.TheVariants as statement
 use Rattle.fj_items.specs.Handing.{HandsOver, HandsFront, HandsPart, whole_records}
 use Rattle.fj_items.specs.declared.lost.Lost.{Lost}
 use Rattle.fj_items.specs.declared.lost.Lost.TheVariants.{Disk, Sink}
@@ -16,6 +18,7 @@ use Rattle.fj_turns.specs.Run.{Run, Stage}
 use Rattle.fj_turns.specs.Turns.{finish_by, turn_act, with_core, with_iostat}
 use Rattle.fj_turns.specs.Passing.{output_of}
 use Rattle.fj_pending.specs.Plain.{tells_of}
+use Rattle.fj_acts.specs.Calling.{may_close, calls_disk}
 use Rattle.fj_acts.specs.State.{core_at}
 use Rattle.fj_acts.specs.Doing.{IsDoing}
 use Rattle.fj_acts.specs.declared.doing.Doing.{Doing}
@@ -50,6 +53,18 @@ doing_output told bytes variables st core (doing.Finishes condition) plain d = a
 doing_output told bytes variables st core (doing.Gives slot job next) plain d = ap (λ p. (core_at p).output) d.gives
 doing_output told bytes variables st core (doing.Awaits slot job next) plain d = ap (λ p. (core_at p).output) d.gives
 
+-- ---- what is done with the disk
+
+pub closing_calls : (what : Statement) → may_close what ≡ true → calls_disk what ≡ true
+closing_calls (statement.Assign to from) e = e
+closing_calls (statement.OpenUnit u spec iostat) e = e
+closing_calls (statement.CloseUnit u keep iostat) e = e
+closing_calls (statement.WaitFor u id iostat) e = e
+closing_calls (statement.Move how u iostat) e = e
+closing_calls (statement.Inquire about asked id iostat) e = cc
+closing_calls (statement.Transfer t) e = e
+closing_calls statement.End e = e
+
 -- ---- turns
 
 neither : {X : Type 0} → {r : Result X Lost} {P : Type 0} → r ≢ Err Disk → r ≢ Err Sink → OfOutside (λ lost. r ≡ Err lost) → P
@@ -58,8 +73,8 @@ neither n s (inr e) = absurd (s e)
 
 module _ {W : Type 0} {tells_out : W → Type 0} {taken : W → List ℕ} {held : Holdings} {before now : ℕ} where
   -- it is not for the outside, and nothing is written
-  pub fails_still : {X : Type 0} → (out : W) (core core' : Core) (r : Result X Lost) (due : Output) (Known : Type 0) (told : List Tell) {does : Option PlainDoing} → r ≢ Err Disk → r ≢ Err Sink
-      → FailsTurn tells_out taken out core r out core' held before now due Known told does
+  pub fails_still : {X : Type 0} → (out : W) (core core' : Core) (r : Result X Lost) (due : Output) (Known : Type 0) (told : List Tell) {does : Option PlainDoing} {Called : Type 0} → r ≢ Err Disk → r ≢ Err Sink
+      → FailsTurn tells_out taken out core r out core' held before now due Known told does Called
   fails_still out core core' r due Known told n s = record {
     front = λ t. on_err r (HandsFront (taken out) (taken out) core.output due ⊎ (taken out ≡ taken out)) (inr refl);
     known = λ e. neither n s e;
@@ -67,12 +82,13 @@ module _ {W : Type 0} {tells_out : W → Type 0} {taken : W → List ℕ} {held 
     output = λ e. absurd (n e);
     tells = λ e. absurd (n e);
     rose = λ e. absurd (n e);
+    called = λ e. absurd (n e);
     begun = λ t e. absurd (s e);
   }
 
   -- it is not for the outside, and all is written
-  pub fails_acting : {X : Type 0} → (out out' : W) (core core' : Core) (r : Result X Lost) (due : Output) (Known : Type 0) (told : List Tell) {does : Option PlainDoing} → r ≢ Err Disk → r ≢ Err Sink
-      → (tells_out out → HandsOver (taken out) (taken out') core.output due) → FailsTurn tells_out taken out core r out' core' held before now due Known told does
+  pub fails_acting : {X : Type 0} → (out out' : W) (core core' : Core) (r : Result X Lost) (due : Output) (Known : Type 0) (told : List Tell) {does : Option PlainDoing} {Called : Type 0} → r ≢ Err Disk → r ≢ Err Sink
+      → (tells_out out → HandsOver (taken out) (taken out') core.output due) → FailsTurn tells_out taken out core r out' core' held before now due Known told does Called
   fails_acting out out' core core' r due Known told n s h = record {
     front = λ t. on_err r (HandsFront (taken out) (taken out') core.output due ⊎ (taken out' ≡ taken out)) (inl (hands_front (taken out) (taken out') core.output due (h t)));
     known = λ e. neither n s e;
@@ -80,21 +96,23 @@ module _ {W : Type 0} {tells_out : W → Type 0} {taken : W → List ℕ} {held 
     output = λ e. absurd (n e);
     tells = λ e. absurd (n e);
     rose = λ e. absurd (n e);
+    called = λ e. absurd (n e);
     begun = λ t e. absurd (s e);
   }
 
   -- its own action is given up
-  pub fails_begun : {X : Type 0} → (out out' : W) (core core' : Core) (r : Result X Lost) (due : Output) {does : Option PlainDoing} → (tells_out out → OnErr r (HandsFront (taken out) (taken out') core.output due))
+  pub fails_begun : {X : Type 0} → (out out' : W) (core core' : Core) (r : Result X Lost) (due : Output) {does : Option PlainDoing} {Called : Type 0} → (tells_out out → OnErr r (HandsFront (taken out) (taken out') core.output due))
       → (tells_out out → r ≡ Err Sink → HandsPart (taken out) (taken out') core.output due)
-      → (r ≡ Err Disk → core'.output ≡ core.output) → core'.tells ≡ core.tells → (OfOutside (λ lost. r ≡ Err lost) → StandsDoing does core' held before now) → (r ≡ Err Disk → Rose before now)
-      → FailsTurn tells_out taken out core r out' core' held before now due (Unit {0}) (tells_of core.tells) does
-  fails_begun out out' core core' r due h part o t f rose = record {
+      → (r ≡ Err Disk → core'.output ≡ core.output) → core'.tells ≡ core.tells → (OfOutside (λ lost. r ≡ Err lost) → StandsDoing does core' held before now) → (r ≡ Err Disk → Rose before now) → (r ≡ Err Disk → Called)
+      → FailsTurn tells_out taken out core r out' core' held before now due (Unit {0}) (tells_of core.tells) does Called
+  fails_begun out out' core core' r due h part o t f rose called = record {
     front = λ k. by r (h k);
     known = λ e. tt;
     stands = f;
     output = o;
     tells = λ e. ap tells_of t;
     rose = rose;
+    called = called;
     begun = part;
   }
     where
@@ -103,21 +121,23 @@ module _ {W : Type 0} {tells_out : W → Type 0} {taken : W → List ℕ} {held 
       by (Err lost) k = inl k
 
   -- nothing is written, and what is told stays
-  pub fails_quiet : {X : Type 0} → (out : W) (core core' : Core) (r : Result X Lost) (due : Output) {does : Option PlainDoing} → core'.output ≡ core.output → core'.tells ≡ core.tells
-      → r ≢ Err Sink → (r ≡ Err Disk → StandsDoing does core' held before now) → (r ≡ Err Disk → Rose before now) → FailsTurn tells_out taken out core r out core' held before now due (Unit {0}) (tells_of core.tells) does
-  fails_quiet out core core' r due o t s f rose = record {
+  pub fails_quiet : {X : Type 0} → (out : W) (core core' : Core) (r : Result X Lost) (due : Output) {does : Option PlainDoing} {Called : Type 0} → core'.output ≡ core.output → core'.tells ≡ core.tells
+      → r ≢ Err Sink → (r ≡ Err Disk → StandsDoing does core' held before now) → (r ≡ Err Disk → Rose before now) → (r ≡ Err Disk → Called)
+      → FailsTurn tells_out taken out core r out core' held before now due (Unit {0}) (tells_of core.tells) does Called
+  fails_quiet out core core' r due o t s f rose called = record {
     front = λ k. on_err r (HandsFront (taken out) (taken out) core.output due ⊎ (taken out ≡ taken out)) (inr refl);
     known = λ e. tt;
     stands = λ e. elim e [ inl d ↦ f d | inr lost ↦ absurd (s lost) ];
     output = λ e. o;
     tells = λ e. ap tells_of t;
     rose = rose;
+    called = called;
     begun = λ k e. absurd (s e);
   }
 
   -- by another word for what was due
-  pub fails_from : {X : Type 0} → (out out' : W) (core half core' : Core) (r : Result X Lost) (due due' : Output) (Known Known' : Type 0) (told told' : List Tell) {does does' : Option PlainDoing} → half.output ≡ core.output → due ≡ due' → (Known → Known')
-      → told ≡ told' → does ≡ does' → FailsTurn tells_out taken out half r out' core' held before now due Known told does → FailsTurn tells_out taken out core r out' core' held before now due' Known' told' does'
+  pub fails_from : {X : Type 0} → (out out' : W) (core half core' : Core) (r : Result X Lost) (due due' : Output) (Known Known' : Type 0) (told told' : List Tell) {does does' : Option PlainDoing} {Called : Type 0} → half.output ≡ core.output → due ≡ due' → (Known → Known')
+      → told ≡ told' → does ≡ does' → FailsTurn tells_out taken out half r out' core' held before now due Known told does Called → FailsTurn tells_out taken out core r out' core' held before now due' Known' told' does' Called
   fails_from out out' core half core' r due due' Known Known' told told' o d k t w f = record {
     front = λ s. subst (λ x. OnErr r (HandsFront (taken out) (taken out') x due' ⊎ (taken out' ≡ taken out))) o
         (subst (λ x. OnErr r (HandsFront (taken out) (taken out') half.output x ⊎ (taken out' ≡ taken out))) d (f.front s));
@@ -126,6 +146,7 @@ module _ {W : Type 0} {tells_out : W → Type 0} {taken : W → List ℕ} {held 
     output = λ e. f.output e ∙ o;
     tells = λ e. f.tells e ∙ t;
     rose = f.rose;
+    called = f.called;
     begun = λ s e. subst (λ x. HandsPart (taken out) (taken out') x due') o (subst (λ x. HandsPart (taken out) (taken out') half.output x) d (f.begun s e));
   }
 

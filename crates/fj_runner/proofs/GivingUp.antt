@@ -25,7 +25,7 @@ use Rattle.fj_pending.specs.Plain.{tells_of}
 use Rattle.fj_acts.specs.Failing.{StandsWhere}
 use Rattle.fj_acts.specs.State.{core_at}
 use Rattle.fj_acts.specs.declared.state.Core.{Core}
-use Rattle.fj_runner.specs.Failing.{FailsStage, StandsDoing, FailsCall, OfOutside, IsGivenUp, FailsAsking}
+use Rattle.fj_runner.specs.Failing.{FailsStage, StandsDoing, CallsDisk, FailsCall, OfOutside, IsGivenUp, FailsAsking}
 use Rattle.fj_runner.specs.Leaving.{Rests}
 use Rattle.fj_runner.specs.Machine.{rest_of, run_in, run_at, run_of, stage_at}
 use Rattle.fj_runner.specs.Tallying.{first_lost}
@@ -98,6 +98,7 @@ module _ {F : Type 0} {ghosts : Ghosts F} where
       handed = λ t. hands_both a b c m.state.core.output mid.state.core.output f.run.core.output (h t) (k.handed (tells t));
       tells = k.tells;
       rose = rose_before before between now own k.rose;
+      called = k.called;
     };
     sink = λ s t. let k = f.sink s (tells t) in (k.0, hands_both a b k.0 m.state.core.output mid.state.core.output f.run.core.output (h t) k.1, k.2);
   }
@@ -128,6 +129,7 @@ module _ {F : Type 0} {ghosts : Ghosts F} where
       handed = k.handed;
       tells = ap (λ (x : Core). tells_of x.tells) core ∙ k.tells;
       rose = k.rose;
+      called = k.called;
     };
     sink = f.sink;
   }
@@ -170,6 +172,7 @@ module _ {F : Type 0} {ghosts : Ghosts F} where
       handed = λ t. subst (λ y. HandsOver (taken out) (taken out') m.state.core.output y) (f.output d ∙ sym o) (still t d);
       tells = f.tells d ∙ ap (λ rest. tells_due rest r) (sym h);
       rose = f.rose d;
+      called = subst CallsDisk (sym h) (f.called d);
     };
     sink = λ s t. (
       taken out,

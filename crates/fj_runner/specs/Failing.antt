@@ -1,5 +1,5 @@
 -- What was told and written until a turn was given up, and until a call was.
-use Rattle.std.specs.Prelude.{◌≡◌, ◌⊎◌, ℕ, true, false, List, Option, Some, None, IsSome, Result, Err, OnErr}
+use Rattle.std.specs.Prelude.{◌≡◌, ◌⊎◌, ℕ, true, false, List, [], ◌∷◌, Option, Some, None, IsSome, Result, Err, OnErr}
 use Rattle.fj_outside.specs.Faults.{Rose}
 use Rattle.fj_outside.specs.Holdings.{Holdings}
 use Rattle.fj_outside.specs.declared.outside.FileStore.{Ghosts}
@@ -14,6 +14,7 @@ use Rattle.fj_turns.specs.Turns.{turn}
 use Rattle.fj_turns.specs.Passing.{passes, output_of, turn_output, knows_at, told_at, KnowsAnswers, turn_tells}
 use Rattle.fj_cut.specs.Turning.{doing_at, turn_doing}
 use Rattle.fj_pending.specs.Plain.{tells_of}
+use Rattle.fj_acts.specs.Calling.{calls_disk}
 use Rattle.fj_acts.specs.Failing.{StandsWhere}
 use Rattle.fj_acts.specs.declared.state.Core.{Core}
 use Rattle.fj_runner.specs.Machine.{rest_of}
@@ -36,21 +37,23 @@ pub record StandsDoing (due : Option Doing) (core : Core) (held : Holdings) (bef
 
 -- Where it is given up, the sink took a front of the records that the output due has, or nothing. Where that is for the outside, the
 -- answers that it needs are known, and units and files are those due of what it does. Where it is for the disk, that is told, nothing
--- of it is written, and the disk's own number rose; where it is for the sink, that took a front, and not all of them.
+-- of it is written, the disk's own number rose, and the statement calls the disk itself; where it is for the sink, that took a front, and
+-- not all of them.
 pub record FailsTurn {W X : Type 0} (tells_out : W → Type 0) (taken : W → List ℕ) (out : W) (core : Core) (result : Result X Lost) (out' : W) (core' : Core)
-    (held : Holdings) (before now : ℕ) (due : Output) (Known : Type 0) (told : List Tell) (does : Option Doing) : Type 0 where
+    (held : Holdings) (before now : ℕ) (due : Output) (Known : Type 0) (told : List Tell) (does : Option Doing) (Called : Type 0) : Type 0 where
   pub front : tells_out out → OnErr result (HandsFront (taken out) (taken out') core.output due ⊎ (taken out' ≡ taken out))
   pub known : OfOutside (λ lost. result ≡ Err lost) → Known
   pub stands : OfOutside (λ lost. result ≡ Err lost) → StandsDoing does core' held before now
   pub output : result ≡ Err Disk → core'.output ≡ core.output
   pub tells : result ≡ Err Disk → tells_of core'.tells ≡ told
   pub rose : result ≡ Err Disk → Rose before now
+  pub called : result ≡ Err Disk → Called
   pub begun : tells_out out → result ≡ Err Sink → HandsPart (taken out) (taken out') core.output due
 
 -- the turn of a statement from a stage
 abbrev pub FailsStage : {W X : Type 0} → (W → Type 0) → (W → List ℕ) → W → Core → Result X Lost → W → Core → Holdings → ℕ → ℕ → Stated → Stage → Run → Type 0
 FailsStage tells_out taken out core result out' core' held before now st stage r =
-    FailsTurn tells_out taken out core result out' core' held before now (output_of (turn st stage r)) (knows_at st stage r) (told_at st stage r) (doing_at st stage r)
+    FailsTurn tells_out taken out core result out' core' held before now (output_of (turn st stage r)) (knows_at st stage r) (told_at st stage r) (doing_at st stage r) (calls_disk st.0.what ≡ true)
 
 -- ---- one call
 
@@ -60,12 +63,18 @@ pub record StandsAt {F : Type 0} {ghosts : Ghosts F} (held : Holdings) (before n
   pub known : KnowsAnswers run
   pub does : StandsDoing (turn_doing run) m'.state.core held before now
 
--- The disk failed there: the turn's transfers are told, and nothing of it is written.
+-- the statement at hand calls the disk itself
+abbrev pub CallsDisk : List Stated → Type 0
+CallsDisk [] = ⊥
+CallsDisk (st ∷ rest) = calls_disk st.0.what ≡ true
+
+-- The disk failed there: the turn's transfers are told, nothing of it is written, and the statement calls the disk itself.
 pub record FailsAtDisk {F : Type 0} {ghosts : Ghosts F} (TellsOut : Type 0) (taken taken' : List ℕ) (before now : ℕ) (run : Run) (m m' : Machine F ghosts) : Type 0 where
   pub output : m'.state.core.output ≡ run.core.output
   pub handed : TellsOut → HandsOver taken taken' m.state.core.output run.core.output
   pub tells : tells_of m'.state.core.tells ≡ turn_tells run
   pub rose : Rose before now
+  pub called : CallsDisk run.rest
 
 -- the sink took the records that ended first, and then a front of those that were to end, and not all of them
 abbrev pub HandsThen : List ℕ → List ℕ → Output → Output → Output → Type 0

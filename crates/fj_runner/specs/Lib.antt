@@ -9,6 +9,7 @@ pub mod Tallying
 pub mod Admitting
 pub mod Refused
 pub mod Failing
+pub mod Closing
 pub mod Leaving
 pub mod Making
 pub mod Fitting

@@ -10,6 +10,8 @@ ghost use Rattle.fj_turns.specs.Run.{Stage as PlainStage};
 ghost use Rattle.fj_turns.specs.Turns.{is_at, told_of};
 ghost use Rattle.fj_pending.specs.Plain.{held};
 ghost use Rattle.fj_acts.specs.State.{core_of};
+ghost use Rattle.fj_runner.specs.Closing.{may_be_at};
+ghost use Rattle.fj_statement.specs.declared.statement.Statement.{Statement as PlainStatement};
 ghost use Rattle.fj_runner.specs.Answering.{IsAnswered, with_own};
 ghost use Rattle.fj_runner.specs.Fitting.{IsMove};
 ghost use Rattle.fj_runner.specs.Machine.{run_in, stage_of};
@@ -86,6 +88,7 @@ impl<F: FileStore> State<F> {
         ensures fits { get_or self.old.told.items self.old.due 0 + 1 < 2 ^ 64
             → (list_any (λ h. is_at self.old.due (get_or self.old.told.items self.old.due 0) h.pending) (held self.old.core.pending) ≡ true → IsMove job)
             → result ≢ Err Lost.Unfit }
+        ensures may { (what : PlainStatement) → may_be_at what self.old.stage ≡ true → may_be_at what self.new.stage ≡ true }
     {
         let at = self.due as usize;
         let number = self.told[at];

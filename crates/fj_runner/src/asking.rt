@@ -24,7 +24,8 @@ use std::alloc::Global;
 impl<F: FileStore> Machine<F> {
     /// What a turn asks; none where the next statement is at hand.
     fn asked_by(&mut self, turned: Turned<F>) -> Option<Ask<Job<F>>>
-        requires { self.old.at < length self.old.deck.statements }
+        requires at { self.old.at < length self.old.deck.statements }
+        requires starts { turned ≡ Turned.Passes → self.old.state.stage ≡ Stage.Start }
         ensures asks { (files : Files) (t : Turn) → IsTurn F.told F.bytes self.old.deck.variables (rest_of self.old) files self.old.state turned t
             → IfSome result (λ ask. IsAsked F.told F.bytes files self.new ask (by_turn (drop (self.old.at + 1) (stated self.old.deck.statements)) t)) }
         ensures passes { (files : Files) (t : Turn) → IsTurn F.told F.bytes self.old.deck.variables (rest_of self.old) files self.old.state turned t
@@ -123,6 +124,7 @@ impl<F: FileStore> Machine<F> {
     ) -> Result<Ask<Job<F>>, Lost>
         requires names { D.tells disk.old → AreInUse self.old.state.core.names (D.held disk.old).in_use }
         requires at { self.old.at < length self.old.deck.statements }
+        requires starts { turned ≡ Turned.Passes → self.old.state.stage ≡ Stage.Start }
         ensures asks { D.tells disk.old → (t : Turn) → IsTurn F.told F.bytes self.old.deck.variables (rest_of self.old) (files_of (D.held disk.old)) self.old.state turned t
             → IfOk result (λ ask. IsAsked F.told F.bytes (files_of (D.held disk.new)) self.new ask (by_turn (drop (self.old.at + 1) (stated self.old.deck.statements)) t)) }
         ensures steps { Steps W.tells W.taken W.count D.tells D.held D.count D.refusals out.old disk.old self.old.state.core result out.new disk.new self.new.state.core }

@@ -1,5 +1,5 @@
 // How a statement begins: prohibitions, then the transfers that it waits for are settled and told.
-ghost use Rattle.std.specs.Prelude.{◌≡◌, ◌<◌, List, ◌∷◌, ◌++◌, not, map, filter, true, Some, IfOk, OnOk};
+ghost use Rattle.std.specs.Prelude.{◌≡◌, ◌≢◌, ◌<◌, List, ◌∷◌, ◌++◌, not, map, filter, true, Some, IfOk, OnOk};
 ghost use Rattle.fj_items.specs.Kinds.{kinds_of};
 ghost use Rattle.fj_store.specs.Storage.{values_of};
 ghost use Rattle.fj_plain.specs.State.{Entry, Files};
@@ -17,6 +17,7 @@ ghost use Rattle.fj_pending.specs.Plain.{held, entries, tells_of};
 ghost use Rattle.fj_pending.specs.Taking.{LeavesSome};
 ghost use Rattle.fj_pending.specs.Waits.{waited_of};
 ghost use Rattle.fj_units.specs.Names.{AreInUse};
+ghost use Rattle.fj_acts.specs.Calling.{calls_disk};
 ghost use Rattle.fj_acts.specs.State.{core_of};
 ghost use Rattle.fj_units.specs.Files.{files_of};
 ghost use Rattle.fj_runner.specs.Machine.{run_in, stage_of};
@@ -25,6 +26,7 @@ ghost use Rattle.fj_runner.specs.Passing.{are_passed, is_passed};
 ghost use Rattle.fj_runner.specs.Turned.{IsTurn};
 ghost use Rattle.fj_runner.specs.Stepping.{Keeps, Steps};
 ghost use Rattle.fj_runner.specs.Failing.{FailsTurn, FailsStage};
+ghost use Rattle.fj_runner.specs.Closing.{may_be_at};
 
 use crate::ending::Ending;
 use crate::halted::halted_slots;
@@ -111,7 +113,9 @@ impl<F: FileStore> State<F> {
             (output_of (turn_tell (lined.now, control_by lined.now.what) (waited_of whose (entries self.old.core.pending))
             (run_in variables.now ((lined.now, control_by lined.now.what) ∷ more) (files_of (D.held disk.old)) self.old stage))) (Unit {0})
             (tells_of self.old.core.tells ++ map (tell_of lined.now.line) (waited_of whose (entries self.old.core.pending)))
-            (Some (doing_told variables.now (lined.now, control_by lined.now.what) (waited_of whose (entries self.old.core.pending)) (core_of (files_of (D.held disk.old)) self.old.core))) }
+            (Some (doing_told variables.now (lined.now, control_by lined.now.what) (waited_of whose (entries self.old.core.pending)) (core_of (files_of (D.held disk.old)) self.old.core))) (calls_disk lined.now.what ≡ true) }
+        ensures may { may_be_at lined.now.what self.new.stage ≡ true }
+        ensures starts { IfOk result (λ t. t ≡ Turned.Passes → self.new.stage ≡ Stage.Start) }
     {
         put_stage(&mut self.stage, Stage::Start);
         let units = self.core.units.as_slice();
@@ -137,6 +141,8 @@ impl<F: FileStore> State<F> {
             → stage_of F.told F.bytes variables rest (core_of files self.old.core) stage ≡ Some after
             → IsTurn F.told F.bytes variables rest files self.new result (settles slot after (run_in variables rest files self.old before)) }
         ensures core { self.new.core ≡ self.old.core }
+        ensures stage { self.new.stage ≡ stage }
+        ensures pauses { result ≢ Turned.Passes }
     {
         put_stage(&mut self.stage, stage);
         self.due = slot;
@@ -166,6 +172,8 @@ impl<F: FileStore> State<F> {
         ensures fails { D.tells disk.old → (more : List Stated) (stage : PlainStage)
             → FailsStage W.tells W.taken out.old self.old.core result out.new self.new.core (D.held disk.new) (D.refusals disk.old) (D.refusals disk.new) (lined.now, control_by lined.now.what) Waiting
             (run_in variables.now ((lined.now, control_by lined.now.what) ∷ more) (files_of (D.held disk.old)) self.old stage) }
+        ensures may { may_be_at lined.now.what self.new.stage ≡ true }
+        ensures starts { IfOk result (λ t. t ≡ Turned.Passes → self.new.stage ≡ Stage.Start) }
     {
         match self.core.pending.next_unsettled(whose, from) {
             Some((from, slot)) => Ok(self.settle(slot, Stage::Waiting { whose, from })),
@@ -195,6 +203,8 @@ impl<F: FileStore> State<F> {
         ensures fails { D.tells disk.old → (more : List Stated) (stage : PlainStage)
             → FailsStage W.tells W.taken out.old self.old.core result out.new self.new.core (D.held disk.new) (D.refusals disk.old) (D.refusals disk.new) (lined.now, control_by lined.now.what) Waiting
             (run_in variables.now ((lined.now, control_by lined.now.what) ∷ more) (files_of (D.held disk.old)) self.old stage) }
+        ensures may { may_be_at lined.now.what self.new.stage ≡ true }
+        ensures starts { IfOk result (λ t. t ≡ Turned.Passes → self.new.stage ≡ Stage.Start) }
     {
         let whose = waits_for(&lined.what, &self.core.store);
         let from = if whose == known { from } else { 0 };
@@ -212,6 +222,7 @@ impl<F: FileStore> State<F> {
     ) -> Result<Turned<F>, Lost>
         requires kinds { self.old.core.store.kinds ≡ kinds_of variables.now }
         requires names { D.tells disk.old → AreInUse self.old.core.names (D.held disk.old).in_use }
+        requires hand { may_be_at lined.now.what self.old.stage ≡ true }
         ensures turn { D.tells disk.old → (more : List Stated) (stage : PlainStage)
             → IfOk result (λ t. IsTurn F.told F.bytes variables.now ((lined.now, control_by lined.now.what) ∷ more) (files_of (D.held disk.new)) self.new t
             (turn_start (lined.now, control_by lined.now.what)
@@ -220,6 +231,8 @@ impl<F: FileStore> State<F> {
         ensures fails { D.tells disk.old → (more : List Stated) (stage : PlainStage)
             → FailsStage W.tells W.taken out.old self.old.core result out.new self.new.core (D.held disk.new) (D.refusals disk.old) (D.refusals disk.new) (lined.now, control_by lined.now.what) Start
             (run_in variables.now ((lined.now, control_by lined.now.what) ∷ more) (files_of (D.held disk.old)) self.old stage) }
+        ensures may { may_be_at lined.now.what self.new.stage ≡ true }
+        ensures starts { IfOk result (λ t. t ≡ Turned.Passes → self.new.stage ≡ Stage.Start) }
     {
         let named = unit_asked(&self.core.units, &lined.what);
         let broken = check(

@@ -1,6 +1,7 @@
 // What the runner holds between two asks.
 ghost use Rattle.std.specs.Prelude.{◌≡◌, true, IsSome};
 ghost use Rattle.fj_items.specs.Kinds.{kinds_of};
+ghost use Rattle.fj_runner.specs.Closing.{hand_may_be_at};
 
 use crate::state::State;
 use crate::tally::Tally;
@@ -18,5 +19,6 @@ pub struct Machine<F: FileStore> {
     /// A connection whose job was refused. It is over then, so no second one comes.
     pub(crate) kept: Option<Connection<F>>,
     ghost kinds: { state.core.store.kinds ≡ kinds_of deck.variables },
+    ghost hand: { hand_may_be_at deck.statements at state.stage ≡ true },
     ghost refused: { IsSome kept → tally.over ≡ true },
 }

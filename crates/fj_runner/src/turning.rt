@@ -1,5 +1,5 @@
 // A statement goes on from its stage.
-ghost use Rattle.std.specs.Prelude.{◌≡◌, ◌≢◌, List, ◌∷◌, Some, IfOk, Err};
+ghost use Rattle.std.specs.Prelude.{◌≡◌, ◌≢◌, List, ◌∷◌, true, Some, IfOk, Err};
 ghost use Rattle.fj_statement.specs.Sound.{IsSoundStatement};
 ghost use Rattle.fj_items.specs.Kinds.{kinds_of};
 ghost use Rattle.fj_plain.specs.Statement.{Stated, control_by};
@@ -12,6 +12,7 @@ ghost use Rattle.fj_runner.specs.Machine.{run_in, stage_of};
 ghost use Rattle.fj_runner.specs.Turned.{IsTurn};
 ghost use Rattle.fj_runner.specs.Stepping.{Steps};
 ghost use Rattle.fj_runner.specs.Failing.{FailsStage};
+ghost use Rattle.fj_runner.specs.Closing.{may_be_at};
 ghost use Rattle.fj_runner.specs.Fitting.{FitsStage, HasRoom};
 
 use crate::stage::Stage;
@@ -36,6 +37,7 @@ impl<F: FileStore> State<F> {
     ) -> Result<Turned<F>, Lost>
         requires kinds { self.old.core.store.kinds ≡ kinds_of variables.now }
         requires names { D.tells disk.old → AreInUse self.old.core.names (D.held disk.old).in_use }
+        requires hand { may_be_at lined.now.what self.old.stage ≡ true }
         ensures turn { D.tells disk.old → (more : List Stated) (stage : PlainStage)
             → stage_of F.told F.bytes variables.now ((lined.now, control_by lined.now.what) ∷ more) (core_of (files_of (D.held disk.old)) self.old.core) self.old.stage ≡ Some stage
             → IfOk result (λ t. IsTurn F.told F.bytes variables.now ((lined.now, control_by lined.now.what) ∷ more) (files_of (D.held disk.new)) self.new t
@@ -48,6 +50,8 @@ impl<F: FileStore> State<F> {
             → stage_of F.told F.bytes variables.now ((lined.now, control_by lined.now.what) ∷ more) (core_of (files_of (D.held disk.old)) self.old.core) self.old.stage ≡ Some stage
             → FailsStage W.tells W.taken out.old self.old.core result out.new self.new.core (D.held disk.new) (D.refusals disk.old) (D.refusals disk.new) (lined.now, control_by lined.now.what) stage
             (run_in variables.now ((lined.now, control_by lined.now.what) ∷ more) (files_of (D.held disk.old)) self.old stage) }
+        ensures may { may_be_at lined.now.what self.new.stage ≡ true }
+        ensures starts { IfOk result (λ t. t ≡ Turned.Passes → self.new.stage ≡ Stage.Start) }
     {
         match mem::replace(&mut self.stage, Stage::Start) {
             Stage::Start => self.start(alloc, variables, lined, disk, out),

@@ -16,6 +16,7 @@ ghost use Rattle.fj_turns.specs.Run.{Stage as PlainStage, Held};
 ghost use Rattle.fj_turns.specs.Passing.{output_of};
 ghost use Rattle.fj_turns.specs.Turns.{submits, turn_finish, turn_act, matched, ends_halts};
 ghost use Rattle.fj_pending.specs.Plain.{held, tells_of};
+ghost use Rattle.fj_acts.specs.Calling.{calls_disk, may_do};
 ghost use Rattle.fj_acts.specs.Doing.{IsDoing};
 ghost use Rattle.fj_acts.specs.Fitting.{Meets};
 ghost use Rattle.fj_acts.specs.Placing.{IsPlaced};
@@ -29,6 +30,8 @@ ghost use Rattle.fj_runner.specs.Passing.{is_passed};
 ghost use Rattle.fj_runner.specs.Turned.{IsTurn};
 ghost use Rattle.fj_runner.specs.Stepping.{Keeps, Steps};
 ghost use Rattle.fj_runner.specs.Failing.{FailsTurn};
+ghost use Rattle.fj_runner.specs.Closing.{may_be_at};
+ghost use Rattle.fj_statement.specs.declared.statement.Statement.{Statement as PlainStatement};
 
 use crate::ending::{ended_by, iostat_of};
 use crate::stage::{Stage, put_stage};
@@ -61,6 +64,8 @@ impl<F: FileStore> State<F> {
         ensures core { self.new.core ≡ self.old.core }
         ensures causes { (result ≢ Err Lost.Disk) × (result ≢ Err Lost.Sink) }
         ensures fits { get_or self.old.sent.items slot 0 + 1 < 2 ^ 64 → result ≢ Err Lost.Unfit }
+        ensures may { (what : PlainStatement) → may_be_at what stage ≡ true → may_be_at what self.old.stage ≡ true → may_be_at what self.new.stage ≡ true }
+        ensures pauses { IfOk result (λ t. t ≢ Turned.Passes) }
     {
         let at = slot as usize;
         let Some(further) = self.sent[at].checked_add(1) else {
@@ -96,6 +101,7 @@ impl<F: FileStore> State<F> {
             (record (run_in variables.now ((lined.now, control_by lined.now.what) ∷ more) files self.old stage) { core = core; book = book }))) }
         ensures keeps { Keeps self.old.core result self.new.core }
         ensures fits { IsSoundStatement variables.now lined.now.what → result ≢ Err Lost.Unfit }
+        ensures start { self.new.stage ≡ Stage.Start }
     {
         put_stage(&mut self.stage, Stage::Start);
         let iostat = iostat_of(&lined.what);
@@ -121,6 +127,8 @@ impl<F: FileStore> State<F> {
     ) -> Result<Turned<F>, Lost>
         requires kinds { self.old.core.store.kinds ≡ kinds_of variables.now }
         requires placed { IsPlaced doing }
+        requires hand { may_be_at lined.now.what self.old.stage ≡ true }
+        requires closes { may_do lined.now.what doing ≡ true }
         ensures turn { (more : List Stated) (files : Files) (core : PlainCore) (book : List Held) (stage : PlainStage) (plain : PlainDoing)
             → held self.old.core.pending ≡ matched (map (λ (h : Held). h.pending) (held self.old.core.pending)) book
             → IsDoing F.told F.bytes variables.now (lined.now, control_by lined.now.what) (core_of files self.old.core) doing plain
@@ -129,6 +137,8 @@ impl<F: FileStore> State<F> {
             (record (run_in variables.now ((lined.now, control_by lined.now.what) ∷ more) files self.old stage) { core = core; book = book }))) }
         ensures keeps { Keeps self.old.core result self.new.core }
         ensures fits { IsSoundStatement variables.now lined.now.what → HasRoom self.old.sent.items → result ≢ Err Lost.Unfit }
+        ensures may { may_be_at lined.now.what self.new.stage ≡ true }
+        ensures starts { IfOk result (λ t. t ≡ Turned.Passes → self.new.stage ≡ Stage.Start) }
     {
         match doing {
             Doing::Finishes(condition) => self.finish(variables, lined, condition),
@@ -158,6 +168,7 @@ impl<F: FileStore> State<F> {
         requires kinds { self.old.core.store.kinds ≡ kinds_of variables.now }
         requires slots { AreSlots slots }
         requires names { D.tells disk.old → AreInUse self.old.core.names (D.held disk.old).in_use }
+        requires hand { may_be_at lined.now.what self.old.stage ≡ true }
         ensures turn { D.tells disk.old → (more : List Stated) (stage : PlainStage)
             → IfOk result (λ t. IsTurn F.told F.bytes variables.now ((lined.now, control_by lined.now.what) ∷ more) (files_of (D.held disk.new)) self.new t
             (turn_act (lined.now, control_by lined.now.what)
@@ -174,7 +185,9 @@ impl<F: FileStore> State<F> {
             (doing (control_by lined.now.what) variables.now lined.now.line (core_of (files_of (D.held disk.old)) self.old.core) lined.now.what condition))
             (run_in variables.now ((lined.now, control_by lined.now.what) ∷ more) (files_of (D.held disk.old)) self.old stage))) (Unit {0}) (tells_of self.old.core.tells)
             (Some (ends_halts (drop next slots) (core_of (files_of (D.held disk.old)) self.old.core)
-            (doing (control_by lined.now.what) variables.now lined.now.line (core_of (files_of (D.held disk.old)) self.old.core) lined.now.what condition))) }
+            (doing (control_by lined.now.what) variables.now lined.now.line (core_of (files_of (D.held disk.old)) self.old.core) lined.now.what condition))) (calls_disk lined.now.what ≡ true) }
+        ensures may { may_be_at lined.now.what self.new.stage ≡ true }
+        ensures starts { IfOk result (λ t. t ≡ Turned.Passes → self.new.stage ≡ Stage.Start) }
     {
         if let Some(slot) = slots.get(next) {
             let slot = *slot;

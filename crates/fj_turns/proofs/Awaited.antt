@@ -1,5 +1,5 @@
 -- Each job that a statement waits for is told before the statement ends.
-use Rattle.std.proofs.Common.{◌≡◌, ◌≢◌, ◌⊎◌, inl, inr, ℕ, zero, suc, ◌+◌, ◌<◌, ◌≤◌, Bool, true, false, List, [], ◌∷◌, map, Option, Some, None, is_some, is_none, slice_get, set, get_or, refl, sym, ap, ◌∙◌, subst, arith}
+use Rattle.std.proofs.Common.{◌≡◌, ◌⊎◌, inl, inr, ℕ, zero, suc, ◌+◌, ◌<◌, ◌≤◌, Bool, true, false, List, [], ◌∷◌, map, Option, Some, None, is_some, is_none, slice_get, set, get_or, refl, sym, ap, ◌∙◌, subst, arith}
 use Rattle.std.specs.Prelude.{nat_lt, if◌then◌else◌}
 use Rattle.std.proofs.lemmas.Bool.{ltb-true}
 use Rattle.fj_value.specs.declared.condition.Condition.{Condition}
@@ -19,8 +19,8 @@ use Rattle.fj_desk.specs.Desks.{Desk, Outcome, log_at, log_length}
 use Rattle.fj_desk.specs.Doing.{Doing, finishes, gives, awaits, Desked}
 use Rattle.fj_turns.specs.Run.{Held, Run, Stage, Start, Waiting, Acting, Awaiting}
 use Rattle.fj_turns.specs.Turns.{Turn, Pauses, Passes, Stops, unsettled, bump, waited_now, finish_by, with_core, with_iostat, turn_act, with_tells, doing_told, wait_by, start_by, rule_of, turn_start, turn, Asked, goes, by_turn, asked_on, asked}
-use Rattle.fj_turns.specs.Inside.{waited_at, does, walked}
-use Rattle.fj_turns.specs.Awaiting.{TellsJob, AwaitsOwn, IsAwaited}
+use Rattle.fj_turns.specs.Inside.{does, walked}
+use Rattle.fj_turns.specs.Awaiting.{TellsJob, IsAwaited}
 use Rattle.fj_desk.proofs.Apart.{Each}
 use Rattle.fj_turns.proofs.Slots.{same_some}
 use Rattle.fj_turns.proofs.Ties.{Ties, IsKept, answer_at}

@@ -97,7 +97,7 @@ returns-clause-fails g c = λ tells more stage.
       is = ap (λ xs. Some (ends_halts xs core does)) e;
       stands = elim o [ inl d ↦ (c.begin.ensures.fault tells (cc (c.in-Err.is, d))).stands | inr s ↦ c.begin.ensures.fault_out tells (cc (c.in-Err.is, s)) ];
     })
-    (λ d. (c.begin.ensures.fault tells (cc (c.in-Err.is, d))).rose)
+    (λ d. (c.begin.ensures.fault tells (cc (c.in-Err.is, d))).rose) (λ d. c.begin.ensures.called (cc (c.in-Err.is, d)))
 
 pub returns-clause-steps : goal.returns-clause-steps
 returns-clause-steps g c =

@@ -16,9 +16,10 @@ use Rattle.fj_runner.proofs.NextAsks.{some_same, run_known}
 use Rattle.fj_runner.proofs.Stepping.{kept_steps, ok_keeps, disk_steps, then_steps}
 use Rattle.fj_turns.specs.Passing.{output_of}
 use Rattle.fj_runner.specs.Failing.{FailsStage}
-use Rattle.fj_runner.proofs.Failures.{fails_still, fails_quiet, fails_at}
+use Rattle.fj_runner.proofs.Failures.{closing_calls, fails_still, fails_quiet, fails_at}
 use Rattle.fj_runner.proofs.Stepping.{went, given_up}
 use Rattle.fj_runner.specs.Fitting.{FitsStage}
+use Rattle.fj_runner.specs.Closing.{may_be_at}
 use Rattle.fj_runner.specs.Numbering.{gave}
 use Rattle.fj_runner.proofs.Fits.{may_go_on}
 use Rattle.fj_runner.proofs.Numbering.{at_itself, given_entered, named_entered, slot_given}
@@ -211,7 +212,8 @@ returns-in-Err-doing-clause-fails g c = λ tells more stage e.
     fails_at c.args.out.now c.args.out.now s.core c.answered-doing.new.core (given_up c.in-Err-doing.lost) st (Acting does) stage run k.2
     (fails_quiet c.args.out.now s.core c.answered-doing.new.core (given_up c.in-Err-doing.lost) (output_of (turn st (Acting does) run)) c.answered-doing.ensures.output c.answered-doing.ensures.tells
     (λ e. c.answered-doing.ensures.sink (cc (c.in-Err-doing.is, e))) (λ d. record { does = does; is = refl; stands = (c.answered-doing.ensures.fault tells k.0 k.1 (cc (c.in-Err-doing.is, d))).stands })
-    (λ d. (c.answered-doing.ensures.fault tells k.0 k.1 (cc (c.in-Err-doing.is, d))).rose))
+    (λ d. (c.answered-doing.ensures.fault tells k.0 k.1 (cc (c.in-Err-doing.is, d))).rose)
+    (λ d. closing_calls st.0.what (c.answered-doing.ensures.called (subst (λ x. may_be_at st.0.what x ≡ true) (sym c.replace.ensures.value ∙ c.in-Answered.is) c.requires.hand) (cc (c.in-Err-doing.is, d)))))
 
 pub invariant_of-self-in-Going-clause-given : goal.invariant_of-self-in-Going-clause-given
 invariant_of-self-in-Going-clause-given g c =
