@@ -7,3 +7,4 @@ pub mod Places
 pub mod Holding
 pub mod Fitting
 pub mod Placing
+pub mod Having

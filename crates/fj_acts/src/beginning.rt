@@ -18,6 +18,9 @@ ghost use Rattle.fj_acts.specs.State.{KeepsAnswers, KeepsPending, core_of, core_
 ghost use Rattle.fj_acts.specs.Failing.{FailsWhere, StandsWhere};
 ghost use Rattle.fj_units.specs.Files.{files_of};
 ghost use Rattle.fj_acts.specs.Doing.{IsDoing};
+ghost use Rattle.fj_statement.specs.declared.statement.Statement.{Statement};
+ghost use Rattle.fj_units.specs.Having.{HaveFiles};
+ghost use Rattle.fj_acts.specs.Having.{HaveNext};
 
 use crate::closing::{close, close_all, close_anyway};
 use crate::doing::{Doing, Then};
@@ -52,6 +55,7 @@ fn motion<F: FileStore>(how: Motion, unit: UnitRef, core: &Core) -> Doing<F>
     ensures doing { (variables : List Variable) (st : Stated) (files : Files) → IsDoing F.told F.bytes variables st (core_of files core.now) result
         (moves (core_of files core.now) how (unit_at (core_of files core.now) (number_of unit))) }
     ensures placed { IsPlaced result }
+    ensures files { (what : Statement) → HaveFiles core.now.names core.now.units → HaveNext result core.now.names core.now.units what }
 {
     match core.units.at(unit) {
         Some(unit) => Doing::Awaits {
@@ -102,8 +106,9 @@ fn own<W: Sink, D: Disk>(
     ensures pending { KeepsAnswers core.old core.new }
     ensures same { KeepsPending core.old core.new }
     ensures keeps { IsKept variables.now core.old → OnOk result (IsKept variables.now core.new) }
-    ensures fits { IsSoundStatement variables.now lined.now.what → Meets variables.now core.old lined.now.what → result ≢ Err Lost.Unfit }
+    ensures fits { IsSoundStatement variables.now lined.now.what → HaveFiles core.old.names core.old.units → Meets variables.now core.old lined.now.what → result ≢ Err Lost.Unfit }
     ensures placed { IfOk result IsPlaced }
+    ensures files { HaveFiles core.old.names core.old.units → IfOk result (λ next. HaveNext next core.new.names core.new.units lined.now.what) }
 {
     let fine = Condition::Fine;
     match &lined.what {
@@ -162,6 +167,7 @@ fn instead<F: FileStore>(
     ensures keeps { IsKept variables.now core.old → OnOk result (IsKept variables.now core.new) }
     ensures fits { IsSoundStatement variables.now lined.now.what → result ≢ Err Lost.Unfit }
     ensures placed { IfOk result IsPlaced }
+    ensures files { HaveFiles core.old.names core.old.units → IfOk result (λ next. HaveNext next core.new.names core.new.units lined.now.what) }
 {
     match &lined.what {
         Statement::CloseUnit {
@@ -215,9 +221,10 @@ pub fn begin<W: Sink, D: Disk>(
     ensures pending { KeepsAnswers core.old core.new }
     ensures same { KeepsPending core.old core.new }
     ensures keeps { IsKept variables.now core.old → OnOk result (IsKept variables.now core.new) }
-    ensures fits { IsSoundStatement variables.now lined.now.what → (condition ≡ Fine → Meets variables.now core.old lined.now.what)
-        → result ≢ Err Lost.Unfit }
+    ensures fits { IsSoundStatement variables.now lined.now.what → HaveFiles core.old.names core.old.units
+        → (condition ≡ Fine → Meets variables.now core.old lined.now.what) → result ≢ Err Lost.Unfit }
     ensures placed { IfOk result IsPlaced }
+    ensures files { HaveFiles core.old.names core.old.units → IfOk result (λ next. HaveNext next core.new.names core.new.units lined.now.what) }
 {
     match condition {
         Condition::Fine => own(alloc, variables, lined, core, disk, out),

@@ -22,11 +22,14 @@ ghost use Rattle.fj_pending.specs.Plain.{holders};
 ghost use Rattle.fj_acts.specs.Placing.{IsPlaced};
 ghost use Rattle.fj_acts.specs.Answers.{AnswersAlike, is_meant};
 ghost use Rattle.fj_units.specs.Names.{AreInUse, stands};
-ghost use Rattle.fj_acts.specs.Fitting.{AreConnected, IsKept};
+ghost use Rattle.fj_acts.specs.Fitting.{IsKept};
 ghost use Rattle.fj_acts.specs.State.{KeepsAnswers, KeepsPending, core_of};
 ghost use Rattle.fj_acts.specs.Failing.{FailsWhere};
 ghost use Rattle.fj_units.specs.Files.{files_of};
 ghost use Rattle.fj_acts.specs.Doing.{IsDoing, AsksAbout, looks_at};
+ghost use Rattle.fj_statement.specs.declared.statement.Statement.{Statement};
+ghost use Rattle.fj_units.specs.Having.{HaveFiles};
+ghost use Rattle.fj_acts.specs.Having.{HaveNext};
 
 use crate::doing::{Doing, Then};
 use crate::state::Core;
@@ -152,6 +155,7 @@ fn answer<F: FileStore>(
     ensures keeps { IsKept variables.now core.old → OnOk result (IsKept variables.now core.new) }
     ensures fits { All (IsAsked variables.now) asked.now → result ≢ Err Lost.Unfit }
     ensures placed { IfOk result IsPlaced }
+    ensures files { (what : Statement) → HaveFiles core.old.names core.old.units → IfOk result (λ next. HaveNext next core.new.names core.new.units what) }
 {
     give_answers(variables, asked, cells, &mut core.store)?;
     Ok(Doing::Finishes(Condition::Fine))
@@ -213,6 +217,7 @@ fn answer_other<D: Disk>(
     ensures fits { All (IsAsked variables.now) asked.now → IfSome (file_asked subject.now) (λ name. stands core.old.names name ≡ false)
         → result ≢ Err Lost.Unfit }
     ensures placed { IfOk result IsPlaced }
+    ensures files { (what : Statement) → HaveFiles core.old.names core.old.units → IfOk result (λ next. HaveNext next core.new.names core.new.units what) }
 {
     let mut cells = Items::new(alloc);
     match subject {
@@ -282,6 +287,7 @@ pub(crate) fn answer_look<F: FileStore>(
     ensures keeps { IsKept variables.now core.old → OnOk result (IsKept variables.now core.new) }
     ensures fits { All (IsAsked variables.now) asked.now → result ≢ Err Lost.Unfit }
     ensures placed { IfOk result IsPlaced }
+    ensures files { (what : Statement) → HaveFiles core.old.names core.old.units → IfOk result (λ next. HaveNext next core.new.names core.new.units what) }
 {
     let Some(number) = unit_about(&core.units, subject) else {
         return Ok(Doing::Finishes(Condition::Fine));
@@ -329,8 +335,9 @@ pub(crate) fn inquire<D: Disk>(
     ensures pending { KeepsAnswers core.old core.new }
     ensures same { KeepsPending core.old core.new }
     ensures keeps { IsKept variables.now core.old → OnOk result (IsKept variables.now core.new) }
-    ensures fits { All (IsAsked variables.now) asked.now → AreConnected core.old.names core.old.units → result ≢ Err Lost.Unfit }
+    ensures fits { All (IsAsked variables.now) asked.now → HaveFiles core.old.names core.old.units → result ≢ Err Lost.Unfit }
     ensures placed { IfOk result IsPlaced }
+    ensures files { (what : Statement) → HaveFiles core.old.names core.old.units → IfOk result (λ next. HaveNext next core.new.names core.new.units what) }
 {
     let Some(number) = unit_about(&core.units, subject) else {
         return answer_other(alloc, variables, subject, asked, core, disk);

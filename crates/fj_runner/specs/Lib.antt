@@ -12,3 +12,4 @@ pub mod Failing
 pub mod Leaving
 pub mod Making
 pub mod Fitting
+pub mod Going

@@ -25,6 +25,9 @@ ghost use Rattle.fj_runner.specs.Passing.{are_passed, is_passed};
 ghost use Rattle.fj_runner.specs.Turned.{IsTurn};
 ghost use Rattle.fj_runner.specs.Stepping.{Keeps, Steps};
 ghost use Rattle.fj_runner.specs.Failing.{FailsTurn, FailsStage};
+ghost use Rattle.fj_units.specs.Having.{HaveFiles};
+ghost use Rattle.fj_runner.specs.Fitting.{HasRoom};
+ghost use Rattle.fj_runner.specs.Going.{Counts, HaveAt, HaveTurned};
 
 use crate::ending::Ending;
 use crate::halted::halted_slots;
@@ -71,6 +74,7 @@ fn tell_all(
     ensures left { OnOk result (held core.new.pending ≡ filter (λ h. not (tells_id (waited_of whose (entries core.old.pending)) h.pending.id)) (held core.old.pending)) }
     ensures some { LeavesSome core.old.pending core.new.pending }
     ensures next { core.new.next ≡ core.old.next }
+    ensures units { core.new.units ≡ core.old.units }
     ensures keeps { Keeps core.old result core.new }
 {
     let told = core.pending.tell(
@@ -101,11 +105,15 @@ impl<F: FileStore> State<F> {
     ) -> Result<Turned<F>, Lost>
         requires kinds { self.old.core.store.kinds ≡ kinds_of variables.now }
         requires names { D.tells disk.old → AreInUse self.old.core.names (D.held disk.old).in_use }
+        requires room { HasRoom self.old.sent.items }
         ensures turn { D.tells disk.old → (more : List Stated) (stage : PlainStage)
             → IfOk result (λ t. IsTurn F.told F.bytes variables.now ((lined.now, control_by lined.now.what) ∷ more) (files_of (D.held disk.new)) self.new t
             (turn_tell (lined.now, control_by lined.now.what) (waited_of whose (entries self.old.core.pending))
             (run_in variables.now ((lined.now, control_by lined.now.what) ∷ more) (files_of (D.held disk.old)) self.old stage))) }
         ensures steps { Steps W.tells W.taken W.count D.tells D.held D.count D.refusals out.old disk.old self.old.core result out.new disk.new self.new.core }
+        ensures files { HaveFiles self.old.core.names self.old.core.units → IfOk result (λ t. HaveTurned t self.new lined.now.what) }
+        ensures counts { IfOk result (λ t. Counts t self.old self.new) }
+        ensures heard { self.new.told ≡ self.old.told }
         ensures fails { D.tells disk.old → (more : List Stated) (stage : PlainStage)
             → FailsTurn W.tells W.taken out.old self.old.core result out.new self.new.core (D.held disk.new) (D.refusals disk.old) (D.refusals disk.new)
             (output_of (turn_tell (lined.now, control_by lined.now.what) (waited_of whose (entries self.old.core.pending))
@@ -137,6 +145,9 @@ impl<F: FileStore> State<F> {
             → stage_of F.told F.bytes variables rest (core_of files self.old.core) stage ≡ Some after
             → IsTurn F.told F.bytes variables rest files self.new result (settles slot after (run_in variables rest files self.old before)) }
         ensures core { self.new.core ≡ self.old.core }
+        ensures files { (what : Statement) → HaveAt stage self.old.core.names self.old.core.units what → HaveTurned result self.new what }
+        ensures counts { Counts result self.old self.new }
+        ensures heard { self.new.told ≡ self.old.told }
     {
         put_stage(&mut self.stage, stage);
         self.due = slot;
@@ -156,6 +167,7 @@ impl<F: FileStore> State<F> {
     ) -> Result<Turned<F>, Lost>
         requires kinds { self.old.core.store.kinds ≡ kinds_of variables.now }
         requires names { D.tells disk.old → AreInUse self.old.core.names (D.held disk.old).in_use }
+        requires room { HasRoom self.old.sent.items }
         requires whose { (es : List Entry) → waited_of whose es ≡ waited_in es (values_of self.old.core.store) lined.now.what }
         requires from { are_passed self.old.core.pending whose from ≡ true }
         ensures turn { D.tells disk.old → (more : List Stated) (stage : PlainStage)
@@ -163,6 +175,9 @@ impl<F: FileStore> State<F> {
             (turn_wait (lined.now, control_by lined.now.what)
             (run_in variables.now ((lined.now, control_by lined.now.what) ∷ more) (files_of (D.held disk.old)) self.old stage))) }
         ensures steps { Steps W.tells W.taken W.count D.tells D.held D.count D.refusals out.old disk.old self.old.core result out.new disk.new self.new.core }
+        ensures files { HaveFiles self.old.core.names self.old.core.units → IfOk result (λ t. HaveTurned t self.new lined.now.what) }
+        ensures counts { IfOk result (λ t. Counts t self.old self.new) }
+        ensures heard { self.new.told ≡ self.old.told }
         ensures fails { D.tells disk.old → (more : List Stated) (stage : PlainStage)
             → FailsStage W.tells W.taken out.old self.old.core result out.new self.new.core (D.held disk.new) (D.refusals disk.old) (D.refusals disk.new) (lined.now, control_by lined.now.what) Waiting
             (run_in variables.now ((lined.now, control_by lined.now.what) ∷ more) (files_of (D.held disk.old)) self.old stage) }
@@ -186,12 +201,16 @@ impl<F: FileStore> State<F> {
     ) -> Result<Turned<F>, Lost>
         requires kinds { self.old.core.store.kinds ≡ kinds_of variables.now }
         requires names { D.tells disk.old → AreInUse self.old.core.names (D.held disk.old).in_use }
+        requires room { HasRoom self.old.sent.items }
         requires passed { are_passed self.old.core.pending known from ≡ true }
         ensures turn { D.tells disk.old → (more : List Stated) (stage : PlainStage)
             → IfOk result (λ t. IsTurn F.told F.bytes variables.now ((lined.now, control_by lined.now.what) ∷ more) (files_of (D.held disk.new)) self.new t
             (turn_wait (lined.now, control_by lined.now.what)
             (run_in variables.now ((lined.now, control_by lined.now.what) ∷ more) (files_of (D.held disk.old)) self.old stage))) }
         ensures steps { Steps W.tells W.taken W.count D.tells D.held D.count D.refusals out.old disk.old self.old.core result out.new disk.new self.new.core }
+        ensures files { HaveFiles self.old.core.names self.old.core.units → IfOk result (λ t. HaveTurned t self.new lined.now.what) }
+        ensures counts { IfOk result (λ t. Counts t self.old self.new) }
+        ensures heard { self.new.told ≡ self.old.told }
         ensures fails { D.tells disk.old → (more : List Stated) (stage : PlainStage)
             → FailsStage W.tells W.taken out.old self.old.core result out.new self.new.core (D.held disk.new) (D.refusals disk.old) (D.refusals disk.new) (lined.now, control_by lined.now.what) Waiting
             (run_in variables.now ((lined.now, control_by lined.now.what) ∷ more) (files_of (D.held disk.old)) self.old stage) }
@@ -212,11 +231,15 @@ impl<F: FileStore> State<F> {
     ) -> Result<Turned<F>, Lost>
         requires kinds { self.old.core.store.kinds ≡ kinds_of variables.now }
         requires names { D.tells disk.old → AreInUse self.old.core.names (D.held disk.old).in_use }
+        requires room { HasRoom self.old.sent.items }
         ensures turn { D.tells disk.old → (more : List Stated) (stage : PlainStage)
             → IfOk result (λ t. IsTurn F.told F.bytes variables.now ((lined.now, control_by lined.now.what) ∷ more) (files_of (D.held disk.new)) self.new t
             (turn_start (lined.now, control_by lined.now.what)
             (run_in variables.now ((lined.now, control_by lined.now.what) ∷ more) (files_of (D.held disk.old)) self.old stage))) }
         ensures steps { Steps W.tells W.taken W.count D.tells D.held D.count D.refusals out.old disk.old self.old.core result out.new disk.new self.new.core }
+        ensures files { HaveFiles self.old.core.names self.old.core.units → IfOk result (λ t. HaveTurned t self.new lined.now.what) }
+        ensures counts { IfOk result (λ t. Counts t self.old self.new) }
+        ensures heard { self.new.told ≡ self.old.told }
         ensures fails { D.tells disk.old → (more : List Stated) (stage : PlainStage)
             → FailsStage W.tells W.taken out.old self.old.core result out.new self.new.core (D.held disk.new) (D.refusals disk.old) (D.refusals disk.new) (lined.now, control_by lined.now.what) Start
             (run_in variables.now ((lined.now, control_by lined.now.what) ∷ more) (files_of (D.held disk.old)) self.old stage) }
