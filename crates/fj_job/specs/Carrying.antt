@@ -14,6 +14,7 @@ use Rattle.fj_turns.specs.Run.{Run}
 use Rattle.fj_turns.specs.Meant.{Leaves}
 use Rattle.fj_turns.specs.Serving.{first_run}
 use Rattle.fj_outside.specs.declared.outside.FileStore.{Ghosts}
+use Rattle.fj_runner.specs.Going.{IsGoing}
 use Rattle.fj_runner.specs.Machine.{run_of}
 use Rattle.fj_runner.specs.declared.hand.Hand.TheVariants.{Idle}
 use Rattle.fj_runner.specs.declared.machine.Machine.{Machine}
@@ -40,6 +41,7 @@ pub record HasNotBegun {F : Type 0} {ghosts : Ghosts F} (told : F → Bool) (byt
   pub few : m.tally.left < 2 ^ 62
   pub owed : m.tally.owed.items ≡ replicate 16 0
   pub names : m.state.core.names ≡ []
+  pub on : IsGoing m
 
 -- the runner is at a statement, and the slots are sound for jobs that were given until there
 pub record IsGivenAt {E J A : Type 0} (meaning : Meaning E J A Bay Job Answer) (deck : Deck) (files : Files) (rack : Rack E J A) (run : Run) : Type 0 where

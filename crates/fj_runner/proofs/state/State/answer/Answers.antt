@@ -15,6 +15,8 @@ use Rattle.fj_runner.proofs.Stepping.{on_ok}
 use Rattle.fj_runner.proofs.Passed.{none_answered}
 use Rattle.fj_runner.proofs.Answered.{answered_stands, core_answered, own_stage, kept_stage, kept_passed, answered_by, own_passed}
 use Rattle.fj_runner.proofs.Numbering.{transfers_kept, given_answered, named_answered, own_answered, own_with, behind_with, not_awaited}
+use Rattle.fj_runner.specs.Going.{HaveAt}
+use Rattle.fj_runner.proofs.Counting.{have_with, one_more}
 use Rattle.fj_runner.proofs.state.State.answer.Goals as goal
 
 pub invariant_of-self : goal.invariant_of-self
@@ -24,7 +26,7 @@ invariant_of-self g c =
     record {
       passed = kept_passed g.F.FileStore.told g.F.FileStore.bytes c.keep.result s.due c.index-number.result.now c.args.job c.args.answer s.core.pending c.keep.new.pending s.stage c.keep.ensures.told c.keep.ensures.none s.passed;
       sent_slots = s.sent_slots;
-      told_slots = length-set s.told.items s.due c.in-Some.further ∙ s.told_slots;
+      told_slots = length-set s.told.items s.due (c.index-number.result.now + 1) ∙ s.told_slots;
       due_slot = s.due_slot;
       given = given_answered s.sent.items s.core.pending c.keep.new.pending same s.given;
       named = named_answered s.core.next s.core.pending c.keep.new.pending same s.named;
@@ -40,7 +42,7 @@ returns-then-has-clause-told g c = λ variables rest files task stage t e.
     let number = c.index-number.result.now in
     let it : Outcome = (task, reply_of c.args.answer) in
     let n : number ≡ get_or s.told.items s.due 0 = get_or_read s.told.items s.due number (omega (arith, s.told_slots, s.due_slot)) c.index-number.ensures 0 in
-    let more : c.in-Some.further ≡ get_or s.told.items s.due 0 + 1 = search rules in
+    let more : number + 1 ≡ get_or s.told.items s.due 0 + 1 = ap (λ k. k + 1) n in
     on_ok c.keep.result _ _
     (λ a. answered_stands told bytes variables rest files s _ stage it number n
     (kept_stage told bytes variables (core_of files s.core) s.due number it rest s.stage stage (not_awaited s.sent.items s.core.pending s.due number s.stage s.own (sym c.has.ensures ∙ c.if-has.true)) e)
@@ -57,7 +59,7 @@ invariant_of-self-2 g c =
           (sym stage)
           (own_passed s.core.pending s.due c.index-number.result.now c.args.job c.args.answer s.stage s.passed);
       sent_slots = s.sent_slots;
-      told_slots = length-set s.told.items s.due c.in-Some.further ∙ s.told_slots;
+      told_slots = length-set s.told.items s.due (c.index-number.result.now + 1) ∙ s.told_slots;
       due_slot = s.due_slot;
       given = s.given;
       named = s.named;
@@ -73,7 +75,7 @@ returns-clause-told g c = λ variables rest files task stage t e.
     let number = c.index-number.result.now in
     let it : Outcome = (task, reply_of c.args.answer) in
     let n : number ≡ get_or s.told.items s.due 0 = get_or_read s.told.items s.due number (omega (arith, s.told_slots, s.due_slot)) c.index-number.ensures 0 in
-    let more : c.in-Some.further ≡ get_or s.told.items s.due 0 + 1 = search rules in
+    let more : number + 1 ≡ get_or s.told.items s.due 0 + 1 = ap (λ k. k + 1) n in
     answered_stands told bytes variables rest files s _ stage it number n
     (subst (λ x. stage_of told bytes variables rest (core_of files s.core) x ≡ Some (stage_told stage s.due number it))
     (sym (c.own.ensures ∙ ap (with_own s.due number c.args.job c.args.answer) c.replace-stage.ensures.value))
@@ -81,8 +83,35 @@ returns-clause-told g c = λ variables rest files task stage t e.
     refl (sym (none_answered s.due number it (held s.core.pending) (sym c.has.ensures ∙ c.if-has.false))) refl (ap (slice_set s.told.items s.due) more) refl refl
 
 pub returns-then-has-clause-fits : goal.returns-then-has-clause-fits
-returns-then-has-clause-fits g c = λ room moves.
+returns-then-has-clause-fits g c = λ moves.
     let s = c.args.self.now in
     let number = c.index-number.result.now in
     let n : number ≡ get_or s.told.items s.due 0 = get_or_read s.told.items s.due number (omega (arith, s.told_slots, s.due_slot)) c.index-number.ensures 0 in
     c.keep.ensures.fits (moves (subst (λ k. list_any (λ (h : Held). is_at s.due k h.pending) (held s.core.pending) ≡ true) n (sym c.has.ensures ∙ c.if-has.true)))
+
+pub returns-then-has-clause-hears : goal.returns-then-has-clause-hears
+returns-then-has-clause-hears g c =
+    let s = c.args.self.now in
+    let number = c.index-number.result.now in
+    let n : number ≡ get_or s.told.items s.due 0 = get_or_read s.told.items s.due number (omega (arith, s.told_slots, s.due_slot)) c.index-number.ensures 0 in
+    record {
+      files = λ what h. h;
+      next = refl;
+      ending = refl;
+      sent = refl;
+      told = one_more s.told.items s.due (number + 1) (omega (arith, s.told_slots, s.due_slot)) (ap (λ k. k + 1) n);
+    }
+
+pub returns-clause-hears : goal.returns-clause-hears
+returns-clause-hears g c =
+    let s = c.args.self.now in
+    let number = c.index-number.result.now in
+    let n : number ≡ get_or s.told.items s.due 0 = get_or_read s.told.items s.due number (omega (arith, s.told_slots, s.due_slot)) c.index-number.ensures 0 in
+    record {
+      files = λ what h. subst (λ x. HaveAt x s.core.names s.core.units what) (sym (c.own.ensures ∙ ap (with_own s.due number c.args.job c.args.answer) c.replace-stage.ensures.value))
+          (have_with s.due number c.args.job c.args.answer s.stage s.core.names s.core.units what h);
+      next = refl;
+      ending = refl;
+      sent = refl;
+      told = one_more s.told.items s.due (number + 1) (omega (arith, s.told_slots, s.due_slot)) (ap (λ k. k + 1) n);
+    }
