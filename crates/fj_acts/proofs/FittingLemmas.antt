@@ -1,7 +1,7 @@
 -- The file that a statement names is at home where no unit has it, and answers keep the variables as they are declared.
-use Rattle.std.proofs.Common.{◌≡◌, ◌||◌, ◌&&◌, ℕ, Bool, true, false, List, [], ◌∷◌, Option, Some, None, refl, sym, subst}
-use Rattle.std.specs.Prelude.{◌==◌, not, if◌then◌else◌, IsSome, IfSome}
-use Rattle.std.proofs.lemmas.Bool.{eq-eqb, false≢true}
+use Rattle.std.proofs.Common.{◌≡◌, ◌||◌, ◌&&◌, ℕ, Bool, true, false, List, [], ◌∷◌, Option, Some, None, refl, ap, ◌∙◌, sym, subst}
+use Rattle.std.specs.Prelude.{◌==◌, if◌then◌else◌, IfSome}
+use Rattle.std.proofs.lemmas.Bool.{eq-eqb}
 use Rattle.std.specs.Str.{bytes_eq}
 use Rattle.fj_value.specs.declared.value.Cell.{Cell}
 use Rattle.fj_modes.specs.declared.asked.Subject.{Subject}
@@ -10,13 +10,15 @@ use Rattle.fj_statement.specs.declared.deck.Variable.{Variable}
 use Rattle.fj_store.specs.Storage.{Storage, given_back, values_of, with_value}
 use Rattle.fj_plain.specs.Needs.{unit_about}
 use Rattle.fj_plain.specs.Statement.{file_asked}
-use Rattle.fj_desk.specs.Core.{Connected, connected_at, unit_named}
+use Rattle.fj_desk.specs.Core.{Connected, connected_at, has_name, unit_named}
 use Rattle.fj_items.specs.Fitting.{AreKept}
 use Rattle.fj_items.specs.Kinds.{kinds_of}
 use Rattle.fj_items.proofs.Keeps.{kept_set}
+use Rattle.fj_units.specs.Having.{HaveFiles}
 use Rattle.fj_units.specs.Names.{stands}
 use Rattle.fj_units.specs.Units.{is_taken}
-use Rattle.fj_acts.specs.Fitting.{AreConnected}
+use Rattle.fj_units.proofs.Having.{bytes_back}
+use Rattle.fj_acts.proofs.HavingLemmas.{free_there}
 
 -- the unit that has a file is connected
 named_found : (us : List Connected) (name : List ℕ) (n : ℕ) → unit_named us name ≡ Some n → connected_at us n ≡ None → ⊥
@@ -43,28 +45,26 @@ named_found (u ∷ us) name n named none = by (bytes_eq u.name name) refl (named
     by true e rest = not_first (u.number == n) none (eq-eqb u.number n (numbered (bytes_eq u.name name) named e))
     by false e rest = rest (other (bytes_eq u.name name) named e) (unfound (u.number == n) none)
 
--- where no unit has the number, and none of another has the file, none has it
-none_named : (us : List Connected) (number : ℕ) (name : List ℕ) → connected_at us number ≡ None → is_taken us number name ≡ false → unit_named us name ≡ None
-none_named [] number name none free = refl
-none_named (u ∷ us) number name none free = by (u.number == number) (bytes_eq u.name name) none free (none_named us number name)
+-- no unit has it
+none_has : (us : List Connected) (name : List ℕ) → unit_named us name ≡ None → has_name us name ≡ false
+none_has [] name none = refl
+none_has (u ∷ us) name none = by (bytes_eq u.name name) (bytes_back name u.name) none (none_has us name)
   where
-    by : (b c : Bool) → (if b then Some u else connected_at us number) ≡ None → ((not b && c) || is_taken us number name) ≡ false
-        → (connected_at us number ≡ None → is_taken us number name ≡ false → unit_named us name ≡ None) → (if c then Some u.number else unit_named us name) ≡ None
-    by true c found taken rest = absurd (let bad : ⊥ = cc in bad)
-    by false true found taken rest = absurd (let bad : ⊥ = cc in bad)
-    by false false found taken rest = rest found taken
-
-at_home : (names : List (List ℕ)) (us : List Connected) (name : List ℕ) → AreConnected names us → unit_named us name ≡ None → stands names name ≡ false
-at_home names us name connected none = by (stands names name) refl
-  where
-    by : (b : Bool) → stands names name ≡ b → stands names name ≡ false
-    by true e = absurd (false≢true (subst (λ (o : Option ℕ). IsSome o) none (connected name e)))
-    by false e = e
+    by : (b : Bool) → bytes_eq name u.name ≡ b → (if b then Some u.number else unit_named us name) ≡ None → (unit_named us name ≡ None → has_name us name ≡ false)
+        → (bytes_eq name u.name || has_name us name) ≡ false
+    by true e found rest = absurd (let bad : ⊥ = cc in bad)
+    by false e found rest = ap (λ b. b || has_name us name) e ∙ rest found
 
 -- the file of OPEN, where its unit is not connected
-pub free_home : (names : List (List ℕ)) (us : List Connected) (number : ℕ) (name : List ℕ) → AreConnected names us → connected_at us number ≡ None → is_taken us number name ≡ false
+pub free_home : (names : List (List ℕ)) (us : List Connected) (number : ℕ) (name : List ℕ) → HaveFiles names us → connected_at us number ≡ None → is_taken us number name ≡ false
     → stands names name ≡ false
-free_home names us number name connected none free = at_home names us name connected (none_named us number name none free)
+free_home names us number name have none free = have.0 name ∙ free_there us number name none free
+
+-- the file of INQUIRE, where it asks about no unit
+pub nobody_home : (names : List (List ℕ)) (us : List Connected) (about : Subject) → HaveFiles names us → unit_about (unit_named us) about ≡ None
+    → IfSome (file_asked about) (λ (name : List ℕ). stands names name ≡ false)
+nobody_home names us (subject.Unit u) have is = tt
+nobody_home names us (subject.File name) have is = have.0 name ∙ none_has us name is
 
 -- the file of INQUIRE, where the unit that it asks about is not connected
 pub unknown_home : (names : List (List ℕ)) (us : List Connected) (about : Subject) (n : ℕ) → unit_about (unit_named us) about ≡ Some n → connected_at us n ≡ None

@@ -8,3 +8,4 @@ pub mod TransferLemmas
 pub mod InquiryLemmas
 pub mod FailingLemmas
 pub mod FittingLemmas
+pub mod HavingLemmas

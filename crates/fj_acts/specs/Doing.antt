@@ -118,3 +118,8 @@ AsksToOpen _ asked = ⊥
 abbrev pub AsksAbout : Statement → Subject → List Wanted → Option Operand → Type 0
 AsksAbout (statement.Inquire about wanted id iostat) subject asked given_id = (about ≡ subject) × (wanted ≡ asked) × (id ≡ given_id)
 AsksAbout _ subject asked given_id = ⊥
+
+-- the statement ends
+abbrev pub Ends : {F : Type 0} → Doing F → Type 0
+Ends (doing.Finishes condition) = Unit {0}
+Ends _ = ⊥

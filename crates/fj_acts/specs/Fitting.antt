@@ -1,24 +1,19 @@
 -- When a statement fits: what it meets in the core, and what its job brings back.
-use Rattle.std.specs.Prelude.{◌≡◌, ◌≤◌, ◌<◌, ◌+◌, ◌^◌, ℕ, true, false, List, Some, None, All, IsSome}
+use Rattle.std.specs.Prelude.{◌≡◌, ◌≤◌, ◌<◌, ◌+◌, ◌^◌, ℕ, List, Some, None, All, IfSome}
 use Rattle.fj_statement.specs.declared.deck.Variable.{Variable}
 use Rattle.fj_statement.specs.declared.statement.Statement.{Statement}
 use Rattle.fj_statement.specs.declared.statement.Statement.TheVariants as statement
 use Rattle.fj_store.specs.Storage.{Storage, values_of}
 use Rattle.fj_bay.specs.declared.job.Job.{Job}
 use Rattle.fj_bay.specs.declared.job.Job.TheVariants as job
-use Rattle.fj_plain.specs.Connecting.{file_due}
 use Rattle.fj_plain.specs.Transfers.{star_limit}
-use Rattle.fj_desk.specs.Core.{Connected, connected_at, unit_named}
+use Rattle.fj_desk.specs.Core.{Connected, connected_at}
 use Rattle.fj_items.specs.Fitting.{AreKept, Finds}
 use Rattle.fj_items.specs.Kinds.{CellFits}
 use Rattle.fj_pending.specs.Fitting.{IsNext}
 use Rattle.fj_pending.specs.declared.held.Held.{Held}
-use Rattle.fj_units.specs.Names.{stands, left_of}
-use Rattle.fj_acts.specs.Steps.{is_due}
 use Rattle.fj_acts.specs.declared.doing.Given.{Given}
 use Rattle.fj_acts.specs.declared.doing.Given.TheVariants as given
-use Rattle.fj_acts.specs.declared.doing.After.{After}
-use Rattle.fj_acts.specs.declared.doing.After.TheVariants as after
 use Rattle.fj_acts.specs.declared.doing.Then.{Then}
 use Rattle.fj_acts.specs.declared.doing.Then.TheVariants as then
 use Rattle.fj_acts.specs.declared.state.Core.{Core}
@@ -32,20 +27,15 @@ pub record IsKept (variables : List Variable) (core : Core) : Type 0 where
 
 -- ---- before it begins
 
--- each file that is out is that of a connected unit
-abbrev pub AreConnected : List (List ℕ) → List Connected → Type 0
-AreConnected names units = (name : List ℕ) → stands names name ≡ true → IsSome (unit_named units name)
-
 -- READ and WRITE find the places that they name
 abbrev pub FindsPlaces : List Variable → Storage → Statement → Type 0
 FindsPlaces variables s (statement.Transfer t) = Finds variables s t
 FindsPlaces variables s _ = Unit {0}
 
--- A statement meets what each call keeps, the places that it names, and a unit for each file that is out.
+-- A statement meets what each call keeps, and the places that it names.
 pub record Meets (variables : List Variable) (core : Core) (what : Statement) : Type 0 where
   pub kept : IsKept variables core
   pub finds : FindsPlaces variables core.store what
-  pub connected : AreConnected core.names core.units
 
 -- ---- once the number of a job is known
 
@@ -62,20 +52,13 @@ MayGoOn core (given.Pends unit slot) number = MayPend core slot number
 
 -- ---- once a job was carried out
 
--- the file that OPEN connects next is at home
-abbrev pub NextIsHome : List (List ℕ) → Statement → After → Type 0
-NextIsHome names (statement.OpenUnit u spec iostat) (after.Connects number) = stands names (file_due spec number) ≡ false
-NextIsHome names what next = Unit {0}
-
--- The job is the one that was awaited: the items of a transfer have their kinds; a connection is that of the unit, and its file is
--- out.
-abbrev pub Brings : {F : Type 0} → List Variable → Core → Statement → Then → Job F → Type 0
-Brings variables core what (then.Carries slot) (job.Move moved) = All (CellFits variables) moved.moved.cells
-Brings variables core what (then.Closes number keep next) (job.Detach (Some connection)) =
-    (is_due (connected_at core.units number) core.names connection.name ≡ true) × NextIsHome (left_of core.names connection.name) what next
-Brings variables core what (then.Attaches unit) (job.Attach None) = Unit {0}
-Brings variables core what then.Looks (job.Look look) = Unit {0}
-Brings variables core what (then.Changes number modes) (job.Change edit) = Unit {0}
-Brings variables core what then.Finishes (job.Go how) = Unit {0}
-Brings variables core what then.Finishes job.Flush = Unit {0}
-Brings variables core what next it = ⊥
+-- The job is the one that was awaited: the items of a transfer have their kinds, and a connection is that of the unit.
+abbrev pub Brings : {F : Type 0} → List Variable → List Connected → Then → Job F → Type 0
+Brings variables us (then.Carries slot) (job.Move moved) = All (CellFits variables) moved.moved.cells
+Brings variables us (then.Closes number keep next) (job.Detach (Some connection)) = IfSome (connected_at us number) (λ (u : Connected). u.name ≡ connection.name)
+Brings variables us (then.Attaches unit) (job.Attach None) = Unit {0}
+Brings variables us then.Looks (job.Look look) = Unit {0}
+Brings variables us (then.Changes number modes) (job.Change edit) = Unit {0}
+Brings variables us then.Finishes (job.Go how) = Unit {0}
+Brings variables us then.Finishes job.Flush = Unit {0}
+Brings variables us next it = ⊥

@@ -8,3 +8,4 @@ pub mod Holding
 pub mod Fitting
 pub mod Placing
 pub mod Calling
+pub mod Having

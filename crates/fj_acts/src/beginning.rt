@@ -20,6 +20,9 @@ ghost use Rattle.fj_acts.specs.State.{KeepsAnswers, KeepsPending, core_of, core_
 ghost use Rattle.fj_acts.specs.Failing.{FailsWhere, StandsWhere};
 ghost use Rattle.fj_units.specs.Files.{files_of};
 ghost use Rattle.fj_acts.specs.Doing.{IsDoing};
+ghost use Rattle.fj_statement.specs.declared.statement.Statement.{Statement};
+ghost use Rattle.fj_units.specs.Having.{HaveFiles};
+ghost use Rattle.fj_acts.specs.Having.{HaveNext};
 
 use crate::closing::{close, close_all, close_anyway};
 use crate::doing::{Doing, Then};
@@ -55,6 +58,7 @@ fn motion<F: FileStore>(how: Motion, unit: UnitRef, core: &Core) -> Doing<F>
         (moves (core_of files core.now) how (unit_at (core_of files core.now) (number_of unit))) }
     ensures placed { IsPlaced result }
     ensures closes { (what : PlainStatement) → may_do what result ≡ true }
+    ensures files { (what : Statement) → HaveFiles core.now.names core.now.units → HaveNext result core.now.names core.now.units what }
 {
     match core.units.at(unit) {
         Some(unit) => Doing::Awaits {
@@ -105,10 +109,11 @@ fn own<W: Sink, D: Disk>(
     ensures pending { KeepsAnswers core.old core.new }
     ensures same { KeepsPending core.old core.new }
     ensures keeps { IsKept variables.now core.old → OnOk result (IsKept variables.now core.new) }
-    ensures fits { IsSoundStatement variables.now lined.now.what → Meets variables.now core.old lined.now.what → result ≢ Err Lost.Unfit }
+    ensures fits { IsSoundStatement variables.now lined.now.what → HaveFiles core.old.names core.old.units → Meets variables.now core.old lined.now.what → result ≢ Err Lost.Unfit }
     ensures placed { IfOk result IsPlaced }
     ensures closes { IfOk result (λ next. may_do lined.now.what next ≡ true) }
     ensures called { result ≡ Err Lost.Disk → calls_disk lined.now.what ≡ true }
+    ensures files { HaveFiles core.old.names core.old.units → IfOk result (λ next. HaveNext next core.new.names core.new.units lined.now.what) }
 {
     let fine = Condition::Fine;
     match &lined.what {
@@ -168,6 +173,7 @@ fn instead<F: FileStore>(
     ensures fits { IsSoundStatement variables.now lined.now.what → result ≢ Err Lost.Unfit }
     ensures placed { IfOk result IsPlaced }
     ensures closes { IfOk result (λ next. may_do lined.now.what next ≡ true) }
+    ensures files { HaveFiles core.old.names core.old.units → IfOk result (λ next. HaveNext next core.new.names core.new.units lined.now.what) }
 {
     match &lined.what {
         Statement::CloseUnit {
@@ -221,11 +227,12 @@ pub fn begin<W: Sink, D: Disk>(
     ensures pending { KeepsAnswers core.old core.new }
     ensures same { KeepsPending core.old core.new }
     ensures keeps { IsKept variables.now core.old → OnOk result (IsKept variables.now core.new) }
-    ensures fits { IsSoundStatement variables.now lined.now.what → (condition ≡ Fine → Meets variables.now core.old lined.now.what)
-        → result ≢ Err Lost.Unfit }
+    ensures fits { IsSoundStatement variables.now lined.now.what → HaveFiles core.old.names core.old.units
+        → (condition ≡ Fine → Meets variables.now core.old lined.now.what) → result ≢ Err Lost.Unfit }
     ensures placed { IfOk result IsPlaced }
     ensures closes { IfOk result (λ next. may_do lined.now.what next ≡ true) }
     ensures called { result ≡ Err Lost.Disk → calls_disk lined.now.what ≡ true }
+    ensures files { HaveFiles core.old.names core.old.units → IfOk result (λ next. HaveNext next core.new.names core.new.units lined.now.what) }
 {
     match condition {
         Condition::Fine => own(alloc, variables, lined, core, disk, out),

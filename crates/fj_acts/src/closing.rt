@@ -10,6 +10,9 @@ ghost use Rattle.fj_desk.specs.Acting.{all_closed, closes, closes_anyway, unit_a
 ghost use Rattle.fj_acts.specs.Placing.{IsPlaced};
 ghost use Rattle.fj_acts.specs.State.{core_of};
 ghost use Rattle.fj_acts.specs.Doing.{IsDoing};
+ghost use Rattle.fj_statement.specs.declared.statement.Statement.{Statement};
+ghost use Rattle.fj_units.specs.Having.{HaveFiles};
+ghost use Rattle.fj_acts.specs.Having.{HaveNext};
 
 use crate::doing::{After, Doing, Then};
 use crate::state::Core;
@@ -39,6 +42,7 @@ pub(crate) fn close<F: FileStore>(unit: UnitRef, keep: Option<bool>, core: &Core
     ensures doing { (variables : List Variable) (st : Stated) (files : Files) → IsDoing F.told F.bytes variables st (core_of files core.now) result
         (closes (core_of files core.now) keep (unit_at (core_of files core.now) (number_of unit))) }
     ensures placed { IsPlaced result }
+    ensures files { (what : Statement) → HaveFiles core.now.names core.now.units → HaveNext result core.now.names core.now.units what }
 {
     let Some(unit) = core.units.at(unit) else {
         return Doing::Finishes(Condition::Fine);
@@ -64,6 +68,7 @@ pub(crate) fn close_anyway<F: FileStore>(
     ensures doing { (variables : List Variable) (st : Stated) (files : Files) → IsDoing F.told F.bytes variables st (core_of files core.now) result
         (closes_anyway (core_of files core.now) keep condition (unit_at (core_of files core.now) (number_of unit))) }
     ensures placed { IsPlaced result }
+    ensures files { (what : Statement) → HaveFiles core.now.names core.now.units → HaveNext result core.now.names core.now.units what }
 {
     match core.units.at(unit) {
         Some(unit) => closing(
@@ -80,6 +85,7 @@ pub(crate) fn close_all<F: FileStore>(condition: Condition, core: &Core) -> Doin
     ensures doing { (variables : List Variable) (st : Stated) (files : Files) → IsDoing F.told F.bytes variables st (core_of files core.now) result
         (all_closed core.now.units (core_of files core.now) condition) }
     ensures placed { IsPlaced result }
+    ensures files { (what : Statement) → HaveFiles core.now.names core.now.units → HaveNext result core.now.names core.now.units what }
 {
     match core.units.first() {
         Some(unit) => closing(unit, !unit.modes.scratch, After::ClosesAll(condition)),

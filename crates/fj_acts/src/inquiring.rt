@@ -24,11 +24,14 @@ ghost use Rattle.fj_acts.specs.Calling.{may_do};
 ghost use Rattle.fj_acts.specs.Placing.{IsPlaced};
 ghost use Rattle.fj_acts.specs.Answers.{AnswersAlike, is_meant};
 ghost use Rattle.fj_units.specs.Names.{AreInUse, stands};
-ghost use Rattle.fj_acts.specs.Fitting.{AreConnected, IsKept};
+ghost use Rattle.fj_acts.specs.Fitting.{IsKept};
 ghost use Rattle.fj_acts.specs.State.{KeepsAnswers, KeepsPending, core_of};
 ghost use Rattle.fj_acts.specs.Failing.{FailsWhere};
 ghost use Rattle.fj_units.specs.Files.{files_of};
 ghost use Rattle.fj_acts.specs.Doing.{IsDoing, AsksAbout, looks_at};
+ghost use Rattle.fj_statement.specs.declared.statement.Statement.{Statement};
+ghost use Rattle.fj_units.specs.Having.{HaveFiles};
+ghost use Rattle.fj_acts.specs.Having.{HaveNext};
 
 use crate::doing::{Doing, Then};
 use crate::state::Core;
@@ -155,6 +158,7 @@ fn answer<F: FileStore>(
     ensures fits { All (IsAsked variables.now) asked.now → result ≢ Err Lost.Unfit }
     ensures placed { IfOk result IsPlaced }
     ensures closes { (what : PlainStatement) → IfOk result (λ next. may_do what next ≡ true) }
+    ensures files { (what : Statement) → HaveFiles core.old.names core.old.units → IfOk result (λ next. HaveNext next core.new.names core.new.units what) }
 {
     give_answers(variables, asked, cells, &mut core.store)?;
     Ok(Doing::Finishes(Condition::Fine))
@@ -218,6 +222,7 @@ fn answer_other<D: Disk>(
     ensures placed { IfOk result IsPlaced }
     ensures closes { (what : PlainStatement) → IfOk result (λ next. may_do what next ≡ true) }
     ensures called { result ≡ Err Lost.Disk → is_some (file_asked subject.now) ≡ true }
+    ensures files { (what : Statement) → HaveFiles core.old.names core.old.units → IfOk result (λ next. HaveNext next core.new.names core.new.units what) }
 {
     let mut cells = Items::new(alloc);
     match subject {
@@ -288,6 +293,7 @@ pub(crate) fn answer_look<F: FileStore>(
     ensures fits { All (IsAsked variables.now) asked.now → result ≢ Err Lost.Unfit }
     ensures placed { IfOk result IsPlaced }
     ensures closes { (what : PlainStatement) → IfOk result (λ next. may_do what next ≡ true) }
+    ensures files { (what : Statement) → HaveFiles core.old.names core.old.units → IfOk result (λ next. HaveNext next core.new.names core.new.units what) }
 {
     let Some(number) = unit_about(&core.units, subject) else {
         return Ok(Doing::Finishes(Condition::Fine));
@@ -335,10 +341,11 @@ pub(crate) fn inquire<D: Disk>(
     ensures pending { KeepsAnswers core.old core.new }
     ensures same { KeepsPending core.old core.new }
     ensures keeps { IsKept variables.now core.old → OnOk result (IsKept variables.now core.new) }
-    ensures fits { All (IsAsked variables.now) asked.now → AreConnected core.old.names core.old.units → result ≢ Err Lost.Unfit }
+    ensures fits { All (IsAsked variables.now) asked.now → HaveFiles core.old.names core.old.units → result ≢ Err Lost.Unfit }
     ensures placed { IfOk result IsPlaced }
     ensures closes { (what : PlainStatement) → IfOk result (λ next. may_do what next ≡ true) }
     ensures called { result ≡ Err Lost.Disk → is_some (file_asked subject.now) ≡ true }
+    ensures files { (what : Statement) → HaveFiles core.old.names core.old.units → IfOk result (λ next. HaveNext next core.new.names core.new.units what) }
 {
     let Some(number) = unit_about(&core.units, subject) else {
         return answer_other(alloc, variables, subject, asked, core, disk);

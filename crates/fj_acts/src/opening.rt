@@ -1,5 +1,5 @@
 // OPEN (ISO/IEC 1539-1:2004, 9.4.5).
-ghost use Rattle.std.specs.Prelude.{◌≡◌, ◌≢◌, ◌↔◌, ◌≤◌, ◌<◌, ℕ, false, List, Some, IfOk, Result, Ok, Err};
+ghost use Rattle.std.specs.Prelude.{◌≡◌, ◌≢◌, ◌↔◌, ◌≤◌, ◌<◌, ◌++◌, ℕ, false, List, [], ◌∷◌, Some, None, IfOk, Result, Ok, Err};
 ghost use Rattle.std.specs.Option.{option_map, option_copied};
 ghost use Rattle.fj_outside.specs.Faults.{Rose};
 ghost use Rattle.fj_modes.specs.Modes.{settled};
@@ -9,7 +9,7 @@ ghost use Rattle.fj_plain.specs.Needs.{number_of};
 ghost use Rattle.fj_plain.specs.State.{Files, without_file};
 ghost use Rattle.fj_plain.specs.Statement.{Stated};
 ghost use Rattle.fj_plain.specs.Connecting.{file_due};
-ghost use Rattle.fj_desk.specs.Core.{Core as PlainCore, connected_at};
+ghost use Rattle.fj_desk.specs.Core.{Core as PlainCore, Connected as PlainConnected, connected_at, has_name};
 ghost use Rattle.fj_desk.specs.Acting.{attaches, connects, opens, opens_with, changes, if_numbered};
 ghost use Rattle.fj_connect.specs.Connection.{Connection as PlainConnection};
 ghost use Rattle.fj_connect.specs.Linked.{connection_of};
@@ -18,13 +18,15 @@ ghost use Rattle.fj_value.specs.declared.condition.Condition.{Condition};
 ghost use Rattle.fj_units.specs.Names.{AreInUse, stands};
 ghost use Rattle.fj_desk.specs.Desks.{most_slots};
 ghost use Rattle.fj_acts.specs.Placing.{IsPlaced};
-ghost use Rattle.fj_acts.specs.Fitting.{AreConnected};
 ghost use Rattle.fj_acts.specs.State.{core_of};
 ghost use Rattle.fj_acts.specs.Failing.{FailsWhere};
 ghost use Rattle.fj_units.specs.Files.{files_of};
 ghost use Rattle.fj_units.specs.Units.{connected_of};
 ghost use Rattle.fj_acts.specs.Doing.{IsDoing, AsksToOpen};
 ghost use Rattle.fj_acts.specs.declared.state.Core.{Core};
+ghost use Rattle.fj_statement.specs.declared.statement.Statement.{Statement};
+ghost use Rattle.fj_units.specs.Having.{HaveFiles};
+ghost use Rattle.fj_acts.specs.Having.{HaveNext};
 
 use crate::closing::closing;
 use crate::doing::{After, Doing, Then};
@@ -52,6 +54,8 @@ fn attaching<F: FileStore>(
         connection.name ≡ name → opened ≡ Ok (connection_of F.bytes connection) → files ≡ without_file name core.files →
         IsDoing F.told F.bytes variables st (record core { files = files }) result (attaches core number slot opened) }
     ensures placed { IsPlaced result }
+    ensures files { (names : List (List ℕ)) (us : List PlainConnected) (what : Statement) → connected_at us number ≡ None → has_name us name ≡ false → HaveFiles names us
+        → HaveNext result (names ++ name ∷ []) us what }
 {
     let modes = *connection.modes();
     Doing::Awaits {
@@ -99,6 +103,8 @@ fn attach<D: Disk>(
     ensures next { core.new.next ≡ core.old.next }
     ensures fits { stands core.old.names name ≡ false → result ≢ Err Lost.Unfit }
     ensures placed { IfOk result IsPlaced }
+    ensures files { (what : Statement) → connected_at core.old.units number ≡ None → has_name core.old.units name ≡ false → HaveFiles core.old.names core.old.units
+        → IfOk result (λ next. HaveNext next core.new.names core.new.units what) }
 {
     if core.names.holds(&name) {
         return Err(Lost::Unfit);
@@ -145,6 +151,8 @@ pub(crate) fn connect<D: Disk>(
     ensures next { core.new.next ≡ core.old.next }
     ensures fits { stands core.old.names (file_due spec.now number) ≡ false → result ≢ Err Lost.Unfit }
     ensures placed { IfOk result IsPlaced }
+    ensures files { (what : Statement) → connected_at core.old.units number ≡ None → has_name core.old.units (file_due spec.now number) ≡ false → HaveFiles core.old.names core.old.units
+        → IfOk result (λ next. HaveNext next core.new.names core.new.units what) }
 {
     match core.units.free_slot() {
         Some(slot) => {
@@ -160,6 +168,7 @@ fn change<F: FileStore>(number: u32, unit: &Connected, spec: &OpenSpec) -> Doing
     ensures doing { (variables : List Variable) (st : Stated) (files : Files) (core : Core) → connected_at core.units number ≡ Some (connected_of unit.now) →
         IsDoing F.told F.bytes variables st (core_of files core) result (changes (core_of files core) (connected_of unit.now) (mode.changed unit.now.modes spec.now)) }
     ensures placed { IsPlaced result }
+    ensures files { (names : List (List ℕ)) (us : List PlainConnected) (what : Statement) → HaveFiles names us → HaveNext result names us what }
 {
     let mut modes = unit.modes;
     match modes.change(spec) {
@@ -198,8 +207,10 @@ fn open_other<D: Disk>(
     ensures sink { result ≢ Err Lost.Sink }
     ensures pending { core.new.pending ≡ core.old.pending }
     ensures next { core.new.next ≡ core.old.next }
-    ensures fits { AreConnected core.old.names core.old.units → result ≢ Err Lost.Unfit }
+    ensures fits { HaveFiles core.old.names core.old.units → result ≢ Err Lost.Unfit }
     ensures placed { IfOk result IsPlaced }
+    ensures files { (what : Statement) → AsksToOpen what spec.now → HaveFiles core.old.names core.old.units
+        → IfOk result (λ next. HaveNext next core.new.names core.new.units what) }
 {
     let modes = match settle_open(spec) {
         Ok(modes) => modes,
@@ -244,8 +255,10 @@ pub(crate) fn open<D: Disk>(
     ensures sink { result ≢ Err Lost.Sink }
     ensures pending { core.new.pending ≡ core.old.pending }
     ensures next { core.new.next ≡ core.old.next }
-    ensures fits { AreConnected core.old.names core.old.units → result ≢ Err Lost.Unfit }
+    ensures fits { HaveFiles core.old.names core.old.units → result ≢ Err Lost.Unfit }
     ensures placed { IfOk result IsPlaced }
+    ensures files { (what : Statement) → AsksToOpen what spec.now → HaveFiles core.old.names core.old.units
+        → IfOk result (λ next. HaveNext next core.new.names core.new.units what) }
 {
     let UnitRef::Number(number) = unit else {
         return Ok(Doing::Finishes(Condition::Error(1)));

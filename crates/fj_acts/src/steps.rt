@@ -13,18 +13,20 @@ ghost use Rattle.fj_plain.specs.Statement.{control_by};
 ghost use Rattle.fj_desk.specs.Core.{connected_at};
 ghost use Rattle.fj_desk.specs.Desks.{condition_in};
 ghost use Rattle.fj_items.specs.Kinds.{CellFits, kinds_of};
-ghost use Rattle.fj_units.specs.Names.{AreInUse, left_of};
+ghost use Rattle.fj_units.specs.Names.{AreInUse};
 ghost use Rattle.fj_desk.specs.Desks.{most_slots};
 ghost use Rattle.fj_statement.specs.declared.statement.Statement.{Statement as PlainStatement};
 ghost use Rattle.fj_acts.specs.Calling.{may_await, may_close, may_do};
 ghost use Rattle.fj_acts.specs.Placing.{IsPlaced, slot_behind};
-ghost use Rattle.fj_acts.specs.Fitting.{Brings, IsKept, MayGoOn, NextIsHome};
+ghost use Rattle.fj_acts.specs.Fitting.{Brings, IsKept, MayGoOn};
 ghost use Rattle.fj_acts.specs.Holding.{MayEnter};
 ghost use Rattle.fj_acts.specs.State.{KeepsAnswers, KeepsPending, core_of};
 ghost use Rattle.fj_acts.specs.Failing.{FailsWhere};
 ghost use Rattle.fj_units.specs.Files.{files_of};
 ghost use Rattle.fj_acts.specs.Steps.{held_in, is_due};
-ghost use Rattle.fj_acts.specs.Doing.{IsDoing, next_of, then_of, goes_on, closed, carries, looks};
+ghost use Rattle.fj_acts.specs.Doing.{Ends, IsDoing, next_of, then_of, goes_on, closed, carries, looks};
+ghost use Rattle.fj_units.specs.Having.{HaveFiles};
+ghost use Rattle.fj_acts.specs.Having.{HaveNext, HaveThen, IsFreeNext};
 
 use crate::closing::close_all;
 use crate::doing::{After, Doing, Given, Then};
@@ -65,6 +67,8 @@ pub fn given<F: FileStore>(
     ensures fits { IsSoundStatement variables.now lined.now.what → MayGoOn core.old next number → result ≢ Err Lost.Unfit }
     ensures placed { IfOk result IsPlaced }
     ensures closes { IfOk result (λ next. may_do lined.now.what next ≡ true) }
+    ensures ends { IfOk result Ends }
+    ensures files { HaveFiles core.old.names core.old.units → IfOk result (λ next. HaveNext next core.new.names core.new.units lined.now.what) }
 {
     match next {
         Given::Finishes(condition) => Ok(Doing::Finishes(condition)),
@@ -154,8 +158,10 @@ fn go_on<D: Disk>(
     ensures sink { result ≢ Err Lost.Sink }
     ensures pending { core.new.pending ≡ core.old.pending }
     ensures next { core.new.next ≡ core.old.next }
-    ensures fits { NextIsHome core.old.names lined.now.what after → result ≢ Err Lost.Unfit }
+    ensures fits { IsFreeNext after lined.now.what core.old.units → HaveFiles core.old.names core.old.units → result ≢ Err Lost.Unfit }
     ensures placed { IfOk result IsPlaced }
+    ensures files { IsFreeNext after lined.now.what core.old.units → HaveFiles core.old.names core.old.units
+        → IfOk result (λ goes. HaveNext goes core.new.names core.new.units lined.now.what) }
 {
     let number = match after {
         After::Finishes(condition) => return Ok(Doing::Finishes(condition)),
@@ -220,9 +226,10 @@ fn closed<D: Disk>(
     ensures sink { result ≢ Err Lost.Sink }
     ensures pending { core.new.pending ≡ core.old.pending }
     ensures next { core.new.next ≡ core.old.next }
-    ensures fits { is_due (connected_at core.old.units number) core.old.names connection.name ≡ true →
-        NextIsHome (left_of core.old.names connection.name) lined.now.what after → result ≢ Err Lost.Unfit }
+    ensures fits { HaveThen (Then.Closes number keep after) core.old.names core.old.units lined.now.what
+        → IfSome (connected_at core.old.units number) (λ u. u.name ≡ connection.name) → result ≢ Err Lost.Unfit }
     ensures placed { IfOk result IsPlaced }
+    ensures files { HaveThen (Then.Closes number keep after) core.old.names core.old.units lined.now.what → IfOk result (λ goes. HaveNext goes core.new.names core.new.units lined.now.what) }
 {
     if !is_due(&connection, number, core) {
         give_back(connection, core, disk);
@@ -258,6 +265,7 @@ fn looked<F: FileStore>(
     ensures fits { IsSoundStatement variables.now lined.now.what → result ≢ Err Lost.Unfit }
     ensures placed { IfOk result IsPlaced }
     ensures closes { (what : PlainStatement) → IfOk result (λ next. may_do what next ≡ true) }
+    ensures files { HaveFiles core.old.names core.old.units → IfOk result (λ next. HaveNext next core.new.names core.new.units lined.now.what) }
 {
     match &lined.what {
         Statement::Inquire {
@@ -293,6 +301,7 @@ fn carried<F: FileStore>(
     ensures fits { IsSoundStatement variables.now lined.now.what → All (CellFits variables.now) moved.moved.cells → result ≢ Err Lost.Unfit }
     ensures placed { slot < most_slots → IfOk result IsPlaced }
     ensures closes { (what : PlainStatement) → IfOk result (λ next. may_do what next ≡ true) }
+    ensures files { HaveFiles core.old.names core.old.units → IfOk result (λ next. HaveNext next core.new.names core.new.units lined.now.what) }
 {
     match &lined.what {
         Statement::Transfer(t) => carry(variables, t, slot, moved, condition, core),
@@ -341,10 +350,12 @@ pub fn answered<D: Disk>(
     ensures pending { KeepsAnswers core.old core.new }
     ensures same { KeepsPending core.old core.new }
     ensures keeps { IsKept variables.now core.old → OnOk result (IsKept variables.now core.new) }
-    ensures fits { IsSoundStatement variables.now lined.now.what → Brings variables.now core.old lined.now.what then job → result ≢ Err Lost.Unfit }
+    ensures fits { IsSoundStatement variables.now lined.now.what → HaveThen then core.old.names core.old.units lined.now.what
+        → Brings variables.now core.old.units then job → result ≢ Err Lost.Unfit }
     ensures placed { slot_behind then < most_slots → IfOk result IsPlaced }
     ensures closes { may_await lined.now.what then ≡ true → IfOk result (λ next. may_do lined.now.what next ≡ true) }
     ensures called { may_await lined.now.what then ≡ true → result ≡ Err Lost.Disk → may_close lined.now.what ≡ true }
+    ensures files { HaveThen then core.old.names core.old.units lined.now.what → IfOk result (λ goes. HaveNext goes core.new.names core.new.units lined.now.what) }
 {
     let condition = condition_in(answer);
     match (then, job) {

@@ -29,6 +29,9 @@ ghost use Rattle.fj_acts.specs.Fitting.{IsKept, MayPend};
 ghost use Rattle.fj_acts.specs.Holding.{Enters, HoldsMore, pending_under, unanswered};
 ghost use Rattle.fj_acts.specs.State.{KeepsAnswers, KeepsPending, core_of, core_at};
 ghost use Rattle.fj_acts.specs.Doing.{IsDoing, entered, ends_behind};
+ghost use Rattle.fj_statement.specs.declared.statement.Statement.{Statement};
+ghost use Rattle.fj_units.specs.Having.{HaveFiles};
+ghost use Rattle.fj_acts.specs.Having.{HaveNext};
 
 use crate::doing::{Doing, Given, Then};
 use crate::lost::{lost_by_entry, lost_by_items};
@@ -66,6 +69,7 @@ pub(crate) fn refuse<F: FileStore>(
     ensures fits { IsAllowed t.now → result ≢ Err Lost.Unfit }
     ensures placed { IfOk result IsPlaced }
     ensures closes { (what : PlainStatement) → IfOk result (λ next. may_do what next ≡ true) }
+    ensures files { (what : Statement) → HaveFiles core.old.names core.old.units → IfOk result (λ next. HaveNext next core.new.names core.new.units what) }
 {
     undefine(variables, &mut core.store, t).map_err(lost_by_items)?;
     Ok(Doing::Finishes(condition))
@@ -97,6 +101,7 @@ fn transfer<F: FileStore>(
     ensures fits { IsTransfer variables.now t.now → Finds variables.now core.old.store t.now → result ≢ Err Lost.Unfit }
     ensures placed { slot < most_slots → IfOk result IsPlaced }
     ensures closes { (what : PlainStatement) → IfOk result (λ next. may_do what next ≡ true) }
+    ensures files { (what : Statement) → HaveFiles core.old.names core.old.units → IfOk result (λ next. HaveNext next core.new.names core.new.units what) }
 {
     if t.asynchronous.unwrap_or(false) {
         let tag = Tag(core.next);
@@ -141,6 +146,7 @@ fn transfer_on<F: FileStore>(
     ensures fits { IsTransfer variables.now t.now → Finds variables.now core.old.store t.now → result ≢ Err Lost.Unfit }
     ensures placed { IfOk result IsPlaced }
     ensures closes { (what : PlainStatement) → IfOk result (λ next. may_do what next ≡ true) }
+    ensures files { (what : Statement) → HaveFiles core.old.names core.old.units → IfOk result (λ next. HaveNext next core.new.names core.new.units what) }
 {
     let Some(unit) = core.units.find(number) else {
         return refuse(variables, t, Condition::Error(1), core);
@@ -187,6 +193,7 @@ pub(crate) fn read_or_write<F: FileStore, W: Sink>(
     ensures fits { IsTransfer variables.now t.now → Finds variables.now core.old.store t.now → core.old.output.begun ≤ star_limit → result ≢ Err Lost.Unfit }
     ensures placed { IfOk result IsPlaced }
     ensures closes { (what : PlainStatement) → IfOk result (λ next. may_do what next ≡ true) }
+    ensures files { (what : Statement) → HaveFiles core.old.names core.old.units → IfOk result (λ next. HaveNext next core.new.names core.new.units what) }
 {
     match t.unit {
         UnitRef::Star => {
@@ -251,6 +258,7 @@ pub(crate) fn enter(
     ensures entered { (files : Files) → OnOk result (core_of files core.new ≡ entered variables.now (core_of files core.old) t.now unit slot number) }
     ensures kinds { core.new.store.kinds ≡ core.old.store.kinds }
     ensures names { core.new.names ≡ core.old.names }
+    ensures units { core.new.units ≡ core.old.units }
     ensures output { core.new.output ≡ core.old.output }
     ensures tells { core.new.tells ≡ core.old.tells }
     ensures causes { (result ≢ Err Lost.Disk) × (result ≢ Err Lost.Sink) }
@@ -295,6 +303,7 @@ pub(crate) fn carry<F: FileStore>(
     ensures fits { IsTransfer variables.now t.now → All (CellFits variables.now) job.moved.cells → result ≢ Err Lost.Unfit }
     ensures placed { slot < most_slots → IfOk result IsPlaced }
     ensures closes { (what : PlainStatement) → IfOk result (λ next. may_do what next ≡ true) }
+    ensures files { (what : Statement) → HaveFiles core.old.names core.old.units → IfOk result (λ next. HaveNext next core.new.names core.new.units what) }
 {
     give_cells(variables, &mut core.store, t.input, t.size, job).map_err(lost_by_items)?;
     match condition {

@@ -17,8 +17,12 @@ use Rattle.fj_modes.specs.contracts.modes.Modes as Modes
 use Rattle.fj_format.proofs.item.FormatItem.TheLaws.TheKnot as knot
 use Rattle.fj_format.specs.contracts.format.Format as Format
 use Rattle.fj_format.specs.contracts.item.FormatItem as FormatItem
+use Rattle.fj_list.specs.contracts.load.Load as Load
+use Rattle.fj_list.specs.contracts.load.Load.TheInside as LoadInside
+use Rattle.fj_list.specs.contracts.load.Shape as Shape
 use Rattle.fj_list.specs.contracts.moved.GroupMember as GroupMember
 use Rattle.fj_list.specs.contracts.moved.Moved as Moved
+use Rattle.fj_list.specs.contracts.moved.Row as Row
 use Rattle.fj_transfer.specs.contracts.change.EditChange as EditChange
 use Rattle.fj_transfer.specs.contracts.transfer.Layout as Layout
 use Rattle.fj_transfer.specs.contracts.transfer.Transfer as Transfer
@@ -67,6 +71,18 @@ group_member_sends = declared_send GroupMember.the_type (search (as_row_send, te
 moved_sends : IsSend Moved.the_row
 moved_sends = declared_send Moved.the_type (search (as_row_send, cell_sends, items_sends, crosses, sendable) depth 20)
 
+row_sends : IsSend Row.the_row
+row_sends = declared_send Row.the_type (search (as_row_send, value_sends, items_sends, crosses, sendable) depth 20)
+
+shape_sends : IsSend Shape.the_row
+shape_sends = variants_send Shape.enum (search (as_row_send, moved_sends, row_sends, crosses, sendable) depth 20)
+
+inside_load_sends : IsSend LoadInside.the_row
+inside_load_sends = declared_send LoadInside.the_type (search (as_row_send, shape_sends, crosses, sendable) depth 20)
+
+load_sends : IsSend Load.the_row
+load_sends = view_send _ _ _ _ _ inside_load_sends
+
 layout_sends : IsSend Layout.the_row
 layout_sends = variants_send Layout.enum (search (as_row_send, format_sends, text_sends, group_member_sends, items_sends, crosses, sendable) depth 20)
 
@@ -77,7 +93,7 @@ spec_sends : IsSend Spec.the_row
 spec_sends = declared_send Spec.the_type (search (as_row_send, layout_sends, edit_change_sends, crosses, sendable) depth 20)
 
 pub transfer_sends : IsSend Transfer.the_row
-transfer_sends = declared_send Transfer.the_type (search (as_row_send, spec_sends, moved_sends, crosses, sendable) depth 20)
+transfer_sends = declared_send Transfer.the_type (search (as_row_send, spec_sends, load_sends, moved_sends, crosses, sendable) depth 20)
 
 -- ---- answers
 pub answer_sends : IsSend Answer.the_row

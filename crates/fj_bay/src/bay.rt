@@ -13,7 +13,7 @@ use fj_connect::{Connection, Look, Positioning};
 use fj_outside::{FileStore, Stop};
 use fj_perform::perform;
 use fj_slot::Engine;
-use fj_transfer::{Transfer, undefine};
+use fj_transfer::Transfer;
 use fj_value::{Condition, EditModes};
 use std::alloc::Global;
 
@@ -49,7 +49,7 @@ fn skip(job: &mut Transfer, cause: Condition) -> Answer
 {
     job.count = None;
     if job.spec.input {
-        undefine(&mut job.moved.cells);
+        job.moved.undefine();
     }
     Answer::Skipped(cause)
 }
@@ -217,7 +217,7 @@ impl<F: FileStore> Engine for Bay<F> {
 
     fn is_long(job: &Job<F>) -> bool {
         match job {
-            Job::Move(transfer) => transfer.moved.cells.len() >= MANY_CELLS,
+            Job::Move(transfer) => transfer.moved.len() >= MANY_CELLS,
             _ => false,
         }
     }

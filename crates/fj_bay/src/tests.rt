@@ -7,7 +7,7 @@ use crate::Answer::{Done, Skipped};
 use crate::{Answer, Bay, Job};
 use fj_connect::{Connection, OpenFault, Positioning, open_file};
 use fj_format::parse;
-use fj_list::Moved;
+use fj_list::{Load, Moved};
 use fj_modes::{FileName, FileStatus, OpenSpec, settle_open};
 use fj_outside::{FailingDisk, FailingFile, FileStore, MemoryDisk, Stop};
 use fj_slot::Engine;
@@ -107,10 +107,10 @@ fn transfer(
                 plus: None,
             },
         },
-        moved: Moved {
+        moved: Load::of_cells(Moved {
             cells: Items::new(alloc),
             order: Items::new(alloc),
-        },
+        }),
         size: None,
         count: None,
     })

@@ -39,7 +39,7 @@ module _ {F : Type 0} (told : F → Bool) (bytes : F → List ℕ) (count : F �
       let long : l.done ≡ length ts = done ∙ sym (length-map l.jobs m.task) ∙ ap length sound.jobs ∙ length-map ts Some in
       is ∙ ap (λ xs. Some (served_by m s xs)) (ap (λ n. take n ts) long ∙ take_all (length ts) ts (omega arith))
 
-  of_desk : (l : Ledger (Bay F) (Job F) Answer) (it : Remains F) (d : Desk) → IsWhatRemains (bay_meaning told bytes count) l it → HoldsDesk (bay_meaning told bytes count) l d
+  pub of_desk : (l : Ledger (Bay F) (Job F) Answer) (it : Remains F) (d : Desk) → IsWhatRemains (bay_meaning told bytes count) l it → HoldsDesk (bay_meaning told bytes count) l d
       → it.stop ≡ None → place_of told bytes it.connection ≡ Some d.bay.connection
   of_desk l it d is holds running =
       let m = bay_meaning told bytes count in

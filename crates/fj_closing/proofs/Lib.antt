@@ -6,3 +6,7 @@ pub mod Running
 pub mod Fitting
 pub mod Others
 pub mod Finding
+pub mod Holding
+pub mod Taking
+pub mod LetGo
+pub mod Ended

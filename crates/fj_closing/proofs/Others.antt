@@ -29,7 +29,7 @@ use Rattle.fj_closing.specs.declared.remains.Remains.{Remains}
 
 -- ---- connections that no unit has
 
-neither : (a b : Bool) → (a || b) ≡ false → (a ≡ false) × (b ≡ false)
+pub neither : (a b : Bool) → (a || b) ≡ false → (a ≡ false) × (b ≡ false)
 neither true b e = cc
 neither false b e = (refl, e)
 
@@ -66,7 +66,7 @@ module _ {F : Type 0} where
 
 module _ {F : Type 0} (told : F → Bool) (bytes : F → List ℕ) (count : F → ℕ) where
   -- what remains of a slot
-  with_both : (slots : List (Ledger (Bay F) (Job F) Answer)) (all : List (Remains F)) → Both (IsWhatRemains (bay_meaning told bytes count)) slots all
+  pub with_both : (slots : List (Ledger (Bay F) (Job F) Answer)) (all : List (Remains F)) → Both (IsWhatRemains (bay_meaning told bytes count)) slots all
       → (at : ℕ) (l : Ledger (Bay F) (Job F) Answer) → slice_get slots at ≡ Some l → (it : Remains F) × (slice_get all at ≡ Some it) × IsWhatRemains (bay_meaning told bytes count) l it
   with_both [] all b at l e = cc
   with_both (x ∷ xs) [] b at l e = absurd b

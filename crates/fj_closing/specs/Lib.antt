@@ -4,3 +4,5 @@ pub mod Losing
 pub mod Finding
 pub mod Closing
 pub mod Fitting
+pub mod Holding
+pub mod Ended

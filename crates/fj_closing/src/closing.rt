@@ -302,6 +302,7 @@ pub fn close_units<D: Disk>(
     ensures off { OnOk result (names.new ≡ names_left units.now names.old) }
     ensures back { AreBack names.new all.items }
     ensures memory { is_memory result ≡ true → SomeMayLack all.items }
+    ensures lessens { Lessens names.old names.new }
     ensures owned { may_tell result ≡ true → AreOwned units.now all.items }
     ensures fits { HaveTheirOwn D.File.count names.old all.items units.now → AreOwned units.now all.items → result ≢ Err Lost.Unfit }
 {

@@ -12,8 +12,10 @@ ghost use Rattle.fj_desk.specs.Desking.{all_left};
 ghost use Rattle.fj_turns.specs.Executing.{HoldsDesks};
 ghost use Rattle.fj_units.specs.Names.{AreInUse};
 ghost use Rattle.fj_units.specs.Files.{files_of};
+ghost use Rattle.fj_units.specs.Having.{HaveFiles};
 ghost use Rattle.fj_closing.specs.Losing.{may_tell};
 ghost use Rattle.fj_closing.specs.Fitting.{HaveTheirOwn, AreOwned};
+ghost use Rattle.fj_closing.specs.Holding.{HoldUnits};
 ghost use Rattle.fj_closing.specs.Finding.{IsLeftBehind, OfEach, AreSpared};
 ghost use Rattle.fj_closing.specs.Remains.{IsWhatRemains};
 ghost use Rattle.fj_closing.specs.declared.remains.Remains.{Remains as Remaining};
@@ -63,6 +65,7 @@ pub fn finish<D: Disk>(
     ensures off { OnOk result (names.new ≡ names_left units.now names.old) }
     ensures fits { ((all : List (Remaining D.File)) → Both (IsWhatRemains (bay_meaning D.File.told D.File.bytes D.File.count)) slots.slots all
         → HaveTheirOwn D.File.count names.old all units.now × AreOwned units.now all) → result ≢ Err Lost.Unfit }
+    ensures whole { HoldUnits (bay_meaning D.File.told D.File.bytes D.File.count) slots units.now → HaveFiles names.old units.now → (result ≢ Err Lost.Unfit) × (names.new ≡ []) }
     ensures remains { IsFinished (bay_meaning D.File.told D.File.bytes D.File.count) slots names.new result }
 {
     let all = what_remains(slots, room);

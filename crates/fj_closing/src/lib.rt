@@ -4,6 +4,7 @@
 
 mod closing;
 mod finishing;
+mod laws;
 mod losing;
 mod remains;
 mod serving;
@@ -12,5 +13,6 @@ mod tests;
 
 pub use closing::close_units;
 pub use finishing::finish;
+pub use laws::ended_decks_hold_units;
 pub use remains::{Remains, room_for, what_remains};
 pub use serving::served;

@@ -5,7 +5,7 @@ use Rattle.fj_modes.specs.declared.unit.Motion.TheVariants.{Rewind}
 use Rattle.fj_modes.specs.declared.unit.UnitRef.TheVariants.{Number}
 use Rattle.fj_statement.specs.declared.statement.Statement.TheVariants.{End, Move}
 use Rattle.fj_syntax.specs.Parsing.{IsStatement}
-use Rattle.fj_syntax.specs.Statement.{written_of, begun_by, end_from}
+use Rattle.fj_syntax.specs.Statement.{written_of, begun_by}
 use Rattle.fj_syntax.specs.Words.{keyword_of}
 use Rattle.fj_syntax.specs.Tokens.{AreTokens}
 use Rattle.fj_syntax.specs.declared.token.Token.TheVariants as token
@@ -25,7 +25,7 @@ no_statements =
 
 -- `end`
 is_end : IsStatement (codes "end") written.End
-unfolding written_of keyword_of begun_by end_from
+unfolding written_of keyword_of begun_by
 is_end = (
   token.Word (codes "END") ∷ [],
   AreTokens.token (codes "end") (codes "end") [] refl (record { letter = refl; run = record { all = search rules; some = lit< tt; short = lit≤ tt; ends = refl }; upper = refl }) (AreTokens.end [] refl),

@@ -2,7 +2,7 @@
 use Rattle.std.proofs.Common.{◌≡◌, ℕ, true, false, cond, List, Ok, Err, Option, Some, None, refl, sym, ap, ◌∙◌, subst, arith}
 use Rattle.fj_statement.specs.declared.reason.Reason.{Reason}
 use Rattle.fj_statement.specs.declared.reason.Reason.TheVariants as reasons
-use Rattle.fj_syntax.specs.Parsing.{OneStatement, BlankIsNoStatement}
+use Rattle.fj_syntax.specs.Parsing.{OneReading}
 use Rattle.fj_syntax.specs.declared.written.Written.{Written}
 use Rattle.fj_syntax.specs.declared.written.Written.TheVariants as written
 use Rattle.fj_meaning.specs.Declaring.{Declares, Groups, with_declaration, with_group, is_within}
@@ -55,7 +55,7 @@ no_memory (fault.Format at) reason e = tt
 no_memory fault.NoMeaning reason e = tt
 no_memory fault.TooMany reason e = tt
 
-module _ (statement : OneStatement) (blank : BlankIsNoStatement) (meaning : OneMeaning) where
+module _ (reading : OneReading) (meaning : OneMeaning) where
   stating_once : (begun : Begun) (number : ℕ) (w : Written) (a b : Answer) → Stating begun number w a → Stating begun number w b → a ≡ b
   stating_once begun number w a b (Stating.added s m few) (Stating.added t n little) =
       let same : Ok s ≡ Ok t = meaning begun.names w (Ok s) (Ok t) tt tt m n in let e : s ≡ t = cc in ap (λ x. Ok (with_statement begun number x)) e
@@ -93,23 +93,23 @@ module _ (statement : OneStatement) (blank : BlankIsNoStatement) (meaning : OneM
   line_once line number begun a b (LineIs.blank s is) (LineIs.long l) = absurd (omega arith)
   line_once line number begun a b (LineIs.blank s is) (LineIs.blank r was) = refl
   line_once line number begun a b (LineIs.blank s is) (LineIs.garbled r was) = absurd (was.some is)
-  line_once line number begun a b (LineIs.blank s is) (LineIs.misplaced w r was t) = absurd (blank line w is was)
-  line_once line number begun a b (LineIs.blank s is) (LineIs.placed w r was t adds) = absurd (blank line w is was)
+  line_once line number begun a b (LineIs.blank s is) (LineIs.misplaced w r was t) = absurd (reading.blank line w is was)
+  line_once line number begun a b (LineIs.blank s is) (LineIs.placed w r was t adds) = absurd (reading.blank line w is was)
   line_once line number begun a b (LineIs.garbled s is) (LineIs.long l) = absurd (omega arith)
   line_once line number begun a b (LineIs.garbled s is) (LineIs.blank r was) = absurd (is.some was)
   line_once line number begun a b (LineIs.garbled s is) (LineIs.garbled r was) = refl
   line_once line number begun a b (LineIs.garbled s is) (LineIs.misplaced w r was t) = absurd (is.none w was)
   line_once line number begun a b (LineIs.garbled s is) (LineIs.placed w r was t adds) = absurd (is.none w was)
   line_once line number begun a b (LineIs.misplaced w s is t) (LineIs.long l) = absurd (omega arith)
-  line_once line number begun a b (LineIs.misplaced w s is t) (LineIs.blank r was) = absurd (blank line w was is)
+  line_once line number begun a b (LineIs.misplaced w s is t) (LineIs.blank r was) = absurd (reading.blank line w was is)
   line_once line number begun a b (LineIs.misplaced w s is t) (LineIs.garbled r was) = absurd (was.none w is)
   line_once line number begun a b (LineIs.misplaced w s is t) (LineIs.misplaced v r was f) = refl
   line_once line number begun a b (LineIs.misplaced w s is t) (LineIs.placed v r was f adds) =
-      let e : w ≡ v = statement line w v is was in let clash : true ≡ false = sym t ∙ ap (is_misplaced begun) e ∙ f in cc
+      let e : w ≡ v = reading.statement line w v is was in let clash : true ≡ false = sym t ∙ ap (is_misplaced begun) e ∙ f in cc
   line_once line number begun a b (LineIs.placed w s is f adds) (LineIs.long l) = absurd (omega arith)
-  line_once line number begun a b (LineIs.placed w s is f adds) (LineIs.blank r was) = absurd (blank line w was is)
+  line_once line number begun a b (LineIs.placed w s is f adds) (LineIs.blank r was) = absurd (reading.blank line w was is)
   line_once line number begun a b (LineIs.placed w s is f adds) (LineIs.garbled r was) = absurd (was.none w is)
   line_once line number begun a b (LineIs.placed w s is f adds) (LineIs.misplaced v r was t) =
-      let e : w ≡ v = statement line w v is was in let clash : false ≡ true = sym f ∙ ap (is_misplaced begun) e ∙ t in cc
+      let e : w ≡ v = reading.statement line w v is was in let clash : false ≡ true = sym f ∙ ap (is_misplaced begun) e ∙ t in cc
   line_once line number begun a b (LineIs.placed w s is f adds) (LineIs.placed v r was g also) =
-      let e : w ≡ v = statement line w v is was in adds_once begun number v a b (subst (λ x. Adds begun number x a) e adds) also
+      let e : w ≡ v = reading.statement line w v is was in adds_once begun number v a b (subst (λ x. Adds begun number x a) e adds) also

@@ -2,24 +2,24 @@
 use Rattle.std.proofs.Common.{◌≡◌, ℕ, ◌+◌, true, false, List, [], ◌∷◌, ◌++◌, length, Ok, Err, refl, sym, ap, ◌∙◌, subst, arith}
 use Rattle.std.specs.Str.Lines.{lines}
 use Rattle.fj_statement.specs.declared.reason.Reason.{Reason}
-use Rattle.fj_syntax.specs.Parsing.{OneStatement, BlankIsNoStatement}
+use Rattle.fj_syntax.specs.Parsing.{OneReading}
 use Rattle.fj_meaning.specs.Meaning.{OneMeaning}
 use Rattle.fj_deck.specs.Deck.{AreGood, IsRefused, OneDeck, NoneIsBoth, OneRefusal, deck_of}
 use Rattle.fj_deck.specs.Line.{Begun, LineIs, empty, has_ended}
 use Rattle.fj_deck.proofs.DecidedLemmas.{line_once}
 
-module _ (statement : OneStatement) (blank : BlankIsNoStatement) (meaning : OneMeaning) where
+module _ (reading : OneReading) (meaning : OneMeaning) where
   next_once : (line : List ℕ) (number : ℕ) (begun next other : Begun) → LineIs line number begun (Ok next) → LineIs line number begun (Ok other) → next ≡ other
   next_once line number begun next other a b =
-      let same : Ok next ≡ Ok other = line_once statement blank meaning line number begun (Ok next) (Ok other) a b in cc
+      let same : Ok next ≡ Ok other = line_once reading meaning line number begun (Ok next) (Ok other) a b in cc
 
   reason_once : (line : List ℕ) (number : ℕ) (begun : Begun) (reason other : Reason) → LineIs line number begun (Err reason) → LineIs line number begun (Err other) → reason ≡ other
   reason_once line number begun reason other a b =
-      let same : Err reason ≡ Err other = line_once statement blank meaning line number begun (Err reason) (Err other) a b in cc
+      let same : Err reason ≡ Err other = line_once reading meaning line number begun (Err reason) (Err other) a b in cc
 
   good_or_bad : (line : List ℕ) (number : ℕ) (begun next : Begun) (reason : Reason) → LineIs line number begun (Ok next) → LineIs line number begun (Err reason) → ⊥
   good_or_bad line number begun next reason a b =
-      let same : Ok next ≡ Err reason = line_once statement blank meaning line number begun (Ok next) (Err reason) a b in cc
+      let same : Ok next ≡ Err reason = line_once reading meaning line number begun (Ok next) (Err reason) a b in cc
 
   -- good lines lead to one begun
   good_once : (number : ℕ) (begun last other : Begun) (text : List (List ℕ)) → AreGood number begun text last → AreGood number begun text other → last ≡ other

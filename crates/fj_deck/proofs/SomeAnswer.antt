@@ -24,8 +24,7 @@ use Rattle.fj_syntax.specs.declared.written.Written.TheVariants as written
 use Rattle.fj_syntax.specs.Parsing.{IsBlankLine, IsNoStatement, IsStatement}
 use Rattle.fj_syntax.specs.Statement.{written_of}
 use Rattle.fj_syntax.specs.Tokens.{HasTokens}
-use Rattle.fj_syntax.proofs.ParseLemmas.{statement_none, tokens_none}
-use Rattle.fj_syntax.proofs.ScanLemmas.{token_answer}
+use Rattle.fj_syntax.proofs.ParseLemmas.{statement_none, token_answer}
 use Rattle.std.proofs.lemmas.Bool.{cases_Bool}
 use Rattle.fj_meaning.specs.Declaring.{Declares, Groups, is_within, with_declaration, with_group}
 use Rattle.fj_meaning.specs.Meaning.{HasMeaning, IsFormatOf, Means, format_text, is_within_limits, meaning}
@@ -82,7 +81,7 @@ parse_tokens line (t ∷ tokens) has = elim (none_or (written_of (t ∷ tokens))
 parse_answer : (line : List ℕ) → ParseAnswer line
 parse_answer line = elim (token_answer line) [
   | inl some ↦ parse_tokens line some.0 some.1
-  | inr none ↦ inr (inr (tokens_none line none))
+  | inr none ↦ inr (inr (record { some = none []; none = λ s is. none is.0 is.1 }))
 ]
 
 -- ---- what statements mean

@@ -5,24 +5,26 @@ use Rattle.std.proofs.Math.Seq.{take-append-add, take-append_seam}
 use Rattle.std.proofs.lemmas.List.{at_drop_more, drop-drop, drop-replicate, take-replicate, length-replicate, length-drop, length-append, take-append-le, take-append-drop, take-take, append-nil}
 use Rattle.std.proofs.lemmas.Slice.{take-put_mid, drop-put_mid}
 use borrow.Rule.Slice.PartMut.{put_mid}
-use Rattle.fj_value.specs.declared.value.Cell.{Cell}
+use Rattle.fj_value.specs.declared.kind.Kind.{Kind}
+use Rattle.fj_value.specs.declared.value.Value.{Value}
 use Rattle.fj_edit_out.specs.Item.{integer_in, with_integer, integers_in}
 
 -- ---- the integers that are left
 
-pub integers_are : (cells : List Cell) (i : ℕ) (cell : Cell) (o : Option ℤ) → i < length cells → cell ≡ get_or cells i cell → o ≡ integer_in cell.kind cell.value → integers_in (drop i cells) ≡ with_integer o (integers_in (drop (i + 1) cells))
-integers_are cells i cell o h is same =
-    at_drop_more integers_in cells i cell h
-    ∙ ap (λ (c : Cell). with_integer (integer_in c.kind c.value) (integers_in (drop (i + 1) cells))) (sym is)
-    ∙ ap (λ x. with_integer x (integers_in (drop (i + 1) cells))) (sym same)
+pub integers_are : (kind : Kind) (values : List Value) (i : ℕ) (v : Value) (o : Option ℤ) → i < length values → v ≡ get_or values i v → o ≡ integer_in kind v
+    → integers_in kind (drop i values) ≡ with_integer o (integers_in kind (drop (i + 1) values))
+integers_are kind values i v o h is same =
+    at_drop_more (integers_in kind) values i v h
+    ∙ ap (λ x. with_integer (integer_in kind x) (integers_in kind (drop (i + 1) values))) (sym is)
+    ∙ ap (λ x. with_integer x (integers_in kind (drop (i + 1) values))) (sym same)
 
 no_more : (o : Option ℤ) (more : List ℤ) (n : ℕ) → length more ≤ n → length (with_integer o more) ≤ suc n
 no_more None more n h = omega arith
 no_more (Some z) more n h = omega arith
 
-pub integers_few : (cells : List Cell) → length (integers_in cells) ≤ length cells
-integers_few [] = omega arith
-integers_few (cell ∷ cells) = no_more (integer_in cell.kind cell.value) (integers_in cells) (length cells) (integers_few cells)
+pub integers_few : (kind : Kind) (values : List Value) → length (integers_in kind values) ≤ length values
+integers_few kind [] = omega arith
+integers_few kind (v ∷ vs) = no_more (integer_in kind v) (integers_in kind vs) (length vs) (integers_few kind vs)
 
 -- ---- one field more
 

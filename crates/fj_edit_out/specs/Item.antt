@@ -5,7 +5,6 @@ use Rattle.fj_value.specs.declared.kind.Kind.{Kind}
 use Rattle.fj_value.specs.declared.kind.Kind.TheVariants.{Int4, Int8, Logical, Chars}
 use Rattle.fj_value.specs.declared.value.Value.{Value}
 use Rattle.fj_value.specs.declared.value.Value.TheVariants as value
-use Rattle.fj_value.specs.declared.value.Cell.{Cell}
 
 -- the integer of an integer kind, and none where the value is undefined or of another type; so for the other kinds
 abbrev pub integer_in : Kind → Value → Option ℤ
@@ -13,14 +12,14 @@ integer_in Int4 (value.Int n) = Some n
 integer_in Int8 (value.Int n) = Some n
 integer_in _ _ = None
 
--- the integers of cells, up to a cell that holds none
+-- the integers of values of a kind, up to one that is none
 abbrev pub with_integer : Option ℤ → List ℤ → List ℤ
 with_integer None more = []
 with_integer (Some n) more = n ∷ more
 
-abbrev pub integers_in : List Cell → List ℤ
-integers_in [] = []
-integers_in (cell ∷ cells) = with_integer (integer_in cell.kind cell.value) (integers_in cells)
+abbrev pub integers_in : Kind → List Value → List ℤ
+integers_in kind [] = []
+integers_in kind (v ∷ vs) = with_integer (integer_in kind v) (integers_in kind vs)
 
 -- the two's complement of the integer
 abbrev pub bits_in : Kind → Value → Option ℕ

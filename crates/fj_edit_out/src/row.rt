@@ -5,7 +5,7 @@ ghost use Rattle.fj_edit_out.specs.Item.{integers_in};
 ghost use Rattle.fj_edit_out.specs.OutputField.{integer_field};
 
 use crate::integer::integer_of;
-use fj_value::{Cell, Text, sign_of};
+use fj_value::{Kind, Text, Value, sign_of};
 use itoa::write_digits;
 use std::alloc::AllocError;
 
@@ -61,58 +61,65 @@ pub fn write_integer(field: &mut [u8], plus: bool, n: i64)
     }
 }
 
-/// Writes the integers of the first cells one after another over blanks, and answers how many.
+/// Writes the first integers of a row one after another over blanks, and answers how many.
 #[inline(always)]
-fn write_row(row: &mut [u8], w: usize, plus: bool, cells: &[Cell]) -> usize
+fn write_row(row: &mut [u8], w: usize, plus: bool, kind: Kind, values: &[Value]) -> usize
     requires some { 0 < w }
-    requires blank { row.old ≡ replicate (length cells.now * w) 32 }
-    ensures count { result ≡ length (integers_in cells.now) }
-    ensures few { result ≤ length cells.now }
-    ensures row { take (result * w) row.new ≡ flat_map (integer_field plus (w, None)) (integers_in cells.now) }
+    requires blank { row.old ≡ replicate (length values.now * w) 32 }
+    ensures count { result ≡ length (integers_in kind values.now) }
+    ensures few { result ≤ length values.now }
+    ensures row { take (result * w) row.new ≡ flat_map (integer_field plus (w, None)) (integers_in kind values.now) }
 {
     let mut at = 0;
-    for (i, cell) in cells.iter().enumerate() {
-        let Some(n) = integer_of(cell.kind, &cell.value) else {
+    for (i, value) in values.iter().enumerate() {
+        let Some(n) = integer_of(kind, value) else {
             return i;
         };
         write_integer(&mut row[at..at + w], plus, n);
         at += w;
     }
-    cells.len()
+    values.len()
 }
 
-/// Adds the fields of the integers of the first cells to bytes, and answers how many. Want of memory changes nothing.
+/// Adds the fields of the first integers of a row to bytes, and answers how many. Want of memory changes nothing.
 #[inline(always)]
-fn add_row(bytes: &mut Vec<u8>, w: usize, plus: bool, cells: &[Cell]) -> Result<usize, AllocError>
+fn add_row(
+    bytes: &mut Vec<u8>,
+    w: usize,
+    plus: bool,
+    kind: Kind,
+    values: &[Value],
+) -> Result<usize, AllocError>
     requires some { 0 < w }
-    requires short { length cells.now * w ≤ 2 ^ 62 }
-    ensures count { IfOk result (λ count. count ≡ length (integers_in cells.now)) }
-    ensures ok { OnOk result (bytes.new.items ≡ bytes.old.items ++ flat_map (integer_field plus (w, None)) (integers_in cells.now)) }
+    requires short { length values.now * w ≤ 2 ^ 62 }
+    ensures count { IfOk result (λ count. count ≡ length (integers_in kind values.now)) }
+    ensures ok { OnOk result (bytes.new.items ≡ bytes.old.items ++ flat_map (integer_field plus (w, None)) (integers_in kind values.now)) }
     ensures err { OnErr result (bytes.new.items ≡ bytes.old.items) }
 {
     let start = bytes.len();
-    bytes.resize(start + cells.len() * w, b' ')?;
-    let count = write_row(&mut bytes[start..], w, plus, cells);
+    bytes.resize(start + values.len() * w, b' ')?;
+    let count = write_row(&mut bytes[start..], w, plus, kind, values);
     bytes.truncate(start + count * w);
     Ok(count)
 }
 
-/// Appends the fields of the integers of the first cells under `Iw`, up to a cell that holds none, and answers how many.
+/// Appends the fields of the first integers of a row under `Iw`, up to a value that is none, and answers how many.
 pub fn integer_fields(
     w: u32,
     plus: bool,
-    cells: &[Cell],
+    kind: Kind,
+    values: &[Value],
     out: &mut Text,
 ) -> Result<usize, AllocError>
     requires some { 0 < w }
-    requires short { length cells.now * w ≤ 2 ^ 62 }
-    ensures count { IfOk result (λ count. count ≡ length (integers_in cells.now)) }
-    ensures ok { OnOk result (out.new ≡ out.old ++ flat_map (integer_field plus (w, None)) (integers_in cells.now)) }
+    requires short { length values.now * w ≤ 2 ^ 62 }
+    ensures count { IfOk result (λ count. count ≡ length (integers_in kind values.now)) }
+    ensures ok { OnOk result (out.new ≡ out.old ++ flat_map (integer_field plus (w, None)) (integers_in kind values.now)) }
     ensures err { OnErr result (out.new ≡ out.old) }
 {
     let empty = Text::new(out.allocator());
     let mut bytes = std::mem::replace(out, empty).into_vec();
-    let count = add_row(&mut bytes, w as usize, plus, cells);
+    let count = add_row(&mut bytes, w as usize, plus, kind, values);
     *out = Text::from_vec(bytes);
     count
 }

@@ -1,6 +1,6 @@
 // Fields of gfortran, and the conditions.
 use crate::{bits_field, field, int_field, integer_fields, logical_field, text_field};
-use fj_value::{Cell, Condition, Delim, Edit, EditModes, Kind, Place, Text, Value};
+use fj_value::{Condition, Delim, Edit, EditModes, Kind, Text, Value};
 use std::alloc::{AllocError, Global};
 use std::test::Fail;
 
@@ -394,33 +394,22 @@ fn general_fields(rt: HostRuntime) -> Result<(), Fail> {
     Ok(())
 }
 
-fn cell_of(n: i64) -> Cell {
-    Cell {
-        place: Place { var: 0, index: 1 },
-        kind: Kind::Int8,
-        value: Value::Int(n),
-    }
-}
-
-/// Integers in a row, as gfortran writes them, up to a cell that holds none.
+/// Integers in a row, as gfortran writes them, up to a value that is none.
 #[test]
 fn rows(rt: HostRuntime) -> Result<(), Fail> {
-    let cells = [
-        cell_of(0),
-        cell_of(-123),
-        cell_of(99999),
-        cell_of(i64::MIN),
-        Cell {
-            value: Value::Undefined,
-            ..cell_of(0)
-        },
-        cell_of(1),
+    let values = [
+        Value::Int(0),
+        Value::Int(-123),
+        Value::Int(99999),
+        Value::Int(i64::MIN),
+        Value::Undefined,
+        Value::Int(1),
     ];
     let mut out = Text::from_bytes(rt.alloc(), b"=")?;
-    let count = integer_fields(5, false, &cells, &mut out)?;
+    let count = integer_fields(5, false, Kind::Int8, &values, &mut out)?;
     assert!(rt; count == 4);
     assert_eq!(rt; out.bytes(), b"=    0 -12399999*****".as_slice());
-    let signed = integer_fields(5, true, &cells[..3], &mut out)?;
+    let signed = integer_fields(5, true, Kind::Int8, &values[..3], &mut out)?;
     assert!(rt; signed == 3);
     assert_eq!(rt;
         out.bytes(),

@@ -1,5 +1,5 @@
 -- What the calls end with.
-use Rattle.std.proofs.Common.{◌≡◌, ℕ, ◌+◌, ◌-◌, ◌<◌, cond, Bool, true, false, List, ◌++◌, length, take, replicate, get_or, Option, Some, None, Result, All, IfOk, IfSome, refl, sym, ap, subst, ◌∙◌}
+use Rattle.std.proofs.Common.{◌≡◌, ◌↔◌, ℕ, ◌+◌, ◌-◌, ◌<◌, cond, Bool, true, false, List, ◌++◌, length, take, replicate, get_or, Option, Some, None, Result, All, IfOk, IfSome, refl, sym, ap, subst, ◌∙◌}
 use Rattle.std.specs.Prelude.{ℤ, pos}
 use Rattle.std.specs.declared.alloc.AllocError.{AllocError}
 use Rattle.std.proofs.lemmas.Bool.{false≢true}
@@ -13,6 +13,8 @@ use Rattle.fj_value.specs.declared.place.Place.{Place}
 use Rattle.fj_value.specs.declared.value.Cell.{Cell}
 use Rattle.fj_value.specs.declared.value.Value.{Value}
 use Rattle.fj_value.specs.declared.value.Value.TheVariants as value
+use Rattle.fj_list.specs.Load.{row_cells}
+use Rattle.fj_list.proofs.LoadLemmas.{row_all}
 use Rattle.fj_statement.specs.declared.deck.Variable.{Variable}
 use Rattle.fj_store.specs.Places.{counted_from}
 use Rattle.fj_store.specs.Storage.{Storage, with_value, given_back, values_of}
@@ -35,14 +37,21 @@ fit_more variables cells i cell kind low is so_far kind_is fits =
     let Q : Kind → Type 0 = λ k. Fits k cell.value in
     subst P (sym (take_more cells i cell low)) (All-push (CellFits variables) (take i cells) (get_or cells i cell) so_far (subst (CellFits variables) is (subst Q kind_is fits)))
 
-pub given_is : (variables : List Variable) (s mid new : Storage) (input : Bool) (size : Option Place) (count : Option ℕ) (cells cs : List Cell) → input ≡ true → s.kinds ≡ kinds_of variables → cs ≡ cells
-    → All (CellFits variables) cs → mid ≡ given_back cells s → values_of new ≡ with_size variables size count (values_of mid)
+pub given_is : (variables : List Variable) (s mid new : Storage) (input : Bool) (size : Option Place) (count : Option ℕ) (cells : List Cell) → input ≡ true → s.kinds ≡ kinds_of variables
+    → All (CellFits variables) cells → mid ≡ given_back cells s → values_of new ≡ with_size variables size count (values_of mid)
     → values_of new ≡ cond input (with_size variables size count (plain.given_back cells (values_of s))) (values_of s)
-given_is variables s mid new input size count cells cs is_input kinds e fit back sized =
-    let P : List Cell → Type 0 = λ xs. All (CellFits variables) xs in
+given_is variables s mid new input size count cells is_input kinds fit back sized =
     sized
-    ∙ ap (λ vs. with_size variables size count vs) (back_is variables s mid cells kinds (subst P e fit) back)
+    ∙ ap (λ vs. with_size variables size count vs) (back_is variables s mid cells kinds fit back)
     ∙ sym (ap (λ b. cond b (with_size variables size count (plain.given_back cells (values_of s))) (values_of s)) is_input)
+
+-- ---- rows
+
+pub row_fit : (variables : List Variable) (var : ℕ) (kind k : Kind) (index : ℕ) (values : List Value) → k ≡ kind_of variables var
+    → All (Fits k) values ↔ All (CellFits variables) (row_cells (record { var = var; index = index }) kind values)
+row_fit variables var kind k index values e =
+    let P : Kind → Type 0 = λ q. All (Fits q) values ↔ All (CellFits variables) (row_cells (record { var = var; index = index }) kind values) in
+    subst P (sym e) (row_all (CellFits variables) (Fits (kind_of variables var)) var kind (λ i v. (λ h. h, λ h. h)) index values)
 
 -- ---- numbers
 

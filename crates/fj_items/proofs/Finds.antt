@@ -212,11 +212,11 @@ grouped vs vars t moved is made =
     subst P (sym made) (grouped_by vs vars t.items t.control is.allowed.group_excludes_items)
 
 -- the same of the layout that was made, and of the number of cells
-pub layout_grouped : (vs : List Variable) (c : Control) (cells slice : List Cell) (layout : Layout) (n : ℕ) → slice ≡ cells → n ≡ length cells → layout ≡ layout_of vs slice c
+pub layout_grouped : (vs : List Variable) (c : Control) (cells : List Cell) (layout : Layout) (n : ℕ) → n ≡ length cells → layout ≡ layout_of vs cells c
     → All (IsWithin (length cells)) (moving.members_of (layout_of vs cells c)) → All (IsWithin n) (moving.members_of layout)
-layout_grouped vs c cells slice layout n same count made h =
+layout_grouped vs c cells layout n count made h =
     let P : ℕ → Layout → Type 0 = λ k l. All (IsWithin k) (moving.members_of l) in
-    subst (λ k. P k layout) (sym count) (subst (P (length cells)) (sym (made ∙ ap (λ cs. layout_of vs cs c) same)) h)
+    subst (λ k. P k layout) (sym count) (subst (P (length cells)) (sym made) h)
 
 pub has_values : (vs : List Variable) (s : Storage) (t : Transfer) (moved : Moved) → IsTransfer vs t → Finds vs s t → moved ≡ moved_in vs (values_of s) t → t.input ≡ false → moving.HasValues moved
 has_values vs s t moved is finds made writes = subst moving.HasValues (sym made) (output_defined vs (values_of s) t is (finds.defined writes))

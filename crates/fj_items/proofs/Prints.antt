@@ -1,10 +1,13 @@
 -- What the output on `*` grows by.
-use Rattle.std.proofs.Common.{◌≡◌, ℕ, zero, suc, ◌+◌, ◌-◌, ◌≤◌, eqb, cond, not, Bool, true, false, List, [], ◌∷◌, ◌++◌, length, take, drop, Result, Ok, Err, OnErr, refl, sym, ap, subst, ◌∙◌, arith, append_assoc, append-nil, length-append}
+use Rattle.std.proofs.Common.{◌≡◌, ℕ, zero, suc, ◌+◌, ◌-◌, ◌≤◌, eqb, cond, not, ◌||◌, Bool, true, false, List, [], ◌∷◌, ◌++◌, length, take, drop, Result, Ok, Err, OnErr, refl, sym, ap, subst, ◌∙◌, arith, append_assoc, append-nil, length-append}
 use Rattle.std.proofs.lemmas.List.{take-append-le}
 use Rattle.std.proofs.lemmas.Bool.Decides.{nat_tests}
 use Rattle.std.specs.List.{flat_map}
+use Rattle.std.specs.Prelude.{unwrap_or}
 use Rattle.fj_value.specs.declared.condition.Condition.{Condition}
 use Rattle.fj_value.specs.declared.condition.Condition.TheVariants.{Fine, Error}
+use Rattle.fj_value.specs.declared.edit.EditModes.{EditModes}
+use Rattle.fj_control.specs.Steps.{Given}
 use Rattle.fj_list.specs.ListText.{text_of}
 use Rattle.fj_list.specs.declared.moved.Moved.{Moved}
 use Rattle.fj_modes.specs.Modes.{usual_edit}
@@ -13,15 +16,19 @@ use Rattle.fj_statement.specs.declared.statement.Transfer.{Transfer as Stated}
 use Rattle.fj_statement.specs.declared.statement.Statement.TheVariants.{Transfer}
 use Rattle.fj_store.specs.Variables.{Variables}
 use Rattle.fj_transfer.specs.Change.{changed}
-use Rattle.fj_transfer.specs.Printing.{Printed, open_count, actions_by, printed_by}
-use Rattle.fj_transfer.specs.Transfer.{is_formatted, ends_record}
+use Rattle.fj_transfer.specs.declared.change.EditChange.{EditChange}
+use Rattle.fj_transfer.specs.declared.transfer.Layout.{Layout}
+use Rattle.fj_transfer.specs.declared.transfer.TransferSpec.{TransferSpec}
+use Rattle.fj_transfer.specs.Printing.{Printed, open_count, actions_by, control_of, printed_by}
+use Rattle.fj_transfer.specs.Transfer.{is_explicit, is_formatted, ends_record}
 use Rattle.fj_transfer.specs.Writing.{Prints}
 use Rattle.fj_plain.specs.State.{Output}
 use Rattle.fj_plain.specs.Statement.{control_by}
 use Rattle.fj_plain.specs.Telling.{is_asynchronous}
-use Rattle.fj_plain.specs.Transfers.{spec_in, moved_in, printed_to}
+use Rattle.fj_plain.specs.Transfers.{layout_of, spec_in, moved_in, printed_to, star_printed}
 use Rattle.fj_items.specs.Outputs.{output_of}
 use Rattle.fj_items.specs.declared.star.Output.TheInside.{Inside}
+use Rattle.fj_items.proofs.Takes.{job_control}
 use Rattle.fj_items.specs.Handing.{whole_records, ended_part, printed_on, HandsOver, HandsFront, HandsPart, TakesFront, TakesPart}
 
 take_both : (k j : ℕ) (xs : List ℕ) → take (k + j) xs ≡ take k xs ++ take j (drop k xs)
@@ -178,6 +185,23 @@ nothing_printed variables vars t o taken taken' low same =
     let spec = spec_in variables vars t moved.cells in
     none_of o (printed_on variables vars t o).0 taken taken'
     (by_tests (is_asynchronous t) (not (is_formatted spec.layout)) (ends_record spec) (printed_by 65536 o.begun (actions_by spec.layout (control_by (Transfer t)) (changed spec.edit usual_edit) spec.advance moved)) o low) same
+
+-- what is printed by the layout of the items is what the statement prints
+pub star_is : (variables : List Variable) (vars : Variables) (t : Stated) (o : Output) (moved : Moved) (layout : Layout) (edit : EditChange) (usual modes : EditModes) (advance : Bool)
+    → is_asynchronous t ≡ false → is_formatted (layout_of variables moved.cells t.control) ≡ true → moved ≡ moved_in variables vars t → layout ≡ layout_of variables moved.cells t.control
+    → edit ≡ (spec_in variables vars t moved.cells).edit → usual ≡ usual_edit → modes ≡ changed edit usual → advance ≡ unwrap_or t.advance true
+    → printed_to (advance || not (is_explicit layout)) o (printed_by 65536 o.begun (actions_by layout (control_of layout) modes advance moved)) ≡ printed_on variables vars t o
+star_is variables vars t o moved layout edit usual modes advance sync formatted moved_is layout_is edit_is usual_is modes_is advance_is =
+    let spec : TransferSpec = spec_in variables vars t moved.cells in
+    let control : ℕ → List Given = control_by (Transfer t) in
+    let F : Layout → (ℕ → List Given) → EditModes → Bool → Output × Condition = λ l c m a. printed_to (a || not (is_explicit l)) o (printed_by 65536 o.begun (actions_by l c m a moved)) in
+    let due : Output × Condition = F spec.layout control (changed spec.edit usual_edit) spec.advance in
+    ap (λ l. F l (control_of layout) modes advance) layout_is
+    ∙ ap (λ c. F spec.layout c modes advance) (job_control variables moved.cells t layout layout_is)
+    ∙ ap (λ m. F spec.layout control m advance) (modes_is ∙ ap (λ e. changed e usual) edit_is ∙ ap (changed spec.edit) usual_is)
+    ∙ ap (λ a. F spec.layout control (changed spec.edit usual_edit) a) advance_is
+    ∙ sym (ap (λ b. cond b (o, Error 2) (cond (not (is_formatted spec.layout)) (o, Error 16) due)) sync ∙ ap (λ b. cond (not b) (o, Error 16) due) formatted)
+    ∙ ap (λ m. star_printed control o t m (spec_in variables vars t m.cells)) moved_is
 
 -- ---- of what the program keeps
 

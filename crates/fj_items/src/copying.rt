@@ -74,7 +74,11 @@ pub(crate) fn size_copied(
     }
     let found = store.copy_of(alloc, pieces, 1)?;
     match found {
-        Some(copied) => Ok(Some(copied.moved)),
+        Some(copied) => {
+            let mut load = copied.moved;
+            let moved = load.take(alloc)?;
+            Ok(Some(moved))
+        }
         None => Err(Lost::Unfit),
     }
 }

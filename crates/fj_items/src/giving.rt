@@ -1,5 +1,6 @@
 // What a transfer gives back to the variables when it is told.
 ghost use Rattle.std.specs.Prelude.{◌≡◌, ◌↔◌, OnOk, OnErr, IsOk, if◌then◌else◌, IsTrue, All, IfSome, List};
+ghost use Rattle.fj_list.specs.Load.{moved_row};
 ghost use Rattle.fj_plain.specs.Items.{kind_of};
 ghost use Rattle.fj_plain.specs.Telling.{count_for, with_size};
 ghost use Rattle.fj_statement.specs.declared.deck.Variable.{Variable};
@@ -12,6 +13,7 @@ ghost use Rattle.fj_items.specs.Kinds.{kinds_of, Fits, CellFits, IsIntegerKind};
 
 use crate::lost::Lost;
 use crate::number::{is_integer, kind_of, number_for};
+use fj_list::{Load, Row, Shape};
 use fj_statement::Variables;
 use fj_store::{Store, is_of_kind};
 use fj_transfer::Transfer as Moving;
@@ -37,6 +39,35 @@ fn all_fit(variables: &Variables, cells: &[Cell]) -> bool
         }
     }
     true
+}
+
+/// Whether values are of a kind, or undefined.
+fn values_fit(kind: Kind, values: &[Value]) -> bool
+    ensures { IsTrue result ↔ All (Fits kind) values.now }
+{
+    for value in values {
+        if !fits(kind, value) {
+            return false;
+        }
+    }
+    true
+}
+
+/// The same of a row.
+fn row_fits(variables: &Variables, row: &Row) -> bool
+    ensures { IsTrue result ↔ All (CellFits variables.now) (moved_row row.now).cells }
+{
+    values_fit(kind_of(variables, row.first.var), row.values.as_slice())
+}
+
+/// Whether what a transfer moves has values of the kinds of their places, or undefined ones.
+fn load_fits(variables: &Variables, moved: &Load) -> bool
+    ensures { IsTrue result ↔ All (CellFits variables.now) moved.now.cells }
+{
+    match moved.shape() {
+        Shape::Cells(moved) => all_fit(variables, moved.cells.as_slice()),
+        Shape::Row(row) => row_fits(variables, row),
+    }
 }
 
 /// Whether SIZE= is an integer, where it is given.
@@ -93,12 +124,11 @@ pub fn give_cells(
     if !input {
         return Ok(());
     }
-    if !all_fit(variables, job.moved.cells.as_slice()) || !is_countable(variables, size) {
+    if !load_fits(variables, &job.moved) || !is_countable(variables, size) {
         return Err(Lost::Unfit);
     }
     let count = job.count;
-    let moved = job.moved;
-    store.give_back(moved.cells);
+    store.give_load(job.moved);
     set_size(variables, store, size, count);
     Ok(())
 }

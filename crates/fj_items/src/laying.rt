@@ -8,7 +8,7 @@ ghost use Rattle.fj_store.specs.Variables.{is_at};
 ghost use Rattle.fj_transfer.specs.Moving as moving;
 
 use crate::assigning::elements;
-use fj_list::GroupMember;
+use fj_list::{GroupMember, Load, Shape};
 use fj_statement::{Control, Variable, Variables};
 use fj_transfer::{Layout, Members};
 use fj_value::{Cell, Place};
@@ -68,15 +68,34 @@ fn members_of(
     Ok(members)
 }
 
+/// The same in what a transfer moves.
+fn members_among(
+    alloc: Global,
+    variables: &Variables,
+    moved: &Load,
+    vars: &[u32],
+) -> Result<Members, AllocError>
+    requires { length moved.now.cells < 2 ^ 32 }
+    ensures { IfOk result (λ members. members ≡ members_of variables.now moved.now.cells vars.now) }
+{
+    match moved.shape() {
+        Shape::Cells(moved) => members_of(alloc, variables, moved.cells.as_slice(), vars),
+        Shape::Row(row) => {
+            let moved = row.to_moved(alloc)?;
+            members_of(alloc, variables, moved.cells.as_slice(), vars)
+        }
+    }
+}
+
 /// The layout of a transfer with these cells.
 pub(crate) fn layout_for(
     alloc: Global,
     variables: &Variables,
-    cells: &[Cell],
+    moved: &Load,
     control: &Control,
 ) -> Result<Layout, AllocError>
-    requires { length cells.now < 2 ^ 32 }
-    ensures { IfOk result (λ layout. layout ≡ layout_of variables.now cells.now control.now) }
+    requires { length moved.now.cells < 2 ^ 32 }
+    ensures { IfOk result (λ layout. layout ≡ layout_of variables.now moved.now.cells control.now) }
 {
     match control {
         Control::Unformatted => Ok(Layout::Unformatted),
@@ -86,7 +105,7 @@ pub(crate) fn layout_for(
         }
         Control::Listed => Ok(Layout::Listed),
         Control::Group { name, vars } => {
-            let members = members_of(alloc, variables, cells, vars.as_slice())?;
+            let members = members_among(alloc, variables, moved, vars.as_slice())?;
             let name = name.try_clone()?;
             Ok(Layout::Group(name, members))
         }

@@ -18,7 +18,7 @@ use crate::lost::Lost;
 use crate::refusing::is_formatted;
 use crate::sink::put_all;
 use fj_line::Unwritten;
-use fj_list::Moved;
+use fj_list::Load;
 use fj_modes::usual_edit;
 use fj_outside::Sink;
 use fj_statement::{Transfer, Variables};
@@ -132,7 +132,7 @@ impl Output {
         layout: &Layout,
         advance: bool,
         modes: EditModes,
-        moved: &Moved,
+        moved: &Load,
     ) -> Result<Condition, Lost>
         requires records { IsRecords layout.now }
         requires grouped { All (IsWithin (length moved.now.cells)) (members_of layout.now) }
@@ -222,8 +222,8 @@ pub fn write_star<W: Sink>(
     }
     let copy = copied(alloc, variables, store, t)?;
     let moved = copy.moved;
-    let layout = layout_for(alloc, variables, moved.cells.as_slice(), &t.control)?;
-    if !is_grouped(moved.cells.len(), &layout) {
+    let layout = layout_for(alloc, variables, &moved, &t.control)?;
+    if !is_grouped(moved.len(), &layout) {
         return Err(Lost::Unfit);
     }
     let modes = edit_of(t).change(usual_edit());

@@ -28,7 +28,7 @@ use crate::laying::{is_grouped, layout_for};
 use crate::lost::Lost;
 use crate::number::number_given;
 use crate::star::edit_of;
-use fj_list::Moved;
+use fj_list::{Load, Moved};
 use fj_statement::{Transfer, Variables};
 use fj_store::{Piece, Run, Store};
 use fj_transfer::{Transfer as Moving, TransferSpec};
@@ -104,7 +104,7 @@ fn size_taken(
 /// The items of a transfer, the cell of SIZE=, and the numbers that REC= and POS= give.
 #[derive(Drop)]
 struct Parts {
-    moved: Moved,
+    moved: Load,
     size: Option<Moved>,
     rec: Option<i64>,
     pos: Option<i64>,
@@ -145,8 +145,8 @@ fn job_with(
         → result ≢ Err Lost.Unfit }
     ensures causes { (result ≢ Err Lost.Disk) × (result ≢ Err Lost.Sink) }
 {
-    let layout = layout_for(alloc, variables, parts.moved.cells.as_slice(), &t.control)?;
-    if !is_grouped(parts.moved.cells.len(), &layout) {
+    let layout = layout_for(alloc, variables, &parts.moved, &t.control)?;
+    if !is_grouped(parts.moved.len(), &layout) {
         return Err(Lost::Unfit);
     }
     if !t.input && !parts.defined {
@@ -197,7 +197,7 @@ pub fn moving(
         let moved = taken(alloc, variables, store, t)?;
         let size = size_taken(alloc, variables, store, t.size)?;
         let parts = Parts {
-            moved,
+            moved: Load::of_cells(moved),
             size,
             rec,
             pos,

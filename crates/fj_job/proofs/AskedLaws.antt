@@ -4,19 +4,19 @@ use Rattle.std.specs.FinSet as set
 use Rattle.fj_outside.specs.Holdings.{Holdings}
 use Rattle.fj_statement.specs.declared.deck.Deck.{Deck as Decked}
 use Rattle.fj_report.specs.declared.status.Status.{Status}
-use Rattle.fj_job.specs.Answers.{Told}
+use Rattle.fj_job.specs.Answers.{HasRun}
 use Rattle.fj_job.specs.Asking.{IsAsked}
 use Rattle.fj_job.specs.Executing.{IsExecuted}
 use Rattle.fj_job.specs.Seen.{Seen, OnDisk, seen, on_disk}
 use Rattle.fj_job.specs.declared.task.Task.{Task}
 use Rattle.fj_job.specs.declared.asked.Asked.TheVariants.{Answered, Deck}
-use Rattle.fj_job.proofs.ToldLaws.{told_for, told_over, told_executed}
+use Rattle.fj_job.proofs.RunLaws.{run_for, run_over, run_executed}
 
 -- it is answered at once, and nothing is done with the disk
 pub answered_told : (task other : Task) (status : Status) (source sink : Seen (List ℕ)) (disk : Seen OnDisk) → task ≡ other → IsAsked task source sink (Answered status) → disk.after ≡ disk.before
-    → disk.same → disk.goes_on → (disk.tells → disk.before.held.in_use ≡ set.empty) → Told other status source sink disk
+    → disk.same → disk.goes_on → (disk.tells → disk.before.held.in_use ≡ set.empty) → HasRun other status source sink disk
 answered_told task other status source sink disk e asked is same goes_on empty =
-    told_for task other status source sink disk e (told_over task status source sink disk is same goes_on empty (asked.told disk.before))
+    run_for task other status source sink disk e (run_over task status source sink disk is same goes_on empty (asked.told disk.before))
 
 -- a deck was carried out
 module _ {W D : Type 0} (tells_out : W → Type 0) (taken : W → List ℕ) (count_out : W → ℕ) (tells : D → Type 0) (held : D → Holdings) (count refusals : D → ℕ)
@@ -26,8 +26,8 @@ module _ {W D : Type 0} (tells_out : W → Type 0) (taken : W → List ℕ) (cou
   from_there : IsExecuted tells_out taken count_out tells held count refusals deck trace out disk out' disk' status
   from_there = subst (λ (o : W). IsExecuted tells_out taken count_out tells held count refusals deck trace o disk out' disk' status) asked.untold done
 
-  pub executed_told : Told other status source (seen tells_out taken count_out out out') (seen tells (on_disk held refusals) count disk disk')
+  pub executed_told : HasRun other status source (seen tells_out taken count_out out out') (seen tells (on_disk held refusals) count disk disk')
   executed_told =
       let it = from_there in
-      told_for _ _ _ _ _ _ (sym asked.task_is ∙ same) (told_executed workers trace deck status source _ _ asked.is_deck it.replied it.fault it.written it.front it.of_run it.cause it.in_use
+      run_for _ _ _ _ _ _ (sym asked.task_is ∙ same) (run_executed workers trace deck status source _ _ asked.is_deck it.replied it.fault it.written it.front it.of_run it.cause it.in_use
       (asked.goes_on.0, (it.telling_out, it.later_out), (it.telling, it.later)))

@@ -16,6 +16,7 @@ use Rattle.fj_turns.specs.Cutting.{stands}
 use Rattle.fj_turns.proofs.Finishing.{asks_no_more}
 use Rattle.fj_turns.proofs.Meant.{leaves_result}
 use Rattle.fj_cut.proofs.Given.{each_end_given}
+use Rattle.fj_closing.proofs.Ended.{ends_with_units}
 use Rattle.fj_runner.specs.Machine.{run_of}
 use Rattle.fj_runner.specs.declared.machine.Machine.{Machine}
 use Rattle.fj_job.specs.Carrying.{HasRun}
@@ -46,4 +47,5 @@ has_run meaning s told bytes deck files left m rack script b alone going state =
           let slots : SlotsHold (over_bays meaning) (stands meaning s deck.variables (stated deck.statements) files alone.entries).slots rack =
           record { same = alone.fits.same_slots; each = λ at q l a b. (alone.fits.slots at q l a b).sound; done = λ at q l a b. (alone.fits.slots at q l a b).done } in
           record { index = w.index; rest = w.rest; within = w.within; given = given_at meaning rack deck.variables (stated deck.statements) files _ _ slots w w.index w.rest w.within };
+      units = λ some. ends_with_units meaning s deck.variables (stated deck.statements) files script rack _ alone going known some;
     }

@@ -1,5 +1,7 @@
 -- A deck that was carried out on slots of its own, and whose files went back.
 use Rattle.std.proofs.Common.{◌≡◌, ◌⊎◌, inl, inr, ◌≤◌, ℕ, Bool, true, false, List, [], Result, Ok, Err, Some, None, refl, ap, sym, ◌∙◌, subst, arith}
+use Rattle.std.proofs.Math.Logic.{∥∥₁_elim}
+use Rattle.std.proofs.Props.{props}
 use Rattle.fj_outside.specs.Faults.{Rose}
 use Rattle.fj_outside.specs.Holdings.{Holdings}
 use Rattle.fj_outside.specs.declared.outside.FileStore.{Ghosts}
@@ -13,6 +15,7 @@ use Rattle.fj_items.specs.Handing.{whole_records}
 use Rattle.fj_items.specs.declared.lost.Lost.TheVariants.{Sink, Disk}
 use Rattle.fj_units.specs.Files.{files_of}
 use Rattle.fj_closing.specs.Losing.{may_tell}
+use Rattle.fj_runner.specs.Going.{IsGoing}
 use Rattle.fj_runner.specs.Leaving.{Leaves}
 use Rattle.fj_runner.specs.declared.ending.Ending.{Ending as Code}
 use Rattle.fj_runner.specs.declared.machine.Machine.{Machine}
@@ -25,10 +28,14 @@ use Rattle.fj_job.specs.Cutting.{IsCut, EndsHere, IsLeftAt, IsLeftBegun, TookSom
 use Rattle.fj_job.specs.Executing.{IsSettled, IsCarriedOut, IsConcluded, IsExecuted}
 use Rattle.fj_job.specs.declared.ending.Carried.{Carried}
 use Rattle.fj_job.proofs.Executed.{came, replies, all_taken, nothing_written}
-use Rattle.fj_job.proofs.Told.{fault_by, write_by, front_of_same, not_lost}
+use Rattle.fj_job.proofs.Fronts.{fault_by, write_by, front_of_same, not_lost}
 use Rattle.fj_job.proofs.Reported.{at_statement, left_at, left_begun, left_end, took_some, told_fault, report_of_fault, part_of_end, part_of_run, write_of_begun, write_of_end, front_so_far}
 use Rattle.fj_job.proofs.Leading.{rose_later, rose_earlier, rose_of, on_left}
-use Rattle.fj_job.proofs.ToldLaws.{cause_more}
+use Rattle.fj_job.proofs.RunLaws.{cause_more}
+use Rattle.fj_job.proofs.Whole.{units_held, files_out}
+
+never_prop : IsProp ⊥
+never_prop = hlevel props
 
 cause_by : (P Q : Type 0) (a b c : ℕ) → a ≤ b → b ≤ c → (P → Q ⊎ Rose a b) → (Q → ⊥) → P ⊎ Rose b c → Rose a c
 cause_by P Q a b c l k one none (inr rose) = rose_earlier a b c l rose
@@ -40,9 +47,10 @@ module _ {W D F : Type 0} (tells_out : W → Type 0) (taken : W → List ℕ) (c
       → (tells disk → m'.tally.over ≡ false → HasRun meaning told bytes m.deck (files_of (held disk)) (files_of (held disk')) m' rack')
       → (tells disk → IsSound m.deck → m'.tally.over ≡ true → IsCut meaning rack' (held disk') (refusals disk) (refusals disk') (tells_out out) (taken out) (taken out') m.deck (files_of (held disk)) m')
       → (tells disk → m'.tally.over ≡ false → (ending : Code) → m'.state.ending ≡ Some ending → EndsHere m.deck (files_of (held disk)) m')
+      → ∥ (m'.tally.over ≡ false → IsGoing m') ∥₁
       → IsSound deck → IsSettled tells held count refusals meaning m' rack' disk' disk'' it
       → (let r : Result (Carried F) X = Ok it in IsCarriedOut tells_out taken count_out tells held count refusals deck out disk out' disk'' r)
-  carried_out meaning told bytes deck out disk out' disk' disk'' m m' rack' it begun same leaves ran cut ended is_sound settled =
+  carried_out meaning told bytes deck out disk out' disk' disk'' m m' rack' it begun same leaves ran cut ended on is_sound settled =
       let sound : m.tally.lost ≡ None = begun.sound in
       let own : IsSound m.deck = subst IsSound (sym same) is_sound in
       let nothing : whole_records m.state.core.output ≡ [] = nothing_written told bytes (files_of (held disk)) m begun in
@@ -70,6 +78,11 @@ module _ {W D F : Type 0} (tells_out : W → Type 0) (taken : W → List ℕ) (c
         sink = λ e. elim (leaves.of_sink (settled.sink e)) [ inl q ↦ absurd (let z : Some Sink ≡ None = sym q ∙ sound in cc) | inr rose ↦ rose ];
         of_disk = λ e. cause_by _ _ _ _ _ leaves.later settled.later leaves.of_disk (λ q. let z : Some Disk ≡ None = sym q ∙ sound in cc) (settled.of_disk e);
         in_use = λ t. settled.in_use (leaves.telling.0 t);
+        whole = λ t going unfit.
+            let still = sym settled.over ∙ going in
+            let h = ran t still in
+            ∥∥₁_elim on never_prop (λ f. settled.whole still (units_held meaning told bytes m.deck (files_of (held disk)) (files_of (held disk')) m' rack' h own)
+            (files_out meaning told bytes m.deck (files_of (held disk)) (files_of (held disk')) m' rack' h own (f still)) unfit);
         unbegun = tt;
         telling_out = leaves.telling_out;
         telling = (λ t. settled.telling.0 (leaves.telling.0 t), λ t. leaves.telling.1 (settled.telling.1 t));

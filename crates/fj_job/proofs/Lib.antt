@@ -1,5 +1,5 @@
 pub mod ReplyLaws
-pub mod ToldLaws
+pub mod RunLaws
 pub mod AskedLaws
 pub mod Leading
 pub mod Executed
@@ -8,6 +8,7 @@ pub mod Closed
 pub mod Settling
 pub mod MadeReplies
 pub mod Carried
+pub mod Whole
 pub mod CarriedOut
 pub mod Passes
 pub mod Learning
@@ -20,7 +21,7 @@ pub mod Cut
 pub mod CutEnds
 pub mod CutReports
 pub mod CutRuns
-pub mod Told
+pub mod Fronts
 pub mod Reported
 pub mod Sends
 pub mod SomeReplies

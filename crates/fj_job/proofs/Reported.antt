@@ -40,9 +40,9 @@ use Rattle.fj_runner.specs.declared.machine.Machine.{Machine}
 use Rattle.fj_acts.specs.declared.state.Core.{Core as Kept}
 use Rattle.fj_job.specs.Carrying.{HasRun}
 use Rattle.fj_job.specs.Concluding.{HasEnded, IsResult, run_text, fault_text}
-use Rattle.fj_job.specs.Cut.{Reach, Untold, Carried as At, reached, AreLeft, IsLearnt, IsFaultReport, IsNext, TookRun, TookReport, TookBehind, ToldFault, ToldWrite}
+use Rattle.fj_job.specs.Cut.{Reach, Untold, Carried as At, reached, AreLeft, IsLearnt, IsFaultReport, IsNext, TookRun, TookReport, TookBehind, CutByDisk, CutBySink}
 use Rattle.fj_job.specs.Cutting.{HoldsFiles, IsCut, EndsHere, IsLeftAt, IsLeftBegun, TookSome, IsCause}
-use Rattle.fj_job.specs.Executing.{IsFaultTold, IsFaultBegun, IsEndBegun}
+use Rattle.fj_job.specs.Executing.{IsFaultReported, IsFaultBegun, IsEndBegun}
 use Rattle.fj_job.specs.Making.{HasMade, IsMadeFront, TookMade, made_text}
 use Rattle.fj_job.specs.Reply.{Reply, IsRunReply, open_feed, trace_of, variable_lines, report_of, made_lines, made_report, no_files, files_in, status_of}
 use Rattle.fj_job.specs.declared.ending.Carried.{Carried}
@@ -53,7 +53,7 @@ use Rattle.fj_job.proofs.CutTexts.{text_and_feed, goes_on_behind}
 use Rattle.fj_job.proofs.Leading.{rose_later}
 use Rattle.fj_job.proofs.Leaving.{seated_of, named_of, housed_of, served_of, due_wider, within}
 use Rattle.fj_job.proofs.Executed.{desks, ending_is, output_is, tells_are, files_are, holds, are_seated, are_named, replies, makes, none_there, taken_both, given_until}
-use Rattle.fj_job.proofs.Told.{front_behind, part_behind, front_more, deck_ends, some_by, not_lost}
+use Rattle.fj_job.proofs.Fronts.{front_behind, part_behind, front_more, deck_ends, some_by, not_lost}
 use Rattle.fj_job.proofs.Giving.{not_left, left_short}
 
 -- ---- where a run ended or was cut, at the statement at hand
@@ -211,7 +211,7 @@ module _ {F : Type 0} (deck : Deck) (trace : Bool) (it : Carried F) (before now 
 
   -- a fault that was told
   pub told_fault : (line : ℕ) (Tells Now Failed Failed' : Type 0) → (Tells → Now) → (Failed → Failed') → IsLeftAt deck (files_in before) it.left left own own'
-      → IsFaultTold trace it line Now mid new Failed → (Tells → mid ≡ old ++ whole_records it.left.core.output) → ToldFault deck trace (files_in before) line Tells old new Failed' left own own'
+      → IsFaultReported trace it line Now mid new Failed → (Tells → mid ≡ old ++ whole_records it.left.core.output) → CutByDisk deck trace (files_in before) line Tells old new Failed' left own own'
   unfolding fault_reported
   told_fault line Tells Now Failed Failed' on later at fault one = (
     whole_records it.left.core.output ++ fault_text trace line it.left.core.output (tells_of it.left.core.tells),
@@ -250,7 +250,7 @@ module _ {F : Type 0} (deck : Deck) (trace : Bool) (it : Carried F) (before now 
 
   -- a fault of the sink in the report
   pub write_of_end : (Tells Now : Type 0) → (Tells → Now) → (x : IsLeftAt deck (files_in before) it.left left own own') → x.reach ≡ At → IsResult (plain_execution deck.variables deck.statements (files_in before)) (files_in now) it.left
-      → IsEndBegun trace it (λ due. Now → TakesPart mid new due) → (Tells → mid ≡ old ++ whole_records it.left.core.output) → ToldWrite deck trace (files_in before) Tells old new left own own'
+      → IsEndBegun trace it (λ due. Now → TakesPart mid new due) → (Tells → mid ≡ old ++ whole_records it.left.core.output) → CutBySink deck trace (files_in before) Tells old new left own own'
   write_of_end Tells Now on x reach is ended one =
       let r = reply_of_end (λ due. Now → TakesPart mid new due) is ended in
       record {
@@ -266,7 +266,7 @@ module _ {F : Type 0} (deck : Deck) (trace : Bool) (it : Carried F) (before now 
       }
 
   -- a fault of the sink before it
-  pub write_of_begun : (Tells : Type 0) → IsLeftBegun deck (files_in before) it.left Tells old mid left own own' → new ≡ mid → ToldWrite deck trace (files_in before) Tells old new left own own'
+  pub write_of_begun : (Tells : Type 0) → IsLeftBegun deck (files_in before) it.left Tells old mid left own own' → new ≡ mid → CutBySink deck trace (files_in before) Tells old new left own own'
   write_of_begun Tells x still = record {
     comes = x.comes;
     reach = Untold;

@@ -72,3 +72,11 @@ pub both_fit : (inner : Option Lost) (closed given : Result (Unit {0}) Lost) (lo
 both_fit inner closed given lost unfit fits same by e =
     let ok = told_ok given unfit (fits e) in
     (ok, subst (λ (o : Option Lost). IfSome o (λ first. is_fault first ≡ true → may_tell closed ≡ true)) (sym (same ok)) by e)
+
+-- of two losses, where nothing was lost before and nothing was kept, that something does not fit came of closing
+pub never_unfit : (lost first last : Option Lost) (closed given : Result (Unit {0}) Lost) → lost ≡ None → given ≡ Ok tt → (closed ≡ Err Unfit → ⊥) → (first ≡ Some Unfit → (lost ≡ Some Unfit) ⊎ (closed ≡ Err Unfit))
+    → (last ≡ Some Unfit → (first ≡ Some Unfit) ⊎ (given ≡ Err Unfit)) → last ≡ Some Unfit → ⊥
+never_unfit lost first last closed given none kept fits one two e = elim (two e) [
+  | inl q ↦ elim (one q) [ inl z ↦ (let never : None ≡ Some Unfit = sym none ∙ z in cc) | inr z ↦ fits z ]
+  | inr z ↦ (let never : Ok tt ≡ Err Unfit = sym kept ∙ z in cc)
+]

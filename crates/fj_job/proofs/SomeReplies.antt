@@ -9,7 +9,7 @@ use Rattle.fj_gen.specs.Generated.{generated_text}
 use Rattle.fj_job.specs.Reply.{Reply, Reading, IsReading, IsExecuted, IsRunReply, IsMade, IsMadeReply, SomeReply, checked, status_of, report_of, made_report, refusal_reply, usage_reply, text_reply, no_files}
 use Rattle.fj_job.specs.declared.task.Task.{Task}
 use Rattle.fj_job.specs.declared.task.Task.TheVariants.{Refuse, Check, Execute, Generate}
-use Rattle.fj_job.proofs.Told.{deck_ends}
+use Rattle.fj_job.proofs.Fronts.{deck_ends}
 
 module _ (some : SomeAnswer) (sound : DecksAreSound) where
   some_reading : (text : List ℕ) → (reading : Reading) × IsReading text reading

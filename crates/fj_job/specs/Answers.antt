@@ -1,4 +1,4 @@
--- What a run tells: its answer, what the sink took, what the disk is left with, and the cause of each fault.
+-- What a run has done: its answer, what the sink took, what the disk is left with, and the cause of each fault.
 use Rattle.std.specs.Prelude.{◌≡◌, ◌⊎◌, ℕ, Bool, List, ◌++◌}
 use Rattle.std.specs.FinSet as set
 use Rattle.fj_outside.specs.Holdings.{Files as Held}
@@ -13,7 +13,7 @@ use Rattle.fj_report.specs.declared.status.Status.TheVariants.{Ended, ErrorStop,
 use Rattle.fj_job.specs.declared.task.Task.{Task}
 use Rattle.fj_job.specs.declared.task.Task.TheVariants.{Refuse, Check, Execute, Generate}
 use Rattle.fj_job.specs.Reply.{Reply, IsReplyTo, IsRefusal, files_in}
-use Rattle.fj_job.specs.Cut.{TookReport, ToldFault, ToldWrite}
+use Rattle.fj_job.specs.Cut.{TookReport, CutByDisk, CutBySink}
 use Rattle.fj_job.specs.Seen.{Seen, OnDisk}
 
 -- neither a fault nor want of memory
@@ -24,7 +24,7 @@ IsAnswer (DiskFault stmt) = ⊥
 IsAnswer Memory = ⊥
 IsAnswer _ = Unit {0}
 
--- the report was not told whole: the sink failed, or memory was wanting
+-- the report was not written whole: the sink failed, or memory was wanting
 abbrev pub IsLost : Status → Type 0
 IsLost WriteFault = Unit {0}
 IsLost Memory = Unit {0}
@@ -130,7 +130,7 @@ IsAside Refuse = Unit {0}
 IsAside (Generate seed count shown) = Unit {0}
 IsAside _ = ⊥
 
--- The answers that tell of the words and of the text.
+-- The answers that are about the words and the text.
 pub record AnswersRightly (task : Task) (status : Status) (source : Seen (List ℕ)) : Type 0 where
   -- Words that are no form, and they alone, are refused, unless the sink or memory fails.
   pub usage : status ≡ Usage → task ≡ Refuse
@@ -150,9 +150,9 @@ pub record Keeps (task : Task) (status : Status) (source sink : Seen (List ℕ))
   -- A fault of the source leaves the sink.
   pub untold : status ≡ ReadFault → sink.same
 
--- What a run tells. The premises of a clause are that the parts of the outside which it is about tell what they hold: the source where
+-- What a run has done. The premises of a clause are that the parts of the outside which it is about tell what they hold: the source where
 -- its text is asked for, the disk where that text is a deck which is carried out, and the sink where it is said what that took.
-pub record Told (task : Task) (status : Status) (source sink : Seen (List ℕ)) (disk : Seen OnDisk) : Type 0 where
+pub record HasRun (task : Task) (status : Status) (source sink : Seen (List ℕ)) (disk : Seen OnDisk) : Type 0 where
   -- An answer that is no fault and no want of memory is that of the reply to the words and the text, whose output is taken and whose
   -- files are left.
   pub replied : IsAnswer status → OfSource task source.tells → OfDisk task source.before disk.tells
@@ -164,14 +164,14 @@ pub record Told (task : Task) (status : Status) (source sink : Seen (List ℕ)) 
   -- The sink took all of it; or it failed then, and took a front of it, and not all. Each file that the disk does not tell as hurt,
   -- and that the statement is not about, is left as closing all units leaves it there; of the others `AreLeft` says how far they are.
   pub fault : source.tells → OfDisk task source.before disk.tells → IfFault status (λ line. IfExecute task (λ trace. (deck : Deck) × IsDeck source.before deck
-      × ToldFault deck trace (files_in disk.before.held.files) line sink.tells sink.before sink.after sink.rose disk.after.held disk.before.own disk.after.own))
-  -- A fault of the sink is met where the text is refused and that is told; or at a statement of the deck that is carried out, or in the
+      × CutByDisk deck trace (files_in disk.before.held.files) line sink.tells sink.before sink.after sink.rose disk.after.held disk.before.own disk.after.own))
+  -- A fault of the sink is met where the text is refused and that is said; or at a statement of the deck that is carried out, or in the
   -- report of a deck that ended at it. The sink took the records that ended until there, whole, and then a front of those that the
   -- statement ends, or of the reply, and not all. Each file that the disk does not tell as hurt, and that the statement is not about,
   -- is left as closing all units leaves it there.
   pub written : source.tells → OfDisk task source.before disk.tells → IfWriteFault status (IfExecute task (λ trace. IsSomeRefusal source.before
       ⊎ ((deck : Deck) × IsDeck source.before deck
-      × ToldWrite deck trace (files_in disk.before.held.files) sink.tells sink.before sink.after disk.after.held disk.before.own disk.after.own)))
+      × CutBySink deck trace (files_in disk.before.held.files) sink.tells sink.before sink.after disk.after.held disk.before.own disk.after.own)))
   -- Whatever is answered, the sink took nothing or a front of the reply; or, where the disk failed while a deck was carried out, of
   -- the report of that fault, which is then answered, unless memory was wanting.
   pub front : OfSource task source.tells → OfDisk task source.before disk.tells → sink.tells → TookFor task source.before (files_in disk.before.held.files) sink.before sink.after

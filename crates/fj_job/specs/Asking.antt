@@ -6,7 +6,7 @@ use Rattle.fj_statement.specs.declared.deck.Deck.{Deck as Decked}
 use Rattle.fj_statement.specs.declared.reason.Reason.{Reason}
 use Rattle.fj_report.specs.declared.status.Status.{Status}
 use Rattle.fj_report.specs.declared.status.Status.TheVariants.{DeckRefused, ReadFault, WriteFault, Memory}
-use Rattle.fj_job.specs.Answers.{Told}
+use Rattle.fj_job.specs.Answers.{HasRun}
 use Rattle.fj_job.specs.Seen.{Seen, OnDisk, left_alone}
 use Rattle.fj_job.specs.declared.task.Task.{Task}
 use Rattle.fj_job.specs.declared.task.Task.TheVariants.{Execute}
@@ -29,7 +29,7 @@ IsUnread status Tells text =
 
 -- Of a source and a sink, whatever the disk is: nothing is done with it.
 pub record IsAsked (task : Task) (source sink : Seen (List ℕ)) (asked : Asked) : Type 0 where
-  pub told : (disk : OnDisk) → IfAnswered asked (λ status. Told task status source sink (left_alone disk))
+  pub told : (disk : OnDisk) → IfAnswered asked (λ status. HasRun task status source sink (left_alone disk))
   -- a deck is that of the source, and is to be carried out
   pub is_deck : source.tells → IfDeck asked (λ it workers trace. IsDeck source.before it)
   pub sound : IfDeck asked (λ it workers trace. IsSound it)

@@ -10,10 +10,12 @@ use Rattle.fj_plain.specs.State.{Files}
 use Rattle.fj_plain.specs.Statement.{stated}
 use Rattle.fj_world.specs.Rack.{Rack}
 use Rattle.fj_cut.specs.Stopping.{HoldsGiven}
-use Rattle.fj_turns.specs.Run.{Run}
+use Rattle.fj_turns.specs.Run.{Run, Start}
 use Rattle.fj_turns.specs.Meant.{Leaves}
 use Rattle.fj_turns.specs.Serving.{first_run}
 use Rattle.fj_outside.specs.declared.outside.FileStore.{Ghosts}
+use Rattle.fj_closing.specs.Holding.{HoldUnits}
+use Rattle.fj_runner.specs.Going.{IsGoing}
 use Rattle.fj_runner.specs.Machine.{run_of}
 use Rattle.fj_runner.specs.declared.hand.Hand.TheVariants.{Idle}
 use Rattle.fj_runner.specs.declared.machine.Machine.{Machine}
@@ -40,6 +42,7 @@ pub record HasNotBegun {F : Type 0} {ghosts : Ghosts F} (told : F → Bool) (byt
   pub few : m.tally.left < 2 ^ 62
   pub owed : m.tally.owed.items ≡ replicate 16 0
   pub names : m.state.core.names ≡ []
+  pub on : IsGoing m
 
 -- the runner is at a statement, and the slots are sound for jobs that were given until there
 pub record IsGivenAt {E J A : Type 0} (meaning : Meaning E J A Bay Job Answer) (deck : Deck) (files : Files) (rack : Rack E J A) (run : Run) : Type 0 where
@@ -56,3 +59,5 @@ pub record HasRun {E J A F : Type 0} {ghosts : Ghosts F} (meaning : Meaning E J 
   pub leaves : Leaves meaning deck.variables (stated deck.statements) files run rack
   -- each job of the slots was given by a statement not behind the one at which the deck ended
   pub given : IsSome run.ending → IsGivenAt meaning deck files rack run
+  -- where the deck ended the slots hold the connections of its units, and no statement is at work
+  pub units : IsSome run.ending → HoldUnits meaning rack run.core.units × (run.stage ≡ Start)

@@ -91,8 +91,8 @@ TookReport deck trace files status old new = (line : ℕ) × IsOfReport status l
 
 -- The fault of a line is reported, and the files are left as they are there; unless the deck stops at the statement, it is learnt there.
 -- A sink took the report; or it failed, and took a front of it and not all.
-abbrev pub ToldFault : Deck → Bool → Files → ℕ → Type 0 → List ℕ → List ℕ → Type 0 → Holdings → ℕ → ℕ → Type 0
-ToldFault deck trace files line Tells old new Failed left before now = (output : List ℕ) × (report : IsFaultReport deck trace files line output)
+abbrev pub CutByDisk : Deck → Bool → Files → ℕ → Type 0 → List ℕ → List ℕ → Type 0 → Holdings → ℕ → ℕ → Type 0
+CutByDisk deck trace files line Tells old new Failed left before now = (output : List ℕ) × (report : IsFaultReport deck trace files line output)
     × AreLeft deck files report.comes report.reach left before now × ((report.reach ≡ Carried) ⊎ IsLearnt report.comes.statement report.comes.before left before now)
     × (Tells → (new ≡ old ++ output) ⊎ (Failed × TakesPart old new output))
 
@@ -107,7 +107,7 @@ TookBehind old new first due = (part rest : List ℕ) × (rest ≢ []) × (due �
 
 -- The sink failed at a statement of the deck, or in the report of a deck that ended at it. It took the records that ended until there,
 -- and then a front of what was to be written next, and not all of it; and the files are left as they are there.
-pub record ToldWrite (deck : Deck) (trace : Bool) (files : Files) (Tells : Type 0) (old new : List ℕ) (left : Holdings) (before now : ℕ) : Type 0 where
+pub record CutBySink (deck : Deck) (trace : Bool) (files : Files) (Tells : Type 0) (old new : List ℕ) (left : Holdings) (before now : ℕ) : Type 0 where
   pub comes : ComesTo deck files
   pub reach : Reach
   pub may : MayReach reach deck.variables comes.statement comes.before

@@ -1,5 +1,5 @@
 -- What the steps of carrying out a deck leave: its disk, its sink and what is answered.
-use Rattle.std.specs.Prelude.{◌≡◌, ◌⊎◌, ◌↔◌, ◌≤◌, ◌++◌, ℕ, Bool, true, false, List, Result, Ok, Err, Some, None, IfOk, IfErr, slice_get}
+use Rattle.std.specs.Prelude.{◌≡◌, ◌≢◌, ◌⊎◌, ◌↔◌, ◌≤◌, ◌++◌, ℕ, Bool, true, false, List, Result, Ok, Err, Some, None, IfOk, IfErr, slice_get}
 use Rattle.std.specs.FinSet as set
 use Rattle.fj_outside.specs.Faults.{Rose}
 use Rattle.fj_outside.specs.Holdings.{Holdings}
@@ -20,9 +20,11 @@ use Rattle.fj_turns.specs.Serving.{over_bays}
 use Rattle.fj_pending.specs.Plain.{tells_of}
 use Rattle.fj_items.specs.declared.lost.Lost.TheVariants.{Sink, Disk, Unfit}
 use Rattle.fj_units.specs.Files.{files_of}
+use Rattle.fj_units.specs.Having.{HaveFiles}
 use Rattle.fj_units.specs.Returning.{IsAsDue}
 use Rattle.fj_closing.specs.Closing.{AreSeated, AreNamed, IfClear, OthersRun}
 use Rattle.fj_closing.specs.Finding.{IsLeftBehind, OfEach, AreSpared}
+use Rattle.fj_closing.specs.Holding.{HoldUnits}
 use Rattle.fj_closing.specs.Losing.{may_tell}
 use Rattle.fj_report.specs.declared.status.Status.{Status}
 use Rattle.fj_report.specs.declared.status.Status.TheVariants.{WriteFault, DiskFault, Memory}
@@ -30,7 +32,7 @@ use Rattle.fj_runner.specs.Machine.{ending_of}
 use Rattle.fj_runner.specs.declared.ending.Ending.{Ending}
 use Rattle.fj_runner.specs.declared.machine.Machine.{Machine}
 use Rattle.fj_job.specs.Answers.{IsAnswer, IsOfRun, HasCause, IfFault, IfWriteFault}
-use Rattle.fj_job.specs.Cut.{Carried as At, TookRun, TookReport, IsOfReport, ToldFault, ToldWrite}
+use Rattle.fj_job.specs.Cut.{Carried as At, TookRun, TookReport, IsOfReport, CutByDisk, CutBySink}
 use Rattle.fj_job.specs.Cutting.{IsLeftAt, IsLeftBegun, TookSome}
 use Rattle.fj_job.specs.Concluding.{HasEnded, IsReplied, IsResult, run_text, fault_text}
 use Rattle.fj_job.specs.declared.ending.Carried.{Carried}
@@ -59,6 +61,8 @@ pub record IsSettled {D F E J A : Type 0} {ghosts : Ghosts F} (tells : D → Typ
   pub of_disk : it.settled ≡ Err Disk → (m.tally.lost ≡ Some Disk) ⊎ Rose (count disk) (count disk')
   pub alone : it.settled ≡ Err Disk → (m.tally.lost ≡ None) ⊎ (m.tally.lost ≡ Some Disk)
   pub in_use : tells disk → (it.settled ≡ Err Unfit) ⊎ ((held disk').in_use ≡ set.empty)
+  -- where the machine is not over, and slots and names are those of its units, all of it fits
+  pub whole : m.tally.over ≡ false → HoldUnits meaning rack m.state.core.units → HaveFiles m.state.core.names m.state.core.units → it.settled ≢ Err Unfit
   pub telling : tells disk ↔ tells disk'
   pub later : count disk ≤ count disk'
 
@@ -78,6 +82,8 @@ pub record IsCarriedOut {W D F E : Type 0} (tells_out : W → Type 0) (taken : W
   pub sink : IfOk result (λ it. it.settled ≡ Err Sink → Rose (count_out out) (count_out out'))
   pub of_disk : IfOk result (λ it. it.settled ≡ Err Disk → Rose (count disk) (count disk'))
   pub in_use : tells disk → IfOk result (λ it. (it.settled ≡ Err Unfit) ⊎ ((held disk').in_use ≡ set.empty))
+  -- a deck that came to its end is not given up because something does not fit
+  pub whole : tells disk → IfOk result (λ it. it.left.over ≡ false → it.settled ≢ Err Unfit)
   pub unbegun : IfErr result (λ _. (disk' ≡ disk) × (out' ≡ out))
   pub telling_out : tells_out out ↔ tells_out out'
   pub telling : tells disk ↔ tells disk'
@@ -85,7 +91,7 @@ pub record IsCarriedOut {W D F E : Type 0} (tells_out : W → Type 0) (taken : W
   pub later : count disk ≤ count disk'
 
 -- the fault of the line of the statement at hand, and what the sink took of it
-pub record IsFaultTold {F : Type 0} (trace : Bool) (it : Carried F) (line : ℕ) (Tells : Type 0) (old new : List ℕ) (Failed : Type 0) : Type 0 where
+pub record IsFaultReported {F : Type 0} (trace : Bool) (it : Carried F) (line : ℕ) (Tells : Type 0) (old new : List ℕ) (Failed : Type 0) : Type 0 where
   pub settled : it.settled ≡ Err Disk
   pub line_is : (lined : Lined) → slice_get it.left.deck.statements it.left.at ≡ Some lined → line ≡ lined.line
   pub taken : Tells → let text = fault_text trace line it.left.core.output (tells_of it.left.core.tells) in (new ≡ old ++ text) ⊎ (Failed × TakesPart old new text)
@@ -107,12 +113,12 @@ pub record IsEndBegun {F : Type 0} (trace : Bool) (it : Carried F) (Took : List 
   pub taken : Took (open_record it.left.core.output ++ run_text it.left.deck.variables trace (ending_of ending) it.left.core)
 
 -- what the sink took of a report
-abbrev pub IsFrontTold : {F : Type 0} → Bool → Carried F → Status → List ℕ → List ℕ → Type 0
-IsFrontTold trace it status old new = (new ≡ old) ⊎ IsFaultBegun trace it status old new ⊎ IsEndBegun trace it (TakesFront old new)
+abbrev pub IsFrontReported : {F : Type 0} → Bool → Carried F → Status → List ℕ → List ℕ → Type 0
+IsFrontReported trace it status old new = (new ≡ old) ⊎ IsFaultBegun trace it status old new ⊎ IsEndBegun trace it (TakesFront old new)
 
 -- where it failed: before the report, and it took nothing of that; or in the report, and it took not all of it
-abbrev pub IsWriteTold : {F : Type 0} → Bool → Carried F → Type 0 → List ℕ → List ℕ → Type 0
-IsWriteTold trace it Tells old new = ((it.settled ≡ Err Sink) × (new ≡ old)) ⊎ IsEndBegun trace it (λ due. Tells → TakesPart old new due)
+abbrev pub IsWriteReported : {F : Type 0} → Bool → Carried F → Type 0 → List ℕ → List ℕ → Type 0
+IsWriteReported trace it Tells old new = ((it.settled ≡ Err Sink) × (new ≡ old)) ⊎ IsEndBegun trace it (λ due. Tells → TakesPart old new due)
 
 -- What was carried out is reported.
 pub record IsConcluded {W F E : Type 0} (tells_out : W → Type 0) (taken : W → List ℕ) (count_out : W → ℕ)
@@ -122,9 +128,9 @@ pub record IsConcluded {W F E : Type 0} (tells_out : W → Type 0) (taken : W �
   pub begun : IfErr carried (λ _. status ≡ Memory)
   pub of_run : IsOfRun status
   pub unfit : IfOk carried (λ it. it.settled ≡ Err Unfit → status ≡ Memory)
-  pub fault : IfOk carried (λ it. (line : ℕ) → status ≡ DiskFault line → IsFaultTold trace it line (tells_out out) (taken out) (taken out') (Rose (count_out out) (count_out out')))
-  pub written : status ≡ WriteFault → IfOk carried (λ it. IsWriteTold trace it (tells_out out) (taken out) (taken out'))
-  pub front : tells_out out → IfOk carried (λ it. IsFrontTold trace it status (taken out) (taken out'))
+  pub fault : IfOk carried (λ it. (line : ℕ) → status ≡ DiskFault line → IsFaultReported trace it line (tells_out out) (taken out) (taken out') (Rose (count_out out) (count_out out')))
+  pub written : status ≡ WriteFault → IfOk carried (λ it. IsWriteReported trace it (tells_out out) (taken out) (taken out'))
+  pub front : tells_out out → IfOk carried (λ it. IsFrontReported trace it status (taken out) (taken out'))
   pub silent : IfErr carried (λ _. out' ≡ out)
   pub cause : HasCause ⊥ ((IfOk carried (λ it. it.settled ≡ Err Sink)) ⊎ Rose (count_out out) (count_out out')) (IfOk carried (λ it. it.settled ≡ Err Disk)) status
   pub telling_out : tells_out out ↔ tells_out out'
@@ -134,9 +140,9 @@ pub record IsConcluded {W F E : Type 0} (tells_out : W → Type 0) (taken : W �
 pub record IsExecuted {W D : Type 0} (tells_out : W → Type 0) (taken : W → List ℕ) (count_out : W → ℕ) (tells : D → Type 0) (held : D → Holdings) (count refusals : D → ℕ)
     (deck : Deck) (trace : Bool) (out : W) (disk : D) (out' : W) (disk' : D) (status : Status) : Type 0 where
   pub replied : IsAnswer status → tells disk → IsReplied deck trace (held disk).files status (held disk').files (λ output. tells_out out → taken out' ≡ taken out ++ output)
-  pub fault : tells disk → IfFault status (λ line. ToldFault deck trace (files_of (held disk)) line (tells_out out) (taken out) (taken out') (Rose (count_out out) (count_out out'))
+  pub fault : tells disk → IfFault status (λ line. CutByDisk deck trace (files_of (held disk)) line (tells_out out) (taken out) (taken out') (Rose (count_out out) (count_out out'))
       (held disk') (refusals disk) (refusals disk'))
-  pub written : tells disk → IfWriteFault status (ToldWrite deck trace (files_of (held disk)) (tells_out out) (taken out) (taken out') (held disk') (refusals disk) (refusals disk'))
+  pub written : tells disk → IfWriteFault status (CutBySink deck trace (files_of (held disk)) (tells_out out) (taken out) (taken out') (held disk') (refusals disk) (refusals disk'))
   pub front : tells disk → tells_out out → TookRun deck trace (files_of (held disk)) (taken out) (taken out')
       ⊎ (Rose (count disk) (count disk') × TookReport deck trace (files_of (held disk)) status (taken out) (taken out'))
   pub of_run : IsOfRun status

@@ -12,15 +12,15 @@ use Rattle.fj_plain.specs.Statement.{Stated, step}
 use Rattle.fj_plain.specs.Telling.{is_asynchronous}
 use Rattle.fj_items.specs.Handing.{whole_records}
 use Rattle.fj_acts.specs.Calling.{calls_disk}
-use Rattle.fj_job.specs.Cut.{Carried, ComesTo, ToldWrite, IsLearnt}
+use Rattle.fj_job.specs.Cut.{Carried, ComesTo, CutBySink, IsLearnt}
 
 -- two statements of a deck to which the execution comes are at two lines
 abbrev pub LinesNameStatements : Type 0
 LinesNameStatements = (text : List ℕ) (deck : Deck) → IsDeck text deck → (files : Files) (comes other : ComesTo deck files) → comes.statement.0.line ≡ other.statement.0.line → comes.index ≡ other.index
 
--- what the sink took is told
-abbrev pub IsTold : Type 0
-IsTold = Unit {0}
+-- the sink tells what it took
+abbrev pub SinkTells : Type 0
+SinkTells = Unit {0}
 
 -- a sink took whole all records that the statement and those before it end
 abbrev pub TookThrough : List ℕ → List ℕ → (deck : Deck) (files : Files) → ComesTo deck files → Type 0
@@ -29,15 +29,15 @@ TookThrough old new deck files comes = (more : List ℕ) × (new ≡ old ++ (who
 -- Where a sink has failed, the statement is the first one that ends a record which was not taken whole; or all
 -- were, and it is the one at which the deck ended.
 abbrev pub WriteFaultsAreFirst : Type 0
-WriteFaultsAreFirst = (deck : Deck) (trace : Bool) (files : Files) (old new : List ℕ) (left : Holdings) (before now : ℕ) (fault : ToldWrite deck trace files IsTold old new left before now)
+WriteFaultsAreFirst = (deck : Deck) (trace : Bool) (files : Files) (old new : List ℕ) (left : Holdings) (before now : ℕ) (fault : CutBySink deck trace files SinkTells old new left before now)
     → ((comes : ComesTo deck files) → comes.index < fault.comes.index → TookThrough old new deck files comes)
     × (((fault.reach ≢ Carried) × (TookThrough old new deck files fault.comes → ⊥))
     ⊎ ((fault.reach ≡ Carried) × TookThrough old new deck files fault.comes × IsSome (step deck.variables fault.comes.statement fault.comes.before).1))
 
 -- What a sink took fits one fault of it: that statement, or the report behind it.
 abbrev pub OneWriteFault : Type 0
-OneWriteFault = (deck : Deck) (trace : Bool) (files : Files) (old new : List ℕ) (left left' : Holdings) (before now before' now' : ℕ) (fault : ToldWrite deck trace files IsTold old new left before now)
-    (other : ToldWrite deck trace files IsTold old new left' before' now')
+OneWriteFault = (deck : Deck) (trace : Bool) (files : Files) (old new : List ℕ) (left left' : Holdings) (before now before' now' : ℕ) (fault : CutBySink deck trace files SinkTells old new left before now)
+    (other : CutBySink deck trace files SinkTells old new left' before' now')
     → (fault.comes.index ≡ other.comes.index) × ((fault.reach ≡ Carried) ↔ (other.reach ≡ Carried))
 
 -- ---- statements that learn of no fault of the disk

@@ -4,6 +4,7 @@ ghost use Rattle.fj_world.specs.Alone.{AllHome};
 ghost use Rattle.fj_bay.specs.Meaning.{bay_meaning};
 ghost use Rattle.fj_units.specs.Names.{AreInUse};
 ghost use Rattle.fj_units.specs.Files.{files_of};
+ghost use Rattle.fj_runner.specs.Going.{IsGoing};
 ghost use Rattle.fj_runner.specs.Leaving.{Leaves};
 ghost use Rattle.fj_runner.specs.declared.ending.Ending.{Ending};
 ghost use Rattle.fj_statement.specs.Sound.{IsSound};
@@ -36,6 +37,7 @@ pub fn carry<W: Sink, D: Disk>(
     requires fresh { AreFresh (bay_meaning D.File.told D.File.bytes D.File.count) slots.old.slots }
     requires names { D.tells disk.old → AreInUse machine.old.state.core.names (D.held disk.old).in_use }
     ensures names { D.tells disk.old → AreInUse machine.new.state.core.names (D.held disk.new).in_use }
+    ensures on { ∥ (machine.new.tally.over ≡ false → IsGoing machine.new) ∥₁ }
     ensures home { AllHome slots.new }
     ensures same { length slots.new.slots ≡ length slots.old.slots }
     ensures leaves { Leaves W.tells W.taken W.count D.tells D.count D.refusals out.old disk.old machine.old out.new disk.new machine.new }
@@ -71,6 +73,7 @@ where
     requires fresh { AreFresh (bay_meaning D.File.told D.File.bytes D.File.count) slots.old.slots }
     requires names { D.tells disk.old → AreInUse machine.old.state.core.names (D.held disk.old).in_use }
     ensures names { D.tells disk.old → AreInUse machine.new.state.core.names (D.held disk.new).in_use }
+    ensures on { ∥ (machine.new.tally.over ≡ false → IsGoing machine.new) ∥₁ }
     ensures home { AllHome slots.new }
     ensures same { length slots.new.slots ≡ length slots.old.slots }
     ensures leaves { Leaves W.tells W.taken W.count D.tells D.count D.refusals out.old disk.old machine.old out.new disk.new machine.new }

@@ -1,5 +1,5 @@
 // A deck is carried out on slots, its files go back to the disk, and it is reported.
-ghost use Rattle.std.specs.Prelude.{◌≡◌, ◌⊎◌, ◌≤◌, ◌++◌, ◌↔◌, ℕ, [], Some, None, Ok, Err, IfNone, IfOk, IfErr, IfSome, OnOk, true, false, length, slice_get, vec_capacity, List};
+ghost use Rattle.std.specs.Prelude.{◌≡◌, ◌≢◌, ◌⊎◌, ◌≤◌, ◌++◌, ◌↔◌, ℕ, [], Some, None, Ok, Err, IfNone, IfOk, IfErr, IfSome, OnOk, true, false, length, slice_get, vec_capacity, List};
 ghost use Rattle.std.specs.FinSet as set;
 ghost use Rattle.fj_outside.specs.Faults.{Rose};
 ghost use Rattle.fj_statement.specs.Sound.{IsSound};
@@ -15,21 +15,23 @@ ghost use Rattle.fj_items.specs.Handing.{open_record, TakesFront, TakesPart};
 ghost use Rattle.fj_pending.specs.Plain.{tells_of};
 ghost use Rattle.fj_units.specs.Names.{AreInUse};
 ghost use Rattle.fj_units.specs.Files.{files_of};
+ghost use Rattle.fj_units.specs.Having.{HaveFiles};
 ghost use Rattle.fj_runner.specs.Machine.{ending_of};
 ghost use Rattle.fj_units.specs.Returning.{IsAsDue};
 ghost use Rattle.fj_closing.specs.Losing.{is_fault, may_tell};
 ghost use Rattle.fj_closing.specs.Closing.{AreSeated, AreNamed, IfClear, OthersRun};
 ghost use Rattle.fj_closing.specs.Finding.{IsLeftBehind, OfEach, AreSpared};
+ghost use Rattle.fj_closing.specs.Holding.{HoldUnits};
 ghost use Rattle.fj_job.specs.Answers.{IsAnswer, IsLost, IsOfRun, HasCause};
 ghost use Rattle.fj_job.specs.Reply.{status_of};
 ghost use Rattle.fj_job.specs.Concluding.{HasEnded, run_text, fault_text};
-ghost use Rattle.fj_job.specs.Executing.{IsSettled, IsCarriedOut, IsConcluded, IsExecuted, IsFaultTold, IsFrontTold, IsWriteTold};
+ghost use Rattle.fj_job.specs.Executing.{IsSettled, IsCarriedOut, IsConcluded, IsExecuted, IsFaultReported, IsFrontReported, IsWriteReported};
 
 use crate::carrying::{carry, carry_with};
 use crate::ready::{Ready, ready_for};
 use crate::report::{fault_report, run_report, status_of};
-use crate::telling::tell_behind;
 use crate::workers::workers_for;
+use crate::writing::write_behind;
 use fj_acts::Core;
 use fj_bay::Bay;
 use fj_closing::{Remains, finish};
@@ -52,6 +54,7 @@ fn first_lost(lost: Option<Lost>, closed: Result<(), Lost>) -> Option<Lost>
     ensures disk { result ≡ Some Lost.Disk → (lost ≡ Some Lost.Disk) ⊎ (closed ≡ Err Lost.Disk) }
     ensures alone { result ≡ Some Lost.Disk → (lost ≡ None) ⊎ (lost ≡ Some Lost.Disk) }
     ensures fits { IfSome result (λ first. is_fault first ≡ true → may_tell closed ≡ true) }
+    ensures unfit { result ≡ Some Lost.Unfit → (lost ≡ Some Lost.Unfit) ⊎ (closed ≡ Err Lost.Unfit) }
     ensures ok { closed ≡ Ok tt → result ≡ lost }
 {
     match closed {
@@ -82,7 +85,7 @@ fn line_at(statements: &[Lined], at: usize) -> u32
 }
 
 /// Reports a deck that ended.
-fn tell_run<W: Sink>(
+fn write_run<W: Sink>(
     alloc: Global,
     variables: &[Variable],
     trace: bool,
@@ -103,7 +106,7 @@ fn tell_run<W: Sink>(
     ensures later { W.count out.old ≤ W.count out.new }
 {
     match run_report(alloc, variables, trace, ending, core) {
-        Ok(text) => match tell_behind(&mut core.output, text.bytes(), out) {
+        Ok(text) => match write_behind(&mut core.output, text.bytes(), out) {
             Ok(()) => status_of(ending),
             Err(lost) => lost,
         },
@@ -112,7 +115,7 @@ fn tell_run<W: Sink>(
 }
 
 /// Reports a fault of the disk at a statement. It stays the answer where the sink fails then.
-fn tell_fault<W: Sink>(
+fn write_fault<W: Sink>(
     alloc: Global,
     line: u32,
     trace: bool,
@@ -128,7 +131,7 @@ fn tell_fault<W: Sink>(
     ensures later { W.count out.old ≤ W.count out.new }
 {
     match fault_report(alloc, trace, line, core) {
-        Ok(text) => match tell_behind(&mut core.output, text.bytes(), out) {
+        Ok(text) => match write_behind(&mut core.output, text.bytes(), out) {
             Ok(()) | Err(Status::WriteFault) => Status::DiskFault { stmt: line },
             Err(_) => Status::Memory,
         },
@@ -160,6 +163,7 @@ fn give_kept<D: Disk>(
     ensures names { D.tells disk.old → AreInUse names.new (D.held disk.new).in_use }
     ensures none { OnOk result (disk.new ≡ disk.old) }
     ensures unfit { IfErr result (λ lost. lost ≡ Lost.Unfit) }
+    ensures nothing { kept ≡ None → (result ≡ Ok tt) × (names.new ≡ names.old) }
     ensures own { D.tells disk.old → D.refusals disk.old ≤ D.refusals disk.new }
     ensures telling { D.tells disk.old ↔ D.tells disk.new }
     ensures later { D.count disk.old ≤ D.count disk.new }
@@ -205,6 +209,8 @@ fn give_back<D: Disk>(
     ensures disk { result ≡ Err Lost.Disk → (left.old.lost ≡ Some Lost.Disk) ⊎ Rose (D.count disk.old) (D.count disk.new) }
     ensures alone { result ≡ Err Lost.Disk → (left.old.lost ≡ None) ⊎ (left.old.lost ≡ Some Lost.Disk) }
     ensures in_use { D.tells disk.old → (result ≡ Err Lost.Unfit) ⊎ ((D.held disk.new).in_use ≡ set.empty) }
+    ensures whole { left.old.lost ≡ None → left.old.kept ≡ None → HoldUnits (bay_meaning D.File.told D.File.bytes D.File.count) slots left.old.core.units
+        → HaveFiles left.old.core.names left.old.core.units → result ≢ Err Lost.Unfit }
     ensures telling { D.tells disk.old ↔ D.tells disk.new }
     ensures later { D.count disk.old ≤ D.count disk.new }
 {
@@ -301,9 +307,9 @@ fn report<F: FileStore, W: Sink>(alloc: Global, trace: bool, it: Carried<F>, out
     ensures of_run { IsOfRun result }
     ensures unfit { it.settled ≡ Err Lost.Unfit → result ≡ Status.Memory }
     ensures fault { (line : ℕ) → result ≡ Status.DiskFault line
-        → IsFaultTold trace it line (W.tells out.old) (W.taken out.old) (W.taken out.new) (Rose (W.count out.old) (W.count out.new)) }
-    ensures written { result ≡ Status.WriteFault → IsWriteTold trace it (W.tells out.old) (W.taken out.old) (W.taken out.new) }
-    ensures front { W.tells out.old → IsFrontTold trace it result (W.taken out.old) (W.taken out.new) }
+        → IsFaultReported trace it line (W.tells out.old) (W.taken out.old) (W.taken out.new) (Rose (W.count out.old) (W.count out.new)) }
+    ensures written { result ≡ Status.WriteFault → IsWriteReported trace it (W.tells out.old) (W.taken out.old) (W.taken out.new) }
+    ensures front { W.tells out.old → IsFrontReported trace it result (W.taken out.old) (W.taken out.new) }
     ensures cause { HasCause ⊥ ((it.settled ≡ Err Lost.Sink) ⊎ Rose (W.count out.old) (W.count out.new)) (it.settled ≡ Err Lost.Disk) result }
     ensures telling { W.tells out.old ↔ W.tells out.new }
     ensures later { W.count out.old ≤ W.count out.new }
@@ -312,10 +318,10 @@ fn report<F: FileStore, W: Sink>(alloc: Global, trace: bool, it: Carried<F>, out
     let mut left = left;
     match settled {
         Err(Lost::Sink) => Status::WriteFault,
-        Err(Lost::Disk) => tell_fault(alloc, line_of(&left), trace, &mut left.core, out),
+        Err(Lost::Disk) => write_fault(alloc, line_of(&left), trace, &mut left.core, out),
         Err(Lost::Memory(_) | Lost::Unfit) => Status::Memory,
         Ok(()) => match ending_of(&left) {
-            Some(ending) => tell_run(
+            Some(ending) => write_run(
                 alloc,
                 left.deck.variables.as_slice(),
                 trace,

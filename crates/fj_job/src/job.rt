@@ -1,7 +1,7 @@
 // The top calls: from the words and the text of a deck to its report and its files.
 ghost use Rattle.std.specs.Prelude.{◌≡◌};
 ghost use Rattle.std.specs.FinSet as set;
-ghost use Rattle.fj_job.specs.Answers.{Told};
+ghost use Rattle.fj_job.specs.Answers.{HasRun};
 ghost use Rattle.fj_job.specs.Seen.{seen, on_disk};
 ghost use Rattle.fj_job.specs.Task.{asked, asked_alone};
 
@@ -23,7 +23,7 @@ pub fn alone_job<R: Source, W: Sink, D: Disk>(
     disk: &mut D,
 ) -> Status
     requires { D.tells disk.old → (D.held disk.old).in_use ≡ set.empty }
-    ensures { Told (asked_alone words.now) result (seen R.tells R.left R.count deck.old deck.new) (seen W.tells W.taken W.count out.old out.new)
+    ensures { HasRun (asked_alone words.now) result (seen R.tells R.left R.count deck.old deck.new) (seen W.tells W.taken W.count out.old out.new)
         (seen D.tells (on_disk D.held D.refusals) D.count disk.old disk.new) }
 {
     let Ok(form) = read_words(alloc, words) else {
@@ -52,7 +52,7 @@ pub fn run_job<Rt: Threads + Wait + Sync, R: Source, W: Sink + Send, D: Disk + S
 where
     D::File: Send,
     requires { D.tells disk.old → (D.held disk.old).in_use ≡ set.empty }
-    ensures { Told (asked words.now) result (seen R.tells R.left R.count deck.old deck.new) (seen W.tells W.taken W.count out.old out.new)
+    ensures { HasRun (asked words.now) result (seen R.tells R.left R.count deck.old deck.new) (seen W.tells W.taken W.count out.old out.new)
         (seen D.tells (on_disk D.held D.refusals) D.count disk.old disk.new) }
 {
     let Ok(form) = read_words(alloc, words) else {

@@ -11,11 +11,11 @@ mod ready;
 mod report;
 mod streams;
 mod task;
-mod telling;
 #[cfg(test)]
 mod tests;
 mod text;
 mod workers;
+mod writing;
 
 pub use fj_report::Status;
 pub use fj_statement::Reason;

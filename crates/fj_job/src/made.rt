@@ -16,8 +16,8 @@ ghost use Rattle.fj_job.specs.Making.{made_text, HasMade, IsMadeFront, IsMadeRep
 use crate::ending::{Carried, carry_out, ending_of};
 use crate::report::{run_report, status_of, summary_report};
 use crate::task::Task;
-use crate::telling::{tell, tell_behind};
 use crate::text::refuse_line;
+use crate::writing::{write_behind, write_text};
 use fj_deck::{DeckFault, parse_deck};
 use fj_gen::{byte_sum, generate};
 use fj_items::Lost;
@@ -123,8 +123,8 @@ fn made_report(
     }
 }
 
-/// Tells what a deck that was made came to.
-fn tell_made<W: Sink>(
+/// Writes what a deck that was made came to.
+fn write_made<W: Sink>(
     alloc: Global,
     seed: u32,
     count: u32,
@@ -144,7 +144,7 @@ fn tell_made<W: Sink>(
     ensures later { W.count out.old ≤ W.count out.new }
 {
     match made_report(alloc, seed, count, ending, left, disk) {
-        Ok(text) => match tell_behind(&mut left.core.output, text.bytes(), out) {
+        Ok(text) => match write_behind(&mut left.core.output, text.bytes(), out) {
             Ok(()) => status_of(ending),
             Err(lost) => lost,
         },
@@ -176,7 +176,7 @@ fn report_made<W: Sink>(
         Err(Lost::Sink) => Status::WriteFault,
         Err(Lost::Disk | Lost::Memory(_) | Lost::Unfit) => Status::Memory,
         Ok(()) => match ending_of(&left) {
-            Some(ending) => tell_made(alloc, seed, count, ending, &mut left, disk, out),
+            Some(ending) => write_made(alloc, seed, count, ending, &mut left, disk, out),
             None => Status::Memory,
         },
     }
@@ -232,7 +232,7 @@ fn make_and_show<W: Sink>(alloc: Global, seed: u32, count: u32, out: &mut W) -> 
     ensures later { W.count out.old ≤ W.count out.new }
 {
     match generate(alloc, seed, count) {
-        Ok(text) => match tell(out, text.bytes()) {
+        Ok(text) => match write_text(out, text.bytes()) {
             Ok(()) => Status::Ended,
             Err(lost) => lost,
         },

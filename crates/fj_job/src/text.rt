@@ -13,7 +13,7 @@ ghost use Rattle.fj_job.specs.Reply.{IsRefusal, files_in};
 
 use crate::report::{check_report, status_report};
 use crate::task::Task;
-use crate::telling::tell;
+use crate::writing::write_text;
 use fj_deck::{DeckFault, parse_deck};
 use fj_outside::Sink;
 use fj_report::{Status, usage};
@@ -30,7 +30,7 @@ pub fn refuse_line<W: Sink>(alloc: Global, line: u32, reason: Reason, out: &mut 
     ensures later { W.count out.old ≤ W.count out.new }
 {
     match status_report(alloc, Status::DeckRefused { line, reason }) {
-        Ok(text) => match tell(out, text.bytes()) {
+        Ok(text) => match write_text(out, text.bytes()) {
             Ok(()) => Status::DeckRefused { line, reason },
             Err(lost) => lost,
         },
@@ -47,7 +47,7 @@ pub fn refuse_words<W: Sink>(out: &mut W) -> Status
     ensures telling { W.tells out.old ↔ W.tells out.new }
     ensures later { W.count out.old ≤ W.count out.new }
 {
-    match tell(out, usage()) {
+    match write_text(out, usage()) {
         Ok(()) => Status::Usage,
         Err(lost) => lost,
     }
@@ -80,7 +80,7 @@ fn check_deck<W: Sink>(alloc: Global, deck: &Deck, out: &mut W) -> Status
     ensures later { W.count out.old ≤ W.count out.new }
 {
     match check_report(alloc, deck.statements.len()) {
-        Ok(text) => match tell(out, text.bytes()) {
+        Ok(text) => match write_text(out, text.bytes()) {
             Ok(()) => Status::Ended,
             Err(lost) => lost,
         },

@@ -1,11 +1,15 @@
 -- The items that are left, one by one.
 use Rattle.std.proofs.Common.{◌≡◌, ℕ, zero, suc, ◌+◌, ◌-◌, ◌≤◌, ◌<◌, List, [], ◌∷◌, ◌++◌, length, take, drop, get_or, slice_get, Option, Some, None, refl, sym, ap, ◌∙◌, arith}
-use Rattle.std.proofs.lemmas.List.{at_drop_more, at_drop_all, take_more, take_rest, take-append-drop, map-append, append-nil}
-use Rattle.std.proofs.lemmas.Grind.{flat_map-append}
+use Rattle.std.specs.List.{flat_map, range_with_len}
+use Rattle.std.proofs.lemmas.List.{at_drop_more, at_drop_all, take_rest, take-append-drop, map-append}
+use Rattle.fj_value.specs.declared.kind.Kind.{Kind}
+use Rattle.fj_value.specs.declared.place.Place.{Place}
 use Rattle.fj_value.specs.declared.value.Value.{Value}
 use Rattle.fj_value.specs.declared.value.Cell.{Cell}
 use Rattle.fj_list.specs.declared.items.Run.{Run}
-use Rattle.fj_list.specs.Items.{in_cell, in_cells, in_each, values_of, of_kind, in_runs, in_runs_from}
+use Rattle.fj_list.specs.Items.{in_cell, in_cells, values_of, of_kind, in_runs, in_runs_from}
+use Rattle.fj_list.specs.Load.{row_cells}
+use Rattle.fj_list.proofs.LoadLemmas.{by_number}
 
 pub some_there : (xs : List Cell) (i : ℕ) (d : Cell) → i < length xs → slice_get xs i ≡ Some (get_or xs i d)
 some_there [] i d h = absurd (omega arith)
@@ -25,32 +29,25 @@ cells_more cells order at o h e = at_drop_more (in_cells cells) order at 0 h ∙
 pub cells_all : (cells : List Cell) (order : List ℕ) (at : ℕ) → length order ≤ at → in_cells cells (drop at order) ≡ []
 cells_all cells order at h = at_drop_all (in_cells cells) order at h
 
--- ---- cells with one item each
+-- ---- a row
 
-each_more : (cells : List Cell) (i : ℕ) → i < length cells → in_each (take (suc i) cells) ≡ in_each (take i cells) ++ in_cell (slice_get cells i)
-each_more [] i h = absurd (omega arith)
-each_more (cell ∷ cells) zero h = refl
-each_more (cell ∷ cells) (suc i) h = ap (λ l. (cell.kind, cell.value) ∷ l) (each_more cells i (omega arith))
+-- so many of its items, and the others
+pub row_cut : (kind first : Kind) (values all : List Value) (count : ℕ) → first ≡ kind → all ≡ values
+    → of_kind kind values ≡ of_kind first (take count all) ++ of_kind kind (take (length values - count) (drop count values))
+row_cut kind first values all count same is =
+    ap (of_kind kind) (sym (take-append-drop count values))
+    ∙ map-append (λ v. (kind, v)) (take count values) (drop count values)
+    ∙ ap (λ l. of_kind kind (take count values) ++ of_kind kind l) (sym (take_rest values count))
+    ∙ ap (λ l. of_kind kind (take count l) ++ of_kind kind (take (length values - count) (drop count values))) (sym is)
+    ∙ ap (λ k. of_kind k (take count all) ++ of_kind kind (take (length values - count) (drop count values))) (sym same)
 
--- the cells in order so far
-pub in_order_more : (cells : List Cell) (order : List ℕ) (i : ℕ) → i < length order → i < length cells → get_or order i 0 ≡ i → in_cells cells (take i order) ≡ in_each (take i cells)
-    → in_cells cells (take (i + 1) order) ≡ in_each (take (i + 1) cells)
-in_order_more cells order i h k same before =
-    let next : suc i ≡ i + 1 = omega arith in
-    ap (in_cells cells) (take_more order i 0 h)
-    ∙ flat_map-append (λ at. in_cell (slice_get cells at)) (take i order) (get_or order i 0 ∷ [])
-    ∙ ap (λ l. l ++ in_cells cells (get_or order i 0 ∷ [])) before
-    ∙ ap (λ n. in_each (take i cells) ++ in_cells cells (n ∷ [])) same
-    ∙ ap (λ l. in_each (take i cells) ++ l) (append-nil (in_cell (slice_get cells i)))
-    ∙ sym (each_more cells i k)
-    ∙ ap (λ n. in_each (take n cells)) next
+in_row : (place : Place) (kind : Kind) (values : List Value) → flat_map (λ cell. in_cell (Some cell)) (row_cells place kind values) ≡ of_kind kind values
+in_row place kind [] = refl
+in_row place kind (v ∷ vs) = ap (λ l. (kind, v) ∷ l) (in_row (record place { index = place.index + 1 }) kind vs)
 
--- so many of them, and the others
-pub each_cut : (cells all : List Cell) (count : ℕ) → all ≡ cells → in_each all ≡ in_each (take count all) ++ in_each (take (length cells - count) (drop count cells))
-each_cut cells all count is =
-    ap in_each (sym (take-append-drop count all))
-    ∙ map-append (λ (cell : Cell). (cell.kind, cell.value)) (take count all) (drop count all)
-    ∙ ap (λ l. in_each (take count all) ++ in_each l) (ap (drop count) is ∙ sym (take_rest cells count))
+-- the cells of a row have its items
+pub row_is : (place : Place) (kind : Kind) (values : List Value) → in_cells (row_cells place kind values) (range_with_len 0 (length values)) ≡ of_kind kind values
+row_is place kind values = by_number in_cell [] place kind values ∙ in_row place kind values
 
 -- ---- runs
 

@@ -17,5 +17,6 @@ pub mod Constants
 pub mod ListLaws
 pub mod Integers
 pub mod ItemLemmas
+pub mod LoadLemmas
 pub mod Cutting
 pub mod MovedLemmas

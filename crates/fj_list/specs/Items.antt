@@ -2,6 +2,7 @@
 use Rattle.std.specs.Prelude.{ℕ, List, [], ◌∷◌, ◌++◌, map, drop, slice_get, Option, Some, None}
 use Rattle.std.specs.List.{flat_map}
 use Rattle.fj_value.specs.declared.kind.Kind.{Kind}
+use Rattle.fj_value.specs.declared.kind.Kind.TheVariants.{Logical}
 use Rattle.fj_value.specs.declared.value.Value.{Value}
 use Rattle.fj_value.specs.declared.value.Cell.{Cell}
 use Rattle.fj_list.specs.declared.moved.Moved.{Moved}
@@ -10,15 +11,11 @@ use Rattle.fj_list.specs.declared.items.Values.{Values}
 use Rattle.fj_list.specs.declared.items.Values.TheVariants.{One, Many}
 use Rattle.fj_list.specs.declared.items.Run.{Run}
 use Rattle.fj_list.specs.declared.items.OutputItems.{OutputItems}
-use Rattle.fj_list.specs.declared.items.OutputItems.TheVariants.{Each, Cells, Runs}
+use Rattle.fj_list.specs.declared.items.OutputItems.TheVariants.{Row, Cells, Runs}
 
 -- a value that is written, with its kind
 abbrev pub Output : Type 0
 Output = Kind × Value
-
--- of cells, each with one item
-abbrev pub in_each : List Cell → List Output
-in_each cells = map (λ (cell : Cell). (cell.kind, cell.value)) cells
 
 -- of cells, with the number of the cell of each item
 abbrev pub in_cell : Option Cell → List Output
@@ -52,14 +49,18 @@ in_runs_from at (run ∷ runs) = of_kind run.kind (drop at (values_of run.values
 
 -- the items that are left
 abbrev pub items_left : OutputItems → List Output
-items_left (Each cells) = in_each cells.now
+items_left (Row kind values) = of_kind kind values.now
 items_left (Cells cells order at) = in_cells cells.now (drop at order.now)
 items_left (Runs runs run at) = in_runs_from at (drop run runs.now)
 
--- the cells of the next items, where they have one each
-abbrev pub cells_ahead : OutputItems → List Cell
-cells_ahead (Each cells) = cells.now
-cells_ahead _ = []
+-- the kind and the values of the next items, where they are those of a row
+abbrev pub kind_ahead : OutputItems → Kind
+kind_ahead (Row kind values) = kind
+kind_ahead _ = Logical
+
+abbrev pub values_ahead : OutputItems → List Value
+values_ahead (Row kind values) = values.now
+values_ahead _ = []
 
 abbrev pub with_next : Option Item → List Output → List Output
 with_next None more = more

@@ -2,6 +2,7 @@ pub mod Records
 pub mod Moved
 pub mod ListText
 pub mod Items
+pub mod Load
 pub mod Listing
 pub mod Stream
 pub mod Constant

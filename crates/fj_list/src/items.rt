@@ -1,6 +1,6 @@
 // The items of an output that are still to be written.
 ghost use Rattle.std.specs.Prelude.{◌≡◌, ◌≤◌, ◌∷◌, ◌++◌, [], length, take, drop, nat_lt, IsTrue, IfSome, IfNone};
-ghost use Rattle.fj_list.specs.Items.{in_cells, in_each, cells_ahead, in_runs, in_runs_from, items_left, values_of, with_next};
+ghost use Rattle.fj_list.specs.Items.{in_cells, kind_ahead, values_ahead, of_kind, in_runs, in_runs_from, items_left, values_of, with_next};
 
 use fj_value::{Cell, Kind, Value};
 
@@ -28,8 +28,11 @@ pub struct Run<'a> {
 /// The items of an output that are left, in their order. They are borrowed.
 #[derive(Clone, Copy)]
 pub enum OutputItems<'a> {
-    /// Cells, each with one item, in their own order.
-    Each(&'a [Cell]),
+    /// The values of a row, each with one item.
+    Row {
+        kind: Kind,
+        values: &'a [Value],
+    },
     /// Cells, the number of the cell of each item, and how many of these numbers were taken.
     Cells {
         cells: &'a [Cell],
@@ -44,33 +47,15 @@ pub enum OutputItems<'a> {
     },
 }
 
-/// Whether the first cells have the items, one each, in their own order.
-fn is_in_order(cells: &[Cell], order: &[u32]) -> bool
-    ensures { IsTrue result → (length order.now ≤ length cells.now) × (in_cells cells.now order.now ≡ in_each (take (length order.now) cells.now)) }
-{
-    if order.len() > cells.len() {
-        return false;
-    }
-    for (i, number) in order.iter().enumerate() {
-        if *number as usize != i {
-            return false;
-        }
-    }
-    true
-}
-
-/// The item of the next cell.
+/// The next item of a row.
 #[inline]
-fn next_of_each<'a>(cells: &mut &'a [Cell]) -> Option<Item<'a>>
-    ensures items { with_next result (in_each cells.new.now) ≡ in_each cells.old.now }
-    ensures none { IfNone result (in_each cells.new.now ≡ []) }
+fn next_of_row<'a>(kind: Kind, values: &mut &'a [Value]) -> Option<Item<'a>>
+    ensures items { with_next result (of_kind kind values.new.now) ≡ of_kind kind values.old.now }
+    ensures none { IfNone result (of_kind kind values.new.now ≡ []) }
 {
-    let cell = cells.first()?;
-    *cells = &cells[1..];
-    Some(Item {
-        kind: cell.kind,
-        value: &cell.value,
-    })
+    let value = values.first()?;
+    *values = &values[1..];
+    Some(Item { kind, value })
 }
 
 /// Whether a number from a place on is that of a cell.
@@ -165,14 +150,18 @@ impl<'a> OutputItems<'a> {
     pub fn of_cells(cells: &'a [Cell], order: &'a [u32]) -> OutputItems<'a>
         ensures { items_left result ≡ in_cells cells.entry.now order.entry.now }
     {
-        if is_in_order(cells, order) {
-            return OutputItems::Each(&cells[..order.len()]);
-        }
         OutputItems::Cells {
             cells,
             order,
             at: 0,
         }
+    }
+
+    /// The values of a row.
+    pub fn of_row(kind: Kind, values: &'a [Value]) -> OutputItems<'a>
+        ensures { items_left result ≡ of_kind kind values.entry.now }
+    {
+        OutputItems::Row { kind, values }
     }
 
     /// The values of runs.
@@ -192,31 +181,32 @@ impl<'a> OutputItems<'a> {
         ensures { result ≡ nat_lt 0 (length (items_left self.now)) }
     {
         match self {
-            OutputItems::Each(cells) => !cells.is_empty(),
+            OutputItems::Row { kind: _, values } => !values.is_empty(),
             OutputItems::Cells { cells, order, at } => is_cell_left(cells, order, *at),
             OutputItems::Runs { runs, run, at } => is_value_left(runs, *run, *at),
         }
     }
 
-    /// The cells of the next items, where they have one each, in their own order.
+    /// The values of the next items, where they are those of a row, and their kind.
     #[inline]
-    pub fn ahead(&self) -> &'a [Cell]
-        ensures { result.now ≡ cells_ahead self.now }
+    pub fn ahead(&self) -> (Kind, &'a [Value])
+        ensures kind { result.0 ≡ kind_ahead self.now }
+        ensures values { result.1.now ≡ values_ahead self.now }
     {
         match self {
-            OutputItems::Each(cells) => cells,
-            OutputItems::Cells { .. } | OutputItems::Runs { .. } => &[],
+            OutputItems::Row { kind, values } => (*kind, values),
+            OutputItems::Cells { .. } | OutputItems::Runs { .. } => (Kind::Logical, &[]),
         }
     }
 
-    /// Takes the items of so many of these cells.
+    /// Takes so many of these items.
     #[inline]
     pub fn pass(&mut self, count: usize)
-        requires { count ≤ length (cells_ahead self.old) }
-        ensures { items_left self.old ≡ in_each (take count (cells_ahead self.old)) ++ items_left self.new }
+        requires { count ≤ length (values_ahead self.old) }
+        ensures { items_left self.old ≡ of_kind (kind_ahead self.old) (take count (values_ahead self.old)) ++ items_left self.new }
     {
-        if let OutputItems::Each(cells) = self {
-            *cells = &cells[count..];
+        if let OutputItems::Row { kind: _, values } = self {
+            *values = &values[count..];
         }
     }
 
@@ -227,7 +217,7 @@ impl<'a> OutputItems<'a> {
         ensures none { IfNone result (items_left self.new ≡ []) }
     {
         match self {
-            OutputItems::Each(cells) => next_of_each(cells),
+            OutputItems::Row { kind, values } => next_of_row(*kind, values),
             OutputItems::Cells { cells, order, at } => next_cell(cells, order, at),
             OutputItems::Runs { runs, run, at } => next_value(runs, run, at),
         }

@@ -4,6 +4,7 @@
 mod constant;
 mod items;
 mod laws;
+mod load;
 mod memory_records;
 mod moved;
 mod read;
@@ -21,8 +22,9 @@ pub use laws::{
     records_break_where_full, text_has_a_meaning, text_has_one_meaning, text_is_read_as_its_values,
     values_are_read_again,
 };
+pub use load::{Load, Shape, undefine};
 pub use memory_records::MemoryRecords;
-pub use moved::{Cells, GroupMember, Moved, Order};
+pub use moved::{Cells, GroupMember, Moved, Order, Row};
 pub use read::{define, read_list};
 pub use records::{More, Records, next_line};
 pub use scan::{

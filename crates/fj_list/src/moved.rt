@@ -1,5 +1,7 @@
 // The cells of a statement's items.
-use fj_value::{Cell, Items, Kind, Text};
+ghost use Rattle.std.specs.Prelude.{◌+◌, ◌<◌, length};
+
+use fj_value::{Cell, Items, Kind, Place, Text, Value};
 
 /// Cells, by their number from 0 on.
 pub type Cells = Items<Cell>;
@@ -14,6 +16,16 @@ pub struct Moved {
     pub cells: Cells,
     /// Each number is below the number of cells.
     pub order: Order,
+}
+
+/// Elements of a variable, one behind the other, each one item.
+#[derive(Debug, Drop)]
+pub struct Row {
+    /// The place of the first one.
+    pub first: Place,
+    pub kind: Kind,
+    pub values: Items<Value>,
+    ghost fits: { first.index + length values < 4294967297 },
 }
 
 /// A variable of a namelist group. Where it is a scalar its count is 1; an array may have the count 1 too.

@@ -23,7 +23,7 @@ use Rattle.fj_meaning.specs.Operands.{integer_operand, integer_place, meant, num
 use Rattle.fj_meaning.specs.Scope.{members}
 use Rattle.fj_meaning.specs.Sound.{HasOneForm, KeepsRules, RulesAreDecided}
 use Rattle.fj_meaning.specs.Transfer.{◌implies◌, assembled, can_be_read, changes_some, control_of, given, goes_together, is_allowed, is_explicit, is_list_directed, is_place, is_star, is_true, stands_alone}
-use Rattle.fj_syntax.proofs.TokenLemmas.{bound, some_is}
+use Rattle.fj_syntax.proofs.Holding.{bound, some_is}
 use Rattle.fj_meaning.proofs.SoundLemmas.{given_same, no_is}
 use Rattle.fj_meaning.proofs.StatementSound.{IsMade, allowed_is, implied, made_is, what}
 

@@ -33,7 +33,7 @@ use Rattle.fj_meaning.specs.Scope.{empty, group_at, is_group, is_variable, membe
 use Rattle.fj_meaning.specs.Sound.{AreNamed, GroupsAreDeclared, NamesAreApart, groups_of}
 use Rattle.fj_meaning.specs.Transfer.{assembled, control_of, is_allowed, parts, transferred}
 use Rattle.fj_meaning.proofs.NameLemmas.{are_new_more, free_is_none, more_groups, more_variables, named_group, named_variable, none_at, with_more}
-use Rattle.fj_syntax.proofs.TokenLemmas.{bound, passed, some_is}
+use Rattle.fj_syntax.proofs.Holding.{bound, passed, some_is}
 use Rattle.fj_meaning.proofs.SoundLemmas.{chosen}
 use Rattle.fj_meaning.proofs.StatementSound.{made_is}
 
@@ -211,7 +211,7 @@ names_group s items (written.Assignment a) m h =
 names_group s items (written.Open o) m h = let told = bound (optional (integer_place s) o.iostat) _ m h in subst (NamesGroup (groups_of s)) (some_is _ m told.2) tt
 names_group s items (written.Close c) m h = let told = bound (optional (integer_place s) c.iostat) _ m h in subst (NamesGroup (groups_of s)) (some_is _ m told.2) tt
 names_group s items (written.Wait w) m h =
-    let id = bound (optional (integer_operand s) w.id) _ m h in
+    let id = bound (optional (integer_operand s) w.what) _ m h in
     let told = bound (optional (integer_place s) w.iostat) _ m id.2 in
     subst (NamesGroup (groups_of s)) (some_is _ m told.2) tt
 names_group s items (written.Move how) m h = let told = bound (optional (integer_place s) how.iostat) _ m h in subst (NamesGroup (groups_of s)) (some_is _ m told.2) tt

@@ -13,7 +13,7 @@ use Rattle.fj_meaning.specs.Declaring.{is_free, are_new, variable, with_variable
 use Rattle.fj_meaning.specs.Giving.{each}
 use Rattle.fj_meaning.specs.Scope.{empty, found}
 use Rattle.fj_meaning.specs.Sound.{AreNamed, IsSoundScope, EmptyIsSound, DeclaredIsSound, GroupedIsSound}
-use Rattle.fj_syntax.proofs.TokenLemmas.{bound, passed, some_is}
+use Rattle.fj_syntax.proofs.Holding.{bound, passed, some_is}
 use Rattle.fj_meaning.proofs.SoundLemmas.{FoundIs, found_is}
 use Rattle.fj_meaning.proofs.NameLemmas.{free_is_none}
 use Rattle.fj_meaning.proofs.NamesSound.{group_more, nothing_named, variables_more}

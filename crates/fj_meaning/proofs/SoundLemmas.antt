@@ -23,7 +23,7 @@ use Rattle.fj_meaning.specs.declared.scope.Named.TheVariants as stands_for
 use Rattle.fj_meaning.specs.declared.scope.Scope.{Scope}
 use Rattle.fj_meaning.specs.Giving.{optional}
 use Rattle.fj_meaning.specs.Operands.{index_in, placed, is_integer, integer_place, signed, number_kind, number, element, whole, part, variable_meant, meant, is_whole, integer_operand}
-use Rattle.fj_syntax.proofs.TokenLemmas.{bound, passed, some_is}
+use Rattle.fj_syntax.proofs.Holding.{bound, passed, some_is}
 use Rattle.fj_meaning.specs.Scope.{found, variable_at, named}
 
 -- ---- steps

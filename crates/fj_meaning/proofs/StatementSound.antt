@@ -44,7 +44,7 @@ use Rattle.fj_meaning.specs.Transfer.{◌implies◌, given, is_true, is_list_dir
 use Rattle.fj_meaning.specs.Meaning.{literal_of, IsFormatOf, meaning, is_within_limits, format_text}
 use Rattle.fj_meaning.specs.Scope.{found, members, group_at, named}
 use Rattle.fj_meaning.specs.Sound.{IsSoundScope, MeaningIsSound}
-use Rattle.fj_syntax.proofs.TokenLemmas.{bound, passed, some_is}
+use Rattle.fj_syntax.proofs.Holding.{bound, passed, some_is}
 use Rattle.fj_meaning.proofs.SoundLemmas.{no_is, is_there, placed_is, integer_place_is, variable_is, meant_is, integer_operand_is, given_is, given_same}
 
 -- ---- assignments
@@ -427,10 +427,10 @@ meant_sound s sound items (written.Close c) m is h limits =
     let told = bound (optional (integer_place s) c.iostat) _ m h in
     subst (IsSoundStatement s.variables) (some_is _ m told.2) (given_is (integer_place s) (IsIntegerPlace s.variables) (integer_place_is s) c.iostat told.0 told.1)
 meant_sound s sound items (written.Wait w) m is h limits =
-    let id = bound (optional (integer_operand s) w.id) _ m h in
+    let id = bound (optional (integer_operand s) w.what) _ m h in
     let told = bound (optional (integer_place s) w.iostat) _ m id.2 in
     subst (IsSoundStatement s.variables) (some_is _ m told.2)
-    (given_is (integer_operand s) (IsIntegerOperand s.variables) (integer_operand_is s) w.id id.0 id.1, given_is (integer_place s) (IsIntegerPlace s.variables) (integer_place_is s) w.iostat told.0 told.1)
+    (given_is (integer_operand s) (IsIntegerOperand s.variables) (integer_operand_is s) w.what id.0 id.1, given_is (integer_place s) (IsIntegerPlace s.variables) (integer_place_is s) w.iostat told.0 told.1)
 meant_sound s sound items (written.Move how) m is h limits =
     let told = bound (optional (integer_place s) how.iostat) _ m h in
     subst (IsSoundStatement s.variables) (some_is _ m told.2) (given_is (integer_place s) (IsIntegerPlace s.variables) (integer_place_is s) how.iostat told.0 told.1)

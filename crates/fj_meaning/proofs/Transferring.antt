@@ -9,7 +9,7 @@ use Rattle.fj_statement.specs.declared.statement.Statement.{Statement}
 use Rattle.fj_statement.specs.declared.statement.Statement.TheVariants as statement
 use Rattle.fj_syntax.specs.declared.written.Transfer.{Transfer}
 use Rattle.fj_syntax.specs.declared.written.Written.TheVariants as written
-use Rattle.fj_syntax.proofs.TokenLemmas.{mapped}
+use Rattle.fj_syntax.proofs.Holding.{mapped}
 use Rattle.fj_meaning.specs.declared.fault.Fault.{Fault}
 use Rattle.fj_meaning.specs.declared.fault.Fault.TheVariants as fault
 use Rattle.fj_meaning.specs.declared.operand.Meant.{Meant}

@@ -10,10 +10,10 @@ use Rattle.fj_statement.specs.declared.statement.Operand.TheVariants as operand
 use Rattle.fj_statement.specs.declared.statement.Statement.{Statement}
 use Rattle.fj_statement.specs.declared.statement.Statement.TheVariants as statement
 use Rattle.fj_syntax.specs.declared.written.Assignment.{Assignment}
-use Rattle.fj_syntax.specs.declared.written.Open.{Open}
-use Rattle.fj_syntax.specs.declared.written.Close.{Close}
-use Rattle.fj_syntax.specs.declared.written.Wait.{Wait}
-use Rattle.fj_syntax.specs.declared.written.Move.{Move}
+use Rattle.fj_modes.specs.declared.specifiers.OpenSpec.{OpenSpec}
+use Rattle.fj_modes.specs.declared.unit.Motion.{Motion}
+use Rattle.fj_syntax.specs.declared.operand.Operand.{Operand as Given}
+use Rattle.fj_syntax.specs.declared.written.OnUnit.{OnUnit}
 use Rattle.fj_syntax.specs.declared.written.Asking.{Asking}
 use Rattle.fj_syntax.specs.declared.written.Inquire.{Inquire}
 use Rattle.fj_meaning.specs.declared.operand.Meant.{Meant}
@@ -53,26 +53,26 @@ assigned s a = do
 
 -- ---- files
 
-unfoldable pub opened : Scope → Open → Option Statement
+unfoldable pub opened : Scope → OnUnit OpenSpec → Option Statement
 opened s o = do
   i ← optional (integer_place s) o.iostat
-  Some (statement.OpenUnit o.unit o.spec i)
+  Some (statement.OpenUnit o.unit o.what i)
 
-unfoldable pub closed : Scope → Close → Option Statement
+unfoldable pub closed : Scope → OnUnit (Option Bool) → Option Statement
 closed s c = do
   i ← optional (integer_place s) c.iostat
-  Some (statement.CloseUnit c.unit c.keep i)
+  Some (statement.CloseUnit c.unit c.what i)
 
-unfoldable pub awaited : Scope → Wait → Option Statement
+unfoldable pub awaited : Scope → OnUnit (Option Given) → Option Statement
 awaited s w = do
-  id ← optional (integer_operand s) w.id
+  id ← optional (integer_operand s) w.what
   i ← optional (integer_place s) w.iostat
   Some (statement.WaitFor w.unit id i)
 
-unfoldable pub moved : Scope → Move → Option Statement
+unfoldable pub moved : Scope → OnUnit Motion → Option Statement
 moved s m = do
   i ← optional (integer_place s) m.iostat
-  Some (statement.Move m.how m.unit i)
+  Some (statement.Move m.what m.unit i)
 
 -- ---- INQUIRE
 

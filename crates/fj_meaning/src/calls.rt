@@ -8,9 +8,9 @@ use crate::designator::{designated, integer_place, is_integer};
 use crate::fault::Fault;
 use crate::names::Names;
 use crate::operand::integer_operand;
-use fj_modes::{Asked, Question, Wanted};
+use fj_modes::{Asked, Motion, OpenSpec, Question, Wanted};
 use fj_statement::{Operand, Statement};
-use fj_syntax::{Asking, Close, Designator, Inquire, Move, Open, Wait};
+use fj_syntax::{Asking, Designator, Inquire, OnUnit};
 use fj_value::{Items, Kind, Place};
 use std::alloc::Global;
 
@@ -47,39 +47,42 @@ pub fn optional_operand(
 }
 
 #[tactic(auto, unfolding(crate::specs::Calls::opened))]
-pub fn opened(names: &Names, statement: Open) -> Result<Statement, Fault>
+pub fn opened(names: &Names, statement: OnUnit<OpenSpec>) -> Result<Statement, Fault>
     ensures { Gives result (opened names.now statement) }
 {
-    let Open { unit, spec, iostat } = statement;
+    let OnUnit { unit, what, iostat } = statement;
     let iostat = optional_place(names, &iostat)?;
+    let spec = what;
     Ok(Statement::OpenUnit { unit, spec, iostat })
 }
 
 #[tactic(auto, unfolding(crate::specs::Calls::closed))]
-pub fn closed(names: &Names, close: Close) -> Result<Statement, Fault>
+pub fn closed(names: &Names, close: OnUnit<Option<bool>>) -> Result<Statement, Fault>
     ensures { Gives result (closed names.now close) }
 {
-    let Close { unit, keep, iostat } = close;
+    let OnUnit { unit, what, iostat } = close;
     let iostat = optional_place(names, &iostat)?;
+    let keep = what;
     Ok(Statement::CloseUnit { unit, keep, iostat })
 }
 
 #[tactic(auto, unfolding(crate::specs::Calls::awaited))]
-pub fn awaited(names: &Names, wait: Wait) -> Result<Statement, Fault>
+pub fn awaited(names: &Names, wait: OnUnit<Option<fj_syntax::Operand>>) -> Result<Statement, Fault>
     ensures { Gives result (awaited names.now wait) }
 {
-    let Wait { unit, id, iostat } = wait;
-    let id = optional_operand(names, &id)?;
+    let OnUnit { unit, what, iostat } = wait;
+    let id = optional_operand(names, &what)?;
     let iostat = optional_place(names, &iostat)?;
     Ok(Statement::WaitFor { unit, id, iostat })
 }
 
 #[tactic(auto, unfolding(crate::specs::Calls::moved))]
-pub fn moved(names: &Names, motion: Move) -> Result<Statement, Fault>
+pub fn moved(names: &Names, motion: OnUnit<Motion>) -> Result<Statement, Fault>
     ensures { Gives result (moved names.now motion) }
 {
-    let Move { how, unit, iostat } = motion;
+    let OnUnit { unit, what, iostat } = motion;
     let iostat = optional_place(names, &iostat)?;
+    let how = what;
     Ok(Statement::Move { how, unit, iostat })
 }
 

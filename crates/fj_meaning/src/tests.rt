@@ -19,37 +19,19 @@ enum Outcome {
 
 use Outcome::{Fine, Format, Meaning, TooMany};
 
-/// Lines of declarations, with the outcome of the last that is not empty.
-const DECLARATIONS: [([&str; 3], Outcome); 22] = [
-    (["INTEGER A", "LOGICAL B", "CHARACTER(7) C(2), D"], Fine),
-    (["INTEGER A", "INTEGER A", ""], Meaning),
-    (["INTEGER A, A", "", ""], Meaning),
-    (["INTEGER A", "LOGICAL B, a", ""], Meaning),
-    (["INTEGER A", "NAMELIST /A/ A", ""], Meaning),
-    (["INTEGER A", "NAMELIST /G/ A", "INTEGER G"], Meaning),
-    (["INTEGER A", "NAMELIST /G/ A", "NAMELIST /G/ A"], Meaning),
-    (["INTEGER A", "NAMELIST /G/ A, B", ""], Meaning),
-    (["INTEGER A", "NAMELIST /G/ A", "NAMELIST /H/ G"], Meaning),
-    (["INTEGER A", "NAMELIST /G/ A", "NAMELIST /H/ A, A"], Fine),
-    (["INTEGER V(1000000)", "", ""], Fine),
-    (["INTEGER V(1000000)", "LOGICAL L", ""], TooMany),
-    (["INTEGER V(1000000), L", "", ""], TooMany),
-    (["INTEGER V(1000000), L, V", "", ""], Meaning),
-    (["INTEGER V(1000000)", "LOGICAL V", ""], Meaning),
-    (["INTEGER V(999998), W(1)", "LOGICAL L", ""], Fine),
-    (
-        ["INTEGER V(999998), W(1)", "LOGICAL L", "LOGICAL M"],
-        TooMany,
-    ),
-    (["INTEGER V(1000000)", "NAMELIST /G/ V", ""], Fine),
-    (["CHARACTER(65536) W(256)", "INTEGER I", ""], Fine),
-    (["CHARACTER(65536) W(257)", "", ""], TooMany),
-    (
-        ["CHARACTER(65536) W(256)", "INTEGER I", "CHARACTER C"],
-        TooMany,
-    ),
-    (["CHARACTER(65536) W(255), X", "CHARACTER C", ""], TooMany),
-];
+/// Lines of declarations with semicolons between them, by the outcome of the last: between two bars each.
+static DECLARED_FINE: &str = "\
+    INTEGER A;LOGICAL B;CHARACTER(7) C(2), D|INTEGER A;NAMELIST /G/ A;NAMELIST /H/ A, A|INTEGER V(1000000)|\
+    INTEGER V(999998), W(1);LOGICAL L|INTEGER V(1000000);NAMELIST /G/ V|CHARACTER(65536) W(256);INTEGER I";
+
+static DECLARED_MEANINGLESS: &str = "\
+    INTEGER A;INTEGER A|INTEGER A, A|INTEGER A;LOGICAL B, a|INTEGER A;NAMELIST /A/ A|\
+    INTEGER A;NAMELIST /G/ A;INTEGER G|INTEGER A;NAMELIST /G/ A;NAMELIST /G/ A|INTEGER A;NAMELIST /G/ A, B|\
+    INTEGER A;NAMELIST /G/ A;NAMELIST /H/ G|INTEGER V(1000000), L, V|INTEGER V(1000000);LOGICAL V";
+
+static DECLARED_TOO_MANY: &str = "\
+    INTEGER V(1000000);LOGICAL L|INTEGER V(1000000), L|INTEGER V(999998), W(1);LOGICAL L;LOGICAL M|\
+    CHARACTER(65536) W(257)|CHARACTER(65536) W(256);INTEGER I;CHARACTER C|CHARACTER(65536) W(255), X;CHARACTER C";
 
 /// What the statements below are about.
 const DECLARED: [&str; 8] = [
@@ -63,188 +45,55 @@ const DECLARED: [&str; 8] = [
     "NAMELIST /G/ I, A, I",
 ];
 
-const ASSIGNMENTS: [(&str, Outcome); 44] = [
-    ("I = 5", Fine),
-    ("i = a(2)", Fine),
-    ("I = -2147483648", Fine),
-    ("I = 2147483648", Meaning),
-    ("I = -2147483649", Meaning),
-    ("K = 5", Fine),
-    ("K = 2147483648", Fine),
-    ("K = 9223372036854775807", Fine),
-    ("K = 9223372036854775808", Meaning),
-    ("K = -9223372036854775808", Fine),
-    ("K = -9223372036854775809", Meaning),
-    ("K = -9999999999999999999", Meaning),
-    ("I = K", Meaning),
-    ("K = I", Meaning),
-    ("A(3) = 1", Fine),
-    ("A(4) = 1", Meaning),
-    ("I = A(4)", Meaning),
-    ("A = 1", Fine),
-    ("A = I", Meaning),
-    ("I = A", Meaning),
-    ("A = A", Meaning),
-    ("A = 2147483648", Meaning),
-    ("I(1) = 5", Meaning),
-    ("I = I(1)", Meaning),
-    ("L = .TRUE.", Fine),
-    ("M = .FALSE.", Fine),
-    ("L = M(2)", Fine),
-    ("L = 1", Meaning),
-    ("L = 'T'", Meaning),
-    ("I = .TRUE.", Meaning),
-    ("L = I", Meaning),
-    ("C = 'abcdef'", Fine),
-    ("C = ''", Fine),
-    ("C = D(1)", Fine),
-    ("C = W(128)", Fine),
-    ("D = 'x'", Fine),
-    ("C = 5", Meaning),
-    ("C = I", Meaning),
-    ("I = 'x'", Meaning),
-    ("Q = 1", Meaning),
-    ("I = Q", Meaning),
-    ("G = 1", Meaning),
-    ("I = G", Meaning),
-    ("INTEGER X", Meaning),
-];
+/// Statements by their outcome: between two bars each.
+static FINE: &str = "\
+    I = 5|i = a(2)|I = -2147483648|K = 5|K = 2147483648|K = 9223372036854775807|K = -9223372036854775808|A(3) = 1|\
+    A = 1|L = .TRUE.|M = .FALSE.|L = M(2)|C = 'abcdef'|C = ''|C = D(1)|C = W(128)|D = 'x'|OPEN(10,FILE='x',IOSTAT=I)|\
+    OPEN(10,IOSTAT=K)|OPEN(10,IOSTAT=A(2))|CLOSE(10,STATUS='KEEP')|WAIT(10,ID=3,IOSTAT=I)|WAIT(10,ID=K)|\
+    WAIT(10,ID=-9223372036854775808)|BACKSPACE 10|REWIND(10,IOSTAT=I)|FLUSH(10,IOSTAT=A(3))|\
+    INQUIRE(10,EXIST=L,OPENED=M(1),NAMED=L,PENDING=M(2),ID=I,IOSTAT=I)|\
+    INQUIRE(FILE='X',NUMBER=I,RECL=K,NEXTREC=A(1),POS=I,SIZE=K)|\
+    INQUIRE(10,NAME=C,ACCESS=D(1),FORM=C,BLANK=C,DELIM=C,PAD=C,DECIMAL=C,SIGN=C,ACTION=C,ASYNCHRONOUS=C)|END|\
+    READ(10,*) I,A,D(2)|WRITE(*,*) I,5,'x',.TRUE.,'',-9223372036854775808|READ(10,'(I1,L1,A,G3.0)') I|\
+    WRITE(10,'(I0,Z0)') I|WRITE(10,'(1000(999A,X))') I|WRITE(10,ID=I,ASYNCHRONOUS='YES') A|\
+    WRITE(10,ASYNCHRONOUS='YES') A|READ(10,'(I1)',ADVANCE='NO',SIZE=I) A|READ(10,'(I1)',ADVANCE='YES',SIZE=K) A|\
+    READ(10,*,PAD='YES') I|READ(10,NML=G,BLANK='ZERO')|WRITE(10,'(I1)',SIGN='PLUS') I|READ(10,REC=1) I|\
+    READ(10,'(I1)',REC=K) I|READ(10,POS=A(1)) I|READ(10,*,POS=1) I|WRITE(10,NML=G)|WRITE(*,NML=g)|\
+    READ(10,NML=G,POS=1)|READ(10,*,IOSTAT=A(1)) I|WRITE(10) N,N|READ(10) N,N|WRITE(10) W,W|WRITE(10) W,W,''|\
+    WRITE(10) W,Z,Y,K|WRITE(10) W,Z,Y,I,L|WRITE(10) W,Z,Y,5,-5|WRITE(10) W,Z,Y,2147483648|WRITE(10) W,Z,Y,.TRUE.,C,C";
 
-const CALLS: [(&str, Outcome); 31] = [
-    ("OPEN(10,FILE='x',IOSTAT=I)", Fine),
-    ("OPEN(10,IOSTAT=K)", Fine),
-    ("OPEN(10,IOSTAT=A(2))", Fine),
-    ("OPEN(10,IOSTAT=A)", Meaning),
-    ("OPEN(10,IOSTAT=L)", Meaning),
-    ("OPEN(10,IOSTAT=Q)", Meaning),
-    ("CLOSE(10,STATUS='KEEP')", Fine),
-    ("CLOSE(10,IOSTAT=I(1))", Meaning),
-    ("WAIT(10,ID=3,IOSTAT=I)", Fine),
-    ("WAIT(10,ID=K)", Fine),
-    ("WAIT(10,ID=-9223372036854775808)", Fine),
-    ("WAIT(10,ID=9223372036854775808)", Meaning),
-    ("WAIT(10,ID=L)", Meaning),
-    ("WAIT(10,ID=A)", Meaning),
-    ("WAIT(10,IOSTAT=C)", Meaning),
-    ("BACKSPACE 10", Fine),
-    ("REWIND(10,IOSTAT=I)", Fine),
-    ("END FILE(10,IOSTAT=C)", Meaning),
-    ("FLUSH(10,IOSTAT=A(3))", Fine),
-    (
-        "INQUIRE(10,EXIST=L,OPENED=M(1),NAMED=L,PENDING=M(2),ID=I,IOSTAT=I)",
-        Fine,
-    ),
-    (
-        "INQUIRE(FILE='X',NUMBER=I,RECL=K,NEXTREC=A(1),POS=I,SIZE=K)",
-        Fine,
-    ),
-    (
-        "INQUIRE(10,NAME=C,ACCESS=D(1),FORM=C,BLANK=C,DELIM=C,PAD=C,DECIMAL=C,SIGN=C,ACTION=C,ASYNCHRONOUS=C)",
-        Fine,
-    ),
-    ("INQUIRE(10,EXIST=I)", Meaning),
-    ("INQUIRE(10,PENDING=C)", Meaning),
-    ("INQUIRE(10,NUMBER=L)", Meaning),
-    ("INQUIRE(10,SIZE=C)", Meaning),
-    ("INQUIRE(10,NAME=I)", Meaning),
-    ("INQUIRE(10,FORM=L)", Meaning),
-    ("INQUIRE(FILE='X',EXIST=M)", Meaning),
-    ("INQUIRE(10,ID=C)", Meaning),
-    ("END", Fine),
-];
+static MEANINGLESS: &str = "\
+    I = 2147483648|I = -2147483649|K = 9223372036854775808|K = -9223372036854775809|K = -9999999999999999999|I = K|\
+    K = I|A(4) = 1|I = A(4)|A = I|I = A|A = A|A = 2147483648|I(1) = 5|I = I(1)|L = 1|L = 'T'|I = .TRUE.|L = I|C = 5|\
+    C = I|I = 'x'|Q = 1|I = Q|G = 1|I = G|INTEGER X|OPEN(10,IOSTAT=A)|OPEN(10,IOSTAT=L)|OPEN(10,IOSTAT=Q)|\
+    CLOSE(10,IOSTAT=I(1))|WAIT(10,ID=9223372036854775808)|WAIT(10,ID=L)|WAIT(10,ID=A)|WAIT(10,IOSTAT=C)|\
+    END FILE(10,IOSTAT=C)|INQUIRE(10,EXIST=I)|INQUIRE(10,PENDING=C)|INQUIRE(10,NUMBER=L)|INQUIRE(10,SIZE=C)|\
+    INQUIRE(10,NAME=I)|INQUIRE(10,FORM=L)|INQUIRE(FILE='X',EXIST=M)|INQUIRE(10,ID=C)|READ(10,*) 5|READ(10) I,'x'|\
+    READ(10,*) A,.TRUE.|READ(10,*) A(4)|WRITE(*,*) 9223372036854775808|WRITE(*,*) Q|WRITE(*,*) G|READ(10,'(I0)') I|\
+    READ(10,'(X,3(2X,Z0))') I|READ(10,'(B0)') I|READ(10,'(O0.3)')|WRITE(10,'(65536(65536A))') Q|\
+    WRITE(10,'(65536(65536A))') 9223372036854775808|READ(10,'(65536(65536A),I0)') I|WRITE(10,ID=I) A|\
+    READ(10,ID=I,ASYNCHRONOUS='NO') A|WRITE(10,ID=A,ASYNCHRONOUS='YES') A|WRITE(10,ID=C,ASYNCHRONOUS='YES') A|\
+    READ(10,'(I1)',ADVANCE='YES',SIZE=L) A|READ(10,'(I1)',SIZE=I) A|READ(10,*,ADVANCE='YES') I|\
+    READ(10,ADVANCE='NO') I|READ(10,NML=G,ADVANCE='NO')|READ(10,PAD='YES') I|READ(10,BLANK='NULL') I|\
+    READ(10,DECIMAL='POINT') I|WRITE(10,DELIM='NONE') I|WRITE(10,SIGN='PLUS') I|READ(10,REC=1,POS=1) I|\
+    READ(10,*,REC=1) I|READ(10,NML=G,REC=1)|READ(10,REC=A) I|READ(10,REC=C) I|READ(10,REC=9223372036854775808) I|\
+    READ(10,POS=L) I|WRITE(*,*,POS=1) I|WRITE(*,'(I1)',REC=1) I|WRITE(*,REC=I) I|WRITE(10,NML=G) I|\
+    WRITE(10,NML=G,FMT=*)|WRITE(10,'(I1)',NML=G)|WRITE(10,NML=I)|WRITE(10,NML=Q)|READ(10,*,IOSTAT=A) I|\
+    WRITE(10) N,N,Q|WRITE(10) N,N,N(500001)";
 
-const TRANSFERS: [(&str, Outcome); 91] = [
-    ("READ(10,*) I,A,D(2)", Fine),
-    ("READ(10,*) 5", Meaning),
-    ("READ(10) I,'x'", Meaning),
-    ("READ(10,*) A,.TRUE.", Meaning),
-    ("READ(10,*) A(4)", Meaning),
-    ("WRITE(*,*) I,5,'x',.TRUE.,'',-9223372036854775808", Fine),
-    ("WRITE(*,*) 9223372036854775808", Meaning),
-    ("WRITE(*,*) Q", Meaning),
-    ("WRITE(*,*) G", Meaning),
-    ("READ(10,'(I1,L1,A,G3.0)') I", Fine),
-    ("READ(10,'(I0)') I", Meaning),
-    ("READ(10,'(X,3(2X,Z0))') I", Meaning),
-    ("READ(10,'(B0)') I", Meaning),
-    ("READ(10,'(O0.3)')", Meaning),
-    ("WRITE(10,'(I0,Z0)') I", Fine),
-    ("WRITE(10,'(I5,)') I", Format(4)),
-    ("WRITE(10,'') I", Format(0)),
-    ("WRITE(10,'(I5') Q", Format(3)),
-    ("READ(10,FMT='x',ID=I) 5", Format(0)),
-    ("WRITE(10,'(''a'',I5.9)') I", Format(8)),
-    ("WRITE(10,'(I5',NML=G)", Format(3)),
-    ("WRITE(10,'(1000(999A,X))') I", Fine),
-    ("WRITE(10,'(1000(999A,X),X)') I", TooMany),
-    ("WRITE(10,'(65536(65536A))') Q", Meaning),
-    ("WRITE(10,'(65536(65536A))') 9223372036854775808", Meaning),
-    ("READ(10,'(65536(65536A))') I", TooMany),
-    ("READ(10,'(65536(65536A),I0)') I", Meaning),
-    ("WRITE(10,ID=I,ASYNCHRONOUS='YES') A", Fine),
-    ("WRITE(10,ASYNCHRONOUS='YES') A", Fine),
-    ("WRITE(10,ID=I) A", Meaning),
-    ("READ(10,ID=I,ASYNCHRONOUS='NO') A", Meaning),
-    ("WRITE(10,ID=A,ASYNCHRONOUS='YES') A", Meaning),
-    ("WRITE(10,ID=C,ASYNCHRONOUS='YES') A", Meaning),
-    ("READ(10,'(I1)',ADVANCE='NO',SIZE=I) A", Fine),
-    ("READ(10,'(I1)',ADVANCE='YES',SIZE=K) A", Fine),
-    ("READ(10,'(I1)',ADVANCE='YES',SIZE=L) A", Meaning),
-    ("READ(10,'(I1)',SIZE=I) A", Meaning),
-    ("READ(10,*,ADVANCE='YES') I", Meaning),
-    ("READ(10,ADVANCE='NO') I", Meaning),
-    ("READ(10,NML=G,ADVANCE='NO')", Meaning),
-    ("READ(10,*,PAD='YES') I", Fine),
-    ("READ(10,NML=G,BLANK='ZERO')", Fine),
-    ("WRITE(10,'(I1)',SIGN='PLUS') I", Fine),
-    ("READ(10,PAD='YES') I", Meaning),
-    ("READ(10,BLANK='NULL') I", Meaning),
-    ("READ(10,DECIMAL='POINT') I", Meaning),
-    ("WRITE(10,DELIM='NONE') I", Meaning),
-    ("WRITE(10,SIGN='PLUS') I", Meaning),
-    ("READ(10,REC=1) I", Fine),
-    ("READ(10,'(I1)',REC=K) I", Fine),
-    ("READ(10,REC=1,POS=1) I", Meaning),
-    ("READ(10,*,REC=1) I", Meaning),
-    ("READ(10,NML=G,REC=1)", Meaning),
-    ("READ(10,REC=A) I", Meaning),
-    ("READ(10,REC=C) I", Meaning),
-    ("READ(10,REC=9223372036854775808) I", Meaning),
-    ("READ(10,POS=A(1)) I", Fine),
-    ("READ(10,*,POS=1) I", Fine),
-    ("READ(10,POS=L) I", Meaning),
-    ("WRITE(*,*,POS=1) I", Meaning),
-    ("WRITE(*,'(I1)',REC=1) I", Meaning),
-    ("WRITE(*,REC=I) I", Meaning),
-    ("WRITE(10,NML=G)", Fine),
-    ("WRITE(*,NML=g)", Fine),
-    ("READ(10,NML=G,POS=1)", Fine),
-    ("WRITE(10,NML=G) I", Meaning),
-    ("WRITE(10,NML=G,FMT=*)", Meaning),
-    ("WRITE(10,'(I1)',NML=G)", Meaning),
-    ("WRITE(10,NML=I)", Meaning),
-    ("WRITE(10,NML=Q)", Meaning),
-    ("READ(10,*,IOSTAT=A(1)) I", Fine),
-    ("READ(10,*,IOSTAT=A) I", Meaning),
-    ("WRITE(10) N,N", Fine),
-    ("READ(10) N,N", Fine),
-    ("WRITE(10) N,N,I", TooMany),
-    ("READ(10) N,N,A(1)", TooMany),
-    ("WRITE(10) N,N,''", TooMany),
-    ("WRITE(10) N,N,Q", Meaning),
-    ("WRITE(10) N,N,N(500001)", Meaning),
-    ("WRITE(10) W,W", Fine),
-    ("WRITE(10) W,W,''", Fine),
-    ("WRITE(10) W,W,'x'", TooMany),
-    ("WRITE(10) W,Z,Y,K", Fine),
-    ("WRITE(10) W,Z,Y,K,L", TooMany),
-    ("WRITE(10) W,Z,Y,I,L", Fine),
-    ("WRITE(10) W,Z,Y,I,L,'x'", TooMany),
-    ("WRITE(10) W,Z,Y,5,-5", Fine),
-    ("WRITE(10) W,Z,Y,2147483648", Fine),
-    ("WRITE(10) W,Z,Y,2147483648,'x'", TooMany),
-    ("WRITE(10) W,Z,Y,.TRUE.,C,C", Fine),
-    ("WRITE(10) W,Z,Y,.TRUE.,C,C,'x'", TooMany),
+static TOO_MANY: &str = "\
+    WRITE(10,'(1000(999A,X),X)') I|READ(10,'(65536(65536A))') I|WRITE(10) N,N,I|READ(10) N,N,A(1)|WRITE(10) N,N,''|\
+    WRITE(10) W,W,'x'|WRITE(10) W,Z,Y,K,L|WRITE(10) W,Z,Y,I,L,'x'|WRITE(10) W,Z,Y,2147483648,'x'|\
+    WRITE(10) W,Z,Y,.TRUE.,C,C,'x'";
+
+/// Statements whose formats are none, and the place of the fault.
+static FORMATS: [(&str, u32); 6] = [
+    ("WRITE(10,'(I5,)') I", 4),
+    ("WRITE(10,'') I", 0),
+    ("WRITE(10,'(I5') Q", 3),
+    ("READ(10,FMT='x',ID=I) 5", 0),
+    ("WRITE(10,'(''a'',I5.9)') I", 8),
+    ("WRITE(10,'(I5',NML=G)", 3),
 ];
 
 fn outcome_of(fault: Fault) -> Outcome {
@@ -272,25 +121,29 @@ fn declared(alloc: Global, names: &mut Names, number: u32, line: &str) -> Outcom
     }
 }
 
-/// The outcome of the last line that is not empty; those before it are to be fine.
-fn last_declared(alloc: Global, lines: [&str; 3]) -> Outcome {
+/// The outcome of the last line; those before it are to be fine.
+fn last_declared(alloc: Global, lines: &str) -> Outcome {
     let mut names = Names::new(alloc);
     let mut outcome = Fine;
-    for line in lines {
-        if !line.is_empty() {
-            if outcome != Fine {
-                return Outcome::Other;
-            }
-            outcome = declared(alloc, &mut names, 1, line);
+    for line in lines.split(';') {
+        if outcome != Fine {
+            return Outcome::Other;
         }
+        outcome = declared(alloc, &mut names, 1, line);
     }
     outcome
 }
 
 #[test]
 fn declarations(rt: HostRuntime) {
-    for (lines, wanted) in DECLARATIONS {
-        assert_eq!(rt; last_declared(rt.alloc(), lines), wanted, "{lines:?}");
+    for (cases, wanted) in [
+        (DECLARED_FINE, Fine),
+        (DECLARED_MEANINGLESS, Meaning),
+        (DECLARED_TOO_MANY, TooMany),
+    ] {
+        for lines in cases.split('|') {
+            assert_eq!(rt; last_declared(rt.alloc(), lines), wanted, "{lines}");
+        }
     }
 }
 
@@ -329,24 +182,20 @@ fn stated(alloc: Global, names: &Names, line: &str) -> Outcome {
     }
 }
 
-/// The place of the first statement with another outcome.
-fn first_other(alloc: Global, statements: &[(&str, Outcome)]) -> Option<usize> {
-    let names = common_names(alloc)?;
-    for (at, (line, wanted)) in statements.iter().enumerate() {
-        if stated(alloc, &names, line) != *wanted {
-            return Some(at);
-        }
-    }
-    None
-}
-
 #[test]
 fn statements(rt: HostRuntime) {
     let alloc = rt.alloc();
-    assert!(rt; common_names(alloc).is_some());
-    assert_eq!(rt; first_other(alloc, &ASSIGNMENTS), None);
-    assert_eq!(rt; first_other(alloc, &CALLS), None);
-    assert_eq!(rt; first_other(alloc, &TRANSFERS), None);
+    let Some(names) = common_names(alloc) else {
+        panic!(rt; "no names");
+    };
+    for (lines, wanted) in [(FINE, Fine), (MEANINGLESS, Meaning), (TOO_MANY, TooMany)] {
+        for line in lines.split('|') {
+            assert_eq!(rt; stated(alloc, &names, line), wanted, "{line}");
+        }
+    }
+    for (line, at) in FORMATS {
+        assert_eq!(rt; stated(alloc, &names, line), Format(at), "{line}");
+    }
 }
 
 #[test]

@@ -1,6 +1,7 @@
 // What telling transfers does to the variables (ISO/IEC 1539-1:2004, 9.5.1.4, 9.6).
 ghost use Rattle.std.specs.Prelude.{◌≡◌, ◌≢◌, ◌++◌, [], ◌∷◌, true, map, All, Err, IfSome, IfOk, OnOk, pos};
 ghost use Rattle.std.specs.List.{list_all};
+ghost use Rattle.fj_list.specs.Load.{moved_row};
 ghost use Rattle.fj_statement.specs.Sound.{IsIntegerPlace};
 ghost use Rattle.fj_store.specs.Storage.{values_of};
 ghost use Rattle.fj_store.specs.Variables.{given_back};
@@ -15,6 +16,7 @@ use crate::held::Held;
 use crate::lost::Lost;
 use crate::pick::condition_of;
 use crate::tell::Tell;
+use fj_list::{Load, Row, Shape};
 use fj_statement::Variable;
 use fj_store::Store;
 use fj_transfer::Transfer;
@@ -50,6 +52,31 @@ fn all_fit(variables: &[Variable], cells: &[Cell]) -> bool
     ensures { result ≡ list_all (fits_cell variables.now) cells.now }
 {
     cells.iter().all(|cell| fits(kind_of(variables, cell.place.var), &cell.value))
+}
+
+/// Whether a variable of the kind may have each of the values.
+fn values_fit(kind: Kind, values: &[Value]) -> bool
+    ensures { result ≡ list_all (fits kind) values.now }
+{
+    values.iter().all(|value| fits(kind, value))
+}
+
+/// The same of a row.
+#[tactic(auto, using(crate::proofs::Fitting::row_pass))]
+fn row_fits(variables: &[Variable], row: &Row) -> bool
+    ensures { result ≡ list_all (fits_cell variables.now) (moved_row row.now).cells }
+{
+    values_fit(kind_of(variables, row.first.var), row.values.as_slice())
+}
+
+/// The same of what a transfer moves.
+fn load_fits(variables: &[Variable], moved: &Load) -> bool
+    ensures { result ≡ list_all (fits_cell variables.now) moved.now.cells }
+{
+    match moved.shape() {
+        Shape::Cells(moved) => all_fit(variables, moved.cells.as_slice()),
+        Shape::Row(row) => row_fits(variables, row),
+    }
 }
 
 /// A number for an integer variable of the kind.
@@ -112,12 +139,11 @@ fn give(
     ensures kinds { store.new.kinds ≡ store.old.kinds }
     ensures fits { All (λ cell. fits_cell variables.now cell ≡ true) transfer.moved.cells → IfSome size (IsIntegerPlace variables.now) → result ≢ Err Lost.Unfit }
 {
-    if !all_fit(variables, transfer.moved.cells.as_slice()) {
+    if !load_fits(variables, &transfer.moved) {
         return Err(Lost::Unfit);
     }
     let count = transfer.count;
-    let moved = transfer.moved;
-    store.give_back(moved.cells);
+    store.give_load(transfer.moved);
     give_size(variables, store, size, count)
 }
 

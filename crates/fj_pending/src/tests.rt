@@ -2,7 +2,7 @@
 use crate::{Held, Lost, Pendings, Tell, Told, Whose};
 use fj_bay::Answer;
 use fj_book::Places;
-use fj_list::Moved;
+use fj_list::{Load, Moved};
 use fj_store::Store;
 use fj_transfer::{EditChange, Layout, Transfer, TransferSpec};
 use fj_value::{Condition, Items, Tag};
@@ -55,7 +55,7 @@ fn told(alloc: Global, id: u32, condition: Condition) -> Told {
             stmt: 1,
             tag: Tag(id),
             spec,
-            moved,
+            moved: Load::of_cells(moved),
             size: None,
             count: None,
         },

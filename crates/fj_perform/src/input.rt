@@ -22,7 +22,7 @@ ghost use Rattle.fj_perform.specs.Front.{started, place_of, IsStart};
 use crate::start::{Start, is_open};
 use fj_connect::Connection;
 use fj_format::Format;
-use fj_list::Moved;
+use fj_list::{Load, Moved};
 use fj_modes::Access;
 use fj_outside::{FileStore, Stop};
 use fj_transfer::{
@@ -154,8 +154,8 @@ fn place_of(start: Start) -> Option<u64>
     }
 }
 
-/// Carries out a READ from where it begins.
-pub fn read_from<F: FileStore>(
+/// Reads into cells from where a READ begins.
+fn read_cells<F: FileStore>(
     alloc: Global,
     connection: &mut Connection<F>,
     start: Start,
@@ -215,4 +215,40 @@ pub fn read_from<F: FileStore>(
             moved,
         ),
     }
+}
+
+/// Carries out a READ from where it begins.
+pub fn read_from<F: FileStore>(
+    alloc: Global,
+    connection: &mut Connection<F>,
+    start: Start,
+    spec: &TransferSpec,
+    moved: &mut Load,
+) -> Result<Performed, Stop>
+    requires start { IsStart connection.old.modes.access (size_ended connection.old.spot (F.size connection.old.file)) start }
+    requires fit { unfit connection.old.modes spec.now ≡ Fine }
+    requires ordered { IsOrdered moved.old }
+    requires few { length moved.old.order < 2 ^ 32 }
+    requires grouped { All (IsWithin (length moved.old.cells)) (members_of spec.now.layout) }
+    ensures telling { F.tells connection.old.file ↔ F.tells connection.new.file }
+    ensures done { F.tells connection.old.file → let old = connection_of F.bytes connection.old in
+        IfOk result (λ performed. done_with (connection_of F.bytes connection.new) moved.new.cells performed
+        ≡ read_by spec.now.layout (control_of spec.now.layout) old (started start (ended old)) spec.now (changed spec.now.edit connection.old.modes.edit) moved.old) }
+    ensures stopped { F.tells connection.old.file → let old = connection_of F.bytes connection.old in
+        OnErr result (KeepsUpToChange (F.bytes connection.old.file)
+        (read_by spec.now.layout (control_of spec.now.layout) old (started start (ended old)) spec.now (changed spec.now.edit connection.old.modes.edit) moved.old).connection.bytes
+        (F.bytes connection.new.file)) }
+
+    // Told or not.
+    ensures order { moved.new.order ≡ moved.old.order }
+    ensures places { places_of moved.new.cells ≡ places_of moved.old.cells }
+    ensures modes { connection.new.modes ≡ connection.old.modes }
+    ensures name { connection.new.name ≡ connection.old.name }
+    ensures later { F.count connection.old.file ≤ F.count connection.new.file }
+    ensures failed { result ≡ Err Stop.Failed → Rose (F.count connection.old.file) (F.count connection.new.file) }
+{
+    let mut cells = moved.take(alloc)?;
+    let performed = read_cells(alloc, connection, start, spec, &mut cells);
+    *moved = Load::of_cells(cells);
+    performed
 }

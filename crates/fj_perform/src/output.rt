@@ -15,7 +15,7 @@ ghost use Rattle.fj_perform.specs.Front.{started, IsStart, IsNamed};
 
 use crate::start::Start;
 use fj_connect::Connection;
-use fj_list::Moved;
+use fj_list::Load;
 use fj_modes::Access;
 use fj_outside::{FileStore, Stop};
 use fj_transfer::{
@@ -29,7 +29,7 @@ use std::alloc::Global;
 fn write_here<F: FileStore>(
     alloc: Global,
     connection: &mut Connection<F>,
-    moved: &Moved,
+    moved: &Load,
 ) -> Result<Condition, Stop>
     requires access { same_access connection.old.modes.access Access.Direct ≡ false }
     requires ordered { IsOrdered moved.now }
@@ -69,7 +69,7 @@ fn write_unformatted<F: FileStore>(
     alloc: Global,
     connection: &mut Connection<F>,
     start: Start,
-    moved: &Moved,
+    moved: &Load,
 ) -> Result<Condition, Stop>
     requires start { IsStart connection.old.modes.access (F.size connection.old.file) start }
     requires ordered { IsOrdered moved.now }

@@ -13,7 +13,7 @@ mod sizes;
 use crate::perform;
 use fj_connect::{Connection, OpenFault, open_file};
 use fj_format::parse;
-use fj_list::{GroupMember, Moved};
+use fj_list::{GroupMember, Load, Moved};
 use fj_modes::{Access, Action, FileName, FileStatus, OpenSpec, settle_open};
 use fj_outside::{Disk, FileStore, MemoryDisk, Stop};
 use fj_transfer::{EditChange, Layout, Members, Transfer, TransferSpec};
@@ -167,7 +167,7 @@ fn transfer(alloc: Global, said: Said, access: Access) -> Result<Transfer, Fail>
                 plus: None,
             },
         },
-        moved,
+        moved: Load::of_cells(moved),
         size: None,
         count: Some(7),
     })
@@ -221,14 +221,19 @@ fn carried_out<D: Disk>(
 }
 
 /// Whether the item has a text; none stands for no value.
-fn is_text(moved: &Moved, text: Option<&[u8]>) -> bool {
-    match (moved.cells.as_slice(), text) {
-        ([cell], Some(text)) => match &cell.value {
+fn is_text(moved: &Load, text: Option<&[u8]>) -> bool {
+    let mut items = moved.items();
+    let item = items.next();
+    if items.is_some_left() {
+        return false;
+    }
+    match (item, text) {
+        (Some(item), Some(text)) => match item.value {
             Value::Chars(chars) => chars.bytes() == text,
             Value::Undefined | Value::Int(_) | Value::Log(_) => false,
         },
-        ([cell], None) => matches!(&cell.value, Value::Undefined),
-        _ => false,
+        (Some(item), None) => matches!(item.value, Value::Undefined),
+        (None, _) => false,
     }
 }
 

@@ -18,7 +18,7 @@ use crate::output::write_from;
 use crate::start::{Start, begins_at, unfit};
 use fj_connect::Connection;
 use fj_outside::{FileStore, Stop};
-use fj_transfer::{Transfer, undefine};
+use fj_transfer::Transfer;
 use fj_value::Condition;
 use std::alloc::Global;
 
@@ -30,7 +30,7 @@ fn refuse(job: &mut Transfer, condition: Condition) -> Condition
 {
     job.count = None;
     if job.spec.input {
-        undefine(&mut job.moved.cells);
+        job.moved.undefine();
     }
     condition
 }

@@ -6,6 +6,7 @@ use Rattle.fj_turns.specs.Run.{Start}
 use Rattle.fj_turns.specs.Turns.{goes}
 use Rattle.fj_turns.specs.Passing.{passes, passed_on}
 use Rattle.fj_units.specs.Files.{files_of}
+use Rattle.fj_runner.specs.Going.{IsAt}
 use Rattle.fj_runner.specs.Machine.{rest_of, run_at}
 use Rattle.fj_runner.specs.Stepping.{Steps}
 use Rattle.fj_runner.specs.declared.stage.Stage.TheVariants as stage
@@ -23,6 +24,9 @@ module _ {W D F : Type 0} {ghosts : Ghosts F} (tells_out : W → Type 0) (taken 
     pub deck : m'.deck ≡ m.deck
     pub tally : m'.tally ≡ m.tally
     pub kept : m'.kept ≡ m.kept
+    pub on : m.state.stage ≡ stage.Start → IsAt m → (m'.state.stage ≡ stage.Start) × IsAt m'
+    pub sent : m'.state.sent ≡ m.state.sent
+    pub heard : m'.state.told ≡ m.state.told
 
   pub goes_none : (out : W) (disk : D) (m : Machine F ghosts) → GoesOn out disk m out disk m
   goes_none out disk m = record {
@@ -32,14 +36,18 @@ module _ {W D F : Type 0} {ghosts : Ghosts F} (tells_out : W → Type 0) (taken 
     deck = refl;
     tally = refl;
     kept = refl;
+    on = λ h i. (h, i);
+    sent = refl;
+    heard = refl;
   }
 
   pub goes_more : {X : Type 0} → (out mid out' : W) (disk between disk' : D) (m half m' : Machine F ghosts) (x : X) → GoesOn out disk m mid between half
       → Steps tells_out taken count_out tells held count refusals mid between half.state.core (went x) out' disk' m'.state.core
       → (tells between → (m'.state.stage ≡ stage.Start) × (goes (rest_of half) (run_at (files_of (held between)) half Start) ≡ goes (rest_of m') (run_at (files_of (held disk')) m' Start)))
       → (tells between → passed_on (rest_of half) (run_at (files_of (held between)) half Start) ≡ Some (run_at (files_of (held disk')) m' Start))
-      → m'.deck ≡ half.deck → m'.tally ≡ half.tally → m'.kept ≡ half.kept → GoesOn out disk m out' disk' m'
-  goes_more out mid out' disk between disk' m half m' x a b next passed deck tally kept = record {
+      → m'.deck ≡ half.deck → m'.tally ≡ half.tally → m'.kept ≡ half.kept
+      → (half.state.stage ≡ stage.Start → IsAt half → (m'.state.stage ≡ stage.Start) × IsAt m') → m'.state.sent ≡ half.state.sent → m'.state.told ≡ half.state.told → GoesOn out disk m out' disk' m'
+  goes_more out mid out' disk between disk' m half m' x a b next passed deck tally kept on sent heard = record {
     steps = then_steps out mid out' disk between disk' m.state.core half.state.core m'.state.core (tt {0}) (went (tt {0})) a.steps
         (ok_steps mid out' between disk' half.state.core m'.state.core (went x) x (tt {0}) refl b);
     goes = λ t h. let k = next (a.steps.telling.0 t) in (k.0, (a.goes t h).1 ∙ k.1);
@@ -52,6 +60,9 @@ module _ {W D F : Type 0} {ghosts : Ghosts F} (tells_out : W → Type 0) (taken 
     deck = deck ∙ a.deck;
     tally = tally ∙ a.tally;
     kept = kept ∙ a.kept;
+    on = λ h i. let k = a.on h i in on k.0 k.1;
+    sent = sent ∙ a.sent;
+    heard = heard ∙ a.heard;
   }
 
 pub none_has : {X : Type 0} → (o : Option X) (P : Type 0) → o ≡ None → IfNone o P → P

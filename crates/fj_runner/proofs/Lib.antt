@@ -14,3 +14,4 @@ pub mod Failures
 pub mod GivingUp
 pub mod Numbering
 pub mod Fits
+pub mod Counting

@@ -1,6 +1,7 @@
 -- Numbers of jobs, identifiers and slots, after each step.
 use Rattle.std.proofs.Common.{◌≡◌, ℕ, ◌+◌, ◌<◌, ◌≤◌, ◌⊎◌, ◌==◌, ◌&&◌, ◌||◌, Bool, true, false, cond, List, [], ◌∷◌, map, length, get_or, slice_set, All, Option, Some, Result, Ok, Err, OnOk, OnErr, refl, sym, ap, ◌∙◌, subst, inl, inr, arith}
 use Rattle.std.specs.List.{list_any}
+use Rattle.std.specs.Prelude.{if◌then◌else◌, is_none}
 use Rattle.std.proofs.lemmas.Bool.{eq-eqb, ne_eqb, cases_lt, cases_Bool}
 use Rattle.std.proofs.lemmas.Bool.Decides.{eqb_tells}
 use Rattle.std.proofs.lemmas.List.{get_or-set_same, get_or-set_other, get_or_past}
@@ -10,9 +11,10 @@ use Rattle.fj_bay.specs.declared.job.Answer.{Answer}
 use Rattle.fj_desk.specs.Core.{Pending}
 use Rattle.fj_desk.specs.Desks.{Outcome, most_slots}
 use Rattle.fj_plain.specs.State.{Entry}
+use Rattle.fj_plain.specs.Telling.{tells_id}
 use Rattle.fj_turns.specs.Run.{Held as PlainHeld}
 use Rattle.fj_turns.specs.Turns.{is_at, unsettled, with_answer}
-use Rattle.fj_pending.specs.Plain.{held, pending_of}
+use Rattle.fj_pending.specs.Plain.{held, held_of, pending_of}
 use Rattle.fj_pending.specs.Taking.{LeavesSome}
 use Rattle.fj_pending.specs.declared.held.Held.{Held}
 use Rattle.fj_acts.specs.Holding.{HoldsMore, MayEnter}
@@ -23,8 +25,8 @@ use Rattle.fj_acts.specs.declared.doing.Given.TheVariants as given
 use Rattle.fj_acts.specs.declared.doing.Then.{Then}
 use Rattle.fj_acts.specs.declared.state.Core.{Core}
 use Rattle.fj_runner.specs.Answering.{IsAnswered, with_own}
-use Rattle.fj_runner.specs.Numbering.{AreGiven, AreNamed, AreSlots, IsLast, OwnIsLast, gave, pends_by, slots_behind}
-use Rattle.fj_runner.specs.Passing.{awaits}
+use Rattle.fj_runner.specs.Numbering.{AreGiven, AreNamed, AreSlots, AreUntold, AreWithin, IsLast, IsUntold, OwnIsLast, OwnIsUntold, gave, pends_by, slots_behind}
+use Rattle.fj_runner.specs.Passing.{awaits, is_waiting}
 use Rattle.fj_runner.specs.declared.stage.Stage.{Stage}
 use Rattle.fj_runner.specs.declared.stage.Stage.TheVariants as stage
 use Rattle.fj_runner.proofs.Passed.{answered_pendings}
@@ -36,7 +38,7 @@ both_true : (a b : Bool) → (a && b) ≡ true → (a ≡ true) × (b ≡ true)
 both_true true b e = (refl, e)
 both_true false b e = let z : false ≡ true = e in cc
 
-equal_by : (x y : ℕ) → (x == y) ≡ true → x ≡ y
+pub equal_by : (x y : ℕ) → (x == y) ≡ true → x ≡ y
 equal_by x y e = elim (eqb_tells x y) [ inl a ↦ a.1 | inr a ↦ absurd (let z : false ≡ true = sym a.0 ∙ e in cc) ]
 
 pub at_itself : (slot number : ℕ) → ((slot == slot) && (number == number)) ≡ true
@@ -63,6 +65,9 @@ module _ (sent : List ℕ) (slot more : ℕ) (within : slot < length sent) (is :
   pub given_still : (hs : List Held) → AreGiven sent hs → AreGiven (slice_set sent slot more) hs
   given_still hs all = All-weaker (λ (h : Held). h.number < get_or sent h.slot 0) (λ (h : Held). h.number < get_or (slice_set sent slot more) h.slot 0) (λ h low. omega (arith, low, no_fewer h.slot)) hs all
 
+  pub within_still : (told : List ℕ) → AreWithin told sent → AreWithin told (slice_set sent slot more)
+  within_still told low = λ at. let l = low at in omega (arith, l, no_fewer at)
+
   -- it is the last one
   pub own_given : {F : Type 0} → (hs : List Held) (s : Stage F) → AreGiven sent hs → ((at number : ℕ) → gave at number s ≡ true → (at ≡ slot) × (number ≡ get_or sent slot 0))
       → OwnIsLast (slice_set sent slot more) hs s
@@ -74,22 +79,36 @@ module _ (sent : List ℕ) (slot more : ℕ) (within : slot < length sent) (is :
             (λ h given same. let e : get_or sent h.slot 0 ≡ number = ap (λ k. get_or sent k 0) (same ∙ o.0) ∙ sym o.1 in omega (arith, given, e)) hs all,
       )
 
+-- it is not told
+pub own_not_told : {F : Type 0} → (told sent : List ℕ) (slot : ℕ) (s : Stage F) → AreWithin told sent → ((at number : ℕ) → gave at number s ≡ true → (at ≡ slot) × (number ≡ get_or sent slot 0)) → OwnIsUntold told s
+own_not_told told sent slot s low own = λ at number g.
+    let o = own at number g in
+    let l = low slot in
+    let e : get_or told at 0 ≡ get_or told slot 0 = ap (λ k. get_or told k 0) o.0 in
+    omega (arith, l, e, o.1)
+
 -- ---- a slot that was given a job is one that there is
 
 pub slot_given : (sent : List ℕ) (slot number : ℕ) → length sent ≡ most_slots → number < get_or sent slot 0 → slot < most_slots
 slot_given sent slot number e low =
     elim (cases_lt slot (length sent)) [ inl a ↦ omega (arith, a, e) | inr b ↦ absurd (omega (arith, low, get_or_past sent slot 0 b)) ]
 
-unsettled_by : (b : Bool) (slot at : ℕ) (o : Option ℕ) → cond b (Some slot) o ≡ Some at → (slot ≡ at) ⊎ (o ≡ Some at)
-unsettled_by true slot at o e = inl (let z : Some slot ≡ Some at = e in cc)
+unsettled_by : (b : Bool) (slot at : ℕ) (o : Option ℕ) → cond b (Some slot) o ≡ Some at → ((b ≡ true) × (slot ≡ at)) ⊎ (o ≡ Some at)
+unsettled_by true slot at o e = inl (refl, let z : Some slot ≡ Some at = e in cc)
 unsettled_by false slot at o e = inr e
 
-pub unsettled_slot : (sent : List ℕ) (es : List Entry) (hs : List Held) (slot : ℕ) → length sent ≡ most_slots → AreGiven sent hs → unsettled es (held hs) ≡ Some slot → slot < most_slots
-unsettled_slot sent es [] slot e all u = cc
-unsettled_slot sent es (h ∷ hs) slot e all u =
-    elim (unsettled_by _ h.slot slot (unsettled es (held hs)) u) [
-      | inl same ↦ subst (λ k. k < most_slots) same (slot_given sent h.slot h.number e (All-head (λ (x : Held). x.number < get_or sent x.slot 0) h hs all))
-      | inr more ↦ unsettled_slot sent es hs slot e (All-tail (λ (x : Held). x.number < get_or sent x.slot 0) h hs all) more
+-- and where an answer is awaited, it was given one that is not told
+pub unsettled_slot : (sent told : List ℕ) (es : List Entry) (hs : List Held) (slot : ℕ) → length sent ≡ most_slots → AreGiven sent hs → AreUntold told hs → unsettled es (held hs) ≡ Some slot
+    → (slot < most_slots) × (get_or told slot 0 < get_or sent slot 0)
+unsettled_slot sent told es [] slot e all none u = cc
+unsettled_slot sent told es (h ∷ hs) slot e all none u =
+    elim (unsettled_by (tells_id es h.tag.0 && is_none (held_of h).answer) h.slot slot (unsettled es (held hs)) u) [
+      | inl same ↦
+          let given = All-head (λ (x : Held). x.number < get_or sent x.slot 0) h hs all in
+          let low = All-head (λ (x : Held). IsUntold told (held_of x)) h hs none (both_true (tells_id es h.tag.0) (is_none (held_of h).answer) same.0).1 in
+          subst (λ k. (k < most_slots) × (get_or told k 0 < get_or sent k 0)) same.1 (slot_given sent h.slot h.number e given, omega (arith, given, low))
+      | inr more ↦
+          unsettled_slot sent told es hs slot e (All-tail (λ (x : Held). x.number < get_or sent x.slot 0) h hs all) (All-tail (λ (x : Held). IsUntold told (held_of x)) h hs none) more
     ]
 
 -- ---- what a statement gives
@@ -131,6 +150,20 @@ named_entered (given.Finishes condition) number old new all m = named_still old 
 named_entered (given.Pends unit slot) number old new all (inl m) = named_still old new m.0 m.1 all
 named_entered (given.Pends unit slot) number old new all (inr m) = named_more old.next slot number new.next old.pending new.pending m.1 all m.0
 
+pub untold_entered : (told : List ℕ) (next : Given) (number : ℕ) (old new : Core) → ((slot : ℕ) → pends_by slot number next number ≡ true → get_or told slot 0 ≤ number)
+    → AreUntold told old.pending → MayEnter next number old new → AreUntold told new.pending
+untold_entered told (given.Finishes condition) number old new own all m = subst (AreUntold told) (sym m.0) all
+untold_entered told (given.Pends unit slot) number old new own all (inl m) = subst (AreUntold told) (sym m.0) all
+untold_entered told (given.Pends unit slot) number old new own all (inr m) =
+    let P : Held → Type 0 = λ (h : Held). IsUntold told (held_of h) in
+    let it = m.0.transfer in
+    let last : P it = λ none.
+    let low = own slot (at_itself slot number) in
+    let e : get_or told it.slot 0 ≡ get_or told slot 0 = ap (λ k. get_or told k 0) m.0.slot_is in
+    omega (arith, low, e, m.0.number_is)
+    in
+    subst (All P) (sym m.0.behind) (All-push P old.pending it all last)
+
 -- nothing is made pending
 pub given_same : (sent : List ℕ) (old new : Core) → KeepsPending old new → AreGiven sent old.pending → AreGiven sent new.pending
 given_same sent old new k all = subst (AreGiven sent) (sym k.0) all
@@ -152,22 +185,25 @@ later_none s e = All-same (λ slot. slot < most_slots) (slots_behind s) [] (ap s
 pub given_left : (sent : List ℕ) (hs hs' : List Held) → LeavesSome hs hs' → AreGiven sent hs → AreGiven sent hs'
 given_left sent hs hs' l all = subst (AreGiven sent) (sym l.1) (All-filter l.0 (λ (h : Held). h.number < get_or sent h.slot 0) hs all)
 
+pub untold_left : (told : List ℕ) (hs hs' : List Held) → LeavesSome hs hs' → AreUntold told hs → AreUntold told hs'
+untold_left told hs hs' l all = subst (AreUntold told) (sym l.1) (All-filter l.0 (λ (h : Held). IsUntold told (held_of h)) hs all)
+
 pub named_left : (next next' : ℕ) (hs hs' : List Held) → next' ≡ next → LeavesSome hs hs' → AreNamed next hs → AreNamed next' hs'
 named_left next next' hs hs' e l all =
     subst (λ n. AreNamed n hs') (sym e) (subst (AreNamed next) (sym l.1) (All-filter l.0 (λ (h : Held). h.tag.0 < next) hs all))
 
 -- ---- one has its answer
 
-unmapped : (P : Pending → Type 0) (hs : List Held) → All P (map pending_of hs) → All (λ (h : Held). P (pending_of h)) hs
-unmapped P [] all = All-nil (λ (h : Held). P (pending_of h))
-unmapped P (h ∷ hs) all = All-cons (λ (h : Held). P (pending_of h)) h hs (All-head P (pending_of h) (map pending_of hs) all) (unmapped P hs (All-tail P (pending_of h) (map pending_of hs) all))
+unmapped : {X : Type 0} → (f : Held → X) (P : X → Type 0) (hs : List Held) → All P (map f hs) → All (λ (h : Held). P (f h)) hs
+unmapped f P [] all = All-nil (λ (h : Held). P (f h))
+unmapped f P (h ∷ hs) all = All-cons (λ (h : Held). P (f h)) h hs (All-head P (f h) (map f hs) all) (unmapped f P hs (All-tail P (f h) (map f hs) all))
 
 transfers_same : (slot number : ℕ) (it : Outcome) (hs hs' : List Held) → held hs' ≡ with_answer slot number it (held hs) → map pending_of hs' ≡ map pending_of hs
 transfers_same slot number it hs hs' e =
     sym (pendings_are hs') ∙ ap (map (λ (h : PlainHeld). h.pending)) e ∙ answered_pendings slot number it (held hs) ∙ pendings_are hs
 
 all_answered : (P : Pending → Type 0) (hs hs' : List Held) → map pending_of hs' ≡ map pending_of hs → All (λ (h : Held). P (pending_of h)) hs → All (λ (h : Held). P (pending_of h)) hs'
-all_answered P hs hs' e all = unmapped P hs' (subst (All P) (sym e) (All-map P pending_of hs all))
+all_answered P hs hs' e all = unmapped pending_of P hs' (subst (All P) (sym e) (All-map P pending_of hs all))
 
 pub transfers_kept : {F X E : Type 0} → (told : F → Bool) (bytes : F → List ℕ) (r : Result X E) (slot number : ℕ) (job : Job F) (answer : Answer) (hs hs' : List Held)
     → OnOk r (IsAnswered told bytes slot number job answer hs hs') → OnErr r (hs' ≡ hs) → map pending_of hs' ≡ map pending_of hs
@@ -248,3 +284,76 @@ not_awaited sent hs slot number s own has =
           cc
       | inr b ↦ b
     ]
+
+-- ---- one more job of a slot is told
+
+module _ (told : List ℕ) (slot more : ℕ) (inside : slot < length told) (is : more ≡ get_or told slot 0 + 1) where
+  -- a job that is not this one is not told still
+  below : (at number : ℕ) → get_or told at 0 ≤ number → (at ≡ slot → number ≡ get_or told slot 0 → ⊥) → get_or (slice_set told slot more) at 0 ≤ number
+  below at number low other =
+      elim (eqb_tells at slot) [
+        | inl a ↦
+            let now : get_or (slice_set told slot more) at 0 ≡ get_or told slot 0 + 1 = ap (λ k. get_or (slice_set told slot more) k 0) a.1 ∙ get_or-set_same told slot more 0 inside ∙ is in
+            let was : get_or told at 0 ≡ get_or told slot 0 = ap (λ k. get_or told k 0) a.1 in
+            elim (eqb_tells number (get_or told slot 0)) [
+              | inl b ↦ absurd (other a.1 b.1)
+              | inr b ↦ omega (arith, now, was, low, b.1)
+            ]
+        | inr a ↦ omega (arith, get_or-set_other told slot at more 0 a.1, low)
+      ]
+
+  pub within_told : (sent : List ℕ) → AreWithin told sent → get_or told slot 0 < get_or sent slot 0 → AreWithin (slice_set told slot more) sent
+  within_told sent low owed = λ at.
+      below at (get_or sent at 0) (low at) (λ e f. let z : get_or sent at 0 ≡ get_or sent slot 0 = ap (λ k. get_or sent k 0) e in let bad : ⊥ = omega (arith, z, f, owed) in bad)
+
+  answer_by : (number : ℕ) (it : Outcome) (h : PlainHeld) → number ≡ get_or told slot 0 → (b : Bool) → is_at slot number h.pending ≡ b → IsUntold told h
+      → IsUntold (slice_set told slot more) (cond b (record { pending = h.pending; answer = Some it }) h)
+  answer_by number it h n true e low = λ none. let z : false ≡ true = none in cc
+  answer_by number it h n false e low = λ none.
+      below h.pending.slot h.pending.number (low none)
+      (λ a b. let z : true ≡ false = sym (ap (λ t. t && (h.pending.number == number)) (eq-eqb h.pending.slot slot a) ∙ eq-eqb h.pending.number number (b ∙ sym n)) ∙ e in let bad : ⊥ = cc in bad)
+
+  untold_with : (number : ℕ) (it : Outcome) (hs : List Held) → number ≡ get_or told slot 0 → AreUntold told hs → All (IsUntold (slice_set told slot more)) (with_answer slot number it (held hs))
+  untold_with number it hs n all =
+      let given : PlainHeld → PlainHeld = λ (h : PlainHeld). if is_at slot number h.pending then record { pending = h.pending; answer = Some it } else h in
+      let P : PlainHeld → Type 0 = IsUntold (slice_set told slot more) in
+      All-map P given (held hs)
+      (All-map (λ h. P (given h)) held_of hs (All-weaker (λ (h : Held). IsUntold told (held_of h)) (λ (h : Held). P (given (held_of h))) (λ h low. answer_by number it (held_of h) n (is_at slot number (held_of h).pending) refl low) hs all))
+
+  -- the transfer whose job it is has its answer
+  pub untold_answered : (number : ℕ) (it : Outcome) (hs hs' : List Held) → number ≡ get_or told slot 0 → held hs' ≡ with_answer slot number it (held hs) → AreUntold told hs → AreUntold (slice_set told slot more) hs'
+  untold_answered number it hs hs' n e all = unmapped held_of (IsUntold (slice_set told slot more)) hs' (subst (All (IsUntold (slice_set told slot more))) (sym e) (untold_with number it hs n all))
+
+  waiting_gave : {F : Type 0} → (at number : ℕ) (s : Stage F) → is_waiting s ≡ true → gave at number s ≡ true → awaits at number s ≡ true
+  waiting_gave at number stage.Start w g = g
+  waiting_gave at number (stage.Waiting whose from) w g = g
+  waiting_gave at number (stage.Resuming slots next condition) w g = g
+  waiting_gave at number (stage.Going next n) w g = let z : false ≡ true = w in cc
+  waiting_gave at number (stage.Awaiting own last then_) w g = g
+  waiting_gave at number (stage.Answered then_ job answer) w g = g
+
+  -- the statement's own job is another one
+  pub own_untold_kept : {F : Type 0} → (number : ℕ) (s : Stage F) → number ≡ get_or told slot 0 → is_waiting s ≡ true → awaits slot number s ≡ false → OwnIsUntold told s → OwnIsUntold (slice_set told slot more) s
+  own_untold_kept number s n w other own = λ at last g.
+      below at last (own at last g)
+      (λ a b. let z : awaits slot number s ≡ true = subst (λ k. awaits k number s ≡ true) a (subst (λ k. awaits at k s ≡ true) (b ∙ sym n) (waiting_gave at last s w g)) in let y : true ≡ false = sym z ∙ other in let bad : ⊥ = cc in bad)
+
+  own_by : {F : Type 0} → (b : Bool) (job : Job F) (answer : Answer) (own last at number : ℕ) (then_ : Then) → ((own == at) && (last == number)) ≡ b
+      → gave at number (cond b (stage.Answered then_ job answer) (stage.Awaiting own last then_)) ≡ true → ⊥
+  own_by true job answer own last at number then_ e g = let z : false ≡ true = g in let bad : ⊥ = cc in bad
+  own_by false job answer own last at number then_ e g = let z : false ≡ true = sym e ∙ g in let bad : ⊥ = cc in bad
+
+  own_goes : {F : Type 0} → (at number : ℕ) (job : Job F) (answer : Answer) (s : Stage F) → is_waiting s ≡ true → gave at number (with_own at number job answer s) ≡ true → ⊥
+  own_goes at number job answer stage.Start w g = let z : false ≡ true = g in let bad : ⊥ = cc in bad
+  own_goes at number job answer (stage.Waiting whose from) w g = let z : false ≡ true = g in let bad : ⊥ = cc in bad
+  own_goes at number job answer (stage.Resuming slots next condition) w g = let z : false ≡ true = g in let bad : ⊥ = cc in bad
+  own_goes at number job answer (stage.Going next n) w g = let z : false ≡ true = w in let bad : ⊥ = cc in bad
+  own_goes at number job answer (stage.Awaiting own last then_) w g = own_by ((own == at) && (last == number)) job answer own last at number then_ refl g
+  own_goes at number job answer (stage.Answered then_ other reply) w g = let z : false ≡ true = g in let bad : ⊥ = cc in bad
+
+  -- it is this one, and comes back; or it is another one
+  pub own_untold_with : {F : Type 0} → (number : ℕ) (job : Job F) (answer : Answer) (s : Stage F) → number ≡ get_or told slot 0 → is_waiting s ≡ true → OwnIsUntold told s
+      → OwnIsUntold (slice_set told slot more) (with_own slot number job answer s)
+  own_untold_with number job answer s n w own = λ at last g.
+      below at last (own at last (gave_with slot number job answer s at last g))
+      (λ a b. own_goes slot number job answer s w (subst (λ k. gave k number (with_own slot number job answer s) ≡ true) a (subst (λ k. gave at k (with_own slot number job answer s) ≡ true) (b ∙ sym n) g)))

@@ -19,12 +19,12 @@ abbrev pub IsMove : {F : Type 0} → Job F → Type 0
 IsMove (job.Move moved) = Unit {0}
 IsMove _ = ⊥
 
--- What the statement meets as it goes on: once it has the number of its job there is an identifier behind the next one, and once its
--- job was carried out that brings what is due. Where transfers are to be told first nothing is said.
+-- What the statement meets as it goes on: variables and places, and once its job was carried out that brings what is due. Where transfers
+-- are to be told first nothing is said.
 abbrev pub FitsStage : {F : Type 0} → List Variable → Statement → Core → Stage F → Type 0
 FitsStage variables what core stage.Start = ⊥
 FitsStage variables what core (stage.Waiting whose from) = ⊥
 FitsStage variables what core (stage.Resuming slots next condition) = condition ≡ Fine → Meets variables core what
-FitsStage variables what core (stage.Going next number) = core.next + 1 < 2 ^ 32
+FitsStage variables what core (stage.Going next number) = Unit {0}
 FitsStage variables what core (stage.Awaiting slot number then) = Unit {0}
-FitsStage variables what core (stage.Answered then job answer) = Brings variables core what then job
+FitsStage variables what core (stage.Answered then job answer) = Brings variables core.units then job

@@ -13,3 +13,4 @@ pub mod Closing
 pub mod Leaving
 pub mod Making
 pub mod Fitting
+pub mod Going

@@ -1,6 +1,8 @@
 -- Numbers of jobs, identifiers and slots of a run.
-use Rattle.std.specs.Prelude.{◌≡◌, ℕ, ◌<◌, ◌==◌, ◌&&◌, Bool, true, false, List, [], ◌∷◌, All, get_or}
+use Rattle.std.specs.Prelude.{◌≡◌, ℕ, ◌<◌, ◌≤◌, ◌==◌, ◌&&◌, Bool, true, false, List, [], ◌∷◌, All, get_or, is_none}
 use Rattle.fj_desk.specs.Desks.{most_slots}
+use Rattle.fj_turns.specs.Run.{Held as PlainHeld}
+use Rattle.fj_pending.specs.Plain.{held_of}
 use Rattle.fj_pending.specs.declared.held.Held.{Held}
 use Rattle.fj_acts.specs.Placing.{slot_behind}
 use Rattle.fj_acts.specs.declared.doing.Given.{Given}
@@ -41,6 +43,23 @@ IsLast sent hs slot number = (number < get_or sent slot 0) × All (λ (h : Held)
 -- the statement's own job is one
 abbrev pub OwnIsLast : {F : Type 0} → List ℕ → List Held → Stage F → Type 0
 OwnIsLast sent hs s = (slot number : ℕ) → gave slot number s ≡ true → IsLast sent hs slot number
+
+-- ---- jobs that are not told
+
+-- by slot no more jobs were told than were given
+abbrev pub AreWithin : List ℕ → List ℕ → Type 0
+AreWithin told sent = (slot : ℕ) → get_or told slot 0 ≤ get_or sent slot 0
+
+-- the job of a transfer without an answer is not told
+abbrev pub IsUntold : List ℕ → PlainHeld → Type 0
+IsUntold told h = is_none h.answer ≡ true → get_or told h.pending.slot 0 ≤ h.pending.number
+
+abbrev pub AreUntold : List ℕ → List Held → Type 0
+AreUntold told hs = All (λ (h : Held). IsUntold told (held_of h)) hs
+
+-- nor is the statement's own job
+abbrev pub OwnIsUntold : {F : Type 0} → List ℕ → Stage F → Type 0
+OwnIsUntold told s = (slot number : ℕ) → gave slot number s ≡ true → get_or told slot 0 ≤ number
 
 -- ---- slots
 

@@ -21,6 +21,15 @@ is_passed hs (stage.Going next number) = true
 is_passed hs (stage.Awaiting slot number then) = true
 is_passed hs (stage.Answered then job answer) = true
 
+-- it waits for an answer
+abbrev pub is_waiting : {F : Type 0} → Stage F → Bool
+is_waiting (stage.Waiting whose from) = true
+is_waiting (stage.Awaiting slot number then) = true
+is_waiting stage.Start = false
+is_waiting (stage.Resuming slots next condition) = false
+is_waiting (stage.Going next number) = false
+is_waiting (stage.Answered then job answer) = false
+
 -- it waits for its own job, of that slot and number
 abbrev pub awaits : {F : Type 0} → ℕ → ℕ → Stage F → Bool
 awaits slot number (stage.Awaiting own last then) = (own == slot) && (last == number)

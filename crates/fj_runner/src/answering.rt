@@ -15,7 +15,10 @@ ghost use Rattle.fj_statement.specs.declared.statement.Statement.{Statement as P
 ghost use Rattle.fj_runner.specs.Answering.{IsAnswered, with_own};
 ghost use Rattle.fj_runner.specs.Fitting.{IsMove};
 ghost use Rattle.fj_runner.specs.Machine.{run_in, stage_of};
+ghost use Rattle.fj_runner.specs.Passing.{is_waiting};
 ghost use Rattle.fj_runner.specs.Turned.{Stands};
+ghost use Rattle.fj_runner.specs.Fitting.{HasRoom};
+ghost use Rattle.fj_runner.specs.Going.{Hears};
 
 use crate::stage::Stage;
 use crate::state::State;
@@ -80,27 +83,33 @@ fn own<F: FileStore>(
 impl<F: FileStore> State<F> {
     /// Takes the answer of the first job of the slot that it waits for which was not told.
     pub(crate) fn answer(&mut self, job: Job<F>, answer: Answer) -> Result<(), Lost>
+        requires room { HasRoom self.old.told.items }
+        requires owed { get_or self.old.told.items self.old.due 0 < get_or self.old.sent.items self.old.due 0 }
+        requires waits { is_waiting self.old.stage ≡ true }
         ensures told { (variables : List Variable) (rest : List Stated) (files : Files) (task : Task) (stage : PlainStage)
             → task_of F.told F.bytes job ≡ Some task
             → stage_of F.told F.bytes variables rest (core_of files self.old.core) self.old.stage ≡ Some stage
             → OnOk result (Stands F.told F.bytes variables rest files self.new (told_of (run_in variables rest files self.old stage) (task, reply_of answer))) }
         ensures kept { self.new.core ≡ record (self.old.core) { pending = self.new.core.pending } }
-        ensures fits { get_or self.old.told.items self.old.due 0 + 1 < 2 ^ 64
-            → (list_any (λ h. is_at self.old.due (get_or self.old.told.items self.old.due 0) h.pending) (held self.old.core.pending) ≡ true → IsMove job)
+        ensures none { OnErr result ((self.new.core ≡ self.old.core) × (self.new.told ≡ self.old.told) × (self.new.stage ≡ self.old.stage)) }
+        ensures hears { OnOk result (Hears self.old self.new) }
+        ensures fits { (list_any (λ h. is_at self.old.due (get_or self.old.told.items self.old.due 0) h.pending) (held self.old.core.pending) ≡ true → IsMove job)
             → result ≢ Err Lost.Unfit }
         ensures may { (what : PlainStatement) → may_be_at what self.old.stage ≡ true → may_be_at what self.new.stage ≡ true }
     {
         let at = self.due as usize;
         let number = self.told[at];
-        let Some(further) = number.checked_add(1) else {
-            return Err(Lost::Unfit);
-        };
-        self.told[at] = further;
         if self.core.pending.has(self.due, number) {
-            return keep(&mut self.core.pending, self.due, number, job, answer);
+            match keep(&mut self.core.pending, self.due, number, job, answer) {
+                Ok(()) => {}
+                Err(lost) => return Err(lost),
+            }
+            self.told[at] = number + 1;
+            return Ok(());
         }
         let stage = mem::replace(&mut self.stage, Stage::Start);
         self.stage = own(stage, self.due, number, job, answer);
+        self.told[at] = number + 1;
         Ok(())
     }
 }

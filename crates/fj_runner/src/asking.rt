@@ -11,6 +11,8 @@ ghost use Rattle.fj_runner.specs.Machine.{rest_of, run_at, run_of};
 ghost use Rattle.fj_runner.specs.Turned.{IsTurn, IsAsked};
 ghost use Rattle.fj_runner.specs.Stepping.{Steps};
 ghost use Rattle.fj_runner.specs.Failing.{FailsCall};
+ghost use Rattle.fj_runner.specs.Fitting.{HasRoom};
+ghost use Rattle.fj_runner.specs.Going.{DoesNotPause, FromTurn, IsAt, KeepsToSlots, SentFor, SinceTurn};
 
 use crate::machine::Machine;
 use crate::stage::Stage;
@@ -35,6 +37,12 @@ impl<F: FileStore> Machine<F> {
             → IfNone result (passed_by (drop (self.old.at + 1) (stated self.old.deck.statements)) t ≡ Some (run_at files self.new Start)) }
         ensures at { IfNone result (self.new.at ≡ self.old.at + 1) }
         ensures deck { self.new.deck ≡ self.old.deck }
+        ensures on { FromTurn self.old turned (IsAt self.new) }
+        ensures behind { IfNone result (DoesNotPause turned) }
+        ensures start { FromTurn self.old turned (IfNone result (self.new.state.stage ≡ Stage.Start)) }
+        ensures still { SinceTurn self.old turned (λ s. IfNone result (self.new.state.sent ≡ s.sent)) }
+        ensures sent { SinceTurn self.old turned (λ s. IfSome result (λ ask. SentFor ask s.sent.items self.new.state.sent.items)) }
+        ensures slots { SinceTurn self.old turned (λ s. IfSome result (λ ask. KeepsToSlots ask self.new.state)) }
         ensures state { self.new.state ≡ self.old.state }
         ensures tally { self.new.tally ≡ self.old.tally }
         ensures kept { self.new.kept ≡ self.old.kept }
@@ -59,6 +67,7 @@ impl<F: FileStore> Machine<F> {
     ) -> Result<Option<Ask<Job<F>>>, Lost>
         requires names { D.tells disk.old → AreInUse self.old.state.core.names (D.held disk.old).in_use }
         requires at { self.old.at < length self.old.deck.statements }
+        requires room { HasRoom self.old.state.sent.items }
         ensures asks { D.tells disk.old → IfOk result (λ o. IfSome o (λ ask. IsAsked F.told F.bytes (files_of (D.held disk.new)) self.new ask
             (goes (rest_of self.old) (run_at (files_of (D.held disk.old)) self.old Start)))) }
         ensures passes { D.tells disk.old → IfOk result (λ o. IfNone o ((self.new.state.stage ≡ Stage.Start)
@@ -69,6 +78,12 @@ impl<F: FileStore> Machine<F> {
             (D.held disk.new) (D.refusals disk.old) (D.refusals disk.new)
             (run_at (files_of (D.held disk.old)) self.old Start) self.old self.new) }
         ensures at { IfOk result (λ o. IfNone o (self.new.at ≡ self.old.at + 1)) }
+        ensures on { self.old.state.stage ≡ Stage.Start → IsAt self.old → IfOk result (λ o. IsAt self.new) }
+        ensures start { self.old.state.stage ≡ Stage.Start → IsAt self.old → IfOk result (λ o. IfNone o (self.new.state.stage ≡ Stage.Start)) }
+        ensures sent { IfOk result (λ o. IfSome o (λ ask. SentFor ask self.old.state.sent.items self.new.state.sent.items)) }
+        ensures slots { IfOk result (λ o. IfSome o (λ ask. KeepsToSlots ask self.new.state)) }
+        ensures still { IfOk result (λ o. IfNone o (self.new.state.sent ≡ self.old.state.sent)) }
+        ensures heard { self.new.state.told ≡ self.old.state.told }
         ensures steps { Steps W.tells W.taken W.count D.tells D.held D.count D.refusals out.old disk.old self.old.state.core result out.new disk.new self.new.state.core }
         ensures deck { self.new.deck ≡ self.old.deck }
         ensures tally { self.new.tally ≡ self.old.tally }
@@ -92,8 +107,13 @@ impl<F: FileStore> Machine<F> {
         out: &mut W,
     ) -> Result<Ask<Job<F>>, Lost>
         requires names { D.tells disk.old → AreInUse self.old.state.core.names (D.held disk.old).in_use }
+        requires room { HasRoom self.old.state.sent.items }
         ensures asks { D.tells disk.old → self.old.state.stage ≡ Stage.Start → IfOk result (λ ask. IsAsked F.told F.bytes (files_of (D.held disk.new)) self.new ask
             (goes (rest_of self.old) (run_at (files_of (D.held disk.old)) self.old Start))) }
+        ensures on { self.old.state.stage ≡ Stage.Start → IsAt self.old → IfOk result (λ ask. IsAt self.new) }
+        ensures sent { IfOk result (λ ask. SentFor ask self.old.state.sent.items self.new.state.sent.items) }
+        ensures slots { IfOk result (λ ask. KeepsToSlots ask self.new.state) }
+        ensures heard { self.new.state.told ≡ self.old.state.told }
         ensures steps { Steps W.tells W.taken W.count D.tells D.held D.count D.refusals out.old disk.old self.old.state.core result out.new disk.new self.new.state.core }
         ensures fails { D.tells disk.old → OnErr result (FailsCall (λ lost. result ≡ Err lost) (W.tells out.old) (W.taken out.old) (W.taken out.new)
             (D.held disk.new) (D.refusals disk.old) (D.refusals disk.new)
@@ -125,8 +145,13 @@ impl<F: FileStore> Machine<F> {
         requires names { D.tells disk.old → AreInUse self.old.state.core.names (D.held disk.old).in_use }
         requires at { self.old.at < length self.old.deck.statements }
         requires starts { turned ≡ Turned.Passes → self.old.state.stage ≡ Stage.Start }
+        requires room { DoesNotPause turned → HasRoom self.old.state.sent.items }
         ensures asks { D.tells disk.old → (t : Turn) → IsTurn F.told F.bytes self.old.deck.variables (rest_of self.old) (files_of (D.held disk.old)) self.old.state turned t
             → IfOk result (λ ask. IsAsked F.told F.bytes (files_of (D.held disk.new)) self.new ask (by_turn (drop (self.old.at + 1) (stated self.old.deck.statements)) t)) }
+        ensures on { FromTurn self.old turned (IfOk result (λ ask. IsAt self.new)) }
+        ensures sent { SinceTurn self.old turned (λ s. IfOk result (λ ask. SentFor ask s.sent.items self.new.state.sent.items)) }
+        ensures slots { SinceTurn self.old turned (λ s. IfOk result (λ ask. KeepsToSlots ask self.new.state)) }
+        ensures heard { self.new.state.told ≡ self.old.state.told }
         ensures steps { Steps W.tells W.taken W.count D.tells D.held D.count D.refusals out.old disk.old self.old.state.core result out.new disk.new self.new.state.core }
         ensures fails { D.tells disk.old → (t : Turn) → IsTurn F.told F.bytes self.old.deck.variables (rest_of self.old) (files_of (D.held disk.old)) self.old.state turned t
             → OnErr result ((r : Run) × (passed_by (drop (self.old.at + 1) (stated self.old.deck.statements)) t ≡ Some r)
@@ -149,8 +174,13 @@ impl<F: FileStore> Machine<F> {
         out: &mut W,
     ) -> Result<Ask<Job<F>>, Lost>
         requires names { D.tells disk.old → AreInUse self.old.state.core.names (D.held disk.old).in_use }
+        requires room { HasRoom self.old.state.sent.items }
         ensures asks { D.tells disk.old → (r : Run) → run_of F.told F.bytes (files_of (D.held disk.old)) self.old ≡ Some r
             → IfOk result (λ ask. IsAsked F.told F.bytes (files_of (D.held disk.new)) self.new ask (asked r)) }
+        ensures on { IsAt self.old → IfOk result (λ ask. IsAt self.new) }
+        ensures sent { IfOk result (λ ask. SentFor ask self.old.state.sent.items self.new.state.sent.items) }
+        ensures slots { IfOk result (λ ask. KeepsToSlots ask self.new.state) }
+        ensures heard { self.new.state.told ≡ self.old.state.told }
         ensures steps { Steps W.tells W.taken W.count D.tells D.held D.count D.refusals out.old disk.old self.old.state.core result out.new disk.new self.new.state.core }
         ensures fails { D.tells disk.old → (r : Run) → run_of F.told F.bytes (files_of (D.held disk.old)) self.old ≡ Some r
             → OnErr result (FailsCall (λ lost. result ≡ Err lost) (W.tells out.old) (W.taken out.old) (W.taken out.new) (D.held disk.new) (D.refusals disk.old) (D.refusals disk.new) r self.old self.new) }

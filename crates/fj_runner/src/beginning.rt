@@ -1,5 +1,5 @@
 // How a statement begins: prohibitions, then the transfers that it waits for are settled and told.
-ghost use Rattle.std.specs.Prelude.{◌≡◌, ◌≢◌, ◌<◌, List, ◌∷◌, ◌++◌, not, map, filter, true, Some, IfOk, OnOk};
+ghost use Rattle.std.specs.Prelude.{◌≡◌, ◌≢◌, ◌<◌, List, ◌∷◌, ◌++◌, not, map, filter, get_or, true, Some, IfOk, OnOk};
 ghost use Rattle.fj_items.specs.Kinds.{kinds_of};
 ghost use Rattle.fj_store.specs.Storage.{values_of};
 ghost use Rattle.fj_plain.specs.State.{Entry, Files};
@@ -21,12 +21,15 @@ ghost use Rattle.fj_acts.specs.Calling.{calls_disk};
 ghost use Rattle.fj_acts.specs.State.{core_of};
 ghost use Rattle.fj_units.specs.Files.{files_of};
 ghost use Rattle.fj_runner.specs.Machine.{run_in, stage_of};
-ghost use Rattle.fj_runner.specs.Numbering.{AreSlots, OwnIsLast, slots_behind};
-ghost use Rattle.fj_runner.specs.Passing.{are_passed, is_passed};
+ghost use Rattle.fj_runner.specs.Numbering.{AreSlots, OwnIsLast, OwnIsUntold, slots_behind};
+ghost use Rattle.fj_runner.specs.Passing.{are_passed, is_passed, is_waiting};
 ghost use Rattle.fj_runner.specs.Turned.{IsTurn};
 ghost use Rattle.fj_runner.specs.Stepping.{Keeps, Steps};
 ghost use Rattle.fj_runner.specs.Failing.{FailsTurn, FailsStage};
 ghost use Rattle.fj_runner.specs.Closing.{may_be_at};
+ghost use Rattle.fj_units.specs.Having.{HaveFiles};
+ghost use Rattle.fj_runner.specs.Fitting.{HasRoom};
+ghost use Rattle.fj_runner.specs.Going.{Counts, HaveAt, HaveTurned};
 
 use crate::ending::Ending;
 use crate::halted::halted_slots;
@@ -73,6 +76,7 @@ fn tell_all(
     ensures left { OnOk result (held core.new.pending ≡ filter (λ h. not (tells_id (waited_of whose (entries core.old.pending)) h.pending.id)) (held core.old.pending)) }
     ensures some { LeavesSome core.old.pending core.new.pending }
     ensures next { core.new.next ≡ core.old.next }
+    ensures units { core.new.units ≡ core.old.units }
     ensures keeps { Keeps core.old result core.new }
 {
     let told = core.pending.tell(
@@ -103,11 +107,15 @@ impl<F: FileStore> State<F> {
     ) -> Result<Turned<F>, Lost>
         requires kinds { self.old.core.store.kinds ≡ kinds_of variables.now }
         requires names { D.tells disk.old → AreInUse self.old.core.names (D.held disk.old).in_use }
+        requires room { HasRoom self.old.sent.items }
         ensures turn { D.tells disk.old → (more : List Stated) (stage : PlainStage)
             → IfOk result (λ t. IsTurn F.told F.bytes variables.now ((lined.now, control_by lined.now.what) ∷ more) (files_of (D.held disk.new)) self.new t
             (turn_tell (lined.now, control_by lined.now.what) (waited_of whose (entries self.old.core.pending))
             (run_in variables.now ((lined.now, control_by lined.now.what) ∷ more) (files_of (D.held disk.old)) self.old stage))) }
         ensures steps { Steps W.tells W.taken W.count D.tells D.held D.count D.refusals out.old disk.old self.old.core result out.new disk.new self.new.core }
+        ensures files { HaveFiles self.old.core.names self.old.core.units → IfOk result (λ t. HaveTurned t self.new lined.now.what) }
+        ensures counts { IfOk result (λ t. Counts t self.old self.new) }
+        ensures heard { self.new.told ≡ self.old.told }
         ensures fails { D.tells disk.old → (more : List Stated) (stage : PlainStage)
             → FailsTurn W.tells W.taken out.old self.old.core result out.new self.new.core (D.held disk.new) (D.refusals disk.old) (D.refusals disk.new)
             (output_of (turn_tell (lined.now, control_by lined.now.what) (waited_of whose (entries self.old.core.pending))
@@ -136,13 +144,19 @@ impl<F: FileStore> State<F> {
         requires passed { is_passed self.old.core.pending stage ≡ true }
         requires slot { slot < most_slots }
         requires own { OwnIsLast self.old.sent.items self.old.core.pending stage }
+        requires own_untold { OwnIsUntold self.old.told.items stage }
         requires later { AreSlots (slots_behind stage) }
+        requires owed { get_or self.old.told.items slot 0 < get_or self.old.sent.items slot 0 }
+        requires waits { is_waiting stage ≡ true }
         ensures turn { (variables : List Variable) (rest : List Stated) (files : Files) (before after : PlainStage)
             → stage_of F.told F.bytes variables rest (core_of files self.old.core) stage ≡ Some after
             → IsTurn F.told F.bytes variables rest files self.new result (settles slot after (run_in variables rest files self.old before)) }
         ensures core { self.new.core ≡ self.old.core }
         ensures stage { self.new.stage ≡ stage }
         ensures pauses { result ≢ Turned.Passes }
+        ensures files { (what : Statement) → HaveAt stage self.old.core.names self.old.core.units what → HaveTurned result self.new what }
+        ensures counts { Counts result self.old self.new }
+        ensures heard { self.new.told ≡ self.old.told }
     {
         put_stage(&mut self.stage, stage);
         self.due = slot;
@@ -162,6 +176,7 @@ impl<F: FileStore> State<F> {
     ) -> Result<Turned<F>, Lost>
         requires kinds { self.old.core.store.kinds ≡ kinds_of variables.now }
         requires names { D.tells disk.old → AreInUse self.old.core.names (D.held disk.old).in_use }
+        requires room { HasRoom self.old.sent.items }
         requires whose { (es : List Entry) → waited_of whose es ≡ waited_in es (values_of self.old.core.store) lined.now.what }
         requires from { are_passed self.old.core.pending whose from ≡ true }
         ensures turn { D.tells disk.old → (more : List Stated) (stage : PlainStage)
@@ -169,6 +184,9 @@ impl<F: FileStore> State<F> {
             (turn_wait (lined.now, control_by lined.now.what)
             (run_in variables.now ((lined.now, control_by lined.now.what) ∷ more) (files_of (D.held disk.old)) self.old stage))) }
         ensures steps { Steps W.tells W.taken W.count D.tells D.held D.count D.refusals out.old disk.old self.old.core result out.new disk.new self.new.core }
+        ensures files { HaveFiles self.old.core.names self.old.core.units → IfOk result (λ t. HaveTurned t self.new lined.now.what) }
+        ensures counts { IfOk result (λ t. Counts t self.old self.new) }
+        ensures heard { self.new.told ≡ self.old.told }
         ensures fails { D.tells disk.old → (more : List Stated) (stage : PlainStage)
             → FailsStage W.tells W.taken out.old self.old.core result out.new self.new.core (D.held disk.new) (D.refusals disk.old) (D.refusals disk.new) (lined.now, control_by lined.now.what) Waiting
             (run_in variables.now ((lined.now, control_by lined.now.what) ∷ more) (files_of (D.held disk.old)) self.old stage) }
@@ -194,12 +212,16 @@ impl<F: FileStore> State<F> {
     ) -> Result<Turned<F>, Lost>
         requires kinds { self.old.core.store.kinds ≡ kinds_of variables.now }
         requires names { D.tells disk.old → AreInUse self.old.core.names (D.held disk.old).in_use }
+        requires room { HasRoom self.old.sent.items }
         requires passed { are_passed self.old.core.pending known from ≡ true }
         ensures turn { D.tells disk.old → (more : List Stated) (stage : PlainStage)
             → IfOk result (λ t. IsTurn F.told F.bytes variables.now ((lined.now, control_by lined.now.what) ∷ more) (files_of (D.held disk.new)) self.new t
             (turn_wait (lined.now, control_by lined.now.what)
             (run_in variables.now ((lined.now, control_by lined.now.what) ∷ more) (files_of (D.held disk.old)) self.old stage))) }
         ensures steps { Steps W.tells W.taken W.count D.tells D.held D.count D.refusals out.old disk.old self.old.core result out.new disk.new self.new.core }
+        ensures files { HaveFiles self.old.core.names self.old.core.units → IfOk result (λ t. HaveTurned t self.new lined.now.what) }
+        ensures counts { IfOk result (λ t. Counts t self.old self.new) }
+        ensures heard { self.new.told ≡ self.old.told }
         ensures fails { D.tells disk.old → (more : List Stated) (stage : PlainStage)
             → FailsStage W.tells W.taken out.old self.old.core result out.new self.new.core (D.held disk.new) (D.refusals disk.old) (D.refusals disk.new) (lined.now, control_by lined.now.what) Waiting
             (run_in variables.now ((lined.now, control_by lined.now.what) ∷ more) (files_of (D.held disk.old)) self.old stage) }
@@ -223,11 +245,15 @@ impl<F: FileStore> State<F> {
         requires kinds { self.old.core.store.kinds ≡ kinds_of variables.now }
         requires names { D.tells disk.old → AreInUse self.old.core.names (D.held disk.old).in_use }
         requires hand { may_be_at lined.now.what self.old.stage ≡ true }
+        requires room { HasRoom self.old.sent.items }
         ensures turn { D.tells disk.old → (more : List Stated) (stage : PlainStage)
             → IfOk result (λ t. IsTurn F.told F.bytes variables.now ((lined.now, control_by lined.now.what) ∷ more) (files_of (D.held disk.new)) self.new t
             (turn_start (lined.now, control_by lined.now.what)
             (run_in variables.now ((lined.now, control_by lined.now.what) ∷ more) (files_of (D.held disk.old)) self.old stage))) }
         ensures steps { Steps W.tells W.taken W.count D.tells D.held D.count D.refusals out.old disk.old self.old.core result out.new disk.new self.new.core }
+        ensures files { HaveFiles self.old.core.names self.old.core.units → IfOk result (λ t. HaveTurned t self.new lined.now.what) }
+        ensures counts { IfOk result (λ t. Counts t self.old self.new) }
+        ensures heard { self.new.told ≡ self.old.told }
         ensures fails { D.tells disk.old → (more : List Stated) (stage : PlainStage)
             → FailsStage W.tells W.taken out.old self.old.core result out.new self.new.core (D.held disk.new) (D.refusals disk.old) (D.refusals disk.new) (lined.now, control_by lined.now.what) Start
             (run_in variables.now ((lined.now, control_by lined.now.what) ∷ more) (files_of (D.held disk.old)) self.old stage) }

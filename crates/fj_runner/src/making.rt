@@ -9,6 +9,8 @@ ghost use Rattle.fj_turns.specs.Serving.{first_run};
 ghost use Rattle.fj_runner.specs.Machine.{run_of};
 ghost use Rattle.fj_runner.specs.Making.{shape_of};
 ghost use Rattle.fj_runner.specs.declared.hand.Hand.TheVariants.{Idle};
+ghost use Rattle.fj_statement.specs.Sound.{IsSound};
+ghost use Rattle.fj_runner.specs.Going.{IsGoing};
 
 use crate::hand::Hand;
 use crate::machine::Machine;
@@ -95,6 +97,7 @@ impl<F: FileStore> Machine<F> {
         ensures names { IfOk result (λ m. m.state.core.names ≡ []) }
         ensures deck { IfOk result (λ m. m.deck ≡ deck) }
         ensures kept { IfOk result (λ m. m.kept ≡ None) }
+        ensures on { IsSound deck → IfOk result IsGoing }
     {
         let core = first_core(alloc, deck.variables.as_slice())?;
         let tally = first_tally(alloc, deck.statements.len())?;

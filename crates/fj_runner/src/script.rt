@@ -13,6 +13,8 @@ ghost use Rattle.fj_runner.specs.Failing.{IsGivenUp, FailsAsking, Stays, HasReas
 ghost use Rattle.fj_runner.specs.Leaving.{Leaves, Leads};
 ghost use Rattle.fj_runner.specs.Machine.{run_of};
 ghost use Rattle.fj_runner.specs.Tallying.{due_of, owed_at};
+ghost use Rattle.fj_runner.specs.Fitting.{HasRoom};
+ghost use Rattle.fj_runner.specs.Going.{IsGoing, OwesAsGiven};
 
 use crate::hand::Hand;
 use crate::machine::Machine;
@@ -30,6 +32,7 @@ pub struct Runner<'a, 'b, 'c, W: Sink, D: Disk> {
     pub disk: &'b mut D,
     pub machine: &'c mut Machine<D::File>,
     ghost names: { D.tells disk.now → AreInUse machine.now.state.core.names (D.held disk.now).in_use },
+    ghost on: { ∥ (machine.now.tally.over ≡ false → IsGoing machine.now) ∥₁ },
 }
 
 /// What the machine asks next.
@@ -41,12 +44,15 @@ fn next_of<W: Sink, D: Disk>(
 ) -> Ask<Job<D::File>>
     requires idle { machine.old.tally.hand ≡ Hand.Idle }
     requires names { D.tells disk.old → AreInUse machine.old.state.core.names (D.held disk.old).in_use }
+    requires room { machine.old.tally.over ≡ false → HasRoom machine.old.state.sent.items }
+    requires owes { machine.old.tally.over ≡ false → OwesAsGiven machine.old.tally.hand machine.old.tally.owed.items machine.old.state.sent.items machine.old.state.told.items }
     ensures due { IsDue machine.old.tally result machine.new.tally }
     ensures rests { machine.old.tally.over ≡ true → (machine.new ≡ machine.old) × (disk.new ≡ disk.old) × (out.new ≡ out.old) }
     ensures reason { HasReason machine.old machine.new }
     ensures asks { D.tells disk.old → (r : Run) → run_of D.File.told D.File.bytes (files_of (D.held disk.old)) machine.old ≡ Some r → machine.new.tally.over ≡ false
         → IsAsked D.File.told D.File.bytes (files_of (D.held disk.new)) machine.new result (asked r) }
     ensures names { D.tells disk.old → AreInUse machine.new.state.core.names (D.held disk.new).in_use }
+    ensures on { IsGoing machine.old → machine.new.tally.over ≡ false → IsGoing machine.new }
     ensures leaves { Leaves W.tells W.taken W.count D.tells D.count D.refusals out.old disk.old machine.old out.new disk.new machine.new }
     ensures fails { D.tells disk.old → IsGivenUp (W.tells out.old) (W.taken out.old) (W.taken out.new) (D.held disk.new) (D.refusals disk.old) (D.refusals disk.new)
         (run_of D.File.told D.File.bytes (files_of (D.held disk.old)) machine.old) machine.old machine.new }

@@ -1,5 +1,5 @@
 // Asks that are made and answered.
-ghost use Rattle.std.specs.Prelude.{◌≡◌, ◌⊎◌, ◌<◌, ℕ, true, false, OnErr, OnOk, Some, None, IsSome};
+ghost use Rattle.std.specs.Prelude.{◌≡◌, ◌⊎◌, ◌<◌, ℕ, get_or, true, false, OnErr, OnOk, Some, None, IsSome};
 ghost use Rattle.fj_bay.specs.Jobs.{Job as Task, Answer as Reply};
 ghost use Rattle.fj_bay.specs.Meaning.{bay_meaning};
 ghost use Rattle.fj_bay.specs.Plain.{task_of, reply_of};
@@ -10,7 +10,7 @@ ghost use Rattle.fj_turns.specs.Turns.{asked, told_of};
 ghost use Rattle.fj_units.specs.Names.{AreInUse};
 ghost use Rattle.fj_units.specs.Files.{files_of};
 ghost use Rattle.fj_world.specs.Conduct.{IsSubmitting, IsSettling, IsAnswer, is_done, owed_after_settle, owed_after_took};
-ghost use Rattle.fj_runner.specs.Admitting.{IsDue, IsAdmitted};
+ghost use Rattle.fj_runner.specs.Admitting.{IsDue, IsAdmitted, MayAsk};
 ghost use Rattle.fj_runner.specs.Failing.{IsGivenUp, HasReason};
 ghost use Rattle.fj_runner.specs.Leaving.{Leaves, Rests};
 ghost use Rattle.fj_runner.specs.Machine.{run_of};
@@ -18,6 +18,9 @@ ghost use Rattle.fj_runner.specs.Refused.{brought};
 ghost use Rattle.fj_runner.specs.Tallying.{due_of, first_lost, owed_at};
 ghost use Rattle.fj_runner.specs.Turned.{IsAsked};
 ghost use Rattle.fj_runner.specs.declared.hand.Hand.TheVariants.{Idle};
+ghost use Rattle.fj_runner.specs.Fitting.{HasRoom};
+ghost use Rattle.fj_runner.specs.Going.{Hears, IsGoing, OwesAsGiven};
+ghost use Rattle.fj_runner.specs.Passing.{is_waiting};
 
 use crate::machine::Machine;
 use fj_bay::{Answer, Bay, Job};
@@ -62,10 +65,11 @@ impl<F: FileStore> Machine<F> {
         Ask::Finished
     }
 
-    /// Asks, where that may be asked; else it is given up.
+    /// Asks, where one more ask may come; else it is given up.
     fn admit(&mut self, ask: Ask<Job<F>>) -> Ask<Job<F>>
         requires idle { self.old.tally.hand ≡ Idle }
         requires going { self.old.tally.over ≡ false }
+        requires may { MayAsk ask self.old.tally.owed.items }
         ensures due { IsDue self.old.tally result self.new.tally }
         ensures admitted { IsAdmitted self.old.tally ask result self.new.tally }
         ensures state { self.new.state ≡ self.old.state }
@@ -92,12 +96,15 @@ impl<F: FileStore> Machine<F> {
     ) -> Ask<Job<F>>
         requires idle { self.old.tally.hand ≡ Idle }
         requires names { D.tells disk.old → AreInUse self.old.state.core.names (D.held disk.old).in_use }
+        requires room { self.old.tally.over ≡ false → HasRoom self.old.state.sent.items }
+        requires owes { self.old.tally.over ≡ false → OwesAsGiven self.old.tally.hand self.old.tally.owed.items self.old.state.sent.items self.old.state.told.items }
         ensures due { IsDue self.old.tally result self.new.tally }
         ensures rests { self.old.tally.over ≡ true → (self.new ≡ self.old) × (disk.new ≡ disk.old) × (out.new ≡ out.old) }
         ensures reason { HasReason self.old self.new }
         ensures asks { D.tells disk.old → (r : Run) → run_of F.told F.bytes (files_of (D.held disk.old)) self.old ≡ Some r → self.new.tally.over ≡ false
             → IsAsked F.told F.bytes (files_of (D.held disk.new)) self.new result (asked r) }
         ensures names { D.tells disk.old → AreInUse self.new.state.core.names (D.held disk.new).in_use }
+        ensures on { IsGoing self.old → self.new.tally.over ≡ false → IsGoing self.new }
         ensures leaves { Leaves W.tells W.taken W.count D.tells D.count D.refusals out.old disk.old self.old out.new disk.new self.new }
         ensures fails { D.tells disk.old → IsGivenUp (W.tells out.old) (W.taken out.old) (W.taken out.new) (D.held disk.new) (D.refusals disk.old) (D.refusals disk.new)
             (run_of F.told F.bytes (files_of (D.held disk.old)) self.old) self.old self.new }
@@ -127,6 +134,7 @@ impl<F: FileStore> Machine<F> {
         ensures stopped { self.new.tally.stopped ≡ self.old.tally.stopped }
         ensures state { self.new.state ≡ self.old.state }
         ensures at { self.new.at ≡ self.old.at }
+        ensures on { IsGoing self.old → self.new.tally.over ≡ false → IsGoing self.new }
         ensures rests { Rests self.old self.new }
     {
         match number {
@@ -141,7 +149,10 @@ impl<F: FileStore> Machine<F> {
 
     /// Takes the answer that it waited for; where it is not due, it is given up.
     fn take_answer(&mut self, job: Job<F>, answer: Answer)
-        requires { self.old.tally.hand ≡ Idle }
+        requires idle { self.old.tally.hand ≡ Idle }
+        requires room { HasRoom self.old.state.told.items }
+        requires owed { get_or self.old.state.told.items self.old.state.due 0 < get_or self.old.state.sent.items self.old.state.due 0 }
+        requires waits { is_waiting self.old.state.stage ≡ true }
         ensures told { (files : Files) (r : Run) (task : Task) → run_of F.told F.bytes files self.old ≡ Some r → task_of F.told F.bytes job ≡ Some task
             → self.new.tally.over ≡ false → run_of F.told F.bytes files self.new ≡ Some (told_of r (task, reply_of answer)) }
         ensures hand { self.new.tally.hand ≡ Idle }
@@ -150,6 +161,7 @@ impl<F: FileStore> Machine<F> {
         ensures over { self.old.tally.over ≡ true → self.new.tally.over ≡ true }
         ensures reason { self.old.tally.over ≡ false → self.new.tally.over ≡ true → IsSome self.new.tally.lost }
         ensures stopped { self.new.tally.stopped ≡ self.old.tally.stopped }
+        ensures hears { self.new.tally.over ≡ false → Hears self.old.state self.new.state }
         ensures rests { Rests self.old self.new }
     {
         match self.state.answer(job, answer) {
@@ -160,7 +172,10 @@ impl<F: FileStore> Machine<F> {
 
     /// Hears what became of the job that it waited for.
     pub(crate) fn hear(&mut self, told: Told<Bay<F>>)
-        requires { IsSettling (due_of self.old.tally.hand) }
+        requires settling { IsSettling (due_of self.old.tally.hand) }
+        requires room { HasRoom self.old.state.told.items }
+        requires owed { get_or self.old.state.told.items self.old.state.due 0 < get_or self.old.state.sent.items self.old.state.due 0 }
+        requires waits { is_waiting self.old.state.stage ≡ true }
         ensures hand { self.new.tally.hand ≡ Idle }
         ensures left { self.new.tally.left < self.old.tally.left }
         ensures owed { (slot : ℕ) → owed_at self.new.tally.owed.items slot ≡ owed_after_settle (due_of self.old.tally.hand) (owed_at self.old.tally.owed.items) slot }
@@ -170,6 +185,7 @@ impl<F: FileStore> Machine<F> {
         ensures stops { self.new.tally.stopped ≡ true → (is_done told ≡ false) × (self.new.state ≡ self.old.state) × (self.new.at ≡ self.old.at) }
         ensures told { (files : Files) (r : Run) (reply : Outcome) → run_of F.told F.bytes files self.old ≡ Some r → self.new.tally.over ≡ false
             → IsAnswer (bay_meaning F.told F.bytes F.count) told reply → run_of F.told F.bytes files self.new ≡ Some (told_of r reply) }
+        ensures on { IsGoing self.old → self.new.tally.over ≡ false → IsGoing self.new }
         ensures rests { Rests self.old self.new }
     {
         self.tally.settled();

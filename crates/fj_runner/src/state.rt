@@ -2,7 +2,7 @@
 ghost use Rattle.std.specs.Prelude.{◌≡◌, ◌<◌, true, length};
 ghost use Rattle.std.proofs.Props.{props};
 ghost use Rattle.fj_desk.specs.Desks.{most_slots};
-ghost use Rattle.fj_runner.specs.Numbering.{AreGiven, AreNamed, AreSlots, OwnIsLast, slots_behind};
+ghost use Rattle.fj_runner.specs.Numbering.{AreGiven, AreNamed, AreSlots, AreUntold, AreWithin, OwnIsLast, OwnIsUntold, slots_behind};
 ghost use Rattle.fj_runner.specs.Passing.{is_passed};
 
 use crate::ending::Ending;
@@ -27,5 +27,8 @@ pub(crate) struct State<F: FileStore> {
     ghost given: { AreGiven sent.items core.pending } by { Prim.hlevel props },
     ghost named: { AreNamed core.next core.pending } by { Prim.hlevel props },
     ghost own: { OwnIsLast sent.items core.pending stage } by { Prim.hlevel props },
+    ghost within: { AreWithin told.items sent.items } by { Prim.hlevel props },
+    ghost untold: { AreUntold told.items core.pending } by { Prim.hlevel props },
+    ghost own_untold: { OwnIsUntold told.items stage } by { Prim.hlevel props },
     ghost later: { AreSlots (slots_behind stage) } by { Prim.hlevel props },
 }

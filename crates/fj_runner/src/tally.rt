@@ -29,39 +29,38 @@ pub(crate) struct Tally {
 }
 
 impl Tally {
-    /// Whether a job may be submitted to a slot; it is then at hand.
+    /// Whether one more ask may come; that of a job for a slot is then at hand.
     pub(crate) fn may_submit(&mut self, slot: u32) -> bool
-        requires { (self.old.hand ≡ Idle) × (self.old.over ≡ false) }
-        ensures may { result ≡ true → (self.new.hand ≡ Submitting slot) × (slot < 16) × (0 < self.new.left) }
-        ensures not { result ≡ false → self.new.hand ≡ Idle }
+        requires idle { (self.old.hand ≡ Idle) × (self.old.over ≡ false) }
+        requires slot { slot < 16 }
+        ensures may { result ≡ true → (self.new.hand ≡ Submitting slot) × (0 < self.new.left) }
+        ensures not { result ≡ false → (self.new.hand ≡ Idle) × (self.old.left ≡ 0) }
         ensures left { self.new.left ≡ self.old.left }
         ensures owed { self.new.owed ≡ self.old.owed }
         ensures over { self.new.over ≡ self.old.over }
         ensures stopped { self.new.stopped ≡ self.old.stopped }
         ensures lost { self.new.lost ≡ self.old.lost }
     {
-        if slot >= 16 || self.left == 0 {
+        if self.left == 0 {
             return false;
         }
         self.hand = Hand::Submitting(slot);
         true
     }
 
-    /// Whether the answer of a job of a slot may be awaited; it is then at hand.
+    /// Whether one more ask may come; that for the answer of a slot is then at hand.
     pub(crate) fn may_settle(&mut self, slot: u32) -> bool
-        requires { (self.old.hand ≡ Idle) × (self.old.over ≡ false) }
-        ensures may { result ≡ true → (self.new.hand ≡ Settling slot) × (slot < 16) × (0 < self.new.left) × (0 < owed_at self.new.owed.items slot) }
-        ensures not { result ≡ false → self.new.hand ≡ Idle }
+        requires idle { (self.old.hand ≡ Idle) × (self.old.over ≡ false) }
+        requires slot { (slot < 16) × (0 < owed_at self.old.owed.items slot) }
+        ensures may { result ≡ true → (self.new.hand ≡ Settling slot) × (0 < self.new.left) }
+        ensures not { result ≡ false → (self.new.hand ≡ Idle) × (self.old.left ≡ 0) }
         ensures left { self.new.left ≡ self.old.left }
         ensures owed { self.new.owed ≡ self.old.owed }
         ensures over { self.new.over ≡ self.old.over }
         ensures stopped { self.new.stopped ≡ self.old.stopped }
         ensures lost { self.new.lost ≡ self.old.lost }
     {
-        if slot >= 16 || self.left == 0 {
-            return false;
-        }
-        if self.owed[slot as usize] == 0 {
+        if self.left == 0 {
             return false;
         }
         self.hand = Hand::Settling(slot);

@@ -1,5 +1,5 @@
 // A statement goes on from its stage.
-ghost use Rattle.std.specs.Prelude.{◌≡◌, ◌≢◌, List, ◌∷◌, true, Some, IfOk, Err};
+ghost use Rattle.std.specs.Prelude.{◌≡◌, ◌≢◌, ◌+◌, ◌<◌, ◌^◌, List, ◌∷◌, true, Some, IfOk, Err};
 ghost use Rattle.fj_statement.specs.Sound.{IsSoundStatement};
 ghost use Rattle.fj_items.specs.Kinds.{kinds_of};
 ghost use Rattle.fj_plain.specs.Statement.{Stated, control_by};
@@ -14,6 +14,7 @@ ghost use Rattle.fj_runner.specs.Stepping.{Steps};
 ghost use Rattle.fj_runner.specs.Failing.{FailsStage};
 ghost use Rattle.fj_runner.specs.Closing.{may_be_at};
 ghost use Rattle.fj_runner.specs.Fitting.{FitsStage, HasRoom};
+ghost use Rattle.fj_runner.specs.Going.{Counts, HaveAt, HaveTurned};
 
 use crate::stage::Stage;
 use crate::state::State;
@@ -38,14 +39,18 @@ impl<F: FileStore> State<F> {
         requires kinds { self.old.core.store.kinds ≡ kinds_of variables.now }
         requires names { D.tells disk.old → AreInUse self.old.core.names (D.held disk.old).in_use }
         requires hand { may_be_at lined.now.what self.old.stage ≡ true }
+        requires room { HasRoom self.old.sent.items }
         ensures turn { D.tells disk.old → (more : List Stated) (stage : PlainStage)
             → stage_of F.told F.bytes variables.now ((lined.now, control_by lined.now.what) ∷ more) (core_of (files_of (D.held disk.old)) self.old.core) self.old.stage ≡ Some stage
             → IfOk result (λ t. IsTurn F.told F.bytes variables.now ((lined.now, control_by lined.now.what) ∷ more) (files_of (D.held disk.new)) self.new t
             (turns.turn (lined.now, control_by lined.now.what) stage
             (run_in variables.now ((lined.now, control_by lined.now.what) ∷ more) (files_of (D.held disk.old)) self.old stage))) }
         ensures steps { Steps W.tells W.taken W.count D.tells D.held D.count D.refusals out.old disk.old self.old.core result out.new disk.new self.new.core }
-        ensures fits { IsSoundStatement variables.now lined.now.what → HasRoom self.old.sent.items
+        ensures fits { IsSoundStatement variables.now lined.now.what → HaveAt self.old.stage self.old.core.names self.old.core.units lined.now.what → self.old.core.next + 1 < 2 ^ 32
             → FitsStage variables.now lined.now.what self.old.core self.old.stage → result ≢ Err Lost.Unfit }
+        ensures files { HaveAt self.old.stage self.old.core.names self.old.core.units lined.now.what → IfOk result (λ t. HaveTurned t self.new lined.now.what) }
+        ensures counts { IfOk result (λ t. Counts t self.old self.new) }
+        ensures heard { self.new.told ≡ self.old.told }
         ensures fails { D.tells disk.old → (more : List Stated) (stage : PlainStage)
             → stage_of F.told F.bytes variables.now ((lined.now, control_by lined.now.what) ∷ more) (core_of (files_of (D.held disk.old)) self.old.core) self.old.stage ≡ Some stage
             → FailsStage W.tells W.taken out.old self.old.core result out.new self.new.core (D.held disk.new) (D.refusals disk.old) (D.refusals disk.new) (lined.now, control_by lined.now.what) stage

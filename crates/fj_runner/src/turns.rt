@@ -32,6 +32,11 @@ ghost use Rattle.fj_runner.specs.Stepping.{Keeps, Steps};
 ghost use Rattle.fj_runner.specs.Failing.{FailsTurn};
 ghost use Rattle.fj_runner.specs.Closing.{may_be_at};
 ghost use Rattle.fj_statement.specs.declared.statement.Statement.{Statement as PlainStatement};
+ghost use Rattle.fj_statement.specs.declared.statement.Statement.{Statement};
+ghost use Rattle.fj_units.specs.Having.{HaveFiles};
+ghost use Rattle.fj_acts.specs.Doing.{Ends};
+ghost use Rattle.fj_acts.specs.Having.{HaveNext};
+ghost use Rattle.fj_runner.specs.Going.{Counts, DoesNotPause, HaveAt, HaveTurned};
 
 use crate::ending::{ended_by, iostat_of};
 use crate::stage::{Stage, put_stage};
@@ -48,32 +53,26 @@ use std::alloc::Global;
 
 impl<F: FileStore> State<F> {
     /// Gives a job to a slot, and counts it.
-    pub(crate) fn submit(
-        &mut self,
-        slot: u32,
-        job: Job<F>,
-        stage: Stage<F>,
-    ) -> Result<Turned<F>, Lost>
+    pub(crate) fn submit(&mut self, slot: u32, job: Job<F>, stage: Stage<F>) -> Turned<F>
         requires passed { is_passed self.old.core.pending stage ≡ true }
         requires slot { slot < most_slots }
         requires own { (at number : ℕ) → gave at number stage ≡ true → (at ≡ slot) × (number ≡ get_or self.old.sent.items slot 0) }
         requires later { AreSlots (slots_behind stage) }
+        requires room { HasRoom self.old.sent.items }
         ensures turn { (variables : List Variable) (rest : List Stated) (files : Files) (task : Task) (before after : PlainStage) → task_of F.told F.bytes job ≡ Some task
             → stage_of F.told F.bytes variables rest (core_of files self.old.core) stage ≡ Some after
-            → IfOk result (λ t. IsTurn F.told F.bytes variables rest files self.new t (submits slot task after (run_in variables rest files self.old before))) }
+            → IsTurn F.told F.bytes variables rest files self.new result (submits slot task after (run_in variables rest files self.old before)) }
         ensures core { self.new.core ≡ self.old.core }
-        ensures causes { (result ≢ Err Lost.Disk) × (result ≢ Err Lost.Sink) }
-        ensures fits { get_or self.old.sent.items slot 0 + 1 < 2 ^ 64 → result ≢ Err Lost.Unfit }
         ensures may { (what : PlainStatement) → may_be_at what stage ≡ true → may_be_at what self.old.stage ≡ true → may_be_at what self.new.stage ≡ true }
-        ensures pauses { IfOk result (λ t. t ≢ Turned.Passes) }
+        ensures pauses { result ≢ Turned.Passes }
+        ensures files { (what : Statement) → HaveAt stage self.old.core.names self.old.core.units what → HaveTurned result self.new what }
+        ensures counts { Counts result self.old self.new }
+        ensures heard { self.new.told ≡ self.old.told }
     {
         let at = slot as usize;
-        let Some(further) = self.sent[at].checked_add(1) else {
-            return Err(Lost::Unfit);
-        };
-        self.sent[at] = further;
+        self.sent[at] += 1;
         put_stage(&mut self.stage, stage);
-        Ok(Turned::Pauses(Ask::Submit { slot, job }))
+        Turned::Pauses(Ask::Submit { slot, job })
     }
 
     /// The number that the next job of a slot gets.
@@ -102,6 +101,11 @@ impl<F: FileStore> State<F> {
         ensures keeps { Keeps self.old.core result self.new.core }
         ensures fits { IsSoundStatement variables.now lined.now.what → result ≢ Err Lost.Unfit }
         ensures start { self.new.stage ≡ Stage.Start }
+        ensures files { HaveFiles self.old.core.names self.old.core.units → IfOk result (λ t. HaveTurned t self.new lined.now.what) }
+        ensures counts { IfOk result (λ t. Counts t self.old self.new) }
+        ensures ends { IfOk result DoesNotPause }
+        ensures next { self.new.core.next ≡ self.old.core.next }
+        ensures heard { self.new.told ≡ self.old.told }
     {
         put_stage(&mut self.stage, Stage::Start);
         let iostat = iostat_of(&lined.what);
@@ -129,6 +133,7 @@ impl<F: FileStore> State<F> {
         requires placed { IsPlaced doing }
         requires hand { may_be_at lined.now.what self.old.stage ≡ true }
         requires closes { may_do lined.now.what doing ≡ true }
+        requires room { HasRoom self.old.sent.items }
         ensures turn { (more : List Stated) (files : Files) (core : PlainCore) (book : List Held) (stage : PlainStage) (plain : PlainDoing)
             → held self.old.core.pending ≡ matched (map (λ (h : Held). h.pending) (held self.old.core.pending)) book
             → IsDoing F.told F.bytes variables.now (lined.now, control_by lined.now.what) (core_of files self.old.core) doing plain
@@ -136,19 +141,24 @@ impl<F: FileStore> State<F> {
             (turn_act (lined.now, control_by lined.now.what) plain
             (record (run_in variables.now ((lined.now, control_by lined.now.what) ∷ more) files self.old stage) { core = core; book = book }))) }
         ensures keeps { Keeps self.old.core result self.new.core }
-        ensures fits { IsSoundStatement variables.now lined.now.what → HasRoom self.old.sent.items → result ≢ Err Lost.Unfit }
         ensures may { may_be_at lined.now.what self.new.stage ≡ true }
         ensures starts { IfOk result (λ t. t ≡ Turned.Passes → self.new.stage ≡ Stage.Start) }
+        ensures fits { IsSoundStatement variables.now lined.now.what → result ≢ Err Lost.Unfit }
+        ensures files { HaveNext doing self.old.core.names self.old.core.units lined.now.what → IfOk result (λ t. HaveTurned t self.new lined.now.what) }
+        ensures counts { IfOk result (λ t. Counts t self.old self.new) }
+        ensures ends { Ends doing → IfOk result DoesNotPause }
+        ensures next { self.new.core.next ≡ self.old.core.next }
+        ensures heard { self.new.told ≡ self.old.told }
     {
         match doing {
             Doing::Finishes(condition) => self.finish(variables, lined, condition),
             Doing::Gives { slot, job, next } => {
                 let number = self.number_at(slot);
-                self.submit(slot, job, Stage::Going { next, number })
+                Ok(self.submit(slot, job, Stage::Going { next, number }))
             }
             Doing::Awaits { slot, job, then } => {
                 let number = self.number_at(slot);
-                self.submit(slot, job, Stage::Awaiting { slot, number, then })
+                Ok(self.submit(slot, job, Stage::Awaiting { slot, number, then }))
             }
         }
     }
@@ -169,6 +179,7 @@ impl<F: FileStore> State<F> {
         requires slots { AreSlots slots }
         requires names { D.tells disk.old → AreInUse self.old.core.names (D.held disk.old).in_use }
         requires hand { may_be_at lined.now.what self.old.stage ≡ true }
+        requires room { HasRoom self.old.sent.items }
         ensures turn { D.tells disk.old → (more : List Stated) (stage : PlainStage)
             → IfOk result (λ t. IsTurn F.told F.bytes variables.now ((lined.now, control_by lined.now.what) ∷ more) (files_of (D.held disk.new)) self.new t
             (turn_act (lined.now, control_by lined.now.what)
@@ -176,8 +187,11 @@ impl<F: FileStore> State<F> {
             (doing (control_by lined.now.what) variables.now lined.now.line (core_of (files_of (D.held disk.old)) self.old.core) lined.now.what condition))
             (run_in variables.now ((lined.now, control_by lined.now.what) ∷ more) (files_of (D.held disk.old)) self.old stage))) }
         ensures steps { Steps W.tells W.taken W.count D.tells D.held D.count D.refusals out.old disk.old self.old.core result out.new disk.new self.new.core }
-        ensures fits { IsSoundStatement variables.now lined.now.what → HasRoom self.old.sent.items
+        ensures fits { IsSoundStatement variables.now lined.now.what → HaveFiles self.old.core.names self.old.core.units
             → (condition ≡ Fine → Meets variables.now self.old.core lined.now.what) → result ≢ Err Lost.Unfit }
+        ensures files { HaveFiles self.old.core.names self.old.core.units → IfOk result (λ t. HaveTurned t self.new lined.now.what) }
+        ensures counts { IfOk result (λ t. Counts t self.old self.new) }
+        ensures heard { self.new.told ≡ self.old.told }
         ensures fails { D.tells disk.old → (more : List Stated) (stage : PlainStage)
             → FailsTurn W.tells W.taken out.old self.old.core result out.new self.new.core (D.held disk.new) (D.refusals disk.old) (D.refusals disk.new)
             (output_of (turn_act (lined.now, control_by lined.now.what)
@@ -196,7 +210,7 @@ impl<F: FileStore> State<F> {
                 next: next + 1,
                 condition,
             };
-            return self.submit(slot, Job::Resume, stage);
+            return Ok(self.submit(slot, Job::Resume, stage));
         }
         put_stage(&mut self.stage, Stage::Start);
         match begin(

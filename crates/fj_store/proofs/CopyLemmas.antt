@@ -1,13 +1,14 @@
 -- Taking pieces gives the cells of the items, and putting the cells back leaves the table as it was.
-use Rattle.std.proofs.Common.{◌≡◌, ◌↔◌, ◌&&◌, ◌||◌, ℕ, zero, suc, ◌+◌, ◌-◌, ◌<◌, ◌≤◌, eqb, cond, Bool, IsTrue, true, false, List, [], ◌∷◌, ◌++◌, length, map, Option, Some, None, is_none, IsSome, All, refl, sym, ap, subst, ◌∙◌, inl, inr, arith, rules}
+use Rattle.std.proofs.Common.{◌≡◌, ◌↔◌, ◌&&◌, ◌||◌, ℕ, zero, suc, ◌+◌, ◌-◌, ◌<◌, ◌≤◌, eqb, cond, Bool, IsTrue, true, false, List, [], ◌∷◌, ◌++◌, length, map, take, drop, get_or, Option, Some, None, is_none, IsSome, All, refl, sym, ap, subst, ◌∙◌, inl, inr, arith, rules}
 use Rattle.std.proofs.lemmas.Bool.{false≢true}
-use Rattle.std.specs.List.{list_any}
+use Rattle.std.specs.List.{list_any, range_with_len}
+use Rattle.std.specs.Option.{option_map, option_flatten}
 use Rattle.fj_value.specs.Kind.{IsOfKind}
 use Rattle.std.proofs.lemmas.Bool.Decides.{eqb_tells, nat_tests}
 use Rattle.std.proofs.lemmas.List.Folds.{position_or_len_push}
 use Rattle.std.proofs.lemmas.List.Elements.{All-head, All-tail, All-push}
 use Rattle.std.proofs.Common.{length-append}
-use Rattle.std.proofs.lemmas.List.{length-map}
+use Rattle.std.proofs.lemmas.List.{length-map, map-append, append-nil, append_assoc, take_more}
 use Rattle.std.proofs.lemmas.List.{get_or_append_left}
 use Rattle.std.specs.List.{position_or_len}
 use Rattle.fj_value.specs.declared.kind.Kind.{Kind}
@@ -16,22 +17,25 @@ use Rattle.fj_value.specs.declared.value.Cell.{Cell}
 use Rattle.fj_value.specs.declared.value.Value.{Value}
 use Rattle.fj_value.specs.declared.value.Value.TheVariants.{Undefined}
 use Rattle.std.specs.Prelude.{unwrap_or}
+use Rattle.fj_list.specs.Load.{row_cells}
 use Rattle.fj_list.specs.declared.moved.Moved.{Moved}
 use Rattle.fj_store.specs.declared.piece.Piece.{Piece}
 use Rattle.fj_store.specs.declared.piece.Piece.TheVariants.{Places, Own}
 use Rattle.fj_store.specs.declared.run.Run.{Run}
 use Rattle.fj_store.specs.declared.slot.Slot.{Slot}
 use Rattle.fj_store.specs.declared.slot.Slot.TheVariants.{Home, Out}
-use Rattle.fj_store.specs.Kinds.{kind_at}
+use Rattle.fj_store.specs.Kinds.{kind_at, of_kind}
 use Rattle.fj_store.specs.Pieces.{no_variable, own_cell, cells_from, places_among, size_of, sizes, AreDefined}
 use Rattle.fj_store.specs.Places.{same_place, counted_from, places_of}
 use Rattle.fj_store.specs.Tables.{element_at, with_element, with_cells}
 use Rattle.fj_store.specs.Variables.{is_at, with_item, moved_from, moved_of}
 use Rattle.fj_store.specs.Storage.{Storage, storage, value_in, value_at, cell_at}
-use Rattle.fj_store.specs.Taking.{Taking, taken_by, take_one, take_all, take_pieces, with_own, home_again}
-use Rattle.fj_store.proofs.TableLemmas.{places_tell, with_itself, with_missing, past_rows}
-use Rattle.fj_store.proofs.StoreLemmas.{cells_more}
+use Rattle.fj_store.specs.Taking.{Taking, taken_by, take_one, take_all, take_pieces, with_own, home, home_again}
+use Rattle.fj_list.proofs.LoadLemmas.{row_all, row_more}
+use Rattle.fj_store.proofs.TableLemmas.{places_tell, with_itself, with_missing, past_rows, same_fields}
+use Rattle.fj_store.proofs.StoreLemmas.{cells_more, stored_read}
 use Rattle.fj_store.proofs.LawLemmas.{absorbed}
+use Rattle.fj_store.proofs.RunLemmas.{run_long}
 use Rattle.fj_store.proofs.TakingLemmas.{slot_for, Marks, no_marks, mark_other, moved_in, Takes, takes_one, IsHome, home_at, cell_is, position_low}
 
 -- ---- a cell more
@@ -267,60 +271,91 @@ cell_read s p q kind v place kind_is value =
     ∙ ap (λ k. let it : Cell = record { place = q; kind = k; value = v } in it) kind_is
     ∙ ap (λ o. let it : Cell = record { place = q; kind = kind_at s.kinds q.var; value = unwrap_or o Undefined } in it) value
 
--- one place more of a run that is copied
-pub run_item : (s : Storage) (var first count at : ℕ) (t t' : Taking) (want : Moved) (cell : Cell) → at < count → (let p : Place = record { var = var; index = first + at } in cell ≡ cell_at s p) → t' ≡ with_own t cell
-    → AreFree var (first + at) t.cells → moved_from (moved_in t) (map (cell_at s) (counted_from var (first + at) (count - at))) ≡ want
-    → AreFree var (first + (at + 1)) t'.cells × (moved_from (moved_in t') (map (cell_at s) (counted_from var (first + (at + 1)) (count - (at + 1)))) ≡ want)
-run_item s var first count at t t' want cell low cell_is step free so_far =
-    let p : Place = record { var = var; index = first + at } in
-    let left : count - at ≡ suc (count - (at + 1)) = omega arith in
-    let next : first + (at + 1) ≡ (first + at) + 1 = omega arith in
-    let there : cell.place ≡ p = ap (λ (c : Cell). c.place) cell_is in
-    let new : position_or_len (is_at cell.place) t.cells ≡ length t.cells = ap (λ q. position_or_len (is_at q) t.cells) there ∙ free (first + at) (omega arith) in
-    let item : moved_in t' ≡ with_item (moved_in t) (cell_at s p) = ap moved_in step ∙ sym (free_item (moved_in t) cell new) ∙ ap (with_item (moved_in t)) cell_is in
-    let rest : List Cell = map (cell_at s) (counted_from var ((first + at) + 1) (count - (at + 1))) in (
-      subst (λ (x : Taking). AreFree var (first + (at + 1)) x.cells) (sym step) (subst (λ n. AreFree var n (t.cells ++ cell ∷ [])) (sym next) (still_free var (first + at) t.cells cell there free)),
-      ap (λ n. moved_from (moved_in t') (map (cell_at s) (counted_from var n (count - (at + 1))))) next
-          ∙ ap (λ moved. moved_from moved rest) item
-          ∙ sym (ap (λ n. moved_from (moved_in t) (map (cell_at s) (counted_from var (first + at) n))) left)
-          ∙ so_far,
-    )
+-- the places of a run are as many cells, each with one item
+pub run_alone : (s : Storage) (var first n : ℕ) (moved : Moved) → AreFree var first moved.cells
+    → moved_from moved (map (cell_at s) (counted_from var first n)) ≡ record { cells = moved.cells ++ map (cell_at s) (counted_from var first n); order = moved.order ++ range_with_len (length moved.cells) n }
+run_alone s var first zero moved free =
+    ap (λ cs. let it : Moved = record { cells = cs; order = moved.order } in it) (sym (append-nil moved.cells))
+    ∙ ap (λ o. let it : Moved = record { cells = moved.cells ++ []; order = o } in it) (sym (append-nil moved.order))
+run_alone s var first (suc n) moved free =
+    let p : Place = record { var = var; index = first } in
+    let cell = cell_at s p in
+    let more : List Cell = map (cell_at s) (counted_from var (first + 1) n) in
+    let next : Moved = record { cells = moved.cells ++ cell ∷ []; order = moved.order ++ length moved.cells ∷ [] } in
+    let both : List Cell → List ℕ → Moved = λ cells order. record { cells = cells; order = order } in
+    let long : length (moved.cells ++ cell ∷ []) ≡ length moved.cells + 1 = omega (arith, length-append moved.cells (cell ∷ [])) in
+    ap (λ m. moved_from m more) (free_item moved cell (free first (omega arith)))
+    ∙ run_alone s var (first + 1) n next (still_free var first moved.cells cell refl free)
+    ∙ ap (λ cs. both cs (next.order ++ range_with_len (length next.cells) n)) (append_assoc moved.cells (cell ∷ []) more)
+    ∙ ap (λ k. both (moved.cells ++ cell ∷ more) (next.order ++ range_with_len k n)) long
+    ∙ ap (both (moved.cells ++ cell ∷ more)) (append_assoc moved.order (length moved.cells ∷ []) (range_with_len (length moved.cells + 1) n))
 
--- one place more that is not moved out
-pub out_step : (s : Storage) (var first count at : ℕ) (want : Bool) → at < count → (let p : Place = record { var = var; index = first + at } in IsSome (value_at s p))
-    → list_any (λ place. is_none (value_at s place)) (counted_from var (first + at) (count - at)) ≡ want → list_any (λ place. is_none (value_at s place)) (counted_from var (first + (at + 1)) (count - (at + 1))) ≡ want
-out_step s var first count at want low here so_far =
-    let p : Place = record { var = var; index = first + at } in
-    let left : count - at ≡ suc (count - (at + 1)) = omega arith in
-    let next : first + (at + 1) ≡ (first + at) + 1 = omega arith in
-    let rest : List Place = counted_from var ((first + at) + 1) (count - (at + 1)) in
-    let go : (o : Option Value) → IsSome o → is_none o ≡ false = λ o. elim o as (λ z. IsSome z → is_none z ≡ false) [ None ↦ λ e. cc | Some v ↦ λ e. refl ] in
-    ap (λ n. list_any (λ place. is_none (value_at s place)) (counted_from var n (count - (at + 1)))) next
-    ∙ sym (ap (λ b. b || list_any (λ place. is_none (value_at s place)) rest) (go (value_at s p) here))
-    ∙ sym (ap (λ n. list_any (λ place. is_none (value_at s place)) (counted_from var (first + at) n)) left)
-    ∙ so_far
+-- what stands at the places of a run, as the cells of a row
+pub row_read : (kinds : List Kind) (slots : List (List Slot)) (s : Storage) (kind : Kind) (var first n : ℕ) (values : List Value) → storage kinds slots ≡ s → kind ≡ kind_at s.kinds var
+    → map Some (map Home values) ≡ map (element_at slots) (counted_from var first n)
+    → row_cells (record { var = var; index = first }) kind values ≡ map (cell_at s) (counted_from var first n)
+row_read kinds slots s kind var first zero [] view same read = refl
+row_read kinds slots s kind var first (suc n) [] view same read = absurd (let never : 0 ≡ suc (length (map (element_at slots) (counted_from var (first + 1) n))) = ap length read in omega (arith, never))
+row_read kinds slots s kind var first zero (v ∷ vs) view same read = absurd (let never : suc (length (map Some (map Home vs))) ≡ 0 = ap length read in omega (arith, never))
+row_read kinds slots s kind var first (suc n) (v ∷ vs) view same read =
+    let p : Place = record { var = var; index = first } in
+    let none : Option Slot = None in
+    let here : Some (Home v) ≡ element_at slots p = ap (λ l. get_or l 0 none) read in
+    let value : Some v ≡ value_at s p = ap (λ o. option_flatten (option_map value_in o)) here ∙ sym (stored_read kinds slots s p view) in
+    ap (λ c. c ∷ row_cells (record { var = var; index = first + 1 }) kind vs) (cell_read s p p kind v refl same value)
+    ∙ ap (λ l. cell_at s p ∷ l) (row_read kinds slots s kind var (first + 1) n vs view same (ap (drop 1) read))
 
--- and one that is
-pub out_found : (s : Storage) (var first count at : ℕ) (want : Bool) → at < count → (let p : Place = record { var = var; index = first + at } in value_at s p ≡ None)
-    → list_any (λ place. is_none (value_at s place)) (counted_from var (first + at) (count - at)) ≡ want → true ≡ want
-out_found s var first count at want low here so_far =
-    let left : count - at ≡ suc (count - (at + 1)) = omega arith in
-    let rest : List Place = counted_from var ((first + at) + 1) (count - (at + 1)) in
-    sym (ap (λ (o : Option Value). is_none o || list_any (λ place. is_none (value_at s place)) rest) here)
-    ∙ sym (ap (λ n. list_any (λ place. is_none (value_at s place)) (counted_from var (first + at) n)) left)
-    ∙ so_far
+pub row_count : (slots : List (List Slot)) (row : List Slot) (var first n : ℕ) (values : List Value) → map Some row ≡ map (element_at slots) (counted_from var first n) → map Home values ≡ row → length values ≡ n
+row_count slots row var first n values read is = sym (length-map values Home) ∙ ap length is ∙ run_long slots row var first n read
 
--- one cell more that has a defined value of its kind, or has none
-pub defined_step : (cells cells' : List Cell) (cell : Cell) (so_far this all : Bool) → cells' ≡ cells ++ cell ∷ [] → all ≡ (so_far && this) → (IsTrue this ↔ IsOfKind cell.kind cell.value) → (IsTrue so_far ↔ AreDefined cells)
-    → IsTrue all ↔ AreDefined cells'
-defined_step cells cells' cell so_far this all step both one before =
-    let P : Cell → Type 0 = λ c. IsOfKind c.kind c.value in
+-- these are the items that are copied
+pub row_moved : (kinds : List Kind) (slots : List (List Slot)) (s : Storage) (row : List Slot) (kind : Kind) (var first n : ℕ) (values : List Value) → storage kinds slots ≡ s → kind ≡ kind_at s.kinds var
+    → map Some row ≡ map (element_at slots) (counted_from var first n) → map Home values ≡ row
+    → record { cells = row_cells (record { var = var; index = first }) kind values; order = range_with_len 0 (length values) } ≡ moved_of (map (cell_at s) (counted_from var first n))
+row_moved kinds slots s row kind var first n values view same read is =
+    let both : List Cell → List ℕ → Moved = λ cells order. record { cells = cells; order = order } in
+    ap (λ cs. both cs (range_with_len 0 (length values))) (row_read kinds slots s kind var first n values view same (ap (map Some) is ∙ read))
+    ∙ ap (λ k. both (map (cell_at s) (counted_from var first n)) (range_with_len 0 k)) (row_count slots row var first n values read is)
+    ∙ sym (run_alone s var first n (both [] []) (none_is_taken var first))
+
+pub row_defined : (var : ℕ) (kind : Kind) (index : ℕ) (values : List Value) → All (IsOfKind kind) values ↔ AreDefined (row_cells (record { var = var; index = index }) kind values)
+row_defined var kind index values = row_all (λ (cell : Cell). IsOfKind cell.kind cell.value) (IsOfKind kind) var kind (λ k v. (λ h. h, λ h. h)) index values
+
+-- one slot more that has a value
+pub slot_copied : (slots : List Slot) (i : ℕ) (x : Slot) (v w : Value) (values values' : List Value) → i < length slots → x ≡ get_or slots i x → x ≡ Home v → w ≡ v → values' ≡ values ++ w ∷ []
+    → map Home values ≡ take i slots → map Home values' ≡ take (i + 1) slots
+slot_copied slots i x v w values values' low there is same step so_far =
+    ap (map Home) step ∙ map-append Home values (w ∷ []) ∙ ap (λ l. l ++ Home w ∷ []) so_far ∙ ap (λ y. take i slots ++ y ∷ []) (ap Home same ∙ sym is ∙ there) ∙ sym (take_more slots i x low)
+
+pub none_found : {T : Type 0} → (o : Option T) → ((x : T) → o ≡ Some x → ⊥) → true ≡ is_none o
+none_found None h = refl
+none_found (Some x) h = absurd (h x refl)
+
+pub none_is_out : (values : List Value) → list_any (λ slot. is_none (value_in slot)) (map Home values) ≡ false
+none_is_out [] = refl
+none_is_out (v ∷ vs) = none_is_out vs
+
+-- one more that is as it should be, or is not
+pub defined_more : {A : Type 0} → (P : A → Type 0) (xs xs' : List A) (x : A) (so_far this all : Bool) → xs' ≡ xs ++ x ∷ [] → all ≡ (so_far && this) → (IsTrue this ↔ P x) → (IsTrue so_far ↔ All P xs)
+    → IsTrue all ↔ All P xs'
+defined_more P xs xs' x so_far this all step both one before =
     let there : (a b : Bool) → IsTrue (a && b) → IsTrue a × IsTrue b = λ a b h. elim a as (λ z. IsTrue (z && b) → IsTrue z × IsTrue b) [ true ↦ λ e. (search rules, e) | false ↦ λ e. absurd (false≢true e) ] h in
     let back : (a b : Bool) → IsTrue a → IsTrue b → IsTrue (a && b) = λ a b h k. elim a as (λ z. IsTrue z → IsTrue (z && b)) [ true ↦ λ e. k | false ↦ λ e. absurd (false≢true e) ] h in (
-      λ h. subst (All P) (sym step) (let parts = there so_far this (subst IsTrue both h) in All-push P cells cell (before.0 parts.0) (one.0 parts.1)),
-      λ h. subst IsTrue (sym both) (let all_are = subst (All P) step h in back so_far this (before.1 (all_front P cells (cell ∷ []) all_are)) (one.1 (All-head P cell [] (all_behind P cells (cell ∷ []) all_are)))),
+      λ h. subst (All P) (sym step) (let parts = there so_far this (subst IsTrue both h) in All-push P xs x (before.0 parts.0) (one.0 parts.1)),
+      λ h. subst IsTrue (sym both) (let all_are = subst (All P) step h in back so_far this (before.1 (all_front P xs (x ∷ []) all_are)) (one.1 (All-head P x [] (all_behind P xs (x ∷ []) all_are)))),
     )
 
-pub out_is_none : (x : Slot) → ((v : Value) → x ≡ Home v → ⊥) → value_in x ≡ None
-out_is_none (Home v) h = absurd (h v refl)
-out_is_none (Out n) h = refl
+-- ---- a row that comes back
+
+pub row_put : (kinds : List Kind) (start slots new : List (List Slot)) (first place : Place) (kind : Kind) (values : List Value) (v v' : Value) (k : Kind)
+    → slots ≡ with_cells (home kinds) (row_cells first kind values) start → place.var ≡ first.var → place.index ≡ first.index + length values → k ≡ kind_at kinds first.var → v' ≡ of_kind k v
+    → new ≡ with_element slots place (Home v') → new ≡ with_cells (home kinds) (row_cells first kind (values ++ v ∷ [])) start
+row_put kinds start slots new first place kind values v v' k so_far var index kind_is made put =
+    let there : Place = record { var = first.var; index = place.index } in
+    let cell : Cell = record { place = there; kind = kind; value = v } in
+    let same : place ≡ there = same_fields place there var refl in
+    put ∙ ap (λ p. with_element slots p (Home v')) same
+    ∙ ap (λ x. with_element slots there (Home x)) (made ∙ ap (λ x. of_kind x v) kind_is)
+    ∙ ap (λ rows. with_element rows there (home kinds cell)) so_far
+    ∙ sym (cells_more (home kinds) (row_cells first kind values) cell start)
+    ∙ ap (λ cs. with_cells (home kinds) cs start) (sym (row_more first kind values v place.index index))

@@ -1,17 +1,22 @@
 // Values that are copied out of the variables.
-ghost use Rattle.std.specs.Prelude.{◌≡◌, ◌↔◌, ◌&&◌, IsTrue, IfOk};
+ghost use Rattle.std.specs.Prelude.{◌≡◌, ◌↔◌, ◌&&◌, All, map, is_none, IsTrue, IfSome, IfOk};
+ghost use Rattle.std.specs.List.{list_any};
+ghost use Rattle.fj_value.specs.Kind.{IsOfKind};
 ghost use Rattle.fj_store.specs.Pieces.{AreDefined};
+ghost use Rattle.fj_store.specs.Storage.{value_in};
+ghost use Rattle.fj_store.specs.declared.slot.Slot.TheVariants.{Home};
 
 use crate::kinds::is_defined;
+use crate::slot::Slot;
 use crate::taken::Taken;
-use fj_list::Moved;
-use fj_value::{Cell, Items};
+use fj_list::{Load, Moved};
+use fj_value::{Cell, Items, Kind, Value};
 use std::alloc::{AllocError, Global};
 
 /// Copied values, and whether each is a defined one of its kind.
 #[derive(Debug, Drop)]
 pub struct Copied {
-    pub moved: Moved,
+    pub moved: Load,
     pub defined: bool,
 }
 
@@ -47,6 +52,50 @@ pub(crate) fn copies(alloc: Global, cells: &[Cell]) -> Result<Items<Cell>, Alloc
         })?;
     }
     Ok(copies)
+}
+
+/// The same value once more.
+#[inline(always)]
+fn copied_value(value: &Value) -> Result<Value, AllocError>
+    ensures { IfOk result (λ copy. copy ≡ value.now) }
+{
+    match value {
+        Value::Int(number) => Ok(Value::Int(*number)),
+        Value::Log(truth) => Ok(Value::Log(*truth)),
+        Value::Undefined | Value::Chars(_) => value.try_clone(),
+    }
+}
+
+/// The values of a variable's places once more.
+#[derive(Drop)]
+pub(crate) struct CopiedRow {
+    pub values: Items<Value>,
+    /// Each is a defined one of the kind of the variable.
+    pub defined: bool,
+}
+
+/// CopiedRow the values of places of a variable of a kind; none where one is moved out.
+pub(crate) fn copy_row(
+    alloc: Global,
+    kind: Kind,
+    slots: &[Slot],
+) -> Result<Option<CopiedRow>, AllocError>
+    ensures out { IfOk result (λ o. is_none o ≡ list_any (λ slot. is_none (value_in slot)) slots.now) }
+    ensures values { IfOk result (λ o. IfSome o (λ copies. map Home copies.values ≡ slots.now)) }
+    ensures defined { IfOk result (λ o. IfSome o (λ copies. IsTrue copies.defined ↔ All (IsOfKind kind) copies.values)) }
+{
+    let mut values = Vec::new(alloc);
+    values.reserve(slots.len())?;
+    let mut defined = true;
+    for slot in slots {
+        let Slot::Home(value) = slot else {
+            return Ok(None);
+        };
+        defined = both(defined, is_defined(kind, value));
+        values.push_reserved(copied_value(value)?);
+    }
+    let values = Items::from_vec(values);
+    Ok(Some(CopiedRow { values, defined }))
 }
 
 impl Taken {

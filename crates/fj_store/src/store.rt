@@ -2,6 +2,7 @@
 ghost use Rattle.std.specs.Prelude.{◌≡◌, ◌↔◌, ◌<◌, ◌≤◌, ◌∷◌, [], length, All, map, replicate, is_none, IsTrue, IsSome, IfSome, IfOk, OnOk, OnErr};
 ghost use Rattle.std.specs.List.{list_any};
 ghost use Rattle.std.specs.Option.{option_copied};
+ghost use Rattle.fj_list.specs.Load.{moved_row};
 ghost use Rattle.fj_store.specs.Places.{places_of, places_in};
 ghost use Rattle.fj_store.specs.Tables.{with_element, with_cells};
 ghost use Rattle.fj_store.specs.Kinds.{kind_at, of_kind};
@@ -13,14 +14,14 @@ ghost use Rattle.fj_store.specs.declared.piece.Piece.TheVariants.{Places};
 ghost use Rattle.fj_store.specs.declared.slot.Slot.TheVariants.{Home};
 ghost use Rattle.fj_value.specs.declared.value.Value.TheVariants.{Undefined};
 
-use crate::copied::{Copied, are_defined, both, copies};
-use crate::kinds::{is_defined, kind_in, of_kind};
+use crate::copied::{Copied, CopiedRow, are_defined, copies, copy_row};
+use crate::kinds::{kind_in, of_kind};
 use crate::piece::Piece;
 use crate::run::Run;
 use crate::slot::{Slot, any_out, any_undefined};
 use crate::table::Table;
-use crate::taken::{add_cell, count_of, room_for, take_pieces, take_places};
-use fj_list::{Cells, Moved};
+use crate::taken::{count_of, room_for, take_pieces, take_places};
+use fj_list::{Cells, Load, Moved, Row, Shape};
 use fj_value::{Cell, Items, Kind, Place, Value};
 use std::alloc::{AllocError, Global};
 use std::collections::VecDeque;
@@ -66,6 +67,27 @@ fn put_back(slots: &mut Table<Slot>, kinds: &[Kind], cells: Vec<Cell>)
         } = cell;
         let value = of_kind(kind_in(kinds, place.var), value);
         slots.put(place, Slot::Home(value));
+    }
+}
+
+/// Puts the values of a row back.
+fn put_row(slots: &mut Table<Slot>, kinds: &[Kind], row: Row)
+    ensures { slots.new ≡ with_cells (home kinds.now) (moved_row row).cells slots.old }
+{
+    let Row {
+        first,
+        kind: _,
+        values,
+    } = row;
+    let kind = kind_in(kinds, first.var);
+    let mut at = 0;
+    for value in values.into_vec() {
+        let place = Place {
+            var: first.var,
+            index: first.index + at as u32,
+        };
+        slots.put(place, Slot::Home(of_kind(kind, value)));
+        at += 1u64;
     }
 }
 
@@ -188,7 +210,7 @@ impl Store {
         false
     }
 
-    /// Copies the values of a run, whose places are distinct, in their order; none where one is moved out.
+    /// CopiedRow the values of a run, whose places are distinct, in their order; none where one is moved out.
     fn copy_of_run(&self, alloc: Global, run: Run) -> Result<Option<Copied>, AllocError>
         requires { 0 < run.count }
         ensures out { IfOk result (λ o. is_none o ≡ list_any (λ place. is_none (value_at self.now place)) (places_of run)) }
@@ -199,22 +221,22 @@ impl Store {
             return Ok(None);
         };
         let kind = kind_in(&self.kinds, run.var);
-        let mut taken = room_for(alloc, run.count as usize)?;
-        let mut defined = true;
-        for at in 0..run.count {
-            let Slot::Home(value) = &slots[at as usize] else {
-                return Ok(None);
-            };
-            defined = both(defined, is_defined(kind, value));
-            let place = run.place_at(at);
-            let value = value.try_clone()?;
-            add_cell(Cell { place, kind, value }, &mut taken);
-        }
-        let moved = taken.into_moved();
+        let Some(CopiedRow { values, defined }) = copy_row(alloc, kind, slots)? else {
+            return Ok(None);
+        };
+        let first = Place {
+            var: run.var,
+            index: run.first,
+        };
+        let moved = Load::of_row(Row {
+            first,
+            kind,
+            values,
+        });
         Ok(Some(Copied { moved, defined }))
     }
 
-    /// Copies the values of so many items, each place once, in the order of the items. It changes nothing.
+    /// CopiedRow the values of so many items, each place once, in the order of the items. It changes nothing.
     fn copy_of_pieces(
         &mut self,
         alloc: Global,
@@ -237,7 +259,7 @@ impl Store {
         })
     }
 
-    /// Copies the values of so many items, each place once, in the order of the items, where none of their places is moved out. It
+    /// CopiedRow the values of so many items, each place once, in the order of the items, where none of their places is moved out. It
     /// changes nothing.
     pub fn copy_of(
         &mut self,
@@ -260,6 +282,7 @@ impl Store {
         }
         let moved = self.copy_of_pieces(alloc, pieces, size)?;
         let defined = are_defined(moved.cells.as_slice());
+        let moved = Load::of_cells(moved);
         Ok(Some(Copied { moved, defined }))
     }
 
@@ -268,5 +291,15 @@ impl Store {
         ensures { self.new ≡ given_back cells self.old }
     {
         put_back(&mut self.slots, &self.kinds, cells.into_vec());
+    }
+
+    /// The same of what a statement transfers.
+    pub fn give_load(&mut self, load: Load)
+        ensures { self.new ≡ given_back load.cells self.old }
+    {
+        match load.into_shape() {
+            Shape::Cells(moved) => self.give_back(moved.cells),
+            Shape::Row(row) => put_row(&mut self.slots, &self.kinds, row),
+        }
     }
 }

@@ -92,7 +92,7 @@ pub(crate) fn count_of(runs: &[Run]) -> usize
 const NO_VARIABLE: u32 = 4294967295;
 
 /// Adds a cell that stands for one item.
-pub(crate) fn add_cell(cell: Cell, taken: &mut Taken)
+fn add_cell(cell: Cell, taken: &mut Taken)
     requires { HasRoom taken.old 1 }
     ensures taken { (slots : List (List Slot)) → taking slots taken.new ≡ with_own (taking slots taken.old) cell }
     ensures room { (n : ℕ) → HasRoom taken.old (n + 1) → HasRoom taken.new n }

@@ -3,7 +3,7 @@ ghost use Rattle.std.specs.Prelude.{◌≡◌, [], ◌∷◌, IfOk};
 ghost use Rattle.fj_store.specs.Pieces.{places_among, sizes};
 
 use crate::{Copied, Piece, Run, Store};
-use fj_list::Moved;
+use fj_list::{Load, Moved};
 use fj_value::{Cell, Kind, Place, Value};
 use std::alloc::{AllocError, Global};
 use std::collections::VecDeque;
@@ -137,7 +137,7 @@ fn items_come_back(rt: HostRuntime) -> Result<(), Fail> {
     let mut moved = moved;
     put(&mut moved, 1, C1, Value::Int(8));
     put(&mut moved, 2, C2, Value::Log(true));
-    store.give_back(moved.cells);
+    store.give_load(Load::of_cells(moved));
     assert!(rt; has(&store, A, 7) && has(&store, C1, 8));
     assert!(rt; is_undefined(&store, C2) && is_undefined(&store, C3));
     Ok(())
@@ -152,8 +152,9 @@ fn items_are_copied(rt: HostRuntime) -> Result<(), Fail> {
         assert!(rt; false, "nothing is copied");
         return Ok(());
     };
-    let moved = copied.moved;
     assert!(rt; copied.defined);
+    let mut load = copied.moved;
+    let moved = load.take(alloc)?;
     assert!(rt; has_cells(&moved, &[(0, 1, 7), (4294967295, 1, 4), (4294967295, 2, 0)]));
     assert!(rt; moved.order.as_slice() == [0, 1, 2, 0].as_slice());
     assert!(rt; has(&store, A, 7));

@@ -1,8 +1,7 @@
 pub mod DigitLemmas
-pub mod FirstTokenLemmas
+pub mod Holding
 pub mod KnownLemmas
-pub mod ParseLemmas
 pub mod NameLemmas
-pub mod ScanLemmas
-pub mod TokenLemmas
+pub mod ParseLemmas
 pub mod SplitLemmas
+pub mod TokenLemmas

@@ -1,5 +1,5 @@
 -- The names that a declaration gives are words of its line.
-use Rattle.std.proofs.Common.{◌≡◌, ℕ, ◌+◌, Bool, true, false, cond, List, [], ◌∷◌, take, drop, Option, Some, None, refl, sym, subst, codes}
+use Rattle.std.proofs.Common.{ℕ, ◌+◌, Bool, true, false, cond, List, [], ◌∷◌, take, drop, Option, Some, None, codes}
 use Rattle.std.specs.Prelude.{All, option_map, position}
 use Rattle.std.specs.List.{onto_first}
 use Rattle.std.specs.Str.{bytes_eq}
@@ -7,27 +7,19 @@ use Rattle.std.proofs.lemmas.List.Elements.{All-cons, All-drop, All-head, All-ma
 use Rattle.fj_value.specs.declared.kind.Kind.{Kind}
 use Rattle.fj_value.specs.declared.kind.Kind.TheVariants.{Logical}
 use Rattle.fj_modes.specs.declared.unit.Motion.{Motion}
-use Rattle.fj_modes.specs.declared.unit.Motion.TheVariants as motion
-use Rattle.fj_syntax.specs.declared.operand.Designator.{Designator}
-use Rattle.fj_syntax.specs.declared.token.Token.{Token}
-use Rattle.fj_syntax.specs.declared.token.Token.TheVariants.{Word, Number, Literal, Truth, Mark}
-use Rattle.fj_syntax.specs.declared.token.Mark as marks
-use Rattle.fj_syntax.specs.declared.token.Mark.TheVariants as mark
-use Rattle.fj_syntax.specs.declared.token.Sign.TheVariants.{Unsigned}
-use Rattle.fj_syntax.specs.declared.words.Keyword.{Keyword}
-use Rattle.fj_syntax.specs.declared.words.Keyword.TheVariants as keyword
-use Rattle.fj_syntax.specs.declared.written.Written.{Written}
-use Rattle.fj_syntax.specs.declared.written.Written.TheVariants as written
+use Rattle.fj_modes.specs.declared.unit.Motion.TheVariants.{Endfile}
 use Rattle.fj_syntax.specs.Arguments.{call_of}
 use Rattle.fj_syntax.specs.Calls.{open_of, close_of, wait_of, move_of, inquire_of, transfer_of}
 use Rattle.fj_syntax.specs.Given.{unit_number}
 use Rattle.fj_syntax.specs.Parsing.{IsWord, NamesAreWords, names_given}
-use Rattle.fj_syntax.specs.Parts.{Tokens, cut, designator_of, is_from_to, is_mark, is_name, list_of, name_of, named, operand_of, parted}
-use Rattle.fj_syntax.specs.Reading.{◌>>=◌, each}
-use Rattle.fj_syntax.specs.Statement.{assignment_of, begun, begun_by, behind_colons, character_kind, declaration_of, end_from, group_of, integer_kind, items_of, motion_from, number_in, transfer_from, value_of, written_of}
-use Rattle.fj_syntax.specs.Tokens.{AreTokens, IsWritten, end, token as first}
-use Rattle.fj_syntax.specs.Words.{keyword_of}
-use Rattle.fj_syntax.proofs.TokenLemmas.{bound, passed, some_is}
+use Rattle.fj_syntax.specs.Parts.{Tokens, Designator, cut, designator_of, is_from_to, is_mark, is_name, list_of, name_of, named, operand_of, parted}
+use Rattle.fj_syntax.specs.Reading.{each}
+use Rattle.fj_syntax.specs.Statement.{Written, begun, begun_by, behind_colons, character_kind, declaration_of, group_of, integer_kind, items_of, motion_from, number_in, value_of, written_of}
+use Rattle.fj_syntax.specs.Tokens.{Token, Word, Number, Mark, AMark, LeftParenthesis, RightParenthesis, Comma, Equals, Slash, DoubleColon, Unsigned, AreTokens, IsWritten, end, token}
+use Rattle.fj_syntax.specs.Words.{Keyword, keyword_of}
+use Rattle.fj_syntax.specs.declared.words.Keyword.TheVariants as keyword
+use Rattle.fj_syntax.specs.declared.written.Written.TheVariants as written
+use Rattle.fj_syntax.proofs.Holding.{Holds, held, then_any, then_holds, where_holds}
 
 -- ---- words among tokens
 
@@ -41,148 +33,113 @@ AreOfLine ts = All IsOfLine ts
 
 written_is : (t : Token) (bytes line : List ℕ) → IsWritten t bytes line → IsOfLine t
 written_is (Word w) bytes line is = (bytes, line, is)
-written_is (Number sign amount) bytes line is = tt
-written_is (Literal text) bytes line is = tt
-written_is (Truth truth) bytes line is = tt
-written_is (Mark m) bytes line is = tt
+written_is t bytes line is = tt
 
 are_of_line : (line : List ℕ) (ts : Tokens) → AreTokens line ts → AreOfLine ts
 are_of_line _ _ (end line is) = All-nil IsOfLine
-are_of_line _ _ (first line bytes rest {first = t} {tokens = ts} e is more) = All-cons IsOfLine t ts (written_is t bytes rest is) (are_of_line rest ts more)
+are_of_line _ _ (token line bytes rest {first = t} {tokens = ts} e is more) = All-cons IsOfLine t ts (written_is t bytes rest is) (are_of_line rest ts more)
 
 parts_are : (ts : Tokens) → AreOfLine ts → All AreOfLine (cut ts)
 parts_are [] all = All-cons AreOfLine [] [] (All-nil IsOfLine) (All-nil AreOfLine)
 parts_are (t ∷ ts) all =
-    by (is_mark mark.Comma t) (cut ts) (All-head IsOfLine t ts all) (parts_are ts (All-tail IsOfLine t ts all)) where
+    by (is_mark Comma t) (cut ts) (All-head IsOfLine t ts all) (parts_are ts (All-tail IsOfLine t ts all)) where
       by : (b : Bool) (ps : List Tokens) → IsOfLine t → All AreOfLine ps → All AreOfLine (cond b ([] ∷ ps) (onto_first t ps))
       by true ps is more = All-cons AreOfLine [] ps (All-nil IsOfLine) more
       by false [] is more = All-cons AreOfLine (t ∷ []) [] (All-cons IsOfLine t [] is (All-nil IsOfLine)) (All-nil AreOfLine)
       by false (p ∷ ps) is more = All-cons AreOfLine (t ∷ p) ps (All-cons IsOfLine t p is (All-head AreOfLine p ps more)) (All-tail AreOfLine p ps more)
 
 -- what holds of each part holds of all
-each_is : {B : Type 0} (f : Tokens → Option B) (P : B → Type 0) → ((ts : Tokens) (y : B) → f ts ≡ Some y → AreOfLine ts → P y) → (ps : List Tokens) (ys : List B) → each f ps ≡ Some ys → All AreOfLine ps → All P ys
-each_is f P is [] ys h all = subst (All P) (some_is [] ys h) (All-nil P)
-each_is f P is (p ∷ ps) ys h all =
-    let y = bound (f p) _ ys h in
-    let more = bound (each f ps) _ ys y.2 in
-    subst (All P) (some_is (y.0 ∷ more.0) ys more.2)
-    (All-cons P y.0 more.0 (is p y.0 y.1 (All-head AreOfLine p ps all)) (each_is f P is ps more.0 more.1 (All-tail AreOfLine p ps all)))
+each_holds : {B : Type 0} (P : B → Type 0) (f : Tokens → Option B) → ((ts : Tokens) → AreOfLine ts → Holds P (f ts)) → (ps : List Tokens) → All AreOfLine ps → Holds (All P) (each f ps)
+each_holds P f is [] all = All-nil P
+each_holds P f is (p ∷ ps) all =
+    then_holds P (All P) (f p) _ (is p (All-head AreOfLine p ps all))
+    (λ y one. then_holds (All P) (All P) (each f ps) _ (each_holds P f is ps (All-tail AreOfLine p ps all)) (λ ys more. All-cons P y ys one more))
 
 -- ---- declarations
 
-named_word : (w : List ℕ) (n : Option ℕ) (d : Designator) → named w n ≡ Some d → IsWord w → IsWord d.name
-named_word w n d h is = subst (λ (e : Designator). IsWord e.name) (some_is _ d (passed (is_name w) _ d h).1) is
+abbrev HasWord : Designator → Type 0
+HasWord d = IsWord d.name
 
-designator_word : (ts : Tokens) (d : Designator) → designator_of ts ≡ Some d → AreOfLine ts → IsWord d.name
-unfolding designator_of
-designator_word (Word w ∷ []) d h all = named_word w None d h (All-head IsOfLine (Word w) [] all)
-designator_word (Word w ∷ Mark mark.LeftParenthesis ∷ Number Unsigned n ∷ Mark mark.RightParenthesis ∷ []) d h all =
-    named_word w (Some n) d (passed (is_from_to 1 1000000 n) _ d h).1 (All-head IsOfLine (Word w) (Mark mark.LeftParenthesis ∷ Number Unsigned n ∷ Mark mark.RightParenthesis ∷ []) all)
-designator_word ts d h all = cc
+named_word : (w : List ℕ) (n : Option ℕ) (ts : Tokens) → AreOfLine (Word w ∷ ts) → Holds HasWord (named w n)
+named_word w n ts all = where_holds HasWord (is_name w) (Some (record { name = w; number = n })) (All-head IsOfLine (Word w) ts all)
+
+designator_word : (ts : Tokens) → AreOfLine ts → Holds HasWord (designator_of ts)
+designator_word (Word w ∷ []) all = named_word w None [] all
+designator_word (Word w ∷ Mark LeftParenthesis ∷ Number Unsigned n ∷ Mark RightParenthesis ∷ []) all =
+    where_holds HasWord (is_from_to 1 1000000 n) _ (named_word w (Some n) (Mark LeftParenthesis ∷ Number Unsigned n ∷ Mark RightParenthesis ∷ []) all)
+designator_word ts all = tt
 
 behind_colons_are : (ts : Tokens) → AreOfLine ts → AreOfLine (behind_colons ts)
-unfolding behind_colons
-behind_colons_are (Mark mark.DoubleColon ∷ ts) all = All-tail IsOfLine (Mark mark.DoubleColon) ts all
-behind_colons_are (Mark mark.Comma ∷ Word w ∷ Mark mark.DoubleColon ∷ ts) all = either (bytes_eq w (codes "ASYNCHRONOUS")) where
-  either : (b : Bool) → AreOfLine (cond b ts (Mark mark.Comma ∷ Word w ∷ Mark mark.DoubleColon ∷ ts))
-  either true = All-drop IsOfLine 3 (Mark mark.Comma ∷ Word w ∷ Mark mark.DoubleColon ∷ ts) all
+behind_colons_are (Mark DoubleColon ∷ ts) all = All-tail IsOfLine (Mark DoubleColon) ts all
+behind_colons_are (Mark Comma ∷ Word w ∷ Mark DoubleColon ∷ ts) all = either (bytes_eq w (codes "ASYNCHRONOUS")) where
+  either : (b : Bool) → AreOfLine (cond b ts (Mark Comma ∷ Word w ∷ Mark DoubleColon ∷ ts))
+  either true = All-drop IsOfLine 3 (Mark Comma ∷ Word w ∷ Mark DoubleColon ∷ ts) all
   either false = all
 behind_colons_are ts all = all
 
-parted_are : (m : marks.Mark) (ts : Tokens) (sides : Tokens × Tokens) → parted m ts ≡ Some sides → AreOfLine ts → AreOfLine sides.1
-parted_are m ts sides h all = by (position (is_mark m) ts) h where
-  by : (o : Option ℕ) → option_map (λ n. (take n ts, drop (n + 1) ts)) o ≡ Some sides → AreOfLine sides.1
-  by None h = cc
-  by (Some n) h = subst (λ (s : Tokens × Tokens). AreOfLine s.1) (some_is (take n ts, drop (n + 1) ts) sides h) (All-drop IsOfLine (n + 1) ts all)
+-- the tokens that are left are of the line
+abbrev LeavesOfLine : {A : Type 0} → A × Tokens → Type 0
+LeavesOfLine x = AreOfLine x.1
 
-number_are : (word : List ℕ) (ts : Tokens) (n : Option ℕ × Tokens) → number_in word ts ≡ Some n → AreOfLine ts → AreOfLine n.1
-unfolding number_in
-number_are word (Mark mark.LeftParenthesis ∷ ts) n h all =
-    let sides = bound (parted mark.RightParenthesis ts) _ n h in
-    let value = bound (value_of word sides.0.0) _ n sides.2 in
-    subst (λ (s : Option ℕ × Tokens). AreOfLine s.1) (some_is (Some value.0, sides.0.1) n value.2) (parted_are mark.RightParenthesis ts sides.0 sides.1 (All-tail IsOfLine (Mark mark.LeftParenthesis) ts all))
-number_are word ts n h all = subst (λ (s : Option ℕ × Tokens). AreOfLine s.1) (some_is (None, ts) n h) all
+parted_are : (m : AMark) (ts : Tokens) → AreOfLine ts → Holds LeavesOfLine (parted m ts)
+parted_are m ts all = by (position (is_mark m) ts) where
+  by : (o : Option ℕ) → Holds LeavesOfLine (option_map (λ n. (take n ts, drop (n + 1) ts)) o)
+  by None = tt
+  by (Some n) = All-drop IsOfLine (n + 1) ts all
+
+number_are : (word : List ℕ) (default : ℕ) (ts : Tokens) → AreOfLine ts → Holds LeavesOfLine (number_in word default ts)
+number_are word default (Mark LeftParenthesis ∷ ts) all =
+    then_holds LeavesOfLine LeavesOfLine (parted RightParenthesis ts) _ (parted_are RightParenthesis ts (All-tail IsOfLine (Mark LeftParenthesis) ts all))
+    (λ sides are. then_any LeavesOfLine (value_of word sides.0) _ (λ n. are))
+number_are word default ts all = all
 
 abbrev GivesWords : Written → Type 0
 GivesWords s = All IsWord (names_given s)
 
-declaration_words : (kind : Option Kind) (ts : Tokens) (s : Written) → declaration_of kind ts ≡ Some s → AreOfLine ts → GivesWords s
-unfolding declaration_of
-declaration_words kind ts s h all =
-    let k = bound kind _ s h in
-    let es = bound (list_of designator_of (behind_colons ts)) _ s k.2 in
-    subst GivesWords (some_is (written.Declaration (record { kind = k.0; entities = es.0 })) s es.2)
-    (All-map IsWord (λ e. e.name) es.0 (each_is designator_of (λ d. IsWord d.name) designator_word (cut (behind_colons ts)) es.0 es.1 (parts_are (behind_colons ts) (behind_colons_are ts all))))
+declaration_words : (kind : Option Kind) (ts : Tokens) → AreOfLine ts → Holds GivesWords (declaration_of kind ts)
+declaration_words kind ts all =
+    let names = each_holds HasWord designator_of designator_word (cut (behind_colons ts)) (parts_are (behind_colons ts) (behind_colons_are ts all)) in
+    then_any GivesWords kind _ (λ k. then_holds (All HasWord) GivesWords (list_of designator_of (behind_colons ts)) _ names (λ es are. All-map IsWord (λ e. e.name) es are))
 
-group_words : (ts : Tokens) (s : Written) → group_of ts ≡ Some s → AreOfLine ts → GivesWords s
-unfolding group_of
-group_words (Mark mark.Slash ∷ Word name ∷ Mark mark.Slash ∷ ts) s h all =
-    let members = bound (list_of name_of ts) (λ ms. Some (written.Group (record { name = name; members = ms }))) s (passed (is_name name) _ s h).1 in
-    let word : IsWord name = All-head IsOfLine (Word name) (Mark mark.Slash ∷ ts) (All-tail IsOfLine (Mark mark.Slash) (Word name ∷ Mark mark.Slash ∷ ts) all) in
-    subst GivesWords (some_is (written.Group (record { name = name; members = members.0 })) s members.2) (All-cons IsWord name [] word (All-nil IsWord))
-group_words ts s h all = cc
-
--- ---- statements give no names
-
-gives_none : {A : Type 0} (o : Option A) (f : A → Written) (s : Written) → ((x : A) → names_given (f x) ≡ []) → (o >>= (λ x. Some (f x))) ≡ Some s → GivesWords s
-gives_none o f s nothing h =
-    let x = bound o (λ x. Some (f x)) s h in
-    subst GivesWords (some_is (f x.0) s x.2) (subst (All IsWord) (sym (nothing x.0)) (All-nil IsWord))
-
-motion_words : (how : Motion) (ts : Tokens) (s : Written) → motion_from how ts ≡ Some s → GivesWords s
-unfolding motion_from
-motion_words how (Number Unsigned n ∷ []) s h = gives_none (unit_number n) (λ u. written.Move (record { how = how; unit = u; iostat = None })) s (λ x. refl) h
-motion_words how ts s h = gives_none (move_of how ts) written.Move s (λ x. refl) h
-
-end_words : (ts : Tokens) (s : Written) → end_from ts ≡ Some s → GivesWords s
-unfolding end_from
-end_words [] s h = subst GivesWords (some_is written.End s h) (All-nil IsWord)
-end_words (Word w ∷ ts) s h = motion_words motion.Endfile ts s (passed (bytes_eq w (codes "FILE")) _ s h).1
-end_words ts s h = cc
-
-transfer_words : (input : Bool) (ts : Tokens) (s : Written) → transfer_from input ts ≡ Some s → GivesWords s
-unfolding transfer_from
-transfer_words input ts s h =
-    let call = bound (call_of ts) _ s h in
-    let items = bound (items_of call.0.1) _ s call.2 in
-    gives_none (transfer_of input call.0.0 items.0) written.Transfer s (λ x. refl) items.2
-
-assignment_words : (ts : Tokens) (s : Written) → assignment_of ts ≡ Some s → GivesWords s
-unfolding assignment_of
-assignment_words ts s h =
-    let sides = bound (parted mark.Equals ts) _ s h in
-    let to = bound (designator_of sides.0.0) _ s sides.2 in
-    gives_none (operand_of sides.0.1) (λ from. written.Assignment (record { to = to.0; from = from })) s (λ x. refl) to.2
+group_words : (ts : Tokens) → AreOfLine ts → Holds GivesWords (group_of ts)
+group_words (Mark Slash ∷ Word name ∷ Mark Slash ∷ ts) all =
+    let word : IsWord name = All-head IsOfLine (Word name) (Mark Slash ∷ ts) (All-tail IsOfLine (Mark Slash) (Word name ∷ Mark Slash ∷ ts) all) in
+    where_holds GivesWords (is_name name) _ (then_any GivesWords (list_of name_of ts) _ (λ members. All-cons IsWord name [] word (All-nil IsWord)))
+group_words ts all = tt
 
 -- ---- each statement by its keyword
 
-keyword_words : (k : Keyword) (ts : Tokens) (s : Written) → begun_by k ts ≡ Some s → AreOfLine ts → GivesWords s
+-- a motion gives no names
+motion_words : (how : Motion) (ts : Tokens) → Holds GivesWords (motion_from how ts)
+motion_words how (Number Unsigned n ∷ []) = then_any GivesWords (unit_number n) _ (λ u. All-nil IsWord)
+motion_words how ts = then_any GivesWords (move_of how ts) (λ m. Some (written.Move m)) (λ m. All-nil IsWord)
+
+begun_words : (k : Keyword) (ts : Tokens) → AreOfLine ts → Holds GivesWords (begun_by k ts)
 unfolding begun_by
-keyword_words keyword.Integer ts s h all =
-    let n = bound (number_in (codes "KIND") ts) _ s h in
-    declaration_words (integer_kind n.0.0) n.0.1 s n.2 (number_are (codes "KIND") ts n.0 n.1 all)
-keyword_words keyword.Logical ts s h all = declaration_words (Some Logical) ts s h all
-keyword_words keyword.Character ts s h all =
-    let n = bound (number_in (codes "LEN") ts) _ s h in
-    declaration_words (character_kind n.0.0) n.0.1 s n.2 (number_are (codes "LEN") ts n.0 n.1 all)
-keyword_words keyword.Namelist ts s h all = group_words ts s h all
-keyword_words keyword.Open ts s h all = gives_none (open_of ts) written.Open s (λ x. refl) h
-keyword_words keyword.Close ts s h all = gives_none (close_of ts) written.Close s (λ x. refl) h
-keyword_words (keyword.Transfer input) ts s h all = transfer_words input ts s h
-keyword_words keyword.Wait ts s h all = gives_none (wait_of ts) written.Wait s (λ x. refl) h
-keyword_words (keyword.Move how) ts s h all = motion_words how ts s h
-keyword_words keyword.Inquire ts s h all = gives_none (inquire_of ts) written.Inquire s (λ x. refl) h
-keyword_words keyword.End ts s h all = end_words ts s h
+begun_words keyword.Integer ts all = then_holds LeavesOfLine GivesWords (number_in (codes "KIND") 4 ts) _ (number_are (codes "KIND") 4 ts all) (λ n are. declaration_words (integer_kind n.0) n.1 are)
+begun_words keyword.Logical ts all = declaration_words (Some Logical) ts all
+begun_words keyword.Character ts all = then_holds LeavesOfLine GivesWords (number_in (codes "LEN") 1 ts) _ (number_are (codes "LEN") 1 ts all) (λ n are. declaration_words (character_kind n.0) n.1 are)
+begun_words keyword.Namelist ts all = group_words ts all
+begun_words keyword.Open ts all = then_any GivesWords (open_of ts) _ (λ o. All-nil IsWord)
+begun_words keyword.Close ts all = then_any GivesWords (close_of ts) _ (λ c. All-nil IsWord)
+begun_words (keyword.Transfer input) ts all =
+    then_any GivesWords (call_of (keyword.Transfer input) ts) _ (λ c. then_any GivesWords (items_of c.1) _ (λ items. then_any GivesWords (transfer_of input c.0 items) _ (λ t. All-nil IsWord)))
+begun_words keyword.Wait ts all = then_any GivesWords (wait_of ts) _ (λ w. All-nil IsWord)
+begun_words (keyword.Move how) ts all = motion_words how ts
+begun_words keyword.Inquire ts all = then_any GivesWords (inquire_of ts) _ (λ i. All-nil IsWord)
+begun_words keyword.End [] all = All-nil IsWord
+begun_words keyword.End (Word w ∷ ts) all = where_holds GivesWords (bytes_eq w (codes "FILE")) _ (motion_words Endfile ts)
+begun_words keyword.End ts all = tt
 
-begun_words : (k : Option Keyword) (whole ts : Tokens) (s : Written) → begun k whole ts ≡ Some s → AreOfLine ts → GivesWords s
-begun_words (Some k) whole ts s h all = keyword_words k ts s h all
-begun_words None whole ts s h all = assignment_words whole s h
-
-statement_words : (ts : Tokens) (s : Written) → written_of ts ≡ Some s → AreOfLine ts → GivesWords s
+statement_words : (ts : Tokens) → AreOfLine ts → Holds GivesWords (written_of ts)
 unfolding written_of
-statement_words (Word w ∷ ts) s h all = begun_words (keyword_of w) (Word w ∷ ts) ts s h (All-tail IsOfLine (Word w) ts all)
-statement_words [] s h all = cc
-statement_words ts s h all = cc
+statement_words (Word w ∷ ts) all = by (keyword_of w) where
+  by : (k : Option Keyword) → Holds GivesWords (begun k (Word w ∷ ts) ts)
+  by (Some k) = begun_words k ts (All-tail IsOfLine (Word w) ts all)
+  by None =
+      then_any GivesWords (parted Equals (Word w ∷ ts)) _
+      (λ sides. then_any GivesWords (designator_of sides.0) _ (λ to. then_any GivesWords (operand_of sides.1) _ (λ from. All-nil IsWord)))
+statement_words ts all = tt
 
 pub names_words : NamesAreWords
-names_words line s is = statement_words is.0 s is.2 (are_of_line line is.0 is.1)
+names_words line s is = held GivesWords (written_of is.0) s (statement_words is.0 (are_of_line line is.0 is.1)) is.2

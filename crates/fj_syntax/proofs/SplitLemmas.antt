@@ -1,10 +1,10 @@
 -- A list that is cut at the first element that passes, and a text at its first line feed.
-use Rattle.std.proofs.Common.{◌≡◌, ℕ, ◌+◌, ◌-◌, ◌<◌, ◌≤◌, Bool, true, false, cond, List, [], ◌∷◌, length, take, drop, Some, None, eqb, ltb, ◌==◌, refl, arith}
-use Rattle.std.specs.List.{slice_split, after_first, onto_first, position, position_or_len}
+use Rattle.std.proofs.Common.{◌≡◌, ℕ, ◌+◌, ◌-◌, ◌<◌, ◌≤◌, Bool, false, cond, List, [], ◌∷◌, length, take, drop, Some, None, eqb, ltb, ◌==◌, refl, arith}
+use Rattle.std.specs.List.{slice_split, after_first, position, position_or_len}
 use Rattle.std.specs.Str.Lines.{lines, strip_carriage_return}
-use Rattle.std.proofs.lemmas.Bool.{ltb-true, ltb-false}
+use Rattle.std.proofs.lemmas.Bool.Decides.{nat_tests}
 use Rattle.std.proofs.lemmas.List.{drop_all, take_rest}
-use Rattle.std.proofs.lemmas.List.Splits.{slice_split_first, slice_split_none}
+use Rattle.std.proofs.lemmas.List.Splits.{length-slice_split, slice_split_first, slice_split_none}
 use Rattle.std.proofs.lemmas.List.Sums.{fails_before_first}
 
 -- what stands behind the element, as a slice has it
@@ -12,16 +12,10 @@ abbrev pub behind : {X : Type 0} → ℕ → List X → List X
 behind n xs = take (length xs - (n + 1)) (drop (n + 1) xs)
 
 at_first : (at len n : ℕ) → cond (ltb at len) (Some at) None ≡ Some n → (n ≡ at) × (at < len)
-at_first at len n h = by (ltb at len) refl h where
-  by : (b : Bool) → ltb at len ≡ b → cond b (Some at) None ≡ Some n → (n ≡ at) × (at < len)
-  by true is e = (cc, ltb-true at len is)
-  by false is e = cc
+at_first at len n h = (grind (arith, nat_tests), grind (arith, nat_tests))
 
 no_first : (at len : ℕ) → cond (ltb at len) (Some at) None ≡ None → len ≤ at
-no_first at len h = by (ltb at len) refl h where
-  by : (b : Bool) → ltb at len ≡ b → cond b (Some at) None ≡ None → len ≤ at
-  by true is e = cc
-  by false is e = ltb-false at len is
+no_first at len h = grind (arith, nat_tests)
 
 pub first_split : {X : Type 0} (p : X → Bool) (xs : List X) (n : ℕ) → position p xs ≡ Some n → slice_split p xs ≡ take n xs ∷ slice_split p (behind n xs)
 first_split p [] n h = cc
@@ -35,20 +29,13 @@ no_split p xs h = slice_split_none p xs (λ k d below. fails_before_first p xs k
 -- ---- lines
 
 -- some part comes first
-abbrev IsSome : List (List ℕ) → Type 0
-IsSome parts = (part : List ℕ) × (more : List (List ℕ)) × (parts ≡ part ∷ more)
-
-some_part : (text : List ℕ) → IsSome (slice_split (λ b. eqb b 10) text)
-some_part [] = ([], [], refl)
-some_part (x ∷ text) = by (eqb x 10) (slice_split (λ b. eqb b 10) text) where
-  by : (b : Bool) (parts : List (List ℕ)) → IsSome (cond b ([] ∷ parts) (onto_first x parts))
-  by true parts = ([], parts, refl)
-  by false [] = (x ∷ [], [], refl)
-  by false (part ∷ parts) = (x ∷ part, parts, refl)
+some_part : (parts : List (List ℕ)) → 0 < length parts → (part : List ℕ) × (more : List (List ℕ)) × (parts ≡ part ∷ more)
+some_part [] some = absurd (omega arith)
+some_part (part ∷ parts) some = (part, parts, refl)
 
 -- a line that ends at a line feed
 pub first_line : (text : List ℕ) (n : ℕ) → position (λ b. eqb b 10) text ≡ Some n → lines text ≡ strip_carriage_return (take n text) ∷ lines (behind n text)
-first_line text n h = let some = some_part (behind n text) in rw (first_split (λ b. eqb b 10) text n h, some.2) refl
+first_line text n h = let some = some_part (slice_split (λ b. eqb b 10) (behind n text)) (omega (arith, length-slice_split (λ b. eqb b 10) (behind n text))) in rw (first_split (λ b. eqb b 10) text n h, some.2) refl
 
 -- a text without a line feed
 pub only_line : (text : List ℕ) → position (λ b. eqb b 10) text ≡ None → (length text == 0) ≡ false → lines text ≡ text ∷ []

@@ -2,7 +2,7 @@
 use Rattle.std.specs.Prelude.{ℕ, Bool, ◌||◌, ◌==◌, nat_le}
 use Rattle.std.specs.Char.{is_ascii_alphanumeric, is_ascii_digit}
 use Rattle.fj_syntax.specs.declared.class.Class.{Class}
-use Rattle.fj_syntax.specs.declared.class.Class.TheVariants.{Blank, InWord, InLiteral, Digit}
+pub use Rattle.fj_syntax.specs.declared.class.Class.TheVariants.{Blank, InWord, InLiteral, Digit}
 
 abbrev pub is_of : Class → ℕ → Bool
 is_of Blank b = (b == 32) || (b == 9)

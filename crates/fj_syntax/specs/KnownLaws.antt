@@ -4,25 +4,16 @@ use Rattle.std.specs.Prelude.{◌≡◌, ◌==◌, ℕ, Bool, true, List, [], �
 use Rattle.std.specs.Bool.{beq}
 use Rattle.std.specs.List.{list_all, list_any, slice_split}
 use Rattle.std.specs.Str.{bytes_eq}
-use Rattle.fj_syntax.specs.declared.token.Token.{Token}
-use Rattle.fj_syntax.specs.declared.token.Token.TheVariants.{Word, Number, Literal, Mark}
-use Rattle.fj_syntax.specs.declared.token.Mark.TheVariants as mark
-use Rattle.fj_syntax.specs.declared.token.Sign.TheVariants.{Unsigned}
 use Rattle.fj_syntax.specs.Parts.{Tokens}
 use Rattle.fj_syntax.specs.Statement.{written_of}
-
--- a specifier with values, and the statements that take it with each of them
-pub record Row : Type 0 where
-  pub specifier : List ℕ
-  pub values : List Token
-  pub takers : List (List ℕ)
+use Rattle.fj_syntax.specs.Tokens.{Token, Word, Number, Literal, Mark, LeftParenthesis, RightParenthesis, Comma, Equals, Asterisk, Unsigned}
 
 -- the words of a text, between blanks
 abbrev pub words : String → List (List ℕ)
 words text = slice_split (λ c. c == 32) (codes text)
 
-abbrev pub statements : List (List ℕ)
-statements = words "OPEN CLOSE READ WRITE WAIT INQUIRE BACKSPACE REWIND ENDFILE FLUSH"
+abbrev pub statements : String
+statements = "OPEN CLOSE READ WRITE WAIT INQUIRE BACKSPACE REWIND ENDFILE FLUSH"
 
 -- names, numbers and words as values
 abbrev pub a_place : List Token
@@ -34,65 +25,54 @@ a_number = Number Unsigned 5 ∷ []
 abbrev pub texts : String → List Token
 texts text = map Literal (words text)
 
-abbrev pub row : List ℕ → List Token → List (List ℕ) → Row
-row s vs takers = record { specifier = s; values = vs; takers = takers }
-
--- files and modes
-abbrev pub modes : List Row
-modes =
-    row (codes "FILE") (texts "a") (words "OPEN")
-    ∷ row (codes "STATUS") (texts "OLD NEW SCRATCH REPLACE UNKNOWN") (words "OPEN")
-    ∷ row (codes "STATUS") (texts "KEEP DELETE") (words "CLOSE")
-    ∷ row (codes "ACCESS") (texts "SEQUENTIAL DIRECT STREAM") (words "OPEN")
-    ∷ row (codes "FORM") (texts "FORMATTED UNFORMATTED") (words "OPEN")
-    ∷ row (codes "RECL") a_number (words "OPEN")
-    ∷ row (codes "POSITION") (texts "ASIS REWIND APPEND") (words "OPEN")
-    ∷ row (codes "ACTION") (texts "READ WRITE READWRITE") (words "OPEN")
-    ∷ row (codes "BLANK") (texts "NULL ZERO") (words "OPEN READ")
-    ∷ row (codes "DELIM") (texts "APOSTROPHE QUOTE NONE") (words "OPEN WRITE")
-    ∷ row (codes "PAD") (texts "YES NO") (words "OPEN READ")
-    ∷ row (codes "DECIMAL") (texts "COMMA POINT") (words "OPEN READ WRITE")
-    ∷ row (codes "SIGN") (texts "PLUS SUPPRESS PROCESSOR_DEFINED") (words "OPEN WRITE")
-    ∷ row (codes "ASYNCHRONOUS") (texts "YES NO") (words "OPEN READ WRITE")
-    ∷ []
-
--- where and how a transfer takes place, and what is told of it
-abbrev pub transferring : List Row
-transferring =
-    row (codes "ADVANCE") (texts "YES NO") (words "READ WRITE")
-    ∷ row (codes "FMT") (Mark mark.Asterisk ∷ texts "(I5)") (words "READ WRITE")
-    ∷ row (codes "NML") a_place (words "READ WRITE")
-    ∷ row (codes "REC") (a_number ++ a_place) (words "READ WRITE")
-    ∷ row (codes "POS") a_number (words "READ WRITE")
-    ∷ row (codes "POS") a_place (words "READ WRITE INQUIRE")
-    ∷ row (codes "SIZE") a_place (words "READ INQUIRE")
-    ∷ row (codes "ID") a_number (words "WAIT INQUIRE")
-    ∷ row (codes "ID") a_place (words "READ WRITE WAIT INQUIRE")
-    ∷ row (codes "IOSTAT") a_place statements
-    ∷ []
-
--- the other questions
-abbrev pub questions : List Row
-questions =
-    map (λ s. row s a_place (words "INQUIRE"))
-    (words "EXIST OPENED NUMBER NAMED NAME NEXTREC PENDING ACCESS FORM RECL ACTION BLANK DELIM PAD DECIMAL SIGN ASYNCHRONOUS")
-
 -- SPECIFIER = value in parentheses, alone
 abbrev pub alone : List ℕ → Token → Tokens
-alone s v = Mark mark.LeftParenthesis ∷ Word s ∷ Mark mark.Equals ∷ v ∷ Mark mark.RightParenthesis ∷ []
+alone s v = Mark LeftParenthesis ∷ Word s ∷ Mark Equals ∷ v ∷ Mark RightParenthesis ∷ []
 
 -- and behind a unit
 abbrev pub behind_unit : List ℕ → Token → Tokens
-behind_unit s v = Mark mark.LeftParenthesis ∷ Number Unsigned 5 ∷ Mark mark.Comma ∷ Word s ∷ Mark mark.Equals ∷ v ∷ Mark mark.RightParenthesis ∷ []
+behind_unit s v = Mark LeftParenthesis ∷ Number Unsigned 5 ∷ Mark Comma ∷ Word s ∷ Mark Equals ∷ v ∷ Mark RightParenthesis ∷ []
 
--- of these statements it is those that take the row that are ones
-abbrev pub is_taken : (List ℕ → Token → Tokens) → Row → Bool
-is_taken form r = list_all (λ v. list_all (λ k. beq (is_some (written_of (Word k ∷ form r.specifier v))) (list_any (bytes_eq k) r.takers)) statements) r.values
+-- with each value it is the takers among the statements that are ones
+abbrev pub is_taken : (List ℕ → Token → Tokens) → List ℕ → List Token → String → Bool
+is_taken form specifier values takers =
+    list_all (λ v. list_all (λ k. beq (is_some (written_of (Word k ∷ form specifier v))) (list_any (bytes_eq k) (words takers))) (words statements)) values
+
+abbrev pub row : String → List Token → String → Bool
+row specifier values takers = is_taken behind_unit (codes specifier) values takers
+
+-- a specifier, values, and the statements that take it with each of them
+abbrev pub rows : List Bool
+rows =
+    row "FILE" (texts "a") "OPEN"
+    ∷ row "STATUS" (texts "OLD NEW SCRATCH REPLACE UNKNOWN") "OPEN"
+    ∷ row "STATUS" (texts "KEEP DELETE") "CLOSE"
+    ∷ row "ACCESS" (texts "SEQUENTIAL DIRECT STREAM") "OPEN"
+    ∷ row "FORM" (texts "FORMATTED UNFORMATTED") "OPEN"
+    ∷ row "RECL" a_number "OPEN"
+    ∷ row "POSITION" (texts "ASIS REWIND APPEND") "OPEN"
+    ∷ row "ACTION" (texts "READ WRITE READWRITE") "OPEN"
+    ∷ row "BLANK" (texts "NULL ZERO") "OPEN READ"
+    ∷ row "DELIM" (texts "APOSTROPHE QUOTE NONE") "OPEN WRITE"
+    ∷ row "PAD" (texts "YES NO") "OPEN READ"
+    ∷ row "DECIMAL" (texts "COMMA POINT") "OPEN READ WRITE"
+    ∷ row "SIGN" (texts "PLUS SUPPRESS PROCESSOR_DEFINED") "OPEN WRITE"
+    ∷ row "ASYNCHRONOUS" (texts "YES NO") "OPEN READ WRITE"
+    ∷ row "ADVANCE" (texts "YES NO") "READ WRITE"
+    ∷ row "FMT" (Mark Asterisk ∷ texts "(I5)") "READ WRITE"
+    ∷ row "NML" a_place "READ WRITE"
+    ∷ row "REC" (a_number ++ a_place) "READ WRITE"
+    ∷ row "POS" a_number "READ WRITE"
+    ∷ row "POS" a_place "READ WRITE INQUIRE"
+    ∷ row "SIZE" a_place "READ INQUIRE"
+    ∷ row "ID" a_number "WAIT INQUIRE"
+    ∷ row "ID" a_place "READ WRITE WAIT INQUIRE"
+    ∷ row "IOSTAT" a_place statements
+    ∷ map (λ question. is_taken behind_unit question a_place "INQUIRE")
+    (words "EXIST OPENED NUMBER NAMED NAME NEXTREC PENDING ACCESS FORM RECL ACTION BLANK DELIM PAD DECIMAL SIGN ASYNCHRONOUS")
 
 -- each statement takes the rows that it stands in and no others
 pub record ArgumentsAreTaken : Type 0 where
-  pub unit : is_taken alone (row (codes "UNIT") a_number statements) ≡ true
-  pub file : is_taken alone (row (codes "FILE") (texts "a") (words "INQUIRE")) ≡ true
-  pub modes_are : list_all (is_taken behind_unit) modes ≡ true
-  pub transfers_are : list_all (is_taken behind_unit) transferring ≡ true
-  pub questions_are : list_all (is_taken behind_unit) questions ≡ true
+  pub unit : is_taken alone (codes "UNIT") a_number statements ≡ true
+  pub file : is_taken alone (codes "FILE") (texts "a") "INQUIRE" ≡ true
+  pub rows_are : list_all (λ taken. taken) rows ≡ true

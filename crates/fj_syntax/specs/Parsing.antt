@@ -1,12 +1,9 @@
 -- What parsing a line answers.
 use Rattle.std.specs.Prelude.{◌≡◌, ℕ, List, [], ◌∷◌, map, All, Result, Ok, Err, Option, Some, None}
-use Rattle.fj_syntax.specs.declared.fault.SyntaxFault.{SyntaxFault}
-use Rattle.fj_syntax.specs.declared.fault.SyntaxFault.TheVariants as fault
-use Rattle.fj_syntax.specs.declared.token.Token.{Token}
-use Rattle.fj_syntax.specs.declared.written.Written.{Written}
+use Rattle.fj_syntax.specs.Reading.{SyntaxFault, Memory, NotAStatement}
+use Rattle.fj_syntax.specs.Statement.{Written, written_of}
+use Rattle.fj_syntax.specs.Tokens.{Token, AreTokens, IsWordText}
 use Rattle.fj_syntax.specs.declared.written.Written.TheVariants as written
-use Rattle.fj_syntax.specs.Statement.{written_of}
-use Rattle.fj_syntax.specs.Tokens.{AreTokens, IsWordText}
 
 -- the line has these tokens, with blanks between them and a comment behind them
 abbrev pub IsStatement : List ℕ → Written → Type 0
@@ -31,22 +28,16 @@ pub record IsNoStatement (line : List ℕ) : Type 0 where
 abbrev pub Parses : List ℕ → Result (Option Written) SyntaxFault → Type 0
 Parses line (Ok None) = IsBlankLine line
 Parses line (Ok (Some statement)) = IsOnlyStatement line statement
-Parses line (Err (fault.Memory error)) = Unit {0}
-Parses line (Err fault.NotAStatement) = IsNoStatement line
+Parses line (Err (Memory error)) = Unit {0}
+Parses line (Err NotAStatement) = IsNoStatement line
 
 -- ---- laws
 
--- a line is at most one statement
-abbrev pub OneStatement : Type 0
-OneStatement = (line : List ℕ) (s other : Written) → IsStatement line s → IsStatement line other → s ≡ other
-
--- and none where it is blank
-abbrev pub BlankIsNoStatement : Type 0
-BlankIsNoStatement = (line : List ℕ) (s : Written) → IsBlankLine line → IsStatement line s → ⊥
-
--- a line has at most one list of tokens
-abbrev pub OneListOfTokens : Type 0
-OneListOfTokens = (line : List ℕ) (tokens other : List Token) → AreTokens line tokens → AreTokens line other → other ≡ tokens
+-- a line has at most one list of tokens, and is at most one statement, and none where it is blank
+pub record OneReading : Type 0 where
+  pub tokens : (line : List ℕ) (tokens other : List Token) → AreTokens line tokens → AreTokens line other → other ≡ tokens
+  pub statement : (line : List ℕ) (s other : Written) → IsStatement line s → IsStatement line other → s ≡ other
+  pub blank : (line : List ℕ) (s : Written) → IsBlankLine line → IsStatement line s → ⊥
 
 -- the names that a declaration gives
 abbrev pub names_given : Written → List (List ℕ)

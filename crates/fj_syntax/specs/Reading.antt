@@ -1,7 +1,7 @@
 -- What a reading function answers, against what there is to be read.
 use Rattle.std.specs.Prelude.{◌≡◌, List, [], ◌∷◌, Result, Ok, Err, Option, Some, None}
-use Rattle.fj_syntax.specs.declared.fault.SyntaxFault.{SyntaxFault}
-use Rattle.fj_syntax.specs.declared.fault.SyntaxFault.TheVariants as fault
+pub use Rattle.fj_syntax.specs.declared.fault.SyntaxFault.{SyntaxFault}
+pub use Rattle.fj_syntax.specs.declared.fault.SyntaxFault.TheVariants.{Memory, NotAStatement}
 
 infixl 10 ◌>>=◌
 abbrev pub ◌>>=◌ : {A B : Type 0} → Option A → (A → Option B) → Option B
@@ -23,8 +23,8 @@ each f (x ∷ xs) = do
 
 -- none, unless memory ran out
 abbrev pub Fails : {Y : Type 0} → SyntaxFault → Option Y → Type 0
-Fails (fault.Memory error) read = Unit {0}
-Fails fault.NotAStatement read = read ≡ None
+Fails (Memory error) read = Unit {0}
+Fails NotAStatement read = read ≡ None
 
 -- what was answered, seen by view, is what there is to be read
 abbrev pub Gives : {X Y : Type 0} → (X → Y) → Result X SyntaxFault → Option Y → Type 0

@@ -4,16 +4,14 @@ use Rattle.std.specs.List.{AllPass, prefix_len}
 use Rattle.std.specs.Char.{is_ascii_alphabetic, to_ascii_uppercase}
 use Rattle.std.specs.Str.{str_to_ascii_lowercase}
 use Rattle.std.specs.Str.Parse.{digits_value}
-use Rattle.fj_syntax.specs.Class.{is_of}
-use Rattle.fj_syntax.specs.declared.class.Class.TheVariants.{Blank, InWord, InLiteral, Digit}
-use Rattle.fj_syntax.specs.declared.fault.SyntaxFault.{SyntaxFault}
-use Rattle.fj_syntax.specs.declared.fault.SyntaxFault.TheVariants as fault
-use Rattle.fj_syntax.specs.declared.token.Token.{Token}
-use Rattle.fj_syntax.specs.declared.token.Token.TheVariants.{Word, Number, Literal, Truth, Mark}
-use Rattle.fj_syntax.specs.declared.token.Mark as marks
-use Rattle.fj_syntax.specs.declared.token.Mark.TheVariants.{LeftParenthesis, RightParenthesis, Comma, Equals, Slash, Asterisk, DoubleColon}
-use Rattle.fj_syntax.specs.declared.token.Sign.{Sign}
-use Rattle.fj_syntax.specs.declared.token.Sign.TheVariants.{Unsigned, Plus, Minus}
+use Rattle.fj_syntax.specs.Class.{is_of, Blank, InWord, InLiteral, Digit}
+use Rattle.fj_syntax.specs.Reading.{SyntaxFault, Memory, NotAStatement}
+pub use Rattle.fj_syntax.specs.declared.token.Token.{Token}
+pub use Rattle.fj_syntax.specs.declared.token.Token.TheVariants.{Word, Number, Literal, Truth, Mark}
+pub use Rattle.fj_syntax.specs.declared.token.Mark.{Mark as AMark}
+pub use Rattle.fj_syntax.specs.declared.token.Mark.TheVariants.{LeftParenthesis, RightParenthesis, Comma, Equals, Slash, Asterisk, DoubleColon}
+pub use Rattle.fj_syntax.specs.declared.token.Sign.{Sign}
+pub use Rattle.fj_syntax.specs.declared.token.Sign.TheVariants.{Unsigned, Plus, Minus}
 
 -- the first byte is there and passes
 abbrev pub begins : (ℕ → Bool) → List ℕ → Bool
@@ -25,7 +23,7 @@ sign_bytes Unsigned = []
 sign_bytes Plus = codes "+"
 sign_bytes Minus = codes "-"
 
-abbrev pub mark_bytes : marks.Mark → List ℕ
+abbrev pub mark_bytes : AMark → List ℕ
 mark_bytes LeftParenthesis = codes "("
 mark_bytes RightParenthesis = codes ")"
 mark_bytes Comma = codes ","
@@ -108,5 +106,5 @@ HasNoTokens line = (tokens : List Token) → AreTokens line tokens → ⊥
 -- what a scanner answered: the tokens of the line, or that it has none, unless memory ran out
 abbrev pub Scanned : {X : Type 0} → List ℕ → Result X SyntaxFault → (X → List Token) → Type 0
 Scanned line (Ok x) view = HasTokens line (view x)
-Scanned line (Err (fault.Memory error)) view = Unit {0}
-Scanned line (Err fault.NotAStatement) view = HasNoTokens line
+Scanned line (Err (Memory error)) view = Unit {0}
+Scanned line (Err NotAStatement) view = HasNoTokens line

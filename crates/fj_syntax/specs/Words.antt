@@ -1,13 +1,15 @@
 -- What the words of the grammar stand for (ISO/IEC 1539-1:2004, clauses 4, 5 and 9, in part).
 use denote.Enum.Bare.{sameb}
-use Rattle.std.specs.Prelude.{ℕ, Bool, true, false, List, [], ◌∷◌, Option, codes}
+use Rattle.std.specs.Prelude.{ℕ, Bool, true, false, List, [], ◌∷◌, Option, Some, None, if◌then◌else◌, codes}
+use Rattle.std.specs.List.{list_any}
+use Rattle.std.specs.Str.{bytes_eq}
 use Rattle.fj_modes.specs.declared.unit.Motion.TheVariants as motion
-use Rattle.fj_modes.specs.ModeWords.{Table, mode_of}
+use Rattle.fj_modes.specs.ModeWords.{Table}
 use Rattle.fj_syntax.specs.contracts.words.Specifier.{the_type}
-use Rattle.fj_syntax.specs.declared.words.Keyword.{Keyword}
+pub use Rattle.fj_syntax.specs.declared.words.Keyword.{Keyword}
 use Rattle.fj_syntax.specs.declared.words.Keyword.TheVariants as keyword
-use Rattle.fj_syntax.specs.declared.words.Specifier.{Specifier}
-use Rattle.fj_syntax.specs.declared.words.Specifier.TheVariants as specifier
+pub use Rattle.fj_syntax.specs.declared.words.Specifier.{Specifier}
+use Rattle.fj_syntax.specs.declared.words.Specifier.TheVariants.{Unit, File, Fmt, Nml, Iostat, Id, Status, Access, Form, Recl, Position, Action, Blank, Delim, Pad, Decimal, Sign, Asynchronous, Advance, Size, Rec, Pos, Exist, Opened, Number, Named, Name, Nextrec, Pending}
 
 -- the words that begin a statement or declaration; none of them is a name
 abbrev pub keywords : Table Keyword
@@ -20,19 +22,37 @@ keywords =
 -- the words before an equals sign (9.4.5, 9.5.1, 9.6.2, 9.9.1)
 abbrev pub specifiers : Table Specifier
 specifiers =
-    (codes "UNIT", specifier.Unit) ∷ (codes "FILE", specifier.File) ∷ (codes "FMT", specifier.Fmt) ∷ (codes "NML", specifier.Nml) ∷ (codes "IOSTAT", specifier.Iostat)
-    ∷ (codes "ID", specifier.Id) ∷ (codes "STATUS", specifier.Status) ∷ (codes "ACCESS", specifier.Access) ∷ (codes "FORM", specifier.Form) ∷ (codes "RECL", specifier.Recl)
-    ∷ (codes "POSITION", specifier.Position) ∷ (codes "ACTION", specifier.Action) ∷ (codes "BLANK", specifier.Blank) ∷ (codes "DELIM", specifier.Delim)
-    ∷ (codes "PAD", specifier.Pad) ∷ (codes "DECIMAL", specifier.Decimal) ∷ (codes "SIGN", specifier.Sign) ∷ (codes "ASYNCHRONOUS", specifier.Asynchronous)
-    ∷ (codes "ADVANCE", specifier.Advance) ∷ (codes "SIZE", specifier.Size) ∷ (codes "REC", specifier.Rec) ∷ (codes "POS", specifier.Pos) ∷ (codes "EXIST", specifier.Exist)
-    ∷ (codes "OPENED", specifier.Opened) ∷ (codes "NUMBER", specifier.Number) ∷ (codes "NAMED", specifier.Named) ∷ (codes "NAME", specifier.Name)
-    ∷ (codes "NEXTREC", specifier.Nextrec) ∷ (codes "PENDING", specifier.Pending) ∷ []
+    (codes "UNIT", Unit) ∷ (codes "FILE", File) ∷ (codes "FMT", Fmt) ∷ (codes "NML", Nml) ∷ (codes "IOSTAT", Iostat) ∷ (codes "ID", Id)
+    ∷ (codes "STATUS", Status) ∷ (codes "ACCESS", Access) ∷ (codes "FORM", Form) ∷ (codes "RECL", Recl) ∷ (codes "POSITION", Position) ∷ (codes "ACTION", Action)
+    ∷ (codes "BLANK", Blank) ∷ (codes "DELIM", Delim) ∷ (codes "PAD", Pad) ∷ (codes "DECIMAL", Decimal) ∷ (codes "SIGN", Sign) ∷ (codes "ASYNCHRONOUS", Asynchronous)
+    ∷ (codes "ADVANCE", Advance) ∷ (codes "SIZE", Size) ∷ (codes "REC", Rec) ∷ (codes "POS", Pos) ∷ (codes "EXIST", Exist) ∷ (codes "OPENED", Opened)
+    ∷ (codes "NUMBER", Number) ∷ (codes "NAMED", Named) ∷ (codes "NAME", Name) ∷ (codes "NEXTREC", Nextrec) ∷ (codes "PENDING", Pending) ∷ []
+
+-- what stands beside a word in a table
+abbrev pub meaning_of : {M : Type 0} → Table M → List ℕ → Option M
+meaning_of [] word = None
+meaning_of (row ∷ rows) word = if bytes_eq row.0 word then Some row.1 else meaning_of rows word
 
 unfoldable pub keyword_of : List ℕ → Option Keyword
-keyword_of word = mode_of keywords word
+keyword_of word = meaning_of keywords word
 
 unfoldable pub specifier_of : List ℕ → Option Specifier
-specifier_of word = mode_of specifiers word
+specifier_of word = meaning_of specifiers word
 
 abbrev pub same_specifier : Specifier → Specifier → Bool
 same_specifier = sameb the_type
+
+-- the specifiers of each input/output statement beside UNIT and IOSTAT (9.4.5, 9.4.6, 9.5.1, 9.6.1, 9.7, 9.8, 9.9.1)
+abbrev pub others_of : Keyword → List Specifier
+others_of keyword.Open = File ∷ Status ∷ Access ∷ Form ∷ Recl ∷ Position ∷ Action ∷ Blank ∷ Delim ∷ Pad ∷ Decimal ∷ Sign ∷ Asynchronous ∷ []
+others_of keyword.Close = Status ∷ []
+others_of (keyword.Transfer true) = Fmt ∷ Nml ∷ Advance ∷ Asynchronous ∷ Blank ∷ Decimal ∷ Id ∷ Pad ∷ Pos ∷ Rec ∷ Size ∷ []
+others_of (keyword.Transfer false) = Fmt ∷ Nml ∷ Advance ∷ Asynchronous ∷ Decimal ∷ Delim ∷ Id ∷ Pos ∷ Rec ∷ Sign ∷ []
+others_of keyword.Wait = Id ∷ []
+others_of keyword.Inquire =
+    File ∷ Id ∷ Exist ∷ Opened ∷ Number ∷ Named ∷ Name ∷ Access ∷ Form ∷ Recl ∷ Nextrec ∷ Pos ∷ Size ∷ Blank ∷ Delim ∷ Pad ∷ Decimal ∷ Sign
+    ∷ Action ∷ Asynchronous ∷ Pending ∷ []
+others_of k = []
+
+abbrev pub takes : Keyword → Specifier → Bool
+takes k s = list_any (λ one. same_specifier one s) (Unit ∷ Iostat ∷ others_of k)

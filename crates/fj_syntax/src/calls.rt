@@ -1,17 +1,16 @@
 // The input/output statements from their tokens.
 ghost use Rattle.std.specs.Prelude.{◌≡◌, ◌++◌, [], ◌∷◌, Bool, true, false, List};
-ghost use Rattle.fj_syntax.specs.Calls.{of_transfer, open_of, close_of, wait_of, move_of, question_of, asking_of, asked_of, subject_of, inquire_of, transfer_of};
-ghost use Rattle.fj_syntax.specs.Arguments.{are_known};
+ghost use Rattle.fj_syntax.specs.Calls.{on_unit, open_of, close_of, wait_of, move_of, question_of, asking_of, asked_of, subject_of, inquire_of, transfer_of};
 ghost use Rattle.std.specs.Option.{option_to_list};
 ghost use Rattle.fj_syntax.specs.Reading.{Gives};
 
-use crate::arguments::{are_known, given_for, is_known, known_call, whole_call};
-use crate::fault::SyntaxFault;
+use crate::arguments::{given_for, whole_call};
+use crate::fault::{Read, SyntaxFault};
 use crate::given::{file, file_given, format, group, integer, mode, place, recl, unit, unit_given};
 use crate::operand::{Argument, Given, Operand};
 use crate::token::Token;
-use crate::words::Specifier;
-use crate::written::{Asking, Close, Inquire, Move, Open, Transfer, Wait};
+use crate::words::{Keyword, Specifier};
+use crate::written::{Asking, Inquire, OnUnit, Transfer};
 use fj_modes::{
     Access, Action, Answer, Blank, Decimal, Disposition, FileStatus, Form, Motion, OpenSpec,
     Question, Sign, Start, Subject,
@@ -19,137 +18,63 @@ use fj_modes::{
 use fj_value::{Delim, Items};
 use std::alloc::Global;
 
-const OF_OPEN: [Specifier; 15] = [
-    Specifier::Unit,
-    Specifier::File,
-    Specifier::Status,
-    Specifier::Access,
-    Specifier::Form,
-    Specifier::Recl,
-    Specifier::Position,
-    Specifier::Action,
-    Specifier::Blank,
-    Specifier::Delim,
-    Specifier::Pad,
-    Specifier::Decimal,
-    Specifier::Sign,
-    Specifier::Asynchronous,
-    Specifier::Iostat,
-];
-
-const OF_CLOSE: [Specifier; 3] = [Specifier::Unit, Specifier::Status, Specifier::Iostat];
-
-const OF_WAIT: [Specifier; 3] = [Specifier::Unit, Specifier::Id, Specifier::Iostat];
-
-const OF_MOTIONS: [Specifier; 2] = [Specifier::Unit, Specifier::Iostat];
-
-const OF_READ: [Specifier; 13] = [
-    Specifier::Unit,
-    Specifier::Fmt,
-    Specifier::Nml,
-    Specifier::Advance,
-    Specifier::Asynchronous,
-    Specifier::Blank,
-    Specifier::Decimal,
-    Specifier::Id,
-    Specifier::Iostat,
-    Specifier::Pad,
-    Specifier::Pos,
-    Specifier::Rec,
-    Specifier::Size,
-];
-
-const OF_WRITE: [Specifier; 12] = [
-    Specifier::Unit,
-    Specifier::Fmt,
-    Specifier::Nml,
-    Specifier::Advance,
-    Specifier::Asynchronous,
-    Specifier::Decimal,
-    Specifier::Delim,
-    Specifier::Id,
-    Specifier::Iostat,
-    Specifier::Pos,
-    Specifier::Rec,
-    Specifier::Sign,
-];
-
-/// Those of INQUIRE that ask nothing.
-const OF_INQUIRE: [Specifier; 4] = [
-    Specifier::Unit,
-    Specifier::File,
-    Specifier::Id,
-    Specifier::Iostat,
-];
+/// UNIT= and IOSTAT= beside what else a statement says.
+fn on_unit<T: Drop>(what: T, arguments: &[Argument]) -> Read<OnUnit<T>>
+    ensures { Gives (λ x. x) result (on_unit what arguments.now) }
+{
+    let unit = unit(false, arguments)?;
+    let iostat = place(arguments, Specifier::Iostat)?;
+    Ok(OnUnit { unit, what, iostat })
+}
 
 #[tactic(auto, unfolding(crate::specs::Calls::open_of))]
-pub fn make_open(alloc: Global, tokens: &[Token]) -> Result<Open, SyntaxFault>
+pub fn make_open(alloc: Global, tokens: &[Token]) -> Read<OnUnit<OpenSpec>>
     ensures { Gives (λ x. x) result (open_of tokens.now) }
 {
-    let arguments = known_call(alloc, &OF_OPEN, tokens)?;
+    let arguments = whole_call(alloc, Keyword::Open, tokens)?;
     let arguments = arguments.as_slice();
-    Ok(Open {
-        unit: unit(false, arguments)?,
-        spec: OpenSpec {
-            file: file(alloc, arguments)?,
-            status: mode::<FileStatus>(arguments, Specifier::Status)?,
-            access: mode::<Access>(arguments, Specifier::Access)?,
-            formatted: mode::<Form>(arguments, Specifier::Form)?,
-            recl: recl(arguments)?,
-            position: mode::<Start>(arguments, Specifier::Position)?,
-            action: mode::<Action>(arguments, Specifier::Action)?,
-            blank_zero: mode::<Blank>(arguments, Specifier::Blank)?,
-            delim: mode::<Delim>(arguments, Specifier::Delim)?,
-            pad: mode::<Answer>(arguments, Specifier::Pad)?,
-            comma: mode::<Decimal>(arguments, Specifier::Decimal)?,
-            plus: mode::<Sign>(arguments, Specifier::Sign)?,
-            asynchronous: mode::<Answer>(arguments, Specifier::Asynchronous)?,
-        },
-        iostat: place(arguments, Specifier::Iostat)?,
-    })
+    let spec = OpenSpec {
+        file: file(alloc, arguments)?,
+        status: mode::<FileStatus>(arguments, Specifier::Status)?,
+        access: mode::<Access>(arguments, Specifier::Access)?,
+        formatted: mode::<Form>(arguments, Specifier::Form)?,
+        recl: recl(arguments)?,
+        position: mode::<Start>(arguments, Specifier::Position)?,
+        action: mode::<Action>(arguments, Specifier::Action)?,
+        blank_zero: mode::<Blank>(arguments, Specifier::Blank)?,
+        delim: mode::<Delim>(arguments, Specifier::Delim)?,
+        pad: mode::<Answer>(arguments, Specifier::Pad)?,
+        comma: mode::<Decimal>(arguments, Specifier::Decimal)?,
+        plus: mode::<Sign>(arguments, Specifier::Sign)?,
+        asynchronous: mode::<Answer>(arguments, Specifier::Asynchronous)?,
+    };
+    on_unit(spec, arguments)
 }
 
-#[tactic(auto, unfolding(crate::specs::Calls::close_of))]
-pub fn make_close(alloc: Global, tokens: &[Token]) -> Result<Close, SyntaxFault>
+pub fn make_close(alloc: Global, tokens: &[Token]) -> Read<OnUnit<Option<bool>>>
     ensures { Gives (λ x. x) result (close_of tokens.now) }
 {
-    let arguments = known_call(alloc, &OF_CLOSE, tokens)?;
-    let arguments = arguments.as_slice();
-    Ok(Close {
-        unit: unit(false, arguments)?,
-        keep: mode::<Disposition>(arguments, Specifier::Status)?,
-        iostat: place(arguments, Specifier::Iostat)?,
-    })
+    let arguments = whole_call(alloc, Keyword::Close, tokens)?;
+    let keep = mode::<Disposition>(arguments.as_slice(), Specifier::Status)?;
+    on_unit(keep, arguments.as_slice())
 }
 
-#[tactic(auto, unfolding(crate::specs::Calls::wait_of))]
-pub fn make_wait(alloc: Global, tokens: &[Token]) -> Result<Wait, SyntaxFault>
+pub fn make_wait(alloc: Global, tokens: &[Token]) -> Read<OnUnit<Option<Operand>>>
     ensures { Gives (λ x. x) result (wait_of tokens.now) }
 {
-    let arguments = known_call(alloc, &OF_WAIT, tokens)?;
-    let arguments = arguments.as_slice();
-    Ok(Wait {
-        unit: unit(false, arguments)?,
-        id: integer(arguments, Specifier::Id)?,
-        iostat: place(arguments, Specifier::Iostat)?,
-    })
+    let arguments = whole_call(alloc, Keyword::Wait, tokens)?;
+    let id = integer(arguments.as_slice(), Specifier::Id)?;
+    on_unit(id, arguments.as_slice())
 }
 
-#[tactic(auto, unfolding(crate::specs::Calls::move_of))]
-pub fn make_move(alloc: Global, how: Motion, tokens: &[Token]) -> Result<Move, SyntaxFault>
+pub fn make_move(alloc: Global, how: Motion, tokens: &[Token]) -> Read<OnUnit<Motion>>
     ensures { Gives (λ x. x) result (move_of how tokens.now) }
 {
-    let arguments = known_call(alloc, &OF_MOTIONS, tokens)?;
-    let arguments = arguments.as_slice();
-    Ok(Move {
-        how,
-        unit: unit(false, arguments)?,
-        iostat: place(arguments, Specifier::Iostat)?,
-    })
+    let arguments = whole_call(alloc, Keyword::Move(how), tokens)?;
+    on_unit(how, arguments.as_slice())
 }
 
 /// What a specifier of INQUIRE asks, if it asks something.
-#[tactic(auto, unfolding(crate::specs::Calls::question_of))]
 fn question_of(specifier: Specifier) -> Option<Question>
     ensures { result ≡ question_of specifier }
 {
@@ -178,8 +103,7 @@ fn question_of(specifier: Specifier) -> Option<Question>
 }
 
 /// The question of an argument, if it asks one.
-#[tactic(auto, unfolding(crate::specs::Calls::asking_of))]
-fn asking_of(argument: &Argument) -> Result<Option<Asking>, SyntaxFault>
+fn asking_of(argument: &Argument) -> Read<Option<Asking>>
     ensures { Gives option_to_list result (asking_of argument.now) }
 {
     match (question_of(argument.specifier), &argument.value) {
@@ -187,13 +111,13 @@ fn asking_of(argument: &Argument) -> Result<Option<Asking>, SyntaxFault>
             what,
             place: place.try_clone()?,
         })),
-        (None, _) if is_known(&OF_INQUIRE, argument.specifier) => Ok(None),
+        (None, _) => Ok(None),
         _ => Err(SyntaxFault::NotAStatement),
     }
 }
 
 /// The questions, in order.
-fn asked_of(alloc: Global, arguments: &[Argument]) -> Result<Items<Asking>, SyntaxFault>
+fn asked_of(alloc: Global, arguments: &[Argument]) -> Read<Items<Asking>>
     ensures { Gives (λ x. x) result (asked_of arguments.now) }
 {
     let mut asked = Items::new(alloc);
@@ -206,8 +130,7 @@ fn asked_of(alloc: Global, arguments: &[Argument]) -> Result<Items<Asking>, Synt
 }
 
 /// A unit or a file, and not both.
-#[tactic(auto, unfolding(crate::specs::Calls::subject_of))]
-fn subject(alloc: Global, arguments: &[Argument]) -> Result<Subject, SyntaxFault>
+fn subject(alloc: Global, arguments: &[Argument]) -> Read<Subject>
     ensures { Gives (λ x. x) result (subject_of arguments.now) }
 {
     match (
@@ -221,10 +144,10 @@ fn subject(alloc: Global, arguments: &[Argument]) -> Result<Subject, SyntaxFault
 }
 
 #[tactic(auto, unfolding(crate::specs::Calls::inquire_of))]
-pub fn make_inquire(alloc: Global, tokens: &[Token]) -> Result<Inquire, SyntaxFault>
+pub fn make_inquire(alloc: Global, tokens: &[Token]) -> Read<Inquire>
     ensures { Gives (λ x. x) result (inquire_of tokens.now) }
 {
-    let arguments = whole_call(alloc, tokens)?;
+    let arguments = whole_call(alloc, Keyword::Inquire, tokens)?;
     let arguments = arguments.as_slice();
     Ok(Inquire {
         about: subject(alloc, arguments)?,
@@ -234,28 +157,11 @@ pub fn make_inquire(alloc: Global, tokens: &[Token]) -> Result<Inquire, SyntaxFa
     })
 }
 
-fn are_known_to_transfer(input: bool, arguments: &[Argument]) -> bool
-    ensures { result ≡ are_known (of_transfer input) arguments.now }
-{
-    if input {
-        are_known(&OF_READ, arguments)
-    } else {
-        are_known(&OF_WRITE, arguments)
-    }
-}
-
 /// READ or WRITE.
 #[tactic(auto, unfolding(crate::specs::Calls::transfer_of))]
-pub fn make_transfer(
-    input: bool,
-    arguments: &[Argument],
-    items: Items<Operand>,
-) -> Result<Transfer, SyntaxFault>
+pub fn make_transfer(input: bool, arguments: &[Argument], items: Items<Operand>) -> Read<Transfer>
     ensures { Gives (λ x. x) result (transfer_of input arguments.now items) }
 {
-    if !are_known_to_transfer(input, arguments) {
-        return Err(SyntaxFault::NotAStatement);
-    }
     Ok(Transfer {
         input,
         unit: unit(!input, arguments)?,

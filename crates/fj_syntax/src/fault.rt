@@ -1,8 +1,9 @@
 // Why a line is no statement.
-ghost use Rattle.std.specs.Prelude.{◌≡◌};
+ghost use Rattle.std.specs.Prelude.{◌≡◌, Ok, Err, if◌then◌else◌};
 ghost use Rattle.fj_syntax.specs.Reading.{Gives};
+ghost use Rattle.fj_syntax.specs.declared.fault.SyntaxFault.TheVariants.{NotAStatement};
 
-use std::alloc::{AllocError, AllocFailed};
+use std::alloc::AllocError;
 
 #[derive(Debug, Drop)]
 pub enum SyntaxFault {
@@ -11,11 +12,21 @@ pub enum SyntaxFault {
     NotAStatement,
 }
 
+/// What a reading function answers.
+pub type Read<T> = Result<T, SyntaxFault>;
+
 /// What is there; the line is no statement where nothing is.
-pub fn some<T: Drop>(there: Option<T>) -> Result<T, SyntaxFault>
+pub fn some<T: Drop>(there: Option<T>) -> Read<T>
     ensures { Gives (λ x. x) result there }
 {
     there.ok_or(SyntaxFault::NotAStatement)
+}
+
+/// The line is no statement unless this holds.
+pub fn must(holds: bool) -> Read<()>
+    ensures { result ≡ (if holds then Ok tt else Err NotAStatement) }
+{
+    holds.then_some(()).ok_or(SyntaxFault::NotAStatement)
 }
 
 impl From<AllocError> for SyntaxFault {
@@ -25,16 +36,5 @@ impl From<AllocError> for SyntaxFault {
 
     fn from(error: AllocError) -> SyntaxFault {
         SyntaxFault::Memory(error)
-    }
-}
-
-impl<T: Drop> From<AllocFailed<T>> for SyntaxFault {
-    ghost use Rattle.std.specs.Prelude.{alloc_error};
-    ghost use Rattle.fj_syntax.specs.declared.fault.SyntaxFault.TheVariants.{Memory};
-
-    ghost from_gives = { λ _ fault. fault ≡ Memory alloc_error };
-
-    fn from(_error: AllocFailed<T>) -> SyntaxFault {
-        SyntaxFault::Memory(AllocError)
     }
 }

@@ -6,7 +6,7 @@ ghost use Rattle.fj_syntax.specs.declared.words.Specifier.TheVariants as specifi
 ghost use Rattle.fj_syntax.specs.Reading.{Gives};
 
 use crate::arguments::given_for;
-use crate::fault::{SyntaxFault, some};
+use crate::fault::{Read, SyntaxFault, must, some};
 use crate::operand::{Argument, Designator, Given, Operand};
 use crate::token::Sign;
 use crate::words::Specifier;
@@ -22,10 +22,9 @@ impl Designator {
     pub fn try_clone(&self) -> Result<Designator, AllocError>
         ensures { IfOk result (λ copy. copy ≡ self.now) }
     {
-        Ok(Designator {
-            name: self.name.try_clone()?,
-            number: self.number,
-        })
+        let name = self.name.try_clone()?;
+        let number = self.number;
+        Ok(Designator { name, number })
     }
 }
 
@@ -45,10 +44,7 @@ fn trimmed(text: &[u8]) -> &[u8]
 
 /// The place for a specifier.
 #[tactic(auto, unfolding(crate::specs::Given::given_at))]
-pub fn place(
-    arguments: &[Argument],
-    specifier: Specifier,
-) -> Result<Option<Designator>, SyntaxFault>
+pub fn place(arguments: &[Argument], specifier: Specifier) -> Read<Option<Designator>>
     ensures { Gives (λ x. x) result (given_at place_given specifier arguments.now) }
 {
     match given_for(arguments, specifier) {
@@ -60,7 +56,7 @@ pub fn place(
 
 /// The integer literal or place for a specifier.
 #[tactic(auto, unfolding(crate::specs::Given::given_at))]
-pub fn integer(arguments: &[Argument], specifier: Specifier) -> Result<Option<Operand>, SyntaxFault>
+pub fn integer(arguments: &[Argument], specifier: Specifier) -> Read<Option<Operand>>
     ensures { Gives (λ x. x) result (given_at integer_given specifier arguments.now) }
 {
     match given_for(arguments, specifier) {
@@ -76,10 +72,7 @@ pub fn integer(arguments: &[Argument], specifier: Specifier) -> Result<Option<Op
 
 /// The mode that the word for a specifier names.
 #[tactic(auto, unfolding(crate::specs::Given::mode_at))]
-pub fn mode<W: WordKind>(
-    arguments: &[Argument],
-    specifier: Specifier,
-) -> Result<Option<W::Mode>, SyntaxFault>
+pub fn mode<W: WordKind>(arguments: &[Argument], specifier: Specifier) -> Read<Option<W::Mode>>
     ensures { Gives (λ x. x) result (mode_at W.words specifier arguments.now) }
 {
     match given_for(arguments, specifier) {
@@ -91,24 +84,20 @@ pub fn mode<W: WordKind>(
     }
 }
 
-#[tactic(auto, unfolding(crate::specs::Given::file_given))]
-pub fn file_given(alloc: Global, given: &Given) -> Result<FileName, SyntaxFault>
+pub fn file_given(alloc: Global, given: &Given) -> Read<FileName>
     ensures { Gives (λ x. x) result (file_given given.now) }
 {
     let Given::Operand(Operand::Literal(text)) = given else {
         return Err(SyntaxFault::NotAStatement);
     };
     let name = trimmed(text.bytes());
-    if is_file_name(name) {
-        Ok(FileName::new(alloc, name)?)
-    } else {
-        Err(SyntaxFault::NotAStatement)
-    }
+    must(is_file_name(name))?;
+    Ok(FileName::new(alloc, name)?)
 }
 
 /// FILE=.
 #[tactic(auto, unfolding(crate::specs::Given::given_at))]
-pub fn file(alloc: Global, arguments: &[Argument]) -> Result<Option<FileName>, SyntaxFault>
+pub fn file(alloc: Global, arguments: &[Argument]) -> Read<Option<FileName>>
     ensures { Gives (λ x. x) result (given_at file_given specifier.File arguments.now) }
 {
     match given_for(arguments, Specifier::File) {
@@ -117,18 +106,15 @@ pub fn file(alloc: Global, arguments: &[Argument]) -> Result<Option<FileName>, S
     }
 }
 
-pub fn unit_number(amount: u64) -> Result<UnitRef, SyntaxFault>
+pub fn unit_number(amount: u64) -> Read<UnitRef>
     ensures { Gives (λ x. x) result (unit_number amount) }
 {
-    if amount > MAX_UNIT {
-        return Err(SyntaxFault::NotAStatement);
-    }
+    must(amount <= MAX_UNIT)?;
     Ok(UnitRef::Number(amount as u32))
 }
 
 /// A unit: a number, or an asterisk where that may stand.
-#[tactic(auto, unfolding(crate::specs::Given::unit_given))]
-pub fn unit_given(star: bool, given: &Given) -> Result<UnitRef, SyntaxFault>
+pub fn unit_given(star: bool, given: &Given) -> Read<UnitRef>
     ensures { Gives (λ x. x) result (unit_given star given.now) }
 {
     match given {
@@ -144,8 +130,7 @@ pub fn unit_given(star: bool, given: &Given) -> Result<UnitRef, SyntaxFault>
 }
 
 /// UNIT=.
-#[tactic(auto, unfolding(crate::specs::Given::unit_at))]
-pub fn unit(star: bool, arguments: &[Argument]) -> Result<UnitRef, SyntaxFault>
+pub fn unit(star: bool, arguments: &[Argument]) -> Read<UnitRef>
     ensures { Gives (λ x. x) result (unit_at star arguments.now) }
 {
     unit_given(star, some(given_for(arguments, Specifier::Unit))?)
@@ -153,7 +138,7 @@ pub fn unit(star: bool, arguments: &[Argument]) -> Result<UnitRef, SyntaxFault>
 
 /// The format of a transfer.
 #[tactic(auto, unfolding(crate::specs::Given::given_at))]
-pub fn format(arguments: &[Argument]) -> Result<Option<Format>, SyntaxFault>
+pub fn format(arguments: &[Argument]) -> Read<Option<Format>>
     ensures { Gives (λ x. x) result (given_at format_given specifier.Fmt arguments.now) }
 {
     match given_for(arguments, Specifier::Fmt) {
@@ -168,7 +153,7 @@ pub fn format(arguments: &[Argument]) -> Result<Option<Format>, SyntaxFault>
 
 /// NML=.
 #[tactic(auto, unfolding(crate::specs::Given::given_at))]
-pub fn group(arguments: &[Argument]) -> Result<Option<Text>, SyntaxFault>
+pub fn group(arguments: &[Argument]) -> Read<Option<Text>>
     ensures { Gives (λ x. x) result (given_at group_given specifier.Nml arguments.now) }
 {
     match given_for(arguments, Specifier::Nml) {
@@ -182,7 +167,7 @@ pub fn group(arguments: &[Argument]) -> Result<Option<Text>, SyntaxFault>
 
 /// RECL=.
 #[tactic(auto, unfolding(crate::specs::Given::given_at))]
-pub fn recl(arguments: &[Argument]) -> Result<Option<u32>, SyntaxFault>
+pub fn recl(arguments: &[Argument]) -> Read<Option<u32>>
     ensures { Gives (λ x. x) result (given_at recl_given specifier.Recl arguments.now) }
 {
     match given_for(arguments, Specifier::Recl) {

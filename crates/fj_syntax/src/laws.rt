@@ -1,12 +1,11 @@
 // Laws of the grammar.
 ghost use Rattle.fj_syntax.specs.KnownLaws.{ArgumentsAreTaken};
-ghost use Rattle.fj_syntax.specs.Parsing.{OneListOfTokens, OneStatement, BlankIsNoStatement, NamesAreWords};
+ghost use Rattle.fj_syntax.specs.Parsing.{OneReading, NamesAreWords};
 
 /// A line has one meaning at most, so that what `parse_line` answers is the only answer.
+#[tactic(auto, using(crate::proofs::ParseLemmas::once))]
 pub fn one_meaning()
-    ensures tokens { OneListOfTokens }
-    ensures statement { OneStatement }
-    ensures blank { BlankIsNoStatement }
+    ensures { OneReading }
 {}
 
 /// Variables and groups are declared with names of up to 63 characters, in upper case.

@@ -24,8 +24,7 @@ pub use operand::{Designator, Operand};
 pub use parse::parse_line;
 pub use token::Sign;
 pub use written::{
-    Asking, Assignment, Close, Declaration, Format, Group, Inquire, Move, Open, Transfer, Wait,
-    Written,
+    Asking, Assignment, Declaration, Format, Group, Inquire, OnUnit, Transfer, Written,
 };
 
 #[cfg(test)]

@@ -3,7 +3,7 @@ ghost use Rattle.std.specs.Prelude.{◌≡◌, ◌<◌, ◌&&◌, nat_le, IfNone
 ghost use Rattle.fj_syntax.specs.Parts.{is_mark, is_from_to, is_name, named, name_of, designator_of, operand_of, parted, cut, list_of};
 ghost use Rattle.fj_syntax.specs.Reading.{Gives};
 
-use crate::fault::SyntaxFault;
+use crate::fault::{Read, SyntaxFault, must};
 use crate::operand::{Designator, Operand};
 use crate::token::Mark::{LeftParenthesis, RightParenthesis};
 use crate::token::{Mark, Sign, Token};
@@ -30,16 +30,12 @@ pub fn is_name(word: &[u8]) -> bool
     keyword_of(word).is_none()
 }
 
-fn named(word: &Text, number: Option<u32>) -> Result<Designator, SyntaxFault>
+fn named(word: &Text, number: Option<u32>) -> Read<Designator>
     ensures { Gives (λ x. x) result (named word.now number) }
 {
-    if !is_name(word.bytes()) {
-        return Err(SyntaxFault::NotAStatement);
-    }
-    Ok(Designator {
-        name: word.try_clone()?,
-        number,
-    })
+    must(is_name(word.bytes()))?;
+    let name = word.try_clone()?;
+    Ok(Designator { name, number })
 }
 
 /// A part of a statement.
@@ -51,7 +47,7 @@ pub trait Part: Drop {
     /// The part that tokens are.
     ghost part_of: { List Token → Option Self };
 
-    fn read(tokens: &[Token]) -> Result<Self, SyntaxFault>
+    fn read(tokens: &[Token]) -> Read<Self>
         ensures { Gives (λ x. x) result (part_of tokens.now) };
 }
 
@@ -60,8 +56,7 @@ impl Part for Text {
 
     ghost part_of = { name_of };
 
-    #[tactic(auto, unfolding(crate::specs::Parts::name_of))]
-    fn read(tokens: &[Token]) -> Result<Text, SyntaxFault> {
+    fn read(tokens: &[Token]) -> Read<Text> {
         match tokens {
             [Token::Word(word)] => Ok(named(word, None)?.name),
             _ => Err(SyntaxFault::NotAStatement),
@@ -74,8 +69,7 @@ impl Part for Designator {
 
     ghost part_of = { designator_of };
 
-    #[tactic(auto, unfolding(crate::specs::Parts::designator_of))]
-    fn read(tokens: &[Token]) -> Result<Designator, SyntaxFault> {
+    fn read(tokens: &[Token]) -> Read<Designator> {
         match tokens {
             [Token::Word(word)] => named(word, None),
             [
@@ -94,8 +88,7 @@ impl Part for Operand {
 
     ghost part_of = { operand_of };
 
-    #[tactic(auto, unfolding(crate::specs::Parts::operand_of))]
-    fn read(tokens: &[Token]) -> Result<Operand, SyntaxFault> {
+    fn read(tokens: &[Token]) -> Read<Operand> {
         match tokens {
             [Token::Number(sign, amount)] => Ok(Operand::Number {
                 sign: *sign,
@@ -139,7 +132,7 @@ pub fn first_part(tokens: &[Token]) -> (&[Token], Option<&[Token]>)
 }
 
 /// The parts between commas.
-pub fn list<T: Part>(alloc: Global, tokens: &[Token]) -> Result<Items<T>, SyntaxFault>
+pub fn list<T: Part>(alloc: Global, tokens: &[Token]) -> Read<Items<T>>
     ensures { Gives (λ x. x) result (list_of T.part_of tokens.now) }
 {
     let mut list = Items::new(alloc);

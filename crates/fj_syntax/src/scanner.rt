@@ -2,7 +2,7 @@
 ghost use Rattle.std.specs.Prelude.{◌≡◌, ◌≤◌, ◌==◌, ◌||◌, Bool, length, take, map, IfOk, Ok, slice_index, option_map, drop};
 ghost use Rattle.fj_syntax.specs.Class.{is_of};
 ghost use Rattle.fj_syntax.specs.Tokens.{behind_blanks, ends_line, Scanned};
-ghost use Rattle.std.specs.Char.{is_ascii_digit, to_ascii_uppercase};
+ghost use Rattle.std.specs.Char.{is_ascii_digit};
 ghost use Rattle.std.specs.List.{prefix_len, AllPass};
 ghost use Rattle.std.specs.Str.{bytes_eq, str_to_ascii_lowercase};
 ghost use Rattle.std.specs.Str.Parse.{digits_value, AllDigits};
@@ -10,10 +10,10 @@ ghost use Rattle.fj_syntax.specs.FirstToken.{mark_of, first_token, run_at, word_
 ghost use Rattle.fj_syntax.specs.Reading.{Gives};
 
 use crate::class::{Class, is_of, run_len};
-use crate::fault::{SyntaxFault, some};
+use crate::fault::{Read, SyntaxFault, must, some};
 use crate::token::{Mark, Sign, Token};
-use fj_value::Text;
-use std::alloc::{AllocError, Global};
+use fj_value::{Items, Text};
+use std::alloc::Global;
 
 /// The most characters of a name or keyword.
 const MAX_WORD: usize = 63;
@@ -21,36 +21,24 @@ const MAX_WORD: usize = 63;
 /// The most digits of a number.
 const MAX_DIGITS: usize = 19;
 
-fn upper(alloc: Global, bytes: &[u8]) -> Result<Text, AllocError>
-    ensures { IfOk result (λ text. text ≡ map to_ascii_uppercase bytes.now) }
-{
-    let bytes = bytes
-        .iter()
-        .map(|byte| byte.to_ascii_uppercase())
-        .collect(alloc)?;
-    Ok(Text::from_vec(bytes))
-}
-
 /// The longest front of a class, of one byte at least and so many at most, and the line behind it.
 #[tactic(auto, using(crate::proofs::TokenLemmas::part_passes))]
-fn run(class: Class, most: usize, line: &[u8]) -> Result<(&[u8], &[u8]), SyntaxFault>
+fn run(class: Class, most: usize, line: &[u8]) -> Read<(&[u8], &[u8])>
     ensures run { Gives (λ x. (x.0.now, x.1.now)) result (run_at (is_of class) most (λ run. run) line.now) }
     ensures all { IfOk result (λ x. AllPass (is_of class) x.0.now) }
     ensures short { IfOk result (λ x. length x.0.now ≤ most) }
 {
     let len = run_len(class, line);
-    if len == 0 || len > most {
-        return Err(SyntaxFault::NotAStatement);
-    }
+    must(len > 0 && len <= most)?;
     Ok(line.split_at(len))
 }
 
-#[tactic(auto, unfolding(crate::specs::FirstToken::word_at))]
-fn word(alloc: Global, line: &[u8]) -> Result<(Token, &[u8]), SyntaxFault>
+fn word(alloc: Global, line: &[u8]) -> Read<(Token, &[u8])>
     ensures { Gives (λ x. (x.0, x.1.now)) result (word_at line.now) }
 {
     let (front, behind) = run(Class::InWord, MAX_WORD, line)?;
-    Ok((Token::Word(upper(alloc, front)?), behind))
+    let word = Text::from_vec(front.to_ascii_uppercase(alloc)?);
+    Ok((Token::Word(word), behind))
 }
 
 /// The number that digits write.
@@ -68,8 +56,7 @@ fn amount(digits: &[u8]) -> u64
     amount
 }
 
-#[tactic(auto, unfolding(crate::specs::FirstToken::number_at))]
-fn number(sign: Sign, line: &[u8]) -> Result<(Token, &[u8]), SyntaxFault>
+fn number(sign: Sign, line: &[u8]) -> Read<(Token, &[u8])>
     ensures { Gives (λ x. (x.0, x.1.now)) result (number_at sign line.now) }
 {
     let (front, behind) = run(Class::Digit, MAX_DIGITS, line)?;
@@ -77,19 +64,17 @@ fn number(sign: Sign, line: &[u8]) -> Result<(Token, &[u8]), SyntaxFault>
 }
 
 /// The text up to the closing delimiter, and what stands behind that.
-fn closed(alloc: Global, delimiter: u8, line: &[u8]) -> Result<(Vec<u8>, &[u8]), SyntaxFault>
-    ensures { Gives (λ x. (x.0.items, x.1.now)) result (closed_by delimiter line.now) }
+fn closed(alloc: Global, delimiter: u8, line: &[u8]) -> Read<(Items<u8>, &[u8])>
+    ensures { Gives (λ x. (x.0, x.1.now)) result (closed_by delimiter line.now) }
 {
-    let mut text = Vec::new(alloc);
+    let mut text = Items::new(alloc);
     let mut rest = line;
     loop {
         let [byte, behind @ ..] = rest else {
             return Err(SyntaxFault::NotAStatement);
         };
         if *byte != delimiter {
-            if !is_of(Class::InLiteral, *byte) {
-                return Err(SyntaxFault::NotAStatement);
-            }
+            must(is_of(Class::InLiteral, *byte))?;
             text.push(*byte)?;
             rest = behind;
         } else if let [second, after @ ..] = behind
@@ -103,12 +88,11 @@ fn closed(alloc: Global, delimiter: u8, line: &[u8]) -> Result<(Vec<u8>, &[u8]),
     }
 }
 
-#[tactic(auto, unfolding(crate::specs::FirstToken::literal_at))]
-fn literal(alloc: Global, delimiter: u8, line: &[u8]) -> Result<(Token, &[u8]), SyntaxFault>
+fn literal(alloc: Global, delimiter: u8, line: &[u8]) -> Read<(Token, &[u8])>
     ensures { Gives (λ x. (x.0, x.1.now)) result (literal_at delimiter line.now) }
 {
     let (text, behind) = closed(alloc, delimiter, line)?;
-    Ok((Token::Literal(Text::from_vec(text)), behind))
+    Ok((Token::Literal(Text::from_vec(text.into_vec())), behind))
 }
 
 /// Whether a line begins with a text, which is in lower case, in either case.
@@ -122,8 +106,7 @@ fn begins_with(line: &[u8], front: &[u8]) -> bool
     line[..front.len()].eq_ignore_ascii_case(front)
 }
 
-#[tactic(auto, unfolding(crate::specs::FirstToken::truth_at))]
-fn truth(line: &[u8]) -> Result<(Token, &[u8]), SyntaxFault>
+fn truth(line: &[u8]) -> Read<(Token, &[u8])>
     ensures { Gives (λ x. (x.0, x.1.now)) result (truth_at line.now) }
 {
     if begins_with(line, b".true.") {
@@ -135,7 +118,6 @@ fn truth(line: &[u8]) -> Result<(Token, &[u8]), SyntaxFault>
     Err(SyntaxFault::NotAStatement)
 }
 
-#[tactic(auto, unfolding(crate::specs::FirstToken::mark_of))]
 fn mark_of(byte: u8) -> Option<Mark>
     ensures { result ≡ mark_of byte }
 {
@@ -151,7 +133,7 @@ fn mark_of(byte: u8) -> Option<Mark>
 }
 
 #[tactic(auto, unfolding(crate::specs::FirstToken::mark_at))]
-fn mark(line: &[u8]) -> Result<(Token, &[u8]), SyntaxFault>
+fn mark(line: &[u8]) -> Read<(Token, &[u8])>
     ensures { Gives (λ x. (x.0, x.1.now)) result (mark_at line.now) }
 {
     match line {
@@ -162,7 +144,7 @@ fn mark(line: &[u8]) -> Result<(Token, &[u8]), SyntaxFault>
 }
 
 #[tactic(auto, unfolding(crate::specs::FirstToken::first_token))]
-fn first_token(alloc: Global, line: &[u8]) -> Result<(Token, &[u8]), SyntaxFault>
+fn first_token(alloc: Global, line: &[u8]) -> Read<(Token, &[u8])>
     ensures { Gives (λ x. (x.0, x.1.now)) result (first_token line.now) }
 {
     let [first, behind @ ..] = line else {
@@ -202,10 +184,11 @@ fn ends_line(line: &[u8]) -> bool
 }
 
 /// The tokens of a line, first to last.
-pub fn scanned(alloc: Global, line: &[u8]) -> Result<Vec<Token>, SyntaxFault>
-    ensures { Scanned line.now result (λ tokens. tokens.items) }
+#[tactic(auto, using(crate::proofs::ParseLemmas::scans_token, crate::proofs::ParseLemmas::scans_done, crate::proofs::ParseLemmas::scans_fault, crate::proofs::ParseLemmas::shorter))]
+pub fn scanned(alloc: Global, line: &[u8]) -> Read<Items<Token>>
+    ensures { Scanned line.now result (λ tokens. tokens) }
 {
-    let mut found = Vec::new(alloc);
+    let mut found = Items::new(alloc);
     let mut rest = line;
     loop {
         rest = behind_blanks(rest);

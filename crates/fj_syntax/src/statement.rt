@@ -1,19 +1,18 @@
 // The statement that tokens are.
 ghost use Rattle.std.specs.Prelude.{◌≡◌, Bool};
-ghost use Rattle.std.specs.Str.{bytes_eq};
 ghost use Rattle.fj_syntax.specs.Statement.{value_of, number_in, integer_kind, character_kind, behind_colons, declaration_of, group_of, assignment_of, items_of, transfer_from, motion_from, end_from, begun_by, written_of};
 ghost use Rattle.fj_syntax.specs.Reading.{Gives};
 
 use crate::arguments::call;
 use crate::calls::{make_close, make_inquire, make_move, make_open, make_transfer, make_wait};
-use crate::fault::{SyntaxFault, some};
+use crate::fault::{Read, SyntaxFault, some};
 use crate::given::unit_number;
 use crate::operand::{Designator, Operand};
 use crate::parts::{Part, is_name, list, parted};
 use crate::token::Mark::{Comma, DoubleColon, Equals, LeftParenthesis, RightParenthesis, Slash};
 use crate::token::{Sign, Token};
 use crate::words::{Keyword, keyword_of};
-use crate::written::{Assignment, Declaration, Group, Move, Written};
+use crate::written::{Assignment, Declaration, Group, OnUnit, Written};
 use fj_modes::Motion;
 use fj_value::{Items, Kind, Text};
 use std::alloc::Global;
@@ -21,14 +20,7 @@ use std::alloc::Global;
 /// The largest length of characters.
 const MAX_LENGTH: u64 = 65_536;
 
-fn is_text(word: &Text, text: &str) -> bool
-    ensures { result ≡ bytes_eq word.now text.now }
-{
-    word.bytes() == text.as_bytes()
-}
-
 /// A number, or KEYWORD= and a number.
-#[tactic(auto, unfolding(crate::specs::Statement::value_of))]
 fn value(keyword: &str, tokens: &[Token]) -> Option<u64>
     ensures { result ≡ value_of keyword.now tokens.now }
 {
@@ -38,49 +30,42 @@ fn value(keyword: &str, tokens: &[Token]) -> Option<u64>
             Token::Word(word),
             Token::Mark(Equals),
             Token::Number(Sign::Unsigned, amount),
-        ] if is_text(word, keyword) => Some(*amount),
+        ] if word.bytes() == keyword.as_bytes() => Some(*amount),
         _ => None,
     }
 }
 
-/// The same in parentheses, if one opens; and what is behind it.
-#[tactic(auto, unfolding(crate::specs::Statement::number_in))]
-fn number_in<'a>(
-    keyword: &str,
-    tokens: &'a [Token],
-) -> Result<(Option<u64>, &'a [Token]), SyntaxFault>
-    ensures { Gives (λ x. (x.0, x.1.now)) result (number_in keyword.now tokens.now) }
+/// The same in parentheses, or the default where none opens; and what is behind it.
+fn number_in<'a>(keyword: &str, default: u64, tokens: &'a [Token]) -> Read<(u64, &'a [Token])>
+    ensures { Gives (λ x. (x.0, x.1.now)) result (number_in keyword.now default tokens.now) }
 {
     let [Token::Mark(LeftParenthesis), rest @ ..] = tokens else {
-        return Ok((None, tokens));
+        return Ok((default, tokens));
     };
     let (inside, behind) = some(parted(rest, RightParenthesis))?;
-    let number = some(value(keyword, inside))?;
-    Ok((Some(number), behind))
+    Ok((some(value(keyword, inside))?, behind))
 }
 
-fn integer_kind(number: Option<u64>) -> Option<Kind>
+fn integer_kind(number: u64) -> Option<Kind>
     ensures { result ≡ integer_kind number }
 {
     match number {
-        None | Some(4) => Some(Kind::Int4),
-        Some(8) => Some(Kind::Int8),
+        4 => Some(Kind::Int4),
+        8 => Some(Kind::Int8),
         _ => None,
     }
 }
 
-fn character_kind(number: Option<u64>) -> Option<Kind>
-    ensures { result ≡ character_kind number }
+fn character_kind(length: u64) -> Option<Kind>
+    ensures { result ≡ character_kind length }
 {
-    match number {
-        None => Some(Kind::Chars(1)),
-        Some(length) if length >= 1 && length <= MAX_LENGTH => Some(Kind::Chars(length as u32)),
-        Some(_) => None,
+    match length {
+        1..=MAX_LENGTH => Some(Kind::Chars(length as u32)),
+        _ => None,
     }
 }
 
 /// What is behind `::` or `, ASYNCHRONOUS ::`.
-#[tactic(auto, unfolding(crate::specs::Statement::behind_colons))]
 fn behind_colons(tokens: &[Token]) -> &[Token]
     ensures { result.now ≡ behind_colons tokens.now }
 {
@@ -91,14 +76,13 @@ fn behind_colons(tokens: &[Token]) -> &[Token]
             Token::Word(word),
             Token::Mark(DoubleColon),
             behind @ ..,
-        ] if is_text(word, "ASYNCHRONOUS") => behind,
+        ] if word.bytes() == "ASYNCHRONOUS".as_bytes() => behind,
         _ => tokens,
     }
 }
 
 /// A declaration of variables of a kind, behind the kind.
-#[tactic(auto, unfolding(crate::specs::Statement::declaration_of))]
-fn declaration(alloc: Global, kind: Option<Kind>, tokens: &[Token]) -> Result<Written, SyntaxFault>
+fn declaration(alloc: Global, kind: Option<Kind>, tokens: &[Token]) -> Read<Written>
     ensures { Gives (λ x. x) result (declaration_of kind tokens.now) }
 {
     let kind = some(kind)?;
@@ -107,8 +91,7 @@ fn declaration(alloc: Global, kind: Option<Kind>, tokens: &[Token]) -> Result<Wr
 }
 
 /// NAMELIST, behind the word.
-#[tactic(auto, unfolding(crate::specs::Statement::group_of))]
-fn group(alloc: Global, tokens: &[Token]) -> Result<Written, SyntaxFault>
+fn group(alloc: Global, tokens: &[Token]) -> Read<Written>
     ensures { Gives (λ x. x) result (group_of tokens.now) }
 {
     match tokens {
@@ -126,8 +109,7 @@ fn group(alloc: Global, tokens: &[Token]) -> Result<Written, SyntaxFault>
     }
 }
 
-#[tactic(auto, unfolding(crate::specs::Statement::assignment_of))]
-fn assignment(tokens: &[Token]) -> Result<Written, SyntaxFault>
+fn assignment(tokens: &[Token]) -> Read<Written>
     ensures { Gives (λ x. x) result (assignment_of tokens.now) }
 {
     let (to, from) = some(parted(tokens, Equals))?;
@@ -137,8 +119,7 @@ fn assignment(tokens: &[Token]) -> Result<Written, SyntaxFault>
 }
 
 /// The items of a transfer, if there are some.
-#[tactic(auto, unfolding(crate::specs::Statement::items_of))]
-fn items(alloc: Global, tokens: &[Token]) -> Result<Items<Operand>, SyntaxFault>
+fn items(alloc: Global, tokens: &[Token]) -> Read<Items<Operand>>
     ensures { Gives (λ x. x) result (items_of tokens.now) }
 {
     if tokens.is_empty() {
@@ -148,25 +129,23 @@ fn items(alloc: Global, tokens: &[Token]) -> Result<Items<Operand>, SyntaxFault>
 }
 
 /// READ or WRITE, behind the word.
-#[tactic(auto, unfolding(crate::specs::Statement::transfer_from))]
-fn transfer(alloc: Global, input: bool, tokens: &[Token]) -> Result<Written, SyntaxFault>
+fn transfer(alloc: Global, input: bool, tokens: &[Token]) -> Read<Written>
     ensures { Gives (λ x. x) result (transfer_from input tokens.now) }
 {
-    let (arguments, behind) = call(alloc, tokens)?;
+    let (arguments, behind) = call(alloc, Keyword::Transfer { input }, tokens)?;
     let items = items(alloc, behind)?;
     let transfer = make_transfer(input, arguments.as_slice(), items)?;
     Ok(Written::Transfer(transfer))
 }
 
 /// A motion, behind its words: a bare unit, or arguments in parentheses.
-#[tactic(auto, unfolding(crate::specs::Statement::motion_from))]
-fn motion(alloc: Global, how: Motion, tokens: &[Token]) -> Result<Written, SyntaxFault>
+fn motion(alloc: Global, how: Motion, tokens: &[Token]) -> Read<Written>
     ensures { Gives (λ x. x) result (motion_from how tokens.now) }
 {
     match tokens {
-        [Token::Number(Sign::Unsigned, amount)] => Ok(Written::Move(Move {
-            how,
+        [Token::Number(Sign::Unsigned, amount)] => Ok(Written::Move(OnUnit {
             unit: unit_number(*amount)?,
+            what: how,
             iostat: None,
         })),
         _ => Ok(Written::Move(make_move(alloc, how, tokens)?)),
@@ -174,32 +153,31 @@ fn motion(alloc: Global, how: Motion, tokens: &[Token]) -> Result<Written, Synta
 }
 
 /// END alone, or END FILE.
-#[tactic(auto, unfolding(crate::specs::Statement::end_from))]
-fn end(alloc: Global, tokens: &[Token]) -> Result<Written, SyntaxFault>
+fn end(alloc: Global, tokens: &[Token]) -> Read<Written>
     ensures { Gives (λ x. x) result (end_from tokens.now) }
 {
     match tokens {
         [] => Ok(Written::End),
-        [Token::Word(word), behind @ ..] if is_text(word, "FILE") => {
+        [Token::Word(word), behind @ ..] if word.bytes() == "FILE".as_bytes() => {
             motion(alloc, Motion::Endfile, behind)
         }
         _ => Err(SyntaxFault::NotAStatement),
     }
 }
 
-/// What a keyword begins, behind the keyword.
+/// What a keyword begins, behind the keyword: INTEGER is INTEGER(4), and CHARACTER is CHARACTER(1).
 #[tactic(auto, unfolding(crate::specs::Statement::begun_by))]
-fn begun_by(alloc: Global, keyword: Keyword, tokens: &[Token]) -> Result<Written, SyntaxFault>
+fn begun_by(alloc: Global, keyword: Keyword, tokens: &[Token]) -> Read<Written>
     ensures { Gives (λ x. x) result (begun_by keyword tokens.now) }
 {
     match keyword {
         Keyword::Integer => {
-            let (number, behind) = number_in("KIND", tokens)?;
+            let (number, behind) = number_in("KIND", 4, tokens)?;
             declaration(alloc, integer_kind(number), behind)
         }
         Keyword::Logical => declaration(alloc, Some(Kind::Logical), tokens),
         Keyword::Character => {
-            let (number, behind) = number_in("LEN", tokens)?;
+            let (number, behind) = number_in("LEN", 1, tokens)?;
             declaration(alloc, character_kind(number), behind)
         }
         Keyword::Namelist => group(alloc, tokens),
@@ -215,7 +193,7 @@ fn begun_by(alloc: Global, keyword: Keyword, tokens: &[Token]) -> Result<Written
 
 /// The statement that the tokens are, all of them.
 #[tactic(auto, unfolding(crate::specs::Statement::written_of))]
-pub fn written(alloc: Global, tokens: &[Token]) -> Result<Written, SyntaxFault>
+pub fn written(alloc: Global, tokens: &[Token]) -> Read<Written>
     ensures { Gives (λ x. x) result (written_of tokens.now) }
 {
     let [Token::Word(word), behind @ ..] = tokens else {

@@ -1,5 +1,5 @@
 use crate::*;
-use fj_modes::{Access, FileStatus, Motion, OpenSpec, Question, Subject, UnitRef};
+use fj_modes::{Access, FileStatus, Motion, Question, Subject, UnitRef};
 use fj_value::{Delim, Kind};
 use std::alloc::Global;
 use std::test::*;
@@ -128,21 +128,11 @@ fn opens(rt: HostRuntime) {
         panic!(rt; "no OPEN");
     };
     assert!(rt; open.unit == UnitRef::Number(10) && is_element(open.iostat.as_ref(), b"S", 2));
-    assert!(rt; matches!(&open.spec.file, Some(file) if file.as_str() == "x.Y"));
-    assert!(rt;
-        matches!(
-            open.spec,
-            OpenSpec {
-                status: Some(FileStatus::Old),
-                access: Some(Access::Direct),
-                formatted: Some(true),
-                recl: Some(80),
-                position: None,
-                asynchronous: None,
-                ..
-            }
-        )
-    );
+    assert!(rt; matches!(&open.what.file, Some(file) if file.as_str() == "x.Y"));
+    let spec = &open.what;
+    assert!(rt; spec.status == Some(FileStatus::Old) && spec.access == Some(Access::Direct));
+    assert!(rt; spec.formatted == Some(true) && spec.recl == Some(80));
+    assert!(rt; spec.position.is_none() && spec.asynchronous.is_none());
 }
 
 #[test]
@@ -154,47 +144,31 @@ fn transfers(rt: HostRuntime) {
     assert!(rt;
         matches!(&write.format, Some(Format::Literal(text)) if text.bytes() == "('a',I5)".as_bytes())
     );
-    assert!(rt;
-        matches!(
-            write.items.as_slice(),
-            [
-                Operand::Number {
-                    sign: Sign::Unsigned,
-                    amount: 5
-                },
-                Operand::Literal(_),
-                Operand::Place(_)
-            ]
-        )
-    );
+    let [
+        Operand::Number { sign, amount: 5 },
+        Operand::Literal(_),
+        Operand::Place(_),
+    ] = write.items.as_slice()
+    else {
+        panic!(rt; "other items");
+    };
+    assert!(rt; *sign == Sign::Unsigned);
     assert!(rt; !write.input && write.unit == UnitRef::Star && write.delim == Some(Delim::Quote));
     assert!(rt; write.plus == Some(true) && write.pad.is_none() && write.advance == Some(false));
 }
 
 #[test]
 fn others(rt: HostRuntime) {
-    let motion = written(rt.alloc(), "END FILE 7");
-    assert!(rt;
-        matches!(
-            motion,
-            Written::Move(Move {
-                how: Motion::Endfile,
-                unit: UnitRef::Number(7),
-                iostat: None
-            })
-        )
-    );
-    let close = written(rt.alloc(), "CLOSE(7,STATUS='keep')");
-    assert!(rt;
-        matches!(
-            close,
-            Written::Close(Close {
-                unit: UnitRef::Number(7),
-                keep: Some(true),
-                iostat: None
-            })
-        )
-    );
+    let Written::Move(motion) = written(rt.alloc(), "END FILE 7") else {
+        panic!(rt; "no ENDFILE");
+    };
+    assert!(rt; motion.what == Motion::Endfile && motion.unit == UnitRef::Number(7));
+    assert!(rt; motion.iostat.is_none());
+    let Written::Close(close) = written(rt.alloc(), "CLOSE(7,STATUS='keep')") else {
+        panic!(rt; "no CLOSE");
+    };
+    assert!(rt; close.unit == UnitRef::Number(7) && close.what == Some(true));
+    assert!(rt; close.iostat.is_none());
     let Written::Declaration(declaration) = written(rt.alloc(), "CHARACTER(7) C(2),D") else {
         panic!(rt; "no CHARACTER");
     };
@@ -204,13 +178,5 @@ fn others(rt: HostRuntime) {
         panic!(rt; "no INQUIRE");
     };
     assert!(rt; matches!(inquire.about, Subject::File(_)) && inquire.asked.len() == 2);
-    assert!(rt;
-        matches!(
-            inquire.asked.get(0),
-            Some(Asking {
-                what: Question::Size,
-                ..
-            })
-        )
-    );
+    assert!(rt; inquire.asked.as_slice()[0].what == Question::Size);
 }

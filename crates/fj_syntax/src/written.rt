@@ -24,37 +24,11 @@ pub struct Assignment {
     pub from: Operand,
 }
 
-/// OPEN.
+/// A statement on a unit, and what it says beside UNIT= and IOSTAT=.
 #[derive(Debug, Drop)]
-pub struct Open {
+pub struct OnUnit<T> {
     pub unit: UnitRef,
-    pub spec: OpenSpec,
-    pub iostat: Option<Designator>,
-}
-
-/// CLOSE.
-#[derive(Debug, Drop)]
-pub struct Close {
-    pub unit: UnitRef,
-    /// STATUS='KEEP'.
-    pub keep: Option<bool>,
-    pub iostat: Option<Designator>,
-}
-
-/// WAIT.
-#[derive(Debug, Drop)]
-pub struct Wait {
-    pub unit: UnitRef,
-    /// An integer literal or a place.
-    pub id: Option<Operand>,
-    pub iostat: Option<Designator>,
-}
-
-/// BACKSPACE, REWIND, ENDFILE or FLUSH.
-#[derive(Debug, Drop)]
-pub struct Move {
-    pub how: Motion,
-    pub unit: UnitRef,
+    pub what: T,
     pub iostat: Option<Designator>,
 }
 
@@ -123,10 +97,13 @@ pub enum Written {
     Declaration(Declaration),
     Group(Group),
     Assignment(Assignment),
-    Open(Open),
-    Close(Close),
-    Wait(Wait),
-    Move(Move),
+    Open(OnUnit<OpenSpec>),
+    /// CLOSE, and STATUS='KEEP'.
+    Close(OnUnit<Option<bool>>),
+    /// WAIT, and ID=, which is an integer literal or a place.
+    Wait(OnUnit<Option<Operand>>),
+    /// BACKSPACE, REWIND, ENDFILE or FLUSH.
+    Move(OnUnit<Motion>),
     Inquire(Inquire),
     Transfer(Transfer),
     End,

@@ -3,7 +3,8 @@ use Rattle.std.proofs.Common.{◌≡◌, ◌≤◌, ℕ, zero, suc, ◌+◌, ◌
 use Rattle.std.specs.Prelude.{flat_map}
 use Rattle.std.proofs.lemmas.Bool.Decides.{nat_tests}
 use Rattle.std.proofs.lemmas.List.{take-take, length-map, length-take-le, replicate-append-replicate}
-use Rattle.fj_value.specs.declared.value.Cell.{Cell}
+use Rattle.fj_value.specs.declared.kind.Kind.{Kind}
+use Rattle.fj_value.specs.declared.value.Value.{Value}
 use Rattle.fj_value.specs.declared.edit.Edit.TheVariants as edit
 use Rattle.fj_value.specs.declared.edit.EditModes.{EditModes}
 use Rattle.fj_value.specs.declared.condition.Condition.{Condition}
@@ -15,7 +16,7 @@ use Rattle.fj_control.specs.Steps.{Given, gives}
 use Rattle.fj_control.specs.Paired.{paired}
 use Rattle.fj_edit_out.specs.Item.{integer_in, with_integer, integers_in}
 use Rattle.fj_edit_out.specs.OutputField.{integer_field, field_of}
-use Rattle.fj_list.specs.Items.{Output, in_each}
+use Rattle.fj_list.specs.Items.{Output, of_kind}
 use Rattle.fj_list.proofs.ListLaws.{at_end, longer_line}
 use Rattle.fj_transfer.specs.Explicit.{field_put, item_put, action_of}
 use Rattle.fj_transfer.specs.Writing.{row_of}
@@ -86,41 +87,41 @@ module _ (f : ℤ → List ℕ) (ns : List ℤ) (old new : AtHand) (end : old.li
 
 -- ---- items under one descriptor
 
-put_is : (plus : Bool) (w : ℕ) (cell : Cell) (n : ℤ) → integer_in cell.kind cell.value ≡ Some n → item_put plus (edit.Int w None) (cell.kind, cell.value) ≡ put (integer_field plus (w, None) n)
-put_is plus w cell n e = ap (λ o. field_put (field_of (integer_field plus) (Some (w, None)) o)) e
+put_is : (plus : Bool) (w : ℕ) (kind : Kind) (v : Value) (n : ℤ) → integer_in kind v ≡ Some n → item_put plus (edit.Int w None) (kind, v) ≡ put (integer_field plus (w, None) n)
+put_is plus w kind v n e = ap (λ o. field_put (field_of (integer_field plus) (Some (w, None)) o)) e
 
-module _ (modes : EditModes) (w : ℕ) (more : List Given) (rest : List Output) where
+module _ (modes : EditModes) (w : ℕ) (more : List Given) (rest : List Output) (kind : Kind) where
   g : Given
   g = gives (step.edit (edit.Int w None))
 
-  IsRow : List Cell → ℕ → List ℤ → Type 0
-  IsRow cells k ns = map action_of (paired modes (replicate k g ++ more) (in_each (take k cells) ++ rest)) ≡ row_of modes.plus w (take k ns) ++ map action_of (paired modes more rest)
+  IsRow : List Value → ℕ → List ℤ → Type 0
+  IsRow values k ns = map action_of (paired modes (replicate k g ++ more) (of_kind kind (take k values) ++ rest)) ≡ row_of modes.plus w (take k ns) ++ map action_of (paired modes more rest)
 
-  one_more : (cell : Cell) (cells : List Cell) (k : ℕ) (o : Option ℤ) → integer_in cell.kind cell.value ≡ o → (k ≤ length (integers_in cells) → IsRow cells k (integers_in cells))
-      → suc k ≤ length (with_integer o (integers_in cells)) → IsRow (cell ∷ cells) (suc k) (with_integer o (integers_in cells))
+  one_more : (v : Value) (vs : List Value) (k : ℕ) (o : Option ℤ) → integer_in kind v ≡ o → (k ≤ length (integers_in kind vs) → IsRow vs k (integers_in kind vs))
+      → suc k ≤ length (with_integer o (integers_in kind vs)) → IsRow (v ∷ vs) (suc k) (with_integer o (integers_in kind vs))
   unfolding g IsRow
-  one_more cell cells k None e go h = absurd (omega arith)
-  one_more cell cells k (Some n) e go h =
-      ap (λ a. a ∷ map action_of (paired modes (replicate k g ++ more) (in_each (take k cells) ++ rest))) (put_is modes.plus w cell n e)
+  one_more v vs k None e go h = absurd (omega arith)
+  one_more v vs k (Some n) e go h =
+      ap (λ a. a ∷ map action_of (paired modes (replicate k g ++ more) (of_kind kind (take k vs) ++ rest))) (put_is modes.plus w kind v n e)
       ∙ ap (λ l. put (integer_field modes.plus (w, None) n) ∷ l) (go (omega arith))
 
-  -- cells as far as they hold integers
-  row_is : (cells : List Cell) (k : ℕ) → k ≤ length (integers_in cells) → IsRow cells k (integers_in cells)
+  -- values as far as they are integers
+  row_is : (values : List Value) (k : ℕ) → k ≤ length (integers_in kind values) → IsRow values k (integers_in kind values)
   unfolding g IsRow
-  row_is cells zero h = refl
+  row_is values zero h = refl
   row_is [] (suc k) h = absurd (omega arith)
-  row_is (cell ∷ cells) (suc k) h = one_more cell cells k (integer_in cell.kind cell.value) refl (row_is cells k) h
+  row_is (v ∷ vs) (suc k) h = one_more v vs k (integer_in kind v) refl (row_is vs k) h
 
-  pub row_actions : (items : List Output) (ahead : List Cell) (count k : ℕ) → k ≤ length (integers_in (take count ahead)) → k ≤ count → items ≡ in_each (take k ahead) ++ rest
-      → map action_of (paired modes (replicate k (gives (step.edit (edit.Int w None))) ++ more) items) ≡ row_of modes.plus w (take k (integers_in (take count ahead))) ++ map action_of (paired modes more rest)
+  pub row_actions : (items : List Output) (ahead : List Value) (count k : ℕ) → k ≤ length (integers_in kind (take count ahead)) → k ≤ count → items ≡ of_kind kind (take k ahead) ++ rest
+      → map action_of (paired modes (replicate k (gives (step.edit (edit.Int w None))) ++ more) items) ≡ row_of modes.plus w (take k (integers_in kind (take count ahead))) ++ map action_of (paired modes more rest)
   unfolding g IsRow
   row_actions items ahead count k few within is =
-      ap (λ l. map action_of (paired modes (replicate k g ++ more) l)) (is ∙ ap (λ l. in_each l ++ rest) (sym (take-take k count ahead within)))
+      ap (λ l. map action_of (paired modes (replicate k g ++ more) l)) (is ∙ ap (λ l. of_kind kind l ++ rest) (sym (take-take k count ahead within)))
       ∙ row_is (take count ahead) k few
 
-pub items_left_over : (items rest : List Output) (ahead : List Cell) (k : ℕ) → k ≤ length ahead → items ≡ in_each (take k ahead) ++ rest → length items ≡ k + length rest
-items_left_over items rest ahead k h is =
-    ap length is ∙ length-append (in_each (take k ahead)) rest ∙ ap (λ n. n + length rest) (length-map (take k ahead) (λ (cell : Cell). (cell.kind, cell.value)) ∙ length-take-le k ahead h)
+pub items_left_over : (items rest : List Output) (kind : Kind) (ahead : List Value) (k : ℕ) → k ≤ length ahead → items ≡ of_kind kind (take k ahead) ++ rest → length items ≡ k + length rest
+items_left_over items rest kind ahead k h is =
+    ap length is ∙ length-append (of_kind kind (take k ahead)) rest ∙ ap (λ n. n + length rest) (length-map {B = Output} (take k ahead) (λ v. (kind, v)) ∙ length-take-le k ahead h)
 
 -- a part of a run
 pub run_cut : (g : Given) (row left : ℕ) (more : List Given) → row ≤ left → replicate left g ++ more ≡ replicate row g ++ (replicate (left - row) g ++ more)

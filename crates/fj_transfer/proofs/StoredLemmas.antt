@@ -1,17 +1,24 @@
 -- The values of items and their bytes, one by one.
 use Rattle.std.proofs.Common.{◌≡◌, ℕ, zero, suc, ◌+◌, ◌-◌, ◌<◌, ◌≤◌, List, [], ◌∷◌, ◌++◌, length, take, drop, get_or, Some, refl, sym, ap, ◌∙◌, arith, append_assoc, length-drop, add-one}
-use Rattle.std.specs.Prelude.{slice_get}
+use Rattle.std.specs.Prelude.{All, slice_get}
+use Rattle.std.specs.List.{flat_map, range_with_len}
+use Rattle.std.specs.Option.{option_map_or}
 use Rattle.std.proofs.Math.Seq.{drop-cons}
 use Rattle.std.proofs.lemmas.List.{drop_all, take_all, drop-drop}
 use Rattle.std.proofs.lemmas.List.Sums.{sum_by-cons}
+use Rattle.fj_value.specs.Kind.{IsOfKind}
 use Rattle.fj_value.specs.declared.kind.Kind.{Kind}
+use Rattle.fj_value.specs.declared.kind.Kind.TheVariants.{Logical}
+use Rattle.fj_value.specs.declared.place.Place.{Place}
 use Rattle.fj_value.specs.declared.value.Cell.{Cell}
 use Rattle.fj_value.specs.declared.value.Value.{Value}
 use Rattle.fj_value.specs.declared.value.Value.TheVariants.{Undefined}
 use Rattle.fj_unfrec.specs.Stored.{stored, stored_width, value_of}
 use Rattle.fj_list.specs.ListInput.{kind_at, with_value}
 use Rattle.fj_list.specs.Moved.{value_at}
-use Rattle.fj_transfer.specs.Transfer.{widths, bytes_of, values_from, with_undefined}
+use Rattle.fj_list.specs.Load.{row_cells}
+use Rattle.fj_list.proofs.LoadLemmas.{by_number, row_all}
+use Rattle.fj_transfer.specs.Transfer.{widths, bytes_of, values_from}
 
 -- ---- cells
 
@@ -85,20 +92,15 @@ rest_is bytes from = take_all (length bytes - from) (drop from bytes) (omega (ar
 pub values_end : (cells : List Cell) (order bytes : List ℕ) (i : ℕ) → length order ≤ i → values_from cells (drop i order) bytes ≡ cells
 values_end cells order bytes i h = ap (λ l. values_from cells l bytes) (drop_all i order h)
 
--- ---- undefined values
+-- ---- the bytes of a row
 
--- the first ones are undefined
-abbrev pub undefined_up_to : ℕ → List Cell → List Cell
-undefined_up_to zero cells = cells
-undefined_up_to (suc n) [] = []
-undefined_up_to (suc n) (cell ∷ cells) = record cell { value = Undefined } ∷ undefined_up_to n cells
+row_bytes : (place : Place) (kind : Kind) (values : List Value) → flat_map (λ (cell : Cell). stored cell.kind cell.value) (row_cells place kind values) ≡ flat_map (stored kind) values
+row_bytes place kind [] = refl
+row_bytes place kind (v ∷ vs) = ap (λ l. stored kind v ++ l) (row_bytes (record place { index = place.index + 1 }) kind vs)
 
-pub one_more : (n : ℕ) (cells : List Cell) → n < length cells → with_value (undefined_up_to n cells) n Undefined ≡ undefined_up_to (suc n) cells
-one_more zero [] h = refl
-one_more zero (cell ∷ cells) h = refl
-one_more (suc n) [] h = refl
-one_more (suc n) (cell ∷ cells) h = ap (λ l. record cell { value = Undefined } ∷ l) (one_more n cells (omega arith))
+pub row_stored : (place : Place) (kind : Kind) (values : List Value) → bytes_of (row_cells place kind values) (range_with_len 0 (length values)) ≡ flat_map (stored kind) values
+row_stored place kind values =
+    by_number (λ o. stored (option_map_or (λ (cell : Cell). cell.kind) o Logical) (option_map_or (λ (cell : Cell). cell.value) o Undefined)) [] place kind values ∙ row_bytes place kind values
 
-pub all_undefined : (cells : List Cell) → undefined_up_to (length cells) cells ≡ with_undefined cells
-all_undefined [] = refl
-all_undefined (cell ∷ cells) = ap (λ l. record cell { value = Undefined } ∷ l) (all_undefined cells)
+pub row_defined : (place : Place) (kind : Kind) (values : List Value) → All (λ (cell : Cell). IsOfKind cell.kind cell.value) (row_cells place kind values) → All (IsOfKind kind) values
+row_defined place kind values = (row_all (λ (cell : Cell). IsOfKind cell.kind cell.value) (IsOfKind kind) place.var kind (λ k v. (λ h. h, λ h. h)) place.index values).1

@@ -18,8 +18,8 @@ use Rattle.fj_control.specs.Steps.{Given}
 use Rattle.fj_control.specs.Walk.{is_left}
 use Rattle.fj_value.specs.declared.value.Cell.{Cell}
 use Rattle.fj_list.specs.declared.items.OutputItems.{OutputItems}
-use Rattle.fj_list.specs.declared.items.OutputItems.TheVariants.{Each, Cells, Runs}
-use Rattle.fj_list.specs.Items.{Output, items_left, cells_ahead}
+use Rattle.fj_list.specs.declared.items.OutputItems.TheVariants.{Row, Cells, Runs}
+use Rattle.fj_list.specs.Items.{Output, items_left, values_ahead}
 use Rattle.fj_transfer.specs.declared.writer.Writer.{Writer}
 use Rattle.fj_transfer.specs.Writing.{actions_left, CarriesFirst}
 
@@ -92,8 +92,8 @@ first_as begun new all all' rest m n (Ok u) same h last = ap (carried_out begun)
 first_as begun new all all' rest m n (Err (Met condition)) same h last = ap (carried_out begun) same ∙ h
 first_as begun new all all' rest m n (Err (Memory error)) same h last = tt
 
-pub ahead_few : (o : OutputItems) → length (cells_ahead o) ≤ length (items_left o)
-ahead_few (Each cells) = omega (arith, length-map {B = Output} cells.now (λ (cell : Cell). (cell.kind, cell.value)))
+pub ahead_few : (o : OutputItems) → length (values_ahead o) ≤ length (items_left o)
+ahead_few (Row kind values) = omega (arith, length-map {B = Output} values.now (λ v. (kind, v)))
 ahead_few (Cells cells order at) = omega arith
 ahead_few (Runs runs run at) = omega arith
 

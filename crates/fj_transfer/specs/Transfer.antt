@@ -3,7 +3,6 @@ use Rattle.std.specs.Prelude.{ℕ, ℤ, pos, negsuc, ◌+◌, ◌-◌, ◌==◌,
 use Rattle.std.specs.List.{flat_map}
 use Rattle.fj_value.specs.declared.edit.EditModes.{EditModes}
 use Rattle.fj_value.specs.declared.value.Cell.{Cell}
-use Rattle.fj_value.specs.declared.value.Value.TheVariants.{Undefined}
 use Rattle.fj_value.specs.declared.condition.Condition.{Condition}
 use Rattle.fj_value.specs.declared.condition.Condition.TheVariants.{Fine, EndOfFile, EndOfRecord, Error}
 use Rattle.fj_modes.specs.declared.modes.Modes.{Modes}
@@ -18,6 +17,7 @@ use Rattle.fj_byterec.specs.Pieces.{piece, bytes_from}
 use Rattle.fj_list.specs.declared.moved.Moved.{Moved}
 use Rattle.fj_list.specs.ListInput.{Outcome, list_input, with_value, kind_at}
 use Rattle.fj_list.specs.ListText.{text_of}
+pub use Rattle.fj_list.specs.Load.{with_undefined}
 use Rattle.fj_list.specs.Moved.{value_at}
 use Rattle.fj_control.specs.Steps.{Given}
 use Rattle.fj_transfer.specs.Change.{changed}
@@ -106,9 +106,6 @@ abbrev pub begins_at : TransferSpec → Connection → Result Connection Conditi
 begins_at spec c = if c.spot.after_end then Err (Error 20) else placed c spec.rec spec.pos
 
 -- ---- how a transfer ends
-
-abbrev pub with_undefined : List Cell → List Cell
-with_undefined cells = map (λ (cell : Cell). record cell { value = Undefined }) cells
 
 -- without a count for SIZE=
 abbrev pub told_with : Connection → List Cell → Condition → Done

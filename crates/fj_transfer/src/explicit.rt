@@ -18,9 +18,8 @@ ghost use Rattle.fj_transfer.specs.Transfer.{unread, input_done, explicit_ended,
 
 use crate::hand::{Found, Hand, line_at};
 use crate::reader::Reader;
-use crate::stored::undefine;
 use fj_connect::{Connection, Spot, Within};
-use fj_list::Cells;
+use fj_list::{Cells, undefine};
 use fj_modes::{Access, LONGEST_FILE};
 use fj_outside::{FileStore, Stop};
 use fj_seqrec::RecordRead;

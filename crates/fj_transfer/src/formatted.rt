@@ -15,7 +15,7 @@ use crate::print::print_onto;
 use crate::transfer::Layout;
 use fj_connect::{Connection, Within};
 use fj_line::Unwritten;
-use fj_list::Moved;
+use fj_list::Load;
 use fj_modes::{Access, LONGEST_FILE};
 use fj_outside::{FileStore, Stop};
 use fj_value::{Condition, EditModes, Text};
@@ -146,7 +146,7 @@ pub fn write_lines<F: FileStore>(
     layout: &Layout,
     advance: bool,
     modes: EditModes,
-    moved: &Moved,
+    moved: &Load,
 ) -> Result<Condition, Stop>
     requires formatted { connection.old.modes.formatted ≡ true }
     requires access { connection.old.modes.access ≢ Access.Direct }

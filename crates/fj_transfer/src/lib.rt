@@ -37,7 +37,7 @@ pub use listed::{read_grouped, read_listed};
 pub use numbered::read_numbered;
 pub use pieces::write_numbered;
 pub use print::{print_explicit, print_onto, print_records};
-pub use stored::{body_of, frame_of, undefine};
+pub use stored::{body_of, frame_of};
 pub use transfer::{Layout, Members, Transfer, TransferSpec};
 pub use unformatted::{
     read_direct, read_sequential, read_stream, write_direct, write_sequential, write_stream,

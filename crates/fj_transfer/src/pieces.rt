@@ -23,7 +23,7 @@ use fj_connect::Connection;
 use fj_control::{Cursor, Step};
 use fj_format::Format;
 use fj_line::{Page, Unwritten};
-use fj_list::{Moved, OutputItems};
+use fj_list::{Load, OutputItems};
 use fj_modes::{Access, LONGEST_FILE};
 use fj_outside::{FileStore, Stop};
 use fj_value::{Condition, EditModes, Text};
@@ -141,7 +141,7 @@ pub fn write_numbered<F: FileStore>(
     number: u64,
     format: &Format,
     modes: EditModes,
-    moved: &Moved,
+    moved: &Load,
 ) -> Result<Condition, Stop>
     requires access { connection.old.modes.access ≡ Access.Direct }
     requires number { 0 < number }
@@ -163,7 +163,7 @@ pub fn write_numbered<F: FileStore>(
 {
     let recl = connection.modes().recl;
     let begun = begun_at(connection, None);
-    let items = OutputItems::of_cells(moved.cells.as_slice(), moved.order.as_slice());
+    let items = moved.items();
     let mut run = Text::new(alloc);
     match fill_records(format, modes, items, recl, begun, &mut run) {
         Ok(()) => put_pieces(connection, number, run.bytes()),

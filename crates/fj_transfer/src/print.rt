@@ -17,8 +17,8 @@ use crate::transfer::{Layout, Transfer};
 use crate::writer::Writer;
 use fj_format::Format;
 use fj_line::{Page, Unwritten};
-use fj_list::{GroupMember, Moved, OutputItems, put_list};
-use fj_value::{Cell, Condition, EditModes, Text};
+use fj_list::{GroupMember, Load, OutputItems, Shape, put_list};
+use fj_value::{Condition, EditModes, Text};
 use std::alloc::{AllocError, Global};
 
 /// Writes items under an explicit format on a record that begins.
@@ -103,24 +103,50 @@ fn print_listed(
     finished(written, end, out)
 }
 
+/// Writes a namelist group on a record that begins.
+fn put_cells(
+    page: &mut Page,
+    text: &mut Text,
+    modes: EditModes,
+    name: &[u8],
+    members: &[GroupMember],
+    moved: &Load,
+) -> Result<(), Unwritten>
+    requires within { IsIn page.old text.old }
+    requires cells { All (IsWithin (length moved.now.cells)) members.now }
+    ensures done { Carries (at_hand page.old text.old) (record_actions (group_written modes name.now members.now moved.now.cells)) result (at_hand page.new text.new) }
+    ensures within { OnOk result (IsIn page.new text.new) }
+    ensures kept { Keeps page.old text.old page.new text.new }
+{
+    match moved.shape() {
+        Shape::Cells(moved) => {
+            put_group(page, text, modes, name, members, moved.cells.as_slice())
+        }
+        Shape::Row(row) => {
+            let moved = row.to_moved(text.allocator())?;
+            put_group(page, text, modes, name, members, moved.cells.as_slice())
+        }
+    }
+}
+
 /// The output of a namelist group, likewise.
 fn print_group(
     modes: EditModes,
     name: &[u8],
     members: &[GroupMember],
-    cells: &[Cell],
+    moved: &Load,
     recl: u32,
     begun: u32,
     out: &mut Text,
 ) -> Result<Condition, AllocError>
-    requires { All (IsWithin (length cells.now)) members.now }
+    requires { All (IsWithin (length moved.now.cells)) members.now }
     ensures records { IfOk result (λ condition. Appends
-        (output (first_record recl begun) (record_actions (group_written modes name.now members.now cells.now))) out.old condition out.new) }
+        (output (first_record recl begun) (record_actions (group_written modes name.now members.now moved.now.cells))) out.old condition out.new) }
     ensures err { OnErr result (out.new ≡ out.old) }
 {
     let end = out.len();
     let mut page = Page::new(out, recl, begun);
-    let written = put_group(&mut page, out, modes, name, members, cells);
+    let written = put_cells(&mut page, out, modes, name, members, moved);
     finished(written, end, out)
 }
 
@@ -144,7 +170,7 @@ pub fn print_records(
     ensures err { OnErr result (out.new ≡ out.old) }
 {
     let modes = job.spec.edit.change(modes);
-    let items = OutputItems::of_cells(job.moved.cells.as_slice(), job.moved.order.as_slice());
+    let items = job.moved.items();
     match &job.spec.layout {
         Layout::Explicit(format) => {
             print_explicit(format, job.spec.advance, modes, items, recl, begun, out)
@@ -154,7 +180,7 @@ pub fn print_records(
             modes,
             name.bytes(),
             members.as_slice(),
-            job.moved.cells.as_slice(),
+            &job.moved,
             recl,
             begun,
             out,
@@ -170,7 +196,7 @@ fn write_layout(
     modes: EditModes,
     layout: &Layout,
     advance: bool,
-    moved: &Moved,
+    moved: &Load,
 ) -> Result<(), Unwritten>
     requires records { IsRecords layout.now }
     requires grouped { All (IsWithin (length moved.now.cells)) (members_of layout.now) }
@@ -181,18 +207,13 @@ fn write_layout(
     ensures within { OnOk result (IsIn page.new text.new) }
     ensures kept { Keeps page.old text.old page.new text.new }
 {
-    let items = OutputItems::of_cells(moved.cells.as_slice(), moved.order.as_slice());
+    let items = moved.items();
     match layout {
         Layout::Explicit(format) => write_explicit(page, text, modes, format, advance, items),
         Layout::Listed => put_list(page, text, modes, items),
-        Layout::Group(name, members) => put_group(
-            page,
-            text,
-            modes,
-            name.bytes(),
-            members.as_slice(),
-            moved.cells.as_slice(),
-        ),
+        Layout::Group(name, members) => {
+            put_cells(page, text, modes, name.bytes(), members.as_slice(), moved)
+        }
         Layout::Unformatted => unreachable!(),
     }
 }
@@ -219,7 +240,7 @@ pub fn print_onto(
     layout: &Layout,
     advance: bool,
     modes: EditModes,
-    moved: &Moved,
+    moved: &Load,
     recl: u32,
     begun: u32,
     out: &mut Text,

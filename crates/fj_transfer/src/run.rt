@@ -14,7 +14,7 @@ use crate::writer::Writer;
 use fj_control::Cursor;
 use fj_edit_out::integer_fields;
 use fj_line::{Page, Unwritten};
-use fj_value::{Cell, Edit, Text};
+use fj_value::{Edit, Kind, Text, Value};
 use std::alloc::AllocError;
 
 /// How many characters a row has at the most.
@@ -30,27 +30,28 @@ fn row_width(edit: Edit) -> Option<u32>
     }
 }
 
-/// Writes the integers of the first cells one after another at the end of the record, and answers how many. Where the record
+/// Writes the first integers of a row one after another at the end of the record, and answers how many. Where the record
 /// has no room for all of them it writes none.
 fn add_row(
     page: &mut Page,
     text: &mut Text,
     w: u32,
     plus: bool,
-    cells: &[Cell],
+    kind: Kind,
+    values: &[Value],
 ) -> Result<usize, AllocError>
     requires within { IsIn page.old text.old }
     requires end { IsAtEnd page.old text.old }
     requires some { 0 < w }
-    requires short { length cells.now * w ≤ 2 ^ 62 }
-    ensures few { IfOk result (λ count. count ≤ length (integers_in cells.now)) }
-    ensures done { IfOk result (λ count. (more : List Action) → carried_out (at_hand page.old text.old) (row_of plus w (take count (integers_in cells.now)) ++ more) ≡ carried_out (at_hand page.new text.new) more) }
-    ensures texts { IfOk result (λ count. (more : List Action) → texts_from (at_hand page.old text.old).line (row_of plus w (take count (integers_in cells.now)) ++ more) ≡ texts_from (at_hand page.new text.new).line more) }
+    requires short { length values.now * w ≤ 2 ^ 62 }
+    ensures few { IfOk result (λ count. count ≤ length (integers_in kind values.now)) }
+    ensures done { IfOk result (λ count. (more : List Action) → carried_out (at_hand page.old text.old) (row_of plus w (take count (integers_in kind values.now)) ++ more) ≡ carried_out (at_hand page.new text.new) more) }
+    ensures texts { IfOk result (λ count. (more : List Action) → texts_from (at_hand page.old text.old).line (row_of plus w (take count (integers_in kind values.now)) ++ more) ≡ texts_from (at_hand page.new text.new).line more) }
     ensures within { IsIn page.new text.new }
     ensures kept { Keeps page.old text.old page.new text.new }
 {
     let end = text.len();
-    let count = integer_fields(w, plus, cells, text)?;
+    let count = integer_fields(w, plus, kind, values, text)?;
     let before = *page;
     match page.take_in(text) {
         Ok(()) => Ok(count),
@@ -80,9 +81,16 @@ impl<'a> Writer<'a> {
         if !self.page.is_at_end(text) {
             return Ok(0);
         }
-        let ahead = self.items.ahead();
+        let (kind, ahead) = self.items.ahead();
         let count = most.min(ahead.len()).min(ROW / w as usize);
-        let written = add_row(&mut self.page, text, w, self.modes.plus, &ahead[..count])?;
+        let written = add_row(
+            &mut self.page,
+            text,
+            w,
+            self.modes.plus,
+            kind,
+            &ahead[..count],
+        )?;
         self.items.pass(written);
         Ok(written)
     }
@@ -121,7 +129,7 @@ impl<'a> Writer<'a> {
         ensures within { OnOk result (IsIn self.new.page text.new) }
         ensures kept { Keeps self.old.page text.old self.new.page text.new }
     {
-        match cursor.run(self.items.ahead().len()) {
+        match cursor.run(self.items.ahead().1.len()) {
             Some((edit, count)) => self.put_items(text, edit, count),
             None => Ok(()),
         }

@@ -1,15 +1,16 @@
 // The values of items as the bytes of unformatted records (ISO/IEC 1539-1:2004, 9.5.4.4.1).
+ghost use Rattle.std.specs.List.{flat_map};
 ghost use Rattle.std.specs.Prelude.{◌≡◌, ◌<◌, ◌≤◌, ◌++◌, [], ◌∷◌, length, take, nat_le, if◌then◌else◌, Some, None, OnOk, IfOk, All};
 ghost use Rattle.fj_value.specs.Kind.{IsOfKind};
 ghost use Rattle.fj_value.specs.declared.value.Cell.{Cell};
 ghost use Rattle.fj_unfrec.specs.Frames.{framed};
-ghost use Rattle.fj_unfrec.specs.Stored.{stored_width, value_of};
+ghost use Rattle.fj_unfrec.specs.Stored.{stored, stored_width, value_of};
 ghost use Rattle.fj_list.specs.ListInput.{kind_at, places_of, with_value};
 ghost use Rattle.fj_list.specs.Moved.{IsOrdered};
 ghost use Rattle.fj_transfer.specs.Moving.{HasValues};
-ghost use Rattle.fj_transfer.specs.Transfer.{widths, bytes_of, body_of, values_from, with_undefined};
+ghost use Rattle.fj_transfer.specs.Transfer.{widths, bytes_of, body_of, values_from};
 
-use fj_list::{Cells, Moved, define};
+use fj_list::{Cells, Load, Shape, define};
 use fj_unfrec::{get_value, put_value};
 use fj_value::{Cell, Kind, Text, Value};
 use std::alloc::{AllocError, Global};
@@ -55,7 +56,8 @@ fn put_item(cells: &[Cell], at: u32, out: &mut Text) -> Result<(), AllocError>
     requires defined { All (λ (cell : Cell). IsOfKind cell.kind cell.value) cells.now }
     ensures { OnOk result (out.new ≡ out.old ++ bytes_of cells.now (at ∷ [])) }
 {
-    put_value(&cells[at as usize], out)
+    let cell = &cells[at as usize];
+    put_value(cell.kind, &cell.value, out)
 }
 
 /// Adds the bytes of the items' values, in their order.
@@ -70,25 +72,48 @@ fn put_items(cells: &[Cell], order: &[u32], out: &mut Text) -> Result<(), AllocE
     Ok(())
 }
 
+/// Adds the bytes of the values of a row.
+fn put_row(kind: Kind, values: &[Value], out: &mut Text) -> Result<(), AllocError>
+    requires { All (IsOfKind kind) values.now }
+    ensures { OnOk result (out.new ≡ out.old ++ flat_map (stored kind) values.now) }
+{
+    for value in values {
+        put_value(kind, value, out)?;
+    }
+    Ok(())
+}
+
+/// Adds the bytes of an output's values.
+fn put_load(moved: &Load, out: &mut Text) -> Result<(), AllocError>
+    requires ordered { IsOrdered moved.now }
+    requires defined { HasValues moved.now }
+    ensures { OnOk result (out.new ≡ out.old ++ body_of moved.now) }
+{
+    match moved.shape() {
+        Shape::Cells(moved) => put_items(moved.cells.as_slice(), moved.order.as_slice(), out),
+        Shape::Row(row) => put_row(row.kind, row.values.as_slice(), out),
+    }
+}
+
 /// The bytes of an output's values, which are the body of its record.
-pub fn body_of(alloc: Global, moved: &Moved) -> Result<Text, AllocError>
+pub fn body_of(alloc: Global, moved: &Load) -> Result<Text, AllocError>
     requires ordered { IsOrdered moved.now }
     requires defined { HasValues moved.now }
     ensures { IfOk result (λ body. body ≡ body_of moved.now) }
 {
     let mut body = Text::new(alloc);
-    put_items(moved.cells.as_slice(), moved.order.as_slice(), &mut body)?;
+    put_load(moved, &mut body)?;
     Ok(body)
 }
 
 /// The same as a whole record of sequential access, with its length before and behind it.
-pub fn frame_of(alloc: Global, moved: &Moved) -> Result<Text, AllocError>
+pub fn frame_of(alloc: Global, moved: &Load) -> Result<Text, AllocError>
     requires ordered { IsOrdered moved.now }
     requires defined { HasValues moved.now }
     ensures { IfOk result (λ frame. frame ≡ framed (body_of moved.now)) }
 {
     let mut frame = Text::from_bytes(alloc, &[0; 4])?;
-    put_items(moved.cells.as_slice(), moved.order.as_slice(), &mut frame)?;
+    put_load(moved, &mut frame)?;
     let length = (frame.len() as u64 - 4).to_le_bytes();
     frame.write_over(0, &length[..4]);
     frame.push_all(&length[..4])?;
@@ -129,14 +154,4 @@ pub fn get_items(
         from += get_item(alloc, cells, *at, &bytes[from..])?;
     }
     Ok(())
-}
-
-/// Makes all values undefined.
-pub fn undefine(cells: &mut Cells)
-    ensures values { cells.new ≡ with_undefined cells.old }
-    ensures places { places_of cells.new ≡ places_of cells.old }
-{
-    for at in 0..cells.len() {
-        define(cells, at, Value::Undefined);
-    }
 }

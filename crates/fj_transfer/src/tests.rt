@@ -12,7 +12,7 @@ mod listed;
 use crate::tests::listed::members;
 use crate::{EditChange, Layout, Transfer, TransferSpec, print_explicit, print_records};
 use fj_format::parse;
-use fj_list::{Moved, OutputItems, Run, Values};
+use fj_list::{Load, Moved, OutputItems, Run, Values};
 use fj_value::{Cell, Condition, Delim, EditModes, Items, Kind, Place, Tag, Text, Value};
 use std::alloc::{AllocError, Global};
 use std::test::Fail;
@@ -136,7 +136,7 @@ fn transfer(layout: Layout, moved: Moved, advance: bool, edit: EditChange) -> Tr
             pos: None,
             edit,
         },
-        moved,
+        moved: Load::of_cells(moved),
         size: None,
         count: None,
     }

@@ -9,7 +9,7 @@ ghost use Rattle.fj_transfer.specs.Moving.{HasValues, members_of};
 
 use crate::change::EditChange;
 use fj_format::Format;
-use fj_list::{GroupMember, Moved};
+use fj_list::{GroupMember, Load, Moved};
 use fj_value::{Items, Tag, Text};
 
 /// The variables of a namelist group.
@@ -46,7 +46,7 @@ pub struct Transfer {
     pub stmt: u32,
     pub tag: Tag,
     pub spec: TransferSpec,
-    pub moved: Moved,
+    pub moved: Load,
     /// The variable of SIZE=, as one cell.
     pub size: Option<Moved>,
     /// What SIZE= gets.

@@ -10,9 +10,9 @@ ghost use Rattle.fj_connect.specs.Connection.{between};
 ghost use Rattle.fj_connect.specs.Linked.{connection_of};
 ghost use Rattle.fj_transfer.specs.Transfer.{told_with, with_undefined, values_from, bytes_needed, sequential_read, direct_read, stream_read, sequential_written, direct_written, stream_written};
 
-use crate::stored::{get_items, needed, undefine};
+use crate::stored::{get_items, needed};
 use fj_connect::Connection;
-use fj_list::Moved;
+use fj_list::{Moved, undefine};
 use fj_modes::{Access, LONGEST_FILE};
 use fj_outside::{FileStore, Stop};
 use fj_unfrec::FrameRead;

@@ -133,7 +133,6 @@ fn appends_frames(rt: HostRuntime) -> Result<(), Fail> {
 
 #[test]
 fn stores_values(rt: HostRuntime) -> Result<(), Fail> {
-    let place = Place { var: 0, index: 1 };
     let mut out = Text::new(rt.alloc());
     let chars = Value::of_text(Text::from_bytes(rt.alloc(), b"abc")?)?;
     for (kind, value) in [
@@ -142,7 +141,7 @@ fn stores_values(rt: HostRuntime) -> Result<(), Fail> {
         (Kind::Logical, Value::Log(true)),
         (Kind::Chars(3), chars),
     ] {
-        put_value(&Cell { place, kind, value }, &mut out)?;
+        put_value(kind, &value, &mut out)?;
     }
     assert_eq!(rt;
         out.bytes(),

@@ -3,16 +3,16 @@ ghost use Rattle.std.specs.Prelude.{◌≡◌, ◌++◌, length, OnOk, OnErr};
 ghost use Rattle.fj_value.specs.Kind.{IsOfKind};
 ghost use Rattle.fj_unfrec.specs.Stored.{stored, stored_width, value_of};
 
-use fj_value::{Cell, Kind, Text, Value};
+use fj_value::{Kind, Text, Value};
 use std::alloc::{AllocError, Global};
 
-/// Adds the bytes of a cell's value, which is defined and of the cell's kind. Want of memory changes nothing.
-pub fn put_value(cell: &Cell, out: &mut Text) -> Result<(), AllocError>
-    requires { IsOfKind cell.now.kind cell.now.value }
-    ensures ok { OnOk result (out.new ≡ out.old ++ stored cell.now.kind cell.now.value) }
+/// Adds the bytes of a value, which is a defined one of its kind. Want of memory changes nothing.
+pub fn put_value(kind: Kind, value: &Value, out: &mut Text) -> Result<(), AllocError>
+    requires { IsOfKind kind value.now }
+    ensures ok { OnOk result (out.new ≡ out.old ++ stored kind value.now) }
     ensures err { OnErr result (out.new ≡ out.old) }
 {
-    match (cell.kind, &cell.value) {
+    match (kind, value) {
         (Kind::Int4, Value::Int(number)) => out.push_all(&(*number as i32).to_le_bytes()),
         (Kind::Int8, Value::Int(number)) => out.push_all(&number.to_le_bytes()),
         (Kind::Logical, Value::Log(truth)) => out.push_all(&u32::from(*truth).to_le_bytes()),

@@ -14,15 +14,15 @@ use Rattle.fj_plain.specs.State.{with_file, without_file}
 use Rattle.fj_units.specs.Names.{stands, left_of, AreInUse}
 use Rattle.fj_units.specs.Files.{files_of}
 
-agree : (a b : Bool) → (a ≡ true → b ≡ true) → (b ≡ true → a ≡ true) → a ≡ b
+pub agree : (a b : Bool) → (a ≡ true → b ≡ true) → (b ≡ true → a ≡ true) → a ≡ b
 agree true b f g = sym (f refl)
 agree false true f g = g refl
 agree false false f g = refl
 
-bytes_same : (q n : List ℕ) → q ≡ n → bytes_eq q n ≡ true
+pub bytes_same : (q n : List ℕ) → q ≡ n → bytes_eq q n ≡ true
 bytes_same q n e = (bytes_eq-Decides q n).1 e
 
-is_same : (q n : List ℕ) → bytes_eq q n ≡ true → q ≡ n
+pub is_same : (q n : List ℕ) → bytes_eq q n ≡ true → q ≡ n
 is_same q n e = (bytes_eq-Decides q n).0 e
 
 tied : (q n : List ℕ) → q ≡ n → eq_by_cmp (slice_cmp nat_cmp) q n ≡ true
@@ -58,7 +58,7 @@ files-gone h n bytes sound = fun_ext (λ q.
 
 -- ---- names
 
-any_append : {X : Type 0} (p : X → Bool) (xs ys : List X) → list_any p (xs ++ ys) ≡ (list_any p xs || list_any p ys)
+pub any_append : {X : Type 0} (p : X → Bool) (xs ys : List X) → list_any p (xs ++ ys) ≡ (list_any p xs || list_any p ys)
 any_append p [] ys = refl
 any_append p (x ∷ xs) ys = by (p x) (any_append p xs ys)
   where
@@ -93,7 +93,7 @@ stands_more o os n q false e true f rest =
 stands_more o os n q false e false f rest =
     ap (λ y. y || stands (left_of os n) q) f ∙ rest ∙ ap (λ y. not (bytes_eq n q) && (y || stands os q)) (sym f)
 
-stands-left_of : (names : List (List ℕ)) (n q : List ℕ) → stands (left_of names n) q ≡ (not (bytes_eq n q) && stands names q)
+pub stands-left_of : (names : List (List ℕ)) (n q : List ℕ) → stands (left_of names n) q ≡ (not (bytes_eq n q) && stands names q)
 stands-left_of [] n q = none (not (bytes_eq n q))
   where
     none : (b : Bool) → false ≡ (b && false)
@@ -133,16 +133,18 @@ plain true = refl
 plain false = refl
 
 -- a name that was entered in vain
-pub names-vain : (names : List (List ℕ)) (h h' : Holdings) (n : List ℕ) → stands names n ≡ false → h'.in_use ≡ h.in_use → AreInUse names h.in_use → AreInUse (left_of (names ++ n ∷ []) n) h'.in_use
-names-vain names h h' n free same are q =
-    ap (λ s. set.contains s q) same ∙ are q
-    ∙ by (bytes_eq n q) refl
+pub stands-vain : (names : List (List ℕ)) (n q : List ℕ) → stands names n ≡ false → stands names q ≡ stands (left_of (names ++ n ∷ []) n) q
+stands-vain names n q free =
+    by (bytes_eq n q) refl
     ∙ ap (λ b. not (bytes_eq n q) && b) (sym (any_append (λ (other : List ℕ). bytes_eq other q) names (n ∷ [])))
     ∙ sym (stands-left_of (names ++ n ∷ []) n q)
   where
     by : (b : Bool) → bytes_eq n q ≡ b → stands names q ≡ (not b && (stands names q || (b || false)))
     by true e = ap (stands names) (sym (is_same n q e)) ∙ free
     by false e = plain (stands names q)
+
+pub names-vain : (names : List (List ℕ)) (h h' : Holdings) (n : List ℕ) → stands names n ≡ false → h'.in_use ≡ h.in_use → AreInUse names h.in_use → AreInUse (left_of (names ++ n ∷ []) n) h'.in_use
+names-vain names h h' n free same are q = ap (λ s. set.contains s q) same ∙ are q ∙ stands-vain names n q free
 
 pub free_name : (names : List (List ℕ)) (h : Holdings) (n : List ℕ) → stands names n ≡ false → AreInUse names h.in_use → IsFree h n
 free_name names h n free are = ap not (are n ∙ free)

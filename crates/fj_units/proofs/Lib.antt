@@ -1,3 +1,4 @@
 pub mod UnitLemmas
 pub mod Files
 pub mod Returning
+pub mod Having

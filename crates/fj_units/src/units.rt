@@ -1,10 +1,12 @@
 // The connected units.
-ghost use Rattle.std.specs.Prelude.{◌≡◌, ◌+◌, ◌≤◌, ◌<◌, ◌++◌, [], None, length, map, filter, nat_lt, slice_get, HoldsAt, IfSome, IfNone, OnOk};
+ghost use Rattle.std.specs.Prelude.{◌≡◌, ◌+◌, ◌≤◌, ◌<◌, ◌++◌, ℕ, List, [], None, Some, length, map, filter, nat_lt, slice_get, HoldsAt, IfSome, IfNone, OnOk};
 ghost use Rattle.std.specs.Option.{option_copied, option_map, option_and_then};
-ghost use Rattle.fj_desk.specs.Core.{connected_at, unit_named, inserted, without_connected};
+ghost use Rattle.fj_desk.specs.Core.{Connected as PlainConnected, connected_at, unit_named, inserted, without_connected};
 ghost use Rattle.fj_desk.specs.Desks.{most_slots};
 ghost use Rattle.fj_plain.specs.Needs.{number_of};
 ghost use Rattle.fj_desk.specs.Acting as acting;
+ghost use Rattle.fj_units.specs.Having.{HaveFiles};
+ghost use Rattle.fj_units.specs.Names.{left_of};
 ghost use Rattle.fj_units.specs.Units.{AreApart, connected_of, has_slot, is_taken, with_modes};
 
 use crate::connected::Connected;
@@ -223,14 +225,16 @@ impl Units {
 
     /// Takes the unit of a number off.
     pub fn remove(&mut self, number: u32)
-        ensures { self.new ≡ without_connected number self.old }
+        ensures left { self.new ≡ without_connected number self.old }
+        ensures files { (names : List (List ℕ)) (u : PlainConnected) → connected_at self.old number ≡ Some u → HaveFiles names self.old → HaveFiles (left_of names u.name) self.new }
     {
         self.list.retain(|unit| unit.number != number);
     }
 
     /// Gives the unit of a number other modes, if there is one.
     pub fn set_modes(&mut self, number: u32, modes: Modes)
-        ensures { self.new ≡ with_modes self.old (connected_at self.old number) modes }
+        ensures modes { self.new ≡ with_modes self.old (connected_at self.old number) modes }
+        ensures files { (names : List (List ℕ)) → HaveFiles names self.old → HaveFiles names self.new }
     {
         if let Some(at) = place_of(&self.list, number) {
             self.list[at].modes = modes;

@@ -14,7 +14,7 @@ use crate::{
 };
 use fj_connect::{Connection, OpenFault, open_file};
 use fj_format::{Format, parse};
-use fj_list::Moved;
+use fj_list::{Load, Moved};
 use fj_modes::{Access, FileName, FileStatus, OpenSpec, settle_open};
 use fj_outside::{Disk, FileStore, MemoryDisk, Stop};
 use fj_value::{Condition, Value};
@@ -71,7 +71,7 @@ fn write<F: FileStore>(
     alloc: Global,
     c: &mut Connection<F>,
     at: u64,
-    items: &Moved,
+    items: &Load,
 ) -> Result<Condition, Stop>
     requires ordered { IsOrdered items.now }
     requires defined { HasValues items.now }
@@ -126,7 +126,7 @@ fn written<D: Disk>(
     disk: &mut D,
     access: Access,
     at: u64,
-    items: &Moved,
+    items: &Load,
 ) -> Result<(Condition, u64, u64), OpenFault>
     requires home { D.tells disk.old → (D.held disk.old).in_use ≡ set.empty }
     requires ordered { IsOrdered items.now }
@@ -248,7 +248,7 @@ fn unformatted_output(rt: HostRuntime) -> Result<(), Fail> {
     let alloc = rt.alloc();
     for (access, before, at, items, condition, after, position, next) in WRITES {
         assert!(rt; items.len() < 1000);
-        let items = moved(alloc, items, 1)?;
+        let items = Load::of_cells(moved(alloc, items, 1)?);
         let mut disk = disk_of(alloc, before)?;
         let came = written(alloc, &mut disk, access, at, &items)?;
         assert_eq!(rt; came, (condition, position, next));
@@ -363,7 +363,7 @@ fn put<F: FileStore>(
     place: Option<u64>,
     layout: &Layout,
     advance: bool,
-    items: &Moved,
+    items: &Load,
 ) -> Result<Condition, Stop>
     requires records { IsRecords layout.now }
     requires grouped { All (IsWithin (length items.now.cells)) (members_of layout.now) }
@@ -396,7 +396,7 @@ fn put_from<D: Disk>(
     place: Option<u64>,
     layout: &Layout,
     advance: bool,
-    items: &Moved,
+    items: &Load,
 ) -> Result<(Condition, u64), OpenFault>
     requires home { D.tells disk.old → (D.held disk.old).in_use ≡ set.empty }
     requires records { IsRecords layout.now }
@@ -560,7 +560,7 @@ fn formatted_output(rt: HostRuntime) -> Result<(), Fail> {
     for (access, before, at, place, format, advance, items, condition, after, position) in PUTS {
         assert!(rt; items.len() < 1000);
         assert!(rt; format.len() < 100);
-        let items = moved(alloc, items, 1)?;
+        let items = Load::of_cells(moved(alloc, items, 1)?);
         let layout = Layout::Explicit(parse(alloc, format.as_bytes())?);
         let mut disk = disk_of(alloc, before)?;
         let came = put_from(

@@ -1,12 +1,19 @@
 use Rattle.fj_plain.specs.Needs.{number_of}
 use Rattle.std.specs.Prelude.{unwrap_or}
-use Rattle.std.proofs.Common.{false}
+use Rattle.std.proofs.Common.{false, sym}
 use Rattle.fj_units.specs.Units.{connected_of}
 use Rattle.fj_acts.specs.State.{core_of}
 use Rattle.fj_acts.proofs.ClosingLemmas.{close_is, may_close}
+use Rattle.fj_acts.proofs.HavingLemmas.{closing_has, found_at}
 use Rattle.fj_acts.proofs.closing.close.Goals as goal
 
 pub returns-clause-doing : goal.returns-clause-doing
 returns-clause-doing g c = λ variables st files.
     close_is g.F.FileStore.told g.F.FileStore.bytes variables st (core_of files c.args.core.now) c.args.keep (number_of c.args.unit) (connected_of c.in-Some.unit.now) c.unwrap_or-2.result c.closing.result
     c.in-Some.ensures (may_close c.unwrap_or.result (unwrap_or c.args.keep false) c.in-Some.unit.now.modes.scratch c.unwrap_or.ensures c.else-unwrap_or.either) c.unwrap_or-2.ensures c.closing.ensures
+
+pub returns-clause-files : goal.returns-clause-files
+returns-clause-files g c = λ what have.
+    let us = c.args.core.now.units in
+    let u = connected_of c.in-Some.unit.now in
+    closing_has c.closing.result u.slot u _ _ c.args.core.now.names us what c.closing.ensures (found_at us (number_of c.args.unit) u (sym c.in-Some.ensures)) tt have

@@ -5,6 +5,7 @@ use Rattle.fj_plain.specs.Needs.{number_of}
 use Rattle.fj_units.specs.Units.{connected_of}
 use Rattle.fj_acts.specs.State.{core_of}
 use Rattle.fj_acts.proofs.ClosingLemmas.{close_anyway_is}
+use Rattle.fj_acts.proofs.HavingLemmas.{closing_has, found_at}
 use Rattle.fj_acts.proofs.closing.close_anyway.Goals as goal
 use Rattle.fj_acts.proofs.closing.close_anyway.Goals.{then-not-unit, else-not-unit}
 
@@ -16,3 +17,9 @@ returns-after-not-unit-clause-doing g c = λ variables st files.
     ] in
     close_anyway_is g.F.FileStore.told g.F.FileStore.bytes variables st (core_of files c.args.core.now) c.args.keep (number_of c.args.unit) (connected_of c.in-Some.unit.now) c.if-not-unit.closing c.args.condition c.closing.result
     c.in-Some.ensures kept c.closing.ensures
+
+pub returns-after-not-unit-clause-files : goal.returns-after-not-unit-clause-files
+returns-after-not-unit-clause-files g c = λ what have.
+    let us = c.args.core.now.units in
+    let u = connected_of c.in-Some.unit.now in
+    closing_has c.closing.result u.slot u _ _ c.args.core.now.names us what c.closing.ensures (found_at us (number_of c.args.unit) u (sym c.in-Some.ensures)) tt have

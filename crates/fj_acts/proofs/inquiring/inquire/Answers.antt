@@ -12,7 +12,7 @@ use Rattle.fj_units.specs.Units.{connected_of}
 use Rattle.fj_acts.specs.Doing.{looks_at}
 use Rattle.fj_acts.specs.State.{core_of}
 use Rattle.fj_acts.proofs.FailingLemmas.{fails_as}
-use Rattle.fj_acts.proofs.FittingLemmas.{unknown_home}
+use Rattle.fj_acts.proofs.FittingLemmas.{nobody_home, unknown_home}
 use Rattle.fj_acts.proofs.TransferLemmas.{ok_same}
 use Rattle.fj_acts.proofs.InquiryLemmas.{inquires_none, inquires_unknown, inquires_later, inquires_at_once}
 use Rattle.fj_acts.proofs.inquiring.inquire.Goals as goal
@@ -76,5 +76,9 @@ returns-clause-doing g c = λ tells st asks.
     (inquires_at_once (core_of files old) o c.in-Some.number u file asked id c.in-Some.ensures c.in-Some-find.ensures c.if-needs_look.ensures) (c.answer_look.ensures.doing st files)
 
 pub returns-in_default-find-clause-fits : goal.returns-in_default-find-clause-fits
-returns-in_default-find-clause-fits g c = λ asks connected.
+returns-in_default-find-clause-fits g c = λ asks have.
     c.answer_other-in_default-find.ensures.fits asks (unknown_home c.args.core.now.names c.args.core.now.units c.args.subject.now c.in-Some.number (sym c.in-Some.ensures) (sym c.in_default-find.ensures))
+
+pub returns-in_default-clause-fits : goal.returns-in_default-clause-fits
+returns-in_default-clause-fits g c = λ asks have.
+    c.answer_other.ensures.fits asks (nobody_home c.args.core.now.names c.args.core.now.units c.args.subject.now have (sym c.in_default.ensures))

@@ -1,4 +1,4 @@
-use Rattle.std.proofs.Common.{refl, ap, ◌∙◌}
+use Rattle.std.proofs.Common.{refl, ap, ◌∙◌, sym, subst}
 use Rattle.fj_connect.specs.Linked.{connection_of}
 use Rattle.fj_connect.specs.Opening.{opened_file}
 use Rattle.fj_outside.specs.Holdings.{Holdings}
@@ -7,6 +7,10 @@ use Rattle.fj_units.proofs.Files.{files-out_of}
 use Rattle.fj_acts.specs.State.{core_of}
 use Rattle.fj_acts.proofs.OpeningLemmas.{opened_is, names_taken, names_back, refusal_of, stop_of}
 use Rattle.fj_acts.proofs.FailingLemmas.{fails_open, open_rose}
+use Rattle.fj_acts.specs.Having.{HaveNext}
+use Rattle.fj_units.specs.Having.{HaveFiles}
+use Rattle.fj_units.specs.Names.{left_of}
+use Rattle.fj_units.proofs.Having.{have_vain}
 use Rattle.fj_acts.proofs.opening.attach.Goals as goal
 
 pub returns-in-Ok-clause-doing : goal.returns-in-Ok-clause-doing
@@ -44,3 +48,14 @@ returns-clause-fault g c = λ tells lost.
     (open_rose c.open_file.result c.in-Err.fault c.in-Stop.stop c.lost_by_stop.result (g.D.Disk.refusals c.args.disk.now) (g.D.Disk.refusals c.open_file.new.disk) c.in-Err.is c.in-Stop.is c.lost_by_stop.ensures.disk lost
     (c.open_file.ensures.own tells))
     (stop_of _ c.in-Err.fault c.in-Stop.stop c.in-Stop.is (c.in-Err.ensures.stopped tells))
+
+pub returns-in-Ok-clause-files : goal.returns-in-Ok-clause-files
+returns-in-Ok-clause-files g c = λ what none free have.
+    let us = c.args.core.now.units in
+    subst (λ ns. HaveNext c.attaching.result ns us what) (sym c.in_ok-add.ensures.ok) (c.attaching.ensures.files c.args.core.now.names us what none free have)
+
+pub returns-in-Refused-clause-files : goal.returns-in-Refused-clause-files
+returns-in-Refused-clause-files g c = λ what none free have.
+    let names = c.args.core.now.names in
+    let us = c.args.core.now.units in
+    subst (λ ns. HaveFiles ns us) (sym (c.remove.ensures ∙ ap (λ ns. left_of ns c.args.name) c.in_ok-add.ensures.ok)) (have_vain names us c.args.name (sym c.holds.ensures ∙ c.if-holds.false) have)

@@ -1,4 +1,5 @@
-use Rattle.std.proofs.Common.{sym, ◌∙◌}
+use Rattle.std.proofs.Common.{sym, ◌∙◌, ap}
+use Rattle.fj_desk.specs.Core.{has_name}
 use Rattle.fj_units.specs.Files.{files_of}
 use Rattle.fj_acts.specs.State.{core_of}
 use Rattle.fj_acts.proofs.OpeningLemmas.{connects_is, meant}
@@ -18,3 +19,7 @@ returns-in_ok-name-in-Some-clause-fault g c = λ tells lost.
     (connects_is (core_of (files_of (g.D.Disk.held c.args.disk.now)) c.args.core.now) c.args.number c.in-Some.slot c.in_ok-name-in-Some.name c.args.spec.now c.args.modes
     (sym c.free_slot.ensures.free ∙ c.in-Some.is) c.in_ok-name-in-Some.ensures)
     (c.attach.ensures.fault tells lost)
+
+pub returns-in_ok-name-in-Some-clause-files : goal.returns-in_ok-name-in-Some-clause-files
+returns-in_ok-name-in-Some-clause-files g c = λ what none free have.
+    c.attach.ensures.files what none (ap (has_name c.args.core.now.units) c.in_ok-name-in-Some.ensures ∙ free) have

@@ -1,13 +1,16 @@
 use Rattle.std.proofs.Common.{sym, ap, ◌∙◌, ◌≡◌, Some, None}
 use Rattle.fj_modes.specs.Modes.{settled}
 use Rattle.fj_plain.specs.Connecting.{file_due}
-use Rattle.fj_desk.specs.Core.{Connected as PlainConnected, connected_at}
+use Rattle.fj_desk.specs.Core.{Connected as PlainConnected, connected_at, has_name}
 use Rattle.fj_units.specs.Files.{files_of}
 use Rattle.fj_units.specs.Units.{connected_of, is_taken}
 use Rattle.fj_acts.specs.State.{core_of}
 use Rattle.fj_acts.proofs.OpeningLemmas.{opens_behind, opens_new, meant}
 use Rattle.fj_acts.proofs.FailingLemmas.{fails_as}
 use Rattle.fj_acts.proofs.FittingLemmas.{free_home}
+use Rattle.fj_acts.specs.declared.doing.After.TheVariants as after
+use Rattle.fj_acts.proofs.ClosingLemmas.{found_again, found_number}
+use Rattle.fj_acts.proofs.HavingLemmas.{closing_has, free_there, opens_behind_free}
 use Rattle.fj_acts.proofs.opening.open_other.Goals as goal
 
 pub returns-in-Some-clause-doing : goal.returns-in-Some-clause-doing
@@ -34,7 +37,22 @@ returns-clause-fault g c = λ tells lost.
     (c.connect.ensures.fault tells lost)
 
 pub returns-clause-fits : goal.returns-clause-fits
-returns-clause-fits g c = λ connected.
+returns-clause-fits g c = λ have.
     let units = c.args.core.now.units in
-    c.connect.ensures.fits (free_home c.args.core.now.names units c.args.number (file_due c.args.spec.now c.args.number) connected (sym c.in_default.ensures)
+    c.connect.ensures.fits (free_home c.args.core.now.names units c.args.number (file_due c.args.spec.now c.args.number) have (sym c.in_default.ensures)
     (ap (is_taken units c.args.number) (sym c.in_ok-name.ensures) ∙ sym c.is_taken.ensures ∙ c.if-is_taken.false))
+
+pub returns-in-Some-clause-files : goal.returns-in-Some-clause-files
+returns-in-Some-clause-files g c = λ what asks have.
+    let us = c.args.core.now.units in
+    let u : PlainConnected = connected_of c.in-Some.unit.now in
+    let number = c.args.number in
+    let found : connected_at us number ≡ Some u = sym c.in-Some.ensures in
+    closing_has c.closing.result u.slot u _ (after.Connects number) c.args.core.now.names us what c.closing.ensures (found_again us number u found)
+    (opens_behind_free what c.args.spec.now c.in_ok-name.name u.number number us asks (found_number us number u found) c.in_ok-name.ensures (sym c.is_taken.ensures ∙ c.if-is_taken.false)) have
+
+pub returns-clause-files : goal.returns-clause-files
+returns-clause-files g c = λ what asks have.
+    let us = c.args.core.now.units in
+    let none : connected_at us c.args.number ≡ None = sym c.in_default.ensures in
+    c.connect.ensures.files what none (ap (has_name us) (sym c.in_ok-name.ensures) ∙ free_there us c.args.number c.in_ok-name.name none (sym c.is_taken.ensures ∙ c.if-is_taken.false)) have

@@ -1,4 +1,4 @@
-use Rattle.std.proofs.Common.{◌≡◌, ℕ, Some, refl, sym, ap, ◌∙◌}
+use Rattle.std.proofs.Common.{◌≡◌, ℕ, Some, refl, sym, ap, ◌∙◌, subst}
 use Rattle.fj_bay.specs.Jobs.{Job as Task, Answer}
 use Rattle.fj_bay.specs.Plain.{reply_of}
 use Rattle.fj_bay.specs.declared.job.Job.TheVariants as job
@@ -14,6 +14,8 @@ use Rattle.fj_acts.proofs.FailingLemmas.{fails_as}
 use Rattle.fj_acts.proofs.OpeningLemmas.{meant}
 use Rattle.fj_acts.proofs.StateLemmas.{keeps_answers}
 use Rattle.fj_acts.proofs.StepLemmas.{detached_is, looked_is, moved_is}
+use Rattle.fj_acts.specs.Having.{HaveThen}
+use Rattle.fj_units.specs.Having.{HaveFiles}
 use Rattle.fj_acts.proofs.steps.answered.Goals as goal
 
 pub returns-in_err-insert-in-Attaches-Attach-None-clause-pending : goal.returns-in_err-insert-in-Attaches-Attach-None-clause-pending
@@ -86,3 +88,39 @@ returns-in-Finishes-Go-clause-pending g c = keeps_answers c.args.core.now c.args
 
 pub returns-in_default-clause-pending : goal.returns-in_default-clause-pending
 returns-in_default-clause-pending g c = keeps_answers c.args.core.now c.give_up.new.core c.give_up.ensures.pending
+
+pub returns-in-Carries-Move-clause-files : goal.returns-in-Carries-Move-clause-files
+returns-in-Carries-Move-clause-files g c = λ have.
+    let core = c.args.core.now in
+    let it = subst (λ (t : Then). HaveThen t core.names core.units c.args.lined.now.what) c.in-Carries-Move.is-0 have in
+    c.carried.ensures.files it
+
+pub returns-in-Closes-Detach-Some-clause-files : goal.returns-in-Closes-Detach-Some-clause-files
+returns-in-Closes-Detach-Some-clause-files g c = λ have.
+    let core = c.args.core.now in
+    let it = subst (λ (t : Then). HaveThen t core.names core.units c.args.lined.now.what) c.in-Closes-Detach-Some.is-0 have in
+    c.closed.ensures.files it
+
+pub returns-in_ok-insert-in-Attaches-Attach-None-clause-files : goal.returns-in_ok-insert-in-Attaches-Attach-None-clause-files
+returns-in_ok-insert-in-Attaches-Attach-None-clause-files g c = λ have.
+    let core = c.args.core.now in
+    let it = subst (λ (t : Then). HaveThen t core.names core.units c.args.lined.now.what) c.in-Attaches-Attach-None.is-0 have in
+    subst (HaveFiles core.names) (sym c.in_ok-insert-in-Attaches-Attach-None.ensures) it
+
+pub returns-in-Looks-Look-clause-files : goal.returns-in-Looks-Look-clause-files
+returns-in-Looks-Look-clause-files g c = λ have.
+    let core = c.args.core.now in
+    let it = subst (λ (t : Then). HaveThen t core.names core.units c.args.lined.now.what) c.in-Looks-Look.is-0 have in
+    c.looked.ensures.files it
+
+pub returns-in-Changes-Change-clause-files : goal.returns-in-Changes-Change-clause-files
+returns-in-Changes-Change-clause-files g c = λ have.
+    let core = c.args.core.now in
+    let it = subst (λ (t : Then). HaveThen t core.names core.units c.args.lined.now.what) c.in-Changes-Change.is-0 have in
+    c.set_modes.ensures.files core.names it
+
+pub returns-in-Finishes-Go-clause-files : goal.returns-in-Finishes-Go-clause-files
+returns-in-Finishes-Go-clause-files g c = λ have.
+    let core = c.args.core.now in
+    let it = subst (λ (t : Then). HaveThen t core.names core.units c.args.lined.now.what) c.in-Finishes-Go.is-0 have in
+    it

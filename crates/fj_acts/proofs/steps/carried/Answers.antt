@@ -30,3 +30,6 @@ returns-in_default-clause-doing g c = λ files answer is.
 
 pub returns-in_default-clause-pending : goal.returns-in_default-clause-pending
 returns-in_default-clause-pending g c = keeps_answers c.args.core.now c.args.core.now refl
+
+pub returns-in-Transfer-clause-files : goal.returns-in-Transfer-clause-files
+returns-in-Transfer-clause-files g c = λ have. c.carry.ensures.files c.args.lined.now.what have

@@ -1,4 +1,4 @@
-use Rattle.std.proofs.Common.{refl, sym, ap, ◌∙◌}
+use Rattle.std.proofs.Common.{refl, sym, ap, ◌∙◌, subst, ◌≡◌, true, false}
 use Rattle.fj_outside.specs.Holdings.{Holdings}
 use Rattle.fj_statement.specs.declared.statement.Statement.{Statement}
 use Rattle.fj_plain.specs.Statement.{control_by}
@@ -11,6 +11,8 @@ use Rattle.fj_acts.specs.State.{core_of}
 use Rattle.fj_acts.proofs.FailingLemmas.{fails_as, fails_since, fails_closing}
 use Rattle.fj_acts.proofs.OpeningLemmas.{meant}
 use Rattle.fj_acts.proofs.StepLemmas.{closed_goes_on, due_stands}
+use Rattle.fj_acts.specs.Having.{IsFreeNext}
+use Rattle.fj_acts.proofs.HavingLemmas.{closed_has, comes_due}
 use Rattle.fj_acts.proofs.steps.closed.Goals as goal
 
 pub close_file-requires : goal.close_file-requires
@@ -32,7 +34,7 @@ returns-in-Ok-clause-doing g c = λ tells conn answer is.
     let what : Statement = c.args.lined.now.what in
     meant g.D.File.FileStore.told g.D.File.FileStore.bytes c.args.variables.now (c.args.lined.now, control_by what) _ c.go_on.result _ _
     (closed_goes_on g.D.File.FileStore.told g.D.File.FileStore.bytes (core_of (files_of held) c.args.core.now) held (g.D.Disk.held c.close_file.new.disk) c.args.number c.args.core.now.names c.args.connection conn _ c.args.keep answer
-    what c.args.after _ (sym c.if-not-is_due.ensures) is refl (c.in-Ok.ensures.back tells) c.remove-2.ensures)
+    what c.args.after _ (sym c.if-not-is_due.ensures) is refl (c.in-Ok.ensures.back tells) c.remove-2.ensures.left)
     (c.go_on.ensures.doing (c.in-Ok.ensures.telling.0 tells))
 
 pub returns-in-Err-clause-names : goal.returns-in-Err-clause-names
@@ -47,7 +49,7 @@ returns-in-Ok-clause-fault g c = λ tells conn answer is lost.
     fails_since _ c.go_on.new.core (g.D.Disk.held c.go_on.new.disk) (g.D.Disk.refusals c.args.disk.now) (g.D.Disk.refusals c.close_file.new.disk) (g.D.Disk.refusals c.go_on.new.disk) (c.in-Ok.ensures.own tells)
     (fails_as _ _ c.go_on.new.core (g.D.Disk.held c.go_on.new.disk) (g.D.Disk.refusals c.close_file.new.disk) (g.D.Disk.refusals c.go_on.new.disk)
     (closed_goes_on g.D.File.FileStore.told g.D.File.FileStore.bytes (core_of (files_of held) c.args.core.now) held (g.D.Disk.held c.close_file.new.disk) c.args.number c.args.core.now.names c.args.connection conn _ c.args.keep answer
-    what c.args.after _ (sym c.if-not-is_due.ensures) is refl (c.in-Ok.ensures.back tells) c.remove-2.ensures)
+    what c.args.after _ (sym c.if-not-is_due.ensures) is refl (c.in-Ok.ensures.back tells) c.remove-2.ensures.left)
     (c.go_on.ensures.fault (c.in-Ok.ensures.telling.0 tells) lost))
 
 pub returns-in-Err-clause-fault : goal.returns-in-Err-clause-fault
@@ -56,6 +58,25 @@ returns-in-Err-clause-fault g c = λ tells conn answer is lost.
     let left : Holdings = g.D.Disk.held c.close_file.new.disk in
     fails_closing g.D.File.FileStore.told g.D.File.FileStore.bytes (core_of (files_of held) c.args.core.now) held left c.args.number c.args.core.now.names c.args.connection conn c.args.keep answer
     c.args.lined.now.what c.args.after _ (g.D.Disk.refusals c.args.disk.now) (g.D.Disk.refusals c.close_file.new.disk)
-    (sym c.if-not-is_due.ensures) is refl c.remove-2.ensures (c.in-Err.ensures.own tells).1
+    (sym c.if-not-is_due.ensures) is refl c.remove-2.ensures.left (c.in-Err.ensures.own tells).1
     (due_back held left c.args.connection.name (g.D.File.FileStore.bytes c.args.connection.file) _ c.args.keep c.close_file.result (g.D.Disk.refusals c.args.disk.now) (g.D.Disk.refusals c.close_file.new.disk)
     (c.close_file.ensures.back tells) (c.close_file.ensures.err tells) c.close_file.ensures.kept (c.close_file.ensures.own tells))
+
+pub returns-in-Ok-clause-files : goal.returns-in-Ok-clause-files
+returns-in-Ok-clause-files g c = λ have.
+    let core = c.args.core.now in
+    c.go_on.ensures.files (subst (IsFreeNext c.args.after c.args.lined.now.what) (sym c.remove-2.ensures.left) have.2)
+    (closed_has core.units c.remove-2.new.self c.args.number core.names c.remove.new.self c.args.connection.name (sym c.if-not-is_due.ensures) (c.remove.ensures ∙ ap (left_of core.names) c.name.ensures) have.0 c.remove-2.ensures.files)
+
+pub returns-in-Ok-clause-fits : goal.returns-in-Ok-clause-fits
+returns-in-Ok-clause-fits g c = λ have comes.
+    let core = c.args.core.now in
+    c.go_on.ensures.fits (subst (IsFreeNext c.args.after c.args.lined.now.what) (sym c.remove-2.ensures.left) have.2)
+    (closed_has core.units c.remove-2.new.self c.args.number core.names c.remove.new.self c.args.connection.name (sym c.if-not-is_due.ensures) (c.remove.ensures ∙ ap (left_of core.names) c.name.ensures) have.0 c.remove-2.ensures.files)
+
+pub returns-then-not-is_due-clause-fits : goal.returns-then-not-is_due-clause-fits
+returns-then-not-is_due-clause-fits g c = λ have comes e.
+    let core = c.args.core.now in
+    let due = comes_due core.units c.args.number core.names c.args.connection.name c.args.lined.now.what c.args.keep c.args.after have comes in
+    let z : false ≡ true = c.if-not-is_due.ensures ∙ due in
+    absurd (let bad : ⊥ = cc in bad)

@@ -11,6 +11,8 @@ use Rattle.fj_acts.proofs.ClosingLemmas.{connects_is}
 use Rattle.fj_acts.proofs.FailingLemmas.{fails_as}
 use Rattle.fj_acts.proofs.OpeningLemmas.{meant}
 use Rattle.fj_acts.proofs.StepLemmas.{asks_to_open}
+use Rattle.fj_plain.specs.Connecting.{file_due}
+use Rattle.fj_acts.proofs.HavingLemmas.{free_of}
 use Rattle.fj_acts.proofs.steps.go_on.Goals as goal
 
 pub returns-in-ClosesAll-clause-doing : goal.returns-in-ClosesAll-clause-doing
@@ -41,3 +43,18 @@ returns-in-Ok-clause-fault g c = λ tells lost.
     (sym (connects_is what c.in-Connects.number c.in-OpenUnit.spec c.in-Ok.modes core (asks_to_open what c.in-OpenUnit.unit c.in-OpenUnit.spec c.in-OpenUnit.iostat c.in-OpenUnit.is) (sym c.settle_open.ensures.settled ∙ c.in-Ok.is))
     ∙ ap (goes_on what core) (sym c.in-Connects.is))
     (c.connect.ensures.fault tells lost)
+
+pub returns-in-ClosesAll-clause-files : goal.returns-in-ClosesAll-clause-files
+returns-in-ClosesAll-clause-files g c = λ free have. c.close_all.ensures.files c.args.lined.now.what have
+
+pub returns-in-Ok-clause-files : goal.returns-in-Ok-clause-files
+returns-in-Ok-clause-files g c = λ free have.
+    let what : Statement = c.args.lined.now.what in
+    let f = free_of c.args.after c.in-Connects.number what c.in-OpenUnit.spec c.args.core.now.units c.in-Connects.is (asks_to_open what c.in-OpenUnit.unit c.in-OpenUnit.spec c.in-OpenUnit.iostat c.in-OpenUnit.is) free in
+    c.connect.ensures.files what f.0 f.1 have
+
+pub returns-in-Ok-clause-fits : goal.returns-in-Ok-clause-fits
+returns-in-Ok-clause-fits g c = λ free have.
+    let what : Statement = c.args.lined.now.what in
+    let f = free_of c.args.after c.in-Connects.number what c.in-OpenUnit.spec c.args.core.now.units c.in-Connects.is (asks_to_open what c.in-OpenUnit.unit c.in-OpenUnit.spec c.in-OpenUnit.iostat c.in-OpenUnit.is) free in
+    c.connect.ensures.fits (have.0 (file_due c.in-OpenUnit.spec c.in-Connects.number) ∙ f.1)

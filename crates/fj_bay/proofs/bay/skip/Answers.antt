@@ -1,11 +1,11 @@
-use Rattle.std.proofs.Common.{◌≡◌, true, false, refl, sym, ◌∙◌}
+use Rattle.std.proofs.Common.{◌≡◌, true, false, ap, sym, ◌∙◌}
 use Rattle.fj_transfer.proofs.Kept.{kept}
 use Rattle.fj_bay.proofs.bay.skip.Goals as goal
 
 pub invariant_of-job : goal.invariant_of-job
 invariant_of-job c =
     let job = c.args.job.now in
-    let is = kept job.spec.layout job.moved (record job.moved { cells = c.undefine.new.cells }) refl c.undefine.ensures.places (record { distinct = job.distinct; ordered = job.ordered; few = job.few; grouped = job.grouped }) in
+    let is = kept job.spec.layout job.moved c.undefine.new.self (ap (λ m. m.order) c.undefine.ensures.values) c.undefine.ensures.places (record { distinct = job.distinct; ordered = job.ordered; few = job.few; grouped = job.grouped }) in
     record {
       distinct = is.distinct;
       single = job.single;

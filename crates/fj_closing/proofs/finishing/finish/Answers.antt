@@ -2,6 +2,7 @@ use Rattle.fj_closing.proofs.Others.{others_run}
 use Rattle.fj_closing.proofs.Running.{slots_running}
 use Rattle.fj_units.specs.Files.{files_of}
 use Rattle.fj_closing.proofs.Finding.{slots_leave}
+use Rattle.fj_closing.proofs.Holding.{units_own, slots_owned, none_left}
 use Rattle.fj_closing.proofs.finishing.finish.Goals as goal
 
 pub returns-clause-files : goal.returns-clause-files
@@ -36,3 +37,12 @@ pub returns-clause-found : goal.returns-clause-found
 returns-clause-found g c = λ tells may.
     slots_leave g.D.File.FileStore.told g.D.File.FileStore.bytes g.D.File.FileStore.count c.args.slots.slots c.what_remains-all.result.items c.what_remains-all.ensures.each
     (files_of (g.D.Disk.held c.close_units.new.disk)) c.args.units.now (c.close_units.ensures.found tells may)
+
+pub returns-clause-whole : goal.returns-clause-whole
+returns-clause-whole g c = λ hold files.
+    let all = c.what_remains-all.result.items in
+    let own = units_own g.D.File.FileStore.told g.D.File.FileStore.bytes g.D.File.FileStore.count c.args.slots all c.what_remains-all.ensures.each c.args.units.now hold c.args.names.now files in
+    let owned = slots_owned g.D.File.FileStore.told g.D.File.FileStore.bytes g.D.File.FileStore.count c.args.slots all c.what_remains-all.ensures.each c.args.units.now hold in (
+      c.close_units.ensures.fits own owned,
+      none_left g.D.File.FileStore.told g.D.File.FileStore.bytes g.D.File.FileStore.count c.args.names.now c.close_units.new.names all c.args.units.now files own c.close_units.ensures.lessens c.close_units.ensures.back,
+    )

@@ -3,10 +3,10 @@ use Rattle.fj_deck.proofs.laws.one_answer.Goals as goal
 
 pub returns : goal.returns
 returns c =
-    let syntax = c.one_meaning.ensures in
+    let reading = c.one_meaning.ensures in
     let meaning = c.one_meaning-2.ensures in
     record {
-      deck = one_deck syntax.statement syntax.blank meaning;
-      apart = none_is_both syntax.statement syntax.blank meaning;
-      refusal = one_refusal syntax.statement syntax.blank meaning;
+      deck = one_deck reading meaning;
+      apart = none_is_both reading meaning;
+      refusal = one_refusal reading meaning;
     }

@@ -15,12 +15,12 @@ copy_of-requires-clause-size c =
     let is : c.push_back.new.self.items ≡ Places c.of_place-run.result ∷ [] = pushed_alone c.of_place-run.result c.new-pieces.result.items c.push_back.new.self.items c.new-pieces.ensures.items c.in-Ok.ensures.items in
     among_size c.of_place-run.result c.in-Some.place c.push_back.new.self.items c.of_place-run.ensures is
 
-pub returns-in-Some-found-clause-moved : goal.returns-in-Some-found-clause-moved
-returns-in-Some-found-clause-moved c =
+pub returns-in_ok-moved-in-Some-found-clause-moved : goal.returns-in_ok-moved-in-Some-found-clause-moved
+returns-in_ok-moved-in-Some-found-clause-moved c =
     let is : c.push_back.new.self.items ≡ Places c.of_place-run.result ∷ [] = pushed_alone c.of_place-run.result c.new-pieces.result.items c.push_back.new.self.items c.new-pieces.ensures.items c.in-Ok.ensures.items in
     let made = subst (λ o. IfSome o (λ (copied : Copied). copied.moved ≡ moved_of (cells_in c.args.store.now c.push_back.new.self.items))) c.in-Some-found.is c.in_ok-found.ensures.moved in
-    size_cell c.args.variables.now c.args.store.now c.args.size c.in-Some.place c.in-Some-found.copied.moved c.in-Some.is c.requires
-    (among_cell c.args.store.now c.of_place-run.result c.in-Some.place c.push_back.new.self.items c.in-Some-found.copied.moved c.of_place-run.ensures is made)
+    size_cell c.args.variables.now c.args.store.now c.args.size c.in-Some.place c.in_ok-moved-in-Some-found.moved c.in-Some.is c.requires
+    (c.in_ok-moved-in-Some-found.ensures.moved ∙ among_cell c.args.store.now c.of_place-run.result c.in-Some.place c.push_back.new.self.items c.in-Some-found.copied.moved c.of_place-run.ensures is made)
 
 pub returns-in-None-clause-fits : goal.returns-in-None-clause-fits
 returns-in-None-clause-fits c = λ home few _.

@@ -1,5 +1,3 @@
-use Rattle.std.proofs.Common.{◌∙◌, ap}
-use Rattle.fj_plain.specs.Transfers.{layout_of}
 use Rattle.std.proofs.lemmas.Bool.{false≢true}
 use Rattle.fj_items.proofs.Finds.{layout_grouped}
 use Rattle.fj_items.proofs.Takes.{job_is}
@@ -8,9 +6,9 @@ use Rattle.fj_items.proofs.taking.job_with.Goals as goal
 pub returns-clause-job : goal.returns-clause-job
 returns-clause-job c =
     job_is c.args.variables.now c.args.line c.args.tag.0 c.args.t.now c.args.parts.moved c.args.parts.size c.args.parts.rec c.args.parts.pos c.in_ok-layout.layout c.edit_of.result c.unwrap_or.result
-    (c.in_ok-layout.ensures ∙ ap (λ cells. layout_of c.args.variables.now cells c.args.t.now.control) c.as_slice.ensures) c.edit_of.ensures c.unwrap_or.ensures
+    c.in_ok-layout.ensures c.edit_of.ensures c.unwrap_or.ensures
 
 pub returns-then-not-is_grouped-clause-fits : goal.returns-then-not-is_grouped-clause-fits
 returns-then-not-is_grouped-clause-fits c = λ within _ _.
-    let same = layout_grouped c.args.variables.now c.args.t.now.control c.args.parts.moved.cells c.as_slice.result.now c.in_ok-layout.layout c.len.result c.as_slice.ensures c.len.ensures c.in_ok-layout.ensures within in
+    let same = layout_grouped c.args.variables.now c.args.t.now.control c.args.parts.moved.cells c.in_ok-layout.layout c.len.result c.len.ensures c.in_ok-layout.ensures within in
     absurd (false≢true (c.if-not-is_grouped.ensures.1 same))

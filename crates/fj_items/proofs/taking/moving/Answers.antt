@@ -30,11 +30,11 @@ pub returns-then-t-clause-job : goal.returns-then-t-clause-job
 returns-then-t-clause-job c =
     let t : Stated = c.args.t.now in
     let s : Storage = c.args.store.now in
-    let parts : Moving = job_parts c.args.variables.now c.args.line c.args.tag.0 t c.in_ok-moved.moved c.in_ok-size.size c.number_given-rec.result c.number_given-pos.result
-    (layout_of c.args.variables.now c.in_ok-moved.moved.cells t.control) (record { blank_zero = t.blank_zero; comma = t.comma; delim = t.delim; pad = t.pad; plus = t.plus }) (unwrap_or t.advance true) (control_by (Transfer t)) in
+    let parts : Moving = job_parts c.args.variables.now c.args.line c.args.tag.0 t c.of_cells.result c.in_ok-size.size c.number_given-rec.result c.number_given-pos.result
+    (layout_of c.args.variables.now c.of_cells.result.cells t.control) (record { blank_zero = t.blank_zero; comma = t.comma; delim = t.delim; pad = t.pad; plus = t.plus }) (unwrap_or t.advance true) (control_by (Transfer t)) in
     let due : Moving = moving_of (control_by (Transfer t)) c.args.variables.now c.args.line c.args.tag.0 (values_of s) t (moved_in c.args.variables.now (values_of s) t) in
     let same : parts ≡ due =
-    moving_is c.args.variables.now (values_of s) c.args.line c.args.tag.0 t c.in_ok-moved.moved c.in_ok-size.size c.number_given-rec.result c.number_given-pos.result c.in_ok-moved.ensures.moved
+    moving_is c.args.variables.now (values_of s) c.args.line c.args.tag.0 t c.of_cells.result c.in_ok-size.size c.number_given-rec.result c.number_given-pos.result (c.of_cells.ensures ∙ c.in_ok-moved.ensures.moved)
     (input_size c.args.variables.now s c.taken.new.store t c.in_ok-size.size c.in_ok-size.ensures.moved c.in_ok-size.ensures.home c.in_ok-moved.ensures.others)
     (c.number_given-rec.ensures ∙ ap (number_given (values_of s)) c.as_ref.ensures.value) (c.number_given-pos.ensures ∙ ap (number_given (values_of s)) c.as_ref-2.ensures.value) in
     if_more c.job_with.result (λ (job : Job). job_of job ≡ parts) (λ (job : Job). job_of job ≡ due) (λ job e. e ∙ same) c.job_with.ensures.job
@@ -42,7 +42,7 @@ returns-then-t-clause-job c =
 pub returns-then-t-clause-fits : goal.returns-then-t-clause-fits
 returns-then-t-clause-fits c = λ is finds.
     let reads : c.args.t.now.input ≡ true = grind arith in
-    c.job_with.ensures.fits (grouped c.args.variables.now (values_of c.args.store.now) c.args.t.now c.in_ok-moved.moved is c.in_ok-moved.ensures.moved) (λ writes. absurd (false≢true (sym writes ∙ reads)))
+    c.job_with.ensures.fits (grouped c.args.variables.now (values_of c.args.store.now) c.args.t.now c.of_cells.result is (c.of_cells.ensures ∙ c.in_ok-moved.ensures.moved)) (λ writes. absurd (false≢true (sym writes ∙ reads)))
 
 pub returns-clause-fits : goal.returns-clause-fits
 returns-clause-fits c = λ is finds.

@@ -1,14 +1,14 @@
 use Rattle.std.proofs.Common.{inl, refl, sym, arith}
 use Rattle.fj_job.specs.declared.task.Task.TheVariants.{Refuse, Check, Execute, Generate}
 use Rattle.fj_job.proofs.ReplyLaws.{ended_by}
-use Rattle.fj_job.proofs.ToldLaws.{told_for, told_without, told_refused, told_unread, no_words, no_check, cause_more, no_read}
+use Rattle.fj_job.proofs.RunLaws.{run_for, run_without, run_refused, run_unread, no_words, no_check, cause_more, no_read}
 use Rattle.fj_job.proofs.asked.answer.Goals as goal
 
 pub returns-in-Refuse : goal.returns-in-Refuse
 returns-in-Refuse g c =
     record {
       asked = record {
-        told = λ disk. told_for Refuse c.args.task _ _ _ _ (sym c.in-Refuse.is) (told_refused c.refuse_words.result _ _ disk c.refuse_words.ensures.usage c.refuse_words.ensures.output
+        told = λ disk. run_for Refuse c.args.task _ _ _ _ (sym c.in-Refuse.is) (run_refused c.refuse_words.result _ _ disk c.refuse_words.ensures.usage c.refuse_words.ensures.output
             c.refuse_words.ensures.front c.refuse_words.ensures.cause (record {
               aside = λ e. (refl, tt);
               check = λ e. tt;
@@ -29,7 +29,7 @@ returns-in-Check g c =
     let it = c.check_source.ensures in
     record {
       asked = record {
-        told = λ disk. told_for Check c.args.task _ _ _ _ (sym c.in-Check.is) (told_without Check c.check_source.result _ _ disk (λ a t. it.replied disk.held.files a t) (record {
+        told = λ disk. run_for Check c.args.task _ _ _ _ (sym c.in-Check.is) (run_without Check c.check_source.result _ _ disk (λ a t. it.replied disk.held.files a t) (record {
           usage = λ q. absurd (it.no_usage q);
           no_form = λ q. no_words Check _ tt q;
           ended = it.ended;
@@ -66,7 +66,7 @@ returns-in-Err g c =
     let task = Execute c.in-Execute.workers c.in-Execute.trace in
     record {
       asked = record {
-        told = λ disk. told_for task c.args.task _ _ _ _ (sym c.in-Execute.is) (told_unread c.in-Execute.workers c.in-Execute.trace c.in-Err.status _ _ disk c.in-Err.ensures.refused c.in-Err.ensures.output
+        told = λ disk. run_for task c.args.task _ _ _ _ (sym c.in-Execute.is) (run_unread c.in-Execute.workers c.in-Execute.trace c.in-Err.status _ _ disk c.in-Err.ensures.refused c.in-Err.ensures.output
             c.in-Err.ensures.front c.in-Err.ensures.cause (record {
               aside = λ q. absurd q;
               check = λ q. no_check task _ tt q;
@@ -88,7 +88,7 @@ returns-in-Generate g c =
     let it = c.make.ensures in
     record {
       asked = record {
-        told = λ disk. told_for task c.args.task _ _ _ _ (sym c.in-Generate.is) (told_without task c.make.result _ _ disk (λ a t. it.replied (g.R.Source.left c.args.deck.now) disk.held.files a) (record {
+        told = λ disk. run_for task c.args.task _ _ _ _ (sym c.in-Generate.is) (run_without task c.make.result _ _ disk (λ a t. it.replied (g.R.Source.left c.args.deck.now) disk.held.files a) (record {
           usage = λ q. absurd (it.no_usage q);
           no_form = λ q. no_words task _ tt q;
           ended = λ t. ended_by c.make.result _ tt;

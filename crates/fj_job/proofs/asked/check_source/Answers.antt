@@ -1,7 +1,7 @@
 use Rattle.fj_job.specs.Taken.{IsReadOf}
 use Rattle.fj_job.specs.declared.task.Task.TheVariants.{Check}
 use Rattle.fj_job.proofs.ReplyLaws.{replied_whole, refused_whole, ended_whole}
-use Rattle.fj_job.proofs.Told.{took_whole}
+use Rattle.fj_job.proofs.Fronts.{took_whole}
 use Rattle.fj_job.specs.Reply.{files_in}
 use Rattle.fj_job.proofs.asked.check_source.Given
 use Rattle.fj_job.proofs.asked.check_source.Goals as goal

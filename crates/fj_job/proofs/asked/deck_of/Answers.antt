@@ -1,6 +1,6 @@
 use Rattle.fj_job.specs.Taken.{IsReadOf}
-use Rattle.fj_job.proofs.ToldLaws.{unread_whole}
-use Rattle.fj_job.proofs.Told.{front_whole}
+use Rattle.fj_job.proofs.RunLaws.{unread_whole}
+use Rattle.fj_job.proofs.Fronts.{front_whole}
 use Rattle.fj_job.proofs.asked.deck_of.Given
 use Rattle.fj_job.proofs.asked.deck_of.Goals as goal
 

@@ -49,6 +49,13 @@ returns-clause-names g c = λ t.
     let d = c.disk-1.given.1 (sym rests.same_disk) in
     rw (d, m) (c.serve_with.new.script.names (rests.leaves.telling.0 t))
 
+pub returns-clause-on : goal.returns-clause-on
+returns-clause-on g c =
+    let rests = runner_rests g.W.Sink.tells g.W.Sink.taken g.W.Sink.count g.D.Disk.tells g.D.Disk.count g.D.Disk.refusals (λ r. r.out.ghost_name) (λ r. r.disk.ghost_name) (λ r. r.machine.ghost_name) (λ r. r.out.now) (λ r. r.disk.now) (λ r. r.machine.now)
+    _ (λ a b h. record { same_out = h.same_out; same_disk = h.same_disk; same_machine = h.same_machine; leaves = h.leaves }) _ c.serve_with.new.script c.serve_with.ensures.leads in
+    let m = c.machine-1.given.1 (sym rests.same_machine) in
+    rw m c.serve_with.new.script.on
+
 pub returns-clause-ran : goal.returns-clause-ran
 returns-clause-ran g c = λ t over.
     let rests = runner_rests g.W.Sink.tells g.W.Sink.taken g.W.Sink.count g.D.Disk.tells g.D.Disk.count g.D.Disk.refusals (λ r. r.out.ghost_name) (λ r. r.disk.ghost_name) (λ r. r.machine.ghost_name) (λ r. r.out.now) (λ r. r.disk.now) (λ r. r.machine.now)

@@ -12,5 +12,5 @@ returns g c = record {
       carried_out g.W.Sink.tells g.W.Sink.taken g.W.Sink.count g.D.Disk.tells g.D.Disk.held g.D.Disk.count g.D.Disk.refusals
       (bay_meaning g.D.File.FileStore.told g.D.File.FileStore.bytes g.D.File.FileStore.count)
       g.D.File.FileStore.told g.D.File.FileStore.bytes c.args.deck c.args.out.now c.args.disk.now _ _ _ _ _ _ _ c.in_ok-machine.ensures.begun c.in_ok-machine.ensures.deck
-      c.carry_with.ensures.leaves c.carry_with.ensures.ran c.carry_with.ensures.cut c.carry_with.ensures.ended c.requires.sound c.settle.ensures.settled;
+      c.carry_with.ensures.leaves c.carry_with.ensures.ran c.carry_with.ensures.cut c.carry_with.ensures.ended c.carry_with.ensures.on c.requires.sound c.settle.ensures.settled;
 }

@@ -1,13 +1,12 @@
-use Rattle.std.proofs.Common.{◌≡◌, ◌∙◌, false, Some, None, inl, inr, ap, sym, subst, arith}
+use Rattle.std.proofs.Common.{◌≡◌, ◌==◌, ◌∙◌, ℕ, true, false, List, [], length, Some, None, inl, inr, ap, sym, subst, arith}
 use Rattle.std.specs.FinSet as set
 use Rattle.fj_desk.specs.Desking.{all_left}
 use Rattle.fj_units.specs.Files.{files_of}
 use Rattle.fj_units.specs.Returning.{IsAsDue}
 use Rattle.fj_closing.specs.Closing.{IfClear}
 use Rattle.fj_closing.specs.Losing.{may_tell}
-use Rattle.fj_items.specs.declared.lost.Lost.TheVariants.{Sink, Disk}
-use Rattle.fj_job.proofs.Settling.{none_in_use, empty_by, where_ok, where_none, before, lost_disk, lost_alone, not_sink, not_disk, both_fit}
-use Rattle.std.proofs.Common.{List}
+use Rattle.fj_items.specs.declared.lost.Lost.TheVariants.{Sink, Disk, Unfit}
+use Rattle.fj_job.proofs.Settling.{none_in_use, empty_by, where_ok, where_none, before, lost_disk, lost_alone, not_sink, not_disk, both_fit, never_unfit}
 use Rattle.fj_slot.specs.Sound.{IsSound}
 use Rattle.fj_bay.specs.Bay.{Bay as PlainBay}
 use Rattle.fj_bay.specs.Jobs.{Job as PlainJob}
@@ -125,3 +124,15 @@ returns-in-None-clause-spared g c = λ t e.
     let none = c.in-None.ensures.none in
     let closed = (where_none _ _ none.0 c.first_lost.ensures.none).1 in
     subst (λ d. AreSpared c.args.left.now.core.units (g.D.Disk.held c.args.disk.now) (g.D.Disk.held d)) (sym (where_ok _ _ none.1 c.give_kept-given.ensures.none)) (c.finish-closed.ensures.spared t (ap may_tell closed))
+
+pub returns-then-not-is_empty-clause-whole : goal.returns-then-not-is_empty-clause-whole
+returns-then-not-is_empty-clause-whole g c = λ lost kept hold files e.
+    let none : c.give_kept-given.new.names ≡ [] = (c.give_kept-given.ensures.nothing (c.take-kept.ensures.value ∙ kept)).1 ∙ (c.finish-closed.ensures.whole hold files).1 in
+    let z : true ≡ false = sym (ap (λ (names : List (List ℕ)). length names == 0) none) ∙ sym c.is_empty.ensures ∙ c.if-not-is_empty.true in
+    cc
+
+pub returns-in-Some-clause-whole : goal.returns-in-Some-clause-whole
+returns-in-Some-clause-whole g c = λ lost kept hold files e.
+    let s : Some c.in-Some.lost ≡ Some Unfit = cc in
+    never_unfit c.args.left.now.lost c.first_lost.result (Some c.in-Some.lost) c.finish-closed.result c.give_kept-given.result lost (c.give_kept-given.ensures.nothing (c.take-kept.ensures.value ∙ kept)).0
+    (c.finish-closed.ensures.whole hold files).0 c.first_lost.ensures.unfit c.in-Some.ensures.unfit s

@@ -7,6 +7,9 @@ use Rattle.fj_closing.specs.Closing.{AreSeated, AreNamed, IfClear, OthersRun}
 use Rattle.fj_units.specs.Files.{files_of}
 use Rattle.fj_units.specs.Returning.{IsAsDue}
 use Rattle.fj_units.specs.Names.{stands}
+use Rattle.fj_units.specs.Having.{HaveFiles}
+use Rattle.fj_closing.specs.Holding.{HoldUnits}
+use Rattle.fj_job.proofs.Fronts.{not_lost}
 use Rattle.fj_job.proofs.Settling.{where_ok, lost_then}
 use Rattle.std.proofs.Common.{List}
 use Rattle.fj_slot.specs.Sound.{IsSound}
@@ -46,6 +49,12 @@ returns g c = record {
     spared = λ t e. subst (λ us. AreSpared us (g.D.Disk.held c.args.disk.now) (g.D.Disk.held c.give_back-settled.new.disk)) (ap (λ k. k.units) c.into_left-left.ensures.core) (c.give_back-settled.ensures.spared t e);
     own = c.give_back-settled.ensures.own;
     in_use = c.give_back-settled.ensures.in_use;
+    whole = λ going hold files.
+        let core = c.into_left-left.ensures.core in
+        let m = c.args.machine in
+        c.give_back-settled.ensures.whole (c.into_left-left.ensures.lost ∙ not_lost m.tally.lost m.tally.over m.tally.lost_over going) (c.into_left-left.ensures.kept ∙ not_lost m.kept m.tally.over m.refused going)
+        (subst (λ (k : Core). HoldUnits (bay_meaning g.D.File.FileStore.told g.D.File.FileStore.bytes g.D.File.FileStore.count) c.args.slots k.units) (sym core) hold)
+        (subst (λ (k : Core). HaveFiles k.names k.units) (sym core) files);
     telling = c.give_back-settled.ensures.telling;
     later = c.give_back-settled.ensures.later;
   };

@@ -1,11 +1,11 @@
 use Rattle.std.proofs.Common.{◌∙◌, ap, refl, arith}
 use Rattle.fj_job.specs.Task.{task_of}
 use Rattle.fj_job.proofs.AskedLaws.{answered_told, executed_told}
-use Rattle.fj_job.proofs.ToldLaws.{told_nothing}
+use Rattle.fj_job.proofs.RunLaws.{run_nothing}
 use Rattle.fj_job.proofs.job.run_job.Goals as goal
 
 pub returns-in_default : goal.returns-in_default
-returns-in_default g c = told_nothing _ _ _ _ refl refl refl refl (((λ t. t, λ t. t), omega arith), ((λ t. t, λ t. t), omega arith), ((λ t. t, λ t. t), omega arith))
+returns-in_default g c = run_nothing _ _ _ _ refl refl refl refl (((λ t. t, λ t. t), omega arith), ((λ t. t, λ t. t), omega arith), ((λ t. t, λ t. t), omega arith))
 
 pub returns-in-Answered : goal.returns-in-Answered
 returns-in-Answered g c =

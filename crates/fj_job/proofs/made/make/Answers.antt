@@ -1,6 +1,6 @@
 use Rattle.fj_report.specs.declared.status.Status.TheVariants.{Ended}
 use Rattle.fj_job.proofs.MadeReplies.{shown_reply, run_reply, shown_taken, run_taken}
-use Rattle.fj_job.proofs.ToldLaws.{answered}
+use Rattle.fj_job.proofs.RunLaws.{answered}
 use Rattle.fj_job.specs.Reply.{files_in}
 use Rattle.fj_job.proofs.made.make.Goals as goal
 

@@ -1,7 +1,7 @@
 use Rattle.std.proofs.Common.{◌∙◌, rules}
 use Rattle.fj_report.specs.declared.status.Status.TheVariants.{DeckRefused}
 use Rattle.fj_job.proofs.MadeReplies.{made_reply, unmade_reply, made_taken, unmade_taken}
-use Rattle.fj_job.proofs.ToldLaws.{answered}
+use Rattle.fj_job.proofs.RunLaws.{answered}
 use Rattle.fj_job.specs.Reply.{files_in}
 use Rattle.fj_job.proofs.made.make_and_run.Goals as goal
 

@@ -1,7 +1,7 @@
 use Rattle.std.proofs.Common.{inr}
 use Rattle.fj_runner.specs.Machine.{ending_of}
 use Rattle.fj_job.specs.Reply.{status_of}
-use Rattle.fj_job.proofs.ToldLaws.{answered}
+use Rattle.fj_job.proofs.RunLaws.{answered}
 use Rattle.fj_job.proofs.made.report_made.Goals as goal
 
 pub returns-in-Some-clause-made : goal.returns-in-Some-clause-made
@@ -9,8 +9,8 @@ returns-in-Some-clause-made g c = λ a. record {
   going = c.in-Some.ensures.0;
   ending = c.in-Some.ending;
   ends = c.in-Some.ensures.1;
-  status_is = answered c.tell_made.result (status_of (ending_of c.in-Some.ending)) _ c.tell_made.ensures.status a (λ e. e);
-  output = λ t. c.tell_made.ensures.output a t;
+  status_is = answered c.write_made.result (status_of (ending_of c.in-Some.ending)) _ c.write_made.ensures.status a (λ e. e);
+  output = λ t. c.write_made.ensures.output a t;
 }
 
 pub returns-in-Some-clause-front : goal.returns-in-Some-clause-front
@@ -19,5 +19,5 @@ returns-in-Some-clause-front g c = λ w. inr (record {
   going = c.in-Some.ensures.0;
   ending = c.in-Some.ending;
   ends = c.in-Some.ensures.1;
-  taken = c.tell_made.ensures.front w;
+  taken = c.write_made.ensures.front w;
 })

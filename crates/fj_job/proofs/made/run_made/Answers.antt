@@ -2,8 +2,8 @@ use Rattle.std.proofs.Common.{inl, ap}
 use Rattle.fj_job.proofs.Executed.{makes}
 use Rattle.fj_job.proofs.Leading.{rose_of}
 use Rattle.fj_job.proofs.Reported.{made_front, part_of_made}
-use Rattle.fj_job.proofs.Told.{front_of_same}
-use Rattle.fj_job.proofs.ToldLaws.{cause_more}
+use Rattle.fj_job.proofs.Fronts.{front_of_same}
+use Rattle.fj_job.proofs.RunLaws.{cause_more}
 use Rattle.fj_job.specs.Reply.{files_in}
 use Rattle.fj_job.proofs.made.run_made.Goals as goal
 

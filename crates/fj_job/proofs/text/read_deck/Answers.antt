@@ -1,6 +1,6 @@
 use Rattle.std.proofs.Common.{rules}
 use Rattle.fj_deck.specs.Deck.{IsRefused}
-use Rattle.fj_job.proofs.ToldLaws.{unread_of}
+use Rattle.fj_job.proofs.RunLaws.{unread_of}
 use Rattle.fj_job.proofs.text.read_deck.Goals as goal
 
 pub returns-in-Err-Refused-clause-refused : goal.returns-in-Err-Refused-clause-refused

@@ -10,15 +10,15 @@ use Rattle.fj_pending.proofs.deliver.give.Goals as goal
 
 pub returns-clause-values : goal.returns-clause-values
 returns-clause-values c =
-    let done : c.all_fit.result ≡ true = search rules in
-    let fit : list_all (fits_cell c.args.variables.now) c.args.transfer.moved.cells ≡ true = ap (list_all (fits_cell c.args.variables.now)) (sym c.as_slice.ensures) ∙ sym c.all_fit.ensures ∙ done in
-    let back : values_of c.give_back.new.self ≡ given_back c.args.transfer.moved.cells (values_of c.args.store.now) =
-    ap values_of c.give_back.ensures ∙ given_plain c.args.store.now c.args.variables.now c.args.transfer.moved.cells c.requires fit in
+    let done : c.load_fits.result ≡ true = search rules in
+    let fit : list_all (fits_cell c.args.variables.now) c.args.transfer.moved.cells ≡ true = sym c.load_fits.ensures ∙ done in
+    let back : values_of c.give_load.new.self ≡ given_back c.args.transfer.moved.cells (values_of c.args.store.now) =
+    ap values_of c.give_load.ensures ∙ given_plain c.args.store.now c.args.variables.now c.args.transfer.moved.cells c.requires fit in
     subst (λ vs. OnOk c.give_size.result (values_of c.give_size.new.store ≡ with_size c.args.variables.now c.args.size c.args.transfer.count vs)) back c.give_size.ensures.values
 
-pub returns-then-not-all_fit-clause-fits : goal.returns-then-not-all_fit-clause-fits
-returns-then-not-all_fit-clause-fits c = λ all _ _.
-    let none : c.all_fit.result ≡ false = search rules in
+pub returns-then-not-load_fits-clause-fits : goal.returns-then-not-load_fits-clause-fits
+returns-then-not-load_fits-clause-fits c = λ all _ _.
+    let none : c.load_fits.result ≡ false = search rules in
     let fit : list_all (fits_cell c.args.variables.now) c.args.transfer.moved.cells ≡ true = all_pass (fits_cell c.args.variables.now) c.args.transfer.moved.cells all in
-    let never : true ≡ false = sym fit ∙ ap (list_all (fits_cell c.args.variables.now)) (sym c.as_slice.ensures) ∙ sym c.all_fit.ensures ∙ none in
+    let never : true ≡ false = sym fit ∙ sym c.load_fits.ensures ∙ none in
     cc

@@ -7,12 +7,12 @@ use Rattle.fj_transfer.proofs.print.print_group.Goals as goal
 
 pub returns-clause-records : goal.returns-clause-records
 returns-clause-records c =
-    let written = c.put_group-written in
-    is_appended (at_hand c.new-page.result c.args.out.now) (first_record c.args.recl c.args.begun) (record_actions (group_written c.args.modes c.args.name.now c.args.members.now c.args.cells.now)) written.result c.finished.result c.new-page.result written.new.page c.args.out.now written.new.text c.finished.new.text c.len-end.result
+    let written = c.put_cells-written in
+    is_appended (at_hand c.new-page.result c.args.out.now) (first_record c.args.recl c.args.begun) (record_actions (group_written c.args.modes c.args.name.now c.args.members.now c.args.moved.now.cells)) written.result c.finished.result c.new-page.result written.new.page c.args.out.now written.new.text c.finished.new.text c.len-end.result
     c.new-page.ensures.hand c.new-page.ensures.begin c.len-end.ensures written.ensures.done written.ensures.within written.ensures.kept c.finished.ensures.ok c.finished.ensures.err c.finished.ensures.told
 
 pub returns-clause-err : goal.returns-clause-err
 returns-clause-err c =
-    let written = c.put_group-written in
+    let written = c.put_cells-written in
     is_kept written.result c.finished.result c.new-page.result written.new.page c.args.out.now written.new.text c.finished.new.text c.len-end.result
     c.new-page.ensures.begin c.len-end.ensures written.ensures.kept c.finished.ensures.ok c.finished.ensures.err

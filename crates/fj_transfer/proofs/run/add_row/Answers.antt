@@ -17,7 +17,7 @@ pub returns-in-Ok-clause-done : goal.returns-in-Ok-clause-done
 returns-in-Ok-clause-done c = λ more.
     let page = c.args.page.now in
     let old = c.args.text.now in
-    let all = integers_in c.args.cells.now in
+    let all = integers_in c.args.kind c.args.values.now in
     let f : ℤ → List ℕ = integer_field c.args.plus (c.args.w, None) in
     let whole : take c.in_ok-count.count all ≡ all = ap (λ n. take n all) c.in_ok-count.ensures.count ∙ take-length all in
     ap (λ ns. carried_out (at_hand page old) (row_of c.args.plus c.args.w ns ++ more)) whole
@@ -27,7 +27,7 @@ pub returns-in-Ok-clause-texts : goal.returns-in-Ok-clause-texts
 returns-in-Ok-clause-texts c = λ more.
     let page = c.args.page.now in
     let old = c.args.text.now in
-    let all = integers_in c.args.cells.now in
+    let all = integers_in c.args.kind c.args.values.now in
     let f : ℤ → List ℕ = integer_field c.args.plus (c.args.w, None) in
     let whole : take c.in_ok-count.count all ≡ all = ap (λ n. take n all) c.in_ok-count.ensures.count ∙ take-length all in
     ap (λ ns. texts_from (at_hand page old).line (row_of c.args.plus c.args.w ns ++ more)) whole

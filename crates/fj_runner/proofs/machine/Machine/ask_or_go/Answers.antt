@@ -1,10 +1,11 @@
-use Rattle.std.proofs.Common.{ap}
+use Rattle.std.proofs.Common.{ap, sym, subst}
 use Rattle.fj_plain.specs.State.{Files}
 use Rattle.fj_units.specs.Files.{files_of}
 use Rattle.fj_turns.specs.Run.{Start}
 use Rattle.fj_runner.specs.Machine.{run_at}
 use Rattle.fj_runner.proofs.GivingUp.{fails_like, on_err_by}
 use Rattle.fj_runner.proofs.Going.{none_has}
+use Rattle.fj_runner.specs.Fitting.{HasRoom}
 use Rattle.fj_runner.proofs.machine.Machine.ask_or_go.Goals as goal
 
 pub returns-in-None-clause-fails : goal.returns-in-None-clause-fails
@@ -18,3 +19,13 @@ returns-in-None-clause-fails g c = λ tells t i.
     on_err_by c.go.result _ _
     (λ f. (r, passed, fails_like _ (g.W.Sink.tells c.args.out.now) (taken c.args.out.now) (taken c.go.new.out) r m mid c.go.new.self (ap (λ s. s.core.output) c.asked_by.ensures.state) f))
     (c.go.ensures.fails tells)
+
+pub returns-in-Some-clause-on : goal.returns-in-Some-clause-on
+returns-in-Some-clause-on g c = λ s st more here have counts few. c.asked_by.ensures.on s st more here have counts few
+
+pub returns-in-None-clause-on : goal.returns-in-None-clause-on
+returns-in-None-clause-on g c = λ s st more here have counts few.
+    c.go.ensures.on (c.in-None.ensures.start s st more here have counts few) (c.asked_by.ensures.on s st more here have counts few)
+
+pub go-requires-clause-room : goal.go-requires-clause-room
+go-requires-clause-room g c = subst (λ s. HasRoom s.sent.items) (sym c.asked_by.ensures.state) (c.requires.room c.in-None.ensures.behind)

@@ -1,9 +1,12 @@
-use Rattle.std.proofs.Common.{◌+◌, List, drop, ap, subst}
+use Rattle.std.proofs.Common.{◌+◌, List, drop, ap, subst, refl, sym}
 use Rattle.fj_plain.specs.Statement.{Stated, stated}
 use Rattle.fj_turns.specs.Passing.{passed_by}
 use Rattle.fj_runner.specs.Machine.{rest_of}
 use Rattle.fj_runner.specs.Turned.{IsTurn}
 use Rattle.fj_runner.proofs.NextAsks.{passes_goes}
+use Rattle.fj_runner.specs.Going.{Counts, HaveTurned}
+use Rattle.fj_runner.proofs.Counting.{on_paused, on_passed, on_stopped}
+use Rattle.fj_runner.specs.Going.{DoesNotPause}
 use Rattle.fj_runner.proofs.machine.Machine.asked_by.Goals as goal
 
 pub returns-in-Passes-clause-passes : goal.returns-in-Passes-clause-passes
@@ -21,3 +24,48 @@ returns-in-Passes-clause-passed g c = λ files t i.
     let more : List Stated = drop (m.at + 1) (stated m.deck.statements) in
     let it = subst (λ x. IsTurn g.F.FileStore.told g.F.FileStore.bytes m.deck.variables (rest_of m) files m.state x t) c.in-Passes.is i in
     ap (passed_by more) it.1
+
+pub returns-in-Pauses-clause-on : goal.returns-in-Pauses-clause-on
+returns-in-Pauses-clause-on g c = λ s st more here have counts few.
+    let m = c.args.self.now in
+    on_paused m s st more few c.in-Pauses.ask here (subst (λ t. HaveTurned t m.state st.0.what) c.in-Pauses.is have) (subst (λ t. Counts t s m.state) c.in-Pauses.is counts)
+
+pub returns-in-Pauses-clause-sent : goal.returns-in-Pauses-clause-sent
+returns-in-Pauses-clause-sent g c = λ s counts.
+    let m = c.args.self.now in
+    (subst (λ t. Counts t s m.state) c.in-Pauses.is counts).1
+
+pub returns-in-Pauses-clause-slots : goal.returns-in-Pauses-clause-slots
+returns-in-Pauses-clause-slots g c = λ s counts.
+    let m = c.args.self.now in
+    (subst (λ t. Counts t s m.state) c.in-Pauses.is counts).3
+
+pub returns-in-Passes-clause-on : goal.returns-in-Passes-clause-on
+returns-in-Passes-clause-on g c = λ s st more here have counts few.
+    let m = c.args.self.now in
+    let at = subst (λ t. HaveTurned t m.state st.0.what) c.in-Passes.is have in
+    let more_is = subst (λ t. Counts t s m.state) c.in-Passes.is counts in
+    on_passed m s st more few _ refl refl at more_is.0 more_is.2
+
+pub returns-in-Passes-clause-start : goal.returns-in-Passes-clause-start
+returns-in-Passes-clause-start g c = λ s st more here have counts few.
+    let m = c.args.self.now in
+    (subst (λ t. HaveTurned t m.state st.0.what) c.in-Passes.is have).0
+
+pub returns-in-Passes-clause-still : goal.returns-in-Passes-clause-still
+returns-in-Passes-clause-still g c = λ s counts.
+    let m = c.args.self.now in
+    (subst (λ t. Counts t s m.state) c.in-Passes.is counts).1
+
+pub returns-in-Stops-clause-on : goal.returns-in-Stops-clause-on
+returns-in-Stops-clause-on g c = λ s st more here have counts few.
+    let m = c.args.self.now in
+    on_stopped m s st more few (subst (λ t. HaveTurned t m.state st.0.what) c.in-Stops.is have) (subst (λ t. Counts t s m.state) c.in-Stops.is counts).1
+
+pub returns-in-Stops-clause-sent : goal.returns-in-Stops-clause-sent
+returns-in-Stops-clause-sent g c = λ s counts.
+    let m = c.args.self.now in
+    ap (λ l. l.items) (subst (λ t. Counts t s m.state) c.in-Stops.is counts).0
+
+pub returns-in-Passes-clause-behind : goal.returns-in-Passes-clause-behind
+returns-in-Passes-clause-behind g c = subst DoesNotPause (sym c.in-Passes.is) tt

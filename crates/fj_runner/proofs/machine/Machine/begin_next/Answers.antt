@@ -10,6 +10,7 @@ use Rattle.fj_runner.specs.Turned.{IsTurn, IsAsked}
 use Rattle.fj_runner.specs.declared.stage.Stage.TheVariants as stage
 use Rattle.fj_runner.proofs.GivingUp.{fails_for, fails_turn, passed_at}
 use Rattle.fj_runner.proofs.NextAsks.{read_at_hand, goes_at}
+use Rattle.fj_runner.proofs.Counting.{files_at}
 use Rattle.fj_runner.proofs.machine.Machine.begin_next.Goals as goal
 
 pub returns-in-Ok-clause-asks : goal.returns-in-Ok-clause-asks
@@ -73,3 +74,30 @@ returns-in-Err-clause-fails g c = λ tells.
     (c.start.ensures.fails tells more Start) in
     fails_for _ _ (g.W.Sink.tells out) (taken out) (taken out') (run_at files m Start) m _ (λ lost e. cc (c.in-Err.is, e))
     (fails_turn g.W.Sink.tells taken out out' m _ c.start.result c.in-Err.lost st more (run_at files m Start) c.in-Err.is h refl refl c.start.ensures.steps.still f)
+
+pub returns-in-Ok-clause-on : goal.returns-in-Ok-clause-on
+returns-in-Ok-clause-on g c = λ start i.
+    let m = c.args.self.now in
+    let lined = c.index-as_slice-self.result in
+    let st : Stated = (lined, control_by lined.what) in
+    let more : List Stated = drop (m.at + 1) (stated m.deck.statements) in
+    let h = read_at_hand m.deck.statements c.as_slice.result.now m.at lined c.as_slice.ensures c.requires.at c.index-as_slice-self.is in
+    c.asked_by.ensures.on m.state st more h (c.in-Ok.ensures.files (files_at m.state.stage m.state.core.names m.state.core.units lined.what start (i.files st more h))) c.in-Ok.ensures.counts i.few
+
+pub returns-in-Ok-clause-start : goal.returns-in-Ok-clause-start
+returns-in-Ok-clause-start g c = λ start i.
+    let m = c.args.self.now in
+    let lined = c.index-as_slice-self.result in
+    let st : Stated = (lined, control_by lined.what) in
+    let more : List Stated = drop (m.at + 1) (stated m.deck.statements) in
+    let h = read_at_hand m.deck.statements c.as_slice.result.now m.at lined c.as_slice.ensures c.requires.at c.index-as_slice-self.is in
+    c.asked_by.ensures.start m.state st more h (c.in-Ok.ensures.files (files_at m.state.stage m.state.core.names m.state.core.units lined.what start (i.files st more h))) c.in-Ok.ensures.counts i.few
+
+pub returns-in-Ok-clause-sent : goal.returns-in-Ok-clause-sent
+returns-in-Ok-clause-sent g c = c.asked_by.ensures.sent c.args.self.now.state c.in-Ok.ensures.counts
+
+pub returns-in-Ok-clause-still : goal.returns-in-Ok-clause-still
+returns-in-Ok-clause-still g c = c.asked_by.ensures.still c.args.self.now.state c.in-Ok.ensures.counts
+
+pub returns-in-Ok-clause-slots : goal.returns-in-Ok-clause-slots
+returns-in-Ok-clause-slots g c = c.asked_by.ensures.slots c.args.self.now.state c.in-Ok.ensures.counts

@@ -1,9 +1,12 @@
+use Rattle.std.proofs.Common.{sym, subst, ◌∙◌, IfSome}
 use Rattle.fj_turns.specs.Run.{Start}
 use Rattle.fj_units.specs.Files.{files_of}
 use Rattle.fj_runner.specs.Machine.{run_at}
 use Rattle.fj_runner.proofs.GivingUp.{fails_behind, fails_for}
 use Rattle.fj_runner.proofs.Going.{goes_more, none_has}
 use Rattle.fj_runner.proofs.Stepping.{went, given_up, then_steps, err_steps, ok_steps}
+use Rattle.fj_runner.specs.Fitting.{HasRoom}
+use Rattle.fj_runner.specs.Going.{KeepsToSlots, SentFor}
 use Rattle.fj_runner.proofs.machine.Machine.go.Goals as goal
 
 pub loop-self-preserved : goal.loop-self-preserved
@@ -11,6 +14,7 @@ loop-self-preserved g c =
     goes_more g.W.Sink.tells g.W.Sink.taken g.W.Sink.count g.D.Disk.tells g.D.Disk.held g.D.Disk.count g.D.Disk.refusals c.args.out.now c.loop-self.out c.begin_next.new.out c.args.disk.now c.loop-self.disk c.begin_next.new.disk
     c.args.self.now c.loop-self.self c.begin_next.new.self c.in-Ok.asked c.loop-self.invariant c.in-Ok.ensures.steps (λ t. none_has c.in-Ok.asked _ c.in_default.is (c.in-Ok.ensures.passes t))
     (λ t. none_has c.in-Ok.asked _ c.in_default.is (c.in-Ok.ensures.passed t)) c.begin_next.ensures.deck c.begin_next.ensures.tally c.begin_next.ensures.kept
+    (λ h i. (none_has c.in-Ok.asked _ c.in_default.is (c.in-Ok.ensures.start h i), c.in-Ok.ensures.on h i)) (none_has c.in-Ok.asked _ c.in_default.is c.in-Ok.ensures.still) c.begin_next.ensures.heard
 
 pub returns-in-Err-clause-fails : goal.returns-in-Err-clause-fails
 returns-in-Err-clause-fails g c = λ tells.
@@ -39,3 +43,25 @@ returns-in-Some-clause-steps g c =
     let new = c.begin_next.new in
     then_steps c.args.out.now c.loop-self.out new.out c.args.disk.now c.loop-self.disk new.disk m.state.core half.state.core new.self.state.core (tt {0}) (went c.in-Some.ask) c.loop-self.invariant.steps
     (ok_steps c.loop-self.out new.out c.loop-self.disk new.disk half.state.core new.self.state.core c.begin_next.result c.in-Ok.asked c.in-Some.ask c.in-Ok.is c.begin_next.ensures.steps)
+
+pub begin_next-requires-clause-room : goal.begin_next-requires-clause-room
+begin_next-requires-clause-room g c = subst (λ l. HasRoom l.items) (sym c.loop-self.invariant.sent) c.requires.room
+
+pub returns-in-Some-clause-on : goal.returns-in-Some-clause-on
+returns-in-Some-clause-on g c = λ start i.
+    let k = c.loop-self.invariant.on start i in
+    c.in-Ok.ensures.on k.0 k.1
+
+pub returns-in-Some-clause-sent : goal.returns-in-Some-clause-sent
+returns-in-Some-clause-sent g c =
+    let new = c.begin_next.new.self.state.sent.items in
+    subst (λ l. SentFor c.in-Some.ask l.items new) c.loop-self.invariant.sent (subst (λ o. IfSome o (λ ask. SentFor ask c.loop-self.self.state.sent.items new)) c.in-Some.is c.in-Ok.ensures.sent)
+
+pub returns-in-Some-clause-heard : goal.returns-in-Some-clause-heard
+returns-in-Some-clause-heard g c = c.begin_next.ensures.heard ∙ c.loop-self.invariant.heard
+
+pub returns-in-Err-clause-heard : goal.returns-in-Err-clause-heard
+returns-in-Err-clause-heard g c = c.begin_next.ensures.heard ∙ c.loop-self.invariant.heard
+
+pub returns-in-Some-clause-slots : goal.returns-in-Some-clause-slots
+returns-in-Some-clause-slots g c = subst (λ o. IfSome o (λ ask. KeepsToSlots ask c.begin_next.new.self.state)) c.in-Some.is c.in-Ok.ensures.slots

@@ -1,7 +1,10 @@
-use Rattle.std.proofs.Common.{◌≡◌, Some, replicate, ap, ◌∙◌, rules}
+use Rattle.std.proofs.Common.{◌≡◌, Some, replicate, ap, ◌∙◌, rules, None, sym, subst, arith}
+use Rattle.fj_desk.specs.Core.{Core as PlainCore}
 use Rattle.fj_desk.specs.Desking.{fresh}
 use Rattle.fj_plain.specs.Statement.{stated}
 use Rattle.fj_runner.proofs.Made.{run_made}
+use Rattle.fj_runner.specs.Going.{CanCount, asked_for}
+use Rattle.fj_runner.proofs.Counting.{first_can, first_files, first_owes, none_awaited}
 use Rattle.fj_runner.proofs.machine.Machine.new.Goals as goal
 
 pub returns-clause-run : goal.returns-clause-run
@@ -10,3 +13,24 @@ returns-clause-run g c = λ files.
     let told : c.in_ok-vec-2.field-0.items ≡ replicate 16 0 = search rules in
     ap Some (run_made c.args.deck.variables (stated c.args.deck.statements) files _ c.in_ok-core.core.pending c.in_ok-vec.field-0.items c.in_ok-vec-2.field-0.items
     (c.in_ok-core.ensures.core files ∙ ap (λ vs. (fresh vs files).core) c.as_slice.ensures) c.in_ok-core.ensures.pending sent told)
+
+pub returns-clause-on : goal.returns-clause-on
+returns-clause-on g c = λ sound.
+    let sent : c.in_ok-vec.field-0.items ≡ replicate 16 0 = search rules in
+    let told : c.in_ok-vec-2.field-0.items ≡ replicate 16 0 = search rules in
+    let core = c.in_ok-core.ensures.core (λ name. None) in
+    let next : c.in_ok-core.core.next ≡ 1 = ap (λ (k : PlainCore). k.next) core in
+    let t = c.in_ok-tally.ensures in
+    let tally = c.in_ok-tally.tally in
+    let files = first_files c.in_ok-core.core.names c.in_ok-core.core.units c.in_ok-core.ensures.names (ap (λ (k : PlainCore). k.units) core) in
+    record {
+      sound = sound;
+      at = record {
+        files = λ st more e. files;
+        few = λ none. omega (arith, next);
+      };
+      sent = subst (CanCount c.in_ok-vec.field-0.items tally.left) (sym (ap asked_for t.0)) (first_can tally c.in_ok-vec.field-0.items t.5 sent);
+      told = first_can tally c.in_ok-vec-2.field-0.items t.5 told;
+      owes = first_owes tally.hand tally.owed.items c.in_ok-vec.field-0.items c.in_ok-vec-2.field-0.items t.0 t.5 sent told;
+      awaited = none_awaited tally.hand _ t.0;
+    }

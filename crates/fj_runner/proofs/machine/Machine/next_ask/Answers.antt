@@ -10,6 +10,7 @@ use Rattle.fj_runner.specs.Turned.{IsTurn, IsAsked}
 use Rattle.fj_runner.proofs.GivingUp.{fails_behind, fails_for, fails_run, fails_turn, on_err_by, passed_at, passes_one}
 use Rattle.fj_runner.proofs.NextAsks.{read_at_hand, asked_at, not_ended, run_known, rests_asked, ended_asked, done_asked}
 use Rattle.fj_runner.proofs.Stepping.{then_steps}
+use Rattle.fj_runner.proofs.Counting.{room_kept}
 use Rattle.fj_runner.proofs.machine.Machine.next_ask.Goals as goal
 use Rattle.fj_runner.proofs.machine.Machine.next_ask.Goals.{then-is_some-via-then-is_some, then-is_some-via-else-is_some+then-self-len}
 
@@ -102,3 +103,22 @@ returns-then-is_some-clause-asks g c = λ tells r known.
           let low : length m.deck.statements ≤ m.at = omega arith in
           rests_asked told bytes files at r (subst (λ x. run_of told bytes files x ≡ Some r) (sym w.self-is) known) (done_asked files m k.0 r k.2 (sym c.is_some.ensures ∙ w.if-is_some.false) low)
     ]
+
+pub returns-in-Ok-clause-on : goal.returns-in-Ok-clause-on
+returns-in-Ok-clause-on g c = λ i.
+    let m = c.args.self.now in
+    let lined = c.index-as_slice-self.result in
+    let st : Stated = (lined, control_by lined.what) in
+    let more : List Stated = drop (m.at + 1) (stated m.deck.statements) in
+    let low : m.at < length m.deck.statements = omega arith in
+    let h = read_at_hand m.deck.statements c.as_slice.result.now m.at lined c.as_slice.ensures low c.index-as_slice-self.is in
+    c.ask_or_go.ensures.on m.state st more h (c.in-Ok.ensures.files (i.files st more h)) c.in-Ok.ensures.counts i.few
+
+pub returns-in-Ok-clause-sent : goal.returns-in-Ok-clause-sent
+returns-in-Ok-clause-sent g c = c.ask_or_go.ensures.sent c.args.self.now.state c.in-Ok.ensures.counts
+
+pub returns-in-Ok-clause-slots : goal.returns-in-Ok-clause-slots
+returns-in-Ok-clause-slots g c = c.ask_or_go.ensures.slots c.args.self.now.state c.in-Ok.ensures.counts
+
+pub ask_or_go-requires-clause-room : goal.ask_or_go-requires-clause-room
+ask_or_go-requires-clause-room g c = λ no. room_kept c.in-Ok.turned c.args.self.now.state c.turn.new.self c.in-Ok.ensures.counts no c.requires.room

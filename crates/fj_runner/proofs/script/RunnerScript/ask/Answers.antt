@@ -6,6 +6,9 @@ use Rattle.fj_runner.specs.Tallying.{owed_at}
 use Rattle.fj_runner.proofs.GivingUp.{given_up_told}
 use Rattle.fj_runner.proofs.Scripting.{asks_of, asked_told}
 use Rattle.fj_runner.proofs.Tallies.{asking}
+use Rattle.std.proofs.Math.Logic.{∥∥₁_elim, ∥∥₁_map}
+use Rattle.fj_runner.specs.Going.{asked_for}
+use Rattle.fj_runner.proofs.Counting.{at_most_one, owes_prop, room_for, room_prop, still_going}
 use Rattle.fj_runner.proofs.script.RunnerScript.ask.Goals as goal
 
 pub returns : goal.returns
@@ -42,3 +45,26 @@ returns g c =
     (λ r e over. asked_told told bytes count files_after new (g.D.Disk.told disk) (g.D.Disk.told after) (run_of told bytes files m) r c.next_of.result e
     (λ t. (g.met.D.Disk.decided after).1 (it.leaves.telling.0 ((g.met.D.Disk.decided disk).0 t)))
     (λ t known. it.asks ((g.met.D.Disk.decided disk).0 t) r known over))
+
+pub next_of-requires-clause-room : goal.next_of-requires-clause-room
+next_of-requires-clause-room g c = λ over.
+    let old = c.args.self.now in
+    let m = old.machine.now in
+    ∥∥₁_elim old.on (room_prop m.state.sent.items) (λ f. room_for m.state.sent.items m.tally.left (asked_for m.tally.hand) (at_most_one m.tally.hand) (f over).sent)
+
+pub next_of-requires-clause-owes : goal.next_of-requires-clause-owes
+next_of-requires-clause-owes g c = λ over.
+    let old = c.args.self.now in
+    let m = old.machine.now in
+    ∥∥₁_elim old.on (owes_prop m.tally.hand m.tally.owed.items m.state.sent.items m.state.told.items) (λ f. (f over).owes)
+
+pub invariant_of-self : goal.invariant_of-self
+invariant_of-self g c =
+    let old = c.args.self.now in
+    let m = old.machine.now in
+    let new = c.next_of.new.machine in
+    let it = c.next_of.ensures in
+    record {
+      names = λ t. it.names (it.leaves.telling.1 t);
+      on = ∥∥₁_map old.on (λ f over. it.on (f (still_going m.tally.over new.tally.over it.due.over over)) over);
+    }

@@ -1,4 +1,4 @@
-use Rattle.std.proofs.Common.{cond, None, refl, ap}
+use Rattle.std.proofs.Common.{cond, None, refl, ap, sym, subst, arith}
 use Rattle.fj_plain.specs.State.{Files}
 use Rattle.fj_turns.specs.Turns.{told_of}
 use Rattle.fj_units.specs.Files.{files_of}
@@ -7,6 +7,10 @@ use Rattle.fj_runner.specs.Tallying.{due_of}
 use Rattle.fj_runner.proofs.GivingUp.{given_up_told, rests_give_up, rests_ask}
 use Rattle.fj_runner.proofs.Scripting.{run_same, if_told, rests_leaves}
 use Rattle.fj_runner.proofs.Tallies.{settling_runs, not_both}
+use Rattle.std.proofs.Math.Logic.{∥∥₁_elim, ∥∥₁_map}
+use Rattle.fj_units.specs.Names.{AreInUse}
+use Rattle.std.proofs.Props.{props}
+use Rattle.fj_runner.proofs.Counting.{awaits_due, room_for, room_prop, still_going}
 use Rattle.fj_runner.proofs.script.RunnerScript.told.Goals as goal
 
 pub returns : goal.returns
@@ -40,3 +44,32 @@ returns g c =
       };
       told = λ s reply e over is. if_told (g.D.Disk.told old.disk.now) (run_of told bytes files m) (run_of told bytes files new) s (told_of s reply) e (λ _ known. it.told files s reply known over is);
     }
+
+pub invariant_of-self : goal.invariant_of-self
+invariant_of-self g c =
+    let old = c.args.self.now in
+    let m = old.machine.now in
+    let new = c.hear.new.self in
+    let it = c.hear.ensures in
+    record {
+      names = λ t. subst (λ ns. AreInUse ns (g.D.Disk.held old.disk.now).in_use) (sym it.rests.names) (old.names t);
+      on = ∥∥₁_map old.on (λ f over. it.on (f (still_going m.tally.over new.tally.over it.over over)) over);
+    }
+
+pub hear-requires-clause-room : goal.hear-requires-clause-room
+hear-requires-clause-room g c =
+    let old = c.args.self.now in
+    let m = old.machine.now in
+    ∥∥₁_elim old.on (room_prop m.state.told.items) (λ f. room_for m.state.told.items m.tally.left 0 (omega arith) (f (settling_runs m.tally.hand m.tally.over m.tally.left m.tally.owed.items m.tally.settles c.requires)).told)
+
+pub hear-requires-clause-owed : goal.hear-requires-clause-owed
+hear-requires-clause-owed g c =
+    let old = c.args.self.now in
+    let m = old.machine.now in
+    ∥∥₁_elim old.on (hlevel props) (λ f. (awaits_due m.tally.hand m.state c.requires (f (settling_runs m.tally.hand m.tally.over m.tally.left m.tally.owed.items m.tally.settles c.requires)).awaited).owed)
+
+pub hear-requires-clause-waits : goal.hear-requires-clause-waits
+hear-requires-clause-waits g c =
+    let old = c.args.self.now in
+    let m = old.machine.now in
+    ∥∥₁_elim old.on (hlevel props) (λ f. (awaits_due m.tally.hand m.state c.requires (f (settling_runs m.tally.hand m.tally.over m.tally.left m.tally.owed.items m.tally.settles c.requires)).awaited).waits)

@@ -1,4 +1,4 @@
-use Rattle.std.proofs.Common.{cond, None, refl, ap, sym, ◌∙◌}
+use Rattle.std.proofs.Common.{cond, None, refl, ap, sym, ◌∙◌, subst}
 use Rattle.fj_plain.specs.State.{Files}
 use Rattle.fj_units.specs.Files.{files_of}
 use Rattle.fj_runner.specs.Machine.{run_of}
@@ -6,6 +6,9 @@ use Rattle.fj_runner.specs.Tallying.{due_of}
 use Rattle.fj_runner.proofs.GivingUp.{given_up_told, rests_give_up, rests_ask}
 use Rattle.fj_runner.proofs.Scripting.{run_same, rests_leaves, took_by}
 use Rattle.fj_runner.proofs.Tallies.{submitting_runs, not_both}
+use Rattle.std.proofs.Math.Logic.{∥∥₁_map}
+use Rattle.fj_units.specs.Names.{AreInUse}
+use Rattle.fj_runner.proofs.Counting.{still_going}
 use Rattle.fj_runner.proofs.script.RunnerScript.took.Goals as goal
 
 pub returns : goal.returns
@@ -39,4 +42,15 @@ returns g c =
         reason = it.reason;
       };
       took = λ s e over. took_by c.args.number _ (same ∙ e);
+    }
+
+pub invariant_of-self : goal.invariant_of-self
+invariant_of-self g c =
+    let old = c.args.self.now in
+    let m = old.machine.now in
+    let new = c.take_number.new.self in
+    let it = c.take_number.ensures in
+    record {
+      names = λ t. subst (λ ns. AreInUse ns (g.D.Disk.held old.disk.now).in_use) (sym it.rests.names) (old.names t);
+      on = ∥∥₁_map old.on (λ f over. it.on (f (still_going m.tally.over new.tally.over it.over over)) over);
     }

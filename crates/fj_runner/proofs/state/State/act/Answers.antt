@@ -16,7 +16,7 @@ returns-in-Gives-clause-turn g c = λ more files core book stage plain e d.
     let s = c.args.self.now in
     let st : Stated = (c.args.lined.now, control_by c.args.lined.now.what) in
     let it = subst (λ x. IsDoing told bytes c.args.variables.now st (core_of files s.core) x plain) c.in-Gives.is d in
-    subst (λ t'. IfOk c.submit.result (λ t. IsTurn told bytes c.args.variables.now (st ∷ more) files c.submit.new.self t t'))
+    subst (λ t'. IsTurn told bytes c.args.variables.now (st ∷ more) files c.submit.new.self c.submit.result t')
     (sym (acts_gives c.args.variables.now st more files s stage core book e c.in-Gives.slot it.task c.in-Gives.next c.number_at-number.result plain c.number_at-number.ensures it.gives))
     (c.submit.ensures.turn c.args.variables.now (st ∷ more) files it.task stage (Acting (next_of c.args.variables.now st (core_of files s.core) c.in-Gives.next c.number_at-number.result)) it.is refl)
 
@@ -27,7 +27,7 @@ returns-in-Awaits-clause-turn g c = λ more files core book stage plain e d.
     let s = c.args.self.now in
     let st : Stated = (c.args.lined.now, control_by c.args.lined.now.what) in
     let it = subst (λ x. IsDoing told bytes c.args.variables.now st (core_of files s.core) x plain) c.in-Awaits.is d in
-    subst (λ t'. IfOk c.submit-in-Awaits.result (λ t. IsTurn told bytes c.args.variables.now (st ∷ more) files c.submit-in-Awaits.new.self t t'))
+    subst (λ t'. IsTurn told bytes c.args.variables.now (st ∷ more) files c.submit-in-Awaits.new.self c.submit-in-Awaits.result t')
     (sym (acts_awaits c.args.variables.now st more files s stage core book e c.in-Awaits.slot it.task c.in-Awaits.then c.number_at-number-in-Awaits.result plain c.number_at-number-in-Awaits.ensures it.gives))
     (c.submit-in-Awaits.ensures.turn c.args.variables.now (st ∷ more) files it.task stage (Awaiting c.in-Awaits.slot c.number_at-number-in-Awaits.result (then_of c.args.variables.now st (core_of files s.core) c.in-Awaits.then)) it.is refl)
 

@@ -19,7 +19,8 @@ use Rattle.fj_items.specs.Handing.{HandsOver, HandsFront, HandsPart}
 use Rattle.fj_turns.specs.Passing.{output_of}
 use Rattle.fj_acts.specs.State.{core_at}
 use Rattle.fj_runner.proofs.Failures.{act_output, doing_output, fails_still, fails_acting, fails_begun}
-use Rattle.fj_runner.proofs.Stepping.{begun_steps}
+use Rattle.fj_runner.proofs.Stepping.{begun_steps, went}
+use Rattle.fj_runner.proofs.Stepping.{kept_steps, ok_keeps}
 use Rattle.fj_runner.proofs.state.State.resume.Goals as goal
 
 pub returns-in-Some-clause-turn : goal.returns-in-Some-clause-turn
@@ -33,7 +34,7 @@ returns-in-Some-clause-turn g c = λ tells more stage.
     let core : Core = core_of files s.core in
     let does : Doing = doing st.1 variables st.0.line core st.0.what c.args.condition in
     let e = drop_at c.args.slots c.args.next c.in-Some.slot.now (sym c.in-Some.ensures) in
-    subst (λ t'. IfOk c.submit.result (λ t. IsTurn told bytes variables (st ∷ more) files c.submit.new.self t t'))
+    subst (λ t'. IsTurn told bytes variables (st ∷ more) files c.submit.new.self c.submit.result t')
     (sym (ends_next variables st more files s stage core (held s.core.pending) (sym (matched_same (held s.core.pending))) c.args.slots c.args.next c.in-Some.slot.now does e))
     (c.submit.ensures.turn variables (st ∷ more) files resume stage (Acting (ends_halts (drop (c.args.next + 1) c.args.slots) core does)) refl refl)
 
@@ -53,7 +54,7 @@ returns-in-Ok-clause-turn g c = λ tells more stage.
     (c.act.ensures.turn more after core (held s.core.pending) stage does c.begin.ensures.pending (c.in-Ok.ensures.doing tells))
 
 pub returns-in-Some-clause-fails : goal.returns-in-Some-clause-fails
-returns-in-Some-clause-fails g c = λ tells more stage. fails_still c.args.out.now c.args.self.now.core c.submit.new.self.core c.submit.result _ _ _ c.submit.ensures.causes.0 c.submit.ensures.causes.1
+returns-in-Some-clause-fails g c = λ tells more stage. fails_still c.args.out.now c.args.self.now.core c.submit.new.self.core (went c.submit.result) _ _ _ (λ e. cc) (λ e. cc)
 
 pub returns-in-Ok-clause-fails : goal.returns-in-Ok-clause-fails
 returns-in-Ok-clause-fails g c = λ tells more stage.
@@ -108,3 +109,7 @@ returns-clause-steps g c =
     let due = (core_at (doing st.1 c.args.variables.now st.0.line core st.0.what c.args.condition)).output in
     begun_steps c.args.out.now c.begin.new.out c.args.disk.now c.begin.new.disk c.args.self.now.core c.begin.new.core c.begin.result c.in-Err.lost due c.in-Err.is it.kinds it.names it.telling it.later it.own it.failed it.telling_out
     it.later_out it.failed_out it.front it.still
+
+pub returns-in-Some-clause-steps : goal.returns-in-Some-clause-steps
+returns-in-Some-clause-steps g c =
+    kept_steps c.args.out.now c.args.disk.now c.args.self.now.core c.submit.new.self.core (went c.submit.result) (ok_keeps c.args.self.now.core c.submit.new.self.core c.submit.result c.submit.ensures.core)

@@ -1,5 +1,6 @@
-use Rattle.std.proofs.Common.{◌≡◌, Some, refl, sym, subst}
+use Rattle.std.proofs.Common.{◌≡◌, true, Some, refl, sym, subst}
 use Rattle.fj_acts.specs.State.{core_of}
+use Rattle.fj_runner.specs.Passing.{is_waiting}
 use Rattle.fj_runner.specs.Machine.{run_in, stage_of}
 use Rattle.fj_runner.proofs.Pauses.{settle_pauses}
 use Rattle.fj_runner.proofs.state.State.settle.Goals as goal
@@ -9,3 +10,7 @@ returns-clause-turn g c = λ variables rest files before after s.
     let old = c.args.self.now in
     settle_pauses g.F.FileStore.told g.F.FileStore.bytes variables rest files _ (run_in variables rest files old before) c.args.slot after
     (subst (λ x. stage_of g.F.FileStore.told g.F.FileStore.bytes variables rest (core_of files old.core) x ≡ Some after) (sym c.put_stage.ensures) s) refl
+
+pub returns-clause-counts : goal.returns-clause-counts
+returns-clause-counts g c =
+    (refl, refl, refl, record { inside = c.requires.slot; due = refl; owed = c.requires.owed; waits = subst (λ x. is_waiting x ≡ true) (sym c.put_stage.ensures) c.requires.waits })

@@ -13,7 +13,7 @@ use Rattle.fj_runner.specs.Turned.{IsTurn}
 use Rattle.fj_runner.proofs.Beginnings.{told_run, tells_turn, tells_doing}
 use Rattle.fj_turns.specs.Passing.{output_of}
 use Rattle.fj_runner.proofs.Failures.{fails_from}
-use Rattle.fj_runner.proofs.Numbering.{given_left, named_left}
+use Rattle.fj_runner.proofs.Numbering.{given_left, named_left, untold_left}
 use Rattle.fj_runner.proofs.state.State.tell.Goals as goal
 
 pub returns-in-Ok-tell_all-clause-turn : goal.returns-in-Ok-tell_all-clause-turn
@@ -63,3 +63,8 @@ pub invariant_of-self-2-clause-named : goal.invariant_of-self-2-clause-named
 invariant_of-self-2-clause-named g c =
     let s = c.args.self.now in
     named_left s.core.next c.tell_all.new.core.next s.core.pending c.tell_all.new.core.pending c.tell_all.ensures.next c.tell_all.ensures.some s.named
+
+pub invariant_of-self-2-clause-untold : goal.invariant_of-self-2-clause-untold
+invariant_of-self-2-clause-untold g c =
+    let s = c.args.self.now in
+    untold_left s.told.items s.core.pending c.tell_all.new.core.pending c.tell_all.ensures.some s.untold

@@ -1,4 +1,4 @@
-use Rattle.std.proofs.Common.{◌≡◌, ◌∷◌, true, Ok, Some, IfOk, refl, sym, ◌∙◌, subst}
+use Rattle.std.proofs.Common.{◌≡◌, ◌∷◌, true, Ok, Some, IfOk, refl, sym, ◌∙◌, subst, arith}
 use Rattle.fj_bay.specs.Plain.{task_of, reply_of}
 use Rattle.fj_plain.specs.State.{Files}
 use Rattle.fj_plain.specs.Statement.{Stated, control_by}
@@ -22,7 +22,9 @@ use Rattle.fj_runner.specs.Fitting.{FitsStage}
 use Rattle.fj_runner.specs.Closing.{may_be_at}
 use Rattle.fj_runner.specs.Numbering.{gave}
 use Rattle.fj_runner.proofs.Fits.{may_go_on}
-use Rattle.fj_runner.proofs.Numbering.{at_itself, given_entered, named_entered, slot_given}
+use Rattle.fj_runner.proofs.Numbering.{at_itself, given_entered, named_entered, slot_given, untold_entered}
+use Rattle.fj_runner.specs.Going.{HaveAt}
+use Rattle.fj_runner.proofs.Counting.{count_entered, entered_next}
 use Rattle.fj_runner.proofs.state.State.turn.Goals as goal
 
 pub returns-in-Start-clause-turn : goal.returns-in-Start-clause-turn
@@ -226,6 +228,26 @@ invariant_of-self-in-Going-clause-named g c =
     let s = c.args.self.now in
     named_entered c.in-Going.next c.in-Going.number s.core c.given.new.core s.named c.given.ensures.enters
 
+pub invariant_of-self-in-Going-clause-untold : goal.invariant_of-self-in-Going-clause-untold
+invariant_of-self-in-Going-clause-untold g c =
+    let s = c.args.self.now in
+    untold_entered s.told.items c.in-Going.next c.in-Going.number s.core c.given.new.core
+    (λ slot e. s.own_untold slot c.in-Going.number (subst (λ x. gave slot c.in-Going.number x ≡ true) (sym (sym c.replace.ensures.value ∙ c.in-Going.is)) e)) s.untold c.given.ensures.enters
+
+pub settle-requires-clause-own_untold : goal.settle-requires-clause-own_untold
+settle-requires-clause-own_untold g c = λ slot number e.
+    c.args.self.now.own_untold slot number (subst (λ x. gave slot number x ≡ true) (sym (sym c.replace.ensures.value ∙ c.in-Awaiting.is)) e)
+
+pub settle-requires-clause-owed : goal.settle-requires-clause-owed
+settle-requires-clause-owed g c =
+    let s = c.args.self.now in
+    let slot = c.in-Awaiting.slot in
+    let number = c.in-Awaiting.number in
+    let own = subst (λ x. gave slot number x ≡ true) (sym (sym c.replace.ensures.value ∙ c.in-Awaiting.is)) (at_itself slot number) in
+    let given = (s.own slot number own).0 in
+    let low = s.own_untold slot number own in
+    omega (arith, given, low)
+
 pub settle-requires-clause-slot : goal.settle-requires-clause-slot
 settle-requires-clause-slot g c =
     let s = c.args.self.now in
@@ -239,37 +261,79 @@ settle-requires-clause-own g c = λ slot number e.
     c.args.self.now.own slot number (subst (λ x. gave slot number x ≡ true) (sym (sym c.replace.ensures.value ∙ c.in-Awaiting.is)) e)
 
 pub returns-in-Start-clause-fits : goal.returns-in-Start-clause-fits
-returns-in-Start-clause-fits g c = λ sound room f.
+returns-in-Start-clause-fits g c = λ sound have more f.
     let fits = subst (FitsStage c.args.variables.now c.args.lined.now.what c.args.self.now.core) (sym c.replace.ensures.value ∙ c.in-Start.is) f in
     absurd fits
 
 pub returns-in-Waiting-clause-fits : goal.returns-in-Waiting-clause-fits
-returns-in-Waiting-clause-fits g c = λ sound room f.
+returns-in-Waiting-clause-fits g c = λ sound have more f.
     let fits = subst (FitsStage c.args.variables.now c.args.lined.now.what c.args.self.now.core) (sym c.replace.ensures.value ∙ c.in-Waiting.is) f in
     absurd fits
 
 pub returns-in-Resuming-clause-fits : goal.returns-in-Resuming-clause-fits
-returns-in-Resuming-clause-fits g c = λ sound room f.
+returns-in-Resuming-clause-fits g c = λ sound have more f.
     let fits = subst (FitsStage c.args.variables.now c.args.lined.now.what c.args.self.now.core) (sym c.replace.ensures.value ∙ c.in-Resuming.is) f in
-    c.resume.ensures.fits sound room fits
+    let s = c.args.self.now in
+    let files = subst (λ x. HaveAt x s.core.names s.core.units c.args.lined.now.what) (sym c.replace.ensures.value ∙ c.in-Resuming.is) have in
+    c.resume.ensures.fits sound files fits
 
 pub returns-in-Ok-clause-fits : goal.returns-in-Ok-clause-fits
-returns-in-Ok-clause-fits g c = λ sound room f.
-    c.act.ensures.fits sound room
+returns-in-Ok-clause-fits g c = λ sound have more f. c.act.ensures.fits sound
 
 pub returns-in-Err-clause-fits : goal.returns-in-Err-clause-fits
-returns-in-Err-clause-fits g c = λ sound room f.
-    let fits = subst (FitsStage c.args.variables.now c.args.lined.now.what c.args.self.now.core) (sym c.replace.ensures.value ∙ c.in-Going.is) f in
+returns-in-Err-clause-fits g c = λ sound have more f.
     let s = c.args.self.now in
     λ e. c.given.ensures.fits sound
     (may_go_on s.sent.items c.in-Going.next c.in-Going.number s.core s.sent_slots s.named
-    (λ slot e. s.own slot c.in-Going.number (subst (λ x. gave slot c.in-Going.number x ≡ true) (sym (sym c.replace.ensures.value ∙ c.in-Going.is)) e)) fits) (cc (c.in-Err.is, e))
+    (λ slot e. s.own slot c.in-Going.number (subst (λ x. gave slot c.in-Going.number x ≡ true) (sym (sym c.replace.ensures.value ∙ c.in-Going.is)) e)) more) (cc (c.in-Err.is, e))
 
 pub returns-in-Ok-doing-clause-fits : goal.returns-in-Ok-doing-clause-fits
-returns-in-Ok-doing-clause-fits g c = λ sound room f.
-    c.act-in-Ok-doing.ensures.fits sound room
+returns-in-Ok-doing-clause-fits g c = λ sound have more f. c.act-in-Ok-doing.ensures.fits sound
 
 pub returns-in-Err-doing-clause-fits : goal.returns-in-Err-doing-clause-fits
-returns-in-Err-doing-clause-fits g c = λ sound room f.
+returns-in-Err-doing-clause-fits g c = λ sound have more f.
     let fits = subst (FitsStage c.args.variables.now c.args.lined.now.what c.args.self.now.core) (sym c.replace.ensures.value ∙ c.in-Answered.is) f in
-    λ e. c.answered-doing.ensures.fits sound fits (cc (c.in-Err-doing.is, e))
+    let s = c.args.self.now in
+    let files = subst (λ x. HaveAt x s.core.names s.core.units c.args.lined.now.what) (sym c.replace.ensures.value ∙ c.in-Answered.is) have in
+    λ e. c.answered-doing.ensures.fits sound files fits (cc (c.in-Err-doing.is, e))
+
+pub returns-in-Start-clause-files : goal.returns-in-Start-clause-files
+returns-in-Start-clause-files g c = λ have.
+    let s = c.args.self.now in
+    let files = subst (λ x. HaveAt x s.core.names s.core.units c.args.lined.now.what) (sym c.replace.ensures.value ∙ c.in-Start.is) have in
+    c.start.ensures.files files
+
+pub returns-in-Waiting-clause-files : goal.returns-in-Waiting-clause-files
+returns-in-Waiting-clause-files g c = λ have.
+    let s = c.args.self.now in
+    let files = subst (λ x. HaveAt x s.core.names s.core.units c.args.lined.now.what) (sym c.replace.ensures.value ∙ c.in-Waiting.is) have in
+    c.wait.ensures.files files
+
+pub returns-in-Resuming-clause-files : goal.returns-in-Resuming-clause-files
+returns-in-Resuming-clause-files g c = λ have.
+    let s = c.args.self.now in
+    let files = subst (λ x. HaveAt x s.core.names s.core.units c.args.lined.now.what) (sym c.replace.ensures.value ∙ c.in-Resuming.is) have in
+    c.resume.ensures.files files
+
+pub returns-in-Ok-clause-files : goal.returns-in-Ok-clause-files
+returns-in-Ok-clause-files g c = λ have.
+    let s = c.args.self.now in
+    let files = subst (λ x. HaveAt x s.core.names s.core.units c.args.lined.now.what) (sym c.replace.ensures.value ∙ c.in-Going.is) have in
+    c.act.ensures.files (c.in-Ok.ensures.files files)
+
+pub returns-in-Awaiting-clause-files : goal.returns-in-Awaiting-clause-files
+returns-in-Awaiting-clause-files g c = λ have.
+    let s = c.args.self.now in
+    let files = subst (λ x. HaveAt x s.core.names s.core.units c.args.lined.now.what) (sym c.replace.ensures.value ∙ c.in-Awaiting.is) have in
+    c.settle.ensures.files c.args.lined.now.what files
+
+pub returns-in-Ok-doing-clause-files : goal.returns-in-Ok-doing-clause-files
+returns-in-Ok-doing-clause-files g c = λ have.
+    let s = c.args.self.now in
+    let files = subst (λ x. HaveAt x s.core.names s.core.units c.args.lined.now.what) (sym c.replace.ensures.value ∙ c.in-Answered.is) have in
+    c.act-in-Ok-doing.ensures.files (c.in-Ok-doing.ensures.files files)
+
+pub returns-in-Ok-clause-counts : goal.returns-in-Ok-clause-counts
+returns-in-Ok-clause-counts g c =
+    let s = c.args.self.now in
+    count_entered c.act.result s _ c.act.new.self (entered_next c.in-Going.next c.in-Going.number s.core c.given.new.core c.given.ensures.enters) refl refl c.act.ensures.next c.act.ensures.counts (c.act.ensures.ends c.in-Ok.ensures.ends)

@@ -68,7 +68,12 @@ returns-in-None-clause-fails g c = λ tells more stage.
 pub settle-requires-clause-slot : goal.settle-requires-clause-slot
 settle-requires-clause-slot g c =
     let s = c.args.self.now in
-    unsettled_slot s.sent.items (waited_of c.args.whose (entries s.core.pending)) s.core.pending c.in-Some.slot s.sent_slots s.given (sym (c.in-Some.ensures.slot (none_of _ c.requires.from)))
+    (unsettled_slot s.sent.items s.told.items (waited_of c.args.whose (entries s.core.pending)) s.core.pending c.in-Some.slot s.sent_slots s.given s.untold (sym (c.in-Some.ensures.slot (none_of _ c.requires.from)))).0
+
+pub settle-requires-clause-owed : goal.settle-requires-clause-owed
+settle-requires-clause-owed g c =
+    let s = c.args.self.now in
+    (unsettled_slot s.sent.items s.told.items (waited_of c.args.whose (entries s.core.pending)) s.core.pending c.in-Some.slot s.sent_slots s.given s.untold (sym (c.in-Some.ensures.slot (none_of _ c.requires.from)))).1
 
 pub returns-in-Some-clause-fails : goal.returns-in-Some-clause-fails
 returns-in-Some-clause-fails g c = λ tells more stage. fails_still c.args.out.now c.args.self.now.core c.settle.new.self.core (went c.settle.result) _ _ _ (λ e. cc) (λ e. cc)

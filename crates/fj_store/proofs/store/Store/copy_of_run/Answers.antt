@@ -1,55 +1,49 @@
-use Rattle.std.proofs.Common.{◌≡◌, ◌↔◌, ◌+◌, ◌-◌, [], IsTrue, map, arith, ap, sym, subst, ◌∙◌, IsSome, Some, None, rules}
-use Rattle.std.specs.Option.{option_map, option_flatten}
+use Rattle.std.proofs.Common.{◌≡◌, ◌↔◌, IsTrue, IfSome, All, List, map, false, is_none, ap, sym, subst, ◌∙◌, arith}
 use Rattle.fj_value.specs.Kind.{IsOfKind}
-use Rattle.fj_value.specs.declared.place.Place.{Place}
+use Rattle.fj_value.specs.declared.value.Value.{Value}
+use Rattle.fj_list.specs.declared.moved.Moved.{Moved}
 use Rattle.fj_store.specs.Kinds.{kind_at}
-use Rattle.fj_store.specs.Places.{places_of}
-use Rattle.fj_store.specs.Storage.{value_in, value_at, cell_at}
-use Rattle.fj_store.specs.Taking.{taking, HasRoom}
-use Rattle.fj_store.specs.Tables.{element_at}
-use Rattle.fj_store.specs.Variables.{moved_of}
-use Rattle.fj_store.proofs.TableLemmas.{same_fields}
-use Rattle.fj_store.proofs.StoreLemmas.{stored_read, out_lost}
-use Rattle.fj_store.proofs.RunLemmas.{run_long, read_at_run}
-use Rattle.fj_store.proofs.CopyLemmas.{cell_read, run_item, out_step, out_found, defined_step, out_is_none}
+use Rattle.fj_store.specs.Pieces.{AreDefined}
+use Rattle.fj_store.specs.declared.copied.CopiedRow.{CopiedRow}
+use Rattle.fj_store.specs.declared.slot.Slot.TheVariants.{Home}
+use Rattle.fj_store.proofs.StoreLemmas.{out_at_run, out_lost}
+use Rattle.fj_store.proofs.CopyLemmas.{none_found, row_count, row_moved, row_defined}
 use Rattle.fj_store.proofs.store.Store.copy_of_run.Goals as goal
 
 pub returns-in_default-clause-out : goal.returns-in_default-clause-out
 returns-in_default-clause-out c = out_lost c.self.inside.kinds.items c.self.inside.slots c.args.self.now c.args.run c.self.view_is (c.in_default.ensures.none c.requires)
 
-pub bounds-slots-at : goal.bounds-slots-at
-bounds-slots-at c = let long = run_long c.self.inside.slots c.in-Some.slots.now c.args.run.var c.args.run.first c.args.run.count c.in-Some.ensures.some in omega (arith, long, c.loop-at-test.true)
+pub returns-in_default-2-clause-out : goal.returns-in_default-2-clause-out
+returns-in_default-2-clause-out c =
+    none_found c.in_ok-values.field-0 c.in_default-2.not-Some
+    ∙ out_at_run c.self.inside.kinds.items c.self.inside.slots c.args.self.now c.in-Some.slots.now c.args.run (is_none c.in_ok-values.field-0) c.self.view_is c.in-Some.ensures.some c.in_ok-values.ensures.out
 
-pub returns-in_default-slots-clause-out : goal.returns-in_default-slots-clause-out
-returns-in_default-slots-clause-out c =
-    let here : Place = record { var = c.args.run.var; index = c.args.run.first + c.loop-at.at } in
-    let there : element_at c.self.inside.slots here ≡ Some c.index-slots-at.result =
-    read_at_run c.self.inside.slots c.in-Some.slots.now c.args.run.var c.args.run.first c.args.run.count c.loop-at.at c.index-slots-at.result c.in-Some.ensures.some c.loop-at-test.true c.index-slots-at.is in
-    let none : value_at c.args.self.now here ≡ None =
-    stored_read c.self.inside.kinds.items c.self.inside.slots c.args.self.now here c.self.view_is ∙ ap (λ o. option_flatten (option_map value_in o)) there
-    ∙ ap (λ o. option_flatten (Some o)) (out_is_none c.index-slots-at.result c.in_default-slots.not-Home) in
-    out_found c.args.self.now c.args.run.var c.args.run.first c.args.run.count c.loop-at.at _ c.loop-at-test.true none c.loop-at.invariant.out
+pub invariant_of-of_row : goal.invariant_of-of_row
+invariant_of-of_row c =
+    let run = c.args.run in
+    let values = c.in-Some-2.field-0.values in
+    let is : map Home values ≡ c.in-Some.slots.now = subst (λ o. IfSome o (λ (row : CopiedRow). map Home row.values ≡ c.in-Some.slots.now)) c.in-Some-2.is c.in_ok-values.ensures.values in
+    record { fits = omega (arith, run.fits, row_count c.self.inside.slots c.in-Some.slots.now run.var run.first run.count values c.in-Some.ensures.some is) }
 
-pub loop-at-preserved : goal.loop-at-preserved
-loop-at-preserved c =
-    let here : Place = record { var = c.args.run.var; index = c.args.run.first + c.loop-at.at } in
-    let e : c.place_at-place.result ≡ here = same_fields c.place_at-place.result here c.place_at-place.ensures.var c.place_at-place.ensures.index in
-    let there : element_at c.self.inside.slots here ≡ Some c.index-slots-at.result =
-    read_at_run c.self.inside.slots c.in-Some.slots.now c.args.run.var c.args.run.first c.args.run.count c.loop-at.at c.index-slots-at.result c.in-Some.ensures.some c.loop-at-test.true c.index-slots-at.is in
-    let value : Some c.in_ok-value.value ≡ value_at c.args.self.now here =
-    ap (λ v. Some v) c.in_ok-value.ensures
-    ∙ sym (stored_read c.self.inside.kinds.items c.self.inside.slots c.args.self.now here c.self.view_is ∙ ap (λ o. option_flatten (option_map value_in o)) there ∙ ap (λ x. option_flatten (Some (value_in x))) c.in-Home.is) in
-    let kind : c.kind_in-kind.result ≡ kind_at c.args.self.now.kinds c.args.run.var = c.kind_in-kind.ensures ∙ ap (λ ks. kind_at ks c.args.run.var) (c.deref.ensures.value ∙ ap (λ s. s.kinds) c.self.view_is) in
-    let step = run_item c.args.self.now c.args.run.var c.args.run.first c.args.run.count c.loop-at.at (taking [] c.loop-at.taken) (taking [] c.add_cell.new.taken) (moved_of (map (cell_at c.args.self.now) (places_of c.args.run)))
-    (record { place = c.place_at-place.result; kind = c.kind_in-kind.result; value = c.in_ok-value.value }) c.loop-at-test.true
-    (cell_read c.args.self.now c.place_at-place.result here c.kind_in-kind.result c.in_ok-value.value e kind value) (c.add_cell.ensures.taken []) c.loop-at.invariant.free c.loop-at.invariant.same in
-    let one : c.args.run.count - c.loop-at.at ≡ (c.args.run.count - (c.loop-at.at + 1)) + 1 = omega (arith, c.loop-at-test.true) in
-    record {
-      free = step.0;
-      same = step.1;
-      room = c.add_cell.ensures.room (c.args.run.count - (c.loop-at.at + 1)) (subst (HasRoom c.loop-at.taken) one c.loop-at.invariant.room);
-      out = out_step c.args.self.now c.args.run.var c.args.run.first c.args.run.count c.loop-at.at _ c.loop-at-test.true (subst IsSome value (search rules)) c.loop-at.invariant.out;
-      defined = defined_step c.loop-at.taken.cells.items c.add_cell.new.taken.cells.items (record { place = c.place_at-place.result; kind = c.kind_in-kind.result; value = c.in_ok-value.value })
-          c.loop-at.defined c.is_defined.result c.both-defined.result (ap (λ t. t.cells) (c.add_cell.ensures.taken [])) c.both-defined.ensures
-          (subst (λ v. IsTrue c.is_defined.result ↔ IsOfKind c.kind_in-kind.result v) (sym c.in_ok-value.ensures) c.is_defined.ensures) c.loop-at.invariant.defined;
-    }
+pub returns-clause-out : goal.returns-clause-out
+returns-clause-out c =
+    sym (ap (λ o. is_none o) c.in-Some-2.is)
+    ∙ out_at_run c.self.inside.kinds.items c.self.inside.slots c.args.self.now c.in-Some.slots.now c.args.run (is_none c.in_ok-values.field-0) c.self.view_is c.in-Some.ensures.some c.in_ok-values.ensures.out
+
+pub returns-clause-moved : goal.returns-clause-moved
+returns-clause-moved c =
+    let run = c.args.run in
+    let values = c.in-Some-2.field-0.values in
+    let is : map Home values ≡ c.in-Some.slots.now = subst (λ o. IfSome o (λ (row : CopiedRow). map Home row.values ≡ c.in-Some.slots.now)) c.in-Some-2.is c.in_ok-values.ensures.values in
+    let kind : c.kind_in-kind.result ≡ kind_at c.args.self.now.kinds run.var = c.kind_in-kind.ensures ∙ ap (λ ks. kind_at ks run.var) (c.deref.ensures.value ∙ ap (λ s. s.kinds) c.self.view_is) in
+    c.of_row-moved.ensures
+    ∙ row_moved c.self.inside.kinds.items c.self.inside.slots c.args.self.now c.in-Some.slots.now c.kind_in-kind.result run.var run.first run.count values c.self.view_is kind c.in-Some.ensures.some is
+
+pub returns-clause-defined : goal.returns-clause-defined
+returns-clause-defined c =
+    let run = c.args.run in
+    let kind = c.kind_in-kind.result in
+    let found = c.in-Some-2.field-0 in
+    let defined : IsTrue found.defined ↔ All (IsOfKind kind) found.values = subst (λ o. IfSome o (λ (row : CopiedRow). IsTrue row.defined ↔ All (IsOfKind kind) row.values)) c.in-Some-2.is c.in_ok-values.ensures.defined in
+    let cells = row_defined run.var kind run.first found.values in
+    subst (λ (m : Moved). IsTrue found.defined ↔ AreDefined m.cells) (sym c.of_row-moved.ensures) (λ h. cells.0 (defined.0 h), λ h. defined.1 (cells.1 h))

@@ -12,7 +12,7 @@ returns-in-Some-clause-done c =
     let w = c.args.self.now in
     let n = length (items_of_writer w) in
     let count = c.in-Some.count in
-    let few : count ≤ n = omega (arith, c.in-Some.ensures.few.1, ap length c.ahead.ensures, ahead_few w.items) in
+    let few : count ≤ n = omega (arith, c.in-Some.ensures.few.1, ap length c.ahead.ensures.values, ahead_few w.items) in
     let next = c.run.new.self in
     let w' = c.put_items.new.self in
     first_as (at_hand w.page c.args.text.now) (at_hand w'.page c.put_items.new.text) (actions_left w (due c.args.cursor.now n)) (actions_left w (replicate count (gives (step.edit c.in-Some.edit)) ++ due next (n - count)))

@@ -1,0 +1,114 @@
+-- Units have the files that are out, where a statement closes one, and where OPEN connects one.
+use Rattle.std.proofs.Common.{◌≡◌, ℕ, Bool, true, false, ◌&&◌, List, [], ◌∷◌, Option, Some, None, refl, sym, ap, subst, ◌∙◌}
+use Rattle.std.specs.Prelude.{◌==◌, option_and_then, slice_get, if◌then◌else◌, is_some, IfSome}
+use Rattle.std.specs.Str.{bytes_eq}
+use Rattle.std.proofs.lemmas.Bool.{eq-eqb}
+use Rattle.std.proofs.lemmas.Slice.Eq.{bytes_eq-Decides}
+use Rattle.fj_modes.specs.declared.specifiers.OpenSpec.{OpenSpec}
+use Rattle.fj_statement.specs.declared.statement.Statement.{Statement}
+use Rattle.fj_statement.specs.declared.statement.Statement.TheVariants as statement
+use Rattle.fj_bay.specs.declared.job.Job.TheVariants as job
+use Rattle.fj_plain.specs.Connecting.{file_due}
+use Rattle.fj_desk.specs.Core.{Connected, connected_at, has_name, without_connected}
+use Rattle.fj_units.specs.Having.{HaveFiles}
+use Rattle.fj_units.specs.Names.{stands, left_of}
+use Rattle.fj_units.specs.Units.{is_taken}
+use Rattle.fj_units.proofs.Having.{found_has, free_without, gone_from, without_none}
+use Rattle.fj_acts.specs.Doing.{AsksToOpen}
+use Rattle.fj_acts.specs.Having.{HaveNext, HaveThen, IsFreeNext}
+use Rattle.fj_acts.specs.Steps.{is_due}
+use Rattle.fj_acts.specs.declared.doing.After.{After}
+use Rattle.fj_acts.specs.declared.doing.After.TheVariants as after
+use Rattle.fj_acts.specs.declared.doing.Then.TheVariants as then
+use Rattle.fj_acts.specs.declared.doing.Doing.{Doing}
+use Rattle.fj_acts.specs.declared.doing.Doing.TheVariants as doing
+use Rattle.fj_acts.proofs.ClosingLemmas.{found_again}
+
+-- ---- a unit is closed
+
+pub closing_has : {F : Type 0} → (result : Doing F) (slot : ℕ) (u : Connected) (keep : Bool) (next : After) (names : List (List ℕ)) (us : List Connected) (what : Statement)
+    → result ≡ doing.Awaits slot (job.Detach None) (then.Closes u.number keep next) → connected_at us u.number ≡ Some u → IsFreeNext next what (without_connected u.number us)
+    → HaveFiles names us → HaveNext result names us what
+closing_has result slot u keep next names us what is found free have =
+    subst (λ d. HaveNext d names us what) (sym is) (have, ap is_some found, free)
+
+-- that of a statement
+pub found_at : (us : List Connected) (o : Option ℕ) (u : Connected) → option_and_then (connected_at us) o ≡ Some u → connected_at us u.number ≡ Some u
+found_at us None u e = absurd (let bad : ⊥ = cc in bad)
+found_at us (Some n) u e = found_again us n u e
+
+-- the first one
+pub found_first : (us : List Connected) (u : Connected) → slice_get us 0 ≡ Some u → connected_at us u.number ≡ Some u
+found_first [] u e = absurd (let bad : ⊥ = cc in bad)
+found_first (v ∷ us) u e =
+    let is : v ≡ u = cc in
+    ap (λ b. if b then Some v else connected_at us u.number) (eq-eqb v.number u.number (ap (λ (x : Connected). x.number) is)) ∙ ap Some is
+
+-- its connection came out
+pub due_unit : (found : Option Connected) (names : List (List ℕ)) (name : List ℕ) → is_due found names name ≡ true → (u : Connected) × (found ≡ Some u) × (u.name ≡ name)
+due_unit None names name e = absurd (let bad : ⊥ = cc in bad)
+due_unit (Some u) names name e = (u, refl, (bytes_eq-Decides u.name name).0 (first (bytes_eq u.name name) (stands names name) e))
+  where
+    first : (a b : Bool) → (a && b) ≡ true → a ≡ true
+    first true b is = refl
+    first false b is = absurd (let bad : ⊥ = cc in bad)
+
+-- ---- OPEN connects a unit
+
+-- one that is not connected
+pub free_there : (us : List Connected) (n : ℕ) (name : List ℕ) → connected_at us n ≡ None → is_taken us n name ≡ false → has_name us name ≡ false
+free_there us n name none free = ap (λ l. has_name l name) (sym (without_none n us none)) ∙ free_without us n name free
+
+opens_free : (what : Statement) (spec : OpenSpec) (n : ℕ) (us : List Connected) → AsksToOpen what spec → connected_at us n ≡ None → has_name us (file_due spec n) ≡ false
+    → IsFreeNext (after.Connects n) what us
+opens_free (statement.OpenUnit u own iostat) spec n us asks none free = (none, ap (λ (s : OpenSpec). has_name us (file_due s n)) asks ∙ free)
+opens_free (statement.Assign to from) spec n us asks none free = absurd asks
+opens_free (statement.CloseUnit u keep iostat) spec n us asks none free = absurd asks
+opens_free (statement.WaitFor u id iostat) spec n us asks none free = absurd asks
+opens_free (statement.Move how u iostat) spec n us asks none free = absurd asks
+opens_free (statement.Inquire about asked id iostat) spec n us asks none free = absurd asks
+opens_free (statement.Transfer t) spec n us asks none free = absurd asks
+opens_free statement.End spec n us asks none free = absurd asks
+
+-- the one that it closes first
+pub opens_behind_free : (what : Statement) (spec : OpenSpec) (name : List ℕ) (m n : ℕ) (us : List Connected) → AsksToOpen what spec → m ≡ n → name ≡ file_due spec n → is_taken us n name ≡ false
+    → IsFreeNext (after.Connects n) what (without_connected m us)
+opens_behind_free what spec name m n us asks same due free =
+    subst (λ k. IsFreeNext (after.Connects n) what (without_connected k us)) (sym same)
+    (opens_free what spec n (without_connected n us) asks (gone_from n us) (ap (has_name (without_connected n us)) (sym due) ∙ free_without us n name free))
+
+-- where it goes on
+pub free_of : (next : After) (n : ℕ) (what : Statement) (spec : OpenSpec) (us : List Connected) → next ≡ after.Connects n → AsksToOpen what spec → IsFreeNext next what us
+    → (connected_at us n ≡ None) × (has_name us (file_due spec n) ≡ false)
+free_of next n what spec us is asks free = by what asks (subst (λ a. IsFreeNext a what us) is free)
+  where
+    by : (w : Statement) → AsksToOpen w spec → IsFreeNext (after.Connects n) w us → (connected_at us n ≡ None) × (has_name us (file_due spec n) ≡ false)
+    by (statement.OpenUnit u own iostat) a f = (f.0, ap (λ (s : OpenSpec). has_name us (file_due s n)) (sym a) ∙ f.1)
+    by (statement.Assign to from) a f = absurd a
+    by (statement.CloseUnit u keep iostat) a f = absurd a
+    by (statement.WaitFor u id iostat) a f = absurd a
+    by (statement.Move how u iostat) a f = absurd a
+    by (statement.Inquire about asked id iostat) a f = absurd a
+    by (statement.Transfer t) a f = absurd a
+    by statement.End a f = absurd a
+
+-- ---- a job came back
+
+-- the connection of the unit came out, and its file is out
+pub comes_due : (us : List Connected) (number : ℕ) (names : List (List ℕ)) (name : List ℕ) (what : Statement) (keep : Bool) (next : After) → HaveThen (then.Closes number keep next) names us what
+    → IfSome (connected_at us number) (λ (u : Connected). u.name ≡ name) → is_due (connected_at us number) names name ≡ true
+comes_due us number names name what keep next have same = by (connected_at us number) refl have.1 same
+  where
+    by : (o : Option Connected) → connected_at us number ≡ o → is_some o ≡ true → IfSome o (λ (u : Connected). u.name ≡ name) → is_due o names name ≡ true
+    by None e some is = absurd (let bad : ⊥ = cc in bad)
+    by (Some u) e some is =
+        let out : stands names name ≡ true = have.0.0 name ∙ ap (has_name us) (sym is) ∙ found_has us number u e in
+        ap (λ b. b && stands names name) ((bytes_eq-Decides u.name name).1 is) ∙ out
+
+-- the unit is taken off
+pub closed_has : (us us' : List Connected) (number : ℕ) (names names' : List (List ℕ)) (name : List ℕ)
+    → is_due (connected_at us number) names name ≡ true → names' ≡ left_of names name → HaveFiles names us
+    → ((ns : List (List ℕ)) (u : Connected) → connected_at us number ≡ Some u → HaveFiles ns us → HaveFiles (left_of ns u.name) us') → HaveFiles names' us'
+closed_has us us' number names names' name due is have files =
+    let u = due_unit (connected_at us number) names name due in
+    subst (λ ns. HaveFiles ns us') (ap (left_of names) u.2 ∙ sym is) (files names u.0 u.1 have)

@@ -1,0 +1,338 @@
+-- Units have the files that are out, and jobs are counted: turn by turn, and ask by ask.
+use Rattle.std.proofs.Common.{◌≡◌, ℕ, zero, suc, ◌+◌, ◌-◌, ◌<◌, ◌≤◌, ◌==◌, ◌&&◌, Bool, true, false, cond, List, [], ◌∷◌, replicate, drop, length, get_or, slice_set, None, IsSome, refl, sym, ap, ◌∙◌, subst, inl, inr, arith}
+use Rattle.std.specs.Prelude.{is_some, Result, Ok, Err, IfOk, if◌then◌else◌}
+use Rattle.std.proofs.Props.{props}
+use Rattle.std.proofs.lemmas.Bool.Decides.{eqb_tells}
+use Rattle.std.proofs.lemmas.List.{get_or-set_same, get_or-set_other}
+use Rattle.fj_outside.specs.declared.outside.FileStore.{Ghosts}
+use Rattle.fj_bay.specs.declared.job.Job.{Job}
+use Rattle.fj_bay.specs.declared.job.Answer.{Answer}
+use Rattle.fj_statement.specs.Sound.{IsSound}
+use Rattle.fj_statement.specs.declared.statement.Statement.{Statement}
+use Rattle.fj_plain.specs.Statement.{Stated, stated}
+use Rattle.fj_desk.specs.Core.{Connected}
+use Rattle.fj_world.specs.Conduct.{IsDueAsk, IsSettling, owed_after_settle, owed_after_submit}
+use Rattle.fj_world.specs.declared.ask.Ask.{Ask}
+use Rattle.fj_world.specs.declared.ask.Ask.TheVariants as ask
+use Rattle.fj_units.specs.Having.{HaveFiles}
+use Rattle.fj_acts.specs.Having.{HaveThen}
+use Rattle.fj_acts.specs.declared.doing.Then.{Then}
+use Rattle.fj_runner.specs.Admitting.{MayAsk}
+use Rattle.fj_runner.specs.Answering.{with_own}
+use Rattle.fj_runner.specs.Fitting.{HasRoom}
+use Rattle.fj_runner.specs.Going.{Awaits, CanCount, Counts, DoesNotPause, HaveAt, HaveTurned, Hears, IsAt, AwaitsAtHand, IsGoing, IsMore, KeepsToSlots, OwesAsGiven, SentFor, asked_for, given_ahead}
+use Rattle.fj_runner.specs.Machine.{rest_of}
+use Rattle.fj_runner.specs.Tallying.{MaySettle, due_of, owed_at}
+use Rattle.fj_runner.specs.declared.hand.Hand.{Hand}
+use Rattle.fj_runner.specs.declared.hand.Hand.TheVariants.{Idle, Submitting, Settling}
+use Rattle.fj_runner.specs.declared.machine.Machine.{Machine}
+use Rattle.fj_runner.specs.declared.stage.Stage.{Stage}
+use Rattle.fj_runner.specs.declared.stage.Stage.TheVariants as stage
+use Rattle.fj_runner.specs.declared.state.State.{State}
+use Rattle.fj_runner.specs.declared.tally.Tally.{Tally}
+use Rattle.fj_runner.specs.declared.turned.Turned.{Turned}
+use Rattle.fj_runner.specs.declared.turned.Turned.TheVariants as turned
+use Rattle.fj_acts.specs.Holding.{MayEnter}
+use Rattle.fj_acts.specs.declared.doing.Given.{Given}
+use Rattle.fj_acts.specs.declared.doing.Given.TheVariants as given
+use Rattle.fj_acts.specs.declared.state.Core.{Core}
+use Rattle.fj_items.specs.declared.lost.Lost.{Lost}
+use Rattle.fj_runner.proofs.Numbering.{equal_by}
+
+-- ---- one more at a slot
+
+pub is_more : (counts : List ℕ) (slot more : ℕ) → slot < length counts → more ≡ get_or counts slot 0 + 1 → IsMore slot counts (slice_set counts slot more)
+is_more counts slot more within is = λ at.
+    let due : Bool → ℕ = λ b. if b then get_or counts at 0 + 1 else get_or counts at 0 in
+    elim (eqb_tells at slot) [
+      | inl a ↦ subst (λ k. get_or (slice_set counts slot more) k 0 ≡ get_or counts k 0 + 1) (sym a.1) (get_or-set_same counts slot more 0 within ∙ is) ∙ sym (ap due a.0)
+      | inr a ↦ get_or-set_other counts slot at more 0 a.1 ∙ sym (ap due a.0)
+    ]
+
+most_by : (b : Bool) (count more : ℕ) → more ≡ (if b then count + 1 else count) → more ≤ count + 1
+most_by true count more e = omega (arith, e)
+most_by false count more e = omega (arith, e)
+
+pub one_at_most : (slot : ℕ) (counts counts' : List ℕ) → IsMore slot counts counts' → (at : ℕ) → get_or counts' at 0 ≤ get_or counts at 0 + 1
+one_at_most slot counts counts' more at = most_by (at == slot) (get_or counts at 0) (get_or counts' at 0) (more at)
+
+-- ---- the statement's own job comes back
+
+have_by : {F : Type 0} → (b : Bool) (job : Job F) (answer : Answer) (own last : ℕ) (then_ : Then) (names : List (List ℕ)) (us : List Connected) (what : Statement) → HaveThen then_ names us what
+    → HaveAt (cond b (stage.Answered then_ job answer) (stage.Awaiting own last then_)) names us what
+have_by true job answer own last then_ names us what h = h
+have_by false job answer own last then_ names us what h = h
+
+pub have_with : {F : Type 0} → (at n : ℕ) (job : Job F) (answer : Answer) (s : Stage F) (names : List (List ℕ)) (us : List Connected) (what : Statement) → HaveAt s names us what
+    → HaveAt (with_own at n job answer s) names us what
+have_with at n job answer stage.Start names us what h = h
+have_with at n job answer (stage.Waiting whose from) names us what h = h
+have_with at n job answer (stage.Resuming slots next condition) names us what h = h
+have_with at n job answer (stage.Going next last) names us what h = h
+have_with at n job answer (stage.Awaiting own last then_) names us what h = have_by ((own == at) && (last == n)) job answer own last then_ names us what h
+have_with at n job answer (stage.Answered then_ other reply) names us what h = h
+
+pub have_start : {F : Type 0} → (s : Stage F) (names : List (List ℕ)) (us : List Connected) (what : Statement) → s ≡ stage.Start → HaveFiles names us → HaveAt s names us what
+have_start s names us what is have = subst (λ x. HaveAt x names us what) (sym is) have
+
+pub files_at : {F : Type 0} → (s : Stage F) (names : List (List ℕ)) (us : List Connected) (what : Statement) → s ≡ stage.Start → HaveAt s names us what → HaveFiles names us
+files_at s names us what is have = subst (λ x. HaveAt x names us what) is have
+
+-- ---- a turn was taken
+
+module _ {F : Type 0} {ghosts : Ghosts F} (m : Machine F ghosts) (s : State F ghosts) (st : Stated) (more : List Stated) (few : s.ending ≡ None → s.core.next ≤ m.at + 1) where
+  at_hand : (st' : Stated) (more' : List Stated) → rest_of m ≡ st ∷ more → rest_of m ≡ st' ∷ more' → st ≡ st'
+  at_hand st' more' here e = let both : st ∷ more ≡ st' ∷ more' = sym here ∙ e in cc
+
+  pub on_paused : (a : Ask (Job F)) → rest_of m ≡ st ∷ more → HaveTurned (turned.Pauses a) m.state st.0.what → Counts (turned.Pauses a) s m.state → IsAt m
+  on_paused a here have counts = record {
+    files = λ st' more' e. subst (λ (x : Stated). HaveAt m.state.stage m.state.core.names m.state.core.units x.0.what) (at_hand st' more' here e) have;
+    few = λ none. let f = few (sym counts.2 ∙ none) in omega (arith, f, counts.0);
+  }
+
+  pub on_stopped : (have : (m.state.stage ≡ stage.Start) × HaveFiles m.state.core.names m.state.core.units) → IsSome m.state.ending → IsAt m
+  on_stopped have ended = record {
+    files = λ st' more' e. have_start m.state.stage m.state.core.names m.state.core.units st'.0.what have.0 have.1;
+    few = λ none. absurd (let z : false ≡ true = sym (ap is_some none) ∙ ended in let bad : ⊥ = cc in bad);
+  }
+
+  pub on_passed : (m' : Machine F ghosts) → m'.state ≡ m.state → m'.at ≡ m.at + 1 → (m.state.stage ≡ stage.Start) × HaveFiles m.state.core.names m.state.core.units
+      → m.state.core.next ≤ s.core.next + 1 → m.state.ending ≡ s.ending → IsAt m'
+  on_passed m' same at have next ending = record {
+    files = λ st' more' e. subst (λ (x : State F ghosts). HaveAt x.stage x.core.names x.core.units st'.0.what) (sym same) (have_start m.state.stage m.state.core.names m.state.core.units st'.0.what have.0 have.1);
+    few = λ none.
+        let f = few (sym ending ∙ ap (λ (x : State F ghosts). x.ending) (sym same) ∙ none) in
+        let n : m'.state.core.next ≡ m.state.core.next = ap (λ (x : State F ghosts). x.core.next) same in
+        omega (arith, f, next, n, at);
+  }
+
+-- one that does not pause gives no job
+pub room_kept : {F : Type 0} {ghosts : Ghosts F} → (t : Turned F) (s s' : State F ghosts) → Counts t s s' → DoesNotPause t → HasRoom s.sent.items → HasRoom s'.sent.items
+room_kept (turned.Pauses a) s s' counts still room = absurd still
+room_kept turned.Passes s s' counts still room = subst (λ l. HasRoom l.items) (sym counts.1) room
+room_kept turned.Stops s s' counts still room = subst (λ l. HasRoom l.items) (sym counts.0) room
+
+-- behind a transfer that is made pending
+pub entered_next : (next : Given) (number : ℕ) (old new : Core) → MayEnter next number old new → new.next ≤ old.next + 1
+entered_next (given.Finishes condition) number old new m = omega (arith, m.1)
+entered_next (given.Pends unit slot) number old new (inl m) = omega (arith, m.1)
+entered_next (given.Pends unit slot) number old new (inr m) = omega (arith, m.1)
+
+pub count_entered : {F : Type 0} {ghosts : Ghosts F} → (r : Result (Turned F) Lost) (s mid s' : State F ghosts) → mid.core.next ≤ s.core.next + 1 → mid.sent ≡ s.sent → mid.ending ≡ s.ending → s'.core.next ≡ mid.core.next
+    → IfOk r (λ t. Counts t mid s') → IfOk r DoesNotPause → IfOk r (λ t. Counts t s s')
+count_entered (Ok (turned.Pauses a)) s mid s' few sent ending next counts still = absurd still
+count_entered (Ok turned.Passes) s mid s' few sent ending next counts still = (omega (arith, few, next), counts.1 ∙ sent, counts.2 ∙ ending)
+count_entered (Ok turned.Stops) s mid s' few sent ending next counts still = (counts.0 ∙ sent, counts.1)
+count_entered (Err lost) s mid s' few sent ending next counts still = tt
+
+-- the same statement
+pub on_same : {F : Type 0} {ghosts : Ghosts F} → (m m' : Machine F ghosts) → m'.deck ≡ m.deck → m'.at ≡ m.at → m'.state ≡ m.state → IsAt m → IsAt m'
+on_same {F = F} {ghosts = ghosts} m m' deck at same on =
+    let rest : rest_of m' ≡ rest_of m = ap (λ n. drop n (stated m'.deck.statements)) at ∙ ap (λ d. drop m.at (stated d.statements)) deck in
+    record {
+      files = λ st more e. subst (λ (x : State F ghosts). HaveAt x.stage x.core.names x.core.units st.0.what) (sym same) (on.files st more (sym rest ∙ e));
+      few = λ none.
+          let f = on.few (ap (λ (x : State F ghosts). x.ending) (sym same) ∙ none) in
+          let n : m'.state.core.next ≡ m.state.core.next = ap (λ (x : State F ghosts). x.core.next) same in
+          omega (arith, f, n, at);
+    }
+
+-- ---- counts
+
+pub at_most_one : (hand : Hand) → asked_for hand ≤ 1
+at_most_one Idle = omega arith
+at_most_one (Submitting slot) = omega arith
+at_most_one (Settling slot) = omega arith
+
+none_idle : (hand : Hand) → hand ≡ Idle → asked_for hand ≡ 0
+none_idle hand e = ap asked_for e
+
+pub can_asked : {J : Type 0} → (a : Ask J) (hand : Hand) (sent sent' : List ℕ) (left : ℕ) → IsDueAsk (due_of hand) a → SentFor a sent sent' → CanCount sent left 0 → CanCount sent' left (asked_for hand)
+can_asked ask.Finished hand sent sent' left due same can = λ slot. let c = can slot in let e : get_or sent' slot 0 ≡ get_or sent slot 0 = ap (λ l. get_or l slot 0) same in omega (arith, c, e)
+can_asked (ask.Submit at job) Idle sent sent' left due more can = absurd (let bad : ⊥ = cc in bad)
+can_asked (ask.Submit at job) (Submitting n) sent sent' left due more can = λ slot. let c = can slot in let m = one_at_most at sent sent' more slot in omega (arith, c, m)
+can_asked (ask.Submit at job) (Settling n) sent sent' left due more can = λ slot. let c = can slot in let m = one_at_most at sent sent' more slot in omega (arith, c, m)
+can_asked (ask.Settle at) hand sent sent' left due same can = λ slot. let c = can slot in let e : get_or sent' slot 0 ≡ get_or sent slot 0 = ap (λ l. get_or l slot 0) same in omega (arith, c, e)
+
+-- one ask less is left
+pub can_less : (counts : List ℕ) (left left' : ℕ) (hand : Hand) → left' < left → CanCount counts left (asked_for hand) → CanCount counts left' 0
+can_less counts left left' hand less can = λ slot. let c = can slot in let one = at_most_one hand in omega (arith, c, one, less)
+
+pub can_later : (counts : List ℕ) (left left' : ℕ) → left' < left → CanCount counts left 0 → CanCount counts left' 0
+can_later counts left left' less can = λ slot. let c = can slot in omega (arith, c, less)
+
+-- one more was told, and one ask less is left
+pub can_told : (told told' : List ℕ) (left left' : ℕ) → ((slot : ℕ) → get_or told' slot 0 ≤ get_or told slot 0 + 1) → left' < left → CanCount told left 0 → CanCount told' left' 0
+can_told told told' left left' more less can = λ slot. let c = can slot in let m = more slot in omega (arith, c, m, less)
+
+pub room_for : (counts : List ℕ) (left ahead : ℕ) → ahead ≤ 1 → CanCount counts left ahead → HasRoom counts
+room_for counts left ahead one can = λ slot. let c = can slot in omega (arith, c, one)
+
+pub room_prop : (counts : List ℕ) → IsProp (HasRoom counts)
+room_prop counts = hlevel props
+
+-- ---- jobs that are owed
+
+pub owes_prop : (hand : Hand) (owed sent told : List ℕ) → IsProp (OwesAsGiven hand owed sent told)
+owes_prop hand owed sent told = hlevel props
+
+owes_by : (b : Bool) (owed told sent sent' : ℕ) → owed + told + 0 ≡ sent → sent' ≡ (if b then sent + 1 else sent) → owed + told + (if b then 1 else 0) ≡ sent'
+owes_by true owed told sent sent' e more = omega (arith, e, more)
+owes_by false owed told sent sent' e more = omega (arith, e, more)
+
+pub owes_asked : {J : Type 0} → (a : Ask J) (hand : Hand) (owed sent sent' told : List ℕ) → IsDueAsk (due_of hand) a → SentFor a sent sent' → OwesAsGiven Idle owed sent told → OwesAsGiven hand owed sent' told
+owes_asked ask.Finished Idle owed sent sent' told due same owes = subst (λ l. OwesAsGiven Idle owed l told) (sym same) owes
+owes_asked ask.Finished (Submitting n) owed sent sent' told due same owes = absurd (let bad : ⊥ = cc in bad)
+owes_asked ask.Finished (Settling n) owed sent sent' told due same owes = absurd (let bad : ⊥ = cc in bad)
+owes_asked (ask.Submit at job) Idle owed sent sent' told due more owes = absurd (let bad : ⊥ = cc in bad)
+owes_asked (ask.Submit at job) (Submitting n) owed sent sent' told due more owes =
+    let same : at ≡ n = cc in λ slot. owes_by (slot == n) (get_or owed slot 0) (get_or told slot 0) (get_or sent slot 0) (get_or sent' slot 0) (owes slot) (subst (λ k. IsMore k sent sent') same more slot)
+owes_asked (ask.Submit at job) (Settling n) owed sent sent' told due more owes = absurd (let bad : ⊥ = cc in bad)
+owes_asked (ask.Settle at) Idle owed sent sent' told due same owes = absurd (let bad : ⊥ = cc in bad)
+owes_asked (ask.Settle at) (Submitting n) owed sent sent' told due same owes = absurd (let bad : ⊥ = cc in bad)
+owes_asked (ask.Settle at) (Settling n) owed sent sent' told due same owes = subst (λ l. OwesAsGiven (Settling n) owed l told) (sym same) owes
+
+owed_took : (b : Bool) (owed told sent owed' : ℕ) → owed + told + (if b then 1 else 0) ≡ sent → owed' ≡ (if b then owed + 1 else owed) → owed' + told + 0 ≡ sent
+owed_took true owed told sent owed' e more = omega (arith, e, more)
+owed_took false owed told sent owed' e more = omega (arith, e, more)
+
+-- the job at hand is taken
+pub owes_took : (hand : Hand) (owed owed' sent told : List ℕ) → ((slot : ℕ) → owed_at owed' slot ≡ owed_after_submit (due_of hand) (owed_at owed) slot) → OwesAsGiven hand owed sent told → OwesAsGiven Idle owed' sent told
+owes_took Idle owed owed' sent told more owes = λ slot. let o = owes slot in let m = more slot in omega (arith, o, m)
+owes_took (Submitting n) owed owed' sent told more owes = λ slot. owed_took (slot == n) (get_or owed slot 0) (get_or told slot 0) (get_or sent slot 0) (get_or owed' slot 0) (owes slot) (more slot)
+owes_took (Settling n) owed owed' sent told more owes = λ slot. let o = owes slot in let m = more slot in omega (arith, o, m)
+
+owed_told : (b : Bool) (owed told sent owed' told' : ℕ) → (b ≡ true → 0 < owed) → owed + told + 0 ≡ sent → owed' ≡ (if b then owed - 1 else owed) → told' ≡ (if b then told + 1 else told) → owed' + told' + 0 ≡ sent
+owed_told true owed told sent owed' told' some e less more = let s = some refl in omega (arith, e, less, more, s)
+owed_told false owed told sent owed' told' some e less more = omega (arith, e, less, more)
+
+-- the answer at hand is told
+pub owes_told : {F : Type 0} {ghosts : Ghosts F} → (hand : Hand) (over : Bool) (left : ℕ) (s : State F ghosts) (owed owed' told' : List ℕ) → MaySettle hand over left owed → IsSettling (due_of hand) → AwaitsAtHand hand s
+    → ((slot : ℕ) → owed_at owed' slot ≡ owed_after_settle (due_of hand) (owed_at owed) slot) → IsMore s.due s.told.items told' → OwesAsGiven hand owed s.sent.items s.told.items → OwesAsGiven Idle owed' s.sent.items told'
+owes_told Idle over left s owed owed' told' may settling w less more owes = absurd settling
+owes_told (Submitting n) over left s owed owed' told' may settling w less more owes = absurd settling
+owes_told (Settling n) over left s owed owed' told' may settling w less more owes = λ slot.
+    owed_told (slot == n) (get_or owed slot 0) (get_or s.told.items slot 0) (get_or s.sent.items slot 0) (get_or owed' slot 0) (get_or told' slot 0)
+    (λ e. subst (λ k. 0 < get_or owed k 0) (sym (equal_by slot n e)) (may n refl).3) (owes slot) (less slot) (subst (λ k. IsMore k s.told.items told') w.due more slot)
+
+-- ---- an answer that is awaited
+
+pub awaited_asked : {F : Type 0} {ghosts : Ghosts F} → (a : Ask (Job F)) (hand : Hand) (s : State F ghosts) → IsDueAsk (due_of hand) a → KeepsToSlots a s → AwaitsAtHand hand s
+awaited_asked a Idle s due keeps = tt
+awaited_asked a (Submitting n) s due keeps = tt
+awaited_asked ask.Finished (Settling n) s due keeps = absurd (let bad : ⊥ = cc in bad)
+awaited_asked (ask.Submit at job) (Settling n) s due keeps = absurd (let bad : ⊥ = cc in bad)
+awaited_asked (ask.Settle at) (Settling n) s due keeps = let same : at ≡ n = cc in subst (λ k. Awaits k s) same keeps
+
+pub none_awaited : {F : Type 0} {ghosts : Ghosts F} → (hand : Hand) (s : State F ghosts) → hand ≡ Idle → AwaitsAtHand hand s
+none_awaited hand s idle = subst (λ h. AwaitsAtHand h s) (sym idle) tt
+
+-- so it may be asked for
+pub may_ask : {F : Type 0} {ghosts : Ghosts F} → (a : Ask (Job F)) (s : State F ghosts) (hand : Hand) (owed sent : List ℕ) → hand ≡ Idle → OwesAsGiven hand owed sent s.told.items → SentFor a sent s.sent.items → KeepsToSlots a s
+    → MayAsk a owed
+may_ask ask.Finished s hand owed sent idle owes same keeps = tt
+may_ask (ask.Submit at job) s hand owed sent idle owes more keeps = omega (arith, keeps)
+may_ask (ask.Settle at) s hand owed sent idle owes same keeps =
+    let o = owes at in
+    let none : given_ahead hand at ≡ 0 = ap (λ h. given_ahead h at) idle in
+    let e : get_or s.sent.items at 0 ≡ get_or sent at 0 = ap (λ l. get_or l at 0) same in
+    (omega (arith, keeps.inside), omega (arith, o, none, e, keeps.owed))
+
+module _ {F : Type 0} {ghosts : Ghosts F} (hand : Hand) (s : State F ghosts) (settling : IsSettling (due_of hand)) (awaited : AwaitsAtHand hand s) where
+  -- that of the slot of the last Settle
+  pub awaits_due : Awaits s.due s
+  awaits_due = by hand settling awaited
+    where
+      by : (h : Hand) → IsSettling (due_of h) → AwaitsAtHand h s → Awaits s.due s
+      by Idle st w = absurd st
+      by (Submitting n) st w = absurd st
+      by (Settling n) st w = subst (λ k. Awaits k s) (sym w.due) w
+
+pub still_going : (a b : Bool) → (a ≡ true → b ≡ true) → b ≡ false → a ≡ false
+still_going true b up e = absurd (let z : true ≡ false = sym (up refl) ∙ e in let bad : ⊥ = cc in bad)
+still_going false b up e = refl
+
+-- ---- one call
+
+module _ {F : Type 0} {ghosts : Ghosts F} (m m' : Machine F ghosts) (g : IsGoing m) where
+  pub going_asked : (mid : Machine F ghosts) (a : Ask (Job F)) → m.tally.hand ≡ Idle → IsAt mid → mid.deck ≡ m.deck → mid.tally ≡ m.tally → SentFor a m.state.sent.items mid.state.sent.items → KeepsToSlots a mid.state
+      → mid.state.told ≡ m.state.told → m'.deck ≡ mid.deck → m'.at ≡ mid.at → m'.state ≡ mid.state → m'.tally.left ≡ mid.tally.left → m'.tally.owed ≡ mid.tally.owed → IsDueAsk (due_of m'.tally.hand) a → IsGoing m'
+  going_asked mid a idle on deck tally sent keeps told deck' at' state' left' owed' due =
+      let left : m'.tally.left ≡ m.tally.left = left' ∙ ap (λ t. t.left) tally in
+      record {
+        sound = subst (λ d. IsSound d) (sym (deck' ∙ deck)) g.sound;
+        at = on_same mid m' deck' at' state' on;
+        sent = subst (λ k. CanCount m'.state.sent.items k (asked_for m'.tally.hand)) (sym left)
+            (subst (λ (x : State F ghosts). CanCount x.sent.items m.tally.left (asked_for m'.tally.hand)) (sym state')
+            (can_asked a m'.tally.hand m.state.sent.items mid.state.sent.items m.tally.left due sent (subst (CanCount m.state.sent.items m.tally.left) (none_idle m.tally.hand idle) g.sent)));
+        told = subst (λ k. CanCount m'.state.told.items k 0) (sym left)
+            (subst (λ (x : State F ghosts). CanCount x.told.items m.tally.left 0) (sym state') (subst (λ l. CanCount l.items m.tally.left 0) (sym told) g.told));
+        owes = subst (λ o. OwesAsGiven m'.tally.hand o.items m'.state.sent.items m'.state.told.items) (sym (owed' ∙ ap (λ t. t.owed) tally))
+            (subst (λ (x : State F ghosts). OwesAsGiven m'.tally.hand m.tally.owed.items x.sent.items x.told.items) (sym state')
+            (subst (λ l. OwesAsGiven m'.tally.hand m.tally.owed.items mid.state.sent.items l.items) (sym told)
+            (owes_asked a m'.tally.hand m.tally.owed.items m.state.sent.items mid.state.sent.items m.state.told.items due sent
+            (subst (λ h. OwesAsGiven h m.tally.owed.items m.state.sent.items m.state.told.items) idle g.owes))));
+        awaited = subst (AwaitsAtHand m'.tally.hand) (sym state') (awaited_asked a m'.tally.hand mid.state due keeps);
+      }
+
+  -- a job was taken
+  pub going_took : m'.deck ≡ m.deck → m'.at ≡ m.at → m'.state ≡ m.state → m'.tally.left < m.tally.left → m'.tally.hand ≡ Idle
+      → ((slot : ℕ) → owed_at m'.tally.owed.items slot ≡ owed_after_submit (due_of m.tally.hand) (owed_at m.tally.owed.items) slot) → IsGoing m'
+  going_took deck at state less idle owed = record {
+    sound = subst (λ d. IsSound d) (sym deck) g.sound;
+    at = on_same m m' deck at state g.at;
+    sent = subst (CanCount m'.state.sent.items m'.tally.left) (sym (none_idle m'.tally.hand idle))
+        (subst (λ (x : State F ghosts). CanCount x.sent.items m'.tally.left 0) (sym state) (can_less m.state.sent.items m.tally.left m'.tally.left m.tally.hand less g.sent));
+    told = subst (λ (x : State F ghosts). CanCount x.told.items m'.tally.left 0) (sym state) (can_later m.state.told.items m.tally.left m'.tally.left less g.told);
+    owes = subst (λ h. OwesAsGiven h m'.tally.owed.items m'.state.sent.items m'.state.told.items) (sym idle)
+        (subst (λ (x : State F ghosts). OwesAsGiven Idle m'.tally.owed.items x.sent.items x.told.items) (sym state)
+        (owes_took m.tally.hand m.tally.owed.items m'.tally.owed.items m.state.sent.items m.state.told.items owed g.owes));
+    awaited = none_awaited m'.tally.hand m'.state idle;
+  }
+
+  -- an answer was told
+  pub going_told : m'.deck ≡ m.deck → m'.at ≡ m.at → Hears m.state m'.state → m'.tally.left < m.tally.left → m'.tally.hand ≡ Idle → IsSettling (due_of m.tally.hand)
+      → ((slot : ℕ) → owed_at m'.tally.owed.items slot ≡ owed_after_settle (due_of m.tally.hand) (owed_at m.tally.owed.items) slot) → IsGoing m'
+  going_told deck at h less idle settling owed =
+      let rest : rest_of m' ≡ rest_of m = ap (λ n. drop n (stated m'.deck.statements)) at ∙ ap (λ d. drop m.at (stated d.statements)) deck in
+      record {
+        sound = subst (λ d. IsSound d) (sym deck) g.sound;
+        at = record {
+          files = λ st more e. h.files st.0.what (g.at.files st more (sym rest ∙ e));
+          few = λ none. let f = g.at.few (sym h.ending ∙ none) in omega (arith, f, h.next, at);
+        };
+        sent = subst (CanCount m'.state.sent.items m'.tally.left) (sym (none_idle m'.tally.hand idle))
+            (subst (λ l. CanCount l.items m'.tally.left 0) (sym h.sent) (can_less m.state.sent.items m.tally.left m'.tally.left m.tally.hand less g.sent));
+        told = can_told m.state.told.items m'.state.told.items m.tally.left m'.tally.left (one_at_most m.state.due m.state.told.items m'.state.told.items h.told) less g.told;
+        owes = subst (λ x. OwesAsGiven x m'.tally.owed.items m'.state.sent.items m'.state.told.items) (sym idle)
+            (subst (λ l. OwesAsGiven Idle m'.tally.owed.items l.items m'.state.told.items) (sym h.sent)
+            (owes_told m.tally.hand m.tally.over m.tally.left m.state m.tally.owed.items m'.tally.owed.items m'.state.told.items m.tally.settles settling g.awaited owed h.told g.owes));
+        awaited = none_awaited m'.tally.hand m'.state idle;
+      }
+
+-- ---- the first one
+
+-- no unit has a file that is out
+pub first_files : (names : List (List ℕ)) (us : List Connected) → names ≡ [] → us ≡ [] → HaveFiles names us
+first_files names us no_names no_units = subst (λ ns. HaveFiles ns us) (sym no_names) (subst (HaveFiles []) (sym no_units) (λ name. refl, tt))
+
+-- nothing is counted yet
+pub first_can : (tally : Tally) (counts : List ℕ) → tally.owed.items ≡ replicate 16 0 → counts ≡ replicate 16 0 → CanCount counts tally.left 0
+first_can tally counts owed none = λ slot.
+    let f = tally.few slot in
+    let e : get_or tally.owed.items slot 0 ≡ get_or counts slot 0 = ap (λ l. get_or l slot 0) (owed ∙ sym none) in
+    omega (arith, f, e)
+
+none_counted : (n slot : ℕ) → get_or (replicate n zero) slot zero ≡ zero
+none_counted zero slot = refl
+none_counted (suc n) zero = refl
+none_counted (suc n) (suc slot) = none_counted n slot
+
+pub first_owes : (hand : Hand) (owed sent told : List ℕ) → hand ≡ Idle → owed ≡ replicate 16 0 → sent ≡ replicate 16 0 → told ≡ replicate 16 0 → OwesAsGiven hand owed sent told
+first_owes hand owed sent told idle none_owed none_sent none_told = λ slot.
+    let none = none_counted 16 slot in
+    let o : get_or owed slot 0 ≡ 0 = ap (λ l. get_or l slot 0) none_owed ∙ none in
+    let s : get_or sent slot 0 ≡ 0 = ap (λ l. get_or l slot 0) none_sent ∙ none in
+    let t : get_or told slot 0 ≡ 0 = ap (λ l. get_or l slot 0) none_told ∙ none in
+    let a : given_ahead hand slot ≡ 0 = ap (λ h. given_ahead h slot) idle in
+    omega (arith, o, s, t, a)
