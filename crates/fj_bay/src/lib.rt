@@ -7,8 +7,6 @@ mod cases;
 mod job;
 mod laws;
 mod plain;
-#[cfg(test)]
-mod tests;
 
 pub use bay::Bay;
 pub use cases::{

@@ -17,6 +17,3 @@ pub use laws::{
 };
 pub use need::Need;
 pub use pending::{Pending, Places};
-
-#[cfg(test)]
-mod tests;

@@ -11,6 +11,3 @@ pub use direct::{read_direct, write_direct};
 pub use laws::{gaps_are_filled, records_stand_apart};
 pub use run::write_run;
 pub use stream::{read_stream, write_stream};
-
-#[cfg(test)]
-mod tests;

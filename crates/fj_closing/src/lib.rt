@@ -8,8 +8,6 @@ mod laws;
 mod losing;
 mod remains;
 mod serving;
-#[cfg(test)]
-mod tests;
 
 pub use closing::close_units;
 pub use finishing::finish;

@@ -4,8 +4,6 @@
 mod connection;
 mod laws;
 mod spot;
-#[cfg(test)]
-mod tests;
 
 pub use connection::{Connection, OpenFault, open_file};
 pub use laws::{

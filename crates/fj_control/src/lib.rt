@@ -5,8 +5,6 @@ mod again;
 mod cursor;
 mod modes;
 mod step;
-#[cfg(test)]
-mod tests;
 mod walker;
 
 pub use cursor::{Cursor, gives_the_steps, reverts_to_the_last_group};

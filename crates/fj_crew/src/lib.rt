@@ -12,6 +12,3 @@ mod workers;
 
 pub use crew::{CrewLost, run_crew};
 pub use with_workers::serve_with;
-
-#[cfg(test)]
-mod tests;

@@ -13,6 +13,3 @@ pub use fj_statement::{
 };
 pub use laws::{decks_are_sound, one_answer, some_answer};
 pub use reader::parse_deck;
-
-#[cfg(test)]
-mod tests;

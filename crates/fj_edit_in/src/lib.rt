@@ -8,8 +8,6 @@ mod integer;
 mod laws;
 mod logical;
 mod number;
-#[cfg(test)]
-mod tests;
 mod text;
 mod trim;
 

@@ -8,8 +8,6 @@ mod integer;
 mod laws;
 mod logical;
 mod row;
-#[cfg(test)]
-mod tests;
 mod text;
 
 pub use bits::bits_field;

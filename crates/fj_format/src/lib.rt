@@ -13,8 +13,6 @@ mod printer;
 mod reader;
 mod scanner;
 mod symbol;
-#[cfg(test)]
-mod tests;
 
 pub use fault::FormatFault;
 pub use format::{Format, parse, parse_items};

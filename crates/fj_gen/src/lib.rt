@@ -5,8 +5,6 @@ mod deck;
 mod draws;
 mod laws;
 mod sum;
-#[cfg(test)]
-mod tests;
 
 pub use deck::generate;
 pub use laws::{cases_are_right, draws_are_in_range};

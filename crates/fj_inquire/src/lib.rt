@@ -6,8 +6,6 @@ mod answers;
 mod connected;
 mod inquire;
 mod laws;
-#[cfg(test)]
-mod tests;
 mod values;
 
 pub use connected::Connected;

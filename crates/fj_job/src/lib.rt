@@ -11,8 +11,6 @@ mod ready;
 mod report;
 mod streams;
 mod task;
-#[cfg(test)]
-mod tests;
 mod text;
 mod workers;
 mod writing;

@@ -7,8 +7,6 @@ mod line;
 mod moves;
 mod page;
 mod place;
-#[cfg(test)]
-mod tests;
 mod unwritten;
 
 pub use laws::{nothing_is_too_long, output_is_exact, records_are_texts, texts_are_of_maps};

@@ -33,6 +33,3 @@ pub use scan::{
 };
 pub use shown::push_value;
 pub use write::{COLUMNS, put_list, write_list};
-
-#[cfg(test)]
-mod tests;

@@ -15,8 +15,6 @@ mod names;
 mod operand;
 mod rules;
 mod scope;
-#[cfg(test)]
-mod tests;
 mod transfer;
 
 pub use fault::Fault;

@@ -9,8 +9,6 @@ mod limits;
 mod modes;
 mod settle;
 mod specifiers;
-#[cfg(test)]
-mod tests;
 mod unit;
 mod words;
 

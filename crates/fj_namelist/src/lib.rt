@@ -18,6 +18,3 @@ pub use laws::{
 };
 pub use read::read_group;
 pub use write::write_group;
-
-#[cfg(test)]
-mod tests;

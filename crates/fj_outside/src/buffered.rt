@@ -42,6 +42,13 @@ impl<F: FileStore> Buffered<F> {
         }
     }
 
+    /// The file in it, borrowed.
+    pub fn get_ref(&self) -> &F
+        ensures { result ≡ file_in self.now }
+    {
+        &self.file
+    }
+
     /// The file in it. It takes no memory.
     pub fn into_inner(self) -> F
         ensures { result ≡ file_in self }
@@ -161,6 +168,3 @@ impl<F: FileStore> FileStore for Buffered<F> {
         self.file.faults()
     }
 }
-
-#[cfg(test)]
-mod tests;

@@ -21,7 +21,8 @@ pub struct GateFile {
 impl GateFile {
     ghost use Rattle.fj_outside.specs.Gate.{turns_of, file_bytes, file_waits, file_opens, file_turns, file_count};
 
-    pub(crate) fn new(inner: MemoryFile, gate: Gate, waits: bool, opens: bool) -> GateFile
+    /// A file in memory at a gate: whether its calls wait there, and whether they open it.
+    pub fn new(inner: MemoryFile, gate: Gate, waits: bool, opens: bool) -> GateFile
         ensures bytes { file_bytes result ≡ inner }
         ensures turns { file_turns result ≡ turns_of gate }
         ensures waits { file_waits result ≡ waits }

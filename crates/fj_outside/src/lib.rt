@@ -29,6 +29,7 @@ pub use failing_disk::FailingDisk;
 pub use failing_file::FailingFile;
 pub use failing_sink::FailingSink;
 pub use failing_source::FailingSource;
+pub use gate::Gate;
 pub use gate_disk::GateDisk;
 pub use gate_file::GateFile;
 pub use laws::{
@@ -40,6 +41,3 @@ pub use memory_sink::MemorySink;
 pub use memory_source::MemorySource;
 pub use outside::{Disk, FileStore, Sink, Source};
 pub use window::WINDOW;
-
-#[cfg(test)]
-mod tests;

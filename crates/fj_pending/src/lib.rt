@@ -14,8 +14,6 @@ mod pick;
 mod runs;
 mod taking;
 mod tell;
-#[cfg(test)]
-mod tests;
 mod whose;
 
 pub use held::{Held, Told};

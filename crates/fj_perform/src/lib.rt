@@ -4,8 +4,6 @@
 mod input;
 mod output;
 mod start;
-#[cfg(test)]
-mod tests;
 mod whole;
 
 pub use whole::perform;

@@ -18,6 +18,3 @@ pub use laws::{shows_nothing_to_begin, tells_stops_apart};
 pub use queue::{Lost, LostSlot};
 pub use seats::{Hand, HandOf, Queue, QueueOf, Submitter, SubmitterOf};
 pub use view::Agenda;
-
-#[cfg(test)]
-mod tests;

@@ -1,7 +1,15 @@
-//! Tests of all calls on records, over a file of which a call fails and through a window.
+//! Tests of records and connections, over a file of which a call fails and through a window.
 #![tactic(auto)]
 
 #[cfg(test)]
-mod tests;
+mod byterec;
+#[cfg(test)]
+mod connect;
+#[cfg(test)]
+mod records;
+#[cfg(test)]
+mod seqrec;
+#[cfg(test)]
+mod unfrec;
 #[cfg(test)]
 mod windows;

@@ -8,8 +8,6 @@ mod line;
 mod pieces;
 mod status;
 mod summary;
-#[cfg(test)]
-mod tests;
 mod trace;
 mod variable;
 

@@ -13,6 +13,3 @@ pub use laws::{
     records_are_the_lines_behind,
 };
 pub use read::{RecordRead, read_record};
-
-#[cfg(test)]
-mod tests;

@@ -12,6 +12,3 @@ pub use laws::{begins_exactly, jobs_are_served_in_order, stops_have_causes, tell
 pub use slot::Slot;
 pub use stop::Halt;
 pub use told::{Out, Refused, Told};
-
-#[cfg(test)]
-mod tests;

@@ -22,6 +22,3 @@ pub use piece::Piece;
 pub use run::Run;
 pub use store::Store;
 pub use table::Table;
-
-#[cfg(test)]
-mod tests;

@@ -26,6 +26,3 @@ pub use token::Sign;
 pub use written::{
     Asking, Assignment, Declaration, Format, Group, Inquire, OnUnit, Transfer, Written,
 };
-
-#[cfg(test)]
-mod tests;

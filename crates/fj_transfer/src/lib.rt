@@ -19,8 +19,6 @@ mod reached;
 mod reader;
 mod run;
 mod stored;
-#[cfg(test)]
-mod tests;
 mod transfer;
 mod unformatted;
 mod writer;

@@ -13,6 +13,3 @@ pub use backspace::backspace_frame;
 pub use laws::{frames_are_found, values_come_back};
 pub use read::{FrameRead, read_frame};
 pub use value::{get_value, put_value};
-
-#[cfg(test)]
-mod tests;

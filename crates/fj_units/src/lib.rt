@@ -3,8 +3,6 @@
 
 mod connected;
 mod names;
-#[cfg(test)]
-mod tests;
 mod units;
 
 pub use connected::Connected;

@@ -21,6 +21,3 @@ pub use laws::{
 pub use script::Script;
 pub use slots::Slots;
 pub use world::{Unmade, World};
-
-#[cfg(test)]
-mod tests;

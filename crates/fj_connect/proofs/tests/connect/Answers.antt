@@ -1,5 +1,0 @@
-use Rattle.fj_outside.proofs.HoldingLaws.{free_of_empty}
-use Rattle.fj_connect.proofs.tests.connect.Goals as goal
-
-pub open_file-requires-clause-free : goal.open_file-requires-clause-free
-open_file-requires-clause-free g c = λ t. free_of_empty (g.D.Disk.held c.args.disk.now) _ (c.requires t)

@@ -1,0 +1,449 @@
+// Fields of gfortran, and the conditions.
+use fj_edit_out::{bits_field, field, int_field, integer_fields, logical_field, text_field};
+use fj_value::{Condition, Delim, Edit, EditModes, Kind, Text, Value};
+use std::alloc::{AllocError, Global};
+use std::test::Fail;
+
+/// Base (10 for I), width, least number of digits, value, kind, SIGN='PLUS', and the field that gfortran writes.
+static NUMBERS: [(u8, u32, Option<u32>, i64, Kind, bool, &[u8]); 80] = [
+    (10, 0, None, -2147483648, Kind::Int4, false, b"-2147483648"),
+    (10, 1, None, -2147483648, Kind::Int4, false, b"*"),
+    (10, 11, None, -2147483648, Kind::Int4, false, b"-2147483648"),
+    (10, 10, None, -2147483648, Kind::Int4, false, b"**********"),
+    (
+        10,
+        14,
+        Some(13),
+        -2147483648,
+        Kind::Int4,
+        false,
+        b"-0002147483648",
+    ),
+    (10, 0, None, 2147483647, Kind::Int4, false, b"2147483647"),
+    (10, 1, None, 2147483647, Kind::Int4, false, b"*"),
+    (10, 10, None, 2147483647, Kind::Int4, false, b"2147483647"),
+    (10, 9, None, 2147483647, Kind::Int4, false, b"*********"),
+    (10, 11, None, 2147483647, Kind::Int4, true, b"+2147483647"),
+    (10, 10, None, 2147483647, Kind::Int4, true, b"**********"),
+    (
+        10,
+        0,
+        None,
+        i64::MIN,
+        Kind::Int8,
+        false,
+        b"-9223372036854775808",
+    ),
+    (
+        10,
+        20,
+        None,
+        i64::MIN,
+        Kind::Int8,
+        false,
+        b"-9223372036854775808",
+    ),
+    (
+        10,
+        19,
+        None,
+        i64::MIN,
+        Kind::Int8,
+        false,
+        b"*******************",
+    ),
+    (
+        10,
+        0,
+        None,
+        i64::MAX,
+        Kind::Int8,
+        false,
+        b"9223372036854775807",
+    ),
+    (
+        10,
+        19,
+        None,
+        i64::MAX,
+        Kind::Int8,
+        false,
+        b"9223372036854775807",
+    ),
+    (
+        10,
+        18,
+        None,
+        i64::MAX,
+        Kind::Int8,
+        false,
+        b"******************",
+    ),
+    (10, 4, None, 5, Kind::Int4, true, b"  +5"),
+    (10, 3, Some(0), 0, Kind::Int4, false, b"   "),
+    (10, 0, Some(0), 0, Kind::Int4, false, b" "),
+    (10, 0, Some(0), 0, Kind::Int4, true, b" "),
+    (10, 0, None, 0, Kind::Int4, false, b"0"),
+    (10, 3, Some(0), 0, Kind::Int4, true, b"   "),
+    (10, 5, Some(3), 0, Kind::Int4, true, b" +000"),
+    (10, 1, None, 0, Kind::Int4, true, b"*"),
+    (10, 5, None, 42, Kind::Int4, false, b"   42"),
+    (10, 2, None, 123, Kind::Int4, false, b"**"),
+    (10, 5, Some(3), -7, Kind::Int4, false, b" -007"),
+    (10, 0, Some(5), 42, Kind::Int4, false, b"00042"),
+    (10, 3, Some(3), -7, Kind::Int4, false, b"***"),
+    (10, 4, Some(4), 7, Kind::Int4, false, b"0007"),
+    (10, 4, Some(4), 7, Kind::Int4, true, b"****"),
+    (
+        2,
+        0,
+        None,
+        -2147483648,
+        Kind::Int4,
+        false,
+        b"10000000000000000000000000000000",
+    ),
+    (2, 1, None, -2147483648, Kind::Int4, false, b"*"),
+    (
+        2,
+        32,
+        None,
+        -2147483648,
+        Kind::Int4,
+        false,
+        b"10000000000000000000000000000000",
+    ),
+    (
+        2,
+        31,
+        None,
+        -2147483648,
+        Kind::Int4,
+        false,
+        b"*******************************",
+    ),
+    (8, 0, None, -2147483648, Kind::Int4, false, b"20000000000"),
+    (8, 1, None, -2147483648, Kind::Int4, false, b"*"),
+    (8, 11, None, -2147483648, Kind::Int4, false, b"20000000000"),
+    (8, 10, None, -2147483648, Kind::Int4, false, b"**********"),
+    (16, 0, None, -2147483648, Kind::Int4, false, b"80000000"),
+    (16, 1, None, -2147483648, Kind::Int4, false, b"*"),
+    (16, 8, None, -2147483648, Kind::Int4, false, b"80000000"),
+    (16, 7, None, -2147483648, Kind::Int4, false, b"*******"),
+    (
+        2,
+        0,
+        None,
+        2147483647,
+        Kind::Int4,
+        false,
+        b"1111111111111111111111111111111",
+    ),
+    (
+        2,
+        31,
+        None,
+        2147483647,
+        Kind::Int4,
+        false,
+        b"1111111111111111111111111111111",
+    ),
+    (
+        2,
+        30,
+        None,
+        2147483647,
+        Kind::Int4,
+        false,
+        b"******************************",
+    ),
+    (8, 0, None, 2147483647, Kind::Int4, false, b"17777777777"),
+    (8, 11, None, 2147483647, Kind::Int4, false, b"17777777777"),
+    (8, 10, None, 2147483647, Kind::Int4, false, b"**********"),
+    (16, 0, None, 2147483647, Kind::Int4, false, b"7FFFFFFF"),
+    (16, 8, None, 2147483647, Kind::Int4, false, b"7FFFFFFF"),
+    (16, 7, None, 2147483647, Kind::Int4, false, b"*******"),
+    (
+        2,
+        64,
+        None,
+        i64::MIN,
+        Kind::Int8,
+        false,
+        b"1000000000000000000000000000000000000000000000000000000000000000",
+    ),
+    (
+        2,
+        63,
+        None,
+        i64::MIN,
+        Kind::Int8,
+        false,
+        b"***************************************************************",
+    ),
+    (
+        8,
+        22,
+        None,
+        i64::MIN,
+        Kind::Int8,
+        false,
+        b"1000000000000000000000",
+    ),
+    (
+        8,
+        21,
+        None,
+        i64::MIN,
+        Kind::Int8,
+        false,
+        b"*********************",
+    ),
+    (
+        16,
+        16,
+        None,
+        i64::MIN,
+        Kind::Int8,
+        false,
+        b"8000000000000000",
+    ),
+    (
+        16,
+        15,
+        None,
+        i64::MIN,
+        Kind::Int8,
+        false,
+        b"***************",
+    ),
+    (
+        2,
+        63,
+        None,
+        i64::MAX,
+        Kind::Int8,
+        false,
+        b"111111111111111111111111111111111111111111111111111111111111111",
+    ),
+    (
+        2,
+        62,
+        None,
+        i64::MAX,
+        Kind::Int8,
+        false,
+        b"**************************************************************",
+    ),
+    (
+        8,
+        21,
+        None,
+        i64::MAX,
+        Kind::Int8,
+        false,
+        b"777777777777777777777",
+    ),
+    (
+        8,
+        20,
+        None,
+        i64::MAX,
+        Kind::Int8,
+        false,
+        b"********************",
+    ),
+    (
+        16,
+        16,
+        None,
+        i64::MAX,
+        Kind::Int8,
+        false,
+        b"7FFFFFFFFFFFFFFF",
+    ),
+    (
+        16,
+        15,
+        None,
+        i64::MAX,
+        Kind::Int8,
+        false,
+        b"***************",
+    ),
+    (16, 8, None, -1, Kind::Int4, false, b"FFFFFFFF"),
+    (2, 3, None, -1, Kind::Int4, false, b"***"),
+    (8, 0, None, -1, Kind::Int4, false, b"37777777777"),
+    (16, 9, None, -1, Kind::Int4, false, b" FFFFFFFF"),
+    (16, 16, None, -1, Kind::Int8, false, b"FFFFFFFFFFFFFFFF"),
+    (16, 0, None, -1, Kind::Int8, false, b"FFFFFFFFFFFFFFFF"),
+    (8, 4, None, 8, Kind::Int4, false, b"  10"),
+    (16, 4, Some(2), 10, Kind::Int4, false, b"  0A"),
+    (16, 0, Some(4), 10, Kind::Int4, false, b"000A"),
+    (2, 6, Some(5), 10, Kind::Int4, false, b" 01010"),
+    (2, 3, Some(0), 0, Kind::Int4, false, b"   "),
+    (8, 0, Some(0), 0, Kind::Int4, false, b" "),
+    (16, 4, Some(2), 0, Kind::Int4, false, b"  00"),
+    (16, 1, None, 0, Kind::Int4, false, b"0"),
+    (2, 4, None, 5, Kind::Int4, true, b" 101"),
+];
+
+/// Width, characters, and the field that gfortran writes.
+static TEXTS: [(Option<u32>, &[u8], &[u8]); 7] = [
+    (None, b"abc", b"abc"),
+    (None, b"", b""),
+    (Some(1), b"abc", b"a"),
+    (Some(2), b"abc", b"ab"),
+    (Some(3), b"abc", b"abc"),
+    (Some(5), b"abc", b"  abc"),
+    (Some(2), b"", b"  "),
+];
+
+fn modes(plus: bool) -> EditModes {
+    EditModes {
+        blank_zero: false,
+        comma: false,
+        delim: Delim::Plain,
+        pad: true,
+        plus,
+    }
+}
+
+fn edit_of(base: u8, w: u32, m: Option<u32>) -> Edit {
+    if base == 10 {
+        Edit::Int { w, m }
+    } else {
+        Edit::Bits { base, w, m }
+    }
+}
+
+fn written(
+    alloc: Global,
+    edit: Edit,
+    value: &Value,
+    kind: Kind,
+    plus: bool,
+) -> Result<Text, AllocError> {
+    let mut out = Text::new(alloc);
+    let _ = field(edit, value, kind, modes(plus), &mut out)?;
+    Ok(out)
+}
+
+/// Whether the item is refused, and nothing appended.
+fn is_refused(alloc: Global, edit: Edit, value: &Value, kind: Kind) -> Result<bool, AllocError> {
+    let mut out = Text::from_bytes(alloc, b"=")?;
+    let condition = field(edit, value, kind, modes(false), &mut out)?;
+    Ok(condition == Condition::Error(12) && out.bytes() == b"=".as_slice())
+}
+
+#[test]
+fn fields(rt: HostRuntime) -> Result<(), Fail> {
+    let alloc = rt.alloc();
+    for (base, w, m, n, kind, plus, expected) in NUMBERS.iter() {
+        let out = written(alloc, edit_of(*base, *w, *m), &Value::Int(*n), *kind, *plus)?;
+        assert_eq!(rt; out.bytes(), *expected, "base {base}, width {w}, {n}");
+    }
+    for (w, text, expected) in TEXTS.iter() {
+        let value = Value::of_text(Text::from_bytes(alloc, text)?)?;
+        let out = written(alloc, Edit::Chars { w: *w }, &value, Kind::Chars(3), false)?;
+        assert_eq!(rt; out.bytes(), *expected);
+    }
+    let log = written(
+        alloc,
+        Edit::Log { w: 3 },
+        &Value::Log(false),
+        Kind::Logical,
+        false,
+    )?;
+    assert_eq!(rt; log.bytes(), b"  F".as_slice());
+    let one = written(
+        alloc,
+        Edit::Log { w: 1 },
+        &Value::Log(true),
+        Kind::Logical,
+        false,
+    )?;
+    assert_eq!(rt; one.bytes(), b"T".as_slice());
+    Ok(())
+}
+
+/// G by the kind, each appended to what is there, as gfortran writes it.
+#[test]
+fn general_fields(rt: HostRuntime) -> Result<(), Fail> {
+    let alloc = rt.alloc();
+    let general = Edit::General { w: 5, d: 1 };
+    let text = Value::of_text(Text::from_bytes(alloc, b"abc")?)?;
+    let mut out = Text::new(alloc);
+    let _ = int_field(general, &Value::Int(42), Kind::Int4, modes(false), &mut out)?;
+    let _ = logical_field(
+        general,
+        &Value::Log(true),
+        Kind::Logical,
+        modes(false),
+        &mut out,
+    )?;
+    let _ = text_field(general, &text, Kind::Chars(3), modes(false), &mut out)?;
+    let _ = bits_field(
+        edit_of(16, 3, None),
+        &Value::Int(10),
+        Kind::Int8,
+        modes(false),
+        &mut out,
+    )?;
+    assert_eq!(rt; out.bytes(), b"   42    T  abc  A".as_slice());
+    Ok(())
+}
+
+/// Integers in a row, as gfortran writes them, up to a value that is none.
+#[test]
+fn rows(rt: HostRuntime) -> Result<(), Fail> {
+    let values = [
+        Value::Int(0),
+        Value::Int(-123),
+        Value::Int(99999),
+        Value::Int(i64::MIN),
+        Value::Undefined,
+        Value::Int(1),
+    ];
+    let mut out = Text::from_bytes(rt.alloc(), b"=")?;
+    let count = integer_fields(5, false, Kind::Int8, &values, &mut out)?;
+    assert!(rt; count == 4);
+    assert_eq!(rt; out.bytes(), b"=    0 -12399999*****".as_slice());
+    let signed = integer_fields(5, true, Kind::Int8, &values[..3], &mut out)?;
+    assert!(rt; signed == 3);
+    assert_eq!(rt;
+        out.bytes(),
+        b"=    0 -12399999*****   +0 -123*****".as_slice()
+    );
+    Ok(())
+}
+
+#[test]
+fn conditions(rt: HostRuntime) -> Result<(), Fail> {
+    let alloc = rt.alloc();
+    let text = Value::of_text(Text::new(alloc))?;
+    let int = Edit::Int { w: 4, m: None };
+    let bits = Edit::Bits {
+        base: 16,
+        w: 4,
+        m: None,
+    };
+    let log = Edit::Log { w: 4 };
+    let chars = Edit::Chars { w: None };
+    let general = Edit::General { w: 4, d: 1 };
+    for edit in [int, bits, log, chars, general] {
+        assert!(rt; is_refused(alloc, edit, &Value::Undefined, Kind::Int4)?);
+        assert!(rt; is_refused(alloc, edit, &Value::Undefined, Kind::Logical)?);
+        assert!(rt; is_refused(alloc, edit, &Value::Undefined, Kind::Chars(4))?);
+    }
+    for edit in [int, bits, log] {
+        assert!(rt; is_refused(alloc, edit, &text, Kind::Chars(0))?);
+    }
+    for edit in [int, bits, chars] {
+        assert!(rt; is_refused(alloc, edit, &Value::Log(true), Kind::Logical)?);
+    }
+    for edit in [log, chars] {
+        assert!(rt; is_refused(alloc, edit, &Value::Int(1), Kind::Int8)?);
+    }
+    Ok(())
+}

@@ -1,0 +1,5 @@
+//! Tests of whole decks, alone and with workers.
+#![tactic(auto)]
+
+#[cfg(test)]
+mod job;

@@ -1,5 +1,0 @@
-use Rattle.fj_line.specs.Page.{IsIn}
-use Rattle.fj_line.proofs.tests.carry_all.Given as goal
-
-abbrev pub invariant-loop-done : goal.invariant-loop-done
-invariant-loop-done l = IsIn l.page l.text

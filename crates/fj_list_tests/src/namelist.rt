@@ -1,0 +1,347 @@
+// Tables of namelist text.
+ghost use Rattle.std.specs.Prelude.{◌≡◌, true, All, length};
+ghost use Rattle.fj_namelist.specs.GroupText.{IsWithin};
+
+use fj_list::{Cells, GroupMember, MemoryRecords, Moved, Order};
+use fj_namelist::{read_group, write_group};
+use fj_value::{Cell, Condition, Delim, EditModes, Items, Kind, Place, Text, Value};
+use std::alloc::{AllocError, Global};
+use std::test::Fail;
+
+/// Records parted by line feeds; whether DECIMAL='COMMA'; what the members have afterwards; the number of the condition;
+/// how many records were looked at.
+type Input = (&'static str, bool, &'static str, i32, usize);
+
+/// The members of the group G: INTEGER A, B(3), LOGICAL L, CHARACTER(4) C, CHARACTER(2) D(2).
+static MEMBERS: [(&str, u8, u32, u32, bool); 5] = [
+    ("A", b'i', 0, 1, true),
+    ("B", b'i', 1, 3, false),
+    ("L", b'l', 4, 1, true),
+    ("C", b'4', 5, 1, true),
+    ("D", b'2', 6, 2, false),
+];
+
+/// Before, integers have 1, truth values F and characters `#`.
+static INPUTS: [Input; 87] = [
+    ("&G A=5 /", false, "5|1|1|1|F|####|##|##", 0, 1),
+    ("&g a=5, b=2*7 /", false, "5|7|7|1|F|####|##|##", 0, 1),
+    (
+        "\n  ! c/d\n\t&G\n A = 5\n/\nrest",
+        false,
+        "5|1|1|1|F|####|##|##",
+        0,
+        5,
+    ),
+    (" &G B=1,2*3 /", false, "1|1|3|3|F|####|##|##", 0, 1),
+    ("&G B(2)=7 8 /", false, "1|1|7|8|F|####|##|##", 0, 1),
+    ("&G B(2) = 7,,A=3 /", false, "3|1|7|1|F|####|##|##", 0, 1),
+    ("&G A=1,,L=T /", false, "", 23, 1),
+    ("&G A=,L=T /", false, "1|1|1|1|T|####|##|##", 0, 1),
+    ("&G L=T=5 /", false, "", 23, 1),
+    ("&G A=5 B=3 /", false, "5|3|1|1|F|####|##|##", 0, 1),
+    ("&G A=5B=3 /", false, "", 23, 1),
+    ("&G A=5;L=T /", false, "", 23, 1),
+    ("&G A=5;L=T /", true, "5|1|1|1|T|####|##|##", 0, 1),
+    (
+        "&G C='it''s' D='a','b' /",
+        false,
+        "1|1|1|1|F|it's|a |b ",
+        0,
+        1,
+    ),
+    ("&G C='ab\ncd' /", false, "1|1|1|1|F|abcd|##|##", 0, 2),
+    ("&G C=abc /", false, "", 13, 1),
+    ("&G D=2*'x/y' /", false, "1|1|1|1|F|####|x/|x/", 0, 1),
+    (
+        "&G A=5 ! note /\n L=T /\nrest",
+        false,
+        "5|1|1|1|T|####|##|##",
+        0,
+        2,
+    ),
+    ("&G A=5!x /", false, "", 13, 1),
+    ("&G A=!x\n 5 /", false, "", 13, 2),
+    ("&G A= !x\n 5 /", false, "5|1|1|1|F|####|##|##", 0, 2),
+    ("&H A=5 /\nrest", false, "", 22, 1),
+    ("&G/", false, "", 22, 1),
+    ("&G,A=5 /", false, "", 22, 1),
+    ("&G!", false, "", 22, 1),
+    ("& G A=5 /", false, "", 22, 1),
+    ("A=5\n&G A=5 /", false, "", 22, 1),
+    ("&G /", false, "1|1|1|1|F|####|##|##", 0, 1),
+    ("&G ,A=1 /", false, "", 24, 1),
+    ("&G A 5 /", false, "", 24, 1),
+    ("&G A(X)=1 /", false, "", 24, 1),
+    ("&G A()=1 /", false, "", 24, 1),
+    ("&G =5 /", false, "", 24, 1),
+    ("&G 'a' /", false, "", 24, 1),
+    ("&G X=5 /", false, "", 23, 1),
+    ("&G A(1)=5 /", false, "", 23, 1),
+    ("&G B(0)=5 /", false, "", 23, 1),
+    ("&G B(4)=1 /", false, "", 23, 1),
+    ("&G B(99999999999999999999)=1 /", false, "", 23, 1),
+    ("&G A==5 /", false, "", 13, 1),
+    ("&G A=1 =5 /", false, "", 23, 1),
+    ("&G A=x /", false, "", 13, 1),
+    ("&G A=2147483648 /", false, "", 14, 1),
+    ("&G A=0*5 /", false, "", 13, 1),
+    ("&G A=1 0*2 /", false, "", 13, 1),
+    ("&G B=3*/", false, "1|1|1|1|F|####|##|##", 0, 1),
+    ("&G B=2* 5/", false, "1|1|1|5|F|####|##|##", 0, 1),
+    ("&G B=4*1 /", false, "", 23, 1),
+    ("&G B=4*/", false, "", 23, 1),
+    ("&G A=5\n", false, "", -1, 1),
+    ("&G A=5\n\n", false, "", -1, 2),
+    ("", false, "", -1, 0),
+    ("\n!x", false, "", -1, 2),
+    ("&G C='abc", false, "", -1, 1),
+    ("&G L='T' /", false, "", 13, 1),
+    ("&G A='5' /", false, "", 13, 1),
+    ("&G B (2)=7 /", false, "1|1|7|1|F|####|##|##", 0, 1),
+    ("&G B\n(2)\n=7 /", false, "1|1|7|1|F|####|##|##", 0, 3),
+    ("&G C='a'b /", false, "", 13, 1),
+    ("&G C='a'! /", false, "", 13, 1),
+    ("&G A=1 A=2 /", false, "2|1|1|1|F|####|##|##", 0, 1),
+    ("&G A=7 / B=3", false, "7|1|1|1|F|####|##|##", 0, 1),
+    ("&G B=1 2 3 4 /", false, "", 23, 1),
+    ("&G A=1 'x' /", false, "", 23, 1),
+    ("&G A=1 'x", false, "", -1, 1),
+    ("&G C(1)='a' /", false, "", 23, 1),
+    ("&G A = /", false, "1|1|1|1|F|####|##|##", 0, 1),
+    ("&G L=.T. A=+5/", false, "5|1|1|1|T|####|##|##", 0, 1),
+    ("&G L=T(x=5 /", false, "1|1|1|1|T|####|##|##", 0, 1),
+    ("&G\tA\t=\t5\t/", false, "5|1|1|1|F|####|##|##", 0, 1),
+    (
+        "&G C='a\tb' D=\"x\"\"\" /",
+        false,
+        "1|1|1|1|F|a\tb |x\"|##",
+        0,
+        1,
+    ),
+    ("&G B=1;,2 /", true, "", 13, 1),
+    ("&G B=1;;2 /", true, "1|1|1|2|F|####|##|##", 0, 1),
+    ("&G B=1,\n,\n2 /", false, "1|1|1|2|F|####|##|##", 0, 3),
+    ("&G A=5 B(2)=7 /", false, "5|1|7|1|F|####|##|##", 0, 1),
+    ("&G A=5 B (2) = 7 /", false, "5|1|7|1|F|####|##|##", 0, 1),
+    (
+        "&G A=5,!x\n!y\n B=1,!z\n2 /",
+        false,
+        "5|1|2|1|F|####|##|##",
+        0,
+        4,
+    ),
+    ("&G C='a!b' /", false, "1|1|1|1|F|a!b |##|##", 0, 1),
+    ("&G C='a'\nL=T /", false, "1|1|1|1|T|a   |##|##", 0, 2),
+    ("&G C='ab'\n'cd' /", false, "", 23, 2),
+    ("&G C='a''\n''b' /", false, "1|1|1|1|F|a''b|##|##", 0, 2),
+    ("&G L=.false./", false, "1|1|1|1|F|####|##|##", 0, 1),
+    ("&G A=4294967296*5 /", false, "", 13, 1),
+    ("&G B(2)=2*9 /", false, "1|1|9|9|F|####|##|##", 0, 1),
+    ("&G D(2)='zz' /", false, "1|1|1|1|F|####|##|zz", 0, 1),
+    ("&G C='abcdef' /", false, "1|1|1|1|F|abcd|##|##", 0, 1),
+    ("&G B=1 2", false, "", -1, 1),
+];
+
+fn modes(comma: bool, delim: Delim) -> EditModes {
+    EditModes {
+        blank_zero: false,
+        comma,
+        delim,
+        pad: true,
+        plus: false,
+    }
+}
+
+fn records_of(alloc: Global, text: &str) -> Result<MemoryRecords, AllocError> {
+    let mut records = Items::new(alloc);
+    for line in text.lines() {
+        records.push(Text::from_bytes(alloc, line.as_bytes())?)?;
+    }
+    Ok(MemoryRecords {
+        records,
+        looked_at: 0,
+        ending: None,
+    })
+}
+
+fn kind_of(letter: u8) -> Kind {
+    match letter {
+        b'i' => Kind::Int4,
+        b'l' => Kind::Logical,
+        digit => Kind::Chars(u32::from(digit.saturating_sub(b'0'))),
+    }
+}
+
+fn initial(alloc: Global, kind: Kind) -> Result<Value, AllocError> {
+    match kind {
+        Kind::Int4 | Kind::Int8 => Ok(Value::Int(1)),
+        Kind::Logical => Ok(Value::Log(false)),
+        Kind::Chars(length) => {
+            let mut text = Text::new(alloc);
+            text.push_copies(b'#', length)?;
+            Value::of_text(text)
+        }
+    }
+}
+
+fn members_of(alloc: Global) -> Result<Items<GroupMember>, AllocError> {
+    let mut members = Items::new(alloc);
+    for (name, letter, first, count, scalar) in MEMBERS.iter() {
+        members.push(GroupMember {
+            name: Text::from_bytes(alloc, name.as_bytes())?,
+            kind: kind_of(*letter),
+            first: *first,
+            count: *count,
+            scalar: *scalar,
+        })?;
+    }
+    Ok(members)
+}
+
+fn cells_of(alloc: Global) -> Result<Cells, AllocError> {
+    let mut cells = Items::new(alloc);
+    for (i, letter) in b"iiiil422".iter().enumerate() {
+        let kind = kind_of(*letter);
+        let var = u32::try_from(i).unwrap_or(0);
+        let place = Place { var, index: 1 };
+        let value = initial(alloc, kind)?;
+        cells.push(Cell { place, kind, value })?;
+    }
+    Ok(cells)
+}
+
+fn push_shown(out: &mut Text, value: &Value, alloc: Global) -> Result<(), AllocError> {
+    match value {
+        Value::Int(n) => out.push_all(format!(in alloc; "{n}")?.as_bytes()),
+        Value::Log(truth) => out.push_all(if *truth { b"T" } else { b"F" }),
+        Value::Chars(text) => out.push_all(text.bytes()),
+        Value::Undefined => out.push_all(b"?"),
+    }
+}
+
+fn shown(alloc: Global, cells: &Cells) -> Result<Text, AllocError> {
+    let mut out = Text::new(alloc);
+    for cell in cells.as_slice() {
+        if !out.is_empty() {
+            out.push_all(b"|")?;
+        }
+        push_shown(&mut out, &cell.value, alloc)?;
+    }
+    Ok(out)
+}
+
+fn are_within(members: &[GroupMember], cells: usize) -> bool
+    ensures { result ≡ true → All (IsWithin cells) members.now }
+{
+    members
+        .iter()
+        .all(|m| m.first as usize + m.count as usize <= cells)
+}
+
+#[test]
+fn inputs(rt: HostRuntime) -> Result<(), Fail> {
+    let alloc = rt.alloc();
+    let members = members_of(alloc)?;
+    for (text, comma, expected, code, looked_at) in INPUTS.iter() {
+        let mut records = records_of(alloc, text)?;
+        let mut moved = Moved {
+            cells: cells_of(alloc)?,
+            order: Order::new(alloc),
+        };
+        assert!(rt; are_within(members.as_slice(), moved.cells.len()));
+        let condition = read_group(
+            alloc,
+            &mut records,
+            b"G",
+            members.as_slice(),
+            &mut moved,
+            modes(*comma, Delim::Plain),
+        )
+        .unwrap_or(Condition::Error(255));
+        assert_eq!(rt; condition.code(), *code, "{text}");
+        assert_eq!(rt; records.looked_at, *looked_at, "{text}");
+        if !expected.is_empty() {
+            let got = shown(alloc, &moved.cells)?;
+            assert_eq!(rt; got.bytes(), expected.as_bytes(), "{text}");
+        }
+    }
+    Ok(())
+}
+
+#[test]
+fn outputs(rt: HostRuntime) -> Result<(), Fail> {
+    let alloc = rt.alloc();
+    let members = members_of(alloc)?;
+    let cells = cells_of(alloc)?;
+    assert!(rt; are_within(members.as_slice(), cells.len()));
+    let plain = write_group(
+        alloc,
+        b"g",
+        members.as_slice(),
+        cells.as_slice(),
+        modes(false, Delim::Plain),
+    )?;
+    assert_eq!(rt;
+        plain.bytes(),
+        b" &G\n A=1\n B=1,1,1\n L=F\n C=####\n D=##,##\n /\n".as_slice()
+    );
+    let marked = write_group(
+        alloc,
+        b"g",
+        members.as_slice(),
+        cells.as_slice(),
+        modes(true, Delim::Quote),
+    )?;
+    assert_eq!(rt;
+        marked.bytes(),
+        b" &G\n A=1\n B=1;1;1\n L=F\n C=\"####\"\n D=\"##\";\"##\"\n /\n".as_slice()
+    );
+    Ok(())
+}
+
+/// One member of characters without delimiters: their length, how many there are, and the records. With the second value
+/// the record has 80 characters, and its separator stands in column 81; a value that is longer has a record of its own.
+static WIDE: [(u32, u32, &str); 3] = [
+    (
+        38,
+        3,
+        " &G\n V=######################################,######################################,\n ######################################\n /\n",
+    ),
+    (
+        39,
+        2,
+        " &G\n V=#######################################,\n #######################################\n /\n",
+    ),
+    (
+        79,
+        2,
+        " &G\n V=###############################################################################,\n ###############################################################################\n /\n",
+    ),
+];
+
+#[test]
+fn wide_outputs(rt: HostRuntime) -> Result<(), Fail> {
+    let alloc = rt.alloc();
+    for (length, count, expected) in WIDE.iter() {
+        let kind = Kind::Chars(*length);
+        let mut cells = Items::new(alloc);
+        for i in 0..*count {
+            let place = Place { var: i, index: 1 };
+            let value = initial(alloc, kind)?;
+            cells.push(Cell { place, kind, value })?;
+        }
+        let mut members = Items::new(alloc);
+        members.push(GroupMember {
+            name: Text::from_bytes(alloc, b"v")?,
+            kind,
+            first: 0,
+            count: *count,
+            scalar: false,
+        })?;
+        assert!(rt; are_within(members.as_slice(), cells.len()));
+        let modes = modes(false, Delim::Plain);
+        let text = write_group(alloc, b"g", members.as_slice(), cells.as_slice(), modes)?;
+        assert_eq!(rt; text.bytes(), expected.as_bytes());
+    }
+    Ok(())
+}

@@ -1,0 +1,234 @@
+// A file with a window beside the same file without one, with the calls that are made, and with each of these failing.
+ghost use Rattle.std.specs.Prelude.{◌≡◌, ◌≤◌, ◌<◌, length, IsTrue, true, refl};
+ghost use Rattle.fj_outside.specs.Faults.{Rose};
+
+use fj_outside::{Buffered, Failed, FileStore, MemoryFile, Stop};
+use std::alloc::{AllocError, Global};
+use std::test::Fail;
+
+/// A file in memory that counts its reads, writes and cuts, of which one fails. A write that fails writes one byte.
+#[derive(Drop)]
+struct Counting {
+    inner: MemoryFile,
+    calls: u64,
+    fails: u64,
+    faults: u64,
+}
+
+impl Counting {
+    /// Counts a call, and answers whether it is the one that fails.
+    fn fails_now(&mut self) -> bool
+        ensures same { self.new.inner ≡ self.old.inner }
+        ensures later { self.old.faults ≤ self.new.faults }
+        ensures failed { IsTrue result → Rose self.old.faults self.new.faults }
+    {
+        self.calls = self.calls.saturating_add(1);
+        if self.calls == self.fails {
+            self.faults = self.faults.saturating_add(1);
+            return true;
+        }
+        false
+    }
+}
+
+impl FileStore for Counting {
+    ghost tells = { λ _. Unit {0} };
+
+    ghost told = { λ _. true };
+
+    ghost decided = { λ _. (λ _. tt, λ _. refl) };
+
+    ghost bytes = { λ file. file.inner };
+
+    ghost size = { λ file. length file.inner };
+
+    ghost count = { λ file. file.faults };
+
+    fn len(&self) -> u64 {
+        self.inner.len()
+    }
+
+    fn read_at(&mut self, at: u64, buf: &mut [u8]) -> Result<usize, Failed> {
+        if self.fails_now() {
+            return Err(Failed);
+        }
+        self.inner.read_at(at, buf)
+    }
+
+    fn write_at(&mut self, at: u64, piece: &[u8]) -> Result<(), Stop> {
+        if self.fails_now() {
+            let part = piece.len().min(1);
+            let _ = self.inner.write_at(at, &piece[..part]);
+            return Err(Stop::Failed);
+        }
+        self.inner.write_at(at, piece)
+    }
+
+    fn cut(&mut self, len: u64) -> Result<(), Failed> {
+        if self.fails_now() {
+            return Err(Failed);
+        }
+        self.inner.cut(len)
+    }
+
+    fn faults(&self) -> u64 {
+        self.faults
+    }
+}
+
+/// What is done with a file.
+#[derive(Clone, Copy)]
+enum Act {
+    /// So many bytes are read from a place on.
+    Read(u64, usize),
+    Write(u64, &'static [u8]),
+    Cut(u64),
+}
+
+use Act::{Cut, Read, Write};
+
+/// Does it, and answers how many bytes were read; nothing where it failed.
+fn done<F: FileStore>(file: &mut F, act: Act, buf: &mut [u8]) -> Option<usize> {
+    match act {
+        Read(at, count) if count <= buf.len() => file.read_at(at, &mut buf[..count]).ok(),
+        Write(at, piece) if at <= file.len() => file.write_at(at, piece).ok().map(|()| 0),
+        Cut(len) if len <= file.len() => file.cut(len).ok().map(|()| 0),
+        _ => None,
+    }
+}
+
+/// Acts, each with the calls on the file up to it. The window is moved where a read finds too little in it.
+static ACTS: [(Act, u64); 18] = [
+    (Read(0, 100), 1),
+    (Read(100, 100), 1),
+    (Read(8000, 192), 1),
+    (Read(8100, 100), 2),
+    // A write in the middle of the window, and one behind it.
+    (Write(8150, b"##"), 3),
+    (Read(8100, 100), 4),
+    (Write(19_990, b"end of it, and more"), 5),
+    (Read(8120, 40), 6),
+    // Over the end, and past it.
+    (Read(19_000, 8000), 7),
+    (Read(20_000, 100), 7),
+    (Read(20_009, 5), 7),
+    // A cut inside the window.
+    (Cut(19_500), 8),
+    (Read(19_400, 300), 9),
+    // More than the window holds, which leaves the window as it is.
+    (Read(0, 9000), 10),
+    (Read(19_450, 50), 10),
+    (Read(100, 8192), 11),
+    (Read(8291, 1), 11),
+    (Read(99, 1), 12),
+];
+
+/// 20,000 bytes, of which none stands twice in a row.
+fn numbered(alloc: Global) -> Result<Vec<u8>, AllocError> {
+    let mut bytes = Vec::new(alloc);
+    for place in 0..20_000u32 {
+        bytes.push((place % 251) as u8)?;
+    }
+    Ok(bytes)
+}
+
+fn buffered(alloc: Global, bytes: &[u8], fails: u64) -> Result<Buffered<Counting>, AllocError> {
+    let inner = MemoryFile::from_bytes(alloc, bytes)?;
+    let file = Counting {
+        inner,
+        calls: 0,
+        fails,
+        faults: 0,
+    };
+    match Buffered::new(alloc, file) {
+        Ok(file) => Ok(file),
+        Err(back) => Err(back.error),
+    }
+}
+
+/// Takes only what may go to another thread.
+fn sent<T: Send>(value: T) -> T {
+    value
+}
+
+/// Whether both begin with the same bytes, so many.
+fn same_front(one: &[u8], other: &[u8], count: usize) -> bool {
+    match (one.get(..count), other.get(..count)) {
+        (Some(one), Some(other)) => one == other,
+        _ => false,
+    }
+}
+
+/// Does it with both files, and answers whether they answered the same, but for what failed.
+fn agree<F: FileStore>(
+    file: &mut F,
+    plain: &mut MemoryFile,
+    act: Act,
+    buf: &mut [u8],
+    beside: &mut [u8],
+) -> bool {
+    match (done(file, act, buf), act) {
+        (Some(count), _) => {
+            done(plain, act, beside) == Some(count) && same_front(buf, beside, count)
+        }
+        (None, Write(at, piece)) => {
+            let part = piece.len().min(1);
+            done(plain, Write(at, &piece[..part]), beside).is_some()
+        }
+        (None, _) => true,
+    }
+}
+
+/// Whether a file with a window goes through all acts as one without; the k-th call on it fails.
+fn goes_through(alloc: Global, bytes: &[u8], fails: u64) -> Result<bool, AllocError> {
+    let mut buf = vec![in alloc; 0; 9000]?;
+    let mut beside = vec![in alloc; 0; 9000]?;
+    let mut file = sent(buffered(alloc, bytes, fails)?);
+    let mut plain = MemoryFile::from_bytes(alloc, bytes)?;
+    let mut agreed = true;
+    for (act, calls) in ACTS {
+        agreed &= agree(&mut file, &mut plain, act, &mut buf, &mut beside);
+        agreed &= fails > 0 || file.get_ref().calls == calls;
+    }
+    agreed &= file.faults() == fails.min(1);
+    let file = file.into_inner();
+    Ok(agreed && file.inner.bytes() == plain.bytes())
+}
+
+// The k-th call fails, for each k; 0 for none.
+#[test]
+fn a_window_answers_as_the_file(rt: HostRuntime) -> Result<(), Fail> {
+    let bytes = numbered(rt.alloc())?;
+    for fails in 0..13 {
+        assert!(rt; goes_through(rt.alloc(), &bytes, fails)?, "{fails}");
+    }
+    Ok(())
+}
+
+/// Fills at a place, and answers how many bytes are at hand there then.
+fn filled(file: &mut Buffered<Counting>, at: u64) -> usize {
+    let _ = file.fill(at);
+    file.at_hand(at).len()
+}
+
+#[test]
+fn a_window_lends_what_it_holds(rt: HostRuntime) -> Result<(), Fail> {
+    let bytes = numbered(rt.alloc())?;
+    let mut file = buffered(rt.alloc(), &bytes, 3)?;
+    assert_eq!(rt; file.at_hand(0).len(), 0);
+    // The third call fails.
+    for (at, held, calls) in [
+        (0, 8192, 1),
+        (8191, 1, 1),
+        (8192, 8192, 2),
+        (8000, 0, 3),
+        (19_999, 1, 4),
+        (20_000, 0, 4),
+    ] {
+        assert_eq!(rt; filled(&mut file, at), held, "at {at}");
+        assert_eq!(rt; file.get_ref().calls, calls, "at {at}");
+    }
+    assert_eq!(rt; file.at_hand(19_999).first(), Some(&170));
+    assert_eq!(rt; file.faults(), 1);
+    Ok(())
+}

@@ -1,5 +1,0 @@
-use Rattle.fj_perform.proofs.tests.+perform_again.Given as goal
-
--- one time fewer is left
-abbrev pub decreases-perform_again : goal.decreases-perform_again
-decreases-perform_again g l = l.more

@@ -1,5 +1,0 @@
-use Rattle.std.proofs.Common.{◌≡◌}
-use Rattle.fj_queue.proofs.tests.help.Given as goal
-
-abbrev pub invariant-loop : goal.invariant-loop
-invariant-loop g l = l.hand.seat.table_id ≡ l.initial.hand.seat.table_id

@@ -1,0 +1,12 @@
+use Rattle.std.proofs.Common.{◌≡◌, None}
+use Rattle.fj_queue.specs.Knows.{knows}
+use Rattle.fj_slot_tests.proofs.queue.submit_all.Given as goal
+
+abbrev pub invariant-loop-number : goal.invariant-loop-number
+invariant-loop-number g l = record {
+  own : l.submitter.seat.table_id ≡ l.initial.submitter.seat.table_id;
+  sent : (knows l.submitter).sent ≡ l.number;
+  heard : (knows l.submitter).heard ≡ 0;
+  plan : (knows l.submitter).plan ≡ None;
+  hands : (knows l.submitter).hands ≡ (knows l.initial.submitter).hands;
+}

@@ -1,0 +1,11 @@
+//! Tests of slots, queues and workers.
+#![tactic(auto)]
+
+#[cfg(test)]
+mod crew;
+#[cfg(test)]
+mod queue;
+#[cfg(test)]
+mod slot;
+#[cfg(test)]
+mod world;

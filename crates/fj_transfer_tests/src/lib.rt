@@ -1,0 +1,7 @@
+//! Tests of transfers over files, each call of which fails once.
+#![tactic(auto)]
+
+#[cfg(test)]
+mod perform;
+#[cfg(test)]
+mod transfer;

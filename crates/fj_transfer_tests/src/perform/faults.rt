@@ -1,0 +1,238 @@
+// Statements of which each call on the file fails in turn, with the calls and the bytes that stay worked out by hand.
+ghost use Rattle.std.specs.Prelude.{◌≡◌, IfOk};
+ghost use Rattle.std.specs.FinSet as set;
+ghost use Rattle.fj_outside.specs.FailingDisk.{disk_held};
+
+use crate::perform::{
+    A, Form, NAME, Said, Verb, carried_out, connect, disk_of, is_text, statement, transfer,
+};
+use fj_modes::{Access, Action};
+use fj_outside::{Disk, FailingDisk, Stop};
+use fj_perform::perform;
+use fj_value::Condition;
+use std::alloc::{AllocError, Global};
+use std::test::Fail;
+
+/// A disk that holds the file, of which the call with this number fails.
+fn failing(alloc: Global, bytes: &[u8], call: u64) -> Result<FailingDisk, AllocError>
+    ensures { IfOk result (λ disk. (disk_held disk).in_use ≡ set.empty) }
+{
+    let inner = disk_of(alloc, bytes)?;
+    let mut disk = FailingDisk::new(alloc, inner, &[])?;
+    disk.fail_file(NAME, &[call])?;
+    Ok(disk)
+}
+
+use Access::{Direct, Sequential, Stream};
+use Form::{Format, Listed, Stored};
+use Verb::{Input, OpenOutput, Output};
+
+/// Access, FORM='FORMATTED', the file and the place where the statement begins; the statement; how many calls it makes on
+/// the file, and how many bytes stand before the first that it changes; and what SIZE= gets, the file, the position (in
+/// direct access the next record's number) and the item then.
+type Row = (
+    (Access, bool, &'static [u8], u64),
+    Said,
+    (u32, usize),
+    (Option<u64>, &'static [u8], u64, &'static [u8]),
+);
+
+/// More than the window of a connection holds.
+const LONG: &[u8] = &[b'x'; 9000];
+
+static ROWS: [Row; 16] = [
+    // Sequential output looks for the line feed before it, writes its records, and cuts what stands behind them.
+    (
+        (Sequential, true, b"a\nbcd\nef\n", 2),
+        (Output, A, None, b"xy"),
+        (3, 2),
+        (None, b"a\nxy\n", 5, b"xy"),
+    ),
+    (
+        (Sequential, true, b"a\nbcd\n", 2),
+        (Output, Listed, None, b"xy"),
+        (2, 2),
+        (None, b"a\n xy\n", 6, b"xy"),
+    ),
+    (
+        (
+            Sequential,
+            false,
+            b"\x01\0\0\0a\x01\0\0\0\x03\0\0\0bcd\x03\0\0\0",
+            9,
+        ),
+        (Output, Stored, None, b"xy"),
+        (2, 9),
+        (
+            None,
+            b"\x01\0\0\0a\x01\0\0\0\x02\0\0\0xy\x02\0\0\0",
+            19,
+            b"xy",
+        ),
+    ),
+    (
+        (Stream, true, b"abcdef", 0),
+        (Output, A, Some(3), b"X"),
+        (2, 2),
+        (None, b"abX\n", 4, b"X"),
+    ),
+    // The records of a direct output are written at once, and a gap before them is filled up first.
+    (
+        (Direct, true, b"AAAAAABBBBBB", 0),
+        (Output, Format(b"(A/)"), Some(2), b"xy"),
+        (1, 6),
+        (None, b"AAAAAAxy          ", 4, b"xy"),
+    ),
+    (
+        (Direct, true, b"AAAAAA", 0),
+        (Output, A, Some(3), b"xy"),
+        (2, 6),
+        (None, b"AAAAAA      xy    ", 4, b"xy"),
+    ),
+    (
+        (Direct, false, b"AAAAAABBBBBBCCCCCC", 0),
+        (Output, Stored, Some(2), b"xy"),
+        (1, 6),
+        (None, b"AAAAAAxy\0\0\0\0CCCCCC", 3, b"xy"),
+    ),
+    (
+        (Stream, false, b"abcdef", 0),
+        (Output, Stored, Some(3), b"XY"),
+        (1, 2),
+        (None, b"abXYef", 4, b"XY"),
+    ),
+    // An input reads as much in one call as a window holds.
+    (
+        (Stream, true, LONG, 0),
+        (Input, A, Some(1), b"__"),
+        (2, 9000),
+        (Some(2), LONG, 9000, b"xx"),
+    ),
+    (
+        (Sequential, true, b"a\nbcd\nef\n", 2),
+        (Input, A, None, b"__"),
+        (1, 9),
+        (Some(2), b"a\nbcd\nef\n", 6, b"bc"),
+    ),
+    (
+        (Sequential, true, b"a\nbc d\n", 2),
+        (Input, Listed, None, b"__"),
+        (1, 7),
+        (None, b"a\nbc d\n", 7, b"bc"),
+    ),
+    (
+        (
+            Sequential,
+            false,
+            b"\x01\0\0\0a\x01\0\0\0\x03\0\0\0bcd\x03\0\0\0",
+            9,
+        ),
+        (Input, Stored, None, b"__"),
+        (1, 20),
+        (
+            None,
+            b"\x01\0\0\0a\x01\0\0\0\x03\0\0\0bcd\x03\0\0\0",
+            20,
+            b"bc",
+        ),
+    ),
+    (
+        (Stream, true, b"ab\ncde\n", 0),
+        (Input, A, Some(4), b"__"),
+        (1, 7),
+        (Some(2), b"ab\ncde\n", 7, b"cd"),
+    ),
+    (
+        (Direct, true, b"AAAAAABBBBBB", 0),
+        (Input, Format(b"(/A)"), Some(1), b"__"),
+        (1, 12),
+        (Some(2), b"AAAAAABBBBBB", 3, b"BB"),
+    ),
+    (
+        (Direct, false, b"AAAAAABBBBBB", 0),
+        (Input, Stored, Some(2), b"__"),
+        (1, 12),
+        (None, b"AAAAAABBBBBB", 3, b"BB"),
+    ),
+    (
+        (Stream, false, b"abcdef", 0),
+        (Input, Stored, Some(3), b"__"),
+        (1, 6),
+        (None, b"abcdef", 4, b"cd"),
+    ),
+];
+
+/// Whether the bytes before the first that was to change are as before, and all where none was.
+fn is_kept(now: Option<&[u8]>, before: &[u8], after: &[u8], kept: usize) -> bool {
+    match now {
+        Some(now) if before == after => now == before,
+        Some(now) => now.get(..kept) == before.get(..kept),
+        None => false,
+    }
+}
+
+/// Whether a statement stops by failure where a call with this number fails, and else comes to what its row says.
+fn holds(alloc: Global, row: &Row, call: u64) -> Result<bool, Fail> {
+    let ((access, formatted, before, place), said, (calls, kept), (count, after, at, item)) = *row;
+    let spec = statement(access, formatted, Action::ReadWrite);
+    let mut disk = failing(alloc, before, call)?;
+    let mut job = transfer(alloc, said, access)?;
+    let came = carried_out(alloc, &mut disk, &spec, place, 0, &mut job)?;
+    if call <= u64::from(calls) {
+        let now = disk.bytes_of(NAME);
+        return Ok(came.0 == Err(Stop::Failed) && is_kept(now, before, after, kept));
+    }
+    Ok(
+        came == (Ok(Condition::Fine), at)
+            && job.count == count
+            && is_text(&job.moved, Some(item))
+            && disk.bytes_of(NAME) == Some(after),
+    )
+}
+
+#[test]
+fn each_call_fails_in_turn(rt: HostRuntime) -> Result<(), Fail> {
+    for (number, row) in ROWS.iter().enumerate() {
+        let (calls, _) = row.2;
+        for call in 1..u64::from(calls) + 2 {
+            assert!(rt; holds(rt.alloc(), row, call)?, "row {number}, call {call}");
+        }
+    }
+    Ok(())
+}
+
+/// Carries out an output that leaves a record open and then an input, and answers the condition of the last.
+fn one_by_one<D: Disk>(alloc: Global, disk: &mut D) -> Result<Result<Condition, Stop>, Fail>
+    requires { D.tells disk.old → (D.held disk.old).in_use ≡ set.empty }
+{
+    let mut output = transfer(alloc, (OpenOutput, A, None, b"ab"), Sequential)?;
+    let mut input = transfer(alloc, (Input, A, None, b"_"), Sequential)?;
+    let spec = statement(Sequential, true, Action::ReadWrite);
+    let mut c = connect(alloc, disk, &spec)?;
+    let answer = match perform(alloc, &mut c, &mut output) {
+        Ok(_) => perform(alloc, &mut c, &mut input),
+        Err(stop) => Err(stop),
+    };
+    c.close_file(disk, true).map_err(Stop::from)?;
+    Ok(answer)
+}
+
+/// The input ends the record, which is one call more.
+static OPEN: [(u64, Result<Condition, Stop>, &[u8]); 3] = [
+    (1, Err(Stop::Failed), b""),
+    (2, Err(Stop::Failed), b"ab"),
+    (3, Ok(Condition::EndOfFile), b"ab\n"),
+];
+
+#[test]
+fn an_input_writes_a_line_feed(rt: HostRuntime) -> Result<(), Fail> {
+    for (call, answer, after) in OPEN {
+        let mut disk = failing(rt.alloc(), b"", call)?;
+        let came = one_by_one(rt.alloc(), &mut disk)?;
+        assert!(rt;
+            came == answer && disk.bytes_of(NAME) == Some(after),
+            "call {call}"
+        );
+    }
+    Ok(())
+}
