@@ -2,6 +2,7 @@
 ghost use Rattle.std.specs.Prelude.{◌≡◌, true};
 ghost use Rattle.fj_list.specs.Moved.{IsOrdered};
 
+use crate::given::{initial, kind_of, records_of};
 use fj_list::{MemoryRecords, More, Moved, Records, read_list, write_list};
 use fj_outside::Stop;
 use fj_value::{Cell, Condition, Delim, EditModes, Items, Kind, Place, Text, Value};
@@ -172,39 +173,6 @@ fn modes(comma: bool, delim: Delim, plus: bool) -> EditModes {
         delim,
         pad: true,
         plus,
-    }
-}
-
-fn records_of(alloc: Global, text: &str) -> Result<MemoryRecords, AllocError> {
-    let mut records = Items::new(alloc);
-    for line in text.lines() {
-        records.push(Text::from_bytes(alloc, line.as_bytes())?)?;
-    }
-    Ok(MemoryRecords {
-        records,
-        looked_at: 0,
-        ending: None,
-    })
-}
-
-fn kind_of(letter: u8) -> Kind {
-    match letter {
-        b'i' => Kind::Int4,
-        b'j' => Kind::Int8,
-        b'l' => Kind::Logical,
-        digit => Kind::Chars(u32::from(digit.saturating_sub(b'0'))),
-    }
-}
-
-fn initial(alloc: Global, kind: Kind) -> Result<Value, AllocError> {
-    match kind {
-        Kind::Int4 | Kind::Int8 => Ok(Value::Int(1)),
-        Kind::Logical => Ok(Value::Log(false)),
-        Kind::Chars(length) => {
-            let mut text = Text::new(alloc);
-            text.push_copies(b'#', length)?;
-            Value::of_text(text)
-        }
     }
 }
 

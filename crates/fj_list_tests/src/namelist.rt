@@ -2,6 +2,7 @@
 ghost use Rattle.std.specs.Prelude.{◌≡◌, true, All, length};
 ghost use Rattle.fj_namelist.specs.GroupText.{IsWithin};
 
+use crate::given::{initial, kind_of, records_of};
 use fj_list::{Cells, GroupMember, MemoryRecords, Moved, Order};
 use fj_namelist::{read_group, write_group};
 use fj_value::{Cell, Condition, Delim, EditModes, Items, Kind, Place, Text, Value};
@@ -149,38 +150,6 @@ fn modes(comma: bool, delim: Delim) -> EditModes {
         delim,
         pad: true,
         plus: false,
-    }
-}
-
-fn records_of(alloc: Global, text: &str) -> Result<MemoryRecords, AllocError> {
-    let mut records = Items::new(alloc);
-    for line in text.lines() {
-        records.push(Text::from_bytes(alloc, line.as_bytes())?)?;
-    }
-    Ok(MemoryRecords {
-        records,
-        looked_at: 0,
-        ending: None,
-    })
-}
-
-fn kind_of(letter: u8) -> Kind {
-    match letter {
-        b'i' => Kind::Int4,
-        b'l' => Kind::Logical,
-        digit => Kind::Chars(u32::from(digit.saturating_sub(b'0'))),
-    }
-}
-
-fn initial(alloc: Global, kind: Kind) -> Result<Value, AllocError> {
-    match kind {
-        Kind::Int4 | Kind::Int8 => Ok(Value::Int(1)),
-        Kind::Logical => Ok(Value::Log(false)),
-        Kind::Chars(length) => {
-            let mut text = Text::new(alloc);
-            text.push_copies(b'#', length)?;
-            Value::of_text(text)
-        }
     }
 }
 
