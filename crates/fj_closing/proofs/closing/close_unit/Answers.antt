@@ -9,7 +9,7 @@ use Rattle.fj_units.specs.Files.{files_of}
 use Rattle.fj_units.specs.Returning.{IsAsDue}
 use Rattle.fj_units.specs.Units.{connected_of}
 use Rattle.fj_closing.specs.Losing.{is_memory}
-use Rattle.fj_closing.proofs.Returning.{kept_gone, kept_get, closes_desk, lack_at, no_more_memory, unfit_untold}
+use Rattle.fj_closing.proofs.Returning.{kept_gone, kept_get, closes_desk, lack_at, no_more_memory, unfit_fits, unfit_untold}
 use Rattle.fj_closing.proofs.Due.{due_at_desk}
 use Rattle.fj_closing.proofs.Fitting.{own_name}
 use Rattle.fj_closing.specs.Finding.{IsEndedUpTo, IsFound}
@@ -94,7 +94,7 @@ returns-then-due-clause-back g c = λ may.
     ap (stands c.close-closed.new.names) (sym name) ∙ c.close-closed.ensures.back
 
 pub returns-else-due-clause-back : goal.returns-else-due-clause-back
-returns-else-due-clause-back g c = λ may. absurd (unfit_untold c.close-closed.result c.after.result c.after.ensures may)
+returns-else-due-clause-back g c = λ fit. absurd (unfit_fits c.close-closed.result c.after.result c.after.ensures fit)
 
 pub returns-else-due-clause-fits : goal.returns-else-due-clause-fits
 returns-else-due-clause-fits g c = λ own.
@@ -125,7 +125,7 @@ returns-then-due-clause-found g c = λ tells may was b.
     )
 
 pub returns-else-due-clause-found : goal.returns-else-due-clause-found
-returns-else-due-clause-found g c = λ tells may. absurd (unfit_untold c.close-closed.result c.after.result c.after.ensures may)
+returns-else-due-clause-found g c = λ tells fit. absurd (unfit_fits c.close-closed.result c.after.result c.after.ensures fit)
 
 pub returns-then-due-clause-spared : goal.returns-then-due-clause-spared
 returns-then-due-clause-spared g c = λ tells may name other.
@@ -134,4 +134,4 @@ returns-then-due-clause-spared g c = λ tells may name other.
     c.close-closed.ensures.others tells name (λ same. other (same ∙ own))
 
 pub returns-else-due-clause-spared : goal.returns-else-due-clause-spared
-returns-else-due-clause-spared g c = λ tells may. absurd (unfit_untold c.close-closed.result c.after.result c.after.ensures may)
+returns-else-due-clause-spared g c = λ tells fit. absurd (unfit_fits c.close-closed.result c.after.result c.after.ensures fit)

@@ -30,6 +30,7 @@ returns g c = record {
     ending = ap (λ l. l.ending) c.give_back-settled.ensures.left ∙ c.into_left-left.ensures.ending;
     over = ap (λ l. l.over) c.give_back-settled.ensures.left ∙ c.into_left-left.ensures.over;
     at = ap (λ l. l.at) c.give_back-settled.ensures.left ∙ c.into_left-left.ensures.at;
+    lost = ap (λ l. l.lost) c.give_back-settled.ensures.left ∙ c.into_left-left.ensures.lost;
     nothing = λ s. sym c.into_left-left.ensures.lost ∙ where_ok _ _ s c.give_back-settled.ensures.nothing;
     files = λ t s desks h seats.
         let us = ap (λ k. k.units) c.into_left-left.ensures.core in
