@@ -59,7 +59,8 @@ fn give_back<D: Disk>(
         (files_of (D.held disk.new) ≡ returned connection.name (D.File.bytes connection.file) keep (files_of (D.held disk.old))) }
     ensures due { D.tells disk.old → (name : List ℕ) → IsAsDue (D.refusals disk.old) (D.refusals disk.new) (files_of (D.held disk.new) name)
         (returned connection.name (D.File.bytes connection.file) keep (files_of (D.held disk.old)) name) }
-    ensures found { D.tells disk.old → IsFound keep (files_of (D.held disk.new) connection.name) (λ bytes. bytes ≡ D.File.bytes connection.file) }
+    ensures found { D.tells disk.old → IsFound keep (files_of (D.held disk.new) connection.name) (λ bytes. bytes ≡ D.File.bytes connection.file)
+        (D.refusals disk.old) (D.refusals disk.new) }
     ensures count { D.tells disk.old → set.contains (D.held disk.new).hurt connection.name ≡ not (D.File.count connection.file == 0) }
     ensures others { D.tells disk.old → (name : List ℕ) → name ≢ connection.name → SameAt (D.held disk.old) (D.held disk.new) name }
     ensures own { D.tells disk.old → D.refusals disk.old ≤ D.refusals disk.new }
@@ -89,7 +90,8 @@ fn close<D: Disk>(
         → (stop ≡ None) × (D.File.told connection.file ≡ true → (name : List ℕ) → IsAsDue (D.refusals disk.old) (D.refusals disk.new) (files_of (D.held disk.new) name)
         (left (connection_of D.File.bytes connection) keep (files_of (D.held disk.old)) name)) }
     ensures found { D.tells disk.old → all_fits result ≡ true → D.File.told connection.file ≡ true
-        → IsFound keep (files_of (D.held disk.new) connection.name) (IsEndedUpTo stop (connection_of D.File.bytes connection)) }
+        → IsFound keep (files_of (D.held disk.new) connection.name) (IsEndedUpTo stop (connection_of D.File.bytes connection))
+        (D.refusals disk.old) (D.refusals disk.new) }
     ensures others { D.tells disk.old → (name : List ℕ) → name ≢ connection.name → SameAt (D.held disk.old) (D.held disk.new) name }
     ensures same { D.tells disk.old → AreOthersSame names.old names.new (D.held disk.old) (D.held disk.new) }
     ensures own { D.tells disk.old → D.refusals disk.old ≤ D.refusals disk.new }
@@ -135,7 +137,8 @@ fn close_unit<D: Disk>(
     ensures running { D.tells disk.old → may_tell result ≡ true → (was : List (Remaining D.File)) → Both (IsKept names.old) was all.old.items
         → set.contains (D.held disk.new).hurt unit.now.name ≡ false → (it : Remaining D.File) × (slice_get was unit.now.slot ≡ Some it) × (it.stop ≡ None) }
     ensures found { D.tells disk.old → all_fits result ≡ true → (was : List (Remaining D.File)) → Both (IsKept names.old) was all.old.items
-        → (it : Remaining D.File) × (slice_get was unit.now.slot ≡ Some it) × IsFoundOf D.File.told D.File.bytes it unit.now.name (files_of (D.held disk.new) unit.now.name) }
+        → (it : Remaining D.File) × (slice_get was unit.now.slot ≡ Some it) × IsFoundOf D.File.told D.File.bytes it unit.now.name (files_of (D.held disk.new) unit.now.name)
+        (D.refusals disk.old) (D.refusals disk.new) }
     ensures spared { D.tells disk.old → all_fits result ≡ true → (name : List ℕ) → name ≢ unit.now.name → SameAt (D.held disk.old) (D.held disk.new) name }
     ensures back { all_fits result ≡ true → stands names.new unit.now.name ≡ false }
     ensures same { D.tells disk.old → AreOthersSame names.old names.new (D.held disk.old) (D.held disk.new) }
@@ -192,7 +195,7 @@ fn close_each<D: Disk>(
     ensures running { D.tells disk.old → may_tell result ≡ true → (was : List (Remaining D.File)) → Both (IsKept names.old) was all.old.items
         → IfClear (D.held disk.new) (map connected_of units.now) was (λ it. it.stop ≡ None) }
     ensures found { D.tells disk.old → all_fits result ≡ true → (was : List (Remaining D.File)) → Both (IsKept names.old) was all.old.items
-        → OfEach (map connected_of units.now) was (λ u it. IsFoundOf D.File.told D.File.bytes it u.name (files_of (D.held disk.new) u.name)) }
+        → OfEach (map connected_of units.now) was (λ u it. IsFoundOf D.File.told D.File.bytes it u.name (files_of (D.held disk.new) u.name) (D.refusals disk.old) (D.refusals disk.new)) }
     ensures spared { D.tells disk.old → all_fits result ≡ true → AreSpared (map connected_of units.now) (D.held disk.old) (D.held disk.new) }
     ensures same { D.tells disk.old → AreOthersSame names.old names.new (D.held disk.old) (D.held disk.new) }
     ensures own { D.tells disk.old → D.refusals disk.old ≤ D.refusals disk.new }
@@ -289,7 +292,7 @@ pub fn close_units<D: Disk>(
         → AreAsDue (D.refusals disk.old) (D.refusals disk.new) names.new (D.held disk.new) (all_left desks units.now (files_of (D.held disk.old))) }
     ensures running { D.tells disk.old → may_tell result ≡ true → IfClear (D.held disk.new) units.now all.items (λ it. it.stop ≡ None) }
     ensures found { D.tells disk.old → all_fits result ≡ true
-        → OfEach units.now all.items (λ u it. IsFoundOf D.File.told D.File.bytes it u.name (files_of (D.held disk.new) u.name)) }
+        → OfEach units.now all.items (λ u it. IsFoundOf D.File.told D.File.bytes it u.name (files_of (D.held disk.new) u.name) (D.refusals disk.old) (D.refusals disk.new)) }
     ensures spared { D.tells disk.old → all_fits result ≡ true → AreSpared units.now (D.held disk.old) (D.held disk.new) }
     ensures same { D.tells disk.old → AreOthersSame names.old names.new (D.held disk.old) (D.held disk.new) }
     ensures own { D.tells disk.old → D.refusals disk.old ≤ D.refusals disk.new }

@@ -52,7 +52,8 @@ pub fn finish<D: Disk>(
     ensures running { D.tells disk.old → may_tell result ≡ true → IfClear (D.held disk.new) units.now slots.slots (λ l. l.halt ≡ None) }
     ensures others { all_fits result ≡ true → (desks : List Desk) → HoldsDesks (bay_meaning D.File.told D.File.bytes D.File.count) slots desks → OthersRun units.now slots.slots desks }
     ensures found { D.tells disk.old → all_fits result ≡ true → OfEach units.now slots.slots (λ u l. (s : PlainBay) (ts : List PlainJob)
-        → IsSound (bay_meaning D.File.told D.File.bytes D.File.count) s ts l → IsLeftBehind l s ts u.name (files_of (D.held disk.new) u.name)) }
+        → IsSound (bay_meaning D.File.told D.File.bytes D.File.count) s ts l → IsLeftBehind l s ts u.name (files_of (D.held disk.new) u.name)
+        (D.refusals disk.old) (D.refusals disk.new)) }
     ensures spared { D.tells disk.old → all_fits result ≡ true → AreSpared units.now (D.held disk.old) (D.held disk.new) }
     ensures same { D.tells disk.old → AreOthersSame names.old names.new (D.held disk.old) (D.held disk.new) }
     ensures own { D.tells disk.old → D.refusals disk.old ≤ D.refusals disk.new }

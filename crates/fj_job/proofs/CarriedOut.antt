@@ -74,7 +74,7 @@ module _ {W D F : Type 0} (tells_out : W → Type 0) (taken : W → List ℕ) (c
             (ran t (sym settled.over ∙ going)) refl settled.core settled.ending (λ desks h seats. settled.files (leaves.telling.0 t) s desks h seats)));
         at_want = λ t fit fault trace. subst (λ (d : Deck). CutByMemory d trace (files_of (held disk)) (tells_out out) (taken out) (taken out') (held disk'') (refusals disk) (refusals disk'')) same
             (cut_by_memory meaning rack' (held disk') (held disk'') (refusals disk) (refusals disk') (refusals disk'') (tells_out out) (taken out) (taken out') m.deck (files_of (held disk)) m' own (there t)
-            (settled.own (leaves.telling.0 t)) (settled.found (leaves.telling.0 t) fit) (settled.spared (leaves.telling.0 t) fit) trace (subst IsNoneOrFault settled.lost fault));
+            (leaves.own t) (settled.own (leaves.telling.0 t)) (settled.found (leaves.telling.0 t) fit) (settled.spared (leaves.telling.0 t) fit) trace (subst IsNoneOrFault settled.lost fault));
         part = λ t w. subst (λ (d : Deck). TookSome d (files_of (held disk)) (taken out) (taken out')) same
             (took_some meaning rack' (held disk') (refusals disk) (refusals disk') (tells_out out) (taken out) (taken out') m.deck (files_of (held disk)) m' (there t) w);
         result_is = λ t s going. came meaning told bytes deck m.deck (files_of (held disk)) (files_of (held disk')) (files_of (held disk'')) m' rack' it.left

@@ -3,6 +3,7 @@ use Rattle.std.proofs.Common.{◌≡◌, ◌⊎◌, inl, inr, ℕ, ◌≤◌, Bo
 use Rattle.std.specs.FinMap as map
 use Rattle.std.specs.FinSet as set
 use Rattle.std.specs.Option.{option_map}
+use Rattle.fj_outside.specs.Faults.{Rose}
 use Rattle.fj_outside.specs.declared.outside.FileStore.{Ghosts}
 use Rattle.fj_outside.specs.Holdings.{Holdings, Files as Held}
 use Rattle.fj_statement.specs.Sound.{IsSound}
@@ -20,7 +21,7 @@ use Rattle.fj_desk.specs.Desks.{Desk}
 use Rattle.fj_desk.specs.Desking.{all_left}
 use Rattle.fj_turns.specs.Executing.{HoldsDesks}
 use Rattle.fj_turns.specs.Serving.{over_bays}
-use Rattle.fj_cut.specs.Others.{AreHoused}
+use Rattle.fj_cut.specs.Others.{names_in, file_renewed, AreHoused}
 use Rattle.fj_cut.specs.Stopping.{IsLeftShort}
 use Rattle.fj_pending.specs.Plain.{tells_of}
 use Rattle.fj_items.specs.Handing.{TakesFront, TakesPart, whole_records, open_record}
@@ -30,6 +31,7 @@ use Rattle.fj_units.specs.Returning.{IsAsDue}
 use Rattle.fj_closing.specs.Closing.{AreSeated, AreNamed, IfClear, OthersRun}
 use Rattle.fj_closing.specs.Finding.{IsLeftBehind, OfEach, AreSpared}
 use Rattle.fj_closing.proofs.Due.{due_on}
+use Rattle.fj_closing.proofs.Finding.{rose_wider}
 use Rattle.fj_report.specs.Lines.{status_text}
 use Rattle.fj_report.specs.declared.status.Status.{Status}
 use Rattle.fj_report.specs.declared.status.Status.TheVariants.{DiskFault}
@@ -108,16 +110,21 @@ module _ {E J A F : Type 0} {ghosts : Ghosts F} (meaning : Meaning E J A Bay Job
 
 -- each file that the statement neither opens nor removes
 pub cut_short : {E J A F : Type 0} {ghosts : Ghosts F} (meaning : Meaning E J A Bay Job Answer) (rack : Rack E J A) (held last : Holdings) (before now end : ℕ)
-    (deck : Deck) (files : Files) (m : Machine F ghosts) (comes : ComesTo deck files) (reach : Reach) → now ≤ end
-    → OfEach m.state.core.units rack.slots (λ u k. (s : Bay) (ts : List Job) → IsSoundSlot (over_bays meaning) s ts k → IsLeftBehind k s ts u.name (files_of last u.name))
+    (deck : Deck) (files : Files) (m : Machine F ghosts) (comes : ComesTo deck files) (reach : Reach) → before ≤ now → now ≤ end
+    → OfEach m.state.core.units rack.slots (λ u k. (s : Bay) (ts : List Job) → IsSoundSlot (over_bays meaning) s ts k → IsLeftBehind k s ts u.name (files_of last u.name) now end)
     → AreSpared m.state.core.units held last → HoldsFiles meaning rack held before now deck files comes reach m → AreCutShort deck files comes reach last before end
-cut_short meaning rack held last before now end deck files m comes reach late found spared h name new = by (has_name m.state.core.units name) refl
+cut_short meaning rack held last before now end deck files m comes reach early late found spared h = λ name new. by name new (has_name m.state.core.units name) refl
   where
-    by : (b : Bool) → has_name m.state.core.units name ≡ b
-        → IsLeftShort deck.variables (stated deck.statements) files comes.index name (files_of last name)
+    abbrev So : List ℕ → Type 0
+    So name = ((short : IsLeftShort deck.variables (stated deck.statements) files comes.index name (files_of last name))
+        × (short.leaves.before.modes.scratch ≡ true → (files_of last name ≡ None) ⊎ Rose before end))
         ⊎ IsAsDue before end (files_of last name) ((all_closed (reached reach deck.variables comes.statement comes.before)).files name)
-    by true e = inl (left_short meaning rack deck.variables (stated deck.statements) files (files_of last) comes.index name m.state.core.units found h.given e)
-    by false e = inr (subst (λ (o : Option (List ℕ)). IsAsDue before end o ((all_closed (reached reach deck.variables comes.statement comes.before)).files name)) (sym (spared name e).0)
+
+    by : (name : List ℕ) → file_renewed (names_in comes.before.units) comes.statement.0.what ≢ Some name → (b : Bool) → has_name m.state.core.units name ≡ b → So name
+    by name new true e =
+        let short = left_short meaning rack deck.variables (stated deck.statements) files (files_of last) comes.index now end name m.state.core.units found h.given e in
+        inl (short.0, λ s. elim (short.1 s) [ inl none ↦ inl none | inr rose ↦ inr (rose_wider before now end end early (omega arith) rose) ])
+    by name new false e = inr (subst (λ (o : Option (List ℕ)). IsAsDue before end o ((all_closed (reached reach deck.variables comes.statement comes.before)).files name)) (sym (spared name e).0)
         (due_wider before before now end (files_of held name) _ (omega arith) late (h.freed name e new)))
 
 module _ {E J A F : Type 0} {ghosts : Ghosts F} (meaning : Meaning E J A Bay Job Answer) (rack : Rack E J A) (held last : Holdings) (before now end : ℕ) (Tells : Type 0) (old new : List ℕ)
@@ -126,7 +133,7 @@ module _ {E J A F : Type 0} {ghosts : Ghosts F} (meaning : Meaning E J A Bay Job
     → IsAsDue now end (files_of last name) (all_left desks m.state.core.units (files_of held) name))
     (running : IfClear last m.state.core.units rack.slots (λ (k : Ledger E J A). k.halt ≡ None))
     (others : (desks : List Desk) → HoldsDesks meaning rack desks → OthersRun m.state.core.units rack.slots desks)
-    (found : OfEach m.state.core.units rack.slots (λ u k. (s : Bay) (ts : List Job) → IsSoundSlot (over_bays meaning) s ts k → IsLeftBehind k s ts u.name (files_of last u.name)))
+    (found : OfEach m.state.core.units rack.slots (λ u k. (s : Bay) (ts : List Job) → IsSoundSlot (over_bays meaning) s ts k → IsLeftBehind k s ts u.name (files_of last u.name) now end))
     (spared : AreSpared m.state.core.units held last) where
   hand : slice_get deck.statements l.at ≡ Some cut.comes.statement.0
   hand = ap (λ n. slice_get deck.statements n) at ∙ cut.at
@@ -136,7 +143,7 @@ module _ {E J A F : Type 0} {ghosts : Ghosts F} (meaning : Meaning E J A Bay Job
     clear = λ name clear about.
         due_on before now end _ _ _ early late (due h.desks h.slots (seated_of h.desks m.state.core.units h.units) (named_of h.desks m.state.core.units h.units) name clear)
         (h.others name (served_of rack last name m.state.core.units running clear) about);
-    others = cut_short meaning rack held last before now end deck files m cut.comes reach late found spared h;
+    others = cut_short meaning rack held last before now end deck files m cut.comes reach early late found spared h;
   }
 
   -- a unit whose slot has stopped has a file that is hurt, and no other slot has stopped

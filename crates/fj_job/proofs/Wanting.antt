@@ -55,8 +55,8 @@ run_reply deck trace files sound =
     )
 
 module _ {E J A F : Type 0} {ghosts : Ghosts F} (meaning : Meaning E J A Bay Job Answer) (rack : Rack E J A) (held last : Holdings) (before now end : ℕ) (Tells : Type 0) (old new : List ℕ)
-    (deck : Deck) (files : Files) (m : Machine F ghosts) (sound : IsSound deck) (cut : IsCut meaning rack held before now Tells old new deck files m) (late : now ≤ end)
-    (found : OfEach m.state.core.units rack.slots (λ u k. (s : Bay) (ts : List Job) → IsSoundSlot (over_bays meaning) s ts k → IsLeftBehind k s ts u.name (files_of last u.name)))
+    (deck : Deck) (files : Files) (m : Machine F ghosts) (sound : IsSound deck) (cut : IsCut meaning rack held before now Tells old new deck files m) (early : before ≤ now) (late : now ≤ end)
+    (found : OfEach m.state.core.units rack.slots (λ u k. (s : Bay) (ts : List Job) → IsSoundSlot (over_bays meaning) s ts k → IsLeftBehind k s ts u.name (files_of last u.name) now end))
     (spared : AreSpared m.state.core.units held last) (trace : Bool) where
   -- as far as the statement came
   cut_at : (reach : Reach) → MayReach reach deck.variables cut.comes.statement cut.comes.before → HoldsFiles meaning rack held before now deck files cut.comes reach m
@@ -68,7 +68,7 @@ module _ {E J A F : Type 0} {ghosts : Ghosts F} (meaning : Meaning E J A Bay Job
     due = whole_records (step deck.variables cut.comes.statement cut.comes.before).0.output;
     written = inl refl;
     taken = λ t. next_front old new deck files cut.comes (cut.front t);
-    files_are = cut_short meaning rack held last before now end deck files m cut.comes Untold late found spared h;
+    files_are = cut_short meaning rack held last before now end deck files m cut.comes Untold early late found spared h;
   }
   cut_at Told may h = record {
     comes = cut.comes;
@@ -77,7 +77,7 @@ module _ {E J A F : Type 0} {ghosts : Ghosts F} (meaning : Meaning E J A Bay Job
     due = whole_records (step deck.variables cut.comes.statement cut.comes.before).0.output;
     written = inl refl;
     taken = λ t. next_front old new deck files cut.comes (cut.front t);
-    files_are = cut_short meaning rack held last before now end deck files m cut.comes Told late found spared h;
+    files_are = cut_short meaning rack held last before now end deck files m cut.comes Told early late found spared h;
   }
   cut_at At may h =
       let r = run_reply deck trace files sound in
@@ -88,7 +88,7 @@ module _ {E J A F : Type 0} {ghosts : Ghosts F} (meaning : Meaning E J A Bay Job
         due = r.0.output;
         written = inl (r.0, r.1, refl);
         taken = λ t. subst (λ (x : List ℕ). TakesFront old new x) (sym r.3) (front_so_far deck files old new r.2 (front_of_output old new deck files cut.comes (cut.front t)));
-        files_are = cut_short meaning rack held last before now end deck files m cut.comes At late found spared h;
+        files_are = cut_short meaning rack held last before now end deck files m cut.comes At early late found spared h;
       }
 
   -- where nothing was lost, or the outside failed

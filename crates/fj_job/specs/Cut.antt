@@ -1,5 +1,5 @@
 -- What a run that met a fault has told: what executing the deck tells, up to one of its statements.
-use Rattle.std.specs.Prelude.{◌≡◌, ◌≢◌, ◌⊎◌, ℕ, Bool, true, false, List, [], ◌++◌, Some, IsSome}
+use Rattle.std.specs.Prelude.{◌≡◌, ◌≢◌, ◌⊎◌, ℕ, Bool, true, false, List, [], ◌++◌, Some, None, IsSome}
 use Rattle.std.specs.FinSet as set
 use Rattle.fj_outside.specs.Faults.{Rose}
 use Rattle.fj_outside.specs.Holdings.{Holdings}
@@ -61,11 +61,12 @@ pub record IsFaultReport (deck : Deck) (trace : Bool) (files : Files) (line : �
 
 -- Files that were cut short, where the disk's own number was `before` and is `now`. Each one that the statement neither opens nor removes is
 -- as closing all units leaves it there; one that is gone then may be there, where that number rose. Or a job of its unit was stopped in
--- it, or the end of its record, and its bytes are as before below the first one that this changes. The job stands behind each one of its
--- slot that a statement before this one waits for.
+-- it, or the end of its record, and its bytes are as before below the first one that this changes; a scratch file is gone, unless that
+-- number rose. The job stands behind each one of its slot that a statement before this one waits for.
 abbrev pub AreCutShort : (deck : Deck) (files : Files) → ComesTo deck files → Reach → Holdings → ℕ → ℕ → Type 0
 AreCutShort deck files comes reach left before now = (name : List ℕ) → file_renewed (names_in comes.before.units) comes.statement.0.what ≢ Some name
-    → IsLeftShort deck.variables (stated deck.statements) files comes.index name (files_of left name)
+    → ((short : IsLeftShort deck.variables (stated deck.statements) files comes.index name (files_of left name))
+    × (short.leaves.before.modes.scratch ≡ true → (files_of left name ≡ None) ⊎ Rose before now))
     ⊎ IsAsDue before now (files_of left name) ((all_closed (reached reach deck.variables comes.statement comes.before)).files name)
 
 -- How files are left by a fault. Each one that is not hurt, and that the statement is not about, is as closing all units leaves it there;

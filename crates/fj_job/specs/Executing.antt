@@ -57,7 +57,7 @@ pub record IsSettled {D F E J A : Type 0} {ghosts : Ghosts F} (tells : D → Typ
   -- where all fits, what else was lost
   pub others : all_fits it.settled ≡ true → (desks : List Desk) → HoldsDesks meaning rack desks → OthersRun m.state.core.units rack.slots desks
   -- the file of each unit is as one of its slot's jobs may leave it, or the end of its record; and of others the disk tells the same
-  pub found : tells disk → all_fits it.settled ≡ true → OfEach m.state.core.units rack.slots (λ u l. (s : Bay) (ts : List Job) → IsSound (over_bays meaning) s ts l → IsLeftBehind l s ts u.name (files_of (held disk') u.name))
+  pub found : tells disk → all_fits it.settled ≡ true → OfEach m.state.core.units rack.slots (λ u l. (s : Bay) (ts : List Job) → IsSound (over_bays meaning) s ts l → IsLeftBehind l s ts u.name (files_of (held disk') u.name) (refusals disk) (refusals disk'))
   pub spared : tells disk → all_fits it.settled ≡ true → AreSpared m.state.core.units (held disk) (held disk')
   pub own : tells disk → refusals disk ≤ refusals disk'
   pub sink : it.settled ≡ Err Sink → m.tally.lost ≡ Some Sink

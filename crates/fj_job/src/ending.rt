@@ -198,7 +198,8 @@ fn give_back<D: Disk>(
     ensures others { all_fits result ≡ true → (desks : List Desk) → HoldsDesks (bay_meaning D.File.told D.File.bytes D.File.count) slots desks
         → OthersRun left.old.core.units slots.slots desks }
     ensures found { D.tells disk.old → all_fits result ≡ true → OfEach left.old.core.units slots.slots (λ u l. (s : PlainBay) (ts : List PlainJob)
-        → IsSoundSlot (bay_meaning D.File.told D.File.bytes D.File.count) s ts l → IsLeftBehind l s ts u.name (files_of (D.held disk.new) u.name)) }
+        → IsSoundSlot (bay_meaning D.File.told D.File.bytes D.File.count) s ts l → IsLeftBehind l s ts u.name (files_of (D.held disk.new) u.name)
+        (D.refusals disk.old) (D.refusals disk.new)) }
     ensures spared { D.tells disk.old → all_fits result ≡ true → AreSpared left.old.core.units (D.held disk.old) (D.held disk.new) }
     ensures own { D.tells disk.old → D.refusals disk.old ≤ D.refusals disk.new }
     ensures sink { result ≡ Err Lost.Sink → left.old.lost ≡ Some Lost.Sink }

@@ -81,8 +81,9 @@ pub returns-clause-found : goal.returns-clause-found
 returns-clause-found g c = λ tells may.
     let told = each_fits c.close_each-first.result c.close_rest-then.result c.after.result c.after.ensures may in
     let found = c.close_each-first.ensures.found tells told.0 c.args.all.items (kept_all c.args.names.now c.args.all.items) in
-    subst (λ d. OfEach c.args.units.now c.args.all.items (λ u it. IsFoundOf g.D.File.FileStore.told g.D.File.FileStore.bytes it u.name (files_of (g.D.Disk.held d) u.name))) (sym (c.close_rest-then.ensures.none told.1).0)
-    (subst (λ us. OfEach us c.args.all.items (λ u it. IsFoundOf g.D.File.FileStore.told g.D.File.FileStore.bytes it u.name (files_of (g.D.Disk.held c.close_each-first.new.disk) u.name))) c.as_slice.ensures found)
+    subst (λ d. OfEach c.args.units.now c.args.all.items (λ u it. IsFoundOf g.D.File.FileStore.told g.D.File.FileStore.bytes it u.name (files_of (g.D.Disk.held d) u.name) (g.D.Disk.refusals c.args.disk.now) (g.D.Disk.refusals d))) (sym (c.close_rest-then.ensures.none told.1).0)
+    (subst (λ us. OfEach us c.args.all.items (λ u it. IsFoundOf g.D.File.FileStore.told g.D.File.FileStore.bytes it u.name (files_of (g.D.Disk.held c.close_each-first.new.disk) u.name)
+    (g.D.Disk.refusals c.args.disk.now) (g.D.Disk.refusals c.close_each-first.new.disk))) c.as_slice.ensures found)
 
 pub returns-clause-spared : goal.returns-clause-spared
 returns-clause-spared g c = λ tells may.

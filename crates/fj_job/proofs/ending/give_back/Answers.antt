@@ -106,13 +106,13 @@ returns-in-None-clause-others g c = λ e.
 pub returns-in-Some-clause-found : goal.returns-in-Some-clause-found
 returns-in-Some-clause-found g c = λ t e.
     let fit = all_fit c.first_lost.result c.finish-closed.result c.give_kept-given.result c.in-Some.lost c.give_kept-given.ensures.unfit c.in-Some.ensures.fit c.in-Some.ensures.ok c.first_lost.ensures.fit e in
-    subst (λ d. OfEach c.args.left.now.core.units c.args.slots.slots (λ u l. (s : PlainBay) (ts : List PlainJob) → IsSound (bay_meaning g.D.File.FileStore.told g.D.File.FileStore.bytes g.D.File.FileStore.count) s ts l → IsLeftBehind l s ts u.name (files_of (g.D.Disk.held d) u.name))) (sym (where_ok _ _ fit.0 c.give_kept-given.ensures.none)) (c.finish-closed.ensures.found t fit.1)
+    subst (λ d. OfEach c.args.left.now.core.units c.args.slots.slots (λ u l. (s : PlainBay) (ts : List PlainJob) → IsSound (bay_meaning g.D.File.FileStore.told g.D.File.FileStore.bytes g.D.File.FileStore.count) s ts l → IsLeftBehind l s ts u.name (files_of (g.D.Disk.held d) u.name) (g.D.Disk.refusals c.args.disk.now) (g.D.Disk.refusals d))) (sym (where_ok _ _ fit.0 c.give_kept-given.ensures.none)) (c.finish-closed.ensures.found t fit.1)
 
 pub returns-in-None-clause-found : goal.returns-in-None-clause-found
 returns-in-None-clause-found g c = λ t e.
     let none = c.in-None.ensures.none in
     let closed = (where_none _ _ none.0 c.first_lost.ensures.none).1 in
-    subst (λ d. OfEach c.args.left.now.core.units c.args.slots.slots (λ u l. (s : PlainBay) (ts : List PlainJob) → IsSound (bay_meaning g.D.File.FileStore.told g.D.File.FileStore.bytes g.D.File.FileStore.count) s ts l → IsLeftBehind l s ts u.name (files_of (g.D.Disk.held d) u.name))) (sym (where_ok _ _ none.1 c.give_kept-given.ensures.none)) (c.finish-closed.ensures.found t (ap all_fits closed))
+    subst (λ d. OfEach c.args.left.now.core.units c.args.slots.slots (λ u l. (s : PlainBay) (ts : List PlainJob) → IsSound (bay_meaning g.D.File.FileStore.told g.D.File.FileStore.bytes g.D.File.FileStore.count) s ts l → IsLeftBehind l s ts u.name (files_of (g.D.Disk.held d) u.name) (g.D.Disk.refusals c.args.disk.now) (g.D.Disk.refusals d))) (sym (where_ok _ _ none.1 c.give_kept-given.ensures.none)) (c.finish-closed.ensures.found t (ap all_fits closed))
 
 pub returns-in-Some-clause-spared : goal.returns-in-Some-clause-spared
 returns-in-Some-clause-spared g c = λ t e.
