@@ -70,22 +70,24 @@ no_slot rack us name none slot has = absurd (let z : true ≡ false = sym has �
 
 -- ---- a file that a unit has
 
+-- a job was stopped in it, and a scratch file is gone
+abbrev pub LeavesShort : List Variable → List Stated → Files → Files → ℕ → ℕ → ℕ → List ℕ → Type 0
+LeavesShort variables deck files left last before now name =
+    (short : IsLeftShort variables deck files last name (left name)) × (short.leaves.before.modes.scratch ≡ true → (left name ≡ None) ⊎ Rose before now)
+
 pub left_short : {E J A : Type 0} (m : Meaning E J A Bay Job Answer) (rack : Rack E J A) (variables : List Variable) (deck : List Stated) (files left : Files) (last : ℕ) (before now : ℕ) (name : List ℕ) (us : List Connected)
     → OfEach us rack.slots (λ u l. (s : Bay) (ts : List Job) → IsSound (over_bays m) s ts l → IsLeftBehind l s ts u.name (left u.name) before now) → HoldsGiven variables deck files m rack last → has_name us name ≡ true
-    → (short : IsLeftShort variables deck files last name (left name)) × (short.leaves.before.modes.scratch ≡ true → (left name ≡ None) ⊎ Rose before now)
+    → LeavesShort variables deck files left last before now name
 left_short m rack variables deck files left last before now name [] each given e = cc
 left_short m rack variables deck files left last before now name (u ∷ us) each given e = by (bytes_eq name u.name) refl (λ h. left_short m rack variables deck files left last before now name us each.1 given h) e
   where
-    abbrev Short : List ℕ → Type 0
-    Short n = (short : IsLeftShort variables deck files last n (left n)) × (short.leaves.before.modes.scratch ≡ true → (left n ≡ None) ⊎ Rose before now)
-
-    here : name ≡ u.name → Short name
+    here : name ≡ u.name → LeavesShort variables deck files left last before now name
     here same =
         let l = each.0 in
         let q = given u.slot l.0 l.1 in
         let short = l.2 q.0.start q.0.jobs q.1 in
         let it = short.some in
-        subst Short (sym same) (
+        subst (LeavesShort variables deck files left last before now) (sym same) (
           record {
             slot = u.slot;
             number = it.number;
@@ -98,7 +100,8 @@ left_short m rack variables deck files left last before now name (u ∷ us) each
           short.gone,
         )
 
-    by : (b : Bool) → bytes_eq name u.name ≡ b → (has_name us name ≡ true → Short name) → (b || has_name us name) ≡ true → Short name
+    by : (b : Bool) → bytes_eq name u.name ≡ b → (has_name us name ≡ true → LeavesShort variables deck files left last before now name) → (b || has_name us name) ≡ true
+        → LeavesShort variables deck files left last before now name
     by true is later h = here ((bytes_eq-Decides name u.name).0 is)
     by false is later h = later h
 

@@ -3,7 +3,6 @@ use Rattle.std.proofs.Common.{◌≡◌, ◌⊎◌, inl, inr, ℕ, ◌≤◌, Bo
 use Rattle.std.specs.FinMap as map
 use Rattle.std.specs.FinSet as set
 use Rattle.std.specs.Option.{option_map}
-use Rattle.fj_outside.specs.Faults.{Rose}
 use Rattle.fj_outside.specs.declared.outside.FileStore.{Ghosts}
 use Rattle.fj_outside.specs.Holdings.{Holdings, Files as Held}
 use Rattle.fj_statement.specs.Sound.{IsSound}
@@ -22,7 +21,6 @@ use Rattle.fj_desk.specs.Desking.{all_left}
 use Rattle.fj_turns.specs.Executing.{HoldsDesks}
 use Rattle.fj_turns.specs.Serving.{over_bays}
 use Rattle.fj_cut.specs.Others.{names_in, file_renewed, AreHoused}
-use Rattle.fj_cut.specs.Stopping.{IsLeftShort}
 use Rattle.fj_pending.specs.Plain.{tells_of}
 use Rattle.fj_items.specs.Handing.{TakesFront, TakesPart, whole_records, open_record}
 use Rattle.fj_items.specs.declared.lost.Lost.TheVariants.{Sink, Disk}
@@ -56,7 +54,7 @@ use Rattle.fj_job.proofs.Leading.{rose_later}
 use Rattle.fj_job.proofs.Leaving.{seated_of, named_of, housed_of, served_of, due_wider, within}
 use Rattle.fj_job.proofs.Executed.{desks, ending_is, output_is, tells_are, files_are, holds, are_seated, are_named, replies, makes, none_there, taken_both, given_until}
 use Rattle.fj_job.proofs.Fronts.{front_behind, part_behind, front_more, deck_ends, some_by, not_lost}
-use Rattle.fj_job.proofs.Giving.{not_left, left_short}
+use Rattle.fj_job.proofs.Giving.{LeavesShort, not_left, left_short}
 
 -- ---- where a run ended or was cut, at the statement at hand
 
@@ -115,12 +113,9 @@ pub cut_short : {E J A F : Type 0} {ghosts : Ghosts F} (meaning : Meaning E J A 
     → AreSpared m.state.core.units held last → HoldsFiles meaning rack held before now deck files comes reach m → AreCutShort deck files comes reach last before end
 cut_short meaning rack held last before now end deck files m comes reach early late found spared h = λ name new. by name new (has_name m.state.core.units name) refl
   where
-    abbrev So : List ℕ → Type 0
-    So name = ((short : IsLeftShort deck.variables (stated deck.statements) files comes.index name (files_of last name))
-        × (short.leaves.before.modes.scratch ≡ true → (files_of last name ≡ None) ⊎ Rose before end))
+    by : (name : List ℕ) → file_renewed (names_in comes.before.units) comes.statement.0.what ≢ Some name → (b : Bool) → has_name m.state.core.units name ≡ b
+        → LeavesShort deck.variables (stated deck.statements) files (files_of last) comes.index before end name
         ⊎ IsAsDue before end (files_of last name) ((all_closed (reached reach deck.variables comes.statement comes.before)).files name)
-
-    by : (name : List ℕ) → file_renewed (names_in comes.before.units) comes.statement.0.what ≢ Some name → (b : Bool) → has_name m.state.core.units name ≡ b → So name
     by name new true e =
         let short = left_short meaning rack deck.variables (stated deck.statements) files (files_of last) comes.index now end name m.state.core.units found h.given e in
         inl (short.0, λ s. elim (short.1 s) [ inl none ↦ inl none | inr rose ↦ inr (rose_wider before now end end early (omega arith) rose) ])
