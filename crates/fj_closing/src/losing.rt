@@ -13,8 +13,10 @@ pub(crate) fn after(first: Result<(), Lost>, then: Result<(), Lost>) -> Result<(
         return then;
     };
     match (lost, then) {
-        (Lost::Unfit, _) | (_, Err(Lost::Unfit)) => Err(Lost::Unfit),
-        (_, Err(Lost::Memory(error))) => Err(Lost::Memory(error)),
+        (_, Err(Lost::Unfit)) => Err(Lost::Unfit),
+        (Lost::Memory(_) | Lost::Sink | Lost::Disk, Err(Lost::Memory(error))) => {
+            Err(Lost::Memory(error))
+        }
         _ => Err(lost),
     }
 }

@@ -58,12 +58,17 @@ fn first_lost(lost: Option<Lost>, closed: Result<(), Lost>) -> Option<Lost>
     ensures unfit { result ≡ Some Lost.Unfit → (lost ≡ Some Lost.Unfit) ⊎ (closed ≡ Err Lost.Unfit) }
     ensures ok { closed ≡ Ok tt → result ≡ lost }
 {
-    match (lost, closed) {
-        (_, Ok(())) => lost,
-        (None, Err(other)) => Some(other),
-        (Some(Lost::Unfit), _) | (_, Err(Lost::Unfit)) => Some(Lost::Unfit),
-        (_, Err(Lost::Memory(error))) => Some(Lost::Memory(error)),
-        (Some(first), _) => Some(first),
+    match closed {
+        Ok(()) => lost,
+        Err(Lost::Unfit) => Some(Lost::Unfit),
+        Err(Lost::Memory(error)) => match lost {
+            Some(Lost::Unfit) => Some(Lost::Unfit),
+            _ => Some(Lost::Memory(error)),
+        },
+        Err(other) => match lost {
+            Some(first) => Some(first),
+            None => Some(other),
+        },
     }
 }
 
