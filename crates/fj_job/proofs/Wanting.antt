@@ -1,5 +1,5 @@
 -- What was told and written where memory was wanting.
-use Rattle.std.proofs.Common.{◌≡◌, ◌⊎◌, inl, inr, ℕ, ◌≤◌, Bool, true, false, List, ◌++◌, Option, Some, None, refl, sym, ap, ◌∙◌, subst, append_assoc}
+use Rattle.std.proofs.Common.{◌≡◌, inl, inr, ℕ, ◌≤◌, Bool, List, ◌++◌, Option, Some, None, refl, sym, ap, ◌∙◌, subst, append_assoc}
 use Rattle.fj_outside.specs.declared.outside.FileStore.{Ghosts}
 use Rattle.fj_outside.specs.Holdings.{Holdings}
 use Rattle.fj_statement.specs.Sound.{IsSound}
@@ -11,7 +11,7 @@ use Rattle.fj_bay.specs.Bay.{Bay}
 use Rattle.fj_bay.specs.Jobs.{Job, Answer}
 use Rattle.fj_world.specs.Rack.{Rack}
 use Rattle.fj_plain.specs.State.{State, Files, Output}
-use Rattle.fj_plain.specs.Statement.{Stated, plain_execution, step, stated}
+use Rattle.fj_plain.specs.Statement.{Stated, plain_execution, step}
 use Rattle.fj_turns.specs.Serving.{over_bays}
 use Rattle.fj_items.specs.Handing.{TakesFront, whole_records}
 use Rattle.fj_items.specs.declared.lost.Lost.{Lost}
