@@ -1,10 +1,11 @@
 -- What is found of a file whose connection was closed.
-use Rattle.std.proofs.Common.{◌≡◌, ℕ, ◌-◌, ◌<◌, ◌≤◌, zero, suc, Bool, true, false, not, List, [], ◌∷◌, length, map, take, drop, get_or, Some, None, Option, IsSome, IfSome, is_some, slice_get, Result, Ok, Err, OnOk, OnErr, option_map, refl, sym, ap, ◌∙◌, subst, arith}
+use Rattle.std.proofs.Common.{◌≡◌, ◌⊎◌, inl, inr, ℕ, ◌-◌, ◌<◌, ◌≤◌, zero, suc, Bool, true, false, not, List, [], ◌∷◌, length, map, take, drop, get_or, Some, None, Option, IsSome, IfSome, is_some, slice_get, Result, Ok, Err, OnOk, OnErr, option_map, refl, sym, ap, ◌∙◌, subst, arith}
 use Rattle.std.specs.Prelude.{if◌then◌else◌}
 use Rattle.std.proofs.lemmas.List.{take_all, length-map}
 use Rattle.std.specs.Prelude.{◌||◌}
 use Rattle.std.specs.Str.{bytes_eq}
 use Rattle.std.proofs.lemmas.Slice.Eq.{bytes_eq-Decides}
+use Rattle.fj_outside.specs.Faults.{Rose}
 use Rattle.fj_outside.specs.Holdings.{Holdings, given, without, SameAt}
 use Rattle.fj_outside.specs.declared.errors.Stop.{Stop}
 use Rattle.fj_outside.proofs.HoldingLaws.{steps}
@@ -31,6 +32,7 @@ use Rattle.fj_desk.specs.Core.{Connected, has_name}
 use Rattle.fj_plain.specs.State.{Files}
 use Rattle.fj_units.specs.Names.{stands}
 use Rattle.fj_units.specs.Files.{files_of}
+use Rattle.fj_units.specs.Returning.{returned, IsAsDue}
 use Rattle.fj_closing.specs.Closing.{Lessens, AreOthersSame}
 use Rattle.fj_closing.specs.Finding.{IsEndedUpTo, IsFound, IsFoundOf, IsLeftBehind, OfEach, AreSpared}
 use Rattle.fj_closing.specs.Remains.{IsWhatRemains}
@@ -49,44 +51,75 @@ until_end (Err e) c new is kept = agree c.bytes (ended c).bytes new.bytes kept (
 
 -- ---- a file that came back, and maybe was removed
 
-found_there : (keep : Bool) (found : Option (List ℕ)) (bytes : List ℕ) → found ≡ Some bytes → IsFound keep found (λ b. b ≡ bytes)
-found_there keep found bytes e =
-    subst (λ o. IsFound keep o (λ b. b ≡ bytes)) (sym e) (record { kept = λ k. refl; bytes = refl })
+-- one that was to be removed is as it was to be
+gone_by : (keep : Bool) (n bytes : List ℕ) (old : Files) (found : Option (List ℕ)) (before now : ℕ) → IsAsDue before now found (returned n bytes keep old n) → keep ≡ false → (found ≡ None) ⊎ Rose before now
+gone_by true n bytes old found before now due e = absurd (cc)
+gone_by false n bytes old found before now due e =
+    let none : returned n bytes false old n ≡ None = ap (λ b. if b then None else old n) ((bytes_eq-Decides n n).1 refl) in
+    elim due [ inl is ↦ inl (is ∙ none) | inr rose ↦ inr rose.1 ]
 
-found_gone : (found : Option (List ℕ)) (bytes : List ℕ) → found ≡ None → IsFound false found (λ b. b ≡ bytes)
-found_gone found bytes e =
-    subst (λ o. IsFound false o (λ b. b ≡ bytes)) (sym e) (record { kept = λ k. absurd (cc); bytes = tt })
+found_there : (keep : Bool) (found : Option (List ℕ)) (bytes : List ℕ) (before now : ℕ) → (keep ≡ false → (found ≡ None) ⊎ Rose before now) → found ≡ Some bytes → IsFound keep found (λ b. b ≡ bytes) before now
+found_there keep found bytes before now gone e =
+    record { kept = λ k. subst (λ o. IsSome o) (sym e) refl; gone = gone; bytes = subst (λ o. IfSome o (λ b. b ≡ bytes)) (sym e) refl }
 
-module _ (h new : Holdings) (n bytes : List ℕ) (sound : Bool) where
-  found_by : (keep : Bool) → new ≡ (if keep then given h n bytes sound else without (given h n bytes sound) n) → IsFound keep (files_of new n) (λ b. b ≡ bytes)
-  found_by true is = found_there true (files_of new n) bytes (ap (λ (z : Holdings). files_of z n) is ∙ (steps h n bytes sound).1.0)
-  found_by false is = found_gone (files_of new n) bytes (ap (λ (z : Holdings). files_of z n) is ∙ (steps (given h n bytes sound) n bytes sound).2.0)
+found_gone : (found : Option (List ℕ)) (bytes : List ℕ) (before now : ℕ) → found ≡ None → IsFound false found (λ b. b ≡ bytes) before now
+found_gone found bytes before now e = record { kept = λ k. absurd (cc); gone = λ k. inl e; bytes = subst (λ o. IfSome o (λ b. b ≡ bytes)) (sym e) tt }
+
+module _ (h new : Holdings) (n bytes : List ℕ) (sound : Bool) (before now : ℕ) where
+  found_by : (keep : Bool) → IsAsDue before now (files_of new n) (returned n bytes keep (files_of h) n) → new ≡ (if keep then given h n bytes sound else without (given h n bytes sound) n)
+      → IsFound keep (files_of new n) (λ b. b ≡ bytes) before now
+  found_by true due is =
+      found_there true (files_of new n) bytes before now (gone_by true n bytes (files_of h) (files_of new n) before now due) (ap (λ (z : Holdings). files_of z n) is ∙ (steps h n bytes sound).1.0)
+  found_by false due is = found_gone (files_of new n) bytes before now (ap (λ (z : Holdings). files_of z n) is ∙ (steps (given h n bytes sound) n bytes sound).2.0)
 
   pub found_back : {A B : Type 0} → (keep : Bool) (result : Result A B) → OnOk result (new ≡ (if keep then given h n bytes sound else without (given h n bytes sound) n))
-      → OnErr result (new ≡ given h n bytes sound) → IsFound keep (files_of new n) (λ b. b ≡ bytes)
-  found_back keep (Ok x) ok err = found_by keep ok
-  found_back keep (Err x) ok err = found_there keep (files_of new n) bytes (ap (λ (z : Holdings). files_of z n) err ∙ (steps h n bytes sound).1.0)
+      → OnErr result (new ≡ given h n bytes sound) → IsAsDue before now (files_of new n) (returned n bytes keep (files_of h) n) → IsFound keep (files_of new n) (λ b. b ≡ bytes) before now
+  found_back keep (Ok x) ok err due = found_by keep due ok
+  found_back keep (Err x) ok err due =
+      found_there keep (files_of new n) bytes before now (gone_by keep n bytes (files_of h) (files_of new n) before now due) (ap (λ (z : Holdings). files_of z n) err ∙ (steps h n bytes sound).1.0)
 
 -- it has the bytes that its connection had then
-pub found_so : (keep : Bool) (found : Option (List ℕ)) (bytes : List ℕ) (P : List ℕ → Type 0) → IsFound keep found (λ b. b ≡ bytes) → P bytes → IsFound keep found P
-found_so keep None bytes P f p = record { kept = f.kept; bytes = tt }
-found_so keep (Some b) bytes P f p = record { kept = f.kept; bytes = subst P (sym f.bytes) p }
+pub found_so : (keep : Bool) (found : Option (List ℕ)) (bytes : List ℕ) (P : List ℕ → Type 0) (before now : ℕ) → IsFound keep found (λ b. b ≡ bytes) before now → P bytes → IsFound keep found P before now
+found_so keep None bytes P before now f p = record { kept = f.kept; gone = f.gone; bytes = tt }
+found_so keep (Some b) bytes P before now f p = record { kept = f.kept; gone = f.gone; bytes = subst P (sym f.bytes) p }
+
+-- where the disk's own number rises before or behind
+pub rose_wider : (a b c d : ℕ) → a ≤ b → c ≤ d → Rose b c → Rose a d
+rose_wider a b c d l k rose = omega (arith, rose, l, k)
+
+found_wider : (keep : Bool) (found : Option (List ℕ)) (P : List ℕ → Type 0) (a b c d : ℕ) → a ≤ b → c ≤ d → IsFound keep found P b c → IsFound keep found P a d
+found_wider keep found P a b c d l k f = record { kept = f.kept; gone = λ e. elim (f.gone e) [ inl none ↦ inl none | inr rose ↦ inr (rose_wider a b c d l k rose) ]; bytes = f.bytes }
+
+pub found_of_wider : {F : Type 0} → (told : F → Bool) (bytes : F → List ℕ) (it : Remains F) (name : List ℕ) (found : Option (List ℕ)) (a b c d : ℕ) → a ≤ b → c ≤ d
+    → IsFoundOf told bytes it name found b c → IsFoundOf told bytes it name found a d
+found_of_wider told bytes it name found a b c d l k f = record {
+  connection = f.connection;
+  has = f.has;
+  named = f.named;
+  file = λ t. found_wider (not f.connection.modes.scratch) found (IsEndedUpTo it.stop (connection_of bytes f.connection)) a b c d l k (f.file t);
+}
+
+-- of each unit, by another word
+pub each_by : {Y : Type 0} → (all : List Y) (P Q : Connected → Y → Type 0) → ((u : Connected) (y : Y) → P u y → Q u y) → (us : List Connected) → OfEach us all P → OfEach us all Q
+each_by all P Q f [] h = tt
+each_by all P Q f (u ∷ us) h = (let it = h.0 in (it.0, it.1, f u it.0 it.2), each_by all P Q f us h.1)
 
 -- ---- one unit closed, and then the others
 
-module _ {Y : Type 0} (all : List Y) (P : Connected → Option (List ℕ) → Y → Type 0) where
-  pub each_found : {X : Type 0} → (f : X → Connected) (units : List X) (unit : X) (mid new : Holdings) (mid_names new_names : List (List ℕ)) → 1 ≤ length units → unit ≡ get_or units 0 unit
-      → Lessens mid_names new_names → AreOthersSame mid_names new_names mid new → stands mid_names (f unit).name ≡ false
-      → ((y : Y) × (slice_get all (f unit).slot ≡ Some y) × P (f unit) (files_of mid (f unit).name) y)
-      → OfEach (map f (take (length units - 1) (drop 1 units))) all (λ u. P u (files_of new u.name)) → OfEach (map f units) all (λ u. P u (files_of new u.name))
-  each_found f [] unit mid new mid_names new_names long item less same off first others = absurd (omega (arith, long))
-  each_found f (u ∷ us) unit mid new mid_names new_names long item less same off first others =
+module _ {Y : Type 0} (all : List Y) (P : ℕ → ℕ → Connected → Option (List ℕ) → Y → Type 0) (wider : (a b c d : ℕ) (u : Connected) (o : Option (List ℕ)) (y : Y) → a ≤ b → c ≤ d → P b c u o y → P a d u o y) where
+  pub each_found : {X : Type 0} → (f : X → Connected) (units : List X) (unit : X) (mid new : Holdings) (mid_names new_names : List (List ℕ)) (a b c : ℕ) → 1 ≤ length units → unit ≡ get_or units 0 unit
+      → a ≤ b → b ≤ c → Lessens mid_names new_names → AreOthersSame mid_names new_names mid new → stands mid_names (f unit).name ≡ false
+      → ((y : Y) × (slice_get all (f unit).slot ≡ Some y) × P a b (f unit) (files_of mid (f unit).name) y)
+      → OfEach (map f (take (length units - 1) (drop 1 units))) all (λ u. P b c u (files_of new u.name)) → OfEach (map f units) all (λ u. P a c u (files_of new u.name))
+  each_found f [] unit mid new mid_names new_names a b c long item ab bc less same off first others = absurd (omega (arith, long))
+  each_found f (u ∷ us) unit mid new mid_names new_names a b c long item ab bc less same off first others =
       let tail : take (length (u ∷ us) - 1) (drop 1 (u ∷ us)) ≡ us = take_all (length (u ∷ us) - 1) us (omega arith) in
       let gone : stands mid_names (f u).name ≡ false = subst (λ x. stands mid_names (f x).name ≡ false) item off in
-      let closed = subst (λ x. (y : Y) × (slice_get all (f x).slot ≡ Some y) × P (f x) (files_of mid (f x).name) y) item first in
+      let closed = subst (λ x. (y : Y) × (slice_get all (f x).slot ≡ Some y) × P a b (f x) (files_of mid (f x).name) y) item first in
       let still : files_of new (f u).name ≡ files_of mid (f u).name = (same (f u).name (fewer mid_names new_names (f u).name less gone ∙ sym gone)).0 in (
-        (closed.0, closed.1, subst (λ o. P (f u) o closed.0) (sym still) closed.2),
-        subst (λ zs. OfEach (map f zs) all (λ u. P u (files_of new u.name))) tail others,
+        (closed.0, closed.1, wider a a b c (f u) (files_of new (f u).name) closed.0 (omega arith) bc (subst (λ o. P a b (f u) o closed.0) (sym still) closed.2)),
+        each_by all (λ v. P b c v (files_of new v.name)) (λ v. P a c v (files_of new v.name)) (λ v y p. wider a b c c v (files_of new v.name) y ab (omega arith) p) (map f us)
+            (subst (λ zs. OfEach (map f zs) all (λ v. P b c v (files_of new v.name))) tail others),
       )
 
 -- a file that none of them has
@@ -108,9 +141,10 @@ each_spared f (u ∷ us) unit old mid new long item first others = λ name none.
 -- ---- what remains of slots that are sound
 
 -- what is found, where the bytes are those
-as_found : (scratch : Bool) (found : Option (List ℕ)) (P Q : List ℕ → Type 0) → ((b : List ℕ) → P b → Q b) → IsFound (not scratch) found P → IfSome found Q × (scratch ≡ false → IsSome found)
-as_found scratch None P Q f is = (tt, λ e. is.kept (ap not e))
-as_found scratch (Some b) P Q f is = (f b is.bytes, λ e. refl)
+as_found : (scratch : Bool) (found : Option (List ℕ)) (P Q : List ℕ → Type 0) (before now : ℕ) → ((b : List ℕ) → P b → Q b) → IsFound (not scratch) found P before now
+    → IfSome found Q × (scratch ≡ false → IsSome found) × (scratch ≡ true → (found ≡ None) ⊎ Rose before now)
+as_found scratch None P Q before now f is = (tt, λ e. is.kept (ap not e), λ e. inl refl)
+as_found scratch (Some b) P Q before now f is = (f b is.bytes, λ e. refl, λ e. is.gone (ap not e))
 
 job_at : {X : Type 0} → (xs : List X) (k : ℕ) → k < length xs → (x : X) × (slice_get xs k ≡ Some x)
 job_at [] k h = absurd (omega (arith, h))
@@ -144,12 +178,20 @@ module _ {F : Type 0} (told : F → Bool) (bytes : F → List ℕ) (count : F �
           (at.0, sym (ap (λ (x : PlainBay). x.connection) same) ∙ at.1)
 
   module _ (l : Ledger (Bay F) (Job F) Answer) (s : PlainBay) (ts : List PlainJob) (sound : IsSound m s ts l) (bay : Bay F) (home : l.home ≡ Some bay) (name : List ℕ) (found : Option (List ℕ))
-      (c : Linked F) (has : bay.connection ≡ Some c) (named : c.name ≡ name) where
+      (before now : ℕ) (c : Linked F) (has : bay.connection ≡ Some c) (named : c.name ≡ name) where
+    -- a job may leave it so, and a scratch file is gone
+    abbrev LeavesSo : PlainBay → PlainJob → Type 0
+    LeavesSo bay job = (y : MayLeave bay job name found) × (y.before.modes.scratch ≡ true → (found ≡ None) ⊎ Rose before now)
+
+    -- so does the one of that number
+    abbrev LeavesAt : ℕ → Type 0
+    LeavesAt number = (x : SomeMayLeave s ts name found) × (x.number ≡ number) × (x.leaves.before.modes.scratch ≡ true → (found ≡ None) ⊎ Rose before now)
+
     long : length ts ≡ length l.jobs
     long = sym (sym (length-map l.jobs m.task) ∙ ap length sound.jobs ∙ length-map ts Some)
 
     -- the slot stopped in a job
-    stopped_in : (h : Halt) → l.halt ≡ Some h → (told c.file ≡ true → IsFound (not c.modes.scratch) found (IsEndedUpTo (Some h.stop) (connection_of bytes c))) → (x : SomeMayLeave s ts name found) × (x.number ≡ l.done)
+    stopped_in : (h : Halt) → l.halt ≡ Some h → (told c.file ≡ true → IsFound (not c.modes.scratch) found (IsEndedUpTo (Some h.stop) (connection_of bytes c)) before now) → LeavesAt l.done
     stopped_in h halt file =
         let below = sound.counted.below (ap is_some halt) in
         let at = job_at ts l.done (omega (arith, below, long)) in
@@ -161,71 +203,56 @@ module _ {F : Type 0} (told : F → Bool) (bytes : F → List ℕ) (count : F �
         let spoilt : IsSpoilt was at.0 h.stop p.0 (file_faults count bay.connection) = subst (λ o. IfSome o (λ new. IsSpoilt was at.0 h.stop new (file_faults count bay.connection))) p.1 one in
         let here = holds_it bay p.0 c has p.1 in
         let same : spoilt.after ≡ connection_of bytes c = (let z : Some spoilt.after ≡ Some (connection_of bytes c) = sym spoilt.keeps ∙ here.1 in cc) in
-        let by = as_found c.modes.scratch found (IsEndedUpTo (Some h.stop) (connection_of bytes c)) (AgreeBelow (first_change was was.connection at.0) spoilt.before.bytes)
-        (λ b e. subst (AgreeBelow (first_change was was.connection at.0) spoilt.before.bytes) (ap (λ (x : Connection). x.bytes) same ∙ sym e) spoilt.agrees) (file here.0) in (
+        let by = as_found c.modes.scratch found (IsEndedUpTo (Some h.stop) (connection_of bytes c)) (AgreeBelow (first_change was was.connection at.0) spoilt.before.bytes) before now
+        (λ b e. subst (AgreeBelow (first_change was was.connection at.0) spoilt.before.bytes) (ap (λ (x : Connection). x.bytes) same ∙ sym e) spoilt.agrees) (file here.0) in
+        let leaves = subst (λ b. LeavesSo b at.0) (behind_is m refl s (take l.done ts)) (
           record {
-            number = l.done;
-            job = at.0;
-            at = front_get ts (detach None) at.0 l.done at.1;
-            leaves = subst (λ b. MayLeave b at.0 name found) (behind_is m refl s (take l.done ts)) (record {
-              before = spoilt.before;
-              full = spoilt.full;
-              named = sym spoilt.named ∙ ap (λ (x : Connection). x.name) same ∙ named;
-              may = spoilt.may;
-              agrees = by.0;
-              kept = λ e. by.1 (ap (λ (x : Connection). x.modes.scratch) (sym same) ∙ ap (λ (x : _). x.scratch) spoilt.modes ∙ e);
-            });
+            before = spoilt.before;
+            full = spoilt.full;
+            named = sym spoilt.named ∙ ap (λ (x : Connection). x.name) same ∙ named;
+            may = spoilt.may;
+            agrees = by.0;
+            kept = λ e. by.1 (ap (λ (x : Connection). x.modes.scratch) (sym same) ∙ ap (λ (x : _). x.scratch) spoilt.modes ∙ e);
           },
-          refl,
-        )
+          λ e. by.2 (ap (λ (x : Connection). x.modes.scratch) (sym same) ∙ ap (λ (x : _). x.scratch) spoilt.modes ∙ e),
+        ) in (record { number = l.done; job = at.0; at = front_get ts (detach None) at.0 l.done at.1; leaves = leaves.0 }, refl, leaves.1)
 
     -- its jobs were all done
-    ended_behind : l.halt ≡ None → l.done ≡ length l.jobs → (told c.file ≡ true → IsFound (not c.modes.scratch) found (IsEndedUpTo None (connection_of bytes c))) → (x : SomeMayLeave s ts name found) × (x.number ≡ l.done)
+    ended_behind : l.halt ≡ None → l.done ≡ length l.jobs → (told c.file ≡ true → IsFound (not c.modes.scratch) found (IsEndedUpTo None (connection_of bytes c)) before now) → LeavesAt l.done
     ended_behind running done file =
         let is = at_home told bytes count l s ts bay sound running done home in
         let was = served_by m s ts in
         let here = holds_it bay was c has is in
         let all : take (length ts) ts ≡ ts = take_all (length ts) ts (omega arith) in
         let first = unfolding_ends was (connection_of bytes c) here.1 in
-        let by = as_found c.modes.scratch found (IsEndedUpTo None (connection_of bytes c)) (AgreeBelow (first_change was was.connection (detach None)) (bytes c.file))
-        (λ b e. subst (λ o. AgreeBelow o (bytes c.file) b) (sym first) e) (file here.0) in (
-          record {
-            number = length ts;
-            job = detach None;
-            at = last_get ts (detach None);
-            leaves = subst (λ b. MayLeave b (detach None) name found) (behind_is m refl s ts ∙ ap (behind s) (sym all)) (record {
-              before = connection_of bytes c;
-              full = here.1;
-              named = named;
-              may = tt;
-              agrees = by.0;
-              kept = by.1;
-            });
-          },
-          long ∙ sym done,
-        )
+        let by = as_found c.modes.scratch found (IsEndedUpTo None (connection_of bytes c)) (AgreeBelow (first_change was was.connection (detach None)) (bytes c.file)) before now
+        (λ b e. subst (λ o. AgreeBelow o (bytes c.file) b) (sym first) e) (file here.0) in
+        let leaves = subst (λ b. LeavesSo b (detach None)) (behind_is m refl s ts ∙ ap (behind s) (sym all)) (
+          record { before = connection_of bytes c; full = here.1; named = named; may = tt; agrees = by.0; kept = by.1 },
+          by.2,
+        ) in (record { number = length ts; job = detach None; at = last_get ts (detach None); leaves = leaves.0 }, long ∙ sym done, leaves.1)
 
     pub leaves_by : (l.halt ≡ None → l.done ≡ length l.jobs) → (stop : Option Stop) → stop ≡ option_map (λ (h : Halt). h.stop) l.halt
-        → (told c.file ≡ true → IsFound (not c.modes.scratch) found (IsEndedUpTo stop (connection_of bytes c))) → (x : SomeMayLeave s ts name found) × (x.number ≡ l.done)
+        → (told c.file ≡ true → IsFound (not c.modes.scratch) found (IsEndedUpTo stop (connection_of bytes c)) before now) → LeavesAt l.done
     leaves_by finished stop is file = by l.halt refl
       where
-        by : (o : Option Halt) → l.halt ≡ o → (x : SomeMayLeave s ts name found) × (x.number ≡ l.done)
-        by None e = ended_behind e (finished e) (subst (λ x. told c.file ≡ true → IsFound (not c.modes.scratch) found (IsEndedUpTo x (connection_of bytes c))) (is ∙ ap (option_map (λ (h : Halt). h.stop)) e) file)
-        by (Some h) e = stopped_in h e (subst (λ x. told c.file ≡ true → IsFound (not c.modes.scratch) found (IsEndedUpTo x (connection_of bytes c))) (is ∙ ap (option_map (λ (h : Halt). h.stop)) e) file)
+        by : (o : Option Halt) → l.halt ≡ o → LeavesAt l.done
+        by None e = ended_behind e (finished e) (subst (λ x. told c.file ≡ true → IsFound (not c.modes.scratch) found (IsEndedUpTo x (connection_of bytes c)) before now) (is ∙ ap (option_map (λ (h : Halt). h.stop)) e) file)
+        by (Some h) e = stopped_in h e (subst (λ x. told c.file ≡ true → IsFound (not c.modes.scratch) found (IsEndedUpTo x (connection_of bytes c)) before now) (is ∙ ap (option_map (λ (h : Halt). h.stop)) e) file)
 
-  slot_leaves : (l : Ledger (Bay F) (Job F) Answer) (it : Remains F) (name : List ℕ) (found : Option (List ℕ)) → IsWhatRemains m l it → IsFoundOf told bytes it name found
-      → (s : PlainBay) (ts : List PlainJob) → IsSound m s ts l → IsLeftBehind l s ts name found
-  slot_leaves l it name found is file s ts sound =
-      let it = leaves_by is.ledger s ts (is.serves.sound s ts sound) is.bay is.home name found file.connection (sym is.connection ∙ file.has) file.named is.finished it.stop is.stop file.file in
-      record { some = it.0; from = omega (arith, is.serves.done, it.1); stopped = λ e. it.1 ∙ ap (λ (k : Ledger (Bay F) (Job F) Answer). k.done) (is.stopped e) }
+  slot_leaves : (l : Ledger (Bay F) (Job F) Answer) (it : Remains F) (name : List ℕ) (found : Option (List ℕ)) (before now : ℕ) → IsWhatRemains m l it → IsFoundOf told bytes it name found before now
+      → (s : PlainBay) (ts : List PlainJob) → IsSound m s ts l → IsLeftBehind l s ts name found before now
+  slot_leaves l it name found before now is file s ts sound =
+      let it = leaves_by is.ledger s ts (is.serves.sound s ts sound) is.bay is.home name found before now file.connection (sym is.connection ∙ file.has) file.named is.finished it.stop is.stop file.file in
+      record { some = it.0; from = omega (arith, is.serves.done, it.1); stopped = λ e. it.1 ∙ ap (λ (k : Ledger (Bay F) (Job F) Answer). k.done) (is.stopped e); gone = it.2 }
 
-  pub slots_leave : (slots : List (Ledger (Bay F) (Job F) Answer)) (all : List (Remains F)) → Both (IsWhatRemains m) slots all → (files : Files) (units : List Connected)
-      → OfEach units all (λ u it. IsFoundOf told bytes it u.name (files u.name))
-      → OfEach units slots (λ u l. (s : PlainBay) (ts : List PlainJob) → IsSound m s ts l → IsLeftBehind l s ts u.name (files u.name))
-  slots_leave slots all both files [] h = tt
-  slots_leave slots all both files (u ∷ us) h = (
+  pub slots_leave : (slots : List (Ledger (Bay F) (Job F) Answer)) (all : List (Remains F)) → Both (IsWhatRemains m) slots all → (files : Files) (before now : ℕ) (units : List Connected)
+      → OfEach units all (λ u it. IsFoundOf told bytes it u.name (files u.name) before now)
+      → OfEach units slots (λ u l. (s : PlainBay) (ts : List PlainJob) → IsSound m s ts l → IsLeftBehind l s ts u.name (files u.name) before now)
+  slots_leave slots all both files before now [] h = tt
+  slots_leave slots all both files before now (u ∷ us) h = (
     let it = h.0 in
         let was = of_both told bytes count slots all both u.slot it.0 it.1 in
-        (was.0, was.1, slot_leaves was.0 it.0 u.name (files u.name) was.2 it.2),
-    slots_leave slots all both files us h.1,
+        (was.0, was.1, slot_leaves was.0 it.0 u.name (files u.name) before now was.2 it.2),
+    slots_leave slots all both files before now us h.1,
   )

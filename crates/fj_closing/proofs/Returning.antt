@@ -21,7 +21,7 @@ use Rattle.fj_desk.specs.Forgetting.{IsSeen, bay_at}
 use Rattle.fj_units.specs.Names.{stands, left_of}
 use Rattle.fj_units.specs.Returning.{returned}
 use Rattle.fj_closing.specs.Remains.{AreOfDesks}
-use Rattle.fj_closing.specs.Losing.{after, is_memory, may_tell, lacks, may_want}
+use Rattle.fj_closing.specs.Losing.{after, all_fits, is_memory, may_tell, lacks, may_want}
 use Rattle.fj_closing.specs.Closing.{Lessens, IsBack, AreBack, IsKept, AreSeated, AreNamed, may_lack, SomeMayLack}
 use Rattle.fj_closing.specs.declared.remains.Remains.{Remains}
 use Rattle.fj_closing.proofs.Desking.{front_get, last_get}
@@ -40,13 +40,13 @@ both_ok (Err e) (Err Unfit) p q f = tt
 pub either_lost : {T : Type 0} → (a b : Result T Lost) (lost : Lost) → after a b ≡ Err lost → (a ≡ Err lost) ⊎ (b ≡ Err lost)
 either_lost (Ok x) b lost e = inr e
 either_lost (Err l) (Ok y) lost e = inl e
-either_lost (Err l) (Err (Memory error)) lost e = inr e
+either_lost (Err (Memory other)) (Err (Memory error)) lost e = inr e
+either_lost (Err Sink) (Err (Memory error)) lost e = inr e
+either_lost (Err Disk) (Err (Memory error)) lost e = inr e
+either_lost (Err Unfit) (Err (Memory error)) lost e = inl e
 either_lost (Err l) (Err Sink) lost e = inl e
 either_lost (Err l) (Err Disk) lost e = inl e
-either_lost (Err (Memory error)) (Err Unfit) lost e = inl e
-either_lost (Err Sink) (Err Unfit) lost e = inr e
-either_lost (Err Disk) (Err Unfit) lost e = inr e
-either_lost (Err Unfit) (Err Unfit) lost e = inl e
+either_lost (Err l) (Err Unfit) lost e = inr e
 
 pub memory_of : {T : Type 0} → (a b : Result T Lost) → is_memory (after a b) ≡ true → (is_memory a ≡ true) ⊎ (is_memory b ≡ true)
 memory_of (Ok x) b e = inr e
@@ -62,7 +62,7 @@ memory_of (Err Disk) (Err Sink) e = absurd (cc)
 memory_of (Err Disk) (Err Disk) e = absurd (cc)
 memory_of (Err Disk) (Err Unfit) e = absurd (cc)
 memory_of (Err Unfit) (Ok y) e = absurd (cc)
-memory_of (Err Unfit) (Err (Memory error)) e = inr refl
+memory_of (Err Unfit) (Err (Memory error)) e = absurd (cc)
 memory_of (Err Unfit) (Err Sink) e = absurd (cc)
 memory_of (Err Unfit) (Err Disk) e = absurd (cc)
 memory_of (Err Unfit) (Err Unfit) e = absurd (cc)
@@ -81,22 +81,49 @@ both_tell {T} a b r is e = by a b (ap may_tell (sym is) ∙ e)
     by : (a b : Result T Lost) → may_tell (after a b) ≡ true → (may_tell a ≡ true) × (may_tell b ≡ true)
     by (Ok x) b e = (refl, e)
     by (Err l) (Ok y) e = (e, refl)
-    by (Err l) (Err (Memory error)) e = absurd (cc)
+    by (Err (Memory other)) (Err (Memory error)) e = absurd (cc)
+    by (Err Sink) (Err (Memory error)) e = absurd (cc)
+    by (Err Disk) (Err (Memory error)) e = absurd (cc)
+    by (Err Unfit) (Err (Memory error)) e = absurd (cc)
     by (Err l) (Err Sink) e = (e, refl)
     by (Err l) (Err Disk) e = (e, refl)
-    by (Err (Memory error)) (Err Unfit) e = absurd (cc)
-    by (Err Sink) (Err Unfit) e = absurd (cc)
-    by (Err Disk) (Err Unfit) e = absurd (cc)
-    by (Err Unfit) (Err Unfit) e = absurd (cc)
+    by (Err l) (Err Unfit) e = absurd (cc)
 
--- what holds where something may be told holds where all went well
-pub fine_told : {T X : Type 0} → (r : Result T Lost) → (may_tell r ≡ true → X) → OnOk r X
-fine_told (Ok x) f = f refl
-fine_told (Err e) f = tt
+-- where all of two steps fits, each does
+pub each_fits : {T : Type 0} → (a b r : Result T Lost) → r ≡ after a b → all_fits r ≡ true → (all_fits a ≡ true) × (all_fits b ≡ true)
+each_fits {T} a b r is e = by a b (ap all_fits (sym is) ∙ e)
+  where
+    by : (a b : Result T Lost) → all_fits (after a b) ≡ true → (all_fits a ≡ true) × (all_fits b ≡ true)
+    by (Ok x) b e = (refl, e)
+    by (Err l) (Ok y) e = (e, refl)
+    by (Err (Memory other)) (Err (Memory error)) e = (refl, refl)
+    by (Err Sink) (Err (Memory error)) e = (refl, refl)
+    by (Err Disk) (Err (Memory error)) e = (refl, refl)
+    by (Err Unfit) (Err (Memory error)) e = absurd (cc)
+    by (Err l) (Err Sink) e = (e, refl)
+    by (Err l) (Err Disk) e = (e, refl)
+    by (Err l) (Err Unfit) e = absurd (cc)
 
--- nothing is told where one of them does not fit
+-- what may be told fits
+pub told_fits : {T : Type 0} → (r : Result T Lost) → may_tell r ≡ true → all_fits r ≡ true
+told_fits (Ok x) e = refl
+told_fits (Err (Memory error)) e = absurd (cc)
+told_fits (Err Sink) e = refl
+told_fits (Err Disk) e = refl
+told_fits (Err Unfit) e = absurd (cc)
+
+-- what holds where all fits holds where all went well
+pub fine_fits : {T X : Type 0} → (r : Result T Lost) → (all_fits r ≡ true → X) → OnOk r X
+fine_fits (Ok x) f = f refl
+fine_fits (Err e) f = tt
+
+-- where one of them does not fit, not all does
+pub unfit_fits : {T : Type 0} → (a r : Result T Lost) → r ≡ after a (Err Unfit) → all_fits r ≡ true → ⊥
+unfit_fits a r is e = let false_is : false ≡ true = (each_fits a (Err Unfit) r is e).1 in absurd (cc)
+
+-- and nothing is told
 pub unfit_untold : {T : Type 0} → (a r : Result T Lost) → r ≡ after a (Err Unfit) → may_tell r ≡ true → ⊥
-unfit_untold a r is e = let false_is : false ≡ true = (both_tell a (Err Unfit) r is e).1 in absurd (cc)
+unfit_untold a r is e = unfit_fits a r is (told_fits r e)
 
 pub no_more_memory : {T : Type 0} → (a : Result T Lost) → is_memory (after a (Err Unfit)) ≡ true → is_memory a ≡ true
 no_more_memory (Ok x) e = e

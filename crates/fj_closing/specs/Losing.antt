@@ -1,5 +1,5 @@
 -- Which of two losses is answered, and when that is want of memory.
-use Rattle.std.specs.Prelude.{Bool, true, false, if◌then◌else◌, Option, Some, None, Result, Ok, Err}
+use Rattle.std.specs.Prelude.{Bool, true, false, not, if◌then◌else◌, Option, Some, None, Result, Ok, Err}
 use Rattle.fj_outside.specs.declared.errors.Stop.{Stop}
 use Rattle.fj_outside.specs.declared.errors.Stop.TheVariants as stop
 use Rattle.fj_items.specs.declared.lost.Lost.{Lost}
@@ -12,13 +12,20 @@ is_fault Sink = true
 is_fault Disk = true
 is_fault Unfit = false
 
--- want of memory comes before what was lost first, and what does not fit before a fault
+-- it is that something does not fit
+abbrev pub is_unfit : Lost → Bool
+is_unfit (Memory error) = false
+is_unfit Sink = false
+is_unfit Disk = false
+is_unfit Unfit = true
+
+-- what does not fit comes before any other loss, and want of memory before what was lost first
 abbrev pub unless_worse : {T : Type 0} → Lost → Result T Lost → Result T Lost
 unless_worse lost (Ok x) = Err lost
-unless_worse lost (Err (Memory error)) = Err (Memory error)
+unless_worse lost (Err (Memory error)) = Err (if is_unfit lost then lost else Memory error)
 unless_worse lost (Err Sink) = Err lost
 unless_worse lost (Err Disk) = Err lost
-unless_worse lost (Err Unfit) = Err (if is_fault lost then Unfit else lost)
+unless_worse lost (Err Unfit) = Err Unfit
 
 -- what is answered of two steps
 abbrev pub after : {T : Type 0} → Result T Lost → Result T Lost → Result T Lost
@@ -29,6 +36,11 @@ after (Err lost) next = unless_worse lost next
 abbrev pub may_tell : {T : Type 0} → Result T Lost → Bool
 may_tell (Ok x) = true
 may_tell (Err lost) = is_fault lost
+
+-- all fits: a fault of the outside or want of memory may be answered
+abbrev pub all_fits : {T : Type 0} → Result T Lost → Bool
+all_fits (Ok x) = true
+all_fits (Err lost) = not (is_unfit lost)
 
 -- want of memory is answered
 abbrev pub is_memory : {T : Type 0} → Result T Lost → Bool

@@ -13,7 +13,7 @@ ghost use Rattle.fj_units.specs.Names.{stands, left_of, AreInUse};
 ghost use Rattle.fj_units.specs.Files.{files_of};
 ghost use Rattle.fj_units.specs.Returning.{returned, IsAsDue};
 ghost use Rattle.fj_units.specs.Units.{connected_of};
-ghost use Rattle.fj_closing.specs.Losing.{is_memory, may_tell, may_want};
+ghost use Rattle.fj_closing.specs.Losing.{all_fits, is_memory, may_tell, may_want};
 ghost use Rattle.fj_closing.specs.Remains.{AreOfDesks};
 ghost use Rattle.fj_closing.specs.Finding.{IsEndedUpTo, IsFound, IsFoundOf, OfEach, AreSpared};
 ghost use Rattle.fj_closing.specs.Closing.{Lessens, IsBack, AreBack, IsKept, AreAsDue, AreOthersSame, names_left, AreSeated, AreNamed, IfClear, may_lack, SomeMayLack};
@@ -59,7 +59,8 @@ fn give_back<D: Disk>(
         (files_of (D.held disk.new) ≡ returned connection.name (D.File.bytes connection.file) keep (files_of (D.held disk.old))) }
     ensures due { D.tells disk.old → (name : List ℕ) → IsAsDue (D.refusals disk.old) (D.refusals disk.new) (files_of (D.held disk.new) name)
         (returned connection.name (D.File.bytes connection.file) keep (files_of (D.held disk.old)) name) }
-    ensures found { D.tells disk.old → IsFound keep (files_of (D.held disk.new) connection.name) (λ bytes. bytes ≡ D.File.bytes connection.file) }
+    ensures found { D.tells disk.old → IsFound keep (files_of (D.held disk.new) connection.name) (λ bytes. bytes ≡ D.File.bytes connection.file)
+        (D.refusals disk.old) (D.refusals disk.new) }
     ensures count { D.tells disk.old → set.contains (D.held disk.new).hurt connection.name ≡ not (D.File.count connection.file == 0) }
     ensures others { D.tells disk.old → (name : List ℕ) → name ≢ connection.name → SameAt (D.held disk.old) (D.held disk.new) name }
     ensures own { D.tells disk.old → D.refusals disk.old ≤ D.refusals disk.new }
@@ -88,8 +89,9 @@ fn close<D: Disk>(
     ensures due { D.tells disk.old → may_tell result ≡ true → set.contains (D.held disk.new).hurt connection.name ≡ false
         → (stop ≡ None) × (D.File.told connection.file ≡ true → (name : List ℕ) → IsAsDue (D.refusals disk.old) (D.refusals disk.new) (files_of (D.held disk.new) name)
         (left (connection_of D.File.bytes connection) keep (files_of (D.held disk.old)) name)) }
-    ensures found { D.tells disk.old → may_tell result ≡ true → D.File.told connection.file ≡ true
-        → IsFound keep (files_of (D.held disk.new) connection.name) (IsEndedUpTo stop (connection_of D.File.bytes connection)) }
+    ensures found { D.tells disk.old → all_fits result ≡ true → D.File.told connection.file ≡ true
+        → IsFound keep (files_of (D.held disk.new) connection.name) (IsEndedUpTo stop (connection_of D.File.bytes connection))
+        (D.refusals disk.old) (D.refusals disk.new) }
     ensures others { D.tells disk.old → (name : List ℕ) → name ≢ connection.name → SameAt (D.held disk.old) (D.held disk.new) name }
     ensures same { D.tells disk.old → AreOthersSame names.old names.new (D.held disk.old) (D.held disk.new) }
     ensures own { D.tells disk.old → D.refusals disk.old ≤ D.refusals disk.new }
@@ -134,10 +136,11 @@ fn close_unit<D: Disk>(
         → AreAsDue (D.refusals disk.old) (D.refusals disk.new) names.new (D.held disk.new) (left_by d.bay.connection (files_of (D.held disk.old))) }
     ensures running { D.tells disk.old → may_tell result ≡ true → (was : List (Remaining D.File)) → Both (IsKept names.old) was all.old.items
         → set.contains (D.held disk.new).hurt unit.now.name ≡ false → (it : Remaining D.File) × (slice_get was unit.now.slot ≡ Some it) × (it.stop ≡ None) }
-    ensures found { D.tells disk.old → may_tell result ≡ true → (was : List (Remaining D.File)) → Both (IsKept names.old) was all.old.items
-        → (it : Remaining D.File) × (slice_get was unit.now.slot ≡ Some it) × IsFoundOf D.File.told D.File.bytes it unit.now.name (files_of (D.held disk.new) unit.now.name) }
-    ensures spared { D.tells disk.old → may_tell result ≡ true → (name : List ℕ) → name ≢ unit.now.name → SameAt (D.held disk.old) (D.held disk.new) name }
-    ensures back { may_tell result ≡ true → stands names.new unit.now.name ≡ false }
+    ensures found { D.tells disk.old → all_fits result ≡ true → (was : List (Remaining D.File)) → Both (IsKept names.old) was all.old.items
+        → (it : Remaining D.File) × (slice_get was unit.now.slot ≡ Some it) × IsFoundOf D.File.told D.File.bytes it unit.now.name (files_of (D.held disk.new) unit.now.name)
+        (D.refusals disk.old) (D.refusals disk.new) }
+    ensures spared { D.tells disk.old → all_fits result ≡ true → (name : List ℕ) → name ≢ unit.now.name → SameAt (D.held disk.old) (D.held disk.new) name }
+    ensures back { all_fits result ≡ true → stands names.new unit.now.name ≡ false }
     ensures same { D.tells disk.old → AreOthersSame names.old names.new (D.held disk.old) (D.held disk.new) }
     ensures own { D.tells disk.old → D.refusals disk.old ≤ D.refusals disk.new }
 
@@ -191,9 +194,9 @@ fn close_each<D: Disk>(
         → AreAsDue (D.refusals disk.old) (D.refusals disk.new) names.new (D.held disk.new) (all_left desks (map connected_of units.now) (files_of (D.held disk.old))) }
     ensures running { D.tells disk.old → may_tell result ≡ true → (was : List (Remaining D.File)) → Both (IsKept names.old) was all.old.items
         → IfClear (D.held disk.new) (map connected_of units.now) was (λ it. it.stop ≡ None) }
-    ensures found { D.tells disk.old → may_tell result ≡ true → (was : List (Remaining D.File)) → Both (IsKept names.old) was all.old.items
-        → OfEach (map connected_of units.now) was (λ u it. IsFoundOf D.File.told D.File.bytes it u.name (files_of (D.held disk.new) u.name)) }
-    ensures spared { D.tells disk.old → may_tell result ≡ true → AreSpared (map connected_of units.now) (D.held disk.old) (D.held disk.new) }
+    ensures found { D.tells disk.old → all_fits result ≡ true → (was : List (Remaining D.File)) → Both (IsKept names.old) was all.old.items
+        → OfEach (map connected_of units.now) was (λ u it. IsFoundOf D.File.told D.File.bytes it u.name (files_of (D.held disk.new) u.name) (D.refusals disk.old) (D.refusals disk.new)) }
+    ensures spared { D.tells disk.old → all_fits result ≡ true → AreSpared (map connected_of units.now) (D.held disk.old) (D.held disk.new) }
     ensures same { D.tells disk.old → AreOthersSame names.old names.new (D.held disk.old) (D.held disk.new) }
     ensures own { D.tells disk.old → D.refusals disk.old ≤ D.refusals disk.new }
 
@@ -222,7 +225,7 @@ fn close_each<D: Disk>(
 fn close_left<D: Disk>(it: Remains<D::File>, names: &mut Names, disk: &mut D) -> Result<(), Lost>
     requires names { D.tells disk.old → AreInUse names.old (D.held disk.old).in_use }
     ensures names { D.tells disk.old → AreInUse names.new (D.held disk.new).in_use }
-    ensures none { may_tell result ≡ true → (disk.new ≡ disk.old) × (names.new ≡ names.old) }
+    ensures none { all_fits result ≡ true → (disk.new ≡ disk.old) × (names.new ≡ names.old) }
     ensures same { D.tells disk.old → AreOthersSame names.old names.new (D.held disk.old) (D.held disk.new) }
     ensures own { D.tells disk.old → D.refusals disk.old ≤ D.refusals disk.new }
     ensures telling { D.tells disk.old ↔ D.tells disk.new }
@@ -232,7 +235,7 @@ fn close_left<D: Disk>(it: Remains<D::File>, names: &mut Names, disk: &mut D) ->
     ensures back { IsBack names.new it }
     ensures memory { is_memory result ≡ true → may_lack it ≡ true }
     ensures lessens { Lessens names.old names.new }
-    ensures gone { may_tell result ≡ true → it.connection ≡ None }
+    ensures gone { all_fits result ≡ true → it.connection ≡ None }
     ensures fits { it.connection ≡ None → result ≢ Err Lost.Unfit }
 {
     let Remains { connection, stop } = it;
@@ -251,7 +254,7 @@ fn close_rest<D: Disk>(
 ) -> Result<(), Lost>
     requires names { D.tells disk.old → AreInUse names.old (D.held disk.old).in_use }
     ensures names { D.tells disk.old → AreInUse names.new (D.held disk.new).in_use }
-    ensures none { may_tell result ≡ true → (disk.new ≡ disk.old) × (names.new ≡ names.old) }
+    ensures none { all_fits result ≡ true → (disk.new ≡ disk.old) × (names.new ≡ names.old) }
     ensures same { D.tells disk.old → AreOthersSame names.old names.new (D.held disk.old) (D.held disk.new) }
     ensures own { D.tells disk.old → D.refusals disk.old ≤ D.refusals disk.new }
     ensures telling { D.tells disk.old ↔ D.tells disk.new }
@@ -261,7 +264,7 @@ fn close_rest<D: Disk>(
     ensures back { AreBack names.new all.old.items }
     ensures memory { is_memory result ≡ true → SomeMayLack all.old.items }
     ensures lessens { Lessens names.old names.new }
-    ensures left { may_tell result ≡ true → AreGone all.old.items }
+    ensures left { all_fits result ≡ true → AreGone all.old.items }
     ensures fits { AreGone all.old.items → result ≢ Err Lost.Unfit }
 {
     let Some(it) = all.pop() else {
@@ -273,7 +276,7 @@ fn close_rest<D: Disk>(
 }
 
 /// Closes what remains of slots: the connections of units, in ascending order of these, and then those that no unit has. A loss
-/// does not keep the others from being closed: want of memory is answered, else what does not fit, else the first fault.
+/// does not keep the others from being closed: what does not fit is answered, else want of memory, else the first fault.
 pub fn close_units<D: Disk>(
     units: &Units,
     all: Vec<Remains<D::File>>,
@@ -288,9 +291,9 @@ pub fn close_units<D: Disk>(
         → AreSeated desks units.now → AreNamed desks units.now
         → AreAsDue (D.refusals disk.old) (D.refusals disk.new) names.new (D.held disk.new) (all_left desks units.now (files_of (D.held disk.old))) }
     ensures running { D.tells disk.old → may_tell result ≡ true → IfClear (D.held disk.new) units.now all.items (λ it. it.stop ≡ None) }
-    ensures found { D.tells disk.old → may_tell result ≡ true
-        → OfEach units.now all.items (λ u it. IsFoundOf D.File.told D.File.bytes it u.name (files_of (D.held disk.new) u.name)) }
-    ensures spared { D.tells disk.old → may_tell result ≡ true → AreSpared units.now (D.held disk.old) (D.held disk.new) }
+    ensures found { D.tells disk.old → all_fits result ≡ true
+        → OfEach units.now all.items (λ u it. IsFoundOf D.File.told D.File.bytes it u.name (files_of (D.held disk.new) u.name) (D.refusals disk.old) (D.refusals disk.new)) }
+    ensures spared { D.tells disk.old → all_fits result ≡ true → AreSpared units.now (D.held disk.old) (D.held disk.new) }
     ensures same { D.tells disk.old → AreOthersSame names.old names.new (D.held disk.old) (D.held disk.new) }
     ensures own { D.tells disk.old → D.refusals disk.old ≤ D.refusals disk.new }
 
@@ -303,7 +306,7 @@ pub fn close_units<D: Disk>(
     ensures back { AreBack names.new all.items }
     ensures memory { is_memory result ≡ true → SomeMayLack all.items }
     ensures lessens { Lessens names.old names.new }
-    ensures owned { may_tell result ≡ true → AreOwned units.now all.items }
+    ensures owned { all_fits result ≡ true → AreOwned units.now all.items }
     ensures fits { HaveTheirOwn D.File.count names.old all.items units.now → AreOwned units.now all.items → result ≢ Err Lost.Unfit }
 {
     let mut all = all;

@@ -13,7 +13,7 @@ ghost use Rattle.fj_turns.specs.Executing.{HoldsDesks};
 ghost use Rattle.fj_units.specs.Names.{AreInUse};
 ghost use Rattle.fj_units.specs.Files.{files_of};
 ghost use Rattle.fj_units.specs.Having.{HaveFiles};
-ghost use Rattle.fj_closing.specs.Losing.{may_tell};
+ghost use Rattle.fj_closing.specs.Losing.{all_fits, may_tell};
 ghost use Rattle.fj_closing.specs.Fitting.{HaveTheirOwn, AreOwned};
 ghost use Rattle.fj_closing.specs.Holding.{HoldUnits};
 ghost use Rattle.fj_closing.specs.Finding.{IsLeftBehind, OfEach, AreSpared};
@@ -50,10 +50,11 @@ pub fn finish<D: Disk>(
         → AreSeated desks units.now → AreNamed desks units.now
         → AreAsDue (D.refusals disk.old) (D.refusals disk.new) names.new (D.held disk.new) (all_left desks units.now (files_of (D.held disk.old))) }
     ensures running { D.tells disk.old → may_tell result ≡ true → IfClear (D.held disk.new) units.now slots.slots (λ l. l.halt ≡ None) }
-    ensures others { may_tell result ≡ true → (desks : List Desk) → HoldsDesks (bay_meaning D.File.told D.File.bytes D.File.count) slots desks → OthersRun units.now slots.slots desks }
-    ensures found { D.tells disk.old → may_tell result ≡ true → OfEach units.now slots.slots (λ u l. (s : PlainBay) (ts : List PlainJob)
-        → IsSound (bay_meaning D.File.told D.File.bytes D.File.count) s ts l → IsLeftBehind l s ts u.name (files_of (D.held disk.new) u.name)) }
-    ensures spared { D.tells disk.old → may_tell result ≡ true → AreSpared units.now (D.held disk.old) (D.held disk.new) }
+    ensures others { all_fits result ≡ true → (desks : List Desk) → HoldsDesks (bay_meaning D.File.told D.File.bytes D.File.count) slots desks → OthersRun units.now slots.slots desks }
+    ensures found { D.tells disk.old → all_fits result ≡ true → OfEach units.now slots.slots (λ u l. (s : PlainBay) (ts : List PlainJob)
+        → IsSound (bay_meaning D.File.told D.File.bytes D.File.count) s ts l → IsLeftBehind l s ts u.name (files_of (D.held disk.new) u.name)
+        (D.refusals disk.old) (D.refusals disk.new)) }
+    ensures spared { D.tells disk.old → all_fits result ≡ true → AreSpared units.now (D.held disk.old) (D.held disk.new) }
     ensures same { D.tells disk.old → AreOthersSame names.old names.new (D.held disk.old) (D.held disk.new) }
     ensures own { D.tells disk.old → D.refusals disk.old ≤ D.refusals disk.new }
 

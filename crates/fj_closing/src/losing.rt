@@ -5,7 +5,7 @@ ghost use Rattle.fj_closing.specs.Losing.{after, is_memory, may_tell, lacks};
 use fj_items::Lost;
 use fj_outside::{Failed, Stop};
 
-/// Of two steps: want of memory, else what does not fit, else what was lost first.
+/// Of two steps: what does not fit, else want of memory, else what was lost first.
 pub(crate) fn after(first: Result<(), Lost>, then: Result<(), Lost>) -> Result<(), Lost>
     ensures { result ≡ after first then }
 {
@@ -13,8 +13,10 @@ pub(crate) fn after(first: Result<(), Lost>, then: Result<(), Lost>) -> Result<(
         return then;
     };
     match (lost, then) {
-        (_, Err(Lost::Memory(error))) => Err(Lost::Memory(error)),
-        (Lost::Sink | Lost::Disk, Err(Lost::Unfit)) => Err(Lost::Unfit),
+        (_, Err(Lost::Unfit)) => Err(Lost::Unfit),
+        (Lost::Memory(_) | Lost::Sink | Lost::Disk, Err(Lost::Memory(error))) => {
+            Err(Lost::Memory(error))
+        }
         _ => Err(lost),
     }
 }

@@ -14,7 +14,7 @@ use Rattle.fj_world.specs.Rack.{Rack}
 use Rattle.fj_items.specs.Handing.{whole_records}
 use Rattle.fj_items.specs.declared.lost.Lost.TheVariants.{Sink, Disk}
 use Rattle.fj_units.specs.Files.{files_of}
-use Rattle.fj_closing.specs.Losing.{may_tell}
+use Rattle.fj_closing.specs.Losing.{may_tell, all_fits}
 use Rattle.fj_runner.specs.Going.{IsGoing}
 use Rattle.fj_runner.specs.Leaving.{Leaves}
 use Rattle.fj_runner.specs.declared.ending.Ending.{Ending as Code}
@@ -23,13 +23,14 @@ use Rattle.fj_job.specs.Carrying.{HasNotBegun, HasRun}
 use Rattle.fj_report.specs.declared.status.Status.{Status}
 use Rattle.fj_report.specs.declared.status.Status.TheVariants.{WriteFault, DiskFault, Memory}
 use Rattle.fj_job.specs.Answers.{IsAnswer, HasCause}
-use Rattle.fj_job.specs.Cut.{Carried as At}
+use Rattle.fj_job.specs.Cut.{Carried as At, CutByMemory}
 use Rattle.fj_job.specs.Cutting.{IsCut, EndsHere, IsLeftAt, IsLeftBegun, TookSome}
-use Rattle.fj_job.specs.Executing.{IsSettled, IsCarriedOut, IsConcluded, IsExecuted}
+use Rattle.fj_job.specs.Executing.{IsNoneOrFault, IsSettled, IsCarriedOut, IsConcluded, IsExecuted}
 use Rattle.fj_job.specs.declared.ending.Carried.{Carried}
 use Rattle.fj_job.proofs.Executed.{came, replies, all_taken, nothing_written}
 use Rattle.fj_job.proofs.Fronts.{fault_by, write_by, front_of_same, not_lost}
 use Rattle.fj_job.proofs.Reported.{at_statement, left_at, left_begun, left_end, took_some, told_fault, report_of_fault, part_of_end, part_of_run, write_of_begun, write_of_end, front_so_far}
+use Rattle.fj_job.proofs.Wanting.{cut_by_memory}
 use Rattle.fj_job.proofs.Leading.{rose_later, rose_earlier, rose_of, on_left}
 use Rattle.fj_job.proofs.RunLaws.{cause_more}
 use Rattle.fj_job.proofs.Whole.{units_held, files_out}
@@ -63,14 +64,17 @@ module _ {W D F : Type 0} (tells_out : W → Type 0) (taken : W → List ℕ) (c
             (leaves.output w (elim s [ inl e ↦ inl (settled.nothing e) | inr e ↦ settled.alone e ])) (ap (λ k. k.output) settled.core);
         at_fault = λ t e. subst (λ (d : Deck). IsLeftAt d (files_of (held disk)) it.left (held disk'') (refusals disk) (refusals disk'')) same
             (left_at meaning rack' (held disk') (held disk'') (refusals disk) (refusals disk') (refusals disk'') (tells_out out) (taken out) (taken out') m.deck (files_of (held disk)) m' it.left (there t)
-            settled.at (leaves.own t) (settled.own (leaves.telling.0 t)) (settled.due (leaves.telling.0 t) (ap may_tell e)) (settled.running (leaves.telling.0 t) (ap may_tell e)) (settled.others (ap may_tell e)) (settled.found (leaves.telling.0 t) (ap may_tell e)) (settled.spared (leaves.telling.0 t) (ap may_tell e)) (settled.alone e) settled.core);
+            settled.at (leaves.own t) (settled.own (leaves.telling.0 t)) (settled.due (leaves.telling.0 t) (ap may_tell e)) (settled.running (leaves.telling.0 t) (ap may_tell e)) (settled.others (ap all_fits e)) (settled.found (leaves.telling.0 t) (ap all_fits e)) (settled.spared (leaves.telling.0 t) (ap all_fits e)) (settled.alone e) settled.core);
         at_write = λ t e. subst (λ (d : Deck). IsLeftBegun d (files_of (held disk)) it.left (tells_out out) (taken out) (taken out') (held disk'') (refusals disk) (refusals disk'')) same
             (left_begun meaning rack' (held disk') (held disk'') (refusals disk) (refusals disk') (refusals disk'') (tells_out out) (taken out) (taken out') m.deck (files_of (held disk)) m' it.left (there t)
-            settled.at (leaves.own t) (settled.own (leaves.telling.0 t)) (settled.due (leaves.telling.0 t) (ap may_tell e)) (settled.running (leaves.telling.0 t) (ap may_tell e)) (settled.others (ap may_tell e)) (settled.found (leaves.telling.0 t) (ap may_tell e)) (settled.spared (leaves.telling.0 t) (ap may_tell e)) (settled.sink e));
+            settled.at (leaves.own t) (settled.own (leaves.telling.0 t)) (settled.due (leaves.telling.0 t) (ap may_tell e)) (settled.running (leaves.telling.0 t) (ap may_tell e)) (settled.others (ap all_fits e)) (settled.found (leaves.telling.0 t) (ap all_fits e)) (settled.spared (leaves.telling.0 t) (ap all_fits e)) (settled.sink e));
         at_end = λ t s going ending ends. subst (λ (d : Deck). (x : IsLeftAt d (files_of (held disk)) it.left (held disk'') (refusals disk) (refusals disk'')) × (x.reach ≡ At)) same
             (left_end m.deck (files_of (held disk)) m' it.left (held disk'') (refusals disk) (refusals disk'') (ended t (sym settled.over ∙ going) ending (sym settled.ending ∙ ends)) settled.at
             (came meaning told bytes m.deck m.deck (files_of (held disk)) (files_of (held disk')) (files_of (held disk'')) m' rack' it.left
             (ran t (sym settled.over ∙ going)) refl settled.core settled.ending (λ desks h seats. settled.files (leaves.telling.0 t) s desks h seats)));
+        at_want = λ t fit fault trace. subst (λ (d : Deck). CutByMemory d trace (files_of (held disk)) (tells_out out) (taken out) (taken out') (held disk'') (refusals disk) (refusals disk'')) same
+            (cut_by_memory meaning rack' (held disk') (held disk'') (refusals disk) (refusals disk') (refusals disk'') (tells_out out) (taken out) (taken out') m.deck (files_of (held disk)) m' own (there t)
+            (leaves.own t) (settled.own (leaves.telling.0 t)) (settled.found (leaves.telling.0 t) fit) (settled.spared (leaves.telling.0 t) fit) trace (subst IsNoneOrFault settled.lost fault));
         part = λ t w. subst (λ (d : Deck). TookSome d (files_of (held disk)) (taken out) (taken out')) same
             (took_some meaning rack' (held disk') (refusals disk) (refusals disk') (tells_out out) (taken out) (taken out') m.deck (files_of (held disk)) m' (there t) w);
         result_is = λ t s going. came meaning told bytes deck m.deck (files_of (held disk)) (files_of (held disk')) (files_of (held disk'')) m' rack' it.left

@@ -17,7 +17,6 @@ use Rattle.fj_plain.specs.Needs.{need, holders}
 use Rattle.fj_plain.specs.State.{State, Files, start}
 use Rattle.fj_plain.specs.Statement.{Stated, Ran, Ending, ends, goes_on, step, executed, stated, control_by, plain_execution}
 use Rattle.fj_items.specs.Handing.{TakesFront, TakesPart}
-use Rattle.fj_items.specs.declared.lost.Lost.{Lost}
 use Rattle.fj_report.specs.declared.status.Status.{Status}
 use Rattle.fj_report.specs.declared.status.Status.TheVariants.{Ended, ErrorStop, Prohibited, DeckRefused, Usage, ReadFault, WriteFault, DiskFault, Memory}
 use Rattle.fj_job.specs.Answers.{IsLost, IfFault, IfWriteFault, TookFor, TookRefusal}

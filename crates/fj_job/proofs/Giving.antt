@@ -4,6 +4,7 @@ use Rattle.std.specs.Prelude.{◌||◌, ◌&&◌, ◌==◌}
 use Rattle.std.specs.Str.{bytes_eq}
 use Rattle.std.proofs.lemmas.Option.{slice_get_within}
 use Rattle.std.proofs.lemmas.Slice.Eq.{bytes_eq-Decides}
+use Rattle.fj_outside.specs.Faults.{Rose}
 use Rattle.fj_statement.specs.declared.deck.Variable.{Variable}
 use Rattle.fj_slot.specs.Serving.{Meaning}
 use Rattle.fj_slot.specs.Sound.{IsSound}
@@ -69,29 +70,38 @@ no_slot rack us name none slot has = absurd (let z : true ≡ false = sym has �
 
 -- ---- a file that a unit has
 
-pub left_short : {E J A : Type 0} (m : Meaning E J A Bay Job Answer) (rack : Rack E J A) (variables : List Variable) (deck : List Stated) (files left : Files) (last : ℕ) (name : List ℕ) (us : List Connected)
-    → OfEach us rack.slots (λ u l. (s : Bay) (ts : List Job) → IsSound (over_bays m) s ts l → IsLeftBehind l s ts u.name (left u.name)) → HoldsGiven variables deck files m rack last → has_name us name ≡ true
-    → IsLeftShort variables deck files last name (left name)
-left_short m rack variables deck files left last name [] each given e = cc
-left_short m rack variables deck files left last name (u ∷ us) each given e = by (bytes_eq name u.name) refl (λ h. left_short m rack variables deck files left last name us each.1 given h) e
+-- a job was stopped in it, and a scratch file is gone
+abbrev pub LeavesShort : List Variable → List Stated → Files → Files → ℕ → ℕ → ℕ → List ℕ → Type 0
+LeavesShort variables deck files left last before now name =
+    (short : IsLeftShort variables deck files last name (left name)) × (short.leaves.before.modes.scratch ≡ true → (left name ≡ None) ⊎ Rose before now)
+
+pub left_short : {E J A : Type 0} (m : Meaning E J A Bay Job Answer) (rack : Rack E J A) (variables : List Variable) (deck : List Stated) (files left : Files) (last : ℕ) (before now : ℕ) (name : List ℕ) (us : List Connected)
+    → OfEach us rack.slots (λ u l. (s : Bay) (ts : List Job) → IsSound (over_bays m) s ts l → IsLeftBehind l s ts u.name (left u.name) before now) → HoldsGiven variables deck files m rack last → has_name us name ≡ true
+    → LeavesShort variables deck files left last before now name
+left_short m rack variables deck files left last before now name [] each given e = cc
+left_short m rack variables deck files left last before now name (u ∷ us) each given e = by (bytes_eq name u.name) refl (λ h. left_short m rack variables deck files left last before now name us each.1 given h) e
   where
-    here : name ≡ u.name → IsLeftShort variables deck files last name (left name)
+    here : name ≡ u.name → LeavesShort variables deck files left last before now name
     here same =
         let l = each.0 in
         let q = given u.slot l.0 l.1 in
         let short = l.2 q.0.start q.0.jobs q.1 in
         let it = short.some in
-        subst (λ n. IsLeftShort variables deck files last n (left n)) (sym same) (record {
-          slot = u.slot;
-          number = it.number;
-          bay = _;
-          job = it.job;
-          gives = q.2 it.number it.job it.at;
-          behind_them = λ other was. let done = q.3 other was in let from = short.from in omega (arith, done, from);
-          leaves = it.leaves;
-        })
+        subst (LeavesShort variables deck files left last before now) (sym same) (
+          record {
+            slot = u.slot;
+            number = it.number;
+            bay = _;
+            job = it.job;
+            gives = q.2 it.number it.job it.at;
+            behind_them = λ other was. let done = q.3 other was in let from = short.from in omega (arith, done, from);
+            leaves = it.leaves;
+          },
+          short.gone,
+        )
 
-    by : (b : Bool) → bytes_eq name u.name ≡ b → (has_name us name ≡ true → IsLeftShort variables deck files last name (left name)) → (b || has_name us name) ≡ true → IsLeftShort variables deck files last name (left name)
+    by : (b : Bool) → bytes_eq name u.name ≡ b → (has_name us name ≡ true → LeavesShort variables deck files left last before now name) → (b || has_name us name) ≡ true
+        → LeavesShort variables deck files left last before now name
     by true is later h = here ((bytes_eq-Decides name u.name).0 is)
     by false is later h = later h
 

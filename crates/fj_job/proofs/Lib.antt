@@ -23,6 +23,7 @@ pub mod CutReports
 pub mod CutRuns
 pub mod Fronts
 pub mod Reported
+pub mod Wanting
 pub mod Sends
 pub mod SomeReplies
 pub mod Giving

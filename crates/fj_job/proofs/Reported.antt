@@ -21,7 +21,6 @@ use Rattle.fj_desk.specs.Desking.{all_left}
 use Rattle.fj_turns.specs.Executing.{HoldsDesks}
 use Rattle.fj_turns.specs.Serving.{over_bays}
 use Rattle.fj_cut.specs.Others.{names_in, file_renewed, AreHoused}
-use Rattle.fj_cut.specs.Stopping.{IsLeftShort}
 use Rattle.fj_pending.specs.Plain.{tells_of}
 use Rattle.fj_items.specs.Handing.{TakesFront, TakesPart, whole_records, open_record}
 use Rattle.fj_items.specs.declared.lost.Lost.TheVariants.{Sink, Disk}
@@ -30,6 +29,7 @@ use Rattle.fj_units.specs.Returning.{IsAsDue}
 use Rattle.fj_closing.specs.Closing.{AreSeated, AreNamed, IfClear, OthersRun}
 use Rattle.fj_closing.specs.Finding.{IsLeftBehind, OfEach, AreSpared}
 use Rattle.fj_closing.proofs.Due.{due_on}
+use Rattle.fj_closing.proofs.Finding.{rose_wider}
 use Rattle.fj_report.specs.Lines.{status_text}
 use Rattle.fj_report.specs.declared.status.Status.{Status}
 use Rattle.fj_report.specs.declared.status.Status.TheVariants.{DiskFault}
@@ -40,7 +40,7 @@ use Rattle.fj_runner.specs.declared.machine.Machine.{Machine}
 use Rattle.fj_acts.specs.declared.state.Core.{Core as Kept}
 use Rattle.fj_job.specs.Carrying.{HasRun}
 use Rattle.fj_job.specs.Concluding.{HasEnded, IsResult, run_text, fault_text}
-use Rattle.fj_job.specs.Cut.{Reach, Untold, Carried as At, reached, AreLeft, IsLearnt, IsFaultReport, IsNext, TookRun, TookReport, TookBehind, CutByDisk, CutBySink}
+use Rattle.fj_job.specs.Cut.{Reach, Untold, Carried as At, reached, ComesTo, AreCutShort, AreLeft, IsLearnt, IsFaultReport, IsNext, TookRun, TookReport, TookBehind, CutByDisk, CutBySink}
 use Rattle.fj_job.specs.Cutting.{HoldsFiles, IsCut, EndsHere, IsLeftAt, IsLeftBegun, TookSome, IsCause}
 use Rattle.fj_job.specs.Executing.{IsFaultReported, IsFaultBegun, IsEndBegun}
 use Rattle.fj_job.specs.Making.{HasMade, IsMadeFront, TookMade, made_text}
@@ -54,7 +54,7 @@ use Rattle.fj_job.proofs.Leading.{rose_later}
 use Rattle.fj_job.proofs.Leaving.{seated_of, named_of, housed_of, served_of, due_wider, within}
 use Rattle.fj_job.proofs.Executed.{desks, ending_is, output_is, tells_are, files_are, holds, are_seated, are_named, replies, makes, none_there, taken_both, given_until}
 use Rattle.fj_job.proofs.Fronts.{front_behind, part_behind, front_more, deck_ends, some_by, not_lost}
-use Rattle.fj_job.proofs.Giving.{not_left, left_short}
+use Rattle.fj_job.proofs.Giving.{LeavesShort, not_left, left_short}
 
 -- ---- where a run ended or was cut, at the statement at hand
 
@@ -106,13 +106,29 @@ module _ {E J A F : Type 0} {ghosts : Ghosts F} (meaning : Meaning E J A Bay Job
 
 -- ---- what is left there, once the files went back
 
+-- each file that the statement neither opens nor removes
+pub cut_short : {E J A F : Type 0} {ghosts : Ghosts F} (meaning : Meaning E J A Bay Job Answer) (rack : Rack E J A) (held last : Holdings) (before now end : ℕ)
+    (deck : Deck) (files : Files) (m : Machine F ghosts) (comes : ComesTo deck files) (reach : Reach) → before ≤ now → now ≤ end
+    → OfEach m.state.core.units rack.slots (λ u k. (s : Bay) (ts : List Job) → IsSoundSlot (over_bays meaning) s ts k → IsLeftBehind k s ts u.name (files_of last u.name) now end)
+    → AreSpared m.state.core.units held last → HoldsFiles meaning rack held before now deck files comes reach m → AreCutShort deck files comes reach last before end
+cut_short meaning rack held last before now end deck files m comes reach early late found spared h = λ name new. by name new (has_name m.state.core.units name) refl
+  where
+    by : (name : List ℕ) → file_renewed (names_in comes.before.units) comes.statement.0.what ≢ Some name → (b : Bool) → has_name m.state.core.units name ≡ b
+        → LeavesShort deck.variables (stated deck.statements) files (files_of last) comes.index before end name
+        ⊎ IsAsDue before end (files_of last name) ((all_closed (reached reach deck.variables comes.statement comes.before)).files name)
+    by name new true e =
+        let short = left_short meaning rack deck.variables (stated deck.statements) files (files_of last) comes.index now end name m.state.core.units found h.given e in
+        inl (short.0, λ s. elim (short.1 s) [ inl none ↦ inl none | inr rose ↦ inr (rose_wider before now end end early (omega arith) rose) ])
+    by name new false e = inr (subst (λ (o : Option (List ℕ)). IsAsDue before end o ((all_closed (reached reach deck.variables comes.statement comes.before)).files name)) (sym (spared name e).0)
+        (due_wider before before now end (files_of held name) _ (omega arith) late (h.freed name e new)))
+
 module _ {E J A F : Type 0} {ghosts : Ghosts F} (meaning : Meaning E J A Bay Job Answer) (rack : Rack E J A) (held last : Holdings) (before now end : ℕ) (Tells : Type 0) (old new : List ℕ)
     (deck : Deck) (files : Files) (m : Machine F ghosts) (l : Left F) (cut : IsCut meaning rack held before now Tells old new deck files m) (at : l.at ≡ m.at) (early : before ≤ now) (late : now ≤ end)
     (due : (desks : List Desk) → HoldsDesks meaning rack desks → AreSeated desks m.state.core.units → AreNamed desks m.state.core.units → (name : List ℕ) → set.contains last.hurt name ≡ false
     → IsAsDue now end (files_of last name) (all_left desks m.state.core.units (files_of held) name))
     (running : IfClear last m.state.core.units rack.slots (λ (k : Ledger E J A). k.halt ≡ None))
     (others : (desks : List Desk) → HoldsDesks meaning rack desks → OthersRun m.state.core.units rack.slots desks)
-    (found : OfEach m.state.core.units rack.slots (λ u k. (s : Bay) (ts : List Job) → IsSoundSlot (over_bays meaning) s ts k → IsLeftBehind k s ts u.name (files_of last u.name)))
+    (found : OfEach m.state.core.units rack.slots (λ u k. (s : Bay) (ts : List Job) → IsSoundSlot (over_bays meaning) s ts k → IsLeftBehind k s ts u.name (files_of last u.name) now end))
     (spared : AreSpared m.state.core.units held last) where
   hand : slice_get deck.statements l.at ≡ Some cut.comes.statement.0
   hand = ap (λ n. slice_get deck.statements n) at ∙ cut.at
@@ -122,15 +138,8 @@ module _ {E J A F : Type 0} {ghosts : Ghosts F} (meaning : Meaning E J A Bay Job
     clear = λ name clear about.
         due_on before now end _ _ _ early late (due h.desks h.slots (seated_of h.desks m.state.core.units h.units) (named_of h.desks m.state.core.units h.units) name clear)
         (h.others name (served_of rack last name m.state.core.units running clear) about);
-    others = λ name new. by name new (has_name m.state.core.units name) refl;
+    others = cut_short meaning rack held last before now end deck files m cut.comes reach early late found spared h;
   }
-    where
-      by : (name : List ℕ) → file_renewed (names_in cut.comes.before.units) cut.comes.statement.0.what ≢ Some name → (b : Bool) → has_name m.state.core.units name ≡ b
-          → IsLeftShort deck.variables (stated deck.statements) files cut.comes.index name (files_of last name)
-          ⊎ IsAsDue before end (files_of last name) ((all_closed (reached reach deck.variables cut.comes.statement cut.comes.before)).files name)
-      by name new true e = inl (left_short meaning rack deck.variables (stated deck.statements) files (files_of last) cut.comes.index name m.state.core.units found h.given e)
-      by name new false e = inr (subst (λ (o : Option (List ℕ)). IsAsDue before end o ((all_closed (reached reach deck.variables cut.comes.statement cut.comes.before)).files name)) (sym (spared name e).0)
-          (due_wider before before now end (files_of held name) _ (omega arith) late (h.freed name e new)))
 
   -- a unit whose slot has stopped has a file that is hurt, and no other slot has stopped
   learnt_by : IsCause meaning rack m.state.core.units cut.comes.statement cut.comes.before before now → IsLearnt cut.comes.statement cut.comes.before last before end
@@ -287,7 +296,7 @@ front_so_far deck files old new lines (part, rest, so_far, taken) =
     let text : (plain_execution deck.variables deck.statements files).output.text ≡ (part ++ rest) ++ f.more = f.text ∙ ap (λ x. x ++ f.more) (sym so_far.output_is) in
     front_more old new _ lines (subst (λ (x : List ℕ). TakesFront old new x) (sym text) (front_more old new (part ++ rest) f.more (part, rest, refl, taken)))
 
-some_is : {A : Type 0} (o : Option A) → IsSome o → (a : A) × (o ≡ Some a)
+pub some_is : {A : Type 0} (o : Option A) → IsSome o → (a : A) × (o ≡ Some a)
 some_is None s = cc
 some_is (Some a) s = (a, refl)
 

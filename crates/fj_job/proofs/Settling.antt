@@ -1,5 +1,5 @@
 -- Names of files that are out, and what was lost first.
-use Rattle.std.proofs.Common.{◌≡◌, ◌≢◌, ◌⊎◌, inl, inr, ◌==◌, ◌≤◌, ℕ, List, [], ◌∷◌, length, true, false, Option, Some, None, IfNone, IfSome, Result, Ok, Err, OnOk, IfErr, refl, ap, sym, ◌∙◌, subst, arith}
+use Rattle.std.proofs.Common.{◌≡◌, ◌≢◌, ◌⊎◌, inl, inr, ◌==◌, ◌≤◌, ℕ, List, [], ◌∷◌, length, true, false, not, Option, Some, None, IfNone, IfSome, Result, Ok, Err, OnOk, IfErr, refl, ap, sym, ◌∙◌, subst, arith}
 use Rattle.std.specs.Ordering.{nat_cmp}
 use Rattle.std.specs.Cmp.Lexicographic.{slice_cmp, nat_list_cmp_total}
 use Rattle.std.specs.FinMap.{slice_cmp-IsAntisymmetric, nat_cmp-IsAntisymmetric}
@@ -9,7 +9,7 @@ use Rattle.fj_units.specs.Names.{stands, AreInUse}
 use Rattle.fj_items.specs.declared.lost.Lost.{Lost}
 use Rattle.fj_items.specs.declared.lost.Lost.TheVariants.{Sink, Disk, Unfit}
 use Rattle.fj_outside.specs.Faults.{Rose}
-use Rattle.fj_closing.specs.Losing.{is_fault, may_tell}
+use Rattle.fj_closing.specs.Losing.{is_fault, is_unfit, all_fits, may_tell}
 use Rattle.fj_job.proofs.Closed.{not_none}
 use Rattle.fj_job.proofs.Leading.{rose_later, rose_earlier}
 
@@ -66,12 +66,24 @@ pub told_ok : (given : Result (Unit {0}) Lost) → IfErr given (λ lost. lost �
 told_ok (Ok x) h e = refl
 told_ok (Err lost) h e = let z : false ≡ true = sym (ap is_fault h) ∙ e in cc
 
+pub fit_ok : (given : Result (Unit {0}) Lost) → IfErr given (λ lost. lost ≡ Unfit) → all_fits given ≡ true → given ≡ Ok tt
+fit_ok (Ok x) h e = refl
+fit_ok (Err lost) h e = let z : false ≡ true = sym (ap (λ l. not (is_unfit l)) h) ∙ e in cc
+
 -- where a fault is what was lost first of two steps, the second was fine, and the first may be told
 pub both_fit : (inner : Option Lost) (closed given : Result (Unit {0}) Lost) (lost : Lost) → IfErr given (λ other. other ≡ Unfit) → (is_fault lost ≡ true → may_tell given ≡ true)
     → (given ≡ Ok tt → Some lost ≡ inner) → IfSome inner (λ first. is_fault first ≡ true → may_tell closed ≡ true) → is_fault lost ≡ true → (given ≡ Ok tt) × (may_tell closed ≡ true)
 both_fit inner closed given lost unfit fits same by e =
     let ok = told_ok given unfit (fits e) in
     (ok, subst (λ (o : Option Lost). IfSome o (λ first. is_fault first ≡ true → may_tell closed ≡ true)) (sym (same ok)) by e)
+
+-- where nothing is lost that does not fit, the second step was fine, and all of the first fits
+pub all_fit : (inner : Option Lost) (closed given : Result (Unit {0}) Lost) (lost : Lost) → IfErr given (λ other. other ≡ Unfit) → (Some lost ≢ Some Unfit → all_fits given ≡ true)
+    → (given ≡ Ok tt → Some lost ≡ inner) → (inner ≢ Some Unfit → all_fits closed ≡ true) → not (is_unfit lost) ≡ true → (given ≡ Ok tt) × (all_fits closed ≡ true)
+all_fit inner closed given lost unfit fit same by e =
+    let other : Some lost ≢ Some Unfit = λ is. (let there : lost ≡ Unfit = cc in let z : false ≡ true = sym (ap (λ l. not (is_unfit l)) there) ∙ e in cc) in
+    let ok = fit_ok given unfit (fit other) in
+    (ok, by (λ is. other (same ok ∙ is)))
 
 -- of two losses, where nothing was lost before and nothing was kept, that something does not fit came of closing
 pub never_unfit : (lost first last : Option Lost) (closed given : Result (Unit {0}) Lost) → lost ≡ None → given ≡ Ok tt → (closed ≡ Err Unfit → ⊥) → (first ≡ Some Unfit → (lost ≡ Some Unfit) ⊎ (closed ≡ Err Unfit))

@@ -7,7 +7,6 @@ use Rattle.fj_plain.specs.State.{Files}
 use Rattle.fj_plain.specs.Statement.{Ending, plain_execution}
 use Rattle.fj_gen.specs.Generated.{generated_text}
 use Rattle.fj_job.specs.Reply.{Reply, Reading, IsReading, IsExecuted, IsRunReply, IsMade, IsMadeReply, SomeReply, checked, status_of, report_of, made_report, refusal_reply, usage_reply, text_reply, no_files}
-use Rattle.fj_job.specs.declared.task.Task.{Task}
 use Rattle.fj_job.specs.declared.task.Task.TheVariants.{Refuse, Check, Execute, Generate}
 use Rattle.fj_job.proofs.Fronts.{deck_ends}
 

@@ -1,5 +1,5 @@
 -- A deck that came to its end is closed whole: slots and names are those of its units.
-use Rattle.std.proofs.Common.{◌≡◌, ℕ, ◌-◌, ◌<◌, Bool, List, [], ◌∷◌, length, drop, Option, Some, None, refl, sym, ap, ◌∙◌, subst, arith}
+use Rattle.std.proofs.Common.{◌≡◌, ℕ, Bool, List, [], ◌∷◌, length, drop, Option, Some, None, refl, sym, ap, ◌∙◌, subst, arith}
 use Rattle.std.specs.Prelude.{IsSome}
 use Rattle.std.specs.Option.{option_map}
 use Rattle.std.proofs.lemmas.List.{length-drop}
@@ -21,8 +21,8 @@ use Rattle.fj_units.specs.Having.{HaveFiles}
 use Rattle.fj_closing.specs.Holding.{HoldUnits}
 use Rattle.fj_acts.specs.Doing.{then_of}
 use Rattle.fj_acts.specs.State.{core_of}
-use Rattle.fj_runner.specs.Going.{HaveAt, IsAt, IsGoing}
-use Rattle.fj_runner.specs.Machine.{stage_of, run_at, stage_at, run_of, rest_of, ending_of}
+use Rattle.fj_runner.specs.Going.{HaveAt, IsGoing}
+use Rattle.fj_runner.specs.Machine.{stage_of, run_at, stage_at, rest_of, ending_of}
 use Rattle.fj_runner.specs.declared.machine.Machine.{Machine}
 use Rattle.fj_runner.specs.declared.stage.Stage.{Stage}
 use Rattle.fj_runner.specs.declared.stage.Stage.TheVariants as stage

@@ -1,5 +1,5 @@
 -- What a run that met a fault has told: what executing the deck tells, up to one of its statements.
-use Rattle.std.specs.Prelude.{◌≡◌, ◌≢◌, ◌⊎◌, ℕ, Bool, true, false, List, [], ◌++◌, Some, IsSome}
+use Rattle.std.specs.Prelude.{◌≡◌, ◌≢◌, ◌⊎◌, ℕ, Bool, true, false, List, [], ◌++◌, Some, None, IsSome}
 use Rattle.std.specs.FinSet as set
 use Rattle.fj_outside.specs.Faults.{Rose}
 use Rattle.fj_outside.specs.Holdings.{Holdings}
@@ -59,16 +59,22 @@ pub record IsFaultReport (deck : Deck) (trace : Bool) (files : Files) (line : �
   pub line_is : comes.statement.0.line ≡ line
   pub output_is : output ≡ fault_report trace line (reached reach deck.variables comes.statement comes.before)
 
--- How files are left, where the disk's own number was `before` and is `now`. Each one that is not hurt, and that the statement is not
--- about, is as closing all units leaves it there; one that is gone then may be there, where that number rose. So is each other one that the
--- statement neither opens nor removes; or a job of its unit was stopped in it, and its bytes are as before below the first one that the
--- job changes. That job stands behind each one of its slot that a statement before this one waits for.
+-- Files that were cut short, where the disk's own number was `before` and is `now`. Each one that the statement neither opens nor removes is
+-- as closing all units leaves it there; one that is gone then may be there, where that number rose. Or a job of its unit was stopped in
+-- it, or the end of its record, and its bytes are as before below the first one that this changes; a scratch file is gone, unless that
+-- number rose. The job stands behind each one of its slot that a statement before this one waits for.
+abbrev pub AreCutShort : (deck : Deck) (files : Files) → ComesTo deck files → Reach → Holdings → ℕ → ℕ → Type 0
+AreCutShort deck files comes reach left before now = (name : List ℕ) → file_renewed (names_in comes.before.units) comes.statement.0.what ≢ Some name
+    → ((short : IsLeftShort deck.variables (stated deck.statements) files comes.index name (files_of left name))
+    × (short.leaves.before.modes.scratch ≡ true → (files_of left name ≡ None) ⊎ Rose before now))
+    ⊎ IsAsDue before now (files_of left name) ((all_closed (reached reach deck.variables comes.statement comes.before)).files name)
+
+-- How files are left by a fault. Each one that is not hurt, and that the statement is not about, is as closing all units leaves it there;
+-- of the others it is known how far they are.
 pub record AreLeft (deck : Deck) (files : Files) (comes : ComesTo deck files) (reach : Reach) (left : Holdings) (before now : ℕ) : Type 0 where
   pub clear : (name : List ℕ) → set.contains left.hurt name ≡ false → file_about (names_in comes.before.units) comes.statement.0.what ≢ Some name
       → IsAsDue before now (files_of left name) ((all_closed (reached reach deck.variables comes.statement comes.before)).files name)
-  pub others : (name : List ℕ) → file_renewed (names_in comes.before.units) comes.statement.0.what ≢ Some name
-      → IsLeftShort deck.variables (stated deck.statements) files comes.index name (files_of left name)
-      ⊎ IsAsDue before now (files_of left name) ((all_closed (reached reach deck.variables comes.statement comes.before)).files name)
+  pub others : AreCutShort deck files comes reach left before now
 
 -- Why a fault of the disk is learnt at a statement, in that state: it waits at a unit whose file is told as hurt; or it is one that calls
 -- the disk itself, to open or to close a file or to ask whether there is one, and the disk's own number rose.
@@ -115,3 +121,19 @@ pub record CutBySink (deck : Deck) (trace : Bool) (files : Files) (Tells : Type 
   pub next : IsNext reach deck trace files comes due
   pub taken : Tells → TookBehind old new (whole_records (reached reach deck.variables comes.statement comes.before).output) due
   pub files_are : AreLeft deck files comes reach left before now
+
+-- what may be written there: what is next, or the report of a fault of the disk
+abbrev pub MayBeWritten : Reach → (deck : Deck) → Bool → (files : Files) → ComesTo deck files → List ℕ → Type 0
+MayBeWritten reach deck trace files comes due = IsNext reach deck trace files comes due
+    ⊎ (due ≡ fault_report trace comes.statement.0.line (reached reach deck.variables comes.statement comes.before))
+
+-- Memory was wanting at a statement of the deck; or, where the deck stops at it, behind it. A sink took a front of what may be written
+-- there, and the files are cut short there. A slot that stops for want of memory hurts no file.
+pub record CutByMemory (deck : Deck) (trace : Bool) (files : Files) (Tells : Type 0) (old new : List ℕ) (left : Holdings) (before now : ℕ) : Type 0 where
+  pub comes : ComesTo deck files
+  pub reach : Reach
+  pub may : MayReach reach deck.variables comes.statement comes.before
+  pub due : List ℕ
+  pub written : MayBeWritten reach deck trace files comes due
+  pub taken : Tells → TakesFront old new due
+  pub files_are : AreCutShort deck files comes reach left before now

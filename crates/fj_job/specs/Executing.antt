@@ -1,5 +1,5 @@
 -- What the steps of carrying out a deck leave: its disk, its sink and what is answered.
-use Rattle.std.specs.Prelude.{◌≡◌, ◌≢◌, ◌⊎◌, ◌↔◌, ◌≤◌, ◌++◌, ℕ, Bool, true, false, List, Result, Ok, Err, Some, None, IfOk, IfErr, slice_get}
+use Rattle.std.specs.Prelude.{◌≡◌, ◌≢◌, ◌⊎◌, ◌↔◌, ◌≤◌, ◌++◌, ℕ, Bool, true, false, List, Result, Ok, Err, Option, Some, None, IfOk, IfErr, slice_get}
 use Rattle.std.specs.FinSet as set
 use Rattle.fj_outside.specs.Faults.{Rose}
 use Rattle.fj_outside.specs.Holdings.{Holdings}
@@ -18,6 +18,7 @@ use Rattle.fj_turns.specs.Executing.{HoldsDesks}
 use Rattle.fj_items.specs.Handing.{whole_records, open_record, TakesFront, TakesPart}
 use Rattle.fj_turns.specs.Serving.{over_bays}
 use Rattle.fj_pending.specs.Plain.{tells_of}
+use Rattle.fj_items.specs.declared.lost.Lost.{Lost}
 use Rattle.fj_items.specs.declared.lost.Lost.TheVariants.{Sink, Disk, Unfit}
 use Rattle.fj_units.specs.Files.{files_of}
 use Rattle.fj_units.specs.Having.{HaveFiles}
@@ -25,14 +26,14 @@ use Rattle.fj_units.specs.Returning.{IsAsDue}
 use Rattle.fj_closing.specs.Closing.{AreSeated, AreNamed, IfClear, OthersRun}
 use Rattle.fj_closing.specs.Finding.{IsLeftBehind, OfEach, AreSpared}
 use Rattle.fj_closing.specs.Holding.{HoldUnits}
-use Rattle.fj_closing.specs.Losing.{may_tell}
+use Rattle.fj_closing.specs.Losing.{is_fault, all_fits, may_tell}
 use Rattle.fj_report.specs.declared.status.Status.{Status}
 use Rattle.fj_report.specs.declared.status.Status.TheVariants.{WriteFault, DiskFault, Memory}
 use Rattle.fj_runner.specs.Machine.{ending_of}
 use Rattle.fj_runner.specs.declared.ending.Ending.{Ending}
 use Rattle.fj_runner.specs.declared.machine.Machine.{Machine}
 use Rattle.fj_job.specs.Answers.{IsAnswer, IsOfRun, HasCause, IfFault, IfWriteFault}
-use Rattle.fj_job.specs.Cut.{Carried as At, TookRun, TookReport, IsOfReport, CutByDisk, CutBySink}
+use Rattle.fj_job.specs.Cut.{Carried as At, TookRun, TookReport, IsOfReport, CutByDisk, CutBySink, CutByMemory}
 use Rattle.fj_job.specs.Cutting.{IsLeftAt, IsLeftBegun, TookSome}
 use Rattle.fj_job.specs.Concluding.{HasEnded, IsReplied, IsResult, run_text, fault_text}
 use Rattle.fj_job.specs.declared.ending.Carried.{Carried}
@@ -45,6 +46,7 @@ pub record IsSettled {D F E J A : Type 0} {ghosts : Ghosts F} (tells : D → Typ
   pub ending : it.left.ending ≡ m.state.ending
   pub over : it.left.over ≡ m.tally.over
   pub at : it.left.at ≡ m.at
+  pub lost : it.left.lost ≡ m.tally.lost
   pub nothing : it.settled ≡ Ok tt → m.tally.lost ≡ None
   pub files : tells disk → it.settled ≡ Ok tt → (desks : List Desk) → HoldsDesks meaning rack desks → AreSeated desks m.state.core.units
       → files_of (held disk') ≡ all_left desks m.state.core.units (files_of (held disk))
@@ -52,10 +54,11 @@ pub record IsSettled {D F E J A : Type 0} {ghosts : Ghosts F} (tells : D → Typ
   pub due : tells disk → may_tell it.settled ≡ true → (desks : List Desk) → HoldsDesks meaning rack desks → AreSeated desks m.state.core.units → AreNamed desks m.state.core.units
       → (name : List ℕ) → set.contains (held disk').hurt name ≡ false → IsAsDue (refusals disk) (refusals disk') (files_of (held disk') name) (all_left desks m.state.core.units (files_of (held disk)) name)
   pub running : tells disk → may_tell it.settled ≡ true → IfClear (held disk') m.state.core.units rack.slots (λ l. l.halt ≡ None)
-  pub others : may_tell it.settled ≡ true → (desks : List Desk) → HoldsDesks meaning rack desks → OthersRun m.state.core.units rack.slots desks
+  -- where all fits, what else was lost
+  pub others : all_fits it.settled ≡ true → (desks : List Desk) → HoldsDesks meaning rack desks → OthersRun m.state.core.units rack.slots desks
   -- the file of each unit is as one of its slot's jobs may leave it, or the end of its record; and of others the disk tells the same
-  pub found : tells disk → may_tell it.settled ≡ true → OfEach m.state.core.units rack.slots (λ u l. (s : Bay) (ts : List Job) → IsSound (over_bays meaning) s ts l → IsLeftBehind l s ts u.name (files_of (held disk') u.name))
-  pub spared : tells disk → may_tell it.settled ≡ true → AreSpared m.state.core.units (held disk) (held disk')
+  pub found : tells disk → all_fits it.settled ≡ true → OfEach m.state.core.units rack.slots (λ u l. (s : Bay) (ts : List Job) → IsSound (over_bays meaning) s ts l → IsLeftBehind l s ts u.name (files_of (held disk') u.name) (refusals disk) (refusals disk'))
+  pub spared : tells disk → all_fits it.settled ≡ true → AreSpared m.state.core.units (held disk) (held disk')
   pub own : tells disk → refusals disk ≤ refusals disk'
   pub sink : it.settled ≡ Err Sink → m.tally.lost ≡ Some Sink
   pub of_disk : it.settled ≡ Err Disk → (m.tally.lost ≡ Some Disk) ⊎ Rose (count disk) (count disk')
@@ -65,6 +68,11 @@ pub record IsSettled {D F E J A : Type 0} {ghosts : Ghosts F} (tells : D → Typ
   pub whole : m.tally.over ≡ false → HoldUnits meaning rack m.state.core.units → HaveFiles m.state.core.names m.state.core.units → it.settled ≢ Err Unfit
   pub telling : tells disk ↔ tells disk'
   pub later : count disk ≤ count disk'
+
+-- nothing was lost, or the outside failed
+abbrev pub IsNoneOrFault : Option Lost → Type 0
+IsNoneOrFault None = Unit {0}
+IsNoneOrFault (Some lost) = is_fault lost ≡ true
 
 -- A deck was carried out, or there was no memory to begin it.
 pub record IsCarriedOut {W D F E : Type 0} (tells_out : W → Type 0) (taken : W → List ℕ) (count_out : W → ℕ) (tells : D → Type 0) (held : D → Holdings) (count refusals : D → ℕ)
@@ -78,6 +86,10 @@ pub record IsCarriedOut {W D F E : Type 0} (tells_out : W → Type 0) (taken : W
       → IsLeftBegun deck (files_of (held disk)) it.left (tells_out out) (taken out) (taken out') (held disk') (refusals disk) (refusals disk'))
   pub at_end : tells disk → IfOk result (λ it. it.settled ≡ Ok tt → it.left.over ≡ false → (ending : Ending) → it.left.ending ≡ Some ending
       → (x : IsLeftAt deck (files_of (held disk)) it.left (held disk') (refusals disk) (refusals disk')) × (x.reach ≡ At))
+  -- So it is of a run that was not given up at a statement for want of memory, nor because something does not fit: one that ended, whose slot
+  -- stopped, or whose outside failed, also where memory was wanting in closing. What it leaves fits.
+  pub at_want : tells disk → IfOk result (λ it. all_fits it.settled ≡ true → IsNoneOrFault it.left.lost → (trace : Bool)
+      → CutByMemory deck trace (files_of (held disk)) (tells_out out) (taken out) (taken out') (held disk') (refusals disk) (refusals disk'))
   pub part : tells disk → tells_out out → IfOk result (λ it. TookSome deck (files_of (held disk)) (taken out) (taken out'))
   pub sink : IfOk result (λ it. it.settled ≡ Err Sink → Rose (count_out out) (count_out out'))
   pub of_disk : IfOk result (λ it. it.settled ≡ Err Disk → Rose (count disk) (count disk'))

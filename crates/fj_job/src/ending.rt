@@ -18,7 +18,7 @@ ghost use Rattle.fj_units.specs.Files.{files_of};
 ghost use Rattle.fj_units.specs.Having.{HaveFiles};
 ghost use Rattle.fj_runner.specs.Machine.{ending_of};
 ghost use Rattle.fj_units.specs.Returning.{IsAsDue};
-ghost use Rattle.fj_closing.specs.Losing.{is_fault, may_tell};
+ghost use Rattle.fj_closing.specs.Losing.{is_fault, all_fits, may_tell};
 ghost use Rattle.fj_closing.specs.Closing.{AreSeated, AreNamed, IfClear, OthersRun};
 ghost use Rattle.fj_closing.specs.Finding.{IsLeftBehind, OfEach, AreSpared};
 ghost use Rattle.fj_closing.specs.Holding.{HoldUnits};
@@ -47,22 +47,23 @@ use std::alloc::{AllocError, Global};
 use std::sync::Wait;
 use std::thread::Threads;
 
-/// Want of memory, else what does not fit, else what was lost first.
+/// What does not fit, else want of memory, else what was lost first.
 fn first_lost(lost: Option<Lost>, closed: Result<(), Lost>) -> Option<Lost>
     ensures none { IfNone result ((lost ≡ None) × (closed ≡ Ok tt)) }
     ensures sink { result ≡ Some Lost.Sink → (lost ≡ Some Lost.Sink) ⊎ (closed ≡ Err Lost.Sink) }
     ensures disk { result ≡ Some Lost.Disk → (lost ≡ Some Lost.Disk) ⊎ (closed ≡ Err Lost.Disk) }
     ensures alone { result ≡ Some Lost.Disk → (lost ≡ None) ⊎ (lost ≡ Some Lost.Disk) }
-    ensures fits { IfSome result (λ first. is_fault first ≡ true → may_tell closed ≡ true) }
+    ensures told { IfSome result (λ first. is_fault first ≡ true → may_tell closed ≡ true) }
+    ensures fit { result ≢ Some Lost.Unfit → all_fits closed ≡ true }
     ensures unfit { result ≡ Some Lost.Unfit → (lost ≡ Some Lost.Unfit) ⊎ (closed ≡ Err Lost.Unfit) }
     ensures ok { closed ≡ Ok tt → result ≡ lost }
 {
     match closed {
         Ok(()) => lost,
-        Err(Lost::Memory(error)) => Some(Lost::Memory(error)),
-        Err(Lost::Unfit) => match lost {
-            Some(Lost::Memory(error)) => Some(Lost::Memory(error)),
-            _ => Some(Lost::Unfit),
+        Err(Lost::Unfit) => Some(Lost::Unfit),
+        Err(Lost::Memory(error)) => match lost {
+            Some(Lost::Unfit) => Some(Lost::Unfit),
+            _ => Some(Lost::Memory(error)),
         },
         Err(other) => match lost {
             Some(first) => Some(first),
@@ -199,11 +200,12 @@ fn give_back<D: Disk>(
         → AreSeated desks left.old.core.units → AreNamed desks left.old.core.units → (name : List ℕ) → set.contains (D.held disk.new).hurt name ≡ false
         → IsAsDue (D.refusals disk.old) (D.refusals disk.new) (files_of (D.held disk.new) name) (all_left desks left.old.core.units (files_of (D.held disk.old)) name) }
     ensures running { D.tells disk.old → may_tell result ≡ true → IfClear (D.held disk.new) left.old.core.units slots.slots (λ l. l.halt ≡ None) }
-    ensures others { may_tell result ≡ true → (desks : List Desk) → HoldsDesks (bay_meaning D.File.told D.File.bytes D.File.count) slots desks
+    ensures others { all_fits result ≡ true → (desks : List Desk) → HoldsDesks (bay_meaning D.File.told D.File.bytes D.File.count) slots desks
         → OthersRun left.old.core.units slots.slots desks }
-    ensures found { D.tells disk.old → may_tell result ≡ true → OfEach left.old.core.units slots.slots (λ u l. (s : PlainBay) (ts : List PlainJob)
-        → IsSoundSlot (bay_meaning D.File.told D.File.bytes D.File.count) s ts l → IsLeftBehind l s ts u.name (files_of (D.held disk.new) u.name)) }
-    ensures spared { D.tells disk.old → may_tell result ≡ true → AreSpared left.old.core.units (D.held disk.old) (D.held disk.new) }
+    ensures found { D.tells disk.old → all_fits result ≡ true → OfEach left.old.core.units slots.slots (λ u l. (s : PlainBay) (ts : List PlainJob)
+        → IsSoundSlot (bay_meaning D.File.told D.File.bytes D.File.count) s ts l → IsLeftBehind l s ts u.name (files_of (D.held disk.new) u.name)
+        (D.refusals disk.old) (D.refusals disk.new)) }
+    ensures spared { D.tells disk.old → all_fits result ≡ true → AreSpared left.old.core.units (D.held disk.old) (D.held disk.new) }
     ensures own { D.tells disk.old → D.refusals disk.old ≤ D.refusals disk.new }
     ensures sink { result ≡ Err Lost.Sink → left.old.lost ≡ Some Lost.Sink }
     ensures disk { result ≡ Err Lost.Disk → (left.old.lost ≡ Some Lost.Disk) ⊎ Rose (D.count disk.old) (D.count disk.new) }

@@ -1,13 +1,13 @@
 use Rattle.std.proofs.Common.{◌≡◌, None, map}
 use Rattle.fj_units.specs.Files.{files_of}
 use Rattle.fj_units.specs.Units.{connected_of}
-use Rattle.fj_closing.proofs.Returning.{each_closed, either_lacks, both_tell}
+use Rattle.fj_closing.proofs.Returning.{each_closed, either_lacks, both_tell, each_fits, told_fits}
 use Rattle.fj_closing.proofs.Due.{each_due, others_on}
 use Rattle.fj_closing.proofs.Running.{each_running}
 use Rattle.fj_closing.proofs.Fitting.{both_fit, own_each, none_own, owned_each}
 use Rattle.fj_closing.proofs.Others.{gone_owned, each_owned}
 use Rattle.fj_closing.specs.Finding.{IsFoundOf}
-use Rattle.fj_closing.proofs.Finding.{each_found, each_spared}
+use Rattle.fj_closing.proofs.Finding.{each_found, each_spared, found_of_wider}
 use Rattle.fj_closing.proofs.closing.+close_each.Goals as goal
 
 pub returns-clause-files : goal.returns-clause-files
@@ -43,7 +43,7 @@ returns-clause-running g t c = λ tells may was b.
     let told = both_tell c.close_unit-first.result c.close_each-then.result c.after.result c.after.ensures may in
     let still = c.close_unit-first.ensures.telling.0 tells in
     each_running connected_of was (λ it. it.stop ≡ None) c.args.units.now c.unit-item.result (g.D.Disk.held c.close_unit-first.new.disk) (g.D.Disk.held c.close_each-then.new.disk)
-    c.close_unit-first.new.names c.close_each-then.new.names c.in-len1-up.len_at_least c.unit-item.is c.close_each-then.ensures.lessens (c.close_each-then.ensures.same still) (c.close_unit-first.ensures.back told.0)
+    c.close_unit-first.new.names c.close_each-then.new.names c.in-len1-up.len_at_least c.unit-item.is c.close_each-then.ensures.lessens (c.close_each-then.ensures.same still) (c.close_unit-first.ensures.back (told_fits c.close_unit-first.result told.0))
     (c.close_unit-first.ensures.running tells told.0 was b) (c.close_each-then.ensures.running still told.1 was (c.close_unit-first.ensures.kept was b))
 
 pub returns-in_default-clause-gone : goal.returns-in_default-clause-gone
@@ -68,15 +68,18 @@ returns-clause-owned g t c = λ gone.
     each_owned connected_of c.args.units.now c.unit-item.result c.args.all.now.items c.close_unit-first.new.all.items c.in-len1-up.len_at_least c.unit-item.is c.close_unit-first.ensures.others (c.close_each-then.ensures.owned gone)
 
 pub returns-clause-found : goal.returns-clause-found
-returns-clause-found g t c = λ tells may was b.
-    let told = both_tell c.close_unit-first.result c.close_each-then.result c.after.result c.after.ensures may in
+returns-clause-found g t c = λ tells fit was b.
+    let each = each_fits c.close_unit-first.result c.close_each-then.result c.after.result c.after.ensures fit in
     let still = c.close_unit-first.ensures.telling.0 tells in
-    each_found was (λ u found it. IsFoundOf g.D.File.FileStore.told g.D.File.FileStore.bytes it u.name found) connected_of c.args.units.now c.unit-item.result (g.D.Disk.held c.close_unit-first.new.disk) (g.D.Disk.held c.close_each-then.new.disk)
-    c.close_unit-first.new.names c.close_each-then.new.names c.in-len1-up.len_at_least c.unit-item.is c.close_each-then.ensures.lessens (c.close_each-then.ensures.same still) (c.close_unit-first.ensures.back told.0)
-    (c.close_unit-first.ensures.found tells told.0 was b) (c.close_each-then.ensures.found still told.1 was (c.close_unit-first.ensures.kept was b))
+    each_found was (λ before now u found it. IsFoundOf g.D.File.FileStore.told g.D.File.FileStore.bytes it u.name found before now)
+    (λ a b c d u found it. found_of_wider g.D.File.FileStore.told g.D.File.FileStore.bytes it u.name found a b c d) connected_of c.args.units.now c.unit-item.result
+    (g.D.Disk.held c.close_unit-first.new.disk) (g.D.Disk.held c.close_each-then.new.disk)
+    c.close_unit-first.new.names c.close_each-then.new.names (g.D.Disk.refusals c.args.disk.now) (g.D.Disk.refusals c.close_unit-first.new.disk) (g.D.Disk.refusals c.close_each-then.new.disk)
+    c.in-len1-up.len_at_least c.unit-item.is (c.close_unit-first.ensures.own tells) (c.close_each-then.ensures.own still) c.close_each-then.ensures.lessens (c.close_each-then.ensures.same still) (c.close_unit-first.ensures.back each.0)
+    (c.close_unit-first.ensures.found tells each.0 was b) (c.close_each-then.ensures.found still each.1 was (c.close_unit-first.ensures.kept was b))
 
 pub returns-clause-spared : goal.returns-clause-spared
 returns-clause-spared g t c = λ tells may.
-    let told = both_tell c.close_unit-first.result c.close_each-then.result c.after.result c.after.ensures may in
+    let told = each_fits c.close_unit-first.result c.close_each-then.result c.after.result c.after.ensures may in
     each_spared connected_of c.args.units.now c.unit-item.result (g.D.Disk.held c.args.disk.now) (g.D.Disk.held c.close_unit-first.new.disk) (g.D.Disk.held c.close_each-then.new.disk)
     c.in-len1-up.len_at_least c.unit-item.is (c.close_unit-first.ensures.spared tells told.0) (c.close_each-then.ensures.spared (c.close_unit-first.ensures.telling.0 tells) told.1)

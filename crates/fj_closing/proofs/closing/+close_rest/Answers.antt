@@ -1,6 +1,6 @@
 use Rattle.std.proofs.Common.{sym, ◌∙◌, subst}
 use Rattle.fj_closing.specs.Closing.{AreBack, SomeMayLack}
-use Rattle.fj_closing.proofs.Returning.{back_more, both_tell, either_lacks, lack_front, lack_last}
+use Rattle.fj_closing.proofs.Returning.{back_more, each_fits, either_lacks, lack_front, lack_last}
 use Rattle.fj_closing.proofs.Due.{others_on}
 use Rattle.fj_closing.proofs.Others.{gone_none, gone_more}
 use Rattle.fj_closing.proofs.closing.+close_rest.Goals as goal
@@ -23,7 +23,7 @@ returns-clause-same g t c = λ tells.
 
 pub returns-clause-none : goal.returns-clause-none
 returns-clause-none g t c = λ may.
-    let told = both_tell c.close_rest-first.result c.close_left-then.result c.after.result c.after.ensures may in
+    let told = each_fits c.close_rest-first.result c.close_left-then.result c.after.result c.after.ensures may in
     let first = c.close_rest-first.ensures.none told.0 in
     let then = c.close_left-then.ensures.none told.1 in
     (then.0 ∙ first.0, then.1 ∙ first.1)
@@ -33,5 +33,5 @@ returns-in_default-clause-left g t c = λ may. gone_none c.args.all.now.items (s
 
 pub returns-clause-left : goal.returns-clause-left
 returns-clause-left g t c = λ may.
-    let told = both_tell c.close_rest-first.result c.close_left-then.result c.after.result c.after.ensures may in
+    let told = each_fits c.close_rest-first.result c.close_left-then.result c.after.result c.after.ensures may in
     gone_more c.args.all.now.items c.pop.new.self.items c.in-Some.it c.in-Some.ensures.items (c.close_rest-first.ensures.left told.0) (c.close_left-then.ensures.gone told.1)

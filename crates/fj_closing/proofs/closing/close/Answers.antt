@@ -41,7 +41,9 @@ returns-clause-same g c = λ tells.
     (λ name other. c.give_back-given.ensures.others tells name (λ same. other (same ∙ c.end_open-ended.ensures.name)))
 
 pub returns-clause-found : goal.returns-clause-found
-returns-clause-found g c = λ tells may told.
-    subst (λ name. IsFound c.args.keep (files_of (g.D.Disk.held c.give_back-given.new.disk) name) (IsEndedUpTo c.args.stop (connection_of g.D.File.FileStore.bytes c.args.connection))) c.end_open-ended.ensures.name
+returns-clause-found g c = λ tells fit told.
+    let before = g.D.Disk.refusals c.args.disk.now in
+    let now = g.D.Disk.refusals c.give_back-given.new.disk in
+    subst (λ name. IsFound c.args.keep (files_of (g.D.Disk.held c.give_back-given.new.disk) name) (IsEndedUpTo c.args.stop (connection_of g.D.File.FileStore.bytes c.args.connection)) before now) c.end_open-ended.ensures.name
     (found_so c.args.keep (files_of (g.D.Disk.held c.give_back-given.new.disk) c.end_open-ended.new.connection.name) (g.D.File.FileStore.bytes c.end_open-ended.new.connection.file)
-    (IsEndedUpTo c.args.stop (connection_of g.D.File.FileStore.bytes c.args.connection)) (c.give_back-given.ensures.found tells) (c.end_open-ended.ensures.until told))
+    (IsEndedUpTo c.args.stop (connection_of g.D.File.FileStore.bytes c.args.connection)) before now (c.give_back-given.ensures.found tells) (c.end_open-ended.ensures.until told))

@@ -9,7 +9,7 @@ use Rattle.fj_units.specs.Files.{files_of}
 use Rattle.fj_units.specs.Returning.{IsAsDue}
 use Rattle.fj_units.specs.Units.{connected_of}
 use Rattle.fj_closing.specs.Losing.{is_memory}
-use Rattle.fj_closing.proofs.Returning.{kept_gone, kept_get, closes_desk, lack_at, no_more_memory, unfit_untold}
+use Rattle.fj_closing.proofs.Returning.{kept_gone, kept_get, closes_desk, lack_at, no_more_memory, unfit_fits, unfit_untold}
 use Rattle.fj_closing.proofs.Due.{due_at_desk}
 use Rattle.fj_closing.proofs.Fitting.{own_name}
 use Rattle.fj_closing.specs.Finding.{IsEndedUpTo, IsFound}
@@ -88,13 +88,13 @@ pub returns-else-due-clause-running : goal.returns-else-due-clause-running
 returns-else-due-clause-running g c = λ tells may. absurd (unfit_untold c.close-closed.result c.after.result c.after.ensures may)
 
 pub returns-then-due-clause-back : goal.returns-then-due-clause-back
-returns-then-due-clause-back g c = λ may.
+returns-then-due-clause-back g c = λ fit.
     let due = (bytes_eq-Decides c.as_str.result.now c.as_str-2.result.now).0 (sym c.eq-due.ensures ∙ c.if-due.true) in
     let name = sym c.name.ensures ∙ sym c.as_str.ensures.text ∙ due ∙ c.as_str-2.ensures.text in
     ap (stands c.close-closed.new.names) (sym name) ∙ c.close-closed.ensures.back
 
 pub returns-else-due-clause-back : goal.returns-else-due-clause-back
-returns-else-due-clause-back g c = λ may. absurd (unfit_untold c.close-closed.result c.after.result c.after.ensures may)
+returns-else-due-clause-back g c = λ fit. absurd (unfit_fits c.close-closed.result c.after.result c.after.ensures fit)
 
 pub returns-else-due-clause-fits : goal.returns-else-due-clause-fits
 returns-else-due-clause-fits g c = λ own.
@@ -106,7 +106,7 @@ returns-else-due-clause-fits g c = λ own.
     cc
 
 pub returns-then-due-clause-found : goal.returns-then-due-clause-found
-returns-then-due-clause-found g c = λ tells may was b.
+returns-then-due-clause-found g c = λ tells fit was b.
     let within : c.args.unit.now.slot < length c.args.all.now.items = omega (arith, c.if-at-len.false, c.len.ensures, c.args.all.now.ok.0) in
     let found = slice_get_read c.args.all.now.items (length c.args.all.now.items) c.args.unit.now.slot c.index_mut-it.result.now refl within c.index_mut-it.ensures.value in
     let due = (bytes_eq-Decides c.as_str.result.now c.as_str-2.result.now).0 (sym c.eq-due.ensures ∙ c.if-due.true) in
@@ -118,20 +118,22 @@ returns-then-due-clause-found g c = λ tells may was b.
         has = sym c.in-Some.ensures.value;
         named = name;
         file = λ told.
-            subst (λ n. IsFound (not c.in-Some.connection.modes.scratch) (files_of (g.D.Disk.held c.close-closed.new.disk) n) (IsEndedUpTo c.index_mut-it.result.now.stop (connection_of g.D.File.FileStore.bytes c.in-Some.connection))) name
-            (subst (λ m. IsFound (not m.scratch) (files_of (g.D.Disk.held c.close-closed.new.disk) c.in-Some.connection.name) (IsEndedUpTo c.index_mut-it.result.now.stop (connection_of g.D.File.FileStore.bytes c.in-Some.connection))) c.modes.ensures.value
-            (c.close-closed.ensures.found tells may told));
+            subst (λ n. IsFound (not c.in-Some.connection.modes.scratch) (files_of (g.D.Disk.held c.close-closed.new.disk) n) (IsEndedUpTo c.index_mut-it.result.now.stop (connection_of g.D.File.FileStore.bytes c.in-Some.connection))
+            (g.D.Disk.refusals c.args.disk.now) (g.D.Disk.refusals c.close-closed.new.disk)) name
+            (subst (λ m. IsFound (not m.scratch) (files_of (g.D.Disk.held c.close-closed.new.disk) c.in-Some.connection.name) (IsEndedUpTo c.index_mut-it.result.now.stop (connection_of g.D.File.FileStore.bytes c.in-Some.connection))
+            (g.D.Disk.refusals c.args.disk.now) (g.D.Disk.refusals c.close-closed.new.disk)) c.modes.ensures.value
+            (c.close-closed.ensures.found tells fit told));
       },
     )
 
 pub returns-else-due-clause-found : goal.returns-else-due-clause-found
-returns-else-due-clause-found g c = λ tells may. absurd (unfit_untold c.close-closed.result c.after.result c.after.ensures may)
+returns-else-due-clause-found g c = λ tells fit. absurd (unfit_fits c.close-closed.result c.after.result c.after.ensures fit)
 
 pub returns-then-due-clause-spared : goal.returns-then-due-clause-spared
-returns-then-due-clause-spared g c = λ tells may name other.
+returns-then-due-clause-spared g c = λ tells fit name other.
     let due = (bytes_eq-Decides c.as_str.result.now c.as_str-2.result.now).0 (sym c.eq-due.ensures ∙ c.if-due.true) in
     let own = sym c.name.ensures ∙ sym c.as_str.ensures.text ∙ due ∙ c.as_str-2.ensures.text in
     c.close-closed.ensures.others tells name (λ same. other (same ∙ own))
 
 pub returns-else-due-clause-spared : goal.returns-else-due-clause-spared
-returns-else-due-clause-spared g c = λ tells may. absurd (unfit_untold c.close-closed.result c.after.result c.after.ensures may)
+returns-else-due-clause-spared g c = λ tells fit. absurd (unfit_fits c.close-closed.result c.after.result c.after.ensures fit)

@@ -36,5 +36,8 @@ returns-clause-own g c = λ tells. never_falls _ (g.D.Disk.refusals c.args.disk.
 
 pub returns-clause-found : goal.returns-clause-found
 returns-clause-found g c = λ tells.
-    found_back (g.D.Disk.held c.args.disk.now) (g.D.Disk.held c.close_file.new.disk) c.args.connection.name (g.D.File.FileStore.bytes c.args.connection.file) _ c.args.keep
-    c.close_file.result (c.close_file.ensures.back tells) (c.close_file.ensures.err tells)
+    found_back (g.D.Disk.held c.args.disk.now) (g.D.Disk.held c.close_file.new.disk) c.args.connection.name (g.D.File.FileStore.bytes c.args.connection.file) _
+    (g.D.Disk.refusals c.args.disk.now) (g.D.Disk.refusals c.close_file.new.disk) c.args.keep c.close_file.result (c.close_file.ensures.back tells) (c.close_file.ensures.err tells)
+    (due_back (g.D.Disk.held c.args.disk.now) (g.D.Disk.held c.close_file.new.disk) c.args.connection.name (g.D.File.FileStore.bytes c.args.connection.file) _ c.args.keep
+    c.close_file.result (g.D.Disk.refusals c.args.disk.now) (g.D.Disk.refusals c.close_file.new.disk)
+    (c.close_file.ensures.back tells) (c.close_file.ensures.err tells) c.close_file.ensures.kept (c.close_file.ensures.own tells) c.args.connection.name)

@@ -30,13 +30,13 @@ returns-clause-fits g c = λ fit.
     c.close_units.ensures.fits each.0 each.1
 
 pub returns-clause-others : goal.returns-clause-others
-returns-clause-others g c = λ may desks holds.
-    others_run g.D.File.FileStore.told g.D.File.FileStore.bytes g.D.File.FileStore.count c.args.slots c.what_remains-all.result.items c.args.units.now desks c.what_remains-all.ensures.each holds (c.close_units.ensures.owned may)
+returns-clause-others g c = λ fit desks holds.
+    others_run g.D.File.FileStore.told g.D.File.FileStore.bytes g.D.File.FileStore.count c.args.slots c.what_remains-all.result.items c.args.units.now desks c.what_remains-all.ensures.each holds (c.close_units.ensures.owned fit)
 
 pub returns-clause-found : goal.returns-clause-found
-returns-clause-found g c = λ tells may.
+returns-clause-found g c = λ tells fit.
     slots_leave g.D.File.FileStore.told g.D.File.FileStore.bytes g.D.File.FileStore.count c.args.slots.slots c.what_remains-all.result.items c.what_remains-all.ensures.each
-    (files_of (g.D.Disk.held c.close_units.new.disk)) c.args.units.now (c.close_units.ensures.found tells may)
+    (files_of (g.D.Disk.held c.close_units.new.disk)) (g.D.Disk.refusals c.args.disk.now) (g.D.Disk.refusals c.close_units.new.disk) c.args.units.now (c.close_units.ensures.found tells fit)
 
 pub returns-clause-whole : goal.returns-clause-whole
 returns-clause-whole g c = λ hold files.

@@ -4,9 +4,9 @@ use Rattle.fj_desk.specs.Desking.{all_left}
 use Rattle.fj_units.specs.Files.{files_of}
 use Rattle.fj_units.specs.Returning.{IsAsDue}
 use Rattle.fj_closing.specs.Closing.{IfClear}
-use Rattle.fj_closing.specs.Losing.{may_tell}
+use Rattle.fj_closing.specs.Losing.{may_tell, all_fits}
 use Rattle.fj_items.specs.declared.lost.Lost.TheVariants.{Sink, Disk, Unfit}
-use Rattle.fj_job.proofs.Settling.{none_in_use, empty_by, where_ok, where_none, before, lost_disk, lost_alone, not_sink, not_disk, both_fit, never_unfit}
+use Rattle.fj_job.proofs.Settling.{none_in_use, empty_by, where_ok, where_none, before, lost_disk, lost_alone, not_sink, not_disk, both_fit, all_fit, never_unfit}
 use Rattle.fj_slot.specs.Sound.{IsSound}
 use Rattle.fj_bay.specs.Bay.{Bay as PlainBay}
 use Rattle.fj_bay.specs.Jobs.{Job as PlainJob}
@@ -70,14 +70,14 @@ returns-in-None-clause-own g c = λ t. let a = c.finish-closed.ensures.own t in 
 
 pub returns-in-Some-clause-due : goal.returns-in-Some-clause-due
 returns-in-Some-clause-due g c = λ t e desks h seats named name clear.
-    let fit = both_fit _ c.finish-closed.result c.give_kept-given.result c.in-Some.lost c.give_kept-given.ensures.unfit c.in-Some.ensures.fits c.in-Some.ensures.ok c.first_lost.ensures.fits e in
+    let fit = both_fit _ c.finish-closed.result c.give_kept-given.result c.in-Some.lost c.give_kept-given.ensures.unfit c.in-Some.ensures.told c.in-Some.ensures.ok c.first_lost.ensures.told e in
     let same = where_ok _ _ fit.0 c.give_kept-given.ensures.none in
     subst (λ d. IsAsDue (g.D.Disk.refusals c.args.disk.now) (g.D.Disk.refusals d) (files_of (g.D.Disk.held d) name) (all_left desks c.args.left.now.core.units (files_of (g.D.Disk.held c.args.disk.now)) name)) (sym same)
     (c.finish-closed.ensures.due t fit.1 desks h seats named name (inl (subst (λ d. set.contains (g.D.Disk.held d).hurt name ≡ false) same clear)))
 
 pub returns-in-Some-clause-running : goal.returns-in-Some-clause-running
 returns-in-Some-clause-running g c = λ t e.
-    let fit = both_fit _ c.finish-closed.result c.give_kept-given.result c.in-Some.lost c.give_kept-given.ensures.unfit c.in-Some.ensures.fits c.in-Some.ensures.ok c.first_lost.ensures.fits e in
+    let fit = both_fit _ c.finish-closed.result c.give_kept-given.result c.in-Some.lost c.give_kept-given.ensures.unfit c.in-Some.ensures.told c.in-Some.ensures.ok c.first_lost.ensures.told e in
     subst (λ d. IfClear (g.D.Disk.held d) c.args.left.now.core.units c.args.slots.slots (λ l. l.halt ≡ None)) (sym (where_ok _ _ fit.0 c.give_kept-given.ensures.none)) (c.finish-closed.ensures.running t fit.1)
 
 pub returns-in-None-clause-due : goal.returns-in-None-clause-due
@@ -97,33 +97,33 @@ returns-in-None-clause-running g c = λ t e.
 pub returns-in-Some-clause-others : goal.returns-in-Some-clause-others
 returns-in-Some-clause-others g c = λ e.
     c.finish-closed.ensures.others
-    (both_fit _ c.finish-closed.result c.give_kept-given.result c.in-Some.lost c.give_kept-given.ensures.unfit c.in-Some.ensures.fits c.in-Some.ensures.ok c.first_lost.ensures.fits e).1
+    (all_fit c.first_lost.result c.finish-closed.result c.give_kept-given.result c.in-Some.lost c.give_kept-given.ensures.unfit c.in-Some.ensures.fit c.in-Some.ensures.ok c.first_lost.ensures.fit e).1
 
 pub returns-in-None-clause-others : goal.returns-in-None-clause-others
 returns-in-None-clause-others g c = λ e.
-    c.finish-closed.ensures.others (ap may_tell (where_none _ _ c.in-None.ensures.none.0 c.first_lost.ensures.none).1)
+    c.finish-closed.ensures.others (ap all_fits (where_none _ _ c.in-None.ensures.none.0 c.first_lost.ensures.none).1)
 
 pub returns-in-Some-clause-found : goal.returns-in-Some-clause-found
 returns-in-Some-clause-found g c = λ t e.
-    let fit = both_fit _ c.finish-closed.result c.give_kept-given.result c.in-Some.lost c.give_kept-given.ensures.unfit c.in-Some.ensures.fits c.in-Some.ensures.ok c.first_lost.ensures.fits e in
-    subst (λ d. OfEach c.args.left.now.core.units c.args.slots.slots (λ u l. (s : PlainBay) (ts : List PlainJob) → IsSound (bay_meaning g.D.File.FileStore.told g.D.File.FileStore.bytes g.D.File.FileStore.count) s ts l → IsLeftBehind l s ts u.name (files_of (g.D.Disk.held d) u.name))) (sym (where_ok _ _ fit.0 c.give_kept-given.ensures.none)) (c.finish-closed.ensures.found t fit.1)
+    let fit = all_fit c.first_lost.result c.finish-closed.result c.give_kept-given.result c.in-Some.lost c.give_kept-given.ensures.unfit c.in-Some.ensures.fit c.in-Some.ensures.ok c.first_lost.ensures.fit e in
+    subst (λ d. OfEach c.args.left.now.core.units c.args.slots.slots (λ u l. (s : PlainBay) (ts : List PlainJob) → IsSound (bay_meaning g.D.File.FileStore.told g.D.File.FileStore.bytes g.D.File.FileStore.count) s ts l → IsLeftBehind l s ts u.name (files_of (g.D.Disk.held d) u.name) (g.D.Disk.refusals c.args.disk.now) (g.D.Disk.refusals d))) (sym (where_ok _ _ fit.0 c.give_kept-given.ensures.none)) (c.finish-closed.ensures.found t fit.1)
 
 pub returns-in-None-clause-found : goal.returns-in-None-clause-found
 returns-in-None-clause-found g c = λ t e.
     let none = c.in-None.ensures.none in
     let closed = (where_none _ _ none.0 c.first_lost.ensures.none).1 in
-    subst (λ d. OfEach c.args.left.now.core.units c.args.slots.slots (λ u l. (s : PlainBay) (ts : List PlainJob) → IsSound (bay_meaning g.D.File.FileStore.told g.D.File.FileStore.bytes g.D.File.FileStore.count) s ts l → IsLeftBehind l s ts u.name (files_of (g.D.Disk.held d) u.name))) (sym (where_ok _ _ none.1 c.give_kept-given.ensures.none)) (c.finish-closed.ensures.found t (ap may_tell closed))
+    subst (λ d. OfEach c.args.left.now.core.units c.args.slots.slots (λ u l. (s : PlainBay) (ts : List PlainJob) → IsSound (bay_meaning g.D.File.FileStore.told g.D.File.FileStore.bytes g.D.File.FileStore.count) s ts l → IsLeftBehind l s ts u.name (files_of (g.D.Disk.held d) u.name) (g.D.Disk.refusals c.args.disk.now) (g.D.Disk.refusals d))) (sym (where_ok _ _ none.1 c.give_kept-given.ensures.none)) (c.finish-closed.ensures.found t (ap all_fits closed))
 
 pub returns-in-Some-clause-spared : goal.returns-in-Some-clause-spared
 returns-in-Some-clause-spared g c = λ t e.
-    let fit = both_fit _ c.finish-closed.result c.give_kept-given.result c.in-Some.lost c.give_kept-given.ensures.unfit c.in-Some.ensures.fits c.in-Some.ensures.ok c.first_lost.ensures.fits e in
+    let fit = all_fit c.first_lost.result c.finish-closed.result c.give_kept-given.result c.in-Some.lost c.give_kept-given.ensures.unfit c.in-Some.ensures.fit c.in-Some.ensures.ok c.first_lost.ensures.fit e in
     subst (λ d. AreSpared c.args.left.now.core.units (g.D.Disk.held c.args.disk.now) (g.D.Disk.held d)) (sym (where_ok _ _ fit.0 c.give_kept-given.ensures.none)) (c.finish-closed.ensures.spared t fit.1)
 
 pub returns-in-None-clause-spared : goal.returns-in-None-clause-spared
 returns-in-None-clause-spared g c = λ t e.
     let none = c.in-None.ensures.none in
     let closed = (where_none _ _ none.0 c.first_lost.ensures.none).1 in
-    subst (λ d. AreSpared c.args.left.now.core.units (g.D.Disk.held c.args.disk.now) (g.D.Disk.held d)) (sym (where_ok _ _ none.1 c.give_kept-given.ensures.none)) (c.finish-closed.ensures.spared t (ap may_tell closed))
+    subst (λ d. AreSpared c.args.left.now.core.units (g.D.Disk.held c.args.disk.now) (g.D.Disk.held d)) (sym (where_ok _ _ none.1 c.give_kept-given.ensures.none)) (c.finish-closed.ensures.spared t (ap all_fits closed))
 
 pub returns-then-not-is_empty-clause-whole : goal.returns-then-not-is_empty-clause-whole
 returns-then-not-is_empty-clause-whole g c = λ lost kept hold files e.

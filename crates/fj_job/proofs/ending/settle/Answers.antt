@@ -30,6 +30,7 @@ returns g c = record {
     ending = ap (λ l. l.ending) c.give_back-settled.ensures.left ∙ c.into_left-left.ensures.ending;
     over = ap (λ l. l.over) c.give_back-settled.ensures.left ∙ c.into_left-left.ensures.over;
     at = ap (λ l. l.at) c.give_back-settled.ensures.left ∙ c.into_left-left.ensures.at;
+    lost = ap (λ l. l.lost) c.give_back-settled.ensures.left ∙ c.into_left-left.ensures.lost;
     nothing = λ s. sym c.into_left-left.ensures.lost ∙ where_ok _ _ s c.give_back-settled.ensures.nothing;
     files = λ t s desks h seats.
         let us = ap (λ k. k.units) c.into_left-left.ensures.core in
@@ -45,7 +46,7 @@ returns g c = record {
     running = λ t e. subst (λ us. IfClear (g.D.Disk.held c.give_back-settled.new.disk) us c.args.slots.slots (λ l. l.halt ≡ None)) (ap (λ k. k.units) c.into_left-left.ensures.core) (c.give_back-settled.ensures.running t e);
     others = λ e desks h. subst (λ us. OthersRun us c.args.slots.slots desks) (ap (λ k. k.units) c.into_left-left.ensures.core) (c.give_back-settled.ensures.others e desks h);
     found = λ t e. subst (λ us. OfEach us c.args.slots.slots (λ u l. (s : PlainBay) (ts : List PlainJob) → IsSound (bay_meaning g.D.File.FileStore.told g.D.File.FileStore.bytes g.D.File.FileStore.count) s ts l
-        → IsLeftBehind l s ts u.name (files_of (g.D.Disk.held c.give_back-settled.new.disk) u.name))) (ap (λ k. k.units) c.into_left-left.ensures.core) (c.give_back-settled.ensures.found t e);
+        → IsLeftBehind l s ts u.name (files_of (g.D.Disk.held c.give_back-settled.new.disk) u.name) (g.D.Disk.refusals c.args.disk.now) (g.D.Disk.refusals c.give_back-settled.new.disk))) (ap (λ k. k.units) c.into_left-left.ensures.core) (c.give_back-settled.ensures.found t e);
     spared = λ t e. subst (λ us. AreSpared us (g.D.Disk.held c.args.disk.now) (g.D.Disk.held c.give_back-settled.new.disk)) (ap (λ k. k.units) c.into_left-left.ensures.core) (c.give_back-settled.ensures.spared t e);
     own = c.give_back-settled.ensures.own;
     in_use = c.give_back-settled.ensures.in_use;
