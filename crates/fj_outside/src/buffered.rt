@@ -44,7 +44,7 @@ impl<F: FileStore> Buffered<F> {
 
     /// The file in it, borrowed.
     pub fn get_ref(&self) -> &F
-        ensures { result ≡ file_in self.now }
+        ensures { result.now ≡ file_in self.now }
     {
         &self.file
     }
