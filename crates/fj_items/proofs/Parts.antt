@@ -34,14 +34,6 @@ piece_count variables (operand.Literal kind value) piece h = ap size_of h
 piece_count variables (operand.One p) piece h = run_count (operand_places variables (operand.One p)) piece h
 piece_count variables (operand.Whole var) piece h = run_count (operand_places variables (operand.Whole var)) piece h
 
-run_ready : (s : Storage) (ps : List Place) (piece : Piece) → IsRun ps piece → AreHome s ps → IsReady s piece
-run_ready s ps piece h home = subst (IsReady s) (sym h.1) (subst (AreHome s) (sym h.2) home)
-
-pub piece_ready : (variables : List Variable) (s : Storage) (item : Operand) (piece : Piece) → IsPiece variables item piece → AreHome s (operand_places variables item) → IsReady s piece
-piece_ready variables s (operand.Literal kind value) piece h home = subst (IsReady s) (sym h) tt
-piece_ready variables s (operand.One p) piece h home = run_ready s (operand_places variables (operand.One p)) piece h home
-piece_ready variables s (operand.Whole var) piece h home = run_ready s (operand_places variables (operand.Whole var)) piece h home
-
 -- ---- all pieces
 
 run_place : (ps qs : List Place) (piece : Piece) (pieces : List Piece) → IsRun ps piece → places_among pieces ≡ qs → places_among (piece ∷ pieces) ≡ ps ++ qs
@@ -90,13 +82,3 @@ some_own (run ∷ runs) kind v rest = some_own runs kind v rest
 -- a value of its own is not among runs
 pub no_own : (runs all : List Run) (kind : Kind) (v : Value) (rest : List Piece) → map Places runs ++ Own kind v ∷ rest ≡ map Places all → ⊥
 no_own runs all kind v rest e = false≢true (sym (none_own all) ∙ sym (ap (list_any is_own) e) ∙ some_own runs kind v rest)
-
--- a piece whose run has no place that is moved out
-pub ready_is : (s : Storage) (run : Run) (piece : Piece) (b : Bool) → piece ≡ Places run → b ≡ list_any (λ place. is_none (value_at s place)) (places_of run) → IsTrue (not b) ↔ IsReady s piece
-ready_is s run piece b is made =
-    let go : (x : Bool) → x ≡ list_any (λ place. is_none (value_at s place)) (places_of run) → IsTrue (not x) ↔ IsReady s (Places run) =
-    λ x. elim x as (λ z. z ≡ list_any (λ place. is_none (value_at s place)) (places_of run) → IsTrue (not z) ↔ IsReady s (Places run)) [
-      | true ↦ λ e. (λ h. absurd (false≢true h), λ home. absurd (false≢true (sym (e ∙ out_none (value_at s) (places_of run) home))))
-      | false ↦ λ e. (λ h. none_out (value_at s) (places_of run) (sym e), λ home. refl)
-    ] in
-    subst (λ p. IsTrue (not b) ↔ IsReady s p) (sym is) (go b made)
