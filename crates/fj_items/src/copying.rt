@@ -57,7 +57,8 @@ pub(crate) fn size_copied(
     let run = Run::of_place(place);
     let mut pieces = VecDeque::new(alloc);
     pieces.push_back(Piece::Places(run))?;
-    let mut copied = store.copy_of(alloc, pieces, 1)?;
-    let moved = copied.moved.take(alloc)?;
+    let copied = store.copy_of(alloc, pieces, 1)?;
+    let mut load = copied.moved;
+    let moved = load.take(alloc)?;
     Ok(Some(moved))
 }

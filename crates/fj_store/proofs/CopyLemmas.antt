@@ -154,10 +154,6 @@ unused_run number kind values moved moved' run mixed mixed' is step free unmixed
     let some : run.var ≡ no_variable → ⊥ = λ e. elim (eqb_tells run.var no_variable) [ inl same ↦ false≢true (sym parts.1 ∙ same.0) | inr differ ↦ differ.1 e ] in
     subst (λ (m : Moved). AreUnused number m.cells) (sym step) (unused_places number kind values run.var run.first run.count moved some (free parts.0))
 
--- an own value that no cell has
-pub own_lost : (number : ℕ) (cells : List Cell) (kind : Kind) (v : Value) → AreUnused number cells → length cells ≡ position_or_len (is_at (own_cell number kind v).place) cells
-own_lost number cells kind v free = sym (free (own_cell number kind v).place refl (omega arith))
-
 pub none_used : (cells : List Cell) → cells ≡ [] → AreUnused 1 cells
 none_used cells none p var high = ap (position_or_len (is_at p)) none ∙ sym (ap length none)
 
