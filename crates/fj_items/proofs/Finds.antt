@@ -26,7 +26,7 @@ use Rattle.fj_statement.specs.declared.statement.Transfer.{Transfer}
 use Rattle.fj_store.specs.declared.piece.Piece.{Piece}
 use Rattle.fj_store.specs.declared.piece.Piece.TheVariants.{Places, Own}
 use Rattle.fj_store.specs.declared.run.Run.{Run}
-use Rattle.fj_store.specs.Pieces.{cells_from, places_among, sizes}
+use Rattle.fj_store.specs.Pieces.{cells_from, sizes}
 use Rattle.fj_store.specs.Places.{is_among, places_of as run_places_of, places_in}
 use Rattle.fj_store.specs.Storage.{Storage, value_at, cell_at, without, values_of}
 use Rattle.fj_store.specs.Variables.{Variables, moved_of}
@@ -44,9 +44,8 @@ use Rattle.fj_items.specs.declared.gathering.Gathered.{Gathered}
 use Rattle.fj_items.specs.declared.lost.Lost.{Lost}
 use Rattle.fj_items.proofs.Cells.{IsCounted, items_counted, HasRun, runs_of}
 use Rattle.fj_items.proofs.Fits.{items_few, all_front, all_rest, output_defined}
-use Rattle.fj_items.proofs.Gathers.{run_places}
 use Rattle.fj_items.proofs.Limits.{open_low}
-use Rattle.fj_items.proofs.Parts.{places_are, runs_are}
+use Rattle.fj_items.proofs.Parts.{runs_are}
 
 -- ---- an error that is handed on
 

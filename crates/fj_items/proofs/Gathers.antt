@@ -9,7 +9,7 @@ use Rattle.fj_list.specs.declared.moved.Moved.{Moved}
 use Rattle.fj_store.specs.declared.piece.Piece.{Piece}
 use Rattle.fj_store.specs.declared.piece.Piece.TheVariants.{Places, Own}
 use Rattle.fj_store.specs.declared.run.Run.{Run}
-use Rattle.fj_store.specs.Pieces.{own_cell, cells_from, cells_in, places_among, size_of, sizes}
+use Rattle.fj_store.specs.Pieces.{own_cell, cells_from, cells_in, size_of, sizes}
 use Rattle.fj_store.specs.Places.{counted_from, places_of, places_in}
 use Rattle.fj_store.specs.Storage.{Storage, cell_at, values_of}
 use Rattle.fj_store.specs.Variables.{Variables, moved_of}
@@ -133,10 +133,6 @@ moved_is variables s t g moved kinds h made = made ∙ ap moved_of (cells_are va
 pub run_cells_are : (s : Storage) (n : ℕ) (runs : List Run) → cells_from s n (map Places runs) ≡ map (cell_at s) (places_in runs)
 run_cells_are s n [] = refl
 run_cells_are s n (run ∷ runs) = ap (λ cs. map (cell_at s) (places_of run) ++ cs) (run_cells_are s n runs) ∙ sym (map-append (cell_at s) (places_of run) (places_in runs))
-
-pub run_places : (runs : List Run) → places_among (map Places runs) ≡ places_in runs
-run_places [] = refl
-run_places (run ∷ runs) = ap (λ ps. places_of run ++ ps) (run_places runs)
 
 pub run_sizes : (runs : List Run) → sizes (map Places runs) ≡ length (places_in runs)
 run_sizes [] = refl

@@ -1,4 +1,4 @@
--- Pieces of items, whose places are there.
+-- Pieces of items.
 use Rattle.std.proofs.Common.{◌≡◌, ◌↔◌, Bool, IsTrue, not, is_none, true, false, List, [], ◌∷◌, ◌++◌, length, map, All, refl, sym, ap, subst, ◌∙◌}
 use Rattle.std.specs.List.{flat_map, list_any}
 use Rattle.std.proofs.lemmas.Bool.{false≢true}
@@ -13,13 +13,11 @@ use Rattle.fj_statement.specs.declared.statement.Operand.TheVariants as operand
 use Rattle.fj_store.specs.declared.piece.Piece.{Piece}
 use Rattle.fj_store.specs.declared.piece.Piece.TheVariants.{Places, Own}
 use Rattle.fj_store.specs.declared.run.Run.{Run}
-use Rattle.fj_store.specs.Pieces.{places_among, size_of}
+use Rattle.fj_store.specs.Pieces.{size_of}
 use Rattle.fj_store.specs.Places.{places_of}
-use Rattle.fj_store.specs.Storage.{Storage, value_at}
 use Rattle.fj_store.proofs.PlaceLemmas.{length-counted_from}
-use Rattle.fj_store.proofs.RunLemmas.{none_out, out_none}
 use Rattle.fj_plain.specs.Items.{operand_places}
-use Rattle.fj_items.specs.Gathering.{IsPiece, ArePieces, IsReady, AreHome, count_of}
+use Rattle.fj_items.specs.Gathering.{IsPiece, ArePieces, count_of}
 
 -- ---- one piece
 
@@ -35,20 +33,6 @@ piece_count variables (operand.One p) piece h = run_count (operand_places variab
 piece_count variables (operand.Whole var) piece h = run_count (operand_places variables (operand.Whole var)) piece h
 
 -- ---- all pieces
-
-run_place : (ps qs : List Place) (piece : Piece) (pieces : List Piece) → IsRun ps piece → places_among pieces ≡ qs → places_among (piece ∷ pieces) ≡ ps ++ qs
-run_place ps qs piece pieces h rest = ap (λ p. places_among (p ∷ pieces)) h.1 ∙ ap (λ xs. xs ++ places_among pieces) h.2 ∙ ap (λ xs. ps ++ xs) rest
-
--- their places are those of the items
-pub places_are : (variables : List Variable) (items : List Operand) (pieces : List Piece) → ArePieces variables items pieces → places_among pieces ≡ flat_map (operand_places variables) items
-places_are variables [] [] h = refl
-places_are variables [] (p ∷ ps) h = absurd h
-places_are variables (x ∷ xs) [] h = absurd h
-places_are variables (operand.Literal kind value ∷ items) (piece ∷ pieces) h = ap (λ p. places_among (p ∷ pieces)) h.0 ∙ places_are variables items pieces h.1
-places_are variables (operand.One p ∷ items) (piece ∷ pieces) h =
-    run_place (operand_places variables (operand.One p)) (flat_map (operand_places variables) items) piece pieces h.0 (places_are variables items pieces h.1)
-places_are variables (operand.Whole var ∷ items) (piece ∷ pieces) h =
-    run_place (operand_places variables (operand.Whole var)) (flat_map (operand_places variables) items) piece pieces h.0 (places_are variables items pieces h.1)
 
 abbrev AreRuns : List Piece → Type 0
 AreRuns pieces = (runs : List Run) × (pieces ≡ map Places runs)

@@ -24,7 +24,7 @@ use Rattle.fj_statement.specs.declared.statement.Statement.TheVariants.{Transfer
 use Rattle.fj_store.specs.declared.piece.Piece.{Piece}
 use Rattle.fj_store.specs.declared.piece.Piece.TheVariants.{Places}
 use Rattle.fj_store.specs.declared.run.Run.{Run}
-use Rattle.fj_store.specs.Pieces.{cells_in, places_among, sizes}
+use Rattle.fj_store.specs.Pieces.{cells_in, sizes}
 use Rattle.fj_store.specs.Places.{same_place, is_among, places_of, places_in}
 use Rattle.fj_store.specs.Storage.{Storage, value_at, cell_at, emptied, without, values_of}
 use Rattle.fj_store.specs.Tables.{with_element, with_cells}
@@ -41,10 +41,10 @@ use Rattle.fj_plain.specs.Needs.{number_given}
 use Rattle.fj_plain.specs.Statement.{control_by, control_in}
 use Rattle.fj_plain.specs.Telling.{with_size}
 use Rattle.fj_plain.specs.Transfers.{layout_of, moved_in}
-use Rattle.fj_items.specs.Gathering.{AreHome, IsGathered, all_items}
+use Rattle.fj_items.specs.Gathering.{IsGathered, all_items}
 use Rattle.fj_items.specs.Kinds.{kinds_of}
 use Rattle.fj_items.specs.declared.gathering.Gathered.{Gathered}
-use Rattle.fj_items.proofs.Gathers.{cell_same, cells_are, run_cells_are, run_places, run_sizes}
+use Rattle.fj_items.proofs.Gathers.{cell_same, cells_are, run_cells_are, run_sizes}
 use Rattle.fj_items.proofs.Values.{shown, read_is}
 
 -- ---- places that are made undefined, whether they stand twice or not
