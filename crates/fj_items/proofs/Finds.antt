@@ -1,15 +1,12 @@
 -- What a transfer finds is enough for it.
-use Rattle.std.proofs.Common.{◌≡◌, ℕ, zero, suc, ◌+◌, ◌<◌, ◌≤◌, ◌^◌, Bool, true, false, cond, List, [], ◌∷◌, ◌++◌, length, map, take, get_or, Option, Some, None, Result, Ok, Err, IfOk, OnOk, IfSome, IsSome, All, slice_get, sum_by, refl, sym, ap, subst, ◌∙◌, arith, append_assoc, length-append}
+use Rattle.std.proofs.Common.{◌≡◌, ℕ, ◌+◌, ◌<◌, ◌≤◌, ◌^◌, Bool, true, false, List, [], ◌∷◌, ◌++◌, length, map, take, get_or, Option, Some, None, Result, Ok, Err, IfOk, OnOk, All, slice_get, sum_by, refl, sym, ap, subst, ◌∙◌, arith, append_assoc, length-append}
 use Rattle.std.specs.Option.{option_map, option_map_or}
 use Rattle.std.specs.List.{flat_map}
 use Rattle.std.proofs.lemmas.List.{length-map, map-append, take_more}
 use Rattle.std.proofs.lemmas.List.Elements.{All-nil, All-cons, All-head, All-tail, All-append}
 use Rattle.std.proofs.lemmas.List.Sums.{sum_by_push, sum_by-take-le}
-use Rattle.std.proofs.lemmas.Grind.{flat_map-append}
 use Rattle.fj_value.specs.declared.condition.Condition.{Condition}
-use Rattle.fj_value.specs.declared.place.Place.{Place}
 use Rattle.fj_value.specs.declared.value.Cell.{Cell}
-use Rattle.fj_value.specs.declared.value.Value.{Value}
 use Rattle.fj_line.specs.Actions.{Action}
 use Rattle.fj_list.specs.declared.moved.Moved.{Moved}
 use Rattle.fj_namelist.specs.GroupText.{IsWithin}
@@ -27,15 +24,15 @@ use Rattle.fj_store.specs.declared.piece.Piece.{Piece}
 use Rattle.fj_store.specs.declared.piece.Piece.TheVariants.{Places, Own}
 use Rattle.fj_store.specs.declared.run.Run.{Run}
 use Rattle.fj_store.specs.Pieces.{cells_from, sizes}
-use Rattle.fj_store.specs.Places.{is_among, places_of as run_places_of, places_in}
-use Rattle.fj_store.specs.Storage.{Storage, value_at, cell_at, without, values_of}
+use Rattle.fj_store.specs.Places.{places_of as run_places_of}
+use Rattle.fj_store.specs.Storage.{Storage, cell_at}
 use Rattle.fj_store.specs.Variables.{Variables, moved_of}
-use Rattle.fj_store.proofs.LawLemmas.{out_at, all_distinct}
+use Rattle.fj_store.proofs.LawLemmas.{all_distinct}
 use Rattle.fj_store.proofs.PlaceLemmas.{length-counted_from}
 use Rattle.fj_store.proofs.StoreLemmas.{whole}
 use Rattle.fj_plain.specs.Items as plain
 use Rattle.fj_plain.specs.Items.{operand_places, places_of}
-use Rattle.fj_plain.specs.Needs.{group_places, transfer_places, if_given}
+use Rattle.fj_plain.specs.Needs.{group_places, if_given}
 use Rattle.fj_plain.specs.State.{Output, elements}
 use Rattle.fj_plain.specs.Transfers.{member_of, members_of, layout_of, moved_in, printed_to}
 use Rattle.fj_items.specs.Fitting.{IsCountable, Finds}
@@ -43,7 +40,7 @@ use Rattle.fj_items.specs.Gathering.{IsGathered, IsNumbered, all_items, members_
 use Rattle.fj_items.specs.declared.gathering.Gathered.{Gathered}
 use Rattle.fj_items.specs.declared.lost.Lost.{Lost}
 use Rattle.fj_items.proofs.Cells.{IsCounted, items_counted, HasRun, runs_of}
-use Rattle.fj_items.proofs.Fits.{items_few, all_front, all_rest, output_defined}
+use Rattle.fj_items.proofs.Fits.{items_few, output_defined}
 use Rattle.fj_items.proofs.Limits.{open_low}
 use Rattle.fj_items.proofs.Parts.{runs_are}
 

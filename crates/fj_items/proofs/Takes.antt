@@ -1,9 +1,8 @@
 -- Items that are moved out of the variables.
-use Rattle.std.proofs.Common.{◌≡◌, ℕ, ◌+◌, ◌<◌, ◌≤◌, eqb, cond, not, Bool, true, false, List, [], ◌∷◌, ◌++◌, length, map, Option, Some, None, option_map, Result, Ok, Err, IfOk, IfSome, IsSome, refl, sym, ap, subst, ◌∙◌, inl, inr, arith}
+use Rattle.std.proofs.Common.{◌≡◌, ℕ, ◌+◌, ◌≤◌, eqb, cond, not, Bool, true, false, List, [], ◌∷◌, ◌++◌, length, map, Option, Some, None, option_map, Result, Ok, Err, IfOk, refl, sym, ap, subst, ◌∙◌, inl, inr, arith}
 use Rattle.std.proofs.Math.Path.{fun_ext}
 use Rattle.std.proofs.lemmas.Bool.{false≢true}
 use Rattle.std.proofs.lemmas.Bool.Decides.{nat_tests}
-use Rattle.std.proofs.lemmas.List.Elements.{All-push}
 use Rattle.std.specs.Prelude.{ℤ, unwrap_or}
 use Rattle.std.specs.List.{position_or_len}
 use Rattle.std.specs.Option.{option_map_or}
@@ -25,11 +24,10 @@ use Rattle.fj_store.specs.declared.piece.Piece.{Piece}
 use Rattle.fj_store.specs.declared.piece.Piece.TheVariants.{Places}
 use Rattle.fj_store.specs.declared.run.Run.{Run}
 use Rattle.fj_store.specs.Pieces.{cells_in, sizes}
-use Rattle.fj_store.specs.Places.{same_place, is_among, places_of, places_in}
-use Rattle.fj_store.specs.Storage.{Storage, value_at, cell_at, emptied, without, values_of}
+use Rattle.fj_store.specs.Places.{same_place, places_of, places_in}
+use Rattle.fj_store.specs.Storage.{Storage, cell_at, emptied, without, values_of}
 use Rattle.fj_store.specs.Tables.{with_element, with_cells}
 use Rattle.fj_store.specs.Variables.{Variables, is_at, undefined_at, with_item, moved_from, moved_of}
-use Rattle.fj_store.proofs.LawLemmas.{out_at}
 use Rattle.fj_store.proofs.PlaceLemmas.{length-counted_from}
 use Rattle.fj_store.proofs.StoreLemmas.{cells_more}
 use Rattle.fj_store.proofs.TableLemmas.{places_tell, mapped_with, with_twice, with_swap}
@@ -39,13 +37,12 @@ use Rattle.fj_transfer.specs.declared.transfer.Layout.{Layout}
 use Rattle.fj_plain.specs.Items as plain
 use Rattle.fj_plain.specs.Needs.{number_given}
 use Rattle.fj_plain.specs.Statement.{control_by, control_in}
-use Rattle.fj_plain.specs.Telling.{with_size}
 use Rattle.fj_plain.specs.Transfers.{layout_of, moved_in}
 use Rattle.fj_items.specs.Gathering.{IsGathered, all_items}
 use Rattle.fj_items.specs.Kinds.{kinds_of}
 use Rattle.fj_items.specs.declared.gathering.Gathered.{Gathered}
 use Rattle.fj_items.proofs.Gathers.{cell_same, cells_are, run_cells_are, run_sizes}
-use Rattle.fj_items.proofs.Values.{shown, read_is}
+use Rattle.fj_items.proofs.Values.{shown}
 
 -- ---- places that are made undefined, whether they stand twice or not
 

@@ -2,7 +2,6 @@
 use Rattle.std.specs.Prelude.{ℕ, ◌≡◌, ◌<◌, ◌^◌, List, [], ◌∷◌, ◌++◌, length, map}
 use Rattle.fj_list.specs.Moved.{AreDistinct, IsOrdered}
 use Rattle.fj_list.specs.declared.moved.Moved.{Moved}
-use Rattle.fj_value.specs.declared.place.Place.{Place}
 use Rattle.fj_store.specs.declared.piece.Piece.{Piece}
 use Rattle.fj_store.specs.declared.piece.Piece.TheVariants.{Places, Own}
 use Rattle.fj_store.specs.declared.run.Run.{Run}

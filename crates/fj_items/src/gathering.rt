@@ -58,11 +58,7 @@ fn size_of(piece: &Piece) -> u32
 }
 
 /// One item more.
-fn add_item(
-    variables: &Variables,
-    item: &Operand,
-    gathered: &mut Gathered,
-) -> Result<(), Lost>
+fn add_item(variables: &Variables, item: &Operand, gathered: &mut Gathered) -> Result<(), Lost>
     ensures more { (before : List Operand) → IsGathered variables.now before gathered.old → OnOk result (IsGathered variables.now (before ++ item.now ∷ []) gathered.new) }
     ensures size { OnOk result (gathered.new.size ≡ gathered.old.size + count_of variables.now item.now) }
     ensures fits { gathered.old.size + count_of variables.now item.now < 2 ^ 32 → result ≢ Err Lost.Unfit }
@@ -82,11 +78,7 @@ fn add_item(
 }
 
 /// Items more.
-fn add_items(
-    variables: &Variables,
-    items: &[Operand],
-    gathered: &mut Gathered,
-) -> Result<(), Lost>
+fn add_items(variables: &Variables, items: &[Operand], gathered: &mut Gathered) -> Result<(), Lost>
     ensures more { (before : List Operand) → IsGathered variables.now before gathered.old → OnOk result (IsGathered variables.now (before ++ items.now) gathered.new) }
     ensures size { OnOk result (gathered.new.size ≡ gathered.old.size + sum_by (count_of variables.now) items.now) }
     ensures fits { gathered.old.size + sum_by (count_of variables.now) items.now < 2 ^ 32 → result ≢ Err Lost.Unfit }
@@ -99,11 +91,7 @@ fn add_items(
 }
 
 /// The variables of a group more.
-fn add_members(
-    variables: &Variables,
-    vars: &[u32],
-    gathered: &mut Gathered,
-) -> Result<(), Lost>
+fn add_members(variables: &Variables, vars: &[u32], gathered: &mut Gathered) -> Result<(), Lost>
     ensures more { (before : List Operand) → IsGathered variables.now before gathered.old → OnOk result (IsGathered variables.now (before ++ map Whole vars.now) gathered.new) }
     ensures fits { gathered.old.size + length (flat_map (places_in variables.now) vars.now) < 2 ^ 32 → result ≢ Err Lost.Unfit }
     ensures causes { (result ≢ Err Lost.Disk) × (result ≢ Err Lost.Sink) }
@@ -115,11 +103,7 @@ fn add_members(
 }
 
 /// The items of a transfer, and the variables of its group. `Unfit`: they are too many.
-pub(crate) fn gather(
-    alloc: Global,
-    variables: &Variables,
-    t: &Transfer,
-) -> Result<Gathered, Lost>
+pub(crate) fn gather(alloc: Global, variables: &Variables, t: &Transfer) -> Result<Gathered, Lost>
     ensures gathered { IfOk result (λ gathered. IsGathered variables.now (all_items t.now) gathered) }
     ensures fits { IsTransfer variables.now t.now → IsCountable variables.now t.now → result ≢ Err Lost.Unfit }
     ensures causes { (result ≢ Err Lost.Disk) × (result ≢ Err Lost.Sink) }

@@ -1,4 +1,4 @@
-use Rattle.std.proofs.Common.{◌≡◌, ◌+◌, ◌∙◌, ap, rules, arith}
+use Rattle.std.proofs.Common.{◌≡◌, ◌+◌, ◌∙◌, ap, arith}
 use Rattle.fj_items.specs.Gathering.{count_of}
 use Rattle.fj_items.proofs.Gathers.{one_more}
 use Rattle.fj_items.proofs.Parts.{piece_count}

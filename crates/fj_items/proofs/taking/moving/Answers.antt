@@ -34,7 +34,7 @@ returns-then-t-clause-job c =
     (layout_of c.args.variables.now c.of_cells.result.cells t.control) (record { blank_zero = t.blank_zero; comma = t.comma; delim = t.delim; pad = t.pad; plus = t.plus }) (unwrap_or t.advance true) (control_by (Transfer t)) in
     let due : Moving = moving_of (control_by (Transfer t)) c.args.variables.now c.args.line c.args.tag.0 (values_of s) t (moved_in c.args.variables.now (values_of s) t) in
     let same : parts ≡ due =
-    moving_is c.args.variables.now (values_of s) c.args.line c.args.tag.0 t c.of_cells.result c.in_ok-size.size c.number_given-rec.result c.number_given-pos.result (c.of_cells.ensures ∙ c.in_ok-moved.ensures.moved)
+    moving_is c.args.variables.now (values_of s) c.args.line c.args.tag.0 t c.of_cells.result c.in_ok-size.size c.number_given-rec.result c.number_given-pos.result (c.of_cells.ensures ∙ c.in_ok-moved.ensures.moved ∙ ap (λ (x : Storage). moved_in c.args.variables.now (values_of x) c.args.t.now) c.in_ok-size.ensures.same)
     c.in_ok-size.ensures.moved
     (c.number_given-rec.ensures ∙ ap (number_given (values_of s)) c.as_ref.ensures.value) (c.number_given-pos.ensures ∙ ap (number_given (values_of s)) c.as_ref-2.ensures.value) in
     if_more c.job_with.result (λ (job : Job). job_of job ≡ parts) (λ (job : Job). job_of job ≡ due) (λ job e. e ∙ same) c.job_with.ensures.job
@@ -42,17 +42,19 @@ returns-then-t-clause-job c =
 pub returns-then-t-clause-fits : goal.returns-then-t-clause-fits
 returns-then-t-clause-fits c = λ is finds.
     let reads : c.args.t.now.input ≡ true = grind arith in
-    c.job_with.ensures.fits (grouped c.args.variables.now (values_of c.args.store.now) c.args.t.now c.of_cells.result is (c.of_cells.ensures ∙ c.in_ok-moved.ensures.moved)) (λ writes. absurd (false≢true (sym writes ∙ reads)))
+    c.job_with.ensures.fits (grouped c.args.variables.now (values_of c.args.store.now) c.args.t.now c.of_cells.result is (c.of_cells.ensures ∙ c.in_ok-moved.ensures.moved ∙ ap (λ (x : Storage). moved_in c.args.variables.now (values_of x) c.args.t.now) c.in_ok-size.ensures.same)) (λ writes. absurd (false≢true (sym writes ∙ reads)))
 
 pub returns-clause-fits : goal.returns-clause-fits
 returns-clause-fits c = λ is finds.
-    c.job_with-2.ensures.fits (grouped c.args.variables.now (values_of c.args.store.now) c.args.t.now c.in_ok-copy.copy.moved is c.in_ok-copy.ensures.moved)
-    (has_values c.args.variables.now (values_of c.args.store.now) c.args.t.now c.in_ok-copy.copy.moved is finds c.in_ok-copy.ensures.moved)
+    let made : c.in_ok-copy.copy.moved ≡ moved_in c.args.variables.now (values_of c.args.store.now) c.args.t.now = c.in_ok-copy.ensures.moved ∙ ap (λ (x : Storage). moved_in c.args.variables.now (values_of x) c.args.t.now) c.in_ok-size.ensures.same in
+    c.job_with-2.ensures.fits (grouped c.args.variables.now (values_of c.args.store.now) c.args.t.now c.in_ok-copy.copy.moved is made)
+    (has_values c.args.variables.now (values_of c.args.store.now) c.args.t.now c.in_ok-copy.copy.moved is finds made)
 
 pub returns-then-t-clause-keeps : goal.returns-then-t-clause-keeps
 returns-then-t-clause-keeps c = λ kept.
     let moved : Moved = moved_in c.args.variables.now (values_of c.args.store.now) c.args.t.now in
-    let mid = kept_same c.args.variables.now (undefined_at moved.cells (values_of c.args.store.now)) (values_of c.taken.new.store) c.in_ok-moved.ensures.vars (kept_undefined c.args.variables.now moved.cells (values_of c.args.store.now) kept) in
+    let mid = kept_same c.args.variables.now (undefined_at moved.cells (values_of c.args.store.now)) (values_of c.taken.new.store)
+    (c.in_ok-moved.ensures.vars ∙ ap (λ (x : Storage). undefined_at (moved_in c.args.variables.now (values_of x) c.args.t.now).cells (values_of x)) c.in_ok-size.ensures.same) (kept_undefined c.args.variables.now moved.cells (values_of c.args.store.now) kept) in
     on_ok c.job_with.result (AreKept c.args.variables.now (values_of c.undefine_size.new.store))
     (kept_same c.args.variables.now (with_size c.args.variables.now c.args.t.now.size None (values_of c.taken.new.store)) (values_of c.undefine_size.new.store) c.undefine_size.ensures.vars
     (kept_no_size c.args.variables.now c.args.t.now.size (values_of c.taken.new.store) mid))
