@@ -3,7 +3,8 @@ use Rattle.std.specs.Prelude.{◌≡◌, ◌≤◌, ◌<◌, ◌+◌, ◌^◌, �
 use Rattle.fj_statement.specs.declared.deck.Variable.{Variable}
 use Rattle.fj_statement.specs.declared.statement.Statement.{Statement}
 use Rattle.fj_statement.specs.declared.statement.Statement.TheVariants as statement
-use Rattle.fj_store.specs.Storage.{Storage, values_of}
+use Rattle.fj_store.specs.Storage.{values_of}
+use Rattle.fj_store.specs.Variables.{Variables}
 use Rattle.fj_bay.specs.declared.job.Job.{Job}
 use Rattle.fj_bay.specs.declared.job.Job.TheVariants as job
 use Rattle.fj_plain.specs.Transfers.{star_limit}
@@ -27,15 +28,15 @@ pub record IsKept (variables : List Variable) (core : Core) : Type 0 where
 
 -- ---- before it begins
 
--- READ and WRITE find the places that they name
-abbrev pub FindsPlaces : List Variable → Storage → Statement → Type 0
-FindsPlaces variables s (statement.Transfer t) = Finds variables s t
-FindsPlaces variables s _ = Unit {0}
+-- READ and WRITE find what they are to have
+abbrev pub FindsItems : List Variable → Variables → Statement → Type 0
+FindsItems variables vars (statement.Transfer t) = Finds variables vars t
+FindsItems variables vars _ = Unit {0}
 
--- A statement meets what each call keeps, and the places that it names.
+-- A statement meets what each call keeps, and what it is to have.
 pub record Meets (variables : List Variable) (core : Core) (what : Statement) : Type 0 where
   pub kept : IsKept variables core
-  pub finds : FindsPlaces variables core.store what
+  pub finds : FindsItems variables (values_of core.store) what
 
 -- ---- once the number of a job is known
 

@@ -1,15 +1,12 @@
 -- What a transfer finds is enough for it.
-use Rattle.std.proofs.Common.{◌≡◌, ℕ, zero, suc, ◌+◌, ◌<◌, ◌≤◌, ◌^◌, Bool, true, false, cond, List, [], ◌∷◌, ◌++◌, length, map, take, get_or, Option, Some, None, Result, Ok, Err, IfOk, OnOk, IfSome, IsSome, All, slice_get, sum_by, refl, sym, ap, subst, ◌∙◌, arith, append_assoc, length-append}
+use Rattle.std.proofs.Common.{◌≡◌, ℕ, ◌+◌, ◌<◌, ◌≤◌, ◌^◌, Bool, true, false, List, [], ◌∷◌, ◌++◌, length, map, take, get_or, Option, Some, None, Result, Ok, Err, IfOk, OnOk, All, slice_get, sum_by, refl, sym, ap, subst, ◌∙◌, arith, append_assoc, length-append}
 use Rattle.std.specs.Option.{option_map, option_map_or}
 use Rattle.std.specs.List.{flat_map}
 use Rattle.std.proofs.lemmas.List.{length-map, map-append, take_more}
 use Rattle.std.proofs.lemmas.List.Elements.{All-nil, All-cons, All-head, All-tail, All-append}
 use Rattle.std.proofs.lemmas.List.Sums.{sum_by_push, sum_by-take-le}
-use Rattle.std.proofs.lemmas.Grind.{flat_map-append}
 use Rattle.fj_value.specs.declared.condition.Condition.{Condition}
-use Rattle.fj_value.specs.declared.place.Place.{Place}
 use Rattle.fj_value.specs.declared.value.Cell.{Cell}
-use Rattle.fj_value.specs.declared.value.Value.{Value}
 use Rattle.fj_line.specs.Actions.{Action}
 use Rattle.fj_list.specs.declared.moved.Moved.{Moved}
 use Rattle.fj_namelist.specs.GroupText.{IsWithin}
@@ -26,27 +23,26 @@ use Rattle.fj_statement.specs.declared.statement.Transfer.{Transfer}
 use Rattle.fj_store.specs.declared.piece.Piece.{Piece}
 use Rattle.fj_store.specs.declared.piece.Piece.TheVariants.{Places, Own}
 use Rattle.fj_store.specs.declared.run.Run.{Run}
-use Rattle.fj_store.specs.Pieces.{cells_from, places_among, sizes}
-use Rattle.fj_store.specs.Places.{is_among, places_of as run_places_of, places_in}
-use Rattle.fj_store.specs.Storage.{Storage, value_at, cell_at, without, values_of}
+use Rattle.fj_store.specs.Pieces.{cells_from, sizes}
+use Rattle.fj_store.specs.Places.{places_of as run_places_of}
+use Rattle.fj_store.specs.Storage.{Storage, cell_at}
 use Rattle.fj_store.specs.Variables.{Variables, moved_of}
-use Rattle.fj_store.proofs.LawLemmas.{out_at, all_distinct}
+use Rattle.fj_store.proofs.LawLemmas.{all_distinct}
 use Rattle.fj_store.proofs.PlaceLemmas.{length-counted_from}
 use Rattle.fj_store.proofs.StoreLemmas.{whole}
 use Rattle.fj_plain.specs.Items as plain
 use Rattle.fj_plain.specs.Items.{operand_places, places_of}
-use Rattle.fj_plain.specs.Needs.{group_places, transfer_places, if_given}
+use Rattle.fj_plain.specs.Needs.{group_places, if_given}
 use Rattle.fj_plain.specs.State.{Output, elements}
 use Rattle.fj_plain.specs.Transfers.{member_of, members_of, layout_of, moved_in, printed_to}
-use Rattle.fj_items.specs.Fitting.{FindsItems, Finds}
-use Rattle.fj_items.specs.Gathering.{AreHome, IsGathered, IsNumbered, all_items, members_in, count_of}
+use Rattle.fj_items.specs.Fitting.{IsCountable, Finds}
+use Rattle.fj_items.specs.Gathering.{IsGathered, IsNumbered, all_items, members_in, count_of}
 use Rattle.fj_items.specs.declared.gathering.Gathered.{Gathered}
 use Rattle.fj_items.specs.declared.lost.Lost.{Lost}
 use Rattle.fj_items.proofs.Cells.{IsCounted, items_counted, HasRun, runs_of}
-use Rattle.fj_items.proofs.Fits.{items_few, all_front, all_rest, output_defined}
-use Rattle.fj_items.proofs.Gathers.{run_places}
+use Rattle.fj_items.proofs.Fits.{items_few, output_defined}
 use Rattle.fj_items.proofs.Limits.{open_low}
-use Rattle.fj_items.proofs.Parts.{places_are, runs_are}
+use Rattle.fj_items.proofs.Parts.{runs_are}
 
 -- ---- an error that is handed on
 
@@ -63,11 +59,6 @@ not_passed {S} {T} r given passed lost is same never e =
 
 -- ---- items one after another
 
-pub home_at : {A : Type 0} → (s : Storage) (f : A → List Place) (xs : List A) (i : ℕ) (x d : A) → i < length xs → x ≡ get_or xs i d → AreHome s (flat_map f xs) → AreHome s (f x)
-home_at {A} s f [] i x d low is h = absurd (omega arith)
-home_at {A} s f (y ∷ xs) zero x d low is h = subst (λ z. AreHome s (f z)) (sym is) (all_front (λ p. IsSome (value_at s p)) (f y) (flat_map f xs) h)
-home_at {A} s f (y ∷ xs) (suc i) x d low is h = home_at s f xs i x d (omega arith) is (all_rest (λ p. IsSome (value_at s p)) (f y) (flat_map f xs) h)
-
 pub sum_step : {A : Type 0} → (f : A → ℕ) (xs : List A) (i : ℕ) (x d : A) → i < length xs → x ≡ get_or xs i d → sum_by f (take (i + 1) xs) ≡ sum_by f (take i xs) + f x
 sum_step {A} f xs i x d low is = ap (sum_by f) (take_more xs i d low) ∙ sum_by_push f (take i xs) (get_or xs i d) ∙ ap (λ z. sum_by f (take i xs) + f z) (sym is)
 
@@ -81,36 +72,29 @@ pub sum_all : {A : Type 0} → (f : A → ℕ) (xs : List A) (i : ℕ) → lengt
 sum_all {A} f xs i past = ap (sum_by f) (whole xs i past)
 
 -- variables of a group one after another
-pub members_step : (vs : List Variable) (s : Storage) (before : List Operand) (vars : List ℕ) (i : ℕ) (g : Gathered) → i < length vars
-    → IsGathered vs s ((before ++ map operand.Whole (take i vars)) ++ operand.Whole (get_or vars i 0) ∷ []) g → IsGathered vs s (before ++ map operand.Whole (take (i + 1) vars)) g
-members_step vs s before vars i g low h =
-    let P : List Operand → Type 0 = λ xs. IsGathered vs s xs g in
+pub members_step : (vs : List Variable) (before : List Operand) (vars : List ℕ) (i : ℕ) (g : Gathered) → i < length vars
+    → IsGathered vs ((before ++ map operand.Whole (take i vars)) ++ operand.Whole (get_or vars i 0) ∷ []) g → IsGathered vs (before ++ map operand.Whole (take (i + 1) vars)) g
+members_step vs before vars i g low h =
+    let P : List Operand → Type 0 = λ xs. IsGathered vs xs g in
     let v : ℕ = get_or vars i 0 in
     let more : map operand.Whole (take (i + 1) vars) ≡ map operand.Whole (take i vars) ++ operand.Whole v ∷ [] = ap (map operand.Whole) (take_more vars i 0 low) ∙ map-append operand.Whole (take i vars) (v ∷ []) in
     subst P (append_assoc before (map operand.Whole (take i vars)) (operand.Whole v ∷ []) ∙ ap (λ xs. before ++ xs) (sym more)) h
 
 -- ---- the items and the group
 
-pub items_found : (vs : List Variable) (s : Storage) (t : Transfer) (slice : List Operand) (size : ℕ) → IsTransfer vs t → FindsItems vs s t → slice ≡ t.items → size ≡ 0
-    → AreHome s (flat_map (operand_places vs) slice) × (size + sum_by (count_of vs) slice < 2 ^ 32)
-items_found vs s t slice size is finds same none =
-    let P : List Operand → Type 0 = λ xs. AreHome s (flat_map (operand_places vs) xs) in
-    let Q : List Operand → Type 0 = λ xs. size + sum_by (count_of vs) xs < 2 ^ 32 in
-    let few = items_few vs t is finds.group in
-    let low : size + sum_by (count_of vs) t.items < 2 ^ 32 = omega (arith, none, few) in (
-      subst P (sym same) (all_front (λ p. IsSome (value_at s p)) (flat_map (operand_places vs) t.items) (group_places vs t.control) finds.home),
-      subst Q (sym same) low,
-    )
+pub items_found : (vs : List Variable) (t : Transfer) (slice : List Operand) (size : ℕ) → IsTransfer vs t → IsCountable vs t → slice ≡ t.items → size ≡ 0 → size + sum_by (count_of vs) slice < 2 ^ 32
+items_found vs t slice size is few same none =
+    let all = items_few vs t is few in
+    let items : sum_by (count_of vs) slice ≡ sum_by (count_of vs) t.items = ap (sum_by (count_of vs)) same in
+    omega (arith, none, all, items)
 
-pub group_found : (vs : List Variable) (s : Storage) (t : Transfer) (slice : List Operand) (vars : List ℕ) (size : ℕ) → IsTransfer vs t → FindsItems vs s t → slice ≡ t.items → group_places vs t.control ≡ flat_map (places_of vs) vars
-    → size ≡ 0 + sum_by (count_of vs) slice → AreHome s (flat_map (places_of vs) vars) × (size + length (flat_map (places_of vs) vars) < 2 ^ 32)
-group_found vs s t slice vars size is finds same group sized =
-    let few = items_few vs t is finds.group in
+pub group_found : (vs : List Variable) (t : Transfer) (slice : List Operand) (vars : List ℕ) (size : ℕ) → IsTransfer vs t → IsCountable vs t → slice ≡ t.items → group_places vs t.control ≡ flat_map (places_of vs) vars
+    → size ≡ 0 + sum_by (count_of vs) slice → size + length (flat_map (places_of vs) vars) < 2 ^ 32
+group_found vs t slice vars size is few same group sized =
+    let both = items_few vs t is few in
     let all : sum_by (count_of vs) slice ≡ sum_by (count_of vs) t.items = ap (sum_by (count_of vs)) same in
-    let long : length (group_places vs t.control) ≡ length (flat_map (places_of vs) vars) = ap length group in (
-      subst (AreHome s) group (all_rest (λ p. IsSome (value_at s p)) (flat_map (operand_places vs) t.items) (group_places vs t.control) finds.home),
-      omega (arith, few, all, long, sized),
-    )
+    let long : length (group_places vs t.control) ≡ length (flat_map (places_of vs) vars) = ap length group in
+    omega (arith, both, all, long, sized)
 
 -- ---- numbers of items
 
@@ -133,28 +117,6 @@ length-cells s n (Places run ∷ pieces) =
 
 -- ---- what is moved out
 
-group_items : (vs : List Variable) (c : Control) → flat_map (operand_places vs) (members_in c) ≡ group_places vs c
-group_items vs control.Unformatted = refl
-group_items vs (control.Explicit f) = refl
-group_items vs control.Listed = refl
-group_items vs (control.Group name vars) = wholes vars
-  where
-    wholes : (xs : List ℕ) → flat_map (operand_places vs) (map operand.Whole xs) ≡ flat_map (places_of vs) xs
-    wholes [] = refl
-    wholes (x ∷ xs) = ap (λ ps. places_of vs x ++ ps) (wholes xs)
-
-items_places : (vs : List Variable) (t : Transfer) → flat_map (operand_places vs) (all_items t) ≡ transfer_places vs t
-items_places vs t = flat_map-append (operand_places vs) t.items (members_in t.control) ∙ ap (λ ps. flat_map (operand_places vs) t.items ++ ps) (group_items vs t.control)
-
--- a place that is none of the items stays
-pub others_stay : (vs : List Variable) (s new : Storage) (t : Transfer) (g : Gathered) (runs rs : List Run) (p : Place) → IsGathered vs s (all_items t) g → g.pieces.items ≡ map Places runs → rs ≡ runs
-    → new ≡ without (places_in rs) s → is_among (transfer_places vs t) p ≡ false → value_at new p ≡ value_at s p
-others_stay vs s new t g runs rs p h e same put none =
-    let places : places_in rs ≡ transfer_places vs t =
-    ap places_in same ∙ sym (run_places runs) ∙ ap places_among (sym e) ∙ places_are vs (all_items t) g.pieces.items h.pieces ∙ items_places vs t in
-    let out : is_among (places_in rs) p ≡ false = ap (λ ps. is_among ps p) places ∙ none in
-    ap (λ z. value_at z p) put ∙ out_at (places_in rs) s.values p ∙ ap (λ b. cond b None (value_at s p)) out
-
 group_variables : (c : Control) → All IsVariable (members_in c)
 group_variables control.Unformatted = All-nil IsVariable
 group_variables (control.Explicit f) = All-nil IsVariable
@@ -166,19 +128,9 @@ group_variables (control.Group name vars) = wholes vars
     wholes (x ∷ xs) = All-cons IsVariable (operand.Whole x) (map operand.Whole xs) tt (wholes xs)
 
 -- the pieces of an input are runs
-pub input_runs : (vs : List Variable) (s : Storage) (t : Transfer) (g : Gathered) → IsTransfer vs t → t.input ≡ true → IsGathered vs s (all_items t) g → (runs : List Run) × (g.pieces.items ≡ map Places runs)
-input_runs vs s t g is reads h =
+pub input_runs : (vs : List Variable) (t : Transfer) (g : Gathered) → IsTransfer vs t → t.input ≡ true → IsGathered vs (all_items t) g → (runs : List Run) × (g.pieces.items ≡ map Places runs)
+input_runs vs t g is reads h =
     runs_are vs (all_items t) g.pieces.items h.pieces (All-append IsVariable t.items (members_in t.control) (is.allowed.read_has_places reads) (group_variables t.control))
-
--- SIZE= is there still
-pub size_stays : (vs : List Variable) (s mid : Storage) (t : Transfer) (size : Option Place) → IfSome size (λ p. IsSome (value_at s p) × (is_among (transfer_places vs t) p ≡ false))
-    → ((p : Place) → is_among (transfer_places vs t) p ≡ false → value_at mid p ≡ value_at s p) → IfSome size (λ p. IsSome (value_at mid p))
-size_stays vs s mid t None h stay = tt
-size_stays vs s mid t (Some p) h stay = subst (λ (o : Option Value). IsSome o) (sym (stay p h.1)) h.0
-
-pub size_there : (vs : List Variable) (s : Storage) (t : Transfer) (size : Option Place) → IfSome size (λ p. IsSome (value_at s p) × (is_among (transfer_places vs t) p ≡ false)) → IfSome size (λ p. IsSome (value_at s p))
-size_there vs s t None h = tt
-size_there vs s t (Some p) h = h.0
 
 -- ---- the variables of a group
 
@@ -218,8 +170,8 @@ layout_grouped vs c cells layout n count made h =
     let P : ℕ → Layout → Type 0 = λ k l. All (IsWithin k) (moving.members_of l) in
     subst (λ k. P k layout) (sym count) (subst (P (length cells)) (sym made) h)
 
-pub has_values : (vs : List Variable) (s : Storage) (t : Transfer) (moved : Moved) → IsTransfer vs t → Finds vs s t → moved ≡ moved_in vs (values_of s) t → t.input ≡ false → moving.HasValues moved
-has_values vs s t moved is finds made writes = subst moving.HasValues (sym made) (output_defined vs (values_of s) t is (finds.defined writes))
+pub has_values : (vs : List Variable) (vars : Variables) (t : Transfer) (moved : Moved) → IsTransfer vs t → Finds vs vars t → moved ≡ moved_in vs vars t → t.input ≡ false → moving.HasValues moved
+has_values vs vars t moved is finds made writes = subst moving.HasValues (sym made) (output_defined vs vars t is (finds.defined writes))
 
 -- ---- the record that stays open on `*`
 

@@ -1,21 +1,20 @@
 -- Pieces of items, and the cells of these.
-use Rattle.std.proofs.Common.{◌≡◌, ℕ, zero, suc, ◌+◌, ◌<◌, ◌≤◌, List, [], ◌∷◌, ◌++◌, length, map, take, get_or, All, IsSome, refl, sym, ap, subst, ◌∙◌, arith, append_assoc, append-nil, length-append}
+use Rattle.std.proofs.Common.{◌≡◌, ℕ, ◌+◌, ◌<◌, ◌≤◌, List, [], ◌∷◌, ◌++◌, length, map, take, get_or, All, refl, sym, ap, subst, ◌∙◌, arith, append_assoc, append-nil, length-append}
 use Rattle.std.specs.List.{flat_map}
 use Rattle.std.proofs.lemmas.List.{map-append, take_more}
-use Rattle.std.proofs.lemmas.List.Elements.{All-append, All-push}
+use Rattle.std.proofs.lemmas.List.Elements.{All-push}
 use Rattle.fj_value.specs.declared.place.Place.{Place}
 use Rattle.fj_value.specs.declared.value.Cell.{Cell}
 use Rattle.fj_list.specs.declared.moved.Moved.{Moved}
 use Rattle.fj_store.specs.declared.piece.Piece.{Piece}
-use Rattle.fj_store.specs.declared.piece.Piece.TheVariants.{Places, Own}
+use Rattle.fj_store.specs.declared.piece.Piece.TheVariants.{Places}
 use Rattle.fj_store.specs.declared.run.Run.{Run}
-use Rattle.fj_store.specs.Pieces.{own_cell, cells_from, cells_in, places_among, size_of, sizes}
-use Rattle.fj_store.specs.Places.{counted_from, places_of, places_in}
-use Rattle.fj_store.specs.Storage.{Storage, value_at, cell_at, values_of}
+use Rattle.fj_store.specs.Pieces.{own_cell, cells_from, cells_in, size_of, sizes}
+use Rattle.fj_store.specs.Places.{places_of, places_in}
+use Rattle.fj_store.specs.Storage.{Storage, cell_at, values_of}
 use Rattle.fj_store.specs.Variables.{Variables, moved_of}
 use Rattle.fj_store.proofs.PlaceLemmas.{length-counted_from}
 use Rattle.fj_store.proofs.StoreLemmas.{whole}
-use Rattle.fj_store.proofs.TableLemmas.{same_fields}
 use Rattle.fj_statement.specs.declared.deck.Variable.{Variable}
 use Rattle.fj_statement.specs.declared.statement.Operand.{Operand}
 use Rattle.fj_statement.specs.declared.statement.Operand.TheVariants as operand
@@ -25,7 +24,7 @@ use Rattle.fj_statement.specs.declared.statement.Transfer.{Transfer}
 use Rattle.fj_plain.specs.Items as plain
 use Rattle.fj_plain.specs.Needs.{group_places}
 use Rattle.fj_plain.specs.Transfers.{moved_in}
-use Rattle.fj_items.specs.Gathering.{IsPiece, ArePieces, IsReady, AreHome, IsGathered, all_items, members_in}
+use Rattle.fj_items.specs.Gathering.{IsPiece, ArePieces, IsGathered, all_items, members_in}
 use Rattle.fj_items.specs.Kinds.{kinds_of}
 use Rattle.fj_items.specs.declared.gathering.Gathered.{Gathered}
 use Rattle.fj_items.proofs.Values.{kind_is, read_is}
@@ -39,47 +38,29 @@ pieces_push variables [] (p ∷ ps) item piece h is = absurd h
 pieces_push variables (x ∷ xs) [] item piece h is = absurd h
 pieces_push variables (x ∷ xs) (p ∷ ps) item piece h is = (h.0, pieces_push variables xs ps item piece h.1 is)
 
-among_push : (pieces : List Piece) (piece : Piece) → places_among (pieces ++ piece ∷ []) ≡ places_among pieces ++ places_among (piece ∷ [])
-among_push [] piece = refl
-among_push (Places run ∷ pieces) piece = ap (λ ps. places_of run ++ ps) (among_push pieces piece) ∙ sym (append_assoc (places_of run) (places_among pieces) (places_among (piece ∷ [])))
-among_push (Own kind value ∷ pieces) piece = among_push pieces piece
-
-ready_home : (s : Storage) (piece : Piece) → IsReady s piece → AreHome s (places_among (piece ∷ []))
-ready_home s (Places run) h = subst (AreHome s) (sym (append-nil (places_of run))) h
-ready_home s (Own kind value) h = λ k d low. absurd (omega arith)
-
 sizes_push : (pieces : List Piece) (piece : Piece) → sizes (pieces ++ piece ∷ []) ≡ sizes pieces + size_of piece
 sizes_push [] piece = omega arith
 sizes_push (p ∷ pieces) piece = ap (λ n. size_of p + n) (sizes_push pieces piece) ∙ (let e : size_of p + (sizes pieces + size_of piece) ≡ (size_of p + sizes pieces) + size_of piece = omega arith in e)
 
-pub one_more : (variables : List Variable) (s : Storage) (items : List Operand) (item : Operand) (piece : Piece) (old new : Gathered) → IsGathered variables s items old → IsPiece variables item piece → IsReady s piece
-    → new.pieces.items ≡ old.pieces.items ++ piece ∷ [] → new.size ≡ old.size + size_of piece → IsGathered variables s (items ++ item ∷ []) new
-one_more variables s items item piece old new g is ready pushed sized =
+pub one_more : (variables : List Variable) (items : List Operand) (item : Operand) (piece : Piece) (old new : Gathered) → IsGathered variables items old → IsPiece variables item piece
+    → new.pieces.items ≡ old.pieces.items ++ piece ∷ [] → new.size ≡ old.size + size_of piece → IsGathered variables (items ++ item ∷ []) new
+one_more variables items item piece old new g is pushed sized =
     let P : List Piece → Type 0 = λ ps. ArePieces variables (items ++ item ∷ []) ps in
-    let Q : List Piece → Type 0 = λ ps. AreHome s (places_among ps) in
     record {
       pieces = subst P (sym pushed) (pieces_push variables items old.pieces.items item piece g.pieces is);
-      home = subst Q (sym pushed)
-          (subst (AreHome s) (sym (among_push old.pieces.items piece))
-          (All-append (λ x. IsSome (value_at s x)) (places_among old.pieces.items) (places_among (piece ∷ [])) g.home (ready_home s piece ready)));
       size = ap sizes pushed ∙ sizes_push old.pieces.items piece ∙ ap (λ n. n + size_of piece) g.size ∙ sym sized;
     }
 
-pub none_yet : (variables : List Variable) (s : Storage) (g : Gathered) → g.pieces.items ≡ [] → g.size ≡ 0 → IsGathered variables s [] g
-none_yet variables s g none zero_size =
+pub none_yet : (variables : List Variable) (g : Gathered) → g.pieces.items ≡ [] → g.size ≡ 0 → IsGathered variables [] g
+none_yet variables g none zero_size =
     let P : List Piece → Type 0 = λ ps. ArePieces variables [] ps in
-    let Q : List Piece → Type 0 = λ ps. AreHome s (places_among ps) in
-    record {
-      pieces = subst P (sym none) tt;
-      home = subst Q (sym none) (λ k d low. absurd (omega arith));
-      size = ap sizes none ∙ sym zero_size;
-    }
+    record { pieces = subst P (sym none) tt; size = ap sizes none ∙ sym zero_size }
 
 -- items one behind another
-pub items_step : (variables : List Variable) (s : Storage) (before items : List Operand) (i : ℕ) (item : Operand) (g : Gathered) → i < length items → item ≡ get_or items i item
-    → IsGathered variables s ((before ++ take i items) ++ item ∷ []) g → IsGathered variables s (before ++ take (i + 1) items) g
-items_step variables s before items i item g low is h =
-    let P : List Operand → Type 0 = λ xs. IsGathered variables s xs g in
+pub items_step : (variables : List Variable) (before items : List Operand) (i : ℕ) (item : Operand) (g : Gathered) → i < length items → item ≡ get_or items i item
+    → IsGathered variables ((before ++ take i items) ++ item ∷ []) g → IsGathered variables (before ++ take (i + 1) items) g
+items_step variables before items i item g low is h =
+    let P : List Operand → Type 0 = λ xs. IsGathered variables xs g in
     subst P (append_assoc before (take i items) (item ∷ []) ∙ ap (λ xs. before ++ xs) (ap (λ x. take i items ++ x ∷ []) is ∙ sym (take_more items i item low))) h
 
 -- ---- the cells of pieces
@@ -138,11 +119,11 @@ all_cells variables vars items (control.Explicit f) = with_members variables var
 all_cells variables vars items control.Listed = with_members variables vars 1 items []
 all_cells variables vars items (control.Group name vs) = with_members variables vars 1 items vs
 
-pub cells_are : (variables : List Variable) (s : Storage) (t : Transfer) (g : Gathered) → s.kinds ≡ kinds_of variables → IsGathered variables s (all_items t) g
+pub cells_are : (variables : List Variable) (s : Storage) (t : Transfer) (g : Gathered) → s.kinds ≡ kinds_of variables → IsGathered variables (all_items t) g
     → cells_in s g.pieces.items ≡ plain.cells_of variables (values_of s) t.items ++ map (plain.cell_at variables (values_of s)) (group_places variables t.control)
 cells_are variables s t g kinds h = pieces_cells variables s 1 (all_items t) g.pieces.items kinds h.pieces ∙ all_cells variables (values_of s) t.items t.control
 
-pub moved_is : (variables : List Variable) (s : Storage) (t : Transfer) (g : Gathered) (moved : Moved) → s.kinds ≡ kinds_of variables → IsGathered variables s (all_items t) g
+pub moved_is : (variables : List Variable) (s : Storage) (t : Transfer) (g : Gathered) (moved : Moved) → s.kinds ≡ kinds_of variables → IsGathered variables (all_items t) g
     → moved ≡ moved_of (cells_in s g.pieces.items) → moved ≡ moved_in variables (values_of s) t
 moved_is variables s t g moved kinds h made = made ∙ ap moved_of (cells_are variables s t g kinds h)
 
@@ -151,10 +132,6 @@ moved_is variables s t g moved kinds h made = made ∙ ap moved_of (cells_are va
 pub run_cells_are : (s : Storage) (n : ℕ) (runs : List Run) → cells_from s n (map Places runs) ≡ map (cell_at s) (places_in runs)
 run_cells_are s n [] = refl
 run_cells_are s n (run ∷ runs) = ap (λ cs. map (cell_at s) (places_of run) ++ cs) (run_cells_are s n runs) ∙ sym (map-append (cell_at s) (places_of run) (places_in runs))
-
-pub run_places : (runs : List Run) → places_among (map Places runs) ≡ places_in runs
-run_places [] = refl
-run_places (run ∷ runs) = ap (λ ps. places_of run ++ ps) (run_places runs)
 
 pub run_sizes : (runs : List Run) → sizes (map Places runs) ≡ length (places_in runs)
 run_sizes [] = refl
@@ -184,13 +161,13 @@ all_taken {A} P xs i past h = let Q : List A → Type 0 = λ ys. All P ys in sub
 
 -- ---- the ends
 
-pub no_members : (variables : List Variable) (s : Storage) (t : Transfer) (g : Gathered) (slice : List Operand) → members_in t.control ≡ [] → slice ≡ t.items → IsGathered variables s slice g → IsGathered variables s (all_items t) g
-no_members variables s t g slice none same h =
-    let P : List Operand → Type 0 = λ xs. IsGathered variables s xs g in
+pub no_members : (variables : List Variable) (t : Transfer) (g : Gathered) (slice : List Operand) → members_in t.control ≡ [] → slice ≡ t.items → IsGathered variables slice g → IsGathered variables (all_items t) g
+no_members variables t g slice none same h =
+    let P : List Operand → Type 0 = λ xs. IsGathered variables xs g in
     subst P (same ∙ sym (append-nil t.items) ∙ ap (λ xs. t.items ++ xs) (sym none)) h
 
-pub group_members : (variables : List Variable) (s : Storage) (t : Transfer) (g : Gathered) (items : List Operand) (slice vars : List ℕ) → members_in t.control ≡ map operand.Whole vars → items ≡ t.items → slice ≡ vars
-    → IsGathered variables s (items ++ map operand.Whole slice) g → IsGathered variables s (all_items t) g
-group_members variables s t g items slice vars members same same_vars h =
-    let P : List Operand → Type 0 = λ xs. IsGathered variables s xs g in
+pub group_members : (variables : List Variable) (t : Transfer) (g : Gathered) (items : List Operand) (slice vars : List ℕ) → members_in t.control ≡ map operand.Whole vars → items ≡ t.items → slice ≡ vars
+    → IsGathered variables (items ++ map operand.Whole slice) g → IsGathered variables (all_items t) g
+group_members variables t g items slice vars members same same_vars h =
+    let P : List Operand → Type 0 = λ xs. IsGathered variables xs g in
     subst P (ap (λ xs. xs ++ map operand.Whole slice) same ∙ ap (λ vs. t.items ++ map operand.Whole vs) same_vars ∙ ap (λ xs. t.items ++ xs) (sym members)) h

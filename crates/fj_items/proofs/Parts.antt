@@ -1,6 +1,6 @@
--- Pieces of items, whose places are there.
-use Rattle.std.proofs.Common.{◌≡◌, ◌↔◌, Bool, IsTrue, not, is_none, true, false, List, [], ◌∷◌, ◌++◌, length, map, All, refl, sym, ap, subst, ◌∙◌}
-use Rattle.std.specs.List.{flat_map, list_any}
+-- Pieces of items.
+use Rattle.std.proofs.Common.{◌≡◌, Bool, true, false, List, [], ◌∷◌, ◌++◌, length, map, All, refl, sym, ap, ◌∙◌}
+use Rattle.std.specs.List.{list_any}
 use Rattle.std.proofs.lemmas.Bool.{false≢true}
 use Rattle.std.proofs.lemmas.List.Elements.{All-head, All-tail}
 use Rattle.fj_value.specs.declared.kind.Kind.{Kind}
@@ -13,13 +13,11 @@ use Rattle.fj_statement.specs.declared.statement.Operand.TheVariants as operand
 use Rattle.fj_store.specs.declared.piece.Piece.{Piece}
 use Rattle.fj_store.specs.declared.piece.Piece.TheVariants.{Places, Own}
 use Rattle.fj_store.specs.declared.run.Run.{Run}
-use Rattle.fj_store.specs.Pieces.{places_among, size_of}
+use Rattle.fj_store.specs.Pieces.{size_of}
 use Rattle.fj_store.specs.Places.{places_of}
-use Rattle.fj_store.specs.Storage.{Storage, value_at}
 use Rattle.fj_store.proofs.PlaceLemmas.{length-counted_from}
-use Rattle.fj_store.proofs.RunLemmas.{none_out, out_none}
 use Rattle.fj_plain.specs.Items.{operand_places}
-use Rattle.fj_items.specs.Gathering.{IsPiece, ArePieces, IsReady, AreHome, count_of}
+use Rattle.fj_items.specs.Gathering.{IsPiece, ArePieces, count_of}
 
 -- ---- one piece
 
@@ -34,29 +32,7 @@ piece_count variables (operand.Literal kind value) piece h = ap size_of h
 piece_count variables (operand.One p) piece h = run_count (operand_places variables (operand.One p)) piece h
 piece_count variables (operand.Whole var) piece h = run_count (operand_places variables (operand.Whole var)) piece h
 
-run_ready : (s : Storage) (ps : List Place) (piece : Piece) → IsRun ps piece → AreHome s ps → IsReady s piece
-run_ready s ps piece h home = subst (IsReady s) (sym h.1) (subst (AreHome s) (sym h.2) home)
-
-pub piece_ready : (variables : List Variable) (s : Storage) (item : Operand) (piece : Piece) → IsPiece variables item piece → AreHome s (operand_places variables item) → IsReady s piece
-piece_ready variables s (operand.Literal kind value) piece h home = subst (IsReady s) (sym h) tt
-piece_ready variables s (operand.One p) piece h home = run_ready s (operand_places variables (operand.One p)) piece h home
-piece_ready variables s (operand.Whole var) piece h home = run_ready s (operand_places variables (operand.Whole var)) piece h home
-
 -- ---- all pieces
-
-run_place : (ps qs : List Place) (piece : Piece) (pieces : List Piece) → IsRun ps piece → places_among pieces ≡ qs → places_among (piece ∷ pieces) ≡ ps ++ qs
-run_place ps qs piece pieces h rest = ap (λ p. places_among (p ∷ pieces)) h.1 ∙ ap (λ xs. xs ++ places_among pieces) h.2 ∙ ap (λ xs. ps ++ xs) rest
-
--- their places are those of the items
-pub places_are : (variables : List Variable) (items : List Operand) (pieces : List Piece) → ArePieces variables items pieces → places_among pieces ≡ flat_map (operand_places variables) items
-places_are variables [] [] h = refl
-places_are variables [] (p ∷ ps) h = absurd h
-places_are variables (x ∷ xs) [] h = absurd h
-places_are variables (operand.Literal kind value ∷ items) (piece ∷ pieces) h = ap (λ p. places_among (p ∷ pieces)) h.0 ∙ places_are variables items pieces h.1
-places_are variables (operand.One p ∷ items) (piece ∷ pieces) h =
-    run_place (operand_places variables (operand.One p)) (flat_map (operand_places variables) items) piece pieces h.0 (places_are variables items pieces h.1)
-places_are variables (operand.Whole var ∷ items) (piece ∷ pieces) h =
-    run_place (operand_places variables (operand.Whole var)) (flat_map (operand_places variables) items) piece pieces h.0 (places_are variables items pieces h.1)
 
 abbrev AreRuns : List Piece → Type 0
 AreRuns pieces = (runs : List Run) × (pieces ≡ map Places runs)
@@ -90,13 +66,3 @@ some_own (run ∷ runs) kind v rest = some_own runs kind v rest
 -- a value of its own is not among runs
 pub no_own : (runs all : List Run) (kind : Kind) (v : Value) (rest : List Piece) → map Places runs ++ Own kind v ∷ rest ≡ map Places all → ⊥
 no_own runs all kind v rest e = false≢true (sym (none_own all) ∙ sym (ap (list_any is_own) e) ∙ some_own runs kind v rest)
-
--- a piece whose run has no place that is moved out
-pub ready_is : (s : Storage) (run : Run) (piece : Piece) (b : Bool) → piece ≡ Places run → b ≡ list_any (λ place. is_none (value_at s place)) (places_of run) → IsTrue (not b) ↔ IsReady s piece
-ready_is s run piece b is made =
-    let go : (x : Bool) → x ≡ list_any (λ place. is_none (value_at s place)) (places_of run) → IsTrue (not x) ↔ IsReady s (Places run) =
-    λ x. elim x as (λ z. z ≡ list_any (λ place. is_none (value_at s place)) (places_of run) → IsTrue (not z) ↔ IsReady s (Places run)) [
-      | true ↦ λ e. (λ h. absurd (false≢true h), λ home. absurd (false≢true (sym (e ∙ out_none (value_at s) (places_of run) home))))
-      | false ↦ λ e. (λ h. none_out (value_at s) (places_of run) (sym e), λ home. refl)
-    ] in
-    subst (λ p. IsTrue (not b) ↔ IsReady s p) (sym is) (go b made)

@@ -1,9 +1,8 @@
 -- Items that are moved out of the variables.
-use Rattle.std.proofs.Common.{◌≡◌, ℕ, ◌+◌, ◌<◌, ◌≤◌, eqb, cond, not, Bool, true, false, List, [], ◌∷◌, ◌++◌, length, map, Option, Some, None, option_map, Result, Ok, Err, IfOk, IfSome, IsSome, refl, sym, ap, subst, ◌∙◌, inl, inr, arith}
+use Rattle.std.proofs.Common.{◌≡◌, ℕ, ◌+◌, ◌≤◌, eqb, cond, not, Bool, true, false, List, [], ◌∷◌, ◌++◌, length, map, Option, Some, None, option_map, Result, Ok, Err, IfOk, refl, sym, ap, subst, ◌∙◌, inl, inr, arith}
 use Rattle.std.proofs.Math.Path.{fun_ext}
 use Rattle.std.proofs.lemmas.Bool.{false≢true}
 use Rattle.std.proofs.lemmas.Bool.Decides.{nat_tests}
-use Rattle.std.proofs.lemmas.List.Elements.{All-push}
 use Rattle.std.specs.Prelude.{ℤ, unwrap_or}
 use Rattle.std.specs.List.{position_or_len}
 use Rattle.std.specs.Option.{option_map_or}
@@ -24,12 +23,11 @@ use Rattle.fj_statement.specs.declared.statement.Statement.TheVariants.{Transfer
 use Rattle.fj_store.specs.declared.piece.Piece.{Piece}
 use Rattle.fj_store.specs.declared.piece.Piece.TheVariants.{Places}
 use Rattle.fj_store.specs.declared.run.Run.{Run}
-use Rattle.fj_store.specs.Pieces.{cells_in, places_among, sizes}
-use Rattle.fj_store.specs.Places.{same_place, is_among, places_of, places_in}
-use Rattle.fj_store.specs.Storage.{Storage, value_at, cell_at, emptied, without, values_of}
+use Rattle.fj_store.specs.Pieces.{cells_in, sizes}
+use Rattle.fj_store.specs.Places.{same_place, places_of, places_in}
+use Rattle.fj_store.specs.Storage.{Storage, cell_at, emptied, without, values_of}
 use Rattle.fj_store.specs.Tables.{with_element, with_cells}
 use Rattle.fj_store.specs.Variables.{Variables, is_at, undefined_at, with_item, moved_from, moved_of}
-use Rattle.fj_store.proofs.LawLemmas.{out_at}
 use Rattle.fj_store.proofs.PlaceLemmas.{length-counted_from}
 use Rattle.fj_store.proofs.StoreLemmas.{cells_more}
 use Rattle.fj_store.proofs.TableLemmas.{places_tell, mapped_with, with_twice, with_swap}
@@ -39,13 +37,12 @@ use Rattle.fj_transfer.specs.declared.transfer.Layout.{Layout}
 use Rattle.fj_plain.specs.Items as plain
 use Rattle.fj_plain.specs.Needs.{number_given}
 use Rattle.fj_plain.specs.Statement.{control_by, control_in}
-use Rattle.fj_plain.specs.Telling.{with_size}
 use Rattle.fj_plain.specs.Transfers.{layout_of, moved_in}
-use Rattle.fj_items.specs.Gathering.{AreHome, IsGathered, all_items}
+use Rattle.fj_items.specs.Gathering.{IsGathered, all_items}
 use Rattle.fj_items.specs.Kinds.{kinds_of}
 use Rattle.fj_items.specs.declared.gathering.Gathered.{Gathered}
-use Rattle.fj_items.proofs.Gathers.{cell_same, cells_are, run_cells_are, run_places, run_sizes}
-use Rattle.fj_items.proofs.Values.{shown, read_is}
+use Rattle.fj_items.proofs.Gathers.{cell_same, cells_are, run_cells_are, run_sizes}
+use Rattle.fj_items.proofs.Values.{shown}
 
 -- ---- places that are made undefined, whether they stand twice or not
 
@@ -103,47 +100,23 @@ taken_vars s places = emptied_shown s places s.values ∙ sym (once_undefined (m
 
 -- ---- the items of an input
 
-run_moved : (variables : List Variable) (s : Storage) (t : Stated) (g : Gathered) (runs : List Run) → s.kinds ≡ kinds_of variables → IsGathered variables s (all_items t) g → g.pieces.items ≡ map Places runs
+run_moved : (variables : List Variable) (s : Storage) (t : Stated) (g : Gathered) (runs : List Run) → s.kinds ≡ kinds_of variables → IsGathered variables (all_items t) g → g.pieces.items ≡ map Places runs
     → moved_of (map (cell_at s) (places_in runs)) ≡ moved_in variables (values_of s) t
 run_moved variables s t g runs kinds h e = ap moved_of (sym (run_cells_are s 1 runs) ∙ ap (cells_in s) (sym e) ∙ cells_are variables s t g kinds h)
 
-pub runs_home : (variables : List Variable) (s : Storage) (items : List Operand) (g : Gathered) (runs rs : List Run) → IsGathered variables s items g → g.pieces.items ≡ map Places runs → rs ≡ runs → AreHome s (places_in rs)
-runs_home variables s items g runs rs h e same = subst (AreHome s) (ap places_among e ∙ run_places runs ∙ ap places_in (sym same)) h.home
+pub runs_size : (variables : List Variable) (items : List Operand) (g : Gathered) (runs rs : List Run) → IsGathered variables items g → g.pieces.items ≡ map Places runs → rs ≡ runs → length (places_in rs) ≡ g.size
+runs_size variables items g runs rs h e same = ap (λ x. length (places_in x)) same ∙ sym (run_sizes runs) ∙ sym (ap sizes e) ∙ h.size
 
-pub runs_size : (variables : List Variable) (s : Storage) (items : List Operand) (g : Gathered) (runs rs : List Run) → IsGathered variables s items g → g.pieces.items ≡ map Places runs → rs ≡ runs → length (places_in rs) ≡ g.size
-runs_size variables s items g runs rs h e same = ap (λ x. length (places_in x)) same ∙ sym (run_sizes runs) ∙ sym (ap sizes e) ∙ h.size
-
-pub taken_moved : (variables : List Variable) (s : Storage) (t : Stated) (g : Gathered) (runs rs : List Run) (moved : Moved) → s.kinds ≡ kinds_of variables → IsGathered variables s (all_items t) g → g.pieces.items ≡ map Places runs → rs ≡ runs
+pub taken_moved : (variables : List Variable) (s : Storage) (t : Stated) (g : Gathered) (runs rs : List Run) (moved : Moved) → s.kinds ≡ kinds_of variables → IsGathered variables (all_items t) g → g.pieces.items ≡ map Places runs → rs ≡ runs
     → moved ≡ moved_of (map (cell_at s) (places_in rs)) → moved ≡ moved_in variables (values_of s) t
 taken_moved variables s t g runs rs moved kinds h e same made = made ∙ ap (λ x. moved_of (map (cell_at s) (places_in x))) same ∙ run_moved variables s t g runs kinds h e
 
-pub taken_values : (variables : List Variable) (s new : Storage) (t : Stated) (g : Gathered) (runs rs : List Run) → s.kinds ≡ kinds_of variables → IsGathered variables s (all_items t) g → g.pieces.items ≡ map Places runs → rs ≡ runs
+pub taken_values : (variables : List Variable) (s new : Storage) (t : Stated) (g : Gathered) (runs rs : List Run) → s.kinds ≡ kinds_of variables → IsGathered variables (all_items t) g → g.pieces.items ≡ map Places runs → rs ≡ runs
     → new ≡ without (places_in rs) s → values_of new ≡ undefined_at (moved_in variables (values_of s) t).cells (values_of s)
 taken_values variables s new t g runs rs kinds h e same put =
     ap values_of (put ∙ ap (λ x. without (places_in x) s) same) ∙ taken_vars s (places_in runs) ∙ ap (λ (m : Moved). undefined_at m.cells (values_of s)) (run_moved variables s t g runs kinds h e)
 
-pub others_same : (s new : Storage) (places : List Place) (p : Place) → new ≡ without places s → IsSome (value_at new p) → value_at new p ≡ value_at s p
-others_same s new places p put here =
-    let at : value_at new p ≡ cond (is_among places p) None (value_at s p) = ap (λ z. value_at z p) put ∙ out_at places s.values p in
-    let go : (b : Bool) → value_at new p ≡ cond b None (value_at s p) → value_at new p ≡ value_at s p =
-    λ b. elim b as (λ z. value_at new p ≡ cond z None (value_at s p) → value_at new p ≡ value_at s p) [
-      | true ↦ λ e. let P : Option Value → Type 0 = λ o. IsSome o in absurd (false≢true (subst P e here))
-      | false ↦ λ e. e
-    ] in
-    go (is_among places p) at
-
 -- ---- SIZE=
-
-pub one_place : (run : Run) (place : Place) → places_of run ≡ place ∷ [] → places_in (run ∷ []) ≡ place ∷ []
-one_place run place e = ap (λ ps. ps ++ []) e
-
-pub one_home : (s : Storage) (run : Run) (place : Place) → places_of run ≡ place ∷ [] → IsSome (value_at s place) → AreHome s (places_in (run ∷ []))
-one_home s run place e here =
-    let P : Place → Type 0 = λ p. IsSome (value_at s p) in
-    subst (AreHome s) (sym (one_place run place e)) (All-push P [] place (λ k d low. absurd (omega arith)) here)
-
-pub one_few : (run : Run) (place : Place) → places_of run ≡ place ∷ [] → length (places_in (run ∷ [])) < 4294967296
-one_few run place e = let one : length (places_in (run ∷ [])) ≡ 1 = ap length (one_place run place e) in omega (arith, one)
 
 pub size_cell : (variables : List Variable) (s : Storage) (size : Option Place) (place : Place) (moved : Moved) → size ≡ Some place → s.kinds ≡ kinds_of variables → moved ≡ moved_of (cell_at s place ∷ [])
     → Some moved ≡ option_map (λ p. moved_of (plain.cell_at variables (values_of s) p ∷ [])) size
@@ -155,19 +128,8 @@ pub one_cell : (variables : List Variable) (vars : Variables) (at : Option Place
 one_cell variables vars None size e = ap (λ o. option_map_or (λ (m : Moved). length m.cells) o 1) e
 one_cell variables vars (Some p) size e = ap (λ o. option_map_or (λ (m : Moved). length m.cells) o 1) e
 
-pub size_values : (variables : List Variable) (s new : Storage) (size : Option Place) (place : Place) (run : Run) → size ≡ Some place → places_of run ≡ place ∷ [] → new ≡ without (places_in (run ∷ [])) s
-    → values_of new ≡ with_size variables size None (values_of s)
-size_values variables s new size place run e one put =
-    ap values_of (put ∙ ap (λ ps. without ps s) (one_place run place one)) ∙ mapped_with shown s.values place None ∙ sym (ap (λ o. with_size variables o None (values_of s)) e)
-
-pub size_home : (s : Storage) (size : Option Place) (place : Place) → size ≡ Some place → IsSome (value_at s place) → IfSome size (λ p. IsSome (value_at s p))
-size_home s size place e here = let P : Option Place → Type 0 = λ o. IfSome o (λ p. IsSome (value_at s p)) in subst P (sym e) here
-
 pub pushed_alone : (run : Run) (old new : List Piece) → old ≡ [] → new ≡ old ++ Places run ∷ [] → new ≡ Places run ∷ []
 pushed_alone run old new none put = put ∙ ap (λ ps. ps ++ Places run ∷ []) none
-
-pub among_home : (s : Storage) (run : Run) (place : Place) (pieces : List Piece) → places_of run ≡ place ∷ [] → pieces ≡ Places run ∷ [] → IsSome (value_at s place) → AreHome s (places_among pieces)
-among_home s run place pieces e is here = let P : List Piece → Type 0 = λ ps. AreHome s (places_among ps) in subst P (sym is) (one_home s run place e here)
 
 pub among_size : (run : Run) (place : Place) (pieces : List Piece) → places_of run ≡ place ∷ [] → pieces ≡ Places run ∷ [] → sizes pieces ≤ 1
 among_size run place pieces e is =
@@ -178,13 +140,6 @@ among_size run place pieces e is =
 
 pub among_cell : (s : Storage) (run : Run) (place : Place) (pieces : List Piece) (moved : Moved) → places_of run ≡ place ∷ [] → pieces ≡ Places run ∷ [] → moved ≡ moved_of (cells_in s pieces) → moved ≡ moved_of (cell_at s place ∷ [])
 among_cell s run place pieces moved e is made = made ∙ ap (λ ps. moved_of (cells_in s ps)) is ∙ ap (λ ps. moved_of (map (cell_at s) ps ++ [])) e
-
--- the cell of SIZE= is the same before the items are moved out and behind that
-size_same : (variables : List Variable) (s mid : Storage) (size : Option Place) → IfSome size (λ p. IsSome (value_at mid p)) → ((p : Place) → IsSome (value_at mid p) → value_at mid p ≡ value_at s p)
-    → option_map (λ p. moved_of (plain.cell_at variables (values_of mid) p ∷ [])) size ≡ option_map (λ p. moved_of (plain.cell_at variables (values_of s) p ∷ [])) size
-size_same variables s mid None home others = refl
-size_same variables s mid (Some p) home others =
-    ap (λ v. Some (moved_of (record { place = p; kind = plain.kind_of variables p.var; value = v } ∷ []))) (read_is mid p ∙ ap shown (others p home) ∙ sym (read_is s p))
 
 -- ---- the job
 
@@ -234,7 +189,3 @@ moving_is variables vars line tag t moved size of_rec of_pos moved_is size_is re
     ∙ ap (λ s. by (moved_in variables vars t) s of_rec of_pos) size_is
     ∙ ap (λ r. by (moved_in variables vars t) (option_map (λ p. moved_of (plain.cell_at variables vars p ∷ [])) t.size) r of_pos) rec_is
     ∙ ap (λ p. by (moved_in variables vars t) (option_map (λ p. moved_of (plain.cell_at variables vars p ∷ [])) t.size) (number_given vars t.rec) p) pos_is
-
-pub input_size : (variables : List Variable) (s mid : Storage) (t : Stated) (size : Option Moved) → size ≡ option_map (λ p. moved_of (plain.cell_at variables (values_of mid) p ∷ [])) t.size → IfSome t.size (λ p. IsSome (value_at mid p))
-    → ((p : Place) → IsSome (value_at mid p) → value_at mid p ≡ value_at s p) → size ≡ option_map (λ p. moved_of (plain.cell_at variables (values_of s) p ∷ [])) t.size
-input_size variables s mid t size made home others = made ∙ size_same variables s mid t.size home others

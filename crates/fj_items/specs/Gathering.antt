@@ -1,14 +1,12 @@
 -- The items of a transfer as pieces, one for each item, and for each variable of a group.
-use Rattle.std.specs.Prelude.{ℕ, ◌≡◌, ◌<◌, ◌^◌, List, [], ◌∷◌, ◌++◌, length, map, All, IsSome}
+use Rattle.std.specs.Prelude.{ℕ, ◌≡◌, ◌<◌, ◌^◌, List, [], ◌∷◌, ◌++◌, length, map}
 use Rattle.fj_list.specs.Moved.{AreDistinct, IsOrdered}
 use Rattle.fj_list.specs.declared.moved.Moved.{Moved}
-use Rattle.fj_value.specs.declared.place.Place.{Place}
 use Rattle.fj_store.specs.declared.piece.Piece.{Piece}
 use Rattle.fj_store.specs.declared.piece.Piece.TheVariants.{Places, Own}
 use Rattle.fj_store.specs.declared.run.Run.{Run}
-use Rattle.fj_store.specs.Pieces.{places_among, sizes}
+use Rattle.fj_store.specs.Pieces.{sizes}
 use Rattle.fj_store.specs.Places.{places_of}
-use Rattle.fj_store.specs.Storage.{Storage, value_at}
 use Rattle.fj_statement.specs.declared.deck.Variable.{Variable}
 use Rattle.fj_statement.specs.declared.statement.Operand.{Operand}
 use Rattle.fj_statement.specs.declared.statement.Operand.TheVariants as operand
@@ -28,15 +26,6 @@ ArePieces variables [] [] = Unit {0}
 ArePieces variables (item ∷ items) (piece ∷ pieces) = IsPiece variables item piece × ArePieces variables items pieces
 ArePieces _ _ _ = ⊥
 
--- the places have values
-abbrev pub AreHome : Storage → List Place → Type 0
-AreHome s places = All (λ place. IsSome (value_at s place)) places
-
--- a piece that may be taken
-abbrev pub IsReady : Storage → Piece → Type 0
-IsReady s (Places run) = AreHome s (places_of run)
-IsReady s (Own kind value) = Unit {0}
-
 -- the variables of a group, as whole ones
 abbrev pub members_in : Control → List Operand
 members_in (control.Group name vars) = map operand.Whole vars
@@ -45,10 +34,9 @@ members_in _ = []
 abbrev pub all_items : Transfer → List Operand
 all_items t = t.items ++ members_in t.control
 
--- pieces of these items, of which the places have values, with their size
-pub record IsGathered (variables : List Variable) (s : Storage) (items : List Operand) (g : Gathered) : Type 0 where
+-- pieces of these items, with their size
+pub record IsGathered (variables : List Variable) (items : List Operand) (g : Gathered) : Type 0 where
   pub pieces : ArePieces variables items g.pieces.items
-  pub home : AreHome s (places_among g.pieces.items)
   pub size : sizes g.pieces.items ≡ g.size
 
 -- how many items an operand is

@@ -10,28 +10,10 @@ ghost use Rattle.fj_transfer.specs.Moving as moving;
 use crate::assigning::elements;
 use fj_list::{GroupMember, Load, Shape};
 use fj_statement::{Control, Variable, Variables};
+use fj_store::position;
 use fj_transfer::{Layout, Members};
 use fj_value::{Cell, Place};
 use std::alloc::{AllocError, Global};
-
-fn same_place(a: Place, b: Place) -> bool
-    ensures { result ≡ same_place a b }
-{
-    a.var == b.var && a.index == b.index
-}
-
-/// The number of the cell of a place; where there is none, the number of cells.
-fn position(cells: &[Cell], place: Place) -> usize
-    ensures at { result ≡ position_or_len (is_at place) cells.now }
-    ensures low { result ≤ length cells.now }
-{
-    for at in 0..cells.len() {
-        if same_place(place, cells[at].place) {
-            return at;
-        }
-    }
-    cells.len()
-}
 
 /// A variable of a group.
 fn member_of(cells: &[Cell], var: u32, variable: &Variable) -> Result<GroupMember, AllocError>

@@ -8,7 +8,7 @@ ghost use Rattle.fj_statement.specs.Sound.{IsTransfer};
 ghost use Rattle.fj_transfer.specs.Moving.{members_of};
 ghost use Rattle.fj_transfer.specs.Transfer.{is_explicit};
 ghost use Rattle.fj_transfer.specs.Printing.{IsRecords, actions_by, control_of, printed_by};
-ghost use Rattle.fj_items.specs.Fitting.{FindsItems};
+ghost use Rattle.fj_items.specs.Fitting.{IsCountable};
 ghost use Rattle.fj_items.specs.Handing.{open_record, ended_part, printed_on, IsPrinted, HandsOver, HandsFront, HandsPart, TakesFront, TakesPart};
 ghost use Rattle.fj_items.specs.Kinds.{kinds_of};
 
@@ -187,8 +187,8 @@ pub(crate) fn edit_of(t: &Transfer) -> EditChange
 }
 
 /// A WRITE on `*`: the records that it ends are handed to the sink, all at once, and the characters of the one that it leaves open
-/// are kept. Answers its condition. `Unfit`: a place has no value, the items are too many, or the open record
-/// is longer than its limit. After an `Err` the variables have their kinds, and nothing is said of their values and of the output.
+/// are kept. Answers its condition. `Unfit`: the items are too many, or the open record is longer than its
+/// limit. After an `Err` the variables have their kinds, and nothing is said of their values and of the output.
 pub fn write_star<W: Sink>(
     alloc: Global,
     variables: &Variables,
@@ -210,7 +210,7 @@ pub fn write_star<W: Sink>(
     ensures later { W.count out.old ≤ W.count out.new }
     ensures failed { result ≡ Err Lost.Sink → Rose (W.count out.old) (W.count out.new) }
     ensures limit { output.old.begun ≤ star_limit → OnOk result (output.new.begun ≤ star_limit) }
-    ensures fits { IsTransfer variables.now t.now → FindsItems variables.now store.old t.now → output.old.begun ≤ star_limit → result ≢ Err Lost.Unfit }
+    ensures fits { IsTransfer variables.now t.now → IsCountable variables.now t.now → output.old.begun ≤ star_limit → result ≢ Err Lost.Unfit }
     ensures disk { result ≢ Err Lost.Disk }
 {
     output.open_is_part();

@@ -1,38 +1,35 @@
 // A READ or WRITE as a job: its items are moved or copied out of the variables.
-ghost use Rattle.std.specs.Prelude.{◌≡◌, ◌≢◌, ◌↔◌, ◌∷◌, [], length, map, true, false, None, unwrap_or, option_map, List, All, Err, IsTrue, IsSome, IfSome, IfOk, OnOk};
+ghost use Rattle.std.specs.Prelude.{◌≡◌, ◌≢◌, ◌↔◌, length, map, true, false, None, unwrap_or, List, All, Err, IsTrue, IfOk, OnOk};
 ghost use Rattle.std.specs.Option.{option_map_or};
 ghost use Rattle.fj_list.specs.declared.moved.Moved.{Moved as MovedCells};
 ghost use Rattle.fj_bay.specs.Jobs.{items_for};
 ghost use Rattle.fj_bay.specs.Plain.{moving_of as job_of};
 ghost use Rattle.fj_namelist.specs.GroupText.{IsWithin};
 ghost use Rattle.fj_desk.specs.Acting.{moving_of};
-ghost use Rattle.fj_plain.specs.Items.{cell_at as plain_cell};
-ghost use Rattle.fj_plain.specs.Needs.{transfer_places};
 ghost use Rattle.fj_plain.specs.Statement.{control_by};
-ghost use Rattle.fj_plain.specs.Telling.{with_size};
 ghost use Rattle.fj_plain.specs.Transfers.{layout_of, moved_in, without_values};
 ghost use Rattle.fj_statement.specs.Sound.{IsTransfer};
 ghost use Rattle.fj_statement.specs.declared.statement.Statement.TheVariants as statement;
-ghost use Rattle.fj_store.specs.Places.{is_among};
-ghost use Rattle.fj_store.specs.Storage.{value_at, values_of};
-ghost use Rattle.fj_store.specs.Variables.{moved_of, undefined_at};
+ghost use Rattle.fj_store.specs.Storage.{values_of};
+ghost use Rattle.fj_store.specs.Variables.{undefined_at};
 ghost use Rattle.fj_store.specs.declared.piece.Piece.TheVariants.{Places};
 ghost use Rattle.fj_transfer.specs.Moving.{HasValues, members_of};
-ghost use Rattle.fj_items.specs.Fitting.{AreKept, FindsItems, Finds};
+ghost use Rattle.fj_items.specs.Fitting.{AreKept, IsCountable, Finds};
 ghost use Rattle.fj_items.specs.Gathering.{IsNumbered};
 ghost use Rattle.fj_items.specs.Kinds.{kinds_of};
 
 use crate::copying::{copied, size_copied};
-use crate::gathering::{gather, is_home};
+use crate::gathering::gather;
 use crate::laying::{is_grouped, layout_for};
 use crate::lost::Lost;
 use crate::number::number_given;
 use crate::star::edit_of;
+use crate::undefining::undefine_size;
 use fj_list::{Load, Moved};
 use fj_statement::{Transfer, Variables};
 use fj_store::{Piece, Run, Store};
 use fj_transfer::{Transfer as Moving, TransferSpec};
-use fj_value::{Items, Place, Tag};
+use fj_value::{Items, Tag};
 use std::alloc::Global;
 use std::collections::VecDeque;
 
@@ -52,7 +49,7 @@ fn runs_of(alloc: Global, mut pieces: VecDeque<Piece>) -> Result<Items<Run>, Los
     Ok(runs)
 }
 
-/// The items, moved out. `Unfit`: one has no value, or is a literal, or they are too many.
+/// The items, moved out. `Unfit`: one is a literal, or they are too many.
 fn taken(
     alloc: Global,
     variables: &Variables,
@@ -63,42 +60,14 @@ fn taken(
     ensures moved { IfOk result (λ moved. moved ≡ moved_in variables.now (values_of store.old) t.now) }
     ensures vars { OnOk result (values_of store.new ≡ undefined_at (moved_in variables.now (values_of store.old) t.now).cells (values_of store.old)) }
     ensures numbered { IfOk result IsNumbered }
-    ensures others { OnOk result ((place : Place) → IsSome (value_at store.new place) → value_at store.new place ≡ value_at store.old place) }
-    ensures stay { OnOk result ((place : Place) → is_among (transfer_places variables.now t.now) place ≡ false → value_at store.new place ≡ value_at store.old place) }
     ensures kinds { store.new.kinds ≡ store.old.kinds }
-    ensures fits { IsTransfer variables.now t.now → t.now.input ≡ true → FindsItems variables.now store.old t.now → result ≢ Err Lost.Unfit }
+    ensures fits { IsTransfer variables.now t.now → t.now.input ≡ true → IsCountable variables.now t.now → result ≢ Err Lost.Unfit }
     ensures causes { (result ≢ Err Lost.Disk) × (result ≢ Err Lost.Sink) }
 {
-    let gathered = gather(alloc, variables, store, t)?;
+    let gathered = gather(alloc, variables, t)?;
     let runs = runs_of(alloc, gathered.pieces)?;
     let moved = store.take_out(alloc, runs.as_slice())?;
     Ok(moved)
-}
-
-/// SIZE=, moved out as one cell. `Unfit`: it has no value.
-fn size_taken(
-    alloc: Global,
-    variables: &Variables,
-    store: &mut Store,
-    size: Option<Place>,
-) -> Result<Option<Moved>, Lost>
-    requires { store.old.kinds ≡ kinds_of variables.now }
-    ensures moved { IfOk result (λ moved. moved ≡ option_map (λ place. moved_of (plain_cell variables.now (values_of store.old) place ∷ [])) size) }
-    ensures vars { OnOk result (values_of store.new ≡ with_size variables.now size None (values_of store.old)) }
-    ensures home { OnOk result (IfSome size (λ place. IsSome (value_at store.old place))) }
-    ensures kinds { store.new.kinds ≡ store.old.kinds }
-    ensures fits { IfSome size (λ place. IsSome (value_at store.old place)) → result ≢ Err Lost.Unfit }
-    ensures causes { (result ≢ Err Lost.Disk) × (result ≢ Err Lost.Sink) }
-{
-    let Some(place) = size else {
-        return Ok(None);
-    };
-    if !is_home(store, place) {
-        return Err(Lost::Unfit);
-    }
-    let run = Run::of_place(place);
-    let moved = store.take_out(alloc, &[run])?;
-    Ok(Some(moved))
 }
 
 /// The items of a transfer, the cell of SIZE=, and the numbers that REC= and POS= give.
@@ -170,8 +139,8 @@ fn job_with(
     })
 }
 
-/// The job of a READ or WRITE of a line, under an identifier, which is 0 where it is not pending. The items of an input and
-/// SIZE= are moved out of the variables, the values of an output are copied. `Unfit`: a place has no value, or one of an
+/// The job of a READ or WRITE of a line, under an identifier, which is 0 where it is not pending. The items of an input are moved
+/// out of the variables, and SIZE= is undefined; the values of an output are copied. `Unfit`: items are too many, or a value of an
 /// output is not of its kind. After an `Err` the variables have their kinds, and nothing is said of their values.
 pub fn moving(
     alloc: Global,
@@ -188,14 +157,15 @@ pub fn moving(
         ≡ without_values variables.now t.now (moved_in variables.now (values_of store.old) t.now) (values_of store.old)) }
     ensures kinds { store.new.kinds ≡ store.old.kinds }
     ensures keeps { AreKept variables.now (values_of store.old) → OnOk result (AreKept variables.now (values_of store.new)) }
-    ensures fits { IsTransfer variables.now t.now → Finds variables.now store.old t.now → result ≢ Err Lost.Unfit }
+    ensures fits { IsTransfer variables.now t.now → Finds variables.now (values_of store.old) t.now → result ≢ Err Lost.Unfit }
     ensures causes { (result ≢ Err Lost.Disk) × (result ≢ Err Lost.Sink) }
 {
     let rec = number_given(store, t.rec.as_ref());
     let pos = number_given(store, t.pos.as_ref());
+    let size = size_copied(alloc, variables, store, t.size)?;
     if t.input {
         let moved = taken(alloc, variables, store, t)?;
-        let size = size_taken(alloc, variables, store, t.size)?;
+        undefine_size(variables, store, t.size);
         let parts = Parts {
             moved: Load::of_cells(moved),
             size,
@@ -206,7 +176,6 @@ pub fn moving(
         return job_with(alloc, variables, line, tag, t, parts);
     }
     let copy = copied(alloc, variables, store, t)?;
-    let size = size_copied(alloc, variables, store, t.size)?;
     let parts = Parts {
         moved: copy.moved,
         size,

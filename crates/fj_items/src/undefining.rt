@@ -97,7 +97,8 @@ fn undefine_group(variables: &Variables, store: &mut Store, control: &Control)
     }
 }
 
-fn undefine_size(variables: &Variables, store: &mut Store, size: Option<Place>)
+/// SIZE= is undefined.
+pub(crate) fn undefine_size(variables: &Variables, store: &mut Store, size: Option<Place>)
     ensures vars { values_of store.new ≡ with_size variables.now size None (values_of store.old) }
     ensures kinds { store.new.kinds ≡ store.old.kinds }
 {

@@ -1,7 +1,7 @@
--- Taking pieces gives the cells of the items, and putting the cells back leaves the table as it was.
-use Rattle.std.proofs.Common.{◌≡◌, ◌↔◌, ◌&&◌, ◌||◌, ℕ, zero, suc, ◌+◌, ◌-◌, ◌<◌, ◌≤◌, eqb, cond, Bool, IsTrue, true, false, List, [], ◌∷◌, ◌++◌, length, map, take, drop, get_or, Option, Some, None, is_none, IsSome, All, refl, sym, ap, subst, ◌∙◌, inl, inr, arith, rules}
+-- Copying pieces gives the cells of the items.
+use Rattle.std.proofs.Common.{◌≡◌, ◌↔◌, ◌&&◌, ◌||◌, ℕ, zero, suc, ◌+◌, ◌-◌, ◌<◌, ◌≤◌, eqb, cond, Bool, IsTrue, true, false, List, [], ◌∷◌, ◌++◌, length, map, take, drop, get_or, Option, Some, None, All, refl, sym, ap, subst, ◌∙◌, inl, inr, arith, rules}
 use Rattle.std.proofs.lemmas.Bool.{false≢true}
-use Rattle.std.specs.List.{list_any, range_with_len}
+use Rattle.std.specs.List.{range_with_len}
 use Rattle.std.specs.Option.{option_map, option_flatten}
 use Rattle.fj_value.specs.Kind.{IsOfKind}
 use Rattle.std.proofs.lemmas.Bool.Decides.{eqb_tells, nat_tests}
@@ -25,18 +25,79 @@ use Rattle.fj_store.specs.declared.run.Run.{Run}
 use Rattle.fj_store.specs.declared.slot.Slot.{Slot}
 use Rattle.fj_store.specs.declared.slot.Slot.TheVariants.{Home, Out}
 use Rattle.fj_store.specs.Kinds.{kind_at, of_kind}
-use Rattle.fj_store.specs.Pieces.{no_variable, own_cell, cells_from, places_among, size_of, sizes, AreDefined}
+use Rattle.fj_store.specs.Pieces.{no_variable, own_cell, cells_from, size_of, sizes, AreDefined}
 use Rattle.fj_store.specs.Places.{same_place, counted_from, places_of}
 use Rattle.fj_store.specs.Tables.{element_at, with_element, with_cells}
 use Rattle.fj_store.specs.Variables.{is_at, with_item, moved_from, moved_of}
 use Rattle.fj_store.specs.Storage.{Storage, storage, value_in, value_at, cell_at}
-use Rattle.fj_store.specs.Taking.{Taking, taken_by, take_one, take_all, take_pieces, with_own, home, home_again}
+use Rattle.fj_store.specs.Taking.{AreUnused, IsMarkedAt, cell_read, value_read, values_in, home}
 use Rattle.fj_list.proofs.LoadLemmas.{row_all, row_more}
-use Rattle.fj_store.proofs.TableLemmas.{places_tell, with_itself, with_missing, past_rows, same_fields}
+use Rattle.fj_store.proofs.TableLemmas.{places_tell, mapped_at, mapped_with, with_itself, with_missing, with_twice, same_fields}
 use Rattle.fj_store.proofs.StoreLemmas.{cells_more, stored_read}
-use Rattle.fj_store.proofs.LawLemmas.{absorbed}
 use Rattle.fj_store.proofs.RunLemmas.{run_long}
-use Rattle.fj_store.proofs.TakingLemmas.{slot_for, Marks, no_marks, mark_other, moved_in, Takes, takes_one, IsHome, home_at, cell_is, position_low}
+use Rattle.fj_store.proofs.TakingLemmas.{item_other, marked_by}
+
+-- ---- one place
+
+-- a value that is put back under another mark
+pub remarked : (slots slots' new : List (List Slot)) (p : Place) (o : Option Slot) (mark at : ℕ) (v : Value) → o ≡ element_at slots p → o ≡ Some (Home mark v) → slots' ≡ with_element slots p (Out at) → new ≡ with_element slots' p (Home at v)
+    → (values_in new ≡ values_in slots) × IsMarkedAt slots new p at
+remarked slots slots' new p o mark at v there is out put =
+    let whole : new ≡ with_element slots p (Home at v) = put ∙ ap (λ rows. with_element rows p (Home at v)) out ∙ with_twice slots p (Out at) (Home at v) in
+    let value : element_at (values_in slots) p ≡ Some (Some v) = mapped_at value_in slots p ∙ ap (option_map value_in) (sym there ∙ is) in (
+      ap values_in whole ∙ mapped_with value_in slots p (Home at v) ∙ with_itself (values_in slots) p (Some v) value,
+      subst (λ rows. IsMarkedAt slots rows p at) (sym whole) (marked_by slots p (Home at v) at refl),
+    )
+
+-- a place that is out already, or that there is not
+abbrev pub at_home : Option Slot → Bool
+at_home None = false
+at_home (Some (Home mark v)) = true
+at_home (Some (Out mark)) = false
+
+pub out_again : (slots new : List (List Slot)) (p : Place) (o : Option Slot) (at : ℕ) → o ≡ element_at slots p → at_home o ≡ false → new ≡ with_element slots p (Out at)
+    → (values_in new ≡ values_in slots) × IsMarkedAt slots new p at × (Undefined ≡ unwrap_or (option_flatten (element_at (values_in slots) p)) Undefined)
+out_again slots new p o at there not put =
+    let none : Option Value = None in
+    let go : (x : Option Slot) → element_at slots p ≡ x → at_home x ≡ false
+    → (with_element (values_in slots) p None ≡ values_in slots) × (Undefined ≡ unwrap_or (option_flatten (option_map value_in x)) Undefined) =
+    λ x. elim x as (λ z. element_at slots p ≡ z → at_home z ≡ false
+    → (with_element (values_in slots) p None ≡ values_in slots) × (Undefined ≡ unwrap_or (option_flatten (option_map value_in z)) Undefined)) [
+      | None ↦ λ e h. (with_missing (values_in slots) p none (mapped_at value_in slots p ∙ ap (option_map value_in) e), refl)
+      | Some s ↦ elim s as (λ z. element_at slots p ≡ Some z → at_home (Some z) ≡ false
+          → (with_element (values_in slots) p None ≡ values_in slots) × (Undefined ≡ unwrap_or (option_flatten (option_map value_in (Some z))) Undefined)) [
+            | Home mark v ↦ λ e h. absurd (false≢true (sym h))
+            | Out n ↦ λ e h. (with_itself (values_in slots) p none (mapped_at value_in slots p ∙ ap (option_map value_in) e), refl)
+          ]
+    ] in
+    let found = go (element_at slots p) refl (ap at_home (sym there) ∙ not) in (
+      ap values_in put ∙ mapped_with value_in slots p (Out at) ∙ found.0,
+      subst (λ rows. IsMarkedAt slots rows p at) (sym put) (marked_by slots p (Out at) at refl),
+      found.1 ∙ ap (λ x. unwrap_or (option_flatten x) Undefined) (sym (mapped_at value_in slots p)),
+    )
+
+-- ---- places one behind the other
+
+pub copy_step : (kind : Kind) (values values' : List (List (Option Value))) (moved moved' want : Moved) (var first count at : ℕ) (p : Place) → at < count → p.var ≡ var → p.index ≡ first + at → values' ≡ values
+    → moved' ≡ with_item moved (cell_read kind values' p)
+    → moved_from moved (map (cell_read kind values) (counted_from var (first + at) (count - at))) ≡ want
+    → moved_from moved' (map (cell_read kind values) (counted_from var (first + (at + 1)) (count - (at + 1)))) ≡ want
+copy_step kind values values' moved moved' want var first count at p low var_is index_is same step so_far =
+    let here : Place = record { var = var; index = first + at } in
+    let left : count - at ≡ suc (count - (at + 1)) = omega arith in
+    let next : first + (at + 1) ≡ (first + at) + 1 = omega arith in
+    ap (λ n. moved_from moved' (map (cell_read kind values) (counted_from var n (count - (at + 1))))) next
+    ∙ ap (λ m. moved_from m (map (cell_read kind values) (counted_from var ((first + at) + 1) (count - (at + 1)))))
+    (step ∙ ap (λ v. with_item moved (cell_read kind v p)) same ∙ ap (λ q. with_item moved (cell_read kind values q)) (same_fields p here var_is index_is))
+    ∙ sym (ap (λ n. moved_from moved (map (cell_read kind values) (counted_from var (first + at) n))) left)
+    ∙ so_far
+
+-- the cells of a run's places, by the kind of its variable
+run_cells : (kinds : List Kind) (values : List (List (Option Value))) (var first n : ℕ) → map (cell_read (kind_at kinds var) values) (counted_from var first n) ≡ map (cell_at (record { kinds = kinds; values = values })) (counted_from var first n)
+run_cells kinds values var first zero = refl
+run_cells kinds values var first (suc n) =
+    let p : Place = record { var = var; index = first } in
+    ap (λ cells. cell_read (kind_at kinds var) values p ∷ cells) (run_cells kinds values var (first + 1) n)
 
 -- ---- a cell more
 
@@ -52,193 +113,85 @@ not_found cells cell p e differ =
     ∙ at_end (position_or_len (is_at p) cells) (length cells) e
     ∙ sym (length-append cells (cell ∷ []))
 
--- the mark of a place that is not that of the next cell
-later_mark : (cells : List Cell) (cell : Cell) (q : Place) (w : Value) → same_place q cell.place ≡ false
-    → slot_for (position_or_len (is_at q) (cells ++ cell ∷ [])) (length (cells ++ cell ∷ [])) w ≡ slot_for (position_or_len (is_at q) cells) (length cells) w
-later_mark cells cell q w differ =
-    ap (λ at. slot_for at (length (cells ++ cell ∷ [])) w) (position_or_len_push (is_at q) cells cell)
-    ∙ ap (λ n. slot_for (cond (eqb (position_or_len (is_at q) cells) (length cells)) (length cells + cond (same_place q cell.place) 0 1) (position_or_len (is_at q) cells)) n w) (length-append cells (cell ∷ []))
-    ∙ ap (λ b. slot_for (cond (eqb (position_or_len (is_at q) cells) (length cells)) (length cells + cond b 0 1) (position_or_len (is_at q) cells)) (length cells + 1) w) differ
-    ∙ mark_other (position_or_len (is_at q) cells) (length cells) w (position_low (is_at q) cells)
+-- ---- numbers of own values that have no cell
 
--- ---- what holds while pieces are taken
-
--- numbers of own values from this one on are free
-record Held (start : List (List Slot)) (number : ℕ) (t : Taking) : Type 0 where
-  marks : Marks start t.slots t.cells
-  free : (p : Place) → p.var ≡ no_variable → number ≤ p.index → position_or_len (is_at p) t.cells ≡ length t.cells
-  back : with_cells home_again t.cells t.slots ≡ start
-
-no_home : (start : List (List Slot)) (p : Place) → length start ≤ no_variable → p.var ≡ no_variable → element_at start p ≡ None
-no_home start p few e = let past : length start ≤ p.var = omega (arith, e) in sym (past_rows start start p refl past)
-
--- a place that is at home is not one of no variable
-other_place : (start : List (List Slot)) (p q : Place) (v : Value) → length start ≤ no_variable → element_at start p ≡ Some (Home v) → q.var ≡ no_variable → same_place q p ≡ false
-other_place start p q v few home var = elim (places_tell q p) [
-  | inl same ↦ let P : Place → Type 0 = λ z. element_at start z ≡ None in let none : element_at start p ≡ None = subst P same.1 (no_home start q few var) in cc
+other_var : (p q : Place) → p.var ≡ no_variable → (q.var ≡ no_variable → ⊥) → same_place p q ≡ false
+other_var p q none some = elim (places_tell p q) [
+  | inl same ↦ absurd (some (ap (λ (z : Place). z.var) (sym same.1) ∙ none))
   | inr other ↦ other.0
 ]
 
-place_free : (start : List (List Slot)) (number : ℕ) (t : Taking) (cell : Cell) → length start ≤ no_variable → Held start number t → element_at start cell.place ≡ Some (Home cell.value)
-    → (p : Place) → p.var ≡ no_variable → number ≤ p.index → position_or_len (is_at p) (take_one cell.kind t cell.place).cells ≡ length (take_one cell.kind t cell.place).cells
-place_free start number t cell few h home p var high =
-    let P : Option Slot → Type 0 = λ o. position_or_len (is_at p) (taken_by o cell.kind t cell.place).cells ≡ length (taken_by o cell.kind t cell.place).cells in
-    let go : (o : Option Slot) → P o =
-    λ o. elim o as P [
-      | None ↦ h.free p var high
-      | Some s ↦ elim s as (λ z. P (Some z)) [
-        | Home v ↦ not_found t.cells (record { place = cell.place; kind = cell.kind; value = v }) p (h.free p var high) (other_place start cell.place p cell.value few home var)
-        | Out n ↦ h.free p var high
-      ]
-    ] in
-    go (element_at t.slots cell.place)
+unused_beside : (moved : Moved) (cell : Cell) (p : Place) → position_or_len (is_at p) moved.cells ≡ length moved.cells → same_place p cell.place ≡ false
+    → position_or_len (is_at p) (with_item moved cell).cells ≡ length (with_item moved cell).cells
+unused_beside moved cell p free differ = elim (item_other moved cell p differ) [
+  | inl found ↦ absurd (let low : position_or_len (is_at p) moved.cells < length moved.cells = found.0 in omega (arith, low, free))
+  | inr lost ↦ lost.1
+]
 
--- putting the cells back over a place that was taken out
-place_back : (start : List (List Slot)) (t : Taking) (cell : Cell) → Marks start t.slots t.cells → with_cells home_again t.cells t.slots ≡ start → element_at start cell.place ≡ Some (Home cell.value)
-    → with_cells home_again (take_one cell.kind t cell.place).cells (take_one cell.kind t cell.place).slots ≡ start
-place_back start t cell m back home =
-    let P : Option Slot → Type 0 = λ o. with_cells home_again (taken_by o cell.kind t cell.place).cells (taken_by o cell.kind t cell.place).slots ≡ start in
-    let at : ℕ = position_or_len (is_at cell.place) t.cells in
-    let e : element_at t.slots cell.place ≡ Some (slot_for at (length t.cells) cell.value) = m.marked cell.place cell.value home in
-    elim (eqb_tells at (length t.cells)) [
-      | inl same ↦
-          let here : element_at t.slots cell.place ≡ Some (Home cell.value) = e ∙ ap (λ b. Some (cond b (Home cell.value) (Out at))) same.0 in
-          subst P (sym here) (
-          cells_more home_again t.cells cell (with_element t.slots cell.place (Out (length t.cells)))
-          ∙ absorbed home_again t.cells t.slots cell.place (Out (length t.cells)) (Home cell.value)
-          ∙ ap (λ rows. with_element rows cell.place (Home cell.value)) back
-          ∙ with_itself start cell.place (Home cell.value) home)
-      | inr other ↦
-          let here : element_at t.slots cell.place ≡ Some (Out at) = e ∙ ap (λ b. Some (cond b (Home cell.value) (Out at))) other.0 in
-          subst P (sym here) back
-    ]
+unused_item : (number : ℕ) (moved : Moved) (cell : Cell) → (cell.place.var ≡ no_variable → ⊥) → AreUnused number moved.cells → AreUnused number (with_item moved cell).cells
+unused_item number moved cell some free p none high = unused_beside moved cell p (free p none high) (other_var p cell.place none some)
 
-held_place : (start : List (List Slot)) (number : ℕ) (t : Taking) (cell : Cell) → length start ≤ no_variable → Held start number t → element_at start cell.place ≡ Some (Home cell.value)
-    → Held start number (take_one cell.kind t cell.place) × (moved_in (take_one cell.kind t cell.place) ≡ with_item (moved_in t) cell)
-held_place start number t cell few h home =
-    let one : Takes start t (take_one cell.kind t cell.place) cell = takes_one start t cell h.marks home in
-    (record { marks = one.marks; free = place_free start number t cell few h home; back = place_back start t cell h.marks h.back home }, one.item)
+unused_places : (number : ℕ) (kind : Kind) (values : List (List (Option Value))) (var first n : ℕ) (moved : Moved) → (var ≡ no_variable → ⊥) → AreUnused number moved.cells
+    → AreUnused number (moved_from moved (map (cell_read kind values) (counted_from var first n))).cells
+unused_places number kind values var first zero moved some free = free
+unused_places number kind values var first (suc n) moved some free =
+    let cell : Cell = cell_read kind values (record { var = var; index = first }) in
+    unused_places number kind values var (first + 1) n (with_item moved cell) some (unused_item number moved cell some free)
 
--- an own value
-held_own : (start : List (List Slot)) (number : ℕ) (t : Taking) (kind : Kind) (v : Value) → length start ≤ no_variable → Held start number t
-    → Held start (number + 1) (with_own t (own_cell number kind v)) × (moved_in (with_own t (own_cell number kind v)) ≡ with_item (moved_in t) (own_cell number kind v))
-held_own start number t kind v few h =
+pub unused_own : (number : ℕ) (moved moved' : Moved) (kind : Kind) (v : Value) → moved' ≡ with_item moved (own_cell number kind v) → AreUnused number moved.cells → AreUnused (number + 1) moved'.cells
+unused_own number moved moved' kind v step free =
     let cell : Cell = own_cell number kind v in
-    let new : position_or_len (is_at cell.place) t.cells ≡ length t.cells = h.free cell.place refl (omega arith) in
-    let test : eqb (position_or_len (is_at cell.place) t.cells) (length t.cells) ≡ true = rw new (grind (arith, nat_tests)) in (
-      record {
-        marks = record {
-          marked = λ p w home. h.marks.marked p w home ∙ ap (λ s. Some s) (sym (later_mark t.cells cell p w (
-              elim (places_tell p cell.place) [
-                | inl same ↦
-                    let P : Place → Type 0 = λ z. element_at start z ≡ Some (Home w) in
-                    let there : element_at start cell.place ≡ Some (Home w) = subst P same.1 home in
-                    let none : element_at start cell.place ≡ None = no_home start cell.place few refl in cc
-                | inr other ↦ other.0
-              ])));
-        };
-        free = λ p var high.
-            let apart : same_place p cell.place ≡ false = grind (arith, nat_tests) in
-            not_found t.cells cell p (h.free p var (omega arith)) apart;
-        back =
-            cells_more home_again t.cells cell t.slots
-            ∙ ap (λ rows. with_element rows cell.place (Home v)) h.back
-            ∙ with_missing start cell.place (Home v) (no_home start cell.place few refl);
-      },
-      ap (λ n. let moved : Moved = record { cells = t.cells ++ cell ∷ []; order = t.order ++ n ∷ [] } in moved) (sym new)
-          ∙ ap (λ b. let moved : Moved = record { cells = cond b (t.cells ++ cell ∷ []) t.cells; order = t.order ++ position_or_len (is_at cell.place) t.cells ∷ [] } in moved) (sym test),
-    )
+    let go : AreUnused (number + 1) (with_item moved cell).cells =
+    λ p none high. let apart : same_place p cell.place ≡ false = grind (arith, nat_tests) in unused_beside moved cell p (free p none (omega arith)) apart in
+    subst (λ (m : Moved). AreUnused (number + 1) m.cells) (sym step) go
 
--- ---- places one behind the other
+pub unused_run : (number : ℕ) (kind : Kind) (values : List (List (Option Value))) (moved moved' : Moved) (run : Run) (mixed mixed' : Bool) → mixed' ≡ (mixed || eqb run.var no_variable)
+    → moved' ≡ moved_from moved (map (cell_read kind values) (places_of run)) → (mixed ≡ false → AreUnused number moved.cells) → mixed' ≡ false → AreUnused number moved'.cells
+unused_run number kind values moved moved' run mixed mixed' is step free unmixed =
+    let go : (b c : Bool) → (b || c) ≡ false → (b ≡ false) × (c ≡ false) =
+    λ b c. elim b as (λ z. (z || c) ≡ false → (z ≡ false) × (c ≡ false)) [ true ↦ λ e. absurd (false≢true (sym e)) | false ↦ λ e. (refl, e) ] in
+    let parts = go mixed (eqb run.var no_variable) (sym is ∙ unmixed) in
+    let some : run.var ≡ no_variable → ⊥ = λ e. elim (eqb_tells run.var no_variable) [ inl same ↦ false≢true (sym parts.1 ∙ same.0) | inr differ ↦ differ.1 e ] in
+    subst (λ (m : Moved). AreUnused number m.cells) (sym step) (unused_places number kind values run.var run.first run.count moved some (free parts.0))
 
-held_places : (kinds : List Kind) (start : List (List Slot)) (number var first n : ℕ) (t : Taking) → length start ≤ no_variable → Held start number t → All (IsHome kinds start) (counted_from var first n)
-    → Held start number (take_all (kind_at kinds var) t (counted_from var first n))
-    × (moved_in (take_all (kind_at kinds var) t (counted_from var first n)) ≡ moved_from (moved_in t) (map (cell_at (storage kinds start)) (counted_from var first n)))
-held_places kinds start number var first zero t few h homes = (h, refl)
-held_places kinds start number var first (suc n) t few h homes =
-    let p : Place = record { var = var; index = first } in
-    let found : (v : Value) × (element_at start p ≡ Some (Home v)) = home_at kinds start p (All-head (IsHome kinds start) p (counted_from var (first + 1) n) homes) in
-    let cell : Cell = record { place = p; kind = kind_at kinds var; value = found.0 } in
-    let one = held_place start number t cell few h found.1 in
-    let rest = held_places kinds start number var (first + 1) n (take_one (kind_at kinds var) t p) few one.0 (All-tail (IsHome kinds start) p (counted_from var (first + 1) n) homes) in (
-      rest.0,
-      rest.1 ∙ ap (λ moved. moved_from moved (map (cell_at (storage kinds start)) (counted_from var (first + 1) n))) (one.1 ∙ ap (with_item (moved_in t)) (sym (cell_is kinds start p found.0 found.1))),
-    )
+pub none_used : (cells : List Cell) → cells ≡ [] → AreUnused 1 cells
+none_used cells none p var high = ap (position_or_len (is_at p)) none ∙ sym (ap length none)
 
--- ---- pieces
+-- ---- the steps of the loop over pieces
 
 from_append : (moved : Moved) (xs ys : List Cell) → moved_from moved (xs ++ ys) ≡ moved_from (moved_from moved xs) ys
 from_append moved [] ys = refl
 from_append moved (x ∷ xs) ys = from_append (with_item moved x) xs ys
 
-all_front : {A : Type 0} → (P : A → Type 0) (xs ys : List A) → All P (xs ++ ys) → All P xs
-all_front P xs ys h = λ k d low.
-    let long : k < length (xs ++ ys) = omega (arith, length-append xs ys) in
-    subst P (get_or_append_left xs ys d k low) (h k d long)
+pub places_step : (kinds : List Kind) (start : List (List Slot)) (values : List (List (Option Value))) (number : ℕ) (moved moved' want : Moved) (items rest : List Piece) (run : Run) (kind : Kind) → items ≡ Places run ∷ rest → kind ≡ kind_at kinds run.var
+    → values ≡ values_in start → moved' ≡ moved_from moved (map (cell_read kind values) (places_of run))
+    → moved_from moved (cells_from (storage kinds start) number items) ≡ want → moved_from moved' (cells_from (storage kinds start) number rest) ≡ want
+places_step kinds start values number moved moved' want items rest run kind e kind_is same step so_far =
+    let s : Storage = storage kinds start in
+    ap (λ m. moved_from m (cells_from s number rest))
+    (step ∙ ap (λ k. moved_from moved (map (cell_read k values) (places_of run))) kind_is ∙ ap (λ v. moved_from moved (map (cell_read (kind_at kinds run.var) v) (places_of run))) same
+    ∙ ap (moved_from moved) (run_cells kinds (values_in start) run.var run.first run.count))
+    ∙ sym (from_append moved (map (cell_at s) (places_of run)) (cells_from s number rest))
+    ∙ sym (ap (λ ps. moved_from moved (cells_from s number ps)) e)
+    ∙ so_far
 
-all_behind : {A : Type 0} → (P : A → Type 0) (xs ys : List A) → All P (xs ++ ys) → All P ys
-all_behind P [] ys h = h
-all_behind P (x ∷ xs) ys h = all_behind P xs ys (All-tail P x (xs ++ ys) h)
-
-held_pieces : (kinds : List Kind) (start : List (List Slot)) (number : ℕ) (t : Taking) (pieces : List Piece) → length start ≤ no_variable → Held start number t → All (IsHome kinds start) (places_among pieces)
-    → (moved_in (take_pieces kinds number t pieces) ≡ moved_from (moved_in t) (cells_from (storage kinds start) number pieces))
-    × (with_cells home_again (take_pieces kinds number t pieces).cells (take_pieces kinds number t pieces).slots ≡ start)
-held_pieces kinds start number t [] few h homes = (refl, h.back)
-held_pieces kinds start number t (Places run ∷ pieces) few h homes =
-    let one = held_places kinds start number run.var run.first run.count t few h (all_front (IsHome kinds start) (places_of run) (places_among pieces) homes) in
-    let rest = held_pieces kinds start number (take_all (kind_at kinds run.var) t (places_of run)) pieces few one.0 (all_behind (IsHome kinds start) (places_of run) (places_among pieces) homes) in (
-      rest.0
-          ∙ ap (λ moved. moved_from moved (cells_from (storage kinds start) number pieces)) one.1
-          ∙ sym (from_append (moved_in t) (map (cell_at (storage kinds start)) (places_of run)) (cells_from (storage kinds start) number pieces)),
-      rest.1,
-    )
-held_pieces kinds start number t (Own kind v ∷ pieces) few h homes =
-    let one = held_own start number t kind v few h in
-    let rest = held_pieces kinds start (number + 1) (with_own t (own_cell number kind v)) pieces few one.0 homes in (
-      rest.0 ∙ ap (λ moved. moved_from moved (cells_from (storage kinds start) (number + 1) pieces)) one.1,
-      rest.1,
-    )
-
--- what copying pieces of a table comes to
-pub copied : (kinds : List Kind) (start : List (List Slot)) (pieces : List Piece) → length start ≤ no_variable → All (IsHome kinds start) (places_among pieces)
-    → (moved_in (take_pieces kinds 1 (record { slots = start; cells = []; order = [] }) pieces) ≡ moved_of (cells_from (storage kinds start) 1 pieces))
-    × (with_cells home_again (take_pieces kinds 1 (record { slots = start; cells = []; order = [] }) pieces).cells (take_pieces kinds 1 (record { slots = start; cells = []; order = [] }) pieces).slots ≡ start)
-copied kinds start pieces few homes =
-    held_pieces kinds start 1 (record { slots = start; cells = []; order = [] }) pieces few (record { marks = no_marks start; free = λ p var high. refl; back = refl }) homes
-
--- ---- the steps of the loops
-
-pub places_step : (kinds : List Kind) (number : ℕ) (t t' want : Taking) (items rest : List Piece) (run : Run) (kind : Kind) → items ≡ Places run ∷ rest → kind ≡ kind_at kinds run.var → t' ≡ take_all kind t (places_of run)
-    → take_pieces kinds number t items ≡ want → take_pieces kinds number t' rest ≡ want
-places_step kinds number t t' want items rest run kind e kind_is step so_far =
-    ap (λ x. take_pieces kinds number x rest) (step ∙ ap (λ k. take_all k t (places_of run)) kind_is) ∙ sym (ap (take_pieces kinds number t) e) ∙ so_far
-
-pub own_step : (kinds : List Kind) (number : ℕ) (t t' want : Taking) (items rest : List Piece) (kind : Kind) (v : Value) → items ≡ Own kind v ∷ rest → t' ≡ with_own t (own_cell number kind v)
-    → take_pieces kinds number t items ≡ want → take_pieces kinds (number + 1) t' rest ≡ want
-own_step kinds number t t' want items rest kind v e step so_far =
-    ap (λ x. take_pieces kinds (number + 1) x rest) step ∙ sym (ap (take_pieces kinds number t) e) ∙ so_far
+pub own_step : (s : Storage) (number : ℕ) (moved moved' want : Moved) (items rest : List Piece) (kind : Kind) (v : Value) → items ≡ Own kind v ∷ rest → moved' ≡ with_item moved (own_cell number kind v)
+    → moved_from moved (cells_from s number items) ≡ want → moved_from moved' (cells_from s (number + 1) rest) ≡ want
+own_step s number moved moved' want items rest kind v e step so_far =
+    ap (λ m. moved_from m (cells_from s (number + 1) rest)) step ∙ sym (ap (λ ps. moved_from moved (cells_from s number ps)) e) ∙ so_far
 
 pub size_step : (items rest : List Piece) (piece : Piece) → items ≡ piece ∷ rest → sizes items ≡ size_of piece + sizes rest
 size_step items rest piece e = ap sizes e
 
 -- the same, of a store
-pub copy_is : (kinds ks : List Kind) (start new : List (List Slot)) (pieces : List Piece) (s : Storage) (cells : List Cell) (order : List ℕ) (t : Taking) → storage kinds start ≡ s → ks ≡ kinds → cells ≡ [] → order ≡ []
-    → length s.values ≤ no_variable → All (λ place. IsSome (value_at s place)) (places_among pieces) → t ≡ take_pieces ks 1 (record { slots = start; cells = cells; order = order }) pieces
-    → new ≡ with_cells home_again t.cells t.slots
-    → (record { cells = t.cells; order = t.order } ≡ moved_of (cells_from s 1 pieces)) × (storage kinds new ≡ s)
-copy_is kinds ks start new pieces s cells order t view same none empty few homes is put =
-    let P : Storage → Type 0 = λ z. All (λ place. IsSome (value_at z place)) (places_among pieces) in
-    let N : Storage → Type 0 = λ z. length z.values ≤ no_variable in
-    let rows : length start ≤ no_variable = let long : length (map (map value_in) start) ≤ no_variable = subst N (sym view) few in omega (arith, long, length-map start (map value_in)) in
-    let begun : Taking = record { slots = start; cells = []; order = [] } in
-    let whole : t ≡ take_pieces kinds 1 begun pieces =
-    is ∙ ap (λ k. take_pieces k 1 (record { slots = start; cells = cells; order = order }) pieces) same
-    ∙ ap (λ c. let x : Taking = record { slots = start; cells = c; order = order } in take_pieces kinds 1 x pieces) none
-    ∙ ap (λ o. let x : Taking = record { slots = start; cells = []; order = o } in take_pieces kinds 1 x pieces) empty in
-    let done = copied kinds start pieces rows (subst P (sym view) homes) in (
-      ap moved_in whole ∙ done.0 ∙ ap (λ z. moved_of (cells_from z 1 pieces)) view,
-      ap (storage kinds) (put ∙ ap (λ x. with_cells home_again x.cells x.slots) whole ∙ done.1) ∙ view,
-    )
+pub copy_is : (kinds ks : List Kind) (start : List (List Slot)) (pieces : List Piece) (s : Storage) (cells : List Cell) (order : List ℕ) (moved : Moved) → storage kinds start ≡ s → ks ≡ kinds → cells ≡ [] → order ≡ []
+    → moved ≡ moved_from (record { cells = cells; order = order }) (cells_from (storage ks start) 1 pieces) → moved ≡ moved_of (cells_from s 1 pieces)
+copy_is kinds ks start pieces s cells order moved view same none empty is =
+    let at : List Cell → List ℕ → Moved = λ c o. record { cells = c; order = o } in
+    is ∙ ap (λ k. moved_from (at cells order) (cells_from (storage k start) 1 pieces)) same
+    ∙ ap (λ z. moved_from (at cells order) (cells_from z 1 pieces)) view
+    ∙ ap (λ c. moved_from (at c order) (cells_from s 1 pieces)) none
+    ∙ ap (λ o. moved_from (at [] o) (cells_from s 1 pieces)) empty
 
 -- ---- a run alone
 
@@ -264,13 +217,6 @@ free_item moved cell new =
     ap (λ b. let it : Moved = record { cells = cond b (moved.cells ++ cell ∷ []) moved.cells; order = moved.order ++ position_or_len (is_at cell.place) moved.cells ∷ [] } in it) test
     ∙ ap (λ n. let it : Moved = record { cells = moved.cells ++ cell ∷ []; order = moved.order ++ n ∷ [] } in it) new
 
--- the cell of a place that was read
-pub cell_read : (s : Storage) (p q : Place) (kind : Kind) (v : Value) → p ≡ q → kind ≡ kind_at s.kinds q.var → Some v ≡ value_at s q → record { place = p; kind = kind; value = v } ≡ cell_at s q
-cell_read s p q kind v place kind_is value =
-    ap (λ x. let it : Cell = record { place = x; kind = kind; value = v } in it) place
-    ∙ ap (λ k. let it : Cell = record { place = q; kind = k; value = v } in it) kind_is
-    ∙ ap (λ o. let it : Cell = record { place = q; kind = kind_at s.kinds q.var; value = unwrap_or o Undefined } in it) value
-
 -- the places of a run are as many cells, each with one item
 pub run_alone : (s : Storage) (var first n : ℕ) (moved : Moved) → AreFree var first moved.cells
     → moved_from moved (map (cell_at s) (counted_from var first n)) ≡ record { cells = moved.cells ++ map (cell_at s) (counted_from var first n); order = moved.order ++ range_with_len (length moved.cells) n }
@@ -290,50 +236,57 @@ run_alone s var first (suc n) moved free =
     ∙ ap (λ k. both (moved.cells ++ cell ∷ more) (next.order ++ range_with_len k n)) long
     ∙ ap (both (moved.cells ++ cell ∷ more)) (append_assoc moved.order (length moved.cells ∷ []) (range_with_len (length moved.cells + 1) n))
 
--- what stands at the places of a run, as the cells of a row
-pub row_read : (kinds : List Kind) (slots : List (List Slot)) (s : Storage) (kind : Kind) (var first n : ℕ) (values : List Value) → storage kinds slots ≡ s → kind ≡ kind_at s.kinds var
-    → map Some (map Home values) ≡ map (element_at slots) (counted_from var first n)
-    → row_cells (record { var = var; index = first }) kind values ≡ map (cell_at s) (counted_from var first n)
+-- what is read at the places of a run, as the cells of a row
+row_read : (kinds : List Kind) (slots : List (List Slot)) (s : Storage) (kind : Kind) (var first n : ℕ) (row : List Slot) → storage kinds slots ≡ s → kind ≡ kind_at s.kinds var
+    → map Some row ≡ map (element_at slots) (counted_from var first n)
+    → row_cells (record { var = var; index = first }) kind (map value_read row) ≡ map (cell_at s) (counted_from var first n)
 row_read kinds slots s kind var first zero [] view same read = refl
 row_read kinds slots s kind var first (suc n) [] view same read = absurd (let never : 0 ≡ suc (length (map (element_at slots) (counted_from var (first + 1) n))) = ap length read in omega (arith, never))
-row_read kinds slots s kind var first zero (v ∷ vs) view same read = absurd (let never : suc (length (map Some (map Home vs))) ≡ 0 = ap length read in omega (arith, never))
-row_read kinds slots s kind var first (suc n) (v ∷ vs) view same read =
+row_read kinds slots s kind var first zero (x ∷ row) view same read = absurd (let never : suc (length (map (λ (y : Slot). Some y) row)) ≡ 0 = ap length read in omega (arith, never))
+row_read kinds slots s kind var first (suc n) (x ∷ row) view same read =
     let p : Place = record { var = var; index = first } in
     let none : Option Slot = None in
-    let here : Some (Home v) ≡ element_at slots p = ap (λ l. get_or l 0 none) read in
-    let value : Some v ≡ value_at s p = ap (λ o. option_flatten (option_map value_in o)) here ∙ sym (stored_read kinds slots s p view) in
-    ap (λ c. c ∷ row_cells (record { var = var; index = first + 1 }) kind vs) (cell_read s p p kind v refl same value)
-    ∙ ap (λ l. cell_at s p ∷ l) (row_read kinds slots s kind var (first + 1) n vs view same (ap (drop 1) read))
+    let here : Some x ≡ element_at slots p = ap (λ l. get_or l 0 none) read in
+    let value : value_read x ≡ unwrap_or (value_at s p) Undefined =
+    ap (λ o. unwrap_or (option_flatten (option_map value_in o)) Undefined) here ∙ ap (λ (o : Option Value). unwrap_or o Undefined) (sym (stored_read kinds slots s p view)) in
+    let cell : cell_of p kind (value_read x) ≡ cell_at s p = ap (λ k. cell_of p k (value_read x)) same ∙ ap (cell_of p (kind_at s.kinds var)) value in
+    ap (λ c. c ∷ row_cells (record { var = var; index = first + 1 }) kind (map value_read row)) cell
+    ∙ ap (λ l. cell_at s p ∷ l) (row_read kinds slots s kind var (first + 1) n row view same (ap (drop 1) read))
+  where
+    cell_of : Place → Kind → Value → Cell
+    cell_of p kind v = record { place = p; kind = kind; value = v }
 
-pub row_count : (slots : List (List Slot)) (row : List Slot) (var first n : ℕ) (values : List Value) → map Some row ≡ map (element_at slots) (counted_from var first n) → map Home values ≡ row → length values ≡ n
-row_count slots row var first n values read is = sym (length-map values Home) ∙ ap length is ∙ run_long slots row var first n read
+pub row_count : (slots : List (List Slot)) (row : List Slot) (var first n : ℕ) (values : List Value) → map Some row ≡ map (element_at slots) (counted_from var first n) → values ≡ map value_read row → length values ≡ n
+row_count slots row var first n values read is = ap length is ∙ length-map row value_read ∙ run_long slots row var first n read
 
 -- these are the items that are copied
 pub row_moved : (kinds : List Kind) (slots : List (List Slot)) (s : Storage) (row : List Slot) (kind : Kind) (var first n : ℕ) (values : List Value) → storage kinds slots ≡ s → kind ≡ kind_at s.kinds var
-    → map Some row ≡ map (element_at slots) (counted_from var first n) → map Home values ≡ row
+    → map Some row ≡ map (element_at slots) (counted_from var first n) → values ≡ map value_read row
     → record { cells = row_cells (record { var = var; index = first }) kind values; order = range_with_len 0 (length values) } ≡ moved_of (map (cell_at s) (counted_from var first n))
 row_moved kinds slots s row kind var first n values view same read is =
     let both : List Cell → List ℕ → Moved = λ cells order. record { cells = cells; order = order } in
-    ap (λ cs. both cs (range_with_len 0 (length values))) (row_read kinds slots s kind var first n values view same (ap (map Some) is ∙ read))
+    ap (λ cs. both cs (range_with_len 0 (length values))) (ap (row_cells (record { var = var; index = first }) kind) is ∙ row_read kinds slots s kind var first n row view same read)
     ∙ ap (λ k. both (map (cell_at s) (counted_from var first n)) (range_with_len 0 k)) (row_count slots row var first n values read is)
     ∙ sym (run_alone s var first n (both [] []) (none_is_taken var first))
 
 pub row_defined : (var : ℕ) (kind : Kind) (index : ℕ) (values : List Value) → All (IsOfKind kind) values ↔ AreDefined (row_cells (record { var = var; index = index }) kind values)
 row_defined var kind index values = row_all (λ (cell : Cell). IsOfKind cell.kind cell.value) (IsOfKind kind) var kind (λ k v. (λ h. h, λ h. h)) index values
 
--- one slot more that has a value
-pub slot_copied : (slots : List Slot) (i : ℕ) (x : Slot) (v w : Value) (values values' : List Value) → i < length slots → x ≡ get_or slots i x → x ≡ Home v → w ≡ v → values' ≡ values ++ w ∷ []
-    → map Home values ≡ take i slots → map Home values' ≡ take (i + 1) slots
-slot_copied slots i x v w values values' low there is same step so_far =
-    ap (map Home) step ∙ map-append Home values (w ∷ []) ∙ ap (λ l. l ++ Home w ∷ []) so_far ∙ ap (λ y. take i slots ++ y ∷ []) (ap Home same ∙ sym is ∙ there) ∙ sym (take_more slots i x low)
+-- one value more
+pub slot_copied : (slots : List Slot) (i : ℕ) (x : Slot) (v : Value) (values values' : List Value) → i < length slots → x ≡ get_or slots i x → v ≡ value_read x → values' ≡ values ++ v ∷ []
+    → values ≡ map value_read (take i slots) → values' ≡ map value_read (take (i + 1) slots)
+slot_copied slots i x v values values' low there is step so_far =
+    step ∙ ap (λ l. l ++ v ∷ []) so_far ∙ ap (λ w. map value_read (take i slots) ++ w ∷ []) (is ∙ ap value_read there)
+    ∙ sym (ap (map value_read) (take_more slots i x low) ∙ map-append value_read (take i slots) (get_or slots i x ∷ []))
 
-pub none_found : {T : Type 0} → (o : Option T) → ((x : T) → o ≡ Some x → ⊥) → true ≡ is_none o
-none_found None h = refl
-none_found (Some x) h = absurd (h x refl)
+all_front : {A : Type 0} → (P : A → Type 0) (xs ys : List A) → All P (xs ++ ys) → All P xs
+all_front P xs ys h = λ k d low.
+    let long : k < length (xs ++ ys) = omega (arith, length-append xs ys) in
+    subst P (get_or_append_left xs ys d k low) (h k d long)
 
-pub none_is_out : (values : List Value) → list_any (λ slot. is_none (value_in slot)) (map Home values) ≡ false
-none_is_out [] = refl
-none_is_out (v ∷ vs) = none_is_out vs
+all_behind : {A : Type 0} → (P : A → Type 0) (xs ys : List A) → All P (xs ++ ys) → All P ys
+all_behind P [] ys h = h
+all_behind P (x ∷ xs) ys h = all_behind P xs ys (All-tail P x (xs ++ ys) h)
 
 -- one more that is as it should be, or is not
 pub defined_more : {A : Type 0} → (P : A → Type 0) (xs xs' : List A) (x : A) (so_far this all : Bool) → xs' ≡ xs ++ x ∷ [] → all ≡ (so_far && this) → (IsTrue this ↔ P x) → (IsTrue so_far ↔ All P xs)
@@ -349,13 +302,13 @@ defined_more P xs xs' x so_far this all step both one before =
 
 pub row_put : (kinds : List Kind) (start slots new : List (List Slot)) (first place : Place) (kind : Kind) (values : List Value) (v v' : Value) (k : Kind)
     → slots ≡ with_cells (home kinds) (row_cells first kind values) start → place.var ≡ first.var → place.index ≡ first.index + length values → k ≡ kind_at kinds first.var → v' ≡ of_kind k v
-    → new ≡ with_element slots place (Home v') → new ≡ with_cells (home kinds) (row_cells first kind (values ++ v ∷ [])) start
+    → new ≡ with_element slots place (Home 0 v') → new ≡ with_cells (home kinds) (row_cells first kind (values ++ v ∷ [])) start
 row_put kinds start slots new first place kind values v v' k so_far var index kind_is made put =
     let there : Place = record { var = first.var; index = place.index } in
     let cell : Cell = record { place = there; kind = kind; value = v } in
     let same : place ≡ there = same_fields place there var refl in
-    put ∙ ap (λ p. with_element slots p (Home v')) same
-    ∙ ap (λ x. with_element slots there (Home x)) (made ∙ ap (λ x. of_kind x v) kind_is)
+    put ∙ ap (λ p. with_element slots p (Home 0 v')) same
+    ∙ ap (λ x. with_element slots there (Home 0 x)) (made ∙ ap (λ x. of_kind x v) kind_is)
     ∙ ap (λ rows. with_element rows there (home kinds cell)) so_far
     ∙ sym (cells_more (home kinds) (row_cells first kind values) cell start)
     ∙ ap (λ cs. with_cells (home kinds) cs start) (sym (row_more first kind values v place.index index))

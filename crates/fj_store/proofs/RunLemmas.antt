@@ -1,13 +1,12 @@
 -- Runs beside one another, and rows of a table at the places of a run.
-use Rattle.std.proofs.Common.{◌≡◌, ℕ, zero, suc, ◌+◌, ◌-◌, ◌<◌, ◌≤◌, ◌&&◌, ◌||◌, max, min, eqb, ltb, Bool, true, false, List, [], ◌∷◌, length, map, take, drop, get_or, Option, Some, None, is_none, All, IsSome, refl, sym, ap, ◌∙◌, inl, inr, arith, rules}
+use Rattle.std.proofs.Common.{◌≡◌, ℕ, zero, suc, ◌+◌, ◌-◌, ◌<◌, ◌≤◌, ◌&&◌, ◌||◌, max, min, eqb, ltb, Bool, true, false, List, [], ◌∷◌, length, map, take, drop, Option, Some, None, is_none, refl, sym, ap, ◌∙◌, inl, inr, arith}
 use Rattle.std.specs.List.{list_any}
 use Rattle.std.specs.Option.{option_and_then}
 use Rattle.std.specs.Prelude.{slice_get}
 use Rattle.std.proofs.lemmas.Bool.{cases_lt, false≢true}
 use Rattle.std.proofs.lemmas.Option.{slice_get_past}
 use Rattle.std.proofs.lemmas.Bool.Decides.{eqb_tells, nat_tests}
-use Rattle.std.proofs.lemmas.List.{get_or-map, length-map}
-use Rattle.std.proofs.lemmas.List.Elements.{All-nil, All-cons, All-head, All-tail}
+use Rattle.std.proofs.lemmas.List.{length-map}
 use Rattle.std.proofs.lemmas.List.Folds.{list_any_at}
 use Rattle.fj_value.specs.declared.place.Place.{Place}
 use Rattle.fj_store.specs.Places.{is_among, counted_from}
@@ -134,42 +133,8 @@ any_lost {T} rows (p ∷ places) test g lost passes there =
     or_more true b e = sym e
     or_more false b e = refl
 
--- ---- places of which none is moved out
-
-pub none_out : {X Y : Type 0} → (f : X → Option Y) (xs : List X) → list_any (λ x. is_none (f x)) xs ≡ false → All (λ x. IsSome (f x)) xs
-none_out f [] h = All-nil (λ x. IsSome (f x))
-none_out {X} {Y} f (x ∷ xs) h =
-    let go : (o : Option Y) → (is_none o || list_any (λ y. is_none (f y)) xs) ≡ false → IsSome o × (list_any (λ y. is_none (f y)) xs ≡ false) =
-    λ o. elim o as (λ z. (is_none z || list_any (λ y. is_none (f y)) xs) ≡ false → IsSome z × (list_any (λ y. is_none (f y)) xs ≡ false)) [
-      | None ↦ λ e. absurd (false≢true (sym e))
-      | Some y ↦ λ e. (search rules, e)
-    ] in
-    let parts = go (f x) h in
-    All-cons (λ y. IsSome (f y)) x xs parts.0 (none_out f xs parts.1)
-
-pub out_none : {X Y : Type 0} → (f : X → Option Y) (xs : List X) → All (λ x. IsSome (f x)) xs → list_any (λ x. is_none (f x)) xs ≡ false
-out_none f [] h = refl
-out_none {X} {Y} f (x ∷ xs) h =
-    let go : (o : Option Y) → IsSome o → is_none o ≡ false =
-    λ o. elim o as (λ z. IsSome z → is_none z ≡ false) [
-      | None ↦ λ e. cc
-      | Some y ↦ λ e. refl
-    ] in
-    ap (λ b. b || list_any (λ y. is_none (f y)) xs) (go (f x) (All-head (λ y. IsSome (f y)) x xs h)) ∙ out_none f xs (All-tail (λ y. IsSome (f y)) x xs h)
-
 -- ---- what is read at the places of a run
 
 pub run_long : {T : Type 0} → (rows : List (List T)) (row : List T) (var first n : ℕ) → map Some row ≡ map (element_at rows) (counted_from var first n) → length row ≡ n
 run_long {T} rows row var first n read =
     sym (length-map row (λ (y : T). Some y)) ∙ ap length read ∙ length-map (counted_from var first n) (element_at rows) ∙ length-counted_from var first n
-
-pub read_at_run : {T : Type 0} → (rows : List (List T)) (row : List T) (var first n k : ℕ) (x : T) → map Some row ≡ map (element_at rows) (counted_from var first n) → k < n → x ≡ get_or row k x
-    → element_at rows (record { var = var; index = first + k }) ≡ Some x
-read_at_run {T} rows row var first n k x read low is =
-    let d : Place = record { var = var; index = first } in
-    let e : Option T = None in
-    ap (element_at rows) (sym (counted_at var first n k d low))
-    ∙ sym (get_or-map (element_at rows) (counted_from var first n) k d e (omega (arith, low, length-counted_from var first n)))
-    ∙ ap (λ xs. get_or xs k e) (sym read)
-    ∙ get_or-map (λ (y : T). Some y) row k x e (omega (arith, low, run_long rows row var first n read))
-    ∙ ap (λ y. Some y) (sym is)

@@ -24,11 +24,11 @@ with_values kinds values = record { kinds = kinds; values = values }
 
 -- a place gets a value
 pub set_is : (kinds ks : List Kind) (slots new : List (List Slot)) (s : Storage) (p : Place) (v v' : Value) (k : Kind) → storage kinds slots ≡ s → ks ≡ kinds → k ≡ kind_at ks p.var → v' ≡ of_kind k v
-    → new ≡ with_element slots p (Home v') → storage kinds new ≡ with_value s p v
+    → new ≡ with_element slots p (Home 0 v') → storage kinds new ≡ with_value s p v
 set_is kinds ks slots new s p v v' k view same kind made put =
     let value : v' ≡ of_kind (kind_at kinds p.var) v = made ∙ ap (λ x. of_kind x v) (kind ∙ ap (λ xs. kind_at xs p.var) same) in
-    ap (storage kinds) (put ∙ ap (λ x. with_element slots p (Home x)) value)
-    ∙ ap (with_values kinds) (mapped_with value_in slots p (Home (of_kind (kind_at kinds p.var) v)))
+    ap (storage kinds) (put ∙ ap (λ x. with_element slots p (Home 0 x)) value)
+    ∙ ap (with_values kinds) (mapped_with value_in slots p (Home 0 (of_kind (kind_at kinds p.var) v)))
     ∙ ap (λ z. with_value z p v) view
 
 -- ---- cells put back
@@ -38,9 +38,9 @@ cells_more made [] cell rows = refl
 cells_more made (c ∷ cells) cell rows = cells_more made cells cell (with_element rows c.place (made c))
 
 pub put_is : (kinds : List Kind) (start slots new : List (List Slot)) (cells : List Cell) (cell : Cell) (v' : Value) (k : Kind) → slots ≡ with_cells (home kinds) cells start → k ≡ kind_at kinds cell.place.var → v' ≡ of_kind k cell.value
-    → new ≡ with_element slots cell.place (Home v') → new ≡ with_cells (home kinds) (cells ++ cell ∷ []) start
+    → new ≡ with_element slots cell.place (Home 0 v') → new ≡ with_cells (home kinds) (cells ++ cell ∷ []) start
 put_is kinds start slots new cells cell v' k so_far kind made put =
-    put ∙ ap (λ x. with_element slots cell.place (Home x)) (made ∙ ap (λ x. of_kind x cell.value) kind)
+    put ∙ ap (λ x. with_element slots cell.place (Home 0 x)) (made ∙ ap (λ x. of_kind x cell.value) kind)
     ∙ ap (λ rows. with_element rows cell.place (home kinds cell)) so_far
     ∙ sym (cells_more (home kinds) cells cell start)
 
@@ -63,10 +63,10 @@ map_replicate : {A B : Type 0} → (f : A → B) (n : ℕ) (x : A) → map f (re
 map_replicate f zero x = refl
 map_replicate f (suc n) x = ap (λ ys. f x ∷ ys) (map_replicate f n x)
 
-rows_undefined : (variables : List (Kind × ℕ)) → map (map value_in) (map (λ v. replicate v.1 (Home Undefined)) variables) ≡ map (λ v. replicate v.1 (Some Undefined)) variables
+rows_undefined : (variables : List (Kind × ℕ)) → map (map value_in) (map (λ v. replicate v.1 (Home 0 Undefined)) variables) ≡ map (λ v. replicate v.1 (Some Undefined)) variables
 rows_undefined [] = refl
 rows_undefined (v ∷ variables) =
-    ap (λ row. row ∷ map (map value_in) (map (λ v. replicate v.1 (Home Undefined)) variables)) (map_replicate value_in v.1 (Home Undefined))
+    ap (λ row. row ∷ map (map value_in) (map (λ v. replicate v.1 (Home 0 Undefined)) variables)) (map_replicate value_in v.1 (Home 0 Undefined))
     ∙ ap (λ rows. replicate v.1 (Some Undefined) ∷ rows) (rows_undefined variables)
 
 -- a list taken as far as it goes
@@ -76,12 +76,12 @@ whole [] (suc n) h = refl
 whole (x ∷ xs) zero h = absurd (omega arith)
 whole (x ∷ xs) (suc n) h = ap (λ ys. x ∷ ys) (whole xs n (omega arith))
 
-pub new_is : (variables : List (Kind × ℕ)) (kinds : List Kind) (slots : List (List Slot)) (i : ℕ) → length variables ≤ i → kinds ≡ map (λ v. v.0) (take i variables) → slots ≡ map (λ v. replicate v.1 (Home Undefined)) (take i variables)
+pub new_is : (variables : List (Kind × ℕ)) (kinds : List Kind) (slots : List (List Slot)) (i : ℕ) → length variables ≤ i → kinds ≡ map (λ v. v.0) (take i variables) → slots ≡ map (λ v. replicate v.1 (Home 0 Undefined)) (take i variables)
     → storage kinds slots ≡ all_undefined variables
 new_is variables kinds slots i past kinds_are slots_are =
     let all : take i variables ≡ variables = whole variables i past in
     ap (λ ks. storage ks slots) (kinds_are ∙ ap (map (λ v. v.0)) all)
-    ∙ ap (storage (map (λ v. v.0) variables)) (slots_are ∙ ap (map (λ v. replicate v.1 (Home Undefined))) all)
+    ∙ ap (storage (map (λ v. v.0) variables)) (slots_are ∙ ap (map (λ v. replicate v.1 (Home 0 Undefined))) all)
     ∙ ap (with_values (map (λ v. v.0) variables)) (rows_undefined variables)
 
 -- ---- tests of the places of a run
@@ -112,13 +112,6 @@ pub undefined_lost : (kinds : List Kind) (slots : List (List Slot)) (s : Storage
 undefined_lost kinds slots s run view lost =
     any_lost slots (places_of run) (λ o. is_undefined (read_by o)) (λ place. is_undefined (plain_value (values_of s) place)) lost refl (λ p. ap is_undefined (plain_read kinds slots s p view))
 
-pub out_at_run : (kinds : List Kind) (slots : List (List Slot)) (s : Storage) (row : List Slot) (run : Run) (b : Bool) → storage kinds slots ≡ s → map Some row ≡ map (element_at slots) (places_of run)
-    → b ≡ list_any (λ slot. is_none (value_in slot)) row → b ≡ list_any (λ place. is_none (value_at s place)) (places_of run)
-out_at_run kinds slots s row run b view read made =
-    made ∙ any_at_run slots row (places_of run) (λ slot. is_none (value_in slot)) (λ o. is_none (option_flatten (option_map value_in o))) (λ place. is_none (value_at s place)) read (λ x. refl)
-    (λ p. ap (λ (o : Option Value). is_none o) (stored_read kinds slots s p view))
-
-pub out_lost : (kinds : List Kind) (slots : List (List Slot)) (s : Storage) (run : Run) → storage kinds slots ≡ s → list_any (λ place. is_none (element_at slots place)) (places_of run) ≡ true
-    → true ≡ list_any (λ place. is_none (value_at s place)) (places_of run)
-out_lost kinds slots s run view lost =
-    any_lost slots (places_of run) (λ o. is_none (option_flatten (option_map value_in o))) (λ place. is_none (value_at s place)) lost refl (λ p. ap (λ (o : Option Value). is_none o) (stored_read kinds slots s p view))
+-- the values are as they were
+pub same_is : (kinds : List Kind) (slots new : List (List Slot)) (s : Storage) → storage kinds slots ≡ s → map (map value_in) new ≡ map (map value_in) slots → storage kinds new ≡ s
+same_is kinds slots new s view same = ap (with_values kinds) same ∙ view

@@ -1,14 +1,14 @@
 -- Taking places out moves each of them once, in the order of the items.
-use Rattle.std.proofs.Common.{◌≡◌, ℕ, zero, suc, ◌+◌, ◌-◌, ◌<◌, ◌≤◌, eqb, cond, Bool, true, false, not, List, [], ◌∷◌, ◌++◌, length, map, drop, get_or, Option, Some, None, IsSome, All, unwrap_or, refl, sym, ap, subst, ◌∙◌, inl, inr, arith}
+use Rattle.std.proofs.Common.{◌≡◌, ◌⊎◌, ℕ, zero, suc, ◌+◌, ◌-◌, ◌<◌, ◌≤◌, eqb, cond, Bool, true, false, not, List, [], ◌∷◌, ◌++◌, length, map, drop, get_or, Option, Some, None, unwrap_or, refl, sym, ap, subst, ◌∙◌, inl, inr, arith}
+use Rattle.std.proofs.lemmas.Bool.{cases_lt, false≢true}
 use Rattle.std.proofs.lemmas.Bool.Decides.{eqb_tells, nat_tests}
 use Rattle.std.proofs.lemmas.List.Folds.{position_or_len_push}
-use Rattle.std.proofs.lemmas.List.Sums.{prefix_len-le-length}
-use Rattle.std.proofs.lemmas.List.Elements.{All-head, All-tail}
+use Rattle.std.proofs.lemmas.List.Sums.{prefix_len-le-length, fails_before_first, passes_at_first}
 use Rattle.std.proofs.Common.{length-append}
 use Rattle.std.proofs.Math.Seq.{drop-cons}
 use Rattle.fj_store.proofs.PlaceLemmas.{length-counted_from}
 use Rattle.std.specs.List.{position_or_len}
-use Rattle.std.specs.Option.{option_map, option_flatten}
+use Rattle.std.specs.Option.{option_map, option_map_or, option_flatten}
 use Rattle.fj_value.specs.declared.kind.Kind.{Kind}
 use Rattle.fj_value.specs.declared.place.Place.{Place}
 use Rattle.fj_value.specs.declared.value.Cell.{Cell}
@@ -17,16 +17,17 @@ use Rattle.fj_value.specs.declared.value.Value.TheVariants.{Undefined}
 use Rattle.fj_list.specs.declared.moved.Moved.{Moved}
 use Rattle.fj_store.specs.declared.run.Run.{Run}
 use Rattle.fj_store.specs.declared.slot.Slot.{Slot}
-use Rattle.fj_store.specs.declared.slot.Slot.TheVariants.{Home, Out}
+use Rattle.fj_store.specs.declared.slot.Slot.TheVariants.{Out}
 use Rattle.fj_store.specs.Kinds.{kind_at}
+use Rattle.fj_store.specs.Pieces.{no_variable}
 use Rattle.fj_store.specs.Places.{same_place, counted_from, places_of, places_in}
 use Rattle.fj_store.specs.Tables.{element_at, with_element}
 use Rattle.fj_store.specs.Variables.{is_at, with_item, moved_from, moved_of}
-use Rattle.fj_store.specs.Storage.{Storage, storage, value_in, value_at, cell_at, emptied, without}
+use Rattle.fj_store.specs.Storage.{Storage, storage, value_in, cell_at, emptied, without}
 use Rattle.fj_store.specs.declared.taken.Taken.{Taken}
-use Rattle.fj_store.specs.Taking.{Taking, HasRoom, taken_by, take_one, take_all, take_runs}
+use Rattle.fj_store.specs.Taking.{Taking, HasRoom, IsMarked, IsMarkedAt, mark_of, cell_read, value_read, values_in, items_in, taking, take_one, take_all, take_runs}
 use Rattle.fj_list.proofs.MovedLemmas.{same_back}
-use Rattle.fj_store.proofs.TableLemmas.{same_fields, at_same, at_other, places_tell, with_itself, mapped_at, mapped_with}
+use Rattle.fj_store.proofs.TableLemmas.{same_fields, at_same, at_other, places_tell, with_missing, mapped_at, mapped_with}
 
 -- ---- one list of places in place of runs
 
@@ -50,159 +51,250 @@ each_in_runs kinds t (run ∷ runs) =
     ∙ ap (λ s. take_each kinds s (places_in runs)) (each_in_run kinds t run.var run.first run.count)
     ∙ sym (each_append kinds t (places_of run) (places_in runs))
 
--- ---- which slots stand at the places that were home
-
-abbrev pub slot_for : ℕ → ℕ → Value → Slot
-slot_for at count v = cond (eqb at count) (Home v) (Out at)
-
--- a place that was home has its value, or, once it has a cell, that cell's number
-pub record Marks (start slots : List (List Slot)) (cells : List Cell) : Type 0 where
-  pub marked : (p : Place) (v : Value) → element_at start p ≡ Some (Home v) → element_at slots p ≡ Some (slot_for (position_or_len (is_at p) cells) (length cells) v)
-
--- with no cells each place is as it was
-pub no_marks : (start : List (List Slot)) → Marks start start []
-no_marks start = record { marked = λ p v e. e }
+-- ---- the cell of a place
 
 pub position_low : {X : Type 0} → (f : X → Bool) (xs : List X) → position_or_len f xs ≤ length xs
 position_low f xs = prefix_len-le-length (λ x. not (f x)) xs
 
--- a cell more: where it is the place's own, and where it is another's
-mark_own : (at n : ℕ) (v : Value) → at ≡ n → slot_for (cond (eqb at n) (n + 0) at) (n + 1) v ≡ Out n
-mark_own at n v e = rw e (grind (arith, nat_tests))
-
-pub mark_other : (at n : ℕ) (v : Value) → at ≤ n → slot_for (cond (eqb at n) (n + 1) at) (n + 1) v ≡ slot_for at n v
-mark_other at n v low = elim (eqb_tells at n) [
-  | inl same ↦ rw same.0 (grind (arith, nat_tests))
-  | inr other ↦ rw other.0 (let far : eqb at (n + 1) ≡ false = grind (arith, nat_tests) in rw far refl)
+position_before : {X : Type 0} → (f : X → Bool) (xs : List X) (k : ℕ) (d : X) → f (get_or xs k d) ≡ true → position_or_len f xs ≤ k
+position_before f xs k d here = elim (cases_lt k (position_or_len f xs)) [
+  | inl later ↦ absurd (false≢true (sym (fails_before_first f xs k d later) ∙ here))
+  | inr low ↦ low
 ]
-
--- ---- one step
-
-abbrev pub moved_in : Taking → Moved
-moved_in t = record { cells = t.cells; order = t.order }
-
-abbrev pub values_in : List (List Slot) → List (List (Option Value))
-values_in slots = map (map value_in) slots
-
--- taking the place of a cell out
-pub record Takes (start : List (List Slot)) (t t' : Taking) (cell : Cell) : Type 0 where
-  pub marks : Marks start t'.slots t'.cells
-  pub item : moved_in t' ≡ with_item (moved_in t) cell
-  pub empty : values_in t'.slots ≡ with_element (values_in t.slots) cell.place None
 
 same_self : (p : Place) → same_place p p ≡ true
 same_self p = grind (arith, nat_tests)
 
--- the marks of the place itself, and of another
-own_mark : (slots : List (List Slot)) (cells : List Cell) (cell : Cell) (v w : Value) → element_at slots cell.place ≡ Some (Home v) → position_or_len (is_at cell.place) cells ≡ length cells
-    → element_at (with_element slots cell.place (Out (length cells))) cell.place ≡ Some (slot_for (position_or_len (is_at cell.place) (cells ++ cell ∷ [])) (length (cells ++ cell ∷ [])) w)
-own_mark slots cells cell v w e new =
-    at_same slots cell.place (Out (length cells)) (Home v) e
-    ∙ ap (λ s. Some s) (sym (
-    ap (λ at. slot_for at (length (cells ++ cell ∷ [])) w) (position_or_len_push (is_at cell.place) cells cell)
-    ∙ ap (λ n. slot_for (cond (eqb (position_or_len (is_at cell.place) cells) (length cells)) (length cells + cond (same_place cell.place cell.place) 0 1) (position_or_len (is_at cell.place) cells)) n w) (length-append cells (cell ∷ []))
-    ∙ ap (λ b. slot_for (cond (eqb (position_or_len (is_at cell.place) cells) (length cells)) (length cells + cond b 0 1) (position_or_len (is_at cell.place) cells)) (length cells + 1) w) (same_self cell.place)
-    ∙ mark_own (position_or_len (is_at cell.place) cells) (length cells) w new))
+-- the mark of a place is right, or the place has no cell
+pub marked_found : (slots : List (List Slot)) (cells : List Cell) (p : Place) (x : Slot) (cell : Cell) (at : ℕ) → IsMarked slots cells → (p.var ≡ no_variable → ⊥) → element_at slots p ≡ Some x → at ≡ mark_of x → at < length cells
+    → same_place p (get_or cells at cell).place ≡ true → at ≡ position_or_len (is_at p) cells
+marked_found slots cells p x cell at m var there mark low same =
+    let first : position_or_len (is_at p) cells ≤ at = position_before (is_at p) cells at cell same in
+    mark ∙ m.marked p x var there (omega (arith, first, low))
 
-other_mark : (slots : List (List Slot)) (cells : List Cell) (cell : Cell) (x : Slot) (q : Place) (w : Value) → same_place cell.place q ≡ false → same_place q cell.place ≡ false
-    → element_at slots q ≡ Some (slot_for (position_or_len (is_at q) cells) (length cells) w)
-    → element_at (with_element slots cell.place x) q ≡ Some (slot_for (position_or_len (is_at q) (cells ++ cell ∷ [])) (length (cells ++ cell ∷ [])) w)
-other_mark slots cells cell x q w other back e =
-    at_other slots cell.place q x other ∙ e
-    ∙ ap (λ s. Some s) (sym (
-    ap (λ at. slot_for at (length (cells ++ cell ∷ [])) w) (position_or_len_push (is_at q) cells cell)
-    ∙ ap (λ n. slot_for (cond (eqb (position_or_len (is_at q) cells) (length cells)) (length cells + cond (same_place q cell.place) 0 1) (position_or_len (is_at q) cells)) n w) (length-append cells (cell ∷ []))
-    ∙ ap (λ b. slot_for (cond (eqb (position_or_len (is_at q) cells) (length cells)) (length cells + cond b 0 1) (position_or_len (is_at q) cells)) (length cells + 1) w) back
-    ∙ mark_other (position_or_len (is_at q) cells) (length cells) w (position_low (is_at q) cells)))
+pub marked_other : (slots : List (List Slot)) (cells : List Cell) (p : Place) (x : Slot) (cell : Cell) (at : ℕ) → IsMarked slots cells → (p.var ≡ no_variable → ⊥) → element_at slots p ≡ Some x → at ≡ mark_of x → at < length cells
+    → same_place p (get_or cells at cell).place ≡ false → length cells ≡ position_or_len (is_at p) cells
+marked_other slots cells p x cell at m var there mark low differ = elim (cases_lt (position_or_len (is_at p) cells) (length cells)) [
+  | inl found ↦
+      let is : at ≡ position_or_len (is_at p) cells = mark ∙ m.marked p x var there found in
+      let passes : is_at p (get_or cells at cell) ≡ true = ap (λ k. is_at p (get_or cells k cell)) is ∙ passes_at_first (is_at p) cells cell found in
+      absurd (false≢true (sym differ ∙ passes))
+  | inr past ↦ let low : position_or_len (is_at p) cells ≤ length cells = position_low (is_at p) cells in omega (arith, past, low)
+]
 
-takes_new : (start : List (List Slot)) (t : Taking) (cell : Cell) → Marks start t.slots t.cells → element_at t.slots cell.place ≡ Some (Home cell.value)
-    → eqb (position_or_len (is_at cell.place) t.cells) (length t.cells) ≡ true → position_or_len (is_at cell.place) t.cells ≡ length t.cells
-    → Takes start t (taken_by (Some (Home cell.value)) cell.kind t cell.place) cell
-takes_new start t cell m e test new = record {
-  marks = record {
-    marked = λ q w h. elim (places_tell cell.place q) [
-      | inl same ↦
-          let P : Place → Type 0 = λ z. element_at (with_element t.slots cell.place (Out (length t.cells))) z ≡ Some (slot_for (position_or_len (is_at z) (t.cells ++ cell ∷ [])) (length (t.cells ++ cell ∷ [])) w) in
-          subst P same.1 (own_mark t.slots t.cells cell cell.value w e new)
-      | inr other ↦ other_mark t.slots t.cells cell (Out (length t.cells)) q w other.0 (sym (same_back cell.place q) ∙ other.0) (m.marked q w h)
-    ];
-  };
-  item =
-      ap (λ n. let moved : Moved = record { cells = t.cells ++ cell ∷ []; order = t.order ++ n ∷ [] } in moved) (sym new)
-      ∙ ap (λ b. let moved : Moved = record { cells = cond b (t.cells ++ cell ∷ []) t.cells; order = t.order ++ position_or_len (is_at cell.place) t.cells ∷ [] } in moved) (sym test);
-  empty = mapped_with value_in t.slots cell.place (Out (length t.cells));
-}
+pub marked_past : (slots : List (List Slot)) (cells : List Cell) (p : Place) (x : Slot) (at : ℕ) → IsMarked slots cells → (p.var ≡ no_variable → ⊥) → element_at slots p ≡ Some x → at ≡ mark_of x → length cells ≤ at
+    → length cells ≡ position_or_len (is_at p) cells
+marked_past slots cells p x at m var there mark past = elim (cases_lt (position_or_len (is_at p) cells) (length cells)) [
+  | inl found ↦ let is : at ≡ position_or_len (is_at p) cells = mark ∙ m.marked p x var there found in absurd (omega (arith, is, found, past))
+  | inr high ↦ let low : position_or_len (is_at p) cells ≤ length cells = position_low (is_at p) cells in omega (arith, high, low)
+]
 
-takes_again : (start : List (List Slot)) (t : Taking) (cell : Cell) → Marks start t.slots t.cells → element_at t.slots cell.place ≡ Some (Out (position_or_len (is_at cell.place) t.cells))
-    → eqb (position_or_len (is_at cell.place) t.cells) (length t.cells) ≡ false
-    → Takes start t (taken_by (Some (Out (position_or_len (is_at cell.place) t.cells))) cell.kind t cell.place) cell
-takes_again start t cell m e test = record {
-  marks = m;
-  item = ap (λ b. let moved : Moved = record { cells = cond b (t.cells ++ cell ∷ []) t.cells; order = t.order ++ position_or_len (is_at cell.place) t.cells ∷ [] } in moved) (sym test);
-  empty = sym (with_itself (values_in t.slots) cell.place None (mapped_at value_in t.slots cell.place ∙ ap (option_map value_in) e));
-}
+-- ---- one item more
 
-pub takes_one : (start : List (List Slot)) (t : Taking) (cell : Cell) → Marks start t.slots t.cells → element_at start cell.place ≡ Some (Home cell.value)
-    → Takes start t (take_one cell.kind t cell.place) cell
-takes_one start t cell m home =
-    let P : Option Slot → Type 0 = λ o. Takes start t (taken_by o cell.kind t cell.place) cell in
-    let at : ℕ = position_or_len (is_at cell.place) t.cells in
-    let e : element_at t.slots cell.place ≡ Some (slot_for at (length t.cells) cell.value) = m.marked cell.place cell.value home in
-    elim (eqb_tells at (length t.cells)) [
-      | inl same ↦
-          let here : element_at t.slots cell.place ≡ Some (Home cell.value) = e ∙ ap (λ b. Some (cond b (Home cell.value) (Out at))) same.0 in
-          subst P (sym here) (takes_new start t cell m here same.0 same.1)
-      | inr other ↦
-          let here : element_at t.slots cell.place ≡ Some (Out at) = e ∙ ap (λ b. Some (cond b (Home cell.value) (Out at))) other.0 in
-          subst P (sym here) (takes_again start t cell m here other.0)
+-- its place has no cell yet, and gets one; or it has one
+pub item_tells : (moved : Moved) (cell : Cell)
+    → ((position_or_len (is_at cell.place) moved.cells ≡ length moved.cells) × (with_item moved cell ≡ record { cells = moved.cells ++ cell ∷ []; order = moved.order ++ length moved.cells ∷ [] }))
+    ⊎ ((position_or_len (is_at cell.place) moved.cells < length moved.cells) × (with_item moved cell ≡ record { cells = moved.cells; order = moved.order ++ position_or_len (is_at cell.place) moved.cells ∷ [] }))
+item_tells moved cell =
+    let at : ℕ = position_or_len (is_at cell.place) moved.cells in
+    let made : Bool → ℕ → Moved = λ b n. record { cells = cond b (moved.cells ++ cell ∷ []) moved.cells; order = moved.order ++ n ∷ [] } in
+    elim (eqb_tells at (length moved.cells)) [
+      | inl new ↦ inl (new.1, ap (λ b. made b at) new.0 ∙ ap (made true) new.1)
+      | inr found ↦ let low : at ≤ length moved.cells = position_low (is_at cell.place) moved.cells in let ne : at ≡ length moved.cells → ⊥ = found.1 in inr (omega (arith, low, ne), ap (λ b. made b at) found.0)
     ]
 
--- ---- all of them
+-- the first cell of the place is that of the item
+pub item_found : (moved : Moved) (cell : Cell) → (position_or_len (is_at cell.place) (with_item moved cell).cells ≡ position_or_len (is_at cell.place) moved.cells)
+    × (position_or_len (is_at cell.place) moved.cells < length (with_item moved cell).cells)
+item_found moved cell =
+    let at : ℕ = position_or_len (is_at cell.place) moved.cells in
+    let P : Moved → Type 0 = λ m. (position_or_len (is_at cell.place) m.cells ≡ at) × (at < length m.cells) in
+    elim (item_tells moved cell) [
+      | inl new ↦
+          let pushed : position_or_len (is_at cell.place) (moved.cells ++ cell ∷ []) ≡ at =
+          position_or_len_push (is_at cell.place) moved.cells cell
+          ∙ ap (λ b. cond (eqb at (length moved.cells)) (length moved.cells + cond b 0 1) at) (same_self cell.place)
+          ∙ (let is : at ≡ length moved.cells = new.0 in grind (arith, nat_tests, is)) in
+          subst P (sym new.1) (pushed, (let is : at ≡ length moved.cells = new.0 in omega (arith, is, length-append moved.cells (cell ∷ []))))
+      | inr found ↦ subst P (sym found.1) (refl, found.0)
+    ]
 
-home_value : (o : Option Slot) → IsSome (option_flatten (option_map value_in o)) → (v : Value) × (o ≡ Some (Home v))
-home_value None h = cc
-home_value (Some (Home v)) h = (v, refl)
-home_value (Some (Out n)) h = cc
+-- the cells of other places stay as they are
+pub item_other : (moved : Moved) (cell : Cell) (q : Place) → same_place q cell.place ≡ false
+    → ((position_or_len (is_at q) moved.cells < length moved.cells) × (position_or_len (is_at q) (with_item moved cell).cells ≡ position_or_len (is_at q) moved.cells))
+    ⊎ ((position_or_len (is_at q) moved.cells ≡ length moved.cells) × (position_or_len (is_at q) (with_item moved cell).cells ≡ length (with_item moved cell).cells))
+item_other moved cell q differ =
+    let at : ℕ = position_or_len (is_at q) moved.cells in
+    let n : ℕ = length moved.cells in
+    let P : Moved → Type 0 = λ m. ((at < n) × (position_or_len (is_at q) m.cells ≡ at)) ⊎ ((at ≡ n) × (position_or_len (is_at q) m.cells ≡ length m.cells)) in
+    let low : at ≤ n = position_low (is_at q) moved.cells in
+    elim (item_tells moved cell) [
+      | inl new ↦
+          let pushed : position_or_len (is_at q) (moved.cells ++ cell ∷ []) ≡ cond (eqb at n) (n + 1) at =
+          position_or_len_push (is_at q) moved.cells cell ∙ ap (λ b. cond (eqb at n) (n + cond b 0 1) at) differ in
+          let long : length (moved.cells ++ cell ∷ []) ≡ n + 1 = length-append moved.cells (cell ∷ []) in
+          subst P (sym new.1) (elim (eqb_tells at n) [
+            | inl past ↦ inr (past.1, pushed ∙ ap (λ b. cond b (n + 1) at) past.0 ∙ sym long)
+            | inr found ↦ let ne : at ≡ n → ⊥ = found.1 in inl (omega (arith, low, ne), pushed ∙ ap (λ b. cond b (n + 1) at) found.0)
+          ])
+      | inr found ↦ subst P (sym found.1) (elim (cases_lt at n) [ inl here ↦ inl (here, refl) | inr past ↦ inr (omega (arith, low, past), omega (arith, low, past)) ])
+    ]
 
-abbrev pub IsHome : List Kind → List (List Slot) → Place → Type 0
-IsHome kinds start p = IsSome (value_at (storage kinds start) p)
+-- ---- marks
 
-pub home_at : (kinds : List Kind) (start : List (List Slot)) (p : Place) → IsHome kinds start p → (v : Value) × (element_at start p ≡ Some (Home v))
-home_at kinds start p h =
-    let P : Option (Option Value) → Type 0 = λ o. IsSome (option_flatten o) in
-    home_value (element_at start p) (subst P (mapped_at value_in start p) h)
+marks_of_item : (old new : List (List Slot)) (moved : Moved) (cell : Cell) → IsMarked old moved.cells → IsMarkedAt old new cell.place (position_or_len (is_at cell.place) moved.cells) → IsMarked new (with_item moved cell).cells
+marks_of_item old new moved cell m a = record {
+  marked = λ p x var there low. elim (places_tell cell.place p) [
+    | inl same ↦
+        let P : Place → Type 0 = λ z. element_at new z ≡ Some x → mark_of x ≡ position_or_len (is_at z) (with_item moved cell).cells in
+        subst P same.1 (λ e. a.here x e ∙ sym (item_found moved cell).0) there
+    | inr other ↦ elim (item_other moved cell p (same_back p cell.place ∙ other.0)) [
+      | inl found ↦ m.marked p x var (sym (a.others p other.0) ∙ there) found.0 ∙ sym found.1
+      | inr lost ↦ absurd (let e = lost.1 in omega (arith, e, low))
+    ]
+  ];
+}
 
-pub cell_is : (kinds : List Kind) (start : List (List Slot)) (p : Place) (v : Value) → element_at start p ≡ Some (Home v)
-    → cell_at (storage kinds start) p ≡ record { place = p; kind = kind_at kinds p.var; value = v }
-cell_is kinds start p v e =
-    ap (λ (o : Option (Option Value)). let cell : Cell = record { place = p; kind = kind_at kinds p.var; value = unwrap_or (option_flatten o) Undefined } in cell)
-    (mapped_at value_in start p ∙ ap (option_map value_in) e)
+pub marks_kept : (old new : List (List Slot)) (moved moved' : Moved) (cell : Cell) (at : ℕ) → IsMarked old moved.cells → at ≡ position_or_len (is_at cell.place) moved.cells → IsMarkedAt old new cell.place at → moved' ≡ with_item moved cell
+    → IsMarked new moved'.cells
+marks_kept old new moved moved' cell at m is a step =
+    let P : ℕ → Type 0 = λ n. IsMarkedAt old new cell.place n in
+    subst (λ (z : Moved). IsMarked new z.cells) (sym step) (marks_of_item old new moved cell m (subst P is a))
 
-takes_all : (kinds : List Kind) (start : List (List Slot)) (ps : List Place) (t : Taking) → Marks start t.slots t.cells → All (IsHome kinds start) ps
-    → (moved_in (take_each kinds t ps) ≡ moved_from (moved_in t) (map (cell_at (storage kinds start)) ps)) × (values_in (take_each kinds t ps).slots ≡ emptied ps (values_in t.slots))
-takes_all kinds start [] t m homes = (refl, refl)
-takes_all kinds start (p ∷ ps) t m homes =
-    let found : (v : Value) × (element_at start p ≡ Some (Home v)) = home_at kinds start p (All-head (IsHome kinds start) p ps homes) in
-    let cell : Cell = record { place = p; kind = kind_at kinds p.var; value = found.0 } in
-    let next : Taking = take_one (kind_at kinds p.var) t p in
-    let one : Takes start t next cell = takes_one start t cell m found.1 in
-    let rest = takes_all kinds start ps next one.marks (All-tail (IsHome kinds start) p ps homes) in (
-      rest.0 ∙ ap (λ moved. moved_from moved (map (cell_at (storage kinds start)) ps)) (one.item ∙ ap (with_item (moved_in t)) (sym (cell_is kinds start p found.0 found.1))),
-      rest.1 ∙ ap (emptied ps) one.empty,
+-- an item that has no place of a variable
+pub marks_of_own : (slots : List (List Slot)) (moved moved' : Moved) (cell : Cell) → IsMarked slots moved.cells → cell.place.var ≡ no_variable → moved' ≡ with_item moved cell → IsMarked slots moved'.cells
+marks_of_own slots moved moved' cell m none step =
+    let go : IsMarked slots (with_item moved cell).cells = record {
+      marked = λ p x var there low. elim (places_tell cell.place p) [
+        | inl same ↦ absurd (var (ap (λ (z : Place). z.var) (sym same.1) ∙ none))
+        | inr other ↦ elim (item_other moved cell p (same_back p cell.place ∙ other.0)) [
+          | inl found ↦ m.marked p x var there found.0 ∙ sym found.1
+          | inr lost ↦ absurd (let e = lost.1 in omega (arith, e, low))
+        ]
+      ];
+    } in
+    subst (λ (z : Moved). IsMarked slots z.cells) (sym step) go
+
+pub marked_by : (slots : List (List Slot)) (place : Place) (x : Slot) (at : ℕ) → mark_of x ≡ at → IsMarkedAt slots (with_element slots place x) place at
+marked_by slots place x at mark = record {
+  here = λ y there.
+      let go : (o : Option Slot) → element_at slots place ≡ o → mark_of y ≡ at =
+      λ o. elim o as (λ z. element_at slots place ≡ z → mark_of y ≡ at) [
+        | None ↦ λ none. let never : element_at slots place ≡ Some y = ap (λ rows. element_at rows place) (sym (with_missing slots place x none)) ∙ there in cc
+        | Some z ↦ λ some. let is : Some x ≡ Some y = sym (at_same slots place x z some) ∙ there in ap (λ o. mark_of (unwrap_or o x)) (sym is) ∙ mark
+      ] in
+      go (element_at slots place) refl;
+  others = λ q differ. at_other slots place q x differ;
+}
+
+pub none_marked : (slots : List (List Slot)) (cells : List Cell) → cells ≡ [] → IsMarked slots cells
+none_marked slots cells none = record { marked = λ p x var there low. absurd (let long : length cells ≡ 0 = ap length none in omega (arith, long, low)) }
+
+-- ---- one place
+
+-- the value of what stood at a place
+pub value_there : (slots : List (List Slot)) (p : Place) (o : Option Slot) (v : Value) → o ≡ element_at slots p → v ≡ option_map_or value_read o Undefined
+    → v ≡ unwrap_or (option_flatten (element_at (values_in slots) p)) Undefined
+value_there slots p o v is made =
+    let go : (x : Option Slot) → option_map_or value_read x Undefined ≡ unwrap_or (option_flatten (option_map value_in x)) Undefined =
+    λ x. elim x as (λ z. option_map_or value_read z Undefined ≡ unwrap_or (option_flatten (option_map value_in z)) Undefined) [ None ↦ refl | Some s ↦ refl ] in
+    made ∙ go o ∙ ap (λ x. unwrap_or (option_flatten (option_map value_in x)) Undefined) is ∙ ap (λ x. unwrap_or (option_flatten x) Undefined) (sym (mapped_at value_in slots p))
+
+pub one_taken : (slots new : List (List Slot)) (taken taken' : Taken) (kind : Kind) (place : Place) (o : Option Slot) (v : Value) (at : ℕ) → new ≡ with_element slots place (Out at) → o ≡ element_at slots place → v ≡ option_map_or value_read o Undefined
+    → items_in taken' ≡ with_item (items_in taken) (record { place = place; kind = kind; value = v }) → taking new taken' ≡ take_one kind (taking slots taken) place
+one_taken slots new taken taken' kind place o v at put there made item =
+    let by : List (List (Option Value)) → Moved → Taking = λ values moved. record { values = values; moved = moved } in
+    let cell : Value → Cell = λ x. record { place = place; kind = kind; value = x } in
+    ap (λ values. by values (items_in taken')) (ap values_in put ∙ mapped_with value_in slots place (Out at))
+    ∙ ap (by (with_element (values_in slots) place None)) (item ∙ ap (λ x. with_item (items_in taken) (cell x)) (value_there slots place o v there made))
+
+pub one_marked : (slots new : List (List Slot)) (taken taken' : Taken) (cell : Cell) (at : ℕ) → IsMarked slots taken.cells.items → at ≡ position_or_len (is_at cell.place) taken.cells.items → new ≡ with_element slots cell.place (Out at)
+    → items_in taken' ≡ with_item (items_in taken) cell → IsMarked new taken'.cells.items
+one_marked slots new taken taken' cell at m is put item =
+    marks_kept slots new (items_in taken) (items_in taken') cell at m is (subst (λ rows. IsMarkedAt slots rows cell.place at) (sym put) (marked_by slots cell.place (Out at) at refl)) item
+
+-- ---- what taking places out comes to
+
+abbrev read : List (List (Option Value)) → Place → Value
+read values p = unwrap_or (option_flatten (element_at values p)) Undefined
+
+-- places that have no cell yet have the values that they began with
+record Stand (start : List (List (Option Value))) (t : Taking) : Type 0 where
+  stands : (p : Place) → position_or_len (is_at p) t.moved.cells ≡ length t.moved.cells → read t.values p ≡ read start p
+
+stand_on : (start : List (List (Option Value))) (t : Taking) (kind : Kind) (p : Place) → Stand start t → Stand start (take_one kind t p)
+stand_on start t kind p h =
+    let cell : Cell = cell_read kind t.values p in
+    record {
+      stands = λ q past. elim (places_tell p q) [
+        | inl same ↦
+            let P : Place → Type 0 = λ z. position_or_len (is_at z) (with_item t.moved cell).cells ≡ length (with_item t.moved cell).cells → read (with_element t.values p None) z ≡ read start z in
+            let found = item_found t.moved cell in
+            let first : position_or_len (is_at p) (with_item t.moved cell).cells ≡ position_or_len (is_at p) t.moved.cells = found.0 in
+            let low : position_or_len (is_at p) t.moved.cells < length (with_item t.moved cell).cells = found.1 in
+            subst P same.1 (λ e. absurd (omega (arith, first, low, e))) past
+        | inr other ↦
+            ap (λ o. unwrap_or (option_flatten o) Undefined) (at_other t.values p q None other.0)
+            ∙ h.stands q (elim (item_other t.moved cell q (same_back q p ∙ other.0)) [
+              | inl found ↦ absurd (
+                  let low : position_or_len (is_at q) t.moved.cells < length t.moved.cells = found.0 in
+                  let e : position_or_len (is_at q) (with_item t.moved cell).cells ≡ position_or_len (is_at q) t.moved.cells = found.1 in
+                  let grows : length t.moved.cells ≤ length (with_item t.moved cell).cells = not_fewer t.moved cell in
+                  omega (arith, low, e, grows, past))
+              | inr lost ↦ lost.0
+            ])
+      ];
+    }
+  where
+    not_fewer : (moved : Moved) (cell : Cell) → length moved.cells ≤ length (with_item moved cell).cells
+    not_fewer moved cell =
+        let P : Moved → Type 0 = λ m. length moved.cells ≤ length m.cells in
+        elim (item_tells moved cell) [
+          | inl new ↦ subst P (sym new.1) (omega (arith, length-append moved.cells (cell ∷ [])))
+          | inr found ↦ subst P (sym found.1) (omega arith)
+        ]
+
+-- the item of a place does not depend on the value where the place has a cell
+same_item : (moved : Moved) (p : Place) (kind : Kind) (v w : Value) → (position_or_len (is_at p) moved.cells ≡ length moved.cells → v ≡ w)
+    → with_item moved (record { place = p; kind = kind; value = v }) ≡ with_item moved (record { place = p; kind = kind; value = w })
+same_item moved p kind v w same =
+    let at : ℕ = position_or_len (is_at p) moved.cells in
+    let cell : Value → Cell = λ x. record { place = p; kind = kind; value = x } in
+    let made : Bool → Value → Moved = λ b x. record { cells = cond b (moved.cells ++ cell x ∷ []) moved.cells; order = moved.order ++ at ∷ [] } in
+    elim (eqb_tells at (length moved.cells)) [
+      | inl new ↦ ap (made (eqb at (length moved.cells))) (same new.1)
+      | inr found ↦ ap (λ b. made b v) found.0 ∙ sym (ap (λ b. made b w) found.0)
+    ]
+
+taken_items : (kinds : List Kind) (start : List (List (Option Value))) (ps : List Place) (t : Taking) → Stand start t
+    → (take_each kinds t ps).moved ≡ moved_from t.moved (map (cell_at (record { kinds = kinds; values = start })) ps)
+taken_items kinds start [] t h = refl
+taken_items kinds start (p ∷ ps) t h =
+    taken_items kinds start ps (take_one (kind_at kinds p.var) t p) (stand_on start t (kind_at kinds p.var) p h)
+    ∙ ap (λ moved. moved_from moved (map (cell_at (record { kinds = kinds; values = start })) ps)) (same_item t.moved p (kind_at kinds p.var) (read t.values p) (read start p) (h.stands p))
+
+taken_values : (kinds : List Kind) (ps : List Place) (t : Taking) → (take_each kinds t ps).values ≡ emptied ps t.values
+taken_values kinds [] t = refl
+taken_values kinds (p ∷ ps) t = taken_values kinds ps (take_one (kind_at kinds p.var) t p)
+
+-- taking the places of runs out of a store
+pub out_is : (kinds ks : List Kind) (start slots : List (List Slot)) (runs : List Run) (s : Storage) (cells cells' : List Cell) (order order' : List ℕ) → storage kinds start ≡ s → ks ≡ kinds → cells ≡ [] → order ≡ []
+    → (let t : Taking = record { values = values_in slots; moved = record { cells = cells'; order = order' } } in t) ≡ take_runs ks (record { values = values_in start; moved = record { cells = cells; order = order } }) runs
+    → (record { cells = cells'; order = order' } ≡ moved_of (map (cell_at s) (places_in runs))) × (storage kinds slots ≡ without (places_in runs) s)
+out_is kinds ks start slots runs s cells cells' order order' view same none empty is =
+    let t : Taking = record { values = values_in slots; moved = record { cells = cells'; order = order' } } in
+    let at : List Cell → List ℕ → Taking = λ c o. record { values = values_in start; moved = record { cells = c; order = o } } in
+    let places : List Place = places_in runs in
+    let all : t ≡ take_each kinds (at [] []) places =
+    is ∙ ap (λ k. take_runs k (at cells order) runs) same
+    ∙ each_in_runs kinds (at cells order) runs
+    ∙ ap (λ c. take_each kinds (at c order) places) none
+    ∙ ap (λ o. take_each kinds (at [] o) places) empty in (
+      ap (λ (x : Taking). x.moved) all ∙ taken_items kinds (values_in start) places (at [] []) (record { stands = λ p e. refl }) ∙ ap (λ z. moved_of (map (cell_at z) places)) view,
+      ap (λ (x : Taking). let z : Storage = record { kinds = kinds; values = x.values } in z) all
+          ∙ ap (λ values. let z : Storage = record { kinds = kinds; values = values } in z) (taken_values kinds places (at [] []))
+          ∙ ap (without places) view,
     )
-
--- what taking the places of runs out from a table comes to
-pub taken_out : (kinds : List Kind) (start : List (List Slot)) (runs : List Run) (cells : List Cell) (order : List ℕ) (t : Taking) → cells ≡ [] → order ≡ [] → All (λ place. IsSome (value_at (storage kinds start) place)) (places_in runs)
-    → t ≡ take_runs kinds (record { slots = start; cells = cells; order = order }) runs
-    → (record { cells = t.cells; order = t.order } ≡ moved_of (map (cell_at (storage kinds start)) (places_in runs))) × (storage kinds t.slots ≡ without (places_in runs) (storage kinds start))
-taken_out kinds start runs cells order t none empty homes is =
-    let begun : Taking = record { slots = start; cells = []; order = [] } in
-    let same : t ≡ take_each kinds begun (places_in runs) =
-    is ∙ each_in_runs kinds (record { slots = start; cells = cells; order = order }) runs
-    ∙ ap (λ c. let s : Taking = record { slots = start; cells = c; order = order } in take_each kinds s (places_in runs)) none
-    ∙ ap (λ o. let s : Taking = record { slots = start; cells = []; order = o } in take_each kinds s (places_in runs)) empty in
-    let all = takes_all kinds start (places_in runs) begun (no_marks start) homes in
-    (ap moved_in same ∙ all.0, ap (λ values. let s : Storage = record { kinds = kinds; values = values } in s) (ap (λ s. values_in s.slots) same ∙ all.1))
 
 -- ---- the steps of the loops
 
@@ -239,13 +331,3 @@ runs_step kinds t t' want runs i run kind low is kind_is step so_far =
     ap (λ s. take_runs kinds s (drop (i + 1) runs)) (step ∙ ap (λ k. take_all k t (places_of run)) kind_is)
     ∙ sym (ap (take_runs kinds t) (run_at runs i run low is))
     ∙ so_far
-
--- the same, of a store
-pub out_is : (kinds ks : List Kind) (start : List (List Slot)) (runs : List Run) (s : Storage) (cells : List Cell) (order : List ℕ) (t : Taking) → storage kinds start ≡ s → ks ≡ kinds → cells ≡ [] → order ≡ []
-    → All (λ place. IsSome (value_at s place)) (places_in runs) → t ≡ take_runs ks (record { slots = start; cells = cells; order = order }) runs
-    → (record { cells = t.cells; order = t.order } ≡ moved_of (map (cell_at s) (places_in runs))) × (storage kinds t.slots ≡ without (places_in runs) s)
-out_is kinds ks start runs s cells order t view same none empty homes is =
-    let P : Storage → Type 0 = λ z. All (λ place. IsSome (value_at z place)) (places_in runs) in
-    let begun : Taking = record { slots = start; cells = cells; order = order } in
-    let done = taken_out kinds start runs cells order t none empty (subst P (sym view) homes) (is ∙ ap (λ k. take_runs k begun runs) same) in
-    (done.0 ∙ ap (λ z. moved_of (map (cell_at z) (places_in runs))) view, done.1 ∙ ap (without (places_in runs)) view)

@@ -60,16 +60,18 @@ pub record PlacesComeBack : Type 0 where
   pub characters : value_at (with_value variables (place 4 1) (Text (65 ∷ 66 ∷ 67 ∷ []))) (place 4 1) ≡ Some (Text (65 ∷ 66 ∷ 67 ∷ []))
   pub characters_of_another_length : value_at (with_value variables (place 4 1) (Text (65 ∷ []))) (place 4 1) ≡ Some Undefined
 
+-- A is out
+abbrev pub out : Storage
+out = without (place 0 1 ∷ []) variables
+
 -- what the cells of an output's items are: each value of its own has a cell by itself, and these are counted from 1
 pub record OutputsHaveCells : Type 0 where
   pub own_values : cells_in variables (Own Int4 (Int (pos 5)) ∷ Own (Chars 1) (Text (65 ∷ [])) ∷ []) ≡ cell 4294967295 1 Int4 (Int (pos 5)) ∷ cell 4294967295 2 (Chars 1) (Text (65 ∷ [])) ∷ []
   pub same_value_twice : moved_of (cells_in variables (Own Int4 (Int (pos 5)) ∷ Own Int4 (Int (pos 5)) ∷ [])) ≡ record { cells = cell 4294967295 1 Int4 (Int (pos 5)) ∷ cell 4294967295 2 Int4 (Int (pos 5)) ∷ []; order = 0 ∷ 1 ∷ [] }
+  pub place_that_is_out : (run : Run) → places_of run ≡ place 0 1 ∷ [] → cells_in out (Places run ∷ []) ≡ cell 0 1 Int4 Undefined ∷ []
   pub between_places : (run : Run) → cells_in variables (Own Logical (Log true) ∷ Places run ∷ Own Int4 (Int (pos 5)) ∷ []) ≡ cell 4294967295 1 Logical (Log true) ∷ (cells (places_of run) ++ cell 4294967295 2 Int4 (Int (pos 5)) ∷ [])
 
 -- READs of which the items are out: one of A, one of B, and then of B alone
-abbrev pub out : Storage
-out = without (place 0 1 ∷ []) variables
-
 abbrev pub both_out : Storage
 both_out = without (place 1 1 ∷ []) out
 
@@ -82,6 +84,9 @@ pub record ReadsComeBack : Type 0 where
   pub second_is_out : value_at both_out (place 1 1) ≡ None
   pub second_comes : value_at (given_back (b 2 ∷ []) both_out) (place 1 1) ≡ Some (Int (pos 2))
   pub first_stays_out : value_at (given_back (b 2 ∷ []) both_out) (place 0 1) ≡ None
+  -- a READ of A while it is out takes it undefined, and it stays out
+  pub taken_again : moved_of (map (cell_at out) (place 0 1 ∷ [])) ≡ record { cells = cell 0 1 Int4 Undefined ∷ []; order = 0 ∷ [] }
+  pub stays_out : without (place 0 1 ∷ []) out ≡ out
   pub order_of_coming : given_back (b 2 ∷ []) (given_back (a ∷ []) both_out) ≡ given_back (a ∷ []) (given_back (b 2 ∷ []) both_out)
   -- one READ of both, of which the record has no value for A
   pub null_value : given_back (a ∷ b 5 ∷ []) (without (place 0 1 ∷ place 1 1 ∷ []) variables) ≡ with_value variables (place 1 1) (Int (pos 5))

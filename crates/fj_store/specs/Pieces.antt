@@ -2,7 +2,6 @@
 use Rattle.std.specs.Prelude.{ℕ, ◌+◌, List, [], ◌∷◌, ◌++◌, map, All}
 use Rattle.fj_value.specs.Kind.{IsOfKind}
 use Rattle.fj_value.specs.declared.kind.Kind.{Kind}
-use Rattle.fj_value.specs.declared.place.Place.{Place}
 use Rattle.fj_value.specs.declared.value.Cell.{Cell}
 use Rattle.fj_value.specs.declared.value.Value.{Value}
 use Rattle.fj_store.specs.declared.piece.Piece.{Piece}
@@ -26,12 +25,6 @@ cells_from s number (Own kind value ∷ pieces) = own_cell number kind value ∷
 
 abbrev pub cells_in : Storage → List Piece → List Cell
 cells_in s pieces = cells_from s 1 pieces
-
--- the places among them
-abbrev pub places_among : List Piece → List Place
-places_among [] = []
-places_among (Places run ∷ pieces) = places_of run ++ places_among pieces
-places_among (Own kind value ∷ pieces) = places_among pieces
 
 -- how many items they are
 abbrev pub size_of : Piece → ℕ

@@ -18,8 +18,8 @@ pub record Storage : Type 0 where
   pub values : List (List (Option Value))
 
 abbrev pub value_in : Slot → Option Value
-value_in (Home v) = Some v
-value_in (Out n) = None
+value_in (Home mark v) = Some v
+value_in (Out mark) = None
 
 abbrev pub storage : List Kind → List (List Slot) → Storage
 storage kinds slots = record { kinds = kinds; values = map (map value_in) slots }

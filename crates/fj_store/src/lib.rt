@@ -22,3 +22,4 @@ pub use piece::Piece;
 pub use run::Run;
 pub use store::Store;
 pub use table::Table;
+pub use taken::position;

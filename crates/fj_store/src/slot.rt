@@ -1,17 +1,19 @@
 // What stands at a place of the store.
-ghost use Rattle.std.specs.Prelude.{◌≡◌, is_none};
+ghost use Rattle.std.specs.Prelude.{◌≡◌};
 ghost use Rattle.std.specs.List.{list_any};
-ghost use Rattle.fj_store.specs.Storage.{value_in};
+ghost use Rattle.std.specs.Option.{option_map_or};
 ghost use Rattle.fj_store.specs.Variables.{is_undefined};
-ghost use Rattle.fj_store.specs.Taking.{value_read};
+ghost use Rattle.fj_store.specs.Taking.{value_read, mark_of};
+ghost use Rattle.fj_value.specs.declared.value.Value.TheVariants.{Undefined};
 
 use fj_value::Value;
 use std::mem::size_of;
 
-/// The value of a place, or, where it is moved out, the number of the cell that has it.
+/// The value of a place, or none where it is moved out; and its mark, the number of the cell that it had last. It has that cell only
+/// where this is a cell of the place.
 #[derive(Debug, Drop)]
 pub(crate) enum Slot {
-    Home(Value),
+    Home(u32, Value),
     Out(u32),
 }
 
@@ -19,13 +21,11 @@ pub(crate) enum Slot {
 const _: () = prove!(size_of::<Slot>() <= 24);
 
 impl Slot {
-    /// Whether the value is moved out.
-    pub(crate) fn is_out(&self) -> bool
-        ensures { result ≡ is_none (value_in self.now) }
+    pub(crate) fn mark(&self) -> u32
+        ensures { result ≡ mark_of self.now }
     {
         match self {
-            Slot::Home(_) => false,
-            Slot::Out(_) => true,
+            Slot::Home(mark, _) | Slot::Out(mark) => *mark,
         }
     }
 
@@ -34,9 +34,19 @@ impl Slot {
         ensures { result ≡ is_undefined (value_read self.now) }
     {
         match self {
-            Slot::Home(value) => matches!(value, Value::Undefined),
+            Slot::Home(_, value) => matches!(value, Value::Undefined),
             Slot::Out(_) => true,
         }
+    }
+}
+
+/// The value of what stood at a place. One that is moved out, or that there was not, is undefined.
+pub(crate) fn value_of(slot: Option<Slot>) -> Value
+    ensures { result ≡ option_map_or value_read slot Undefined }
+{
+    match slot {
+        Some(Slot::Home(_, value)) => value,
+        Some(Slot::Out(_)) | None => Value::Undefined,
     }
 }
 
@@ -45,11 +55,4 @@ pub(crate) fn any_undefined(slots: &[Slot]) -> bool
     ensures { result ≡ list_any (λ slot. is_undefined (value_read slot)) slots.now }
 {
     slots.iter().any(|slot| slot.is_undefined())
-}
-
-/// Whether one of some values is moved out.
-pub(crate) fn any_out(slots: &[Slot]) -> bool
-    ensures { result ≡ list_any (λ slot. is_none (value_in slot)) slots.now }
-{
-    slots.iter().any(|slot| slot.is_out())
 }

@@ -1,5 +1,5 @@
 // The variables of a deck: what their places hold, and taking values out and giving them back.
-ghost use Rattle.std.specs.Prelude.{◌≡◌, ◌↔◌, ◌<◌, ◌≤◌, ◌∷◌, [], length, All, map, replicate, is_none, IsTrue, IsSome, IfSome, IfOk, OnOk, OnErr};
+ghost use Rattle.std.specs.Prelude.{◌≡◌, ◌↔◌, ◌<◌, ◌≤◌, ◌∷◌, [], length, map, replicate, IsTrue, IfSome, IfOk, OnOk, OnErr};
 ghost use Rattle.std.specs.List.{list_any};
 ghost use Rattle.std.specs.Option.{option_copied};
 ghost use Rattle.fj_list.specs.Load.{moved_row};
@@ -8,19 +8,19 @@ ghost use Rattle.fj_store.specs.Tables.{with_element, with_cells};
 ghost use Rattle.fj_store.specs.Kinds.{kind_at, of_kind};
 ghost use Rattle.fj_store.specs.Storage.{all_undefined, value_at, cell_at, with_value, without, given_back, values_of};
 ghost use Rattle.fj_store.specs.Variables.{moved_of, is_undefined, value_at as plain_value};
-ghost use Rattle.fj_store.specs.Pieces.{no_variable, cells_in, places_among, sizes, AreDefined};
-ghost use Rattle.fj_store.specs.Taking.{home, home_again};
+ghost use Rattle.fj_store.specs.Pieces.{cells_in, sizes, AreDefined};
+ghost use Rattle.fj_store.specs.Taking.{home};
 ghost use Rattle.fj_store.specs.declared.piece.Piece.TheVariants.{Places};
 ghost use Rattle.fj_store.specs.declared.slot.Slot.TheVariants.{Home};
 ghost use Rattle.fj_value.specs.declared.value.Value.TheVariants.{Undefined};
 
-use crate::copied::{Copied, CopiedRow, are_defined, copies, copy_row};
+use crate::copied::{Copied, CopiedRow, are_defined, copy_pieces, copy_row};
 use crate::kinds::{kind_in, of_kind};
 use crate::piece::Piece;
 use crate::run::Run;
-use crate::slot::{Slot, any_out, any_undefined};
+use crate::slot::{Slot, any_undefined};
 use crate::table::Table;
-use crate::taken::{count_of, room_for, take_pieces, take_places};
+use crate::taken::{count_of, room_for, take_places};
 use fj_list::{Cells, Load, Moved, Row, Shape};
 use fj_value::{Cell, Items, Kind, Place, Value};
 use std::alloc::{AllocError, Global};
@@ -44,13 +44,13 @@ impl Model for Store {
 
 /// So many places that are undefined.
 fn undefined_row(alloc: Global, count: u32) -> Result<Items<Slot>, AllocError>
-    ensures { IfOk result (λ row. row ≡ replicate count (Home Undefined)) }
+    ensures { IfOk result (λ row. row ≡ replicate count (Home 0 Undefined)) }
 {
     let mut row = Items::new(alloc);
     row.reserve(count as usize)?;
     for at in 0..count {
         let _ = at;
-        row.push(Slot::Home(Value::Undefined))?;
+        row.push(Slot::Home(0, Value::Undefined))?;
     }
     Ok(row)
 }
@@ -66,7 +66,7 @@ fn put_back(slots: &mut Table<Slot>, kinds: &[Kind], cells: Vec<Cell>)
             value,
         } = cell;
         let value = of_kind(kind_in(kinds, place.var), value);
-        slots.put(place, Slot::Home(value));
+        slots.put(place, Slot::Home(0, value));
     }
 }
 
@@ -86,35 +86,21 @@ fn put_row(slots: &mut Table<Slot>, kinds: &[Kind], row: Row)
             var: first.var,
             index: first.index + at as u32,
         };
-        slots.put(place, Slot::Home(of_kind(kind, value)));
+        slots.put(place, Slot::Home(0, of_kind(kind, value)));
         at += 1u64;
-    }
-}
-
-/// Puts the values of cells back as they are, each at its place.
-fn put_again(slots: &mut Table<Slot>, cells: Vec<Cell>)
-    ensures { slots.new ≡ with_cells home_again cells.items slots.old }
-{
-    for cell in cells {
-        let Cell {
-            place,
-            kind: _,
-            value,
-        } = cell;
-        slots.put(place, Slot::Home(value));
     }
 }
 
 /// The run that the items are, where they are one run that has places.
 fn only_run(pieces: &VecDeque<Piece>) -> Option<Run>
-    ensures { IfSome result (λ run. (pieces.now.items ≡ Places run ∷ []) × (0 < run.count)) }
+    ensures { IfSome result (λ run. pieces.now.items ≡ Places run ∷ []) }
 {
     if pieces.len() != 1 {
         return None;
     }
     match pieces.front() {
-        Some(Piece::Places(run)) if run.count > 0 => Some(*run),
-        Some(_) | None => None,
+        Some(Piece::Places(run)) => Some(*run),
+        Some(Piece::Own(_, _)) | None => None,
     }
 }
 
@@ -137,7 +123,7 @@ impl Store {
         ensures { option_copied result ≡ value_at self.now place }
     {
         match self.slots.get(place) {
-            Some(Slot::Home(value)) => Some(value),
+            Some(Slot::Home(_, value)) => Some(value),
             Some(Slot::Out(_)) | None => None,
         }
     }
@@ -155,31 +141,18 @@ impl Store {
         }
     }
 
-    /// Whether a place of a run is moved out. One that there is not counts as moved out.
-    pub fn has_out(&self, run: Run) -> bool
-        ensures { result ≡ list_any (λ place. is_none (value_at self.now place)) (places_of run) }
-    {
-        if run.count == 0 {
-            return false;
-        }
-        match self.slots.at_run(run) {
-            Some(slots) => any_out(slots),
-            None => true,
-        }
-    }
-
     /// Gives a place a value. One of another kind leaves it undefined.
     pub fn set(&mut self, place: Place, value: Value)
         ensures { self.new ≡ with_value self.old place value }
     {
         let value = of_kind(kind_in(&self.kinds, place.var), value);
-        self.slots.put(place, Slot::Home(value));
+        self.slots.put(place, Slot::Home(0, value));
     }
 
-    /// Moves the values of these places out, each place once, in the order of the items. Want of memory changes nothing.
+    /// Moves the values of these places out, each place once, in the order of the items. One that is moved out already has an
+    /// undefined value. Want of memory changes nothing.
     pub fn take_out(&mut self, alloc: Global, runs: &[Run]) -> Result<Moved, AllocError>
-        requires home { All (λ place. IsSome (value_at self.old place)) (places_in runs.now) }
-        requires few { length (places_in runs.now) < 4294967296 }
+        requires { length (places_in runs.now) < 4294967296 }
         ensures moved { IfOk result (λ moved. moved ≡ moved_of (map (cell_at self.old) (places_in runs.now))) }
         ensures ok { OnOk result (self.new ≡ without (places_in runs.now) self.old) }
         ensures err { OnErr result (self.new ≡ self.old) }
@@ -189,31 +162,8 @@ impl Store {
         Ok(taken.into_moved())
     }
 
-    /// The number of its variables.
-    pub fn count(&self) -> usize
-        ensures { result ≡ length self.now.values }
-    {
-        self.slots.count()
-    }
-
-    /// Whether a place among items is moved out.
-    fn any_out(&self, pieces: &VecDeque<Piece>) -> bool
-        ensures { result ≡ list_any (λ place. is_none (value_at self.now place)) (places_among pieces.now.items) }
-    {
-        for at in 0..pieces.len() {
-            if let Piece::Places(run) = &pieces[at] {
-                if self.has_out(*run) {
-                    return true;
-                }
-            }
-        }
-        false
-    }
-
-    /// CopiedRow the values of a run, whose places are distinct, in their order; none where one is moved out.
+    /// Copies the values of a run, whose places are distinct, in their order; none where the variable has not all of them.
     fn copy_of_run(&self, alloc: Global, run: Run) -> Result<Option<Copied>, AllocError>
-        requires { 0 < run.count }
-        ensures out { IfOk result (λ o. is_none o ≡ list_any (λ place. is_none (value_at self.now place)) (places_of run)) }
         ensures moved { IfOk result (λ o. IfSome o (λ copied. copied.moved ≡ moved_of (map (cell_at self.now) (places_of run)))) }
         ensures defined { IfOk result (λ o. IfSome o (λ copied. IsTrue copied.defined ↔ AreDefined copied.moved.cells)) }
     {
@@ -221,9 +171,7 @@ impl Store {
             return Ok(None);
         };
         let kind = kind_in(&self.kinds, run.var);
-        let Some(CopiedRow { values, defined }) = copy_row(alloc, kind, slots)? else {
-            return Ok(None);
-        };
+        let CopiedRow { values, defined } = copy_row(alloc, kind, slots)?;
         let first = Place {
             var: run.var,
             index: run.first,
@@ -236,54 +184,44 @@ impl Store {
         Ok(Some(Copied { moved, defined }))
     }
 
-    /// CopiedRow the values of so many items, each place once, in the order of the items. It changes nothing.
+    /// Copies the values of so many items, each place once, in the order of the items. It changes nothing.
     fn copy_of_pieces(
         &mut self,
         alloc: Global,
         pieces: VecDeque<Piece>,
         size: u32,
     ) -> Result<Moved, AllocError>
-        requires home { All (λ place. IsSome (value_at self.old place)) (places_among pieces.items) }
-        requires size { sizes pieces.items ≤ size }
-        requires rows { length self.old.values ≤ no_variable }
+        requires { sizes pieces.items ≤ size }
         ensures moved { IfOk result (λ moved. moved ≡ moved_of (cells_in self.old pieces.items)) }
         ensures same { self.new ≡ self.old }
     {
         let mut taken = room_for(alloc, size as usize)?;
-        take_pieces(&mut self.slots, &self.kinds, pieces, &mut taken);
-        let cells = copies(alloc, &taken.cells);
-        put_again(&mut self.slots, taken.cells);
-        Ok(Moved {
-            cells: cells?,
-            order: Items::from_vec(taken.order),
-        })
+        copy_pieces(&mut self.slots, &self.kinds, pieces, &mut taken)?;
+        Ok(taken.into_moved())
     }
 
-    /// CopiedRow the values of so many items, each place once, in the order of the items, where none of their places is moved out. It
-    /// changes nothing.
+    /// Copies the values of so many items, each place once, in the order of the items. One that is moved out has an undefined
+    /// value. It changes nothing.
     pub fn copy_of(
         &mut self,
         alloc: Global,
         pieces: VecDeque<Piece>,
         size: u32,
-    ) -> Result<Option<Copied>, AllocError>
-        requires size { sizes pieces.items ≤ size }
-        requires rows { length self.old.values ≤ no_variable }
-        ensures out { IfOk result (λ o. is_none o ≡ list_any (λ place. is_none (value_at self.old place)) (places_among pieces.items)) }
-        ensures moved { IfOk result (λ o. IfSome o (λ copied. copied.moved ≡ moved_of (cells_in self.old pieces.items))) }
-        ensures defined { IfOk result (λ o. IfSome o (λ copied. IsTrue copied.defined ↔ AreDefined copied.moved.cells)) }
+    ) -> Result<Copied, AllocError>
+        requires { sizes pieces.items ≤ size }
+        ensures moved { IfOk result (λ copied. copied.moved ≡ moved_of (cells_in self.old pieces.items)) }
+        ensures defined { IfOk result (λ copied. IsTrue copied.defined ↔ AreDefined copied.moved.cells) }
         ensures same { self.new ≡ self.old }
     {
         if let Some(run) = only_run(&pieces) {
-            return self.copy_of_run(alloc, run);
-        }
-        if self.any_out(&pieces) {
-            return Ok(None);
+            if let Some(copied) = self.copy_of_run(alloc, run)? {
+                return Ok(copied);
+            }
         }
         let moved = self.copy_of_pieces(alloc, pieces, size)?;
         let defined = are_defined(moved.cells.as_slice());
         let moved = Load::of_cells(moved);
-        Ok(Some(Copied { moved, defined }))
+        Ok(Copied { moved, defined })
     }
 
     /// Puts the values of cells back to their places. One of another kind than its place leaves that undefined.

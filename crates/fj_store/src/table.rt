@@ -37,13 +37,6 @@ impl<T> Table<T> {
         }
     }
 
-    /// The number of variables.
-    pub fn count(&self) -> usize
-        ensures { result ≡ length self.now }
-    {
-        self.rows.len()
-    }
-
     /// What stands at a place, if it has such a place.
     pub fn get(&self, place: Place) -> Option<&T>
         ensures { option_copied result ≡ element_at self.now place }

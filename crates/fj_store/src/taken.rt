@@ -1,19 +1,19 @@
-// What is taken out of a table: each place once, and the cell of each item.
-ghost use Rattle.std.specs.Prelude.{◌≡◌, ◌+◌, ◌<◌, ◌≤◌, ℕ, List, [], length, OnOk, IfOk, vec_len, vec_capacity};
-ghost use Rattle.fj_store.specs.Places.{places_of, places_in};
-ghost use Rattle.fj_store.specs.Taking.{taking, HasRoom, take_one, take_all, take_runs, with_own, take_pieces};
-ghost use Rattle.fj_store.specs.Kinds.{kind_at};
-ghost use Rattle.fj_store.specs.declared.slot.Slot.{Slot};
-ghost use Rattle.fj_store.specs.Pieces.{own_cell, sizes};
+// The items that are taken out of a table: each place has one cell, and each item the number of its cell.
+ghost use Rattle.std.specs.Prelude.{◌≡◌, ◌+◌, ◌<◌, ◌≤◌, ℕ, [], length, IfOk, vec_capacity};
+ghost use Rattle.std.specs.List.{position_or_len};
+ghost use Rattle.fj_store.specs.Places.{same_place, places_of, places_in};
+ghost use Rattle.fj_store.specs.Taking.{taking, items_in, HasRoom, IsMarked, take_one, take_all, take_runs};
+ghost use Rattle.fj_store.specs.Variables.{is_at, with_item};
 
 use crate::kinds::kind_in;
-use crate::piece::Piece;
 use crate::run::Run;
-use crate::slot::Slot;
+use crate::slot::{Slot, value_of};
 use crate::table::Table;
-use fj_value::{Cell, Kind, Place, Value};
+use fj_value::{Cell, Kind, Place};
 use std::alloc::{AllocError, Global};
-use std::collections::VecDeque;
+
+/// The variable of values that have no place.
+pub(crate) const NO_VARIABLE: u32 = 4294967295;
 
 /// Cells, and the number of the cell of each item.
 #[derive(Debug, Drop)]
@@ -35,30 +35,81 @@ pub(crate) fn room_for(alloc: Global, count: usize) -> Result<Taken, AllocError>
     Ok(Taken { cells, order })
 }
 
-/// Takes one place out, where it was not taken before.
-fn take_place(slots: &mut Table<Slot>, kind: Kind, place: Place, taken: &mut Taken)
-    requires { HasRoom taken.old 1 }
-    ensures taken { taking slots.new taken.new ≡ take_one kind (taking slots.old taken.old) place }
+fn same_place(a: Place, b: Place) -> bool
+    ensures { result ≡ same_place a b }
+{
+    a.var == b.var && a.index == b.index
+}
+
+/// The number of the cell of a place; where there is none, the number of cells.
+pub fn position(cells: &[Cell], place: Place) -> usize
+    ensures at { result ≡ position_or_len (is_at place) cells.now }
+    ensures low { result ≤ length cells.now }
+{
+    for at in 0..cells.len() {
+        if same_place(place, cells[at].place) {
+            return at;
+        }
+    }
+    cells.len()
+}
+
+/// The same by the mark of the place. One that cannot be marked is looked for.
+pub(crate) fn cell_of(slots: &Table<Slot>, cells: &[Cell], place: Place) -> usize
+    requires { IsMarked slots.now cells.now }
+    ensures at { result ≡ position_or_len (is_at place) cells.now }
+    ensures low { result ≤ length cells.now }
+{
+    if place.var == NO_VARIABLE {
+        return position(cells, place);
+    }
+    let Some(slot) = slots.get(place) else {
+        return position(cells, place);
+    };
+    let at = slot.mark() as usize;
+    if at >= cells.len() {
+        return cells.len();
+    }
+    if same_place(place, cells[at].place) {
+        at
+    } else {
+        cells.len()
+    }
+}
+
+/// Adds an item whose place has the cell of a number, or, where that is the number of cells, gets one.
+pub(crate) fn add_item(at: usize, cell: Cell, taken: &mut Taken)
+    requires room { HasRoom taken.old 1 }
+    requires at { at ≡ position_or_len (is_at cell.place) taken.old.cells.items }
+    requires low { at ≤ length taken.old.cells.items }
+    ensures item { items_in taken.new ≡ with_item (items_in taken.old) cell }
     ensures room { (n : ℕ) → HasRoom taken.old (n + 1) → HasRoom taken.new n }
 {
-    let number = match slots.get(place) {
-        None => return,
-        Some(Slot::Out(number)) => {
-            taken.order.push_reserved(*number);
-            return;
-        }
-        Some(Slot::Home(_)) => taken.cells.len() as u32,
-    };
-    if let Some(Slot::Home(value)) = slots.replace(place, Slot::Out(number)) {
-        taken.cells.push_reserved(Cell { place, kind, value });
-        taken.order.push_reserved(number);
+    taken.order.push_reserved(at as u32);
+    if at == taken.cells.len() {
+        taken.cells.push_reserved(cell);
     }
+}
+
+/// Takes one place out, where it was not taken before.
+fn take_place(slots: &mut Table<Slot>, kind: Kind, place: Place, taken: &mut Taken)
+    requires room { HasRoom taken.old 1 }
+    requires marked { IsMarked slots.old taken.old.cells.items }
+    ensures taken { taking slots.new taken.new ≡ take_one kind (taking slots.old taken.old) place }
+    ensures marked { IsMarked slots.new taken.new.cells.items }
+    ensures room { (n : ℕ) → HasRoom taken.old (n + 1) → HasRoom taken.new n }
+{
+    let at = cell_of(slots, &taken.cells, place);
+    let value = value_of(slots.replace(place, Slot::Out(at as u32)));
+    add_item(at, Cell { place, kind, value }, taken);
 }
 
 /// Takes the places of a run out, one behind the other.
 fn take_run(slots: &mut Table<Slot>, kind: Kind, run: Run, taken: &mut Taken)
-    requires { HasRoom taken.old run.count }
+    requires room { HasRoom taken.old run.count }
+    requires marked { IsMarked slots.old taken.old.cells.items }
     ensures taken { taking slots.new taken.new ≡ take_all kind (taking slots.old taken.old) (places_of run) }
+    ensures marked { IsMarked slots.new taken.new.cells.items }
     ensures room { (n : ℕ) → HasRoom taken.old (run.count + n) → HasRoom taken.new n }
 {
     for at in 0..run.count {
@@ -68,7 +119,8 @@ fn take_run(slots: &mut Table<Slot>, kind: Kind, run: Run, taken: &mut Taken)
 
 /// Takes the places of runs out, in the order of the runs.
 pub(crate) fn take_places(slots: &mut Table<Slot>, kinds: &[Kind], runs: &[Run], taken: &mut Taken)
-    requires { HasRoom taken.old (length (places_in runs.now)) }
+    requires room { HasRoom taken.old (length (places_in runs.now)) }
+    requires marked { IsMarked slots.old taken.old.cells.items }
     ensures { taking slots.new taken.new ≡ take_runs kinds.now (taking slots.old taken.old) runs.now }
 {
     for run in runs {
@@ -86,53 +138,4 @@ pub(crate) fn count_of(runs: &[Run]) -> usize
         count += run.count as usize;
     }
     count
-}
-
-/// The variable of values that have no place.
-const NO_VARIABLE: u32 = 4294967295;
-
-/// Adds a cell that stands for one item.
-fn add_cell(cell: Cell, taken: &mut Taken)
-    requires { HasRoom taken.old 1 }
-    ensures taken { (slots : List (List Slot)) → taking slots taken.new ≡ with_own (taking slots taken.old) cell }
-    ensures room { (n : ℕ) → HasRoom taken.old (n + 1) → HasRoom taken.new n }
-{
-    taken.order.push_reserved(taken.cells.len() as u32);
-    taken.cells.push_reserved(cell);
-}
-
-/// Adds a value of its own, by its number among these.
-fn add_own(number: u32, kind: Kind, value: Value, taken: &mut Taken)
-    requires { HasRoom taken.old 1 }
-    ensures taken { (slots : List (List Slot)) → taking slots taken.new ≡ with_own (taking slots taken.old) (own_cell number kind value) }
-    ensures room { (n : ℕ) → HasRoom taken.old (n + 1) → HasRoom taken.new n }
-{
-    let place = Place {
-        var: NO_VARIABLE,
-        index: number,
-    };
-    add_cell(Cell { place, kind, value }, taken);
-}
-
-/// Takes pieces one behind the other: their places out, and their own values.
-pub(crate) fn take_pieces(
-    slots: &mut Table<Slot>,
-    kinds: &[Kind],
-    mut pieces: VecDeque<Piece>,
-    taken: &mut Taken,
-)
-    requires room { HasRoom taken.old (sizes pieces.items) }
-    requires few { sizes pieces.items < 4294967296 }
-    ensures { taking slots.new taken.new ≡ take_pieces kinds.now 1 (taking slots.old taken.old) pieces.items }
-{
-    let mut own = 0;
-    'taking: while let Some(piece) = pieces.pop_front() {
-        match piece {
-            Piece::Places(run) => take_run(slots, kind_in(kinds, run.var), run, taken),
-            Piece::Own(kind, value) => {
-                own += 1;
-                add_own(own, kind, value, taken);
-            }
-        }
-    }
 }

@@ -1,10 +1,9 @@
 use Rattle.std.proofs.Common.{◌≡◌, ◌+◌, ◌<◌, ◌≤◌, ◌++◌, length, take, arith}
 use Rattle.std.specs.List.{sum_by}
 use Rattle.std.proofs.lemmas.Result.{err_from_is_err_and}
-use Rattle.fj_plain.specs.Items.{operand_places}
 use Rattle.fj_items.specs.Gathering.{count_of}
 use Rattle.fj_items.specs.declared.lost.Lost.TheVariants.{Unfit}
-use Rattle.fj_items.proofs.Finds.{not_passed, home_at, sum_step, sum_low, sum_all}
+use Rattle.fj_items.proofs.Finds.{not_passed, sum_step, sum_low, sum_all}
 use Rattle.fj_items.proofs.Gathers.{items_step}
 use Rattle.fj_items.proofs.gathering.add_items.Goals as goal
 
@@ -14,20 +13,19 @@ loop-item-preserved c =
     let step : sum_by (count_of c.args.variables.now) (take (c.loop-item.item-index + 1) c.args.items.now) ≡ sum_by (count_of c.args.variables.now) (take c.loop-item.item-index c.args.items.now) + count_of c.args.variables.now c.item-item.result =
     sum_step (count_of c.args.variables.now) c.args.items.now c.loop-item.item-index c.item-item.result c.item-item.result low c.item-item.is in
     record {
-      more = λ before h. items_step c.args.variables.now c.args.store.now before c.args.items.now c.loop-item.item-index c.item-item.result c.add_item.new.gathered low c.item-item.is
+      more = λ before h. items_step c.args.variables.now before c.args.items.now c.loop-item.item-index c.item-item.result c.add_item.new.gathered low c.item-item.is
           (c.in_ok-add_item.ensures.more (before ++ take c.loop-item.item-index c.args.items.now) (c.loop-item.invariant.more before h));
       size = let one = c.in_ok-add_item.ensures.size in let so_far = c.loop-item.invariant.size in omega (arith, step, one, so_far);
     }
 
 pub returns-in_err-add_item-clause-fits : goal.returns-in_err-add_item-clause-fits
-returns-in_err-add_item-clause-fits c = λ home few.
+returns-in_err-add_item-clause-fits c = λ few.
     let low : c.loop-item.item-index < length c.args.items.now = omega arith in
     let p = err_from_is_err_and c.from_residual.result c.from_residual.ensures.1 in
     let all : sum_by (count_of c.args.variables.now) (take c.loop-item.item-index c.args.items.now) + count_of c.args.variables.now c.item-item.result ≤ sum_by (count_of c.args.variables.now) c.args.items.now =
     sum_low (count_of c.args.variables.now) c.args.items.now c.loop-item.item-index c.item-item.result c.item-item.result low c.item-item.is in
     let so_far = c.loop-item.invariant.size in
-    let here = home_at c.args.store.now (operand_places c.args.variables.now) c.args.items.now c.loop-item.item-index c.item-item.result c.item-item.result low c.item-item.is home in
-    not_passed c.from_residual.result c.in_err-add_item.field-0.0 p.0 Unfit p.1 p.2 (c.in_err-add_item.ensures.fits here (omega (arith, all, so_far, few)))
+    not_passed c.from_residual.result c.in_err-add_item.field-0.0 p.0 Unfit p.1 p.2 (c.in_err-add_item.ensures.fits (omega (arith, all, so_far, few)))
 
 pub returns-clause-size : goal.returns-clause-size
 returns-clause-size c =

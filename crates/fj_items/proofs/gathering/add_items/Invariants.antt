@@ -6,6 +6,6 @@ use Rattle.fj_items.proofs.gathering.add_items.Given as goal
 
 abbrev pub invariant-loop-item : goal.invariant-loop-item
 invariant-loop-item l = record {
-  more : (before : List Operand) → IsGathered l.variables l.store before l.initial.gathered → IsGathered l.variables l.store (before ++ take l.item-index l.items) l.gathered;
+  more : (before : List Operand) → IsGathered l.variables before l.initial.gathered → IsGathered l.variables (before ++ take l.item-index l.items) l.gathered;
   size : l.gathered.size ≡ l.initial.gathered.size + sum_by (count_of l.variables) (take l.item-index l.items);
 }

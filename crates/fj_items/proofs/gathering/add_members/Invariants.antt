@@ -8,6 +8,6 @@ use Rattle.fj_items.proofs.gathering.add_members.Given as goal
 
 abbrev pub invariant-loop-var : goal.invariant-loop-var
 invariant-loop-var l = record {
-  more : (before : List Operand) → IsGathered l.variables l.store before l.initial.gathered → IsGathered l.variables l.store (before ++ map Whole (take l.var-index l.vars)) l.gathered;
+  more : (before : List Operand) → IsGathered l.variables before l.initial.gathered → IsGathered l.variables (before ++ map Whole (take l.var-index l.vars)) l.gathered;
   size : l.gathered.size ≡ l.initial.gathered.size + sum_by (λ var. length (places_of l.variables var)) (take l.var-index l.vars);
 }

@@ -1,4 +1,4 @@
-use Rattle.std.proofs.Common.{◌≡◌, ◌↔◌, List, All, IsTrue, sym, ap, subst, ◌∙◌}
+use Rattle.std.proofs.Common.{◌↔◌, List, All, IsTrue, sym, ap, subst, ◌∙◌}
 use Rattle.fj_value.specs.declared.value.Cell.{Cell}
 use Rattle.fj_list.specs.declared.moved.Moved.{Moved}
 use Rattle.fj_list.specs.Load.{moved_by}

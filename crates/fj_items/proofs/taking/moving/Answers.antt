@@ -17,14 +17,14 @@ use Rattle.fj_transfer.specs.declared.transfer.Transfer.{Transfer as Job}
 use Rattle.fj_items.proofs.Finds.{grouped, has_values}
 use Rattle.fj_items.specs.Fitting.{AreKept}
 use Rattle.fj_items.proofs.Keeps.{kept_same, kept_undefined, kept_no_size, on_ok}
-use Rattle.fj_items.proofs.Takes.{if_more, job_parts, moving_is, input_size, one_cell}
+use Rattle.fj_items.proofs.Takes.{if_more, job_parts, moving_is, one_cell}
 use Rattle.fj_items.proofs.taking.moving.Goals as goal
 
 pub job_with-requires-clause-single : goal.job_with-requires-clause-single
-job_with-requires-clause-single c = one_cell c.args.variables.now (values_of c.taken.new.store) c.args.t.now.size c.in_ok-size.size c.in_ok-size.ensures.moved
+job_with-requires-clause-single c = one_cell c.args.variables.now (values_of c.args.store.now) c.args.t.now.size c.in_ok-size.size c.in_ok-size.ensures.moved
 
 pub job_with-requires-2-clause-single : goal.job_with-requires-2-clause-single
-job_with-requires-2-clause-single c = one_cell c.args.variables.now (values_of c.copied.new.store) c.args.t.now.size c.in_ok-size-2.size c.in_ok-size-2.ensures.moved
+job_with-requires-2-clause-single c = one_cell c.args.variables.now (values_of c.args.store.now) c.args.t.now.size c.in_ok-size.size c.in_ok-size.ensures.moved
 
 pub returns-then-t-clause-job : goal.returns-then-t-clause-job
 returns-then-t-clause-job c =
@@ -34,25 +34,27 @@ returns-then-t-clause-job c =
     (layout_of c.args.variables.now c.of_cells.result.cells t.control) (record { blank_zero = t.blank_zero; comma = t.comma; delim = t.delim; pad = t.pad; plus = t.plus }) (unwrap_or t.advance true) (control_by (Transfer t)) in
     let due : Moving = moving_of (control_by (Transfer t)) c.args.variables.now c.args.line c.args.tag.0 (values_of s) t (moved_in c.args.variables.now (values_of s) t) in
     let same : parts ≡ due =
-    moving_is c.args.variables.now (values_of s) c.args.line c.args.tag.0 t c.of_cells.result c.in_ok-size.size c.number_given-rec.result c.number_given-pos.result (c.of_cells.ensures ∙ c.in_ok-moved.ensures.moved)
-    (input_size c.args.variables.now s c.taken.new.store t c.in_ok-size.size c.in_ok-size.ensures.moved c.in_ok-size.ensures.home c.in_ok-moved.ensures.others)
+    moving_is c.args.variables.now (values_of s) c.args.line c.args.tag.0 t c.of_cells.result c.in_ok-size.size c.number_given-rec.result c.number_given-pos.result (c.of_cells.ensures ∙ c.in_ok-moved.ensures.moved ∙ ap (λ (x : Storage). moved_in c.args.variables.now (values_of x) c.args.t.now) c.in_ok-size.ensures.same)
+    c.in_ok-size.ensures.moved
     (c.number_given-rec.ensures ∙ ap (number_given (values_of s)) c.as_ref.ensures.value) (c.number_given-pos.ensures ∙ ap (number_given (values_of s)) c.as_ref-2.ensures.value) in
     if_more c.job_with.result (λ (job : Job). job_of job ≡ parts) (λ (job : Job). job_of job ≡ due) (λ job e. e ∙ same) c.job_with.ensures.job
 
 pub returns-then-t-clause-fits : goal.returns-then-t-clause-fits
 returns-then-t-clause-fits c = λ is finds.
     let reads : c.args.t.now.input ≡ true = grind arith in
-    c.job_with.ensures.fits (grouped c.args.variables.now (values_of c.args.store.now) c.args.t.now c.of_cells.result is (c.of_cells.ensures ∙ c.in_ok-moved.ensures.moved)) (λ writes. absurd (false≢true (sym writes ∙ reads)))
+    c.job_with.ensures.fits (grouped c.args.variables.now (values_of c.args.store.now) c.args.t.now c.of_cells.result is (c.of_cells.ensures ∙ c.in_ok-moved.ensures.moved ∙ ap (λ (x : Storage). moved_in c.args.variables.now (values_of x) c.args.t.now) c.in_ok-size.ensures.same)) (λ writes. absurd (false≢true (sym writes ∙ reads)))
 
 pub returns-clause-fits : goal.returns-clause-fits
 returns-clause-fits c = λ is finds.
-    c.job_with-2.ensures.fits (grouped c.args.variables.now (values_of c.args.store.now) c.args.t.now c.in_ok-copy.copy.moved is c.in_ok-copy.ensures.moved)
-    (has_values c.args.variables.now c.args.store.now c.args.t.now c.in_ok-copy.copy.moved is finds c.in_ok-copy.ensures.moved)
+    let made : c.in_ok-copy.copy.moved ≡ moved_in c.args.variables.now (values_of c.args.store.now) c.args.t.now = c.in_ok-copy.ensures.moved ∙ ap (λ (x : Storage). moved_in c.args.variables.now (values_of x) c.args.t.now) c.in_ok-size.ensures.same in
+    c.job_with-2.ensures.fits (grouped c.args.variables.now (values_of c.args.store.now) c.args.t.now c.in_ok-copy.copy.moved is made)
+    (has_values c.args.variables.now (values_of c.args.store.now) c.args.t.now c.in_ok-copy.copy.moved is finds made)
 
 pub returns-then-t-clause-keeps : goal.returns-then-t-clause-keeps
 returns-then-t-clause-keeps c = λ kept.
     let moved : Moved = moved_in c.args.variables.now (values_of c.args.store.now) c.args.t.now in
-    let mid = kept_same c.args.variables.now (undefined_at moved.cells (values_of c.args.store.now)) (values_of c.taken.new.store) c.in_ok-moved.ensures.vars (kept_undefined c.args.variables.now moved.cells (values_of c.args.store.now) kept) in
-    on_ok c.job_with.result (AreKept c.args.variables.now (values_of c.size_taken.new.store))
-    (kept_same c.args.variables.now (with_size c.args.variables.now c.args.t.now.size None (values_of c.taken.new.store)) (values_of c.size_taken.new.store) c.in_ok-size.ensures.vars
+    let mid = kept_same c.args.variables.now (undefined_at moved.cells (values_of c.args.store.now)) (values_of c.taken.new.store)
+    (c.in_ok-moved.ensures.vars ∙ ap (λ (x : Storage). undefined_at (moved_in c.args.variables.now (values_of x) c.args.t.now).cells (values_of x)) c.in_ok-size.ensures.same) (kept_undefined c.args.variables.now moved.cells (values_of c.args.store.now) kept) in
+    on_ok c.job_with.result (AreKept c.args.variables.now (values_of c.undefine_size.new.store))
+    (kept_same c.args.variables.now (with_size c.args.variables.now c.args.t.now.size None (values_of c.taken.new.store)) (values_of c.undefine_size.new.store) c.undefine_size.ensures.vars
     (kept_no_size c.args.variables.now c.args.t.now.size (values_of c.taken.new.store) mid))

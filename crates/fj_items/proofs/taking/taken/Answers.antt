@@ -3,20 +3,16 @@ use Rattle.std.proofs.lemmas.List.{length-map}
 use Rattle.std.proofs.lemmas.Result.{err_from_is_err_and}
 use Rattle.fj_store.specs.Storage.{cell_at}
 use Rattle.fj_items.specs.declared.lost.Lost.TheVariants.{Unfit}
-use Rattle.fj_items.proofs.Finds.{not_passed, numbered, others_stay, input_runs}
+use Rattle.fj_items.proofs.Finds.{not_passed, numbered, input_runs}
 use Rattle.fj_store.specs.Places.{places_in}
 use Rattle.fj_items.specs.Gathering.{all_items}
-use Rattle.fj_items.proofs.Takes.{runs_home, runs_size, taken_moved, taken_values, others_same}
+use Rattle.fj_items.proofs.Takes.{runs_size, taken_moved, taken_values}
 use Rattle.fj_items.proofs.taking.taken.Goals as goal
 
-pub take_out-requires-clause-home : goal.take_out-requires-clause-home
-take_out-requires-clause-home c =
-    runs_home c.args.variables.now c.args.store.now (all_items c.args.t.now) c.in_ok-gathered.gathered c.in_ok-runs.runs c.as_slice.result.now c.in_ok-gathered.ensures.gathered c.in_ok-runs.ensures.runs c.as_slice.ensures
-
-pub take_out-requires-clause-few : goal.take_out-requires-clause-few
-take_out-requires-clause-few c =
+pub take_out-requires : goal.take_out-requires
+take_out-requires c =
     let size : length (places_in c.as_slice.result.now) ≡ c.in_ok-gathered.gathered.size =
-    runs_size c.args.variables.now c.args.store.now (all_items c.args.t.now) c.in_ok-gathered.gathered c.in_ok-runs.runs c.as_slice.result.now c.in_ok-gathered.ensures.gathered c.in_ok-runs.ensures.runs c.as_slice.ensures in
+    runs_size c.args.variables.now (all_items c.args.t.now) c.in_ok-gathered.gathered c.in_ok-runs.runs c.as_slice.result.now c.in_ok-gathered.ensures.gathered c.in_ok-runs.ensures.runs c.as_slice.ensures in
     omega (arith, size)
 
 pub returns-clause-moved : goal.returns-clause-moved
@@ -29,23 +25,15 @@ returns-clause-vars c =
     taken_values c.args.variables.now c.args.store.now c.take_out.new.self c.args.t.now c.in_ok-gathered.gathered c.in_ok-runs.runs c.as_slice.result.now c.requires c.in_ok-gathered.ensures.gathered c.in_ok-runs.ensures.runs c.as_slice.ensures
     c.in_ok-moved.ensures.ok
 
-pub returns-clause-others : goal.returns-clause-others
-returns-clause-others c = λ p here. others_same c.args.store.now c.take_out.new.self (places_in c.as_slice.result.now) p c.in_ok-moved.ensures.ok here
-
 pub returns-clause-numbered : goal.returns-clause-numbered
 returns-clause-numbered c =
     let size : length (places_in c.as_slice.result.now) ≡ c.in_ok-gathered.gathered.size =
-    runs_size c.args.variables.now c.args.store.now (all_items c.args.t.now) c.in_ok-gathered.gathered c.in_ok-runs.runs c.as_slice.result.now c.in_ok-gathered.ensures.gathered c.in_ok-runs.ensures.runs c.as_slice.ensures in
+    runs_size c.args.variables.now (all_items c.args.t.now) c.in_ok-gathered.gathered c.in_ok-runs.runs c.as_slice.result.now c.in_ok-gathered.ensures.gathered c.in_ok-runs.ensures.runs c.as_slice.ensures in
     let mapped = length-map (places_in c.as_slice.result.now) (cell_at c.args.store.now) in
     numbered (map (cell_at c.args.store.now) (places_in c.as_slice.result.now)) c.in_ok-moved.moved c.in_ok-moved.ensures.moved (omega (arith, size, mapped))
-
-pub returns-clause-stay : goal.returns-clause-stay
-returns-clause-stay c = λ p none.
-    others_stay c.args.variables.now c.args.store.now c.take_out.new.self c.args.t.now c.in_ok-gathered.gathered c.in_ok-runs.runs c.as_slice.result.now p c.in_ok-gathered.ensures.gathered c.in_ok-runs.ensures.runs c.as_slice.ensures
-    c.in_ok-moved.ensures.ok none
 
 pub returns-in_err-runs-clause-fits : goal.returns-in_err-runs-clause-fits
 returns-in_err-runs-clause-fits c = λ is reads finds.
     let p = err_from_is_err_and c.from_residual-in_err-runs.result c.from_residual-in_err-runs.ensures.1 in
-    let runs = input_runs c.args.variables.now c.args.store.now c.args.t.now c.in_ok-gathered.gathered is reads c.in_ok-gathered.ensures.gathered in
+    let runs = input_runs c.args.variables.now c.args.t.now c.in_ok-gathered.gathered is reads c.in_ok-gathered.ensures.gathered in
     not_passed c.from_residual-in_err-runs.result c.in_err-runs.field-0.0 p.0 Unfit p.1 p.2 (c.in_err-runs.ensures.fits runs.0 runs.1)

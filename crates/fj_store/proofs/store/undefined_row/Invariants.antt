@@ -4,4 +4,4 @@ use Rattle.fj_store.specs.declared.slot.Slot.TheVariants.{Home}
 use Rattle.fj_store.proofs.store.undefined_row.Given as goal
 
 abbrev pub invariant-loop-at : goal.invariant-loop-at
-invariant-loop-at l = l.row ≡ replicate l.at (Home Undefined)
+invariant-loop-at l = l.row ≡ replicate l.at (Home 0 Undefined)

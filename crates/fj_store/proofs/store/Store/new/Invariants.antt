@@ -7,4 +7,4 @@ use Rattle.fj_store.proofs.store.Store.new.Given as goal
 abbrev pub invariant-loop-kind : goal.invariant-loop-kind
 invariant-loop-kind l =
     (l.kinds.items ≡ map (λ (v : Kind × ℕ). v.0) (take l.kind-index l.variables))
-    × (l.slots ≡ map (λ (v : Kind × ℕ). replicate v.1 (Home Undefined)) (take l.kind-index l.variables))
+    × (l.slots ≡ map (λ (v : Kind × ℕ). replicate v.1 (Home 0 Undefined)) (take l.kind-index l.variables))

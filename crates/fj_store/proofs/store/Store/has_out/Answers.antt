@@ -1,9 +1,0 @@
-use Rattle.std.proofs.Common.{arith}
-use Rattle.fj_store.proofs.StoreLemmas.{out_at_run, out_lost}
-use Rattle.fj_store.proofs.store.Store.has_out.Goals as goal
-
-pub returns-in-Some : goal.returns-in-Some
-returns-in-Some c = out_at_run c.self.inside.kinds.items c.self.inside.slots c.args.self.now c.in-Some.slots.now c.args.run c.any_out.result c.self.view_is c.in-Some.ensures.some c.any_out.ensures
-
-pub returns-in-None : goal.returns-in-None
-returns-in-None c = out_lost c.self.inside.kinds.items c.self.inside.slots c.args.self.now c.args.run c.self.view_is (c.in-None.ensures.none (omega arith))
