@@ -53,9 +53,6 @@ pub record Scans (line rest : List ℕ) (found : List Token) : Type 0 where
   pub is : (us : List Token) → AreTokens rest us → AreTokens line (found ++ us)
   pub only : (ts : List Token) → AreTokens line ts → (us : List Token) × (ts ≡ found ++ us) × AreTokens rest us
 
-scans_first : (line : List ℕ) → Scans line line []
-scans_first line = record { is = λ us are. are; only = λ ts are. (ts, refl, are) }
-
 pub scans_token : (line rest behind : List ℕ) (t : Token) (found : List Token) → Scans line rest found → first_token (behind_blanks rest) ≡ Some (t, behind) → Scans line behind (found ++ t ∷ [])
 scans_token line rest behind t found s h = record {
   is = λ us are. rw append_assoc (s.is (t ∷ us) (token_is rest behind t us h are));
@@ -101,7 +98,7 @@ answer_from (suc left) line rest found most s =
     (λ t behind e. answer_from left line behind (found ++ t ∷ []) (omega (arith, shorter rest behind t e)) (scans_token line rest behind t found s e))
 
 pub token_answer : (line : List ℕ) → TokenAnswer line
-token_answer line = answer_from (length line) line line [] (omega arith) (scans_first line)
+token_answer line = answer_from (length line) line line [] (omega arith) (record { is = λ us are. are; only = λ ts are. (ts, refl, are) })
 
 pub tokens_unique : (line : List ℕ) (ts us : List Token) → AreTokens line ts → AreTokens line us → us ≡ ts
 tokens_unique line ts us are other = elim (token_answer line) [ inl d ↦ d.1.only us other ∙ sym (d.1.only ts are) | inr none ↦ absurd (none ts are) ]
@@ -111,11 +108,6 @@ tokens_unique line ts us are other = elim (token_answer line) [ inl d ↦ d.1.on
 same_some : {A : Type 0} (o : Option A) (x y : A) → o ≡ Some x → o ≡ Some y → x ≡ y
 same_some None x y h k = cc
 same_some (Some z) x y h k = cc
-
--- no tokens are no statement
-nothing_written : written_of [] ≡ None
-unfolding written_of
-nothing_written = refl
 
 not_blank : (line : List ℕ) (tokens : List Token) → HasTokens line tokens → eqb (length tokens) 0 ≡ false → IsBlankLine line → ⊥
 not_blank line tokens has some empty =
@@ -140,8 +132,9 @@ fault_parses line tokens (Memory error) has some h = tt
 fault_parses line tokens NotAStatement has some h = statement_none line tokens has some h
 
 pub once : OneReading
+unfolding written_of
 once = record {
   tokens = tokens_unique;
   statement = λ line s other is was. same_some (written_of is.0) s other is.2 (sym (ap written_of (tokens_unique line is.0 was.0 is.1 was.1)) ∙ was.2);
-  blank = λ line s empty is. none_and_some (written_of is.0) s (ap written_of (tokens_unique line [] is.0 empty is.1) ∙ nothing_written) is.2;
+  blank = λ line s empty is. none_and_some (written_of is.0) s (ap written_of (tokens_unique line [] is.0 empty is.1)) is.2;
 }

@@ -206,13 +206,8 @@ mark_is c line =
 
 mark_first : (m : AMark) (line : List ℕ) → first_token (mark_bytes m ++ line) ≡ Some (Mark m, line)
 unfolding first_token mark_at
-mark_first LeftParenthesis line = refl
-mark_first RightParenthesis line = refl
-mark_first Comma line = refl
-mark_first Equals line = refl
-mark_first Slash line = refl
-mark_first Asterisk line = refl
 mark_first DoubleColon line = refl
+mark_first m line = refl
 
 -- ---- each kind by its first byte
 

@@ -4,6 +4,7 @@ ghost use Rattle.std.specs.Option.{option_copied};
 ghost use Rattle.fj_syntax.specs.declared.words.Specifier.TheVariants as specifier;
 ghost use Rattle.fj_syntax.specs.Arguments.{given_of, argument_of, next_bare, arguments_of, is_given, are_once, depth_behind, closing, are_taken, call_of, whole_call_of, given_for};
 ghost use Rattle.fj_syntax.specs.Reading.{Gives};
+ghost use Rattle.fj_syntax.specs.Words.{same_specifier};
 
 use crate::fault::{Read, SyntaxFault, must, some};
 use crate::operand::{Argument, Arguments, Given, Operand};
@@ -65,12 +66,17 @@ fn arguments(alloc: Global, tokens: &[Token]) -> Read<Arguments>
     }
 }
 
+#[tactic(auto, using(crate::proofs::KnownLemmas::same_is))]
+fn is_for(argument: &Argument, specifier: Specifier) -> bool
+    ensures { result ≡ same_specifier argument.now.specifier specifier }
+{
+    argument.specifier == specifier
+}
+
 fn is_given(arguments: &[Argument], specifier: Specifier) -> bool
     ensures { result ≡ is_given specifier arguments.now }
 {
-    arguments
-        .iter()
-        .any(|argument| argument.specifier == specifier)
+    arguments.iter().any(|argument| is_for(argument, specifier))
 }
 
 /// Whether no specifier stands twice.
@@ -153,7 +159,7 @@ pub fn given_for(arguments: &[Argument], specifier: Specifier) -> Option<&Given>
 {
     match arguments
         .iter()
-        .find(|argument| argument.specifier == specifier)
+        .find(|argument| is_for(argument, specifier))
     {
         Some(argument) => Some(&argument.value),
         None => None,
