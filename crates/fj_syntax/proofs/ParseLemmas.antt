@@ -1,5 +1,5 @@
 -- Reading a line from the front: its tokens, and the statement that they are.
-use Rattle.std.proofs.Common.{Bool, ◌⊎◌, ◌≡◌, ℕ, zero, suc, ◌<◌, ◌≤◌, true, false, List, [], ◌∷◌, ◌++◌, length, Some, None, refl, sym, ap, ◌∙◌, subst, inl, inr, arith, append_assoc, append-nil, length-append, Err, length-drop, Option, eqb}
+use Rattle.std.proofs.Common.{Bool, ◌⊎◌, ◌≡◌, ℕ, zero, suc, ◌<◌, ◌≤◌, true, false, List, [], ◌∷◌, ◌++◌, length, Some, None, refl, sym, ap, ◌∙◌, subst, inl, inr, arith, append_assoc, append-nil, length-append, Err, length-drop, eqb}
 use Rattle.std.specs.List.{prefix_len}
 use Rattle.std.proofs.lemmas.Bool.{eqb-true}
 use Rattle.fj_syntax.specs.Class.{is_of, Blank}
@@ -8,7 +8,7 @@ use Rattle.fj_syntax.specs.Parsing.{IsBlankLine, IsOnlyStatement, IsNoStatement,
 use Rattle.fj_syntax.specs.Reading.{SyntaxFault, Memory, NotAStatement, Fails}
 use Rattle.fj_syntax.specs.Statement.{Written, written_of}
 use Rattle.fj_syntax.specs.Tokens.{Token, Word, Number, Literal, Truth, Mark, IsWritten, sign_bytes, AreTokens, end, token as first, behind_blanks, HasTokens, HasNoTokens, ends_line, Scanned}
-use Rattle.fj_syntax.proofs.Holding.{none_and_some}
+use Rattle.fj_syntax.proofs.Holding.{none_and_some, some_is}
 use Rattle.fj_syntax.proofs.TokenLemmas.{StandsFirst, first_is, first_again}
 
 -- ---- what a line begins with
@@ -105,10 +105,6 @@ tokens_unique line ts us are other = elim (token_answer line) [ inl d ↦ d.1.on
 
 -- ---- from the tokens of a line to its statement
 
-same_some : {A : Type 0} (o : Option A) (x y : A) → o ≡ Some x → o ≡ Some y → x ≡ y
-same_some None x y h k = cc
-same_some (Some z) x y h k = cc
-
 not_blank : (line : List ℕ) (tokens : List Token) → HasTokens line tokens → eqb (length tokens) 0 ≡ false → IsBlankLine line → ⊥
 not_blank line tokens has some empty =
     let none : [] ≡ tokens = has.only [] empty in
@@ -117,7 +113,7 @@ not_blank line tokens has some empty =
 pub statement_is : (line : List ℕ) (tokens : List Token) (s : Written) → HasTokens line tokens → eqb (length tokens) 0 ≡ false → written_of tokens ≡ Some s → IsOnlyStatement line s
 statement_is line tokens s has some w = record {
   is = (tokens, has.is, w);
-  only = λ other is. same_some (written_of tokens) other s (sym (ap written_of (has.only is.0 is.1)) ∙ is.2) w;
+  only = λ other is. some_is other s (sym is.2 ∙ ap written_of (has.only is.0 is.1) ∙ w);
   some = not_blank line tokens has some;
 }
 
@@ -135,6 +131,6 @@ pub once : OneReading
 unfolding written_of
 once = record {
   tokens = tokens_unique;
-  statement = λ line s other is was. same_some (written_of is.0) s other is.2 (sym (ap written_of (tokens_unique line is.0 was.0 is.1 was.1)) ∙ was.2);
+  statement = λ line s other is was. some_is s other (sym is.2 ∙ sym (ap written_of (tokens_unique line is.0 was.0 is.1 was.1)) ∙ was.2);
   blank = λ line s empty is. none_and_some (written_of is.0) s (ap written_of (tokens_unique line [] is.0 empty is.1)) is.2;
 }
