@@ -34,4 +34,4 @@ word_is_name : (word : List ℕ) → IsWord word → IsName word
 word_is_name word is = subst IsName (sym is.2.upper) (upper_is_name is.0 is.2.letter is.2.run.all is.2.run.short)
 
 pub names_are : (line : List ℕ) (w : Written) → IsStatement line w → All IsName (names_given w)
-names_are line w is = All-weaker IsWord IsName word_is_name (names_given w) (names_words line w is)
+names_are line w is = All-weaker IsWord IsName word_is_name (names_given w) (names_words.are_words line w is)

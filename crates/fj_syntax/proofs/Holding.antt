@@ -20,8 +20,7 @@ mapped f None x h = cc
 mapped f (Some y) x h = (y, refl, cc)
 
 pub none_and_some : {A : Type 0} (o : Option A) (x : A) → o ≡ None → o ≡ Some x → ⊥
-none_and_some None x h k = cc
-none_and_some (Some y) x h k = cc
+none_and_some o x h k = cc
 
 abbrev pub Holds : {A : Type 0} → (A → Type 0) → Option A → Type 0
 Holds P None = Unit {0}

@@ -142,4 +142,4 @@ statement_words (Word w ∷ ts) all = by (keyword_of w) where
 statement_words ts all = tt
 
 pub names_words : NamesAreWords
-names_words line s is = held GivesWords (written_of is.0) s (statement_words is.0 (are_of_line line is.0 is.1)) is.2
+names_words = record { are_words = λ line s is. held GivesWords (written_of is.0) s (statement_words is.0 (are_of_line line is.0 is.1)) is.2 }

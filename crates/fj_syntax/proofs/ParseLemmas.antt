@@ -1,5 +1,5 @@
 -- Reading a line from the front: its tokens, and the statement that they are.
-use Rattle.std.proofs.Common.{Bool, ◌⊎◌, ◌≡◌, ℕ, zero, suc, ◌<◌, ◌≤◌, true, false, List, [], ◌∷◌, ◌++◌, length, Some, None, refl, sym, ap, ◌∙◌, subst, inl, inr, arith, append_assoc, append-nil, length-append, Err, length-drop, Option, eqb}
+use Rattle.std.proofs.Common.{Bool, ◌⊎◌, ◌≡◌, ℕ, zero, suc, ◌<◌, ◌≤◌, true, false, List, [], ◌∷◌, ◌++◌, length, Some, None, refl, sym, ap, ◌∙◌, subst, inl, inr, arith, append_assoc, append-nil, length-append, Err, length-drop, eqb}
 use Rattle.std.specs.List.{prefix_len}
 use Rattle.std.proofs.lemmas.Bool.{eqb-true}
 use Rattle.fj_syntax.specs.Class.{is_of, Blank}
@@ -8,7 +8,7 @@ use Rattle.fj_syntax.specs.Parsing.{IsBlankLine, IsOnlyStatement, IsNoStatement,
 use Rattle.fj_syntax.specs.Reading.{SyntaxFault, Memory, NotAStatement, Fails}
 use Rattle.fj_syntax.specs.Statement.{Written, written_of}
 use Rattle.fj_syntax.specs.Tokens.{Token, Word, Number, Literal, Truth, Mark, IsWritten, sign_bytes, AreTokens, end, token as first, behind_blanks, HasTokens, HasNoTokens, ends_line, Scanned}
-use Rattle.fj_syntax.proofs.Holding.{none_and_some}
+use Rattle.fj_syntax.proofs.Holding.{none_and_some, some_is}
 use Rattle.fj_syntax.proofs.TokenLemmas.{StandsFirst, first_is, first_again}
 
 -- ---- what a line begins with
@@ -52,9 +52,6 @@ shorter line rest t h =
 pub record Scans (line rest : List ℕ) (found : List Token) : Type 0 where
   pub is : (us : List Token) → AreTokens rest us → AreTokens line (found ++ us)
   pub only : (ts : List Token) → AreTokens line ts → (us : List Token) × (ts ≡ found ++ us) × AreTokens rest us
-
-scans_first : (line : List ℕ) → Scans line line []
-scans_first line = record { is = λ us are. are; only = λ ts are. (ts, refl, are) }
 
 pub scans_token : (line rest behind : List ℕ) (t : Token) (found : List Token) → Scans line rest found → first_token (behind_blanks rest) ≡ Some (t, behind) → Scans line behind (found ++ t ∷ [])
 scans_token line rest behind t found s h = record {
@@ -101,21 +98,12 @@ answer_from (suc left) line rest found most s =
     (λ t behind e. answer_from left line behind (found ++ t ∷ []) (omega (arith, shorter rest behind t e)) (scans_token line rest behind t found s e))
 
 pub token_answer : (line : List ℕ) → TokenAnswer line
-token_answer line = answer_from (length line) line line [] (omega arith) (scans_first line)
+token_answer line = answer_from (length line) line line [] (omega arith) (record { is = λ us are. are; only = λ ts are. (ts, refl, are) })
 
 pub tokens_unique : (line : List ℕ) (ts us : List Token) → AreTokens line ts → AreTokens line us → us ≡ ts
 tokens_unique line ts us are other = elim (token_answer line) [ inl d ↦ d.1.only us other ∙ sym (d.1.only ts are) | inr none ↦ absurd (none ts are) ]
 
 -- ---- from the tokens of a line to its statement
-
-same_some : {A : Type 0} (o : Option A) (x y : A) → o ≡ Some x → o ≡ Some y → x ≡ y
-same_some None x y h k = cc
-same_some (Some z) x y h k = cc
-
--- no tokens are no statement
-nothing_written : written_of [] ≡ None
-unfolding written_of
-nothing_written = refl
 
 not_blank : (line : List ℕ) (tokens : List Token) → HasTokens line tokens → eqb (length tokens) 0 ≡ false → IsBlankLine line → ⊥
 not_blank line tokens has some empty =
@@ -125,7 +113,7 @@ not_blank line tokens has some empty =
 pub statement_is : (line : List ℕ) (tokens : List Token) (s : Written) → HasTokens line tokens → eqb (length tokens) 0 ≡ false → written_of tokens ≡ Some s → IsOnlyStatement line s
 statement_is line tokens s has some w = record {
   is = (tokens, has.is, w);
-  only = λ other is. same_some (written_of tokens) other s (sym (ap written_of (has.only is.0 is.1)) ∙ is.2) w;
+  only = λ other is. some_is other s (sym is.2 ∙ ap written_of (has.only is.0 is.1) ∙ w);
   some = not_blank line tokens has some;
 }
 
@@ -140,8 +128,9 @@ fault_parses line tokens (Memory error) has some h = tt
 fault_parses line tokens NotAStatement has some h = statement_none line tokens has some h
 
 pub once : OneReading
+unfolding written_of
 once = record {
   tokens = tokens_unique;
-  statement = λ line s other is was. same_some (written_of is.0) s other is.2 (sym (ap written_of (tokens_unique line is.0 was.0 is.1 was.1)) ∙ was.2);
-  blank = λ line s empty is. none_and_some (written_of is.0) s (ap written_of (tokens_unique line [] is.0 empty is.1) ∙ nothing_written) is.2;
+  statement = λ line s other is was. some_is s other (sym is.2 ∙ sym (ap written_of (tokens_unique line is.0 was.0 is.1 was.1)) ∙ was.2);
+  blank = λ line s empty is. none_and_some (written_of is.0) s (ap written_of (tokens_unique line [] is.0 empty is.1)) is.2;
 }

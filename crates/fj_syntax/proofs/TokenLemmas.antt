@@ -1,5 +1,5 @@
 -- The token that is read first is the one that is written first.
-use Rattle.std.proofs.Common.{get_or, ◌≡◌, ℕ, ◌<◌, ◌≤◌, Bool, true, false, List, [], ◌∷◌, ◌++◌, length, take, drop, map, Option, Some, None, eqb, ltb, ◌||◌, refl, sym, ap, ◌∙◌, subst, inl, inr, arith, add_comm, add-one, append_assoc, cond, ◌&&◌, slice_index, codes}
+use Rattle.std.proofs.Common.{◌≡◌, ℕ, ◌<◌, ◌≤◌, Bool, true, false, List, [], ◌∷◌, ◌++◌, length, take, drop, map, Option, Some, None, eqb, ltb, ◌||◌, refl, sym, ap, ◌∙◌, subst, inl, inr, arith, add_comm, add-one, append_assoc, cond, ◌&&◌, slice_index, codes}
 use Rattle.std.specs.List.{AllPass, prefix_len}
 use Rattle.std.specs.Char.{is_ascii_alphabetic, to_ascii_uppercase, is_ascii_digit, to_ascii_lowercase}
 use Rattle.std.specs.Str.Parse.{digits_value}
@@ -23,13 +23,9 @@ StandsFirst line x = (bytes : List ℕ) × (line ≡ bytes ++ x.1) × IsWritten 
 
 -- ---- the longest front
 
-pub front_passes : (p : ℕ → Bool) (xs : List ℕ) → AllPass p (take (prefix_len p xs) xs)
-front_passes p xs k d below =
-    let within : k < prefix_len p xs = subst (λ n. k < n) (length-prefix_len p xs) below in
-    subst (λ c. p c ≡ true) (sym (get_or-take (prefix_len p xs) xs k d within)) (prefix_len_passes p xs k d within)
-
 pub part_passes : (p : ℕ → Bool) (xs front : List ℕ) (n : ℕ) → n ≡ prefix_len p xs → front ≡ take n xs → AllPass p front
-part_passes p xs front n e f = subst (AllPass p) (sym (f ∙ subst (λ k. take n xs ≡ take k xs) e refl)) (front_passes p xs)
+part_passes p xs front n e f = rw (f, e) (λ k d below.
+    let within : k < prefix_len p xs = omega (arith, below, length-prefix_len p xs) in rw (get_or-take (prefix_len p xs) xs k d within) (prefix_len_passes p xs k d within))
 
 run_is : (p : ℕ → Bool) (front line : List ℕ) → AllPass p front → begins p line ≡ false → prefix_len p (front ++ line) ≡ length front
 run_is p [] [] all ends = refl
@@ -54,7 +50,7 @@ run_holds p most read line P of =
     let some : 0 < n = grind (arith, nat_tests) in
     let short : n ≤ most = grind (arith, nat_tests) in
     of (take n line) (drop n line) (sym (take-append-drop n line)) (record {
-      all = front_passes p line;
+      all = part_passes p line _ n refl refl;
       some = omega (arith, length-prefix_len p line);
       short = omega (arith, length-prefix_len p line);
       ends = run_ends p line;
@@ -146,11 +142,6 @@ literal_is q line is = map_holds (IsClosed q line) (StandsFirst (q ∷ line)) (�
   record { delimiter = q; is_delimiter = is; all = closes.all; written = refl; ends = closes.ends },
 ))
 
--- behind the opening delimiter
-pub literal_again : (q : ℕ) (text line : List ℕ) → AllPass (is_of InLiteral) text → begins (λ c. eqb c q) line ≡ false
-    → literal_at q ((doubled q text ++ q ∷ []) ++ line) ≡ Some (Literal text, line)
-literal_again q text line all ends = rw (append_assoc (doubled q text) (q ∷ []) line, closed_again q text line all ends) refl
-
 -- ---- truth values
 
 truth_is : (line : List ℕ) → Holds (StandsFirst line) (truth_at line)
@@ -206,13 +197,8 @@ mark_is c line =
 
 mark_first : (m : AMark) (line : List ℕ) → first_token (mark_bytes m ++ line) ≡ Some (Mark m, line)
 unfolding first_token mark_at
-mark_first LeftParenthesis line = refl
-mark_first RightParenthesis line = refl
-mark_first Comma line = refl
-mark_first Equals line = refl
-mark_first Slash line = refl
-mark_first Asterisk line = refl
 mark_first DoubleColon line = refl
+mark_first m line = refl
 
 -- ---- each kind by its first byte
 
@@ -259,6 +245,7 @@ first_again (Word word) bytes line w = word_first bytes line w.letter ∙ run_ag
 first_again (Number sign amount) bytes line w =
     rw (w.written, number_first sign w.digits line w.run.some w.run.all)
     (run_again _ 19 (λ run. Number sign (digits_value 10 run)) w.digits line w.run ∙ ap (λ n. Some (Number sign n, line)) (sym w.value))
-first_again (Literal text) bytes line w = rw (w.written) (literal_first w.delimiter _ w.is_delimiter ∙ literal_again w.delimiter text line w.all w.ends)
+first_again (Literal text) bytes line w =
+    rw (w.written) (literal_first w.delimiter _ w.is_delimiter ∙ rw (append_assoc (doubled w.delimiter text) (w.delimiter ∷ []) line, closed_again w.delimiter text line w.all w.ends) refl)
 first_again (Truth truth) bytes line w = truth_first truth bytes line w ∙ truth_again truth bytes line w
 first_again (Mark mark) bytes line w = rw w (mark_first mark line)

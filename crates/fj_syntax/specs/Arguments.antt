@@ -1,6 +1,6 @@
 -- The arguments of an input/output statement (ISO/IEC 1539-1:2004, 9.4.5, 9.5.1): by specifiers in any order, each at most once.
-use Rattle.std.specs.Prelude.{ℕ, ◌+◌, ◌-◌, Bool, true, ◌&&◌, ◌==◌, not, List, [], ◌∷◌, take, drop, length, Option, Some, None, option_map, if◌then◌else◌}
-use Rattle.std.specs.List.{find, list_any, list_all}
+use Rattle.std.specs.Prelude.{ℕ, ◌+◌, ◌-◌, Bool, true, ◌&&◌, ◌==◌, List, [], ◌∷◌, take, drop, length, Option, Some, None, is_none, option_map, if◌then◌else◌}
+use Rattle.std.specs.List.{find, list_all}
 pub use Rattle.fj_syntax.specs.declared.operand.Given.{Given}
 pub use Rattle.fj_syntax.specs.declared.operand.Given.TheVariants.{Asterisk, Operand as AnOperand}
 pub use Rattle.fj_syntax.specs.declared.operand.Argument.{Argument}
@@ -45,13 +45,14 @@ arguments_from bare (part ∷ parts) = do
 abbrev pub arguments_of : Tokens → Option (List Argument)
 arguments_of ts = arguments_from (Some Unit) (cut ts)
 
-abbrev pub is_given : Specifier → List Argument → Bool
-is_given s args = list_any (λ a. same_specifier a.specifier s) args
+-- what is given for a specifier
+abbrev pub given_for : Specifier → List Argument → Option Given
+given_for s args = option_map (λ a. a.value) (find (λ a. same_specifier a.specifier s) args)
 
 -- no specifier stands twice
 abbrev pub are_once : List Argument → Bool
 are_once [] = true
-are_once (a ∷ args) = not (is_given a.specifier args) && are_once args
+are_once (a ∷ args) = is_none (given_for a.specifier args) && are_once args
 
 -- how many parentheses are open behind a token
 abbrev pub depth_behind : ℕ → Token → ℕ
@@ -79,7 +80,3 @@ abbrev pub whole_call_of : Keyword → Tokens → Option (List Argument)
 whole_call_of k ts = do
   call ← call_of k ts
   if length call.1 == 0 then Some call.0 else None
-
--- what is given for a specifier
-abbrev pub given_for : Specifier → List Argument → Option Given
-given_for s args = option_map (λ a. a.value) (find (λ a. same_specifier a.specifier s) args)

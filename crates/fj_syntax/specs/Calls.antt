@@ -1,7 +1,5 @@
 -- The input/output statements from their tokens: what is given for each specifier.
-use Rattle.std.specs.Prelude.{Bool, false, not, List, [], ◌∷◌, ◌++◌, Option, Some, None, option_map}
-use Rattle.std.specs.List.{find}
-use Rattle.fj_modes.specs.declared.asked.Question.{Question}
+use Rattle.std.specs.Prelude.{Bool, false, not, List, [], ◌∷◌, ◌++◌, Option, Some, None}
 use Rattle.fj_modes.specs.declared.asked.Question.TheVariants as question
 use Rattle.fj_modes.specs.declared.asked.Subject.{Subject}
 use Rattle.fj_modes.specs.declared.asked.Subject.TheVariants as subject
@@ -18,19 +16,7 @@ use Rattle.fj_syntax.specs.Arguments.{Argument, Given, given_for, whole_call_of}
 use Rattle.fj_syntax.specs.Given.{given_at, place_given, integer_given, mode_at, file_given, unit_given, unit_at, format_given, group_given, recl_given}
 use Rattle.fj_syntax.specs.Parts.{Tokens, Operand}
 use Rattle.fj_syntax.specs.Reading.{◌>>=◌}
-use Rattle.fj_syntax.specs.Words.{Specifier, same_specifier}
-
--- what the specifiers of INQUIRE ask (9.9.1)
-abbrev pub questions : List (Specifier × Question)
-questions =
-    (specifier.Exist, question.Exist) ∷ (specifier.Opened, question.Opened) ∷ (specifier.Number, question.Number) ∷ (specifier.Named, question.Named)
-    ∷ (specifier.Name, question.Name) ∷ (specifier.Access, question.Access) ∷ (specifier.Form, question.Form) ∷ (specifier.Recl, question.Recl)
-    ∷ (specifier.Nextrec, question.Nextrec) ∷ (specifier.Pos, question.Pos) ∷ (specifier.Size, question.Size) ∷ (specifier.Blank, question.Blank)
-    ∷ (specifier.Delim, question.Delim) ∷ (specifier.Pad, question.Pad) ∷ (specifier.Decimal, question.Decimal) ∷ (specifier.Sign, question.Sign)
-    ∷ (specifier.Action, question.Action) ∷ (specifier.Asynchronous, question.Asynchronous) ∷ (specifier.Pending, question.Pending) ∷ []
-
-abbrev pub question_of : Specifier → Option Question
-question_of s = option_map (λ q. q.1) (find (λ q. same_specifier q.0 s) questions)
+use Rattle.fj_syntax.specs.Words.{Specifier}
 
 -- ---- the statements
 
@@ -46,32 +32,18 @@ open_of ts = do
   args ← whole_call_of keyword.Open ts
   file ← given_at file_given specifier.File args
   status ← mode_at status_words specifier.Status args
-  access ← mode_at access_words specifier.Access args
-  formatted ← mode_at form_words specifier.Form args
-  recl ← given_at recl_given specifier.Recl args
+  access ← mode_at access_words (specifier.Property question.Access) args
+  formatted ← mode_at form_words (specifier.Property question.Form) args
+  recl ← given_at recl_given (specifier.Property question.Recl) args
   position ← mode_at position_words specifier.Position args
-  action ← mode_at action_words specifier.Action args
-  blank_zero ← mode_at blank_words specifier.Blank args
-  delim ← mode_at delim_words specifier.Delim args
-  pad ← mode_at answer_words specifier.Pad args
-  comma ← mode_at decimal_words specifier.Decimal args
-  plus ← mode_at sign_words specifier.Sign args
-  asynchronous ← mode_at answer_words specifier.Asynchronous args
-  on_unit (record {
-    file = file;
-    status = status;
-    access = access;
-    formatted = formatted;
-    recl = recl;
-    position = position;
-    action = action;
-    blank_zero = blank_zero;
-    delim = delim;
-    pad = pad;
-    comma = comma;
-    plus = plus;
-    asynchronous = asynchronous;
-  }) args
+  action ← mode_at action_words (specifier.Property question.Action) args
+  blank_zero ← mode_at blank_words (specifier.Property question.Blank) args
+  delim ← mode_at delim_words (specifier.Property question.Delim) args
+  pad ← mode_at answer_words (specifier.Property question.Pad) args
+  comma ← mode_at decimal_words (specifier.Property question.Decimal) args
+  plus ← mode_at sign_words (specifier.Property question.Sign) args
+  asynchronous ← mode_at answer_words (specifier.Property question.Asynchronous) args
+  on_unit (record { file = file; status = status; access = access; formatted = formatted; recl = recl; position = position; action = action; blank_zero = blank_zero; delim = delim; pad = pad; comma = comma; plus = plus; asynchronous = asynchronous }) args
 
 abbrev pub close_of : Tokens → Option (OnUnit (Option Bool))
 close_of ts = do
@@ -90,19 +62,16 @@ move_of how ts = do
   args ← whole_call_of (keyword.Move how) ts
   on_unit how args
 
--- a question with the place for its answer; other specifiers of INQUIRE ask nothing
-abbrev pub asking : Option Question → Argument → Option (List Asking)
-asking None a = Some []
-asking (Some q) a = place_given a.value >>= (λ d. Some (record { what = q; place = d } ∷ []))
-
-abbrev pub asking_of : Argument → Option (List Asking)
-asking_of a = asking (question_of a.specifier) a
+-- the question of a specifier, with the place for its answer; other specifiers of INQUIRE ask nothing
+abbrev pub asking : Specifier → Given → Option (List Asking)
+asking (specifier.Property q) value = place_given value >>= (λ d. Some (record { what = q; place = d } ∷ []))
+asking s value = Some []
 
 -- the questions, in order
 abbrev pub asked_of : List Argument → Option (List Asking)
 asked_of [] = Some []
 asked_of (a ∷ args) = do
-  one ← asking_of a
+  one ← asking a.specifier a.value
   more ← asked_of args
   Some (one ++ more)
 
@@ -131,33 +100,15 @@ transfer_of input args items = do
   format ← given_at format_given specifier.Fmt args
   group ← given_at group_given specifier.Nml args
   advance ← mode_at answer_words specifier.Advance args
-  asynchronous ← mode_at answer_words specifier.Asynchronous args
-  blank_zero ← mode_at blank_words specifier.Blank args
-  comma ← mode_at decimal_words specifier.Decimal args
-  delim ← mode_at delim_words specifier.Delim args
-  pad ← mode_at answer_words specifier.Pad args
-  plus ← mode_at sign_words specifier.Sign args
+  asynchronous ← mode_at answer_words (specifier.Property question.Asynchronous) args
+  blank_zero ← mode_at blank_words (specifier.Property question.Blank) args
+  comma ← mode_at decimal_words (specifier.Property question.Decimal) args
+  delim ← mode_at delim_words (specifier.Property question.Delim) args
+  pad ← mode_at answer_words (specifier.Property question.Pad) args
+  plus ← mode_at sign_words (specifier.Property question.Sign) args
   rec ← given_at integer_given specifier.Rec args
-  pos ← given_at integer_given specifier.Pos args
+  pos ← given_at integer_given (specifier.Property question.Pos) args
   id ← given_at place_given specifier.Id args
-  size ← given_at place_given specifier.Size args
+  size ← given_at place_given (specifier.Property question.Size) args
   iostat ← given_at place_given specifier.Iostat args
-  Some (record {
-    input = input;
-    unit = unit;
-    format = format;
-    group = group;
-    advance = advance;
-    asynchronous = asynchronous;
-    blank_zero = blank_zero;
-    comma = comma;
-    delim = delim;
-    pad = pad;
-    plus = plus;
-    rec = rec;
-    pos = pos;
-    id = id;
-    size = size;
-    iostat = iostat;
-    items = items;
-  })
+  Some (record { input = input; unit = unit; format = format; group = group; advance = advance; asynchronous = asynchronous; blank_zero = blank_zero; comma = comma; delim = delim; pad = pad; plus = plus; rec = rec; pos = pos; id = id; size = size; iostat = iostat; items = items })

@@ -50,5 +50,5 @@ abbrev pub IsWord : List ℕ → Type 0
 IsWord word = (bytes line : List ℕ) × IsWordText word bytes line
 
 -- what is declared has a word for its name
-abbrev pub NamesAreWords : Type 0
-NamesAreWords = (line : List ℕ) (s : Written) → IsStatement line s → All IsWord (names_given s)
+pub record NamesAreWords : Type 0 where
+  pub are_words : (line : List ℕ) (s : Written) → IsStatement line s → All IsWord (names_given s)

@@ -2,8 +2,9 @@
 ghost use Rattle.std.specs.Prelude.{◌≡◌, ◌<◌, length, IfSome};
 ghost use Rattle.std.specs.Option.{option_copied};
 ghost use Rattle.fj_syntax.specs.declared.words.Specifier.TheVariants as specifier;
-ghost use Rattle.fj_syntax.specs.Arguments.{given_of, argument_of, next_bare, arguments_of, is_given, are_once, depth_behind, closing, are_taken, call_of, whole_call_of, given_for};
+ghost use Rattle.fj_syntax.specs.Arguments.{given_of, argument_of, next_bare, arguments_of, are_once, depth_behind, closing, are_taken, call_of, whole_call_of, given_for};
 ghost use Rattle.fj_syntax.specs.Reading.{Gives};
+ghost use Rattle.fj_syntax.specs.Words.{same_specifier};
 
 use crate::fault::{Read, SyntaxFault, must, some};
 use crate::operand::{Argument, Arguments, Given, Operand};
@@ -65,12 +66,21 @@ fn arguments(alloc: Global, tokens: &[Token]) -> Read<Arguments>
     }
 }
 
-fn is_given(arguments: &[Argument], specifier: Specifier) -> bool
-    ensures { result ≡ is_given specifier arguments.now }
+#[tactic(auto, using(crate::proofs::KnownLemmas::same_is))]
+fn is_for(argument: &Argument, specifier: Specifier) -> bool
+    ensures { result ≡ same_specifier argument.now.specifier specifier }
 {
-    arguments
+    argument.specifier == specifier
+}
+
+/// What is given for a specifier, if it stands there.
+pub fn given_for(arguments: &[Argument], specifier: Specifier) -> Option<&Given>
+    ensures { option_copied result ≡ given_for specifier arguments.now }
+{
+    let argument = arguments
         .iter()
-        .any(|argument| argument.specifier == specifier)
+        .find(|argument| is_for(argument, specifier))?;
+    Some(&argument.value)
 }
 
 /// Whether no specifier stands twice.
@@ -79,7 +89,7 @@ fn are_once(arguments: &[Argument]) -> bool
 {
     let mut rest = arguments;
     while let [first, others @ ..] = rest {
-        if is_given(others, first.specifier) {
+        if given_for(others, first.specifier).is_some() {
             return false;
         }
         rest = others;
@@ -145,17 +155,4 @@ pub fn whole_call(alloc: Global, keyword: Keyword, tokens: &[Token]) -> Read<Arg
     let (arguments, behind) = call(alloc, keyword, tokens)?;
     must(behind.is_empty())?;
     Ok(arguments)
-}
-
-/// What is given for a specifier, if it stands there.
-pub fn given_for(arguments: &[Argument], specifier: Specifier) -> Option<&Given>
-    ensures { option_copied result ≡ given_for specifier arguments.now }
-{
-    match arguments
-        .iter()
-        .find(|argument| argument.specifier == specifier)
-    {
-        Some(argument) => Some(&argument.value),
-        None => None,
-    }
 }

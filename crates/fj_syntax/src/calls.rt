@@ -1,6 +1,6 @@
 // The input/output statements from their tokens.
 ghost use Rattle.std.specs.Prelude.{◌≡◌, ◌++◌, [], ◌∷◌, Bool, true, false, List};
-ghost use Rattle.fj_syntax.specs.Calls.{on_unit, open_of, close_of, wait_of, move_of, question_of, asking_of, asked_of, subject_of, inquire_of, transfer_of};
+ghost use Rattle.fj_syntax.specs.Calls.{on_unit, open_of, close_of, wait_of, move_of, asking, asked_of, subject_of, inquire_of, transfer_of};
 ghost use Rattle.std.specs.Option.{option_to_list};
 ghost use Rattle.fj_syntax.specs.Reading.{Gives};
 
@@ -9,7 +9,8 @@ use crate::fault::{Read, SyntaxFault};
 use crate::given::{file, file_given, format, group, integer, mode, place, recl, unit, unit_given};
 use crate::operand::{Argument, Given, Operand};
 use crate::token::Token;
-use crate::words::{Keyword, Specifier};
+use crate::words::Keyword;
+use crate::words::Specifier::{self, Property};
 use crate::written::{Asking, Inquire, OnUnit, Transfer};
 use fj_modes::{
     Access, Action, Answer, Blank, Decimal, Disposition, FileStatus, Form, Motion, OpenSpec,
@@ -36,17 +37,17 @@ pub fn make_open(alloc: Global, tokens: &[Token]) -> Read<OnUnit<OpenSpec>>
     let spec = OpenSpec {
         file: file(alloc, arguments)?,
         status: mode::<FileStatus>(arguments, Specifier::Status)?,
-        access: mode::<Access>(arguments, Specifier::Access)?,
-        formatted: mode::<Form>(arguments, Specifier::Form)?,
+        access: mode::<Access>(arguments, Property(Question::Access))?,
+        formatted: mode::<Form>(arguments, Property(Question::Form))?,
         recl: recl(arguments)?,
         position: mode::<Start>(arguments, Specifier::Position)?,
-        action: mode::<Action>(arguments, Specifier::Action)?,
-        blank_zero: mode::<Blank>(arguments, Specifier::Blank)?,
-        delim: mode::<Delim>(arguments, Specifier::Delim)?,
-        pad: mode::<Answer>(arguments, Specifier::Pad)?,
-        comma: mode::<Decimal>(arguments, Specifier::Decimal)?,
-        plus: mode::<Sign>(arguments, Specifier::Sign)?,
-        asynchronous: mode::<Answer>(arguments, Specifier::Asynchronous)?,
+        action: mode::<Action>(arguments, Property(Question::Action))?,
+        blank_zero: mode::<Blank>(arguments, Property(Question::Blank))?,
+        delim: mode::<Delim>(arguments, Property(Question::Delim))?,
+        pad: mode::<Answer>(arguments, Property(Question::Pad))?,
+        comma: mode::<Decimal>(arguments, Property(Question::Decimal))?,
+        plus: mode::<Sign>(arguments, Property(Question::Sign))?,
+        asynchronous: mode::<Answer>(arguments, Property(Question::Asynchronous))?,
     };
     on_unit(spec, arguments)
 }
@@ -74,45 +75,17 @@ pub fn make_move(alloc: Global, how: Motion, tokens: &[Token]) -> Read<OnUnit<Mo
     on_unit(how, arguments.as_slice())
 }
 
-/// What a specifier of INQUIRE asks, if it asks something.
-fn question_of(specifier: Specifier) -> Option<Question>
-    ensures { result ≡ question_of specifier }
-{
-    match specifier {
-        Specifier::Exist => Some(Question::Exist),
-        Specifier::Opened => Some(Question::Opened),
-        Specifier::Number => Some(Question::Number),
-        Specifier::Named => Some(Question::Named),
-        Specifier::Name => Some(Question::Name),
-        Specifier::Access => Some(Question::Access),
-        Specifier::Form => Some(Question::Form),
-        Specifier::Recl => Some(Question::Recl),
-        Specifier::Nextrec => Some(Question::Nextrec),
-        Specifier::Pos => Some(Question::Pos),
-        Specifier::Size => Some(Question::Size),
-        Specifier::Blank => Some(Question::Blank),
-        Specifier::Delim => Some(Question::Delim),
-        Specifier::Pad => Some(Question::Pad),
-        Specifier::Decimal => Some(Question::Decimal),
-        Specifier::Sign => Some(Question::Sign),
-        Specifier::Action => Some(Question::Action),
-        Specifier::Asynchronous => Some(Question::Asynchronous),
-        Specifier::Pending => Some(Question::Pending),
-        _ => None,
-    }
-}
-
 /// The question of an argument, if it asks one.
 fn asking_of(argument: &Argument) -> Read<Option<Asking>>
-    ensures { Gives option_to_list result (asking_of argument.now) }
+    ensures { Gives option_to_list result (asking argument.now.specifier argument.now.value) }
 {
-    match (question_of(argument.specifier), &argument.value) {
-        (Some(what), Given::Operand(Operand::Place(place))) => Ok(Some(Asking {
+    match (argument.specifier, &argument.value) {
+        (Property(what), Given::Operand(Operand::Place(place))) => Ok(Some(Asking {
             what,
             place: place.try_clone()?,
         })),
-        (None, _) => Ok(None),
-        _ => Err(SyntaxFault::NotAStatement),
+        (Property(_), _) => Err(SyntaxFault::NotAStatement),
+        _ => Ok(None),
     }
 }
 
@@ -168,16 +141,16 @@ pub fn make_transfer(input: bool, arguments: &[Argument], items: Items<Operand>)
         format: format(arguments)?,
         group: group(arguments)?,
         advance: mode::<Answer>(arguments, Specifier::Advance)?,
-        asynchronous: mode::<Answer>(arguments, Specifier::Asynchronous)?,
-        blank_zero: mode::<Blank>(arguments, Specifier::Blank)?,
-        comma: mode::<Decimal>(arguments, Specifier::Decimal)?,
-        delim: mode::<Delim>(arguments, Specifier::Delim)?,
-        pad: mode::<Answer>(arguments, Specifier::Pad)?,
-        plus: mode::<Sign>(arguments, Specifier::Sign)?,
+        asynchronous: mode::<Answer>(arguments, Property(Question::Asynchronous))?,
+        blank_zero: mode::<Blank>(arguments, Property(Question::Blank))?,
+        comma: mode::<Decimal>(arguments, Property(Question::Decimal))?,
+        delim: mode::<Delim>(arguments, Property(Question::Delim))?,
+        pad: mode::<Answer>(arguments, Property(Question::Pad))?,
+        plus: mode::<Sign>(arguments, Property(Question::Sign))?,
         rec: integer(arguments, Specifier::Rec)?,
-        pos: integer(arguments, Specifier::Pos)?,
+        pos: integer(arguments, Property(Question::Pos))?,
         id: place(arguments, Specifier::Id)?,
-        size: place(arguments, Specifier::Size)?,
+        size: place(arguments, Property(Question::Size))?,
         iostat: place(arguments, Specifier::Iostat)?,
         items,
     })

@@ -2,6 +2,7 @@
 ghost use Rattle.std.specs.Prelude.{◌≡◌, ◌≤◌, ◌==◌, IfOk, length};
 ghost use Rattle.std.specs.List.{suffix_len};
 ghost use Rattle.fj_syntax.specs.Given.{trimmed, given_at, place_given, integer_given, mode_at, file_given, unit_number, unit_given, unit_at, format_given, group_given, recl_given};
+ghost use Rattle.fj_modes.specs.declared.asked.Question.TheVariants as question;
 ghost use Rattle.fj_syntax.specs.declared.words.Specifier.TheVariants as specifier;
 ghost use Rattle.fj_syntax.specs.Reading.{Gives};
 
@@ -9,9 +10,9 @@ use crate::arguments::given_for;
 use crate::fault::{Read, SyntaxFault, must, some};
 use crate::operand::{Argument, Designator, Given, Operand};
 use crate::token::Sign;
-use crate::words::Specifier;
+use crate::words::Specifier::{self, Property};
 use crate::written::Format;
-use fj_modes::{FileName, UnitRef, WordKind, is_file_name};
+use fj_modes::{FileName, Question, UnitRef, WordKind, is_file_name};
 use fj_value::Text;
 use std::alloc::{AllocError, Global};
 
@@ -168,9 +169,9 @@ pub fn group(arguments: &[Argument]) -> Read<Option<Text>>
 /// RECL=.
 #[tactic(auto, unfolding(crate::specs::Given::given_at))]
 pub fn recl(arguments: &[Argument]) -> Read<Option<u32>>
-    ensures { Gives (λ x. x) result (given_at recl_given specifier.Recl arguments.now) }
+    ensures { Gives (λ x. x) result (given_at recl_given (specifier.Property question.Recl) arguments.now) }
 {
-    match given_for(arguments, Specifier::Recl) {
+    match given_for(arguments, Property(Question::Recl)) {
         None => Ok(None),
         Some(Given::Operand(Operand::Number { sign, amount }))
             if *amount <= MAX_UNIT && (*sign != Sign::Minus || *amount == 0) => {

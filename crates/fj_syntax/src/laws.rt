@@ -9,6 +9,7 @@ pub fn one_meaning()
 {}
 
 /// Variables and groups are declared with names of up to 63 characters, in upper case.
+#[tactic(auto, using(crate::proofs::NameLemmas::names_words))]
 pub fn names_are_words()
     ensures { NamesAreWords }
 {}

@@ -24,7 +24,6 @@ fn feed_at(text: &[u8]) -> Option<usize>
 ///
 /// A line ends at a line feed, and one carriage return directly before it is dropped. A last part without a line
 /// feed is a line, and keeps a carriage return.
-
 #[tactic(auto, using(crate::proofs::SplitLemmas::first_line, crate::proofs::SplitLemmas::only_line, crate::proofs::SplitLemmas::behind_first, crate::proofs::SplitLemmas::behind_none))]
 pub fn next_line(text: &[u8]) -> Option<(&[u8], &[u8])>
     ensures none { IfNone result (text.now ≡ []) }

@@ -1,8 +1,8 @@
 // The words of the grammar.
-ghost use Rattle.std.specs.Prelude.{◌≡◌, map};
-ghost use Rattle.fj_syntax.specs.Words.{meaning_of, keyword_of, specifier_of, takes};
+ghost use Rattle.std.specs.Prelude.{◌≡◌};
+ghost use Rattle.fj_syntax.specs.Words.{keyword_of, specifier_of, takes};
 
-use fj_modes::Motion;
+use fj_modes::{Motion, Question, look_up};
 
 /// A word that begins a statement or declaration. None of them is a name.
 #[derive(Clone, Copy, Debug)]
@@ -49,28 +49,11 @@ pub enum Specifier {
     Iostat,
     Id,
     Status,
-    Access,
-    Form,
-    Recl,
     Position,
-    Action,
-    Blank,
-    Delim,
-    Pad,
-    Decimal,
-    Sign,
-    Asynchronous,
     Advance,
-    Size,
     Rec,
-    Pos,
-    Exist,
-    Opened,
-    Number,
-    Named,
-    Name,
-    Nextrec,
-    Pending,
+    /// A property that INQUIRE asks for; other statements take some of them.
+    Property(Question),
 }
 
 pub const SPECIFIERS: [(&str, Specifier); 29] = [
@@ -81,60 +64,49 @@ pub const SPECIFIERS: [(&str, Specifier); 29] = [
     ("IOSTAT", Specifier::Iostat),
     ("ID", Specifier::Id),
     ("STATUS", Specifier::Status),
-    ("ACCESS", Specifier::Access),
-    ("FORM", Specifier::Form),
-    ("RECL", Specifier::Recl),
     ("POSITION", Specifier::Position),
-    ("ACTION", Specifier::Action),
-    ("BLANK", Specifier::Blank),
-    ("DELIM", Specifier::Delim),
-    ("PAD", Specifier::Pad),
-    ("DECIMAL", Specifier::Decimal),
-    ("SIGN", Specifier::Sign),
-    ("ASYNCHRONOUS", Specifier::Asynchronous),
     ("ADVANCE", Specifier::Advance),
-    ("SIZE", Specifier::Size),
     ("REC", Specifier::Rec),
-    ("POS", Specifier::Pos),
-    ("EXIST", Specifier::Exist),
-    ("OPENED", Specifier::Opened),
-    ("NUMBER", Specifier::Number),
-    ("NAMED", Specifier::Named),
-    ("NAME", Specifier::Name),
-    ("NEXTREC", Specifier::Nextrec),
-    ("PENDING", Specifier::Pending),
+    ("ACCESS", Specifier::Property(Question::Access)),
+    ("FORM", Specifier::Property(Question::Form)),
+    ("RECL", Specifier::Property(Question::Recl)),
+    ("ACTION", Specifier::Property(Question::Action)),
+    ("BLANK", Specifier::Property(Question::Blank)),
+    ("DELIM", Specifier::Property(Question::Delim)),
+    ("PAD", Specifier::Property(Question::Pad)),
+    ("DECIMAL", Specifier::Property(Question::Decimal)),
+    ("SIGN", Specifier::Property(Question::Sign)),
+    ("ASYNCHRONOUS", Specifier::Property(Question::Asynchronous)),
+    ("SIZE", Specifier::Property(Question::Size)),
+    ("POS", Specifier::Property(Question::Pos)),
+    ("EXIST", Specifier::Property(Question::Exist)),
+    ("OPENED", Specifier::Property(Question::Opened)),
+    ("NUMBER", Specifier::Property(Question::Number)),
+    ("NAMED", Specifier::Property(Question::Named)),
+    ("NAME", Specifier::Property(Question::Name)),
+    ("NEXTREC", Specifier::Property(Question::Nextrec)),
+    ("PENDING", Specifier::Property(Question::Pending)),
 ];
-
-/// What stands beside a word in a table.
-fn meaning_of<T: Copy>(words: &[(&str, T)], word: &[u8]) -> Option<T>
-    ensures { result ≡ meaning_of (map (λ row. (row.0.now, row.1)) words.now) word.now }
-{
-    for row in words {
-        if row.0.as_bytes() == word {
-            return Some(row.1);
-        }
-    }
-    None
-}
 
 #[tactic(auto, unfolding(crate::specs::Words::keyword_of))]
 pub fn keyword_of(word: &[u8]) -> Option<Keyword>
     ensures { result ≡ keyword_of word.now }
 {
-    meaning_of(&KEYWORDS, word)
+    look_up(&KEYWORDS, word)
 }
 
 #[tactic(auto, unfolding(crate::specs::Words::specifier_of))]
 pub fn specifier_of(word: &[u8]) -> Option<Specifier>
     ensures { result ≡ specifier_of word.now }
 {
-    meaning_of(&SPECIFIERS, word)
+    look_up(&SPECIFIERS, word)
 }
 
 /// Whether a statement takes a specifier.
 pub fn takes(keyword: Keyword, specifier: Specifier) -> bool
     ensures { result ≡ takes keyword specifier }
 {
+    use Question::*;
     use Specifier::*;
     let opens = matches!(keyword, Keyword::Open);
     let asks = matches!(keyword, Keyword::Inquire);
@@ -142,16 +114,16 @@ pub fn takes(keyword: Keyword, specifier: Specifier) -> bool
     let writes = matches!(keyword, Keyword::Transfer { input: false });
     match specifier {
         Unit | Iostat => true,
-        File | Access | Form | Recl | Action => opens || asks,
+        File | Property(Access | Form | Recl | Action) => opens || asks,
         Status => opens || matches!(keyword, Keyword::Close),
         Position => opens,
-        Blank | Pad => opens || reads || asks,
-        Delim | Sign => opens || writes || asks,
-        Decimal | Asynchronous => opens || reads || writes || asks,
+        Property(Blank | Pad) => opens || reads || asks,
+        Property(Delim | Sign) => opens || writes || asks,
+        Property(Decimal | Asynchronous) => opens || reads || writes || asks,
         Fmt | Nml | Advance | Rec => reads || writes,
         Id => reads || writes || asks || matches!(keyword, Keyword::Wait),
-        Pos => reads || writes || asks,
-        Size => reads || asks,
-        Exist | Opened | Number | Named | Name | Nextrec | Pending => asks,
+        Property(Pos) => reads || writes || asks,
+        Property(Size) => reads || asks,
+        Property(Exist | Opened | Number | Named | Name | Nextrec | Pending) => asks,
     }
 }
