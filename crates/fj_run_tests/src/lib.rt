@@ -1,17 +1,11 @@
-//! Tests of what a running deck holds: variables, pending transfers, units.
+//! Tests of what a running deck holds: jobs on a connection, pending transfers, units and their end.
 #![tactic(auto)]
 
 #[cfg(test)]
 mod bay;
 #[cfg(test)]
-mod book;
-#[cfg(test)]
 mod closing;
 #[cfg(test)]
-mod inquire;
-#[cfg(test)]
 mod pending;
-#[cfg(test)]
-mod store;
 #[cfg(test)]
 mod units;

@@ -1,0 +1,5 @@
+//! Tests of the answers of INQUIRE.
+#![tactic(auto)]
+
+#[cfg(test)]
+mod inquire;
