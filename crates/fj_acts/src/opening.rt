@@ -1,5 +1,5 @@
 // OPEN (ISO/IEC 1539-1:2004, 9.4.5).
-ghost use Rattle.std.specs.Prelude.{◌≡◌, ◌≢◌, ◌↔◌, ◌≤◌, ◌<◌, ◌++◌, ℕ, false, List, [], ◌∷◌, Some, None, IfOk, Result, Ok, Err};
+ghost use Rattle.std.specs.Prelude.{◌≡◌, ◌≢◌, ◌↔◌, ◌≤◌, ◌<◌, ◌++◌, ℕ, false, List, [], ◌∷◌, Some, None, IfOk, OnErr, Result, Ok, Err};
 ghost use Rattle.std.specs.Option.{option_map, option_copied};
 ghost use Rattle.fj_outside.specs.Faults.{Rose};
 ghost use Rattle.fj_modes.specs.Modes.{settled};
@@ -19,7 +19,7 @@ ghost use Rattle.fj_units.specs.Names.{AreInUse, stands};
 ghost use Rattle.fj_desk.specs.Desks.{most_slots};
 ghost use Rattle.fj_acts.specs.Placing.{IsPlaced};
 ghost use Rattle.fj_acts.specs.State.{core_of};
-ghost use Rattle.fj_acts.specs.Failing.{FailsWhere};
+ghost use Rattle.fj_acts.specs.Failing.{FailsWhere, AreStill};
 ghost use Rattle.fj_units.specs.Files.{files_of};
 ghost use Rattle.fj_units.specs.Units.{connected_of};
 ghost use Rattle.fj_acts.specs.Doing.{IsDoing, AsksToOpen};
@@ -90,7 +90,11 @@ fn attach<D: Disk>(
     ensures fault { D.tells disk.old → result ≡ Err Lost.Disk → FailsWhere
         (attaches (core_of (files_of (D.held disk.old)) core.old) number slot (opened_file (files_of (D.held disk.old) name) name spec.now modes))
         core.new (D.held disk.new) (D.refusals disk.old) (D.refusals disk.new) }
+    ensures stays { D.tells disk.old → OnErr result (AreStill
+        (attaches (core_of (files_of (D.held disk.old)) core.old) number slot (opened_file (files_of (D.held disk.old) name) name spec.now modes))
+        (D.held disk.old) (D.held disk.new)) }
     ensures own { D.tells disk.old → D.refusals disk.old ≤ D.refusals disk.new }
+    ensures units { core.new.units ≡ core.old.units }
     ensures names { D.tells disk.old → AreInUse core.new.names (D.held disk.new).in_use }
     ensures store { core.new.store ≡ core.old.store }
     ensures output { core.new.output ≡ core.old.output }
@@ -138,7 +142,11 @@ pub(crate) fn connect<D: Disk>(
     ensures fault { D.tells disk.old → result ≡ Err Lost.Disk → FailsWhere
         (connects number spec.now modes (core_of (files_of (D.held disk.old)) core.old))
         core.new (D.held disk.new) (D.refusals disk.old) (D.refusals disk.new) }
+    ensures stays { D.tells disk.old → OnErr result (AreStill
+        (connects number spec.now modes (core_of (files_of (D.held disk.old)) core.old))
+        (D.held disk.old) (D.held disk.new)) }
     ensures own { D.tells disk.old → D.refusals disk.old ≤ D.refusals disk.new }
+    ensures units { core.new.units ≡ core.old.units }
     ensures names { D.tells disk.old → AreInUse core.new.names (D.held disk.new).in_use }
     ensures store { core.new.store ≡ core.old.store }
     ensures output { core.new.output ≡ core.old.output }
@@ -196,7 +204,11 @@ fn open_other<D: Disk>(
     ensures fault { D.tells disk.old → result ≡ Err Lost.Disk → FailsWhere
         (opens_with (core_of (files_of (D.held disk.old)) core.old) number spec.now (connected_at core.old.units number) (settled spec.now))
         core.new (D.held disk.new) (D.refusals disk.old) (D.refusals disk.new) }
+    ensures stays { D.tells disk.old → OnErr result (AreStill
+        (opens_with (core_of (files_of (D.held disk.old)) core.old) number spec.now (connected_at core.old.units number) (settled spec.now))
+        (D.held disk.old) (D.held disk.new)) }
     ensures own { D.tells disk.old → D.refusals disk.old ≤ D.refusals disk.new }
+    ensures units { core.new.units ≡ core.old.units }
     ensures names { D.tells disk.old → AreInUse core.new.names (D.held disk.new).in_use }
     ensures store { core.new.store ≡ core.old.store }
     ensures output { core.new.output ≡ core.old.output }
@@ -244,7 +256,12 @@ pub(crate) fn open<D: Disk>(
         (if_numbered (core_of (files_of (D.held disk.old)) core.old) (number_of unit)
         (λ n. opens (core_of (files_of (D.held disk.old)) core.old) n spec.now (connected_at core.old.units n)))
         core.new (D.held disk.new) (D.refusals disk.old) (D.refusals disk.new) }
+    ensures stays { D.tells disk.old → OnErr result (AreStill
+        (if_numbered (core_of (files_of (D.held disk.old)) core.old) (number_of unit)
+        (λ n. opens (core_of (files_of (D.held disk.old)) core.old) n spec.now (connected_at core.old.units n)))
+        (D.held disk.old) (D.held disk.new)) }
     ensures own { D.tells disk.old → D.refusals disk.old ≤ D.refusals disk.new }
+    ensures units { core.new.units ≡ core.old.units }
     ensures names { D.tells disk.old → AreInUse core.new.names (D.held disk.new).in_use }
     ensures store { core.new.store ≡ core.old.store }
     ensures output { core.new.output ≡ core.old.output }

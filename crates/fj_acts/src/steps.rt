@@ -254,6 +254,7 @@ fn looked<F: FileStore>(
     requires { core.old.store.kinds ≡ kinds_of variables.now }
     ensures doing { (files : Files) (answer : PlainAnswer) → IfOk result (λ goes. IsDoing F.told F.bytes variables.now (lined.now, control_by lined.now.what)
         (core_of files core.new) goes (looks (core_of files core.old) lined.now.what (job.look (option_map looked_of look), answer))) }
+    ensures units { core.new.units ≡ core.old.units }
     ensures names { core.new.names ≡ core.old.names }
     ensures output { core.new.output ≡ core.old.output }
     ensures tells { core.new.tells ≡ core.old.tells }
@@ -290,6 +291,7 @@ fn carried<F: FileStore>(
     requires { core.old.store.kinds ≡ kinds_of variables.now }
     ensures doing { (files : Files) (answer : PlainAnswer) → condition_in answer ≡ condition → IfOk result (λ goes. IsDoing F.told F.bytes variables.now (lined.now, control_by lined.now.what)
         (core_of files core.new) goes (carries variables.now (core_of files core.old) lined.now.what slot (job.move (moving_of moved), answer))) }
+    ensures units { core.new.units ≡ core.old.units }
     ensures names { core.new.names ≡ core.old.names }
     ensures output { core.new.output ≡ core.old.output }
     ensures tells { core.new.tells ≡ core.old.tells }

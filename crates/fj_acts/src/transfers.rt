@@ -58,6 +58,7 @@ pub(crate) fn refuse<F: FileStore>(
     requires { core.old.store.kinds ≡ kinds_of variables.now }
     ensures doing { (st : Stated) (files : Files) → IfOk result (λ next. IsDoing F.told F.bytes variables.now st (core_of files core.new) next
         (refused variables.now (core_of files core.old) t.now (moved_in variables.now (values_of core.old.store) t.now) condition)) }
+    ensures units { core.new.units ≡ core.old.units }
     ensures kinds { core.new.store.kinds ≡ core.old.store.kinds }
     ensures names { core.new.names ≡ core.old.names }
     ensures output { core.new.output ≡ core.old.output }
@@ -90,6 +91,7 @@ fn transfer<F: FileStore>(
     ensures doing { (u : PlainConnected) (st : Stated) (files : Files) → u.number ≡ unit → u.slot ≡ slot → st.0.what ≡ statement.Transfer t.now →
         IfOk result (λ next. IsDoing F.told F.bytes variables.now st (core_of files core.new) next
         (transferred (control_by (statement.Transfer t.now)) variables.now line (core_of files core.old) t.now (moved_in variables.now (values_of core.old.store) t.now) u)) }
+    ensures units { core.new.units ≡ core.old.units }
     ensures kinds { core.new.store.kinds ≡ core.old.store.kinds }
     ensures names { core.new.names ≡ core.old.names }
     ensures output { core.new.output ≡ core.old.output }
@@ -135,6 +137,7 @@ fn transfer_on<F: FileStore>(
         IfOk result (λ next. IsDoing F.told F.bytes variables.now st (core_of files core.new) next
         (on_unit (control_by (statement.Transfer t.now)) variables.now line (core_of files core.old) t.now (moved_in variables.now (values_of core.old.store) t.now)
         (connected_at core.old.units number))) }
+    ensures units { core.new.units ≡ core.old.units }
     ensures kinds { core.new.store.kinds ≡ core.old.store.kinds }
     ensures names { core.new.names ≡ core.old.names }
     ensures output { core.new.output ≡ core.old.output }
@@ -172,6 +175,7 @@ pub(crate) fn read_or_write<F: FileStore, W: Sink>(
     ensures doing { (st : Stated) (files : Files) → st.0.what ≡ statement.Transfer t.now →
         IfOk result (λ next. IsDoing F.told F.bytes variables.now st (core_of files core.new) next
         (transfer_at (control_by (statement.Transfer t.now)) variables.now line (core_of files core.old) t.now (moved_in variables.now (values_of core.old.store) t.now) t.now.unit)) }
+    ensures units { core.new.units ≡ core.old.units }
     ensures kinds { core.new.store.kinds ≡ core.old.store.kinds }
     ensures names { core.new.names ≡ core.old.names }
     ensures disk { result ≢ Err Lost.Disk }
@@ -292,6 +296,7 @@ pub(crate) fn carry<F: FileStore>(
     requires { core.old.store.kinds ≡ kinds_of variables.now }
     ensures doing { (st : Stated) (files : Files) → IfOk result (λ next. IsDoing F.told F.bytes variables.now st (core_of files core.new) next
         (ends_behind slot (record (core_of files core.old) { vars = with_cells variables.now t.now job.moved.cells job.count (values_of core.old.store) }) condition)) }
+    ensures units { core.new.units ≡ core.old.units }
     ensures kinds { core.new.store.kinds ≡ core.old.store.kinds }
     ensures names { core.new.names ≡ core.old.names }
     ensures output { core.new.output ≡ core.old.output }

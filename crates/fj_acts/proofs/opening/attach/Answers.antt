@@ -6,7 +6,7 @@ use Rattle.fj_units.specs.Files.{files_of}
 use Rattle.fj_units.proofs.Files.{files-out_of}
 use Rattle.fj_acts.specs.State.{core_of}
 use Rattle.fj_acts.proofs.OpeningLemmas.{opened_is, names_taken, names_back, refusal_of, stop_of}
-use Rattle.fj_acts.proofs.FailingLemmas.{fails_open, open_rose}
+use Rattle.fj_acts.proofs.FailingLemmas.{fails_open, still_open, open_rose}
 use Rattle.fj_acts.specs.Having.{HaveNext}
 use Rattle.fj_units.specs.Having.{HaveFiles}
 use Rattle.fj_units.specs.Names.{left_of}
@@ -59,3 +59,9 @@ returns-in-Refused-clause-files g c = λ what none free have.
     let names = c.args.core.now.names in
     let us = c.args.core.now.units in
     subst (λ ns. HaveFiles ns us) (sym (c.remove.ensures ∙ ap (λ ns. left_of ns c.args.name) c.in_ok-add.ensures.ok)) (have_vain names us c.args.name (sym c.holds.ensures ∙ c.if-holds.false) have)
+
+pub returns-clause-stays : goal.returns-clause-stays
+returns-clause-stays g c = λ tells.
+    let held : Holdings = g.D.Disk.held c.args.disk.now in
+    still_open (core_of (files_of held) c.args.core.now) c.args.number c.args.slot c.args.name c.args.spec.now c.args.modes held (g.D.Disk.held c.open_file.new.disk)
+    (stop_of _ c.in-Err.fault c.in-Stop.stop c.in-Stop.is (c.in-Err.ensures.stopped tells))
