@@ -1,9 +1,12 @@
 -- When what a statement is given fits: what its deck says of it, and what the variables hold.
-use Rattle.std.specs.Prelude.{◌≡◌, ◌<◌, ◌^◌, false, List, length, map, All}
+use Rattle.std.specs.Prelude.{◌≡◌, ◌≤◌, ◌<◌, ◌^◌, false, List, length, map, All}
 use Rattle.fj_value.specs.Kind.{IsOfKind}
 use Rattle.fj_value.specs.declared.place.Place.{Place}
 use Rattle.fj_statement.specs.declared.deck.Variable.{Variable}
+use Rattle.fj_statement.specs.declared.statement.Control.{Control}
+use Rattle.fj_statement.specs.declared.statement.Control.TheVariants as control
 use Rattle.fj_statement.specs.declared.statement.Transfer.{Transfer}
+use Rattle.fj_statement.specs.Sound.{AreWithin}
 use Rattle.fj_store.specs.Variables.{Variables, value_at}
 use Rattle.fj_plain.specs.Items.{kind_of}
 use Rattle.fj_plain.specs.Needs.{group_places, transfer_places}
@@ -26,6 +29,15 @@ AreDefined variables vars places = All (λ (place : Place). IsOfKind (kind_of va
 -- a group may have a variable again and again: its elements have numbers of 32 bits all the same
 abbrev pub IsCountable : List Variable → Transfer → Type 0
 IsCountable variables t = length (group_places variables t.control) < 2 ^ 32
+
+-- no more members than have numbers of 32 bits, where a variable has 1,000,000 elements at most
+abbrev pub HasFewMembers : Control → Type 0
+HasFewMembers (control.Group name vars) = length vars ≤ 4294
+HasFewMembers c = Unit {0}
+
+-- the elements of a group with few members can be numbered, in a deck within its limits
+abbrev pub GroupsAreCountable : Type 0
+GroupsAreCountable = (variables : List Variable) (t : Transfer) → AreWithin variables → HasFewMembers t.control → IsCountable variables t
 
 -- A transfer finds what it is to have.
 pub record Finds (variables : List Variable) (vars : Variables) (t : Transfer) : Type 0 where

@@ -5,6 +5,7 @@ mod assigning;
 mod copying;
 mod gathering;
 mod giving;
+mod laws;
 mod laying;
 mod lost;
 mod number;
@@ -16,6 +17,7 @@ mod undefining;
 
 pub use assigning::assign;
 pub use giving::give_cells;
+pub use laws::groups_are_countable;
 pub use lost::Lost;
 pub use number::{number_given, set_number};
 pub use refusing::refusal;
