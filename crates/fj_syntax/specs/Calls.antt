@@ -43,7 +43,21 @@ open_of ts = do
   comma ← mode_at decimal_words (specifier.Property question.Decimal) args
   plus ← mode_at sign_words (specifier.Property question.Sign) args
   asynchronous ← mode_at answer_words (specifier.Property question.Asynchronous) args
-  on_unit (record { file = file; status = status; access = access; formatted = formatted; recl = recl; position = position; action = action; blank_zero = blank_zero; delim = delim; pad = pad; comma = comma; plus = plus; asynchronous = asynchronous }) args
+  on_unit (record {
+    file = file;
+    status = status;
+    access = access;
+    formatted = formatted;
+    recl = recl;
+    position = position;
+    action = action;
+    blank_zero = blank_zero;
+    delim = delim;
+    pad = pad;
+    comma = comma;
+    plus = plus;
+    asynchronous = asynchronous;
+  }) args
 
 abbrev pub close_of : Tokens → Option (OnUnit (Option Bool))
 close_of ts = do
@@ -111,4 +125,22 @@ transfer_of input args items = do
   id ← given_at place_given specifier.Id args
   size ← given_at place_given (specifier.Property question.Size) args
   iostat ← given_at place_given specifier.Iostat args
-  Some (record { input = input; unit = unit; format = format; group = group; advance = advance; asynchronous = asynchronous; blank_zero = blank_zero; comma = comma; delim = delim; pad = pad; plus = plus; rec = rec; pos = pos; id = id; size = size; iostat = iostat; items = items })
+  Some (record {
+    input = input;
+    unit = unit;
+    format = format;
+    group = group;
+    advance = advance;
+    asynchronous = asynchronous;
+    blank_zero = blank_zero;
+    comma = comma;
+    delim = delim;
+    pad = pad;
+    plus = plus;
+    rec = rec;
+    pos = pos;
+    id = id;
+    size = size;
+    iostat = iostat;
+    items = items;
+  })

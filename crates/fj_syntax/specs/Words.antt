@@ -1,11 +1,12 @@
 -- What the words of the grammar stand for (ISO/IEC 1539-1:2004, clauses 4, 5 and 9, in part).
 use denote.Enum.Bare.{sameb}
-use Rattle.std.specs.Prelude.{ℕ, Bool, true, false, List, [], ◌∷◌, map, Option, codes}
+use Rattle.std.specs.Prelude.{ℕ, Bool, true, false, List, [], ◌∷◌, map, Option, Some, None, if◌then◌else◌, codes}
 use Rattle.std.specs.List.{list_any}
+use Rattle.std.specs.Str.{bytes_eq}
 use Rattle.fj_modes.specs.declared.asked.Question.{Question}
 use Rattle.fj_modes.specs.declared.asked.Question.TheVariants.{Access, Form, Recl, Action, Blank, Delim, Pad, Decimal, Sign, Asynchronous, Size, Pos, Exist, Opened, Number, Named, Name, Nextrec, Pending}
 use Rattle.fj_modes.specs.declared.unit.Motion.TheVariants as motion
-use Rattle.fj_modes.specs.ModeWords.{Table, mode_of as meaning_of}
+use Rattle.fj_modes.specs.ModeWords.{Table}
 use Rattle.fj_syntax.specs.contracts.words.Specifier.{the_type}
 use Rattle.fj_modes.specs.contracts.asked.Question.{the_type as the_question}
 pub use Rattle.fj_syntax.specs.declared.words.Keyword.{Keyword}
@@ -34,7 +35,11 @@ specifiers =
     (codes "UNIT", Unit) ∷ (codes "FILE", File) ∷ (codes "FMT", Fmt) ∷ (codes "NML", Nml) ∷ (codes "IOSTAT", Iostat) ∷ (codes "ID", Id) ∷ (codes "STATUS", Status)
     ∷ (codes "POSITION", Position) ∷ (codes "ADVANCE", Advance) ∷ (codes "REC", Rec) ∷ map (λ row. (row.0, Property row.1)) properties
 
--- words in either case
+-- what stands beside a word in a table
+abbrev pub meaning_of : {M : Type 0} → Table M → List ℕ → Option M
+meaning_of [] word = None
+meaning_of (row ∷ rows) word = if bytes_eq row.0 word then Some row.1 else meaning_of rows word
+
 unfoldable pub keyword_of : List ℕ → Option Keyword
 keyword_of word = meaning_of keywords word
 

@@ -1,8 +1,8 @@
 // The words of the grammar.
-ghost use Rattle.std.specs.Prelude.{◌≡◌};
-ghost use Rattle.fj_syntax.specs.Words.{keyword_of, specifier_of, takes};
+ghost use Rattle.std.specs.Prelude.{◌≡◌, map};
+ghost use Rattle.fj_syntax.specs.Words.{meaning_of, keyword_of, specifier_of, takes};
 
-use fj_modes::{Motion, Question, look_up};
+use fj_modes::{Motion, Question};
 
 /// A word that begins a statement or declaration. None of them is a name.
 #[derive(Clone, Copy, Debug)]
@@ -88,18 +88,30 @@ pub const SPECIFIERS: [(&str, Specifier); 29] = [
     ("PENDING", Specifier::Property(Question::Pending)),
 ];
 
+/// What stands beside a word in a table. Words of the grammar are in upper case here.
+fn meaning_of<T: Copy>(words: &[(&str, T)], word: &[u8]) -> Option<T>
+    ensures { result ≡ meaning_of (map (λ row. (row.0.now, row.1)) words.now) word.now }
+{
+    for row in words {
+        if row.0.as_bytes() == word {
+            return Some(row.1);
+        }
+    }
+    None
+}
+
 #[tactic(auto, unfolding(crate::specs::Words::keyword_of))]
 pub fn keyword_of(word: &[u8]) -> Option<Keyword>
     ensures { result ≡ keyword_of word.now }
 {
-    look_up(&KEYWORDS, word)
+    meaning_of(&KEYWORDS, word)
 }
 
 #[tactic(auto, unfolding(crate::specs::Words::specifier_of))]
 pub fn specifier_of(word: &[u8]) -> Option<Specifier>
     ensures { result ≡ specifier_of word.now }
 {
-    look_up(&SPECIFIERS, word)
+    meaning_of(&SPECIFIERS, word)
 }
 
 /// Whether a statement takes a specifier.
