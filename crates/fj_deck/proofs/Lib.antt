@@ -2,6 +2,7 @@ pub mod Cases
 pub mod DecidedLemmas
 pub mod LawLemmas
 pub mod LineLemmas
+pub mod MemberLemmas
 pub mod RunLemmas
 pub mod NameLemmas
 pub mod SoundLemmas

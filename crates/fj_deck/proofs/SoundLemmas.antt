@@ -22,6 +22,7 @@ use Rattle.fj_meaning.proofs.ScopeSound.{empty_sound, declared_sound, grouped_so
 use Rattle.fj_meaning.proofs.StatementSound.{meaning_sound}
 use Rattle.fj_deck.specs.Deck.{AreGood, DecksAreSound}
 use Rattle.fj_deck.specs.Line.{Adds, Answer, Begun, Declaring, LineIs, Stating, empty, has_ended, is_end, is_misplaced, with_names}
+use Rattle.fj_deck.proofs.MemberLemmas.{HasFew, members_few}
 use Rattle.fj_deck.proofs.NameLemmas.{names_are}
 
 -- END is the last statement and no other is
@@ -126,23 +127,23 @@ stated_sound number begun w answer some open_end sound (Stating.added s means fe
 stated_sound number begun w answer some open_end sound (Stating.full s means many) = tt
 stated_sound number begun w answer some open_end sound (Stating.refused fault means e) = tt
 
-adds_sound : (number : ℕ) (begun : Begun) (w : Written) (answer : Answer) → 1 ≤ number → All IsName (names_given w) → is_misplaced begun w ≡ false → IsSoundBegun number begun → Adds begun number w answer → IsSoundAnswer (number + 1) answer
-adds_sound number begun (written.Declaration d) answer some given placed sound adds =
+adds_sound : (number : ℕ) (begun : Begun) (w : Written) (answer : Answer) → 1 ≤ number → All IsName (names_given w) → HasFew 1000 w → is_misplaced begun w ≡ false → IsSoundBegun number begun → Adds begun number w answer → IsSoundAnswer (number + 1) answer
+adds_sound number begun (written.Declaration d) answer some given few placed sound adds =
     let free = or_parts (has_ended begun.statements) (nat_lt 0 (length begun.statements)) placed in
     declaration_sound (number + 1) begun (Declares (with_declaration begun.names number d)) answer (none_there begun.statements free.1)
     (λ names is. declared_sound begun.names names number d sound.names given is.0 is.1) adds
-adds_sound number begun (written.Group g) answer some given placed sound adds =
+adds_sound number begun (written.Group g) answer some given few placed sound adds =
     let free = or_parts (has_ended begun.statements) (nat_lt 0 (length begun.statements)) placed in
     declaration_sound (number + 1) begun (Groups (with_group begun.names number g)) answer (none_there begun.statements free.1)
-    (λ names is. grouped_sound begun.names names number g sound.names (All-head IsName g.name [] given) is) adds
-adds_sound number begun w answer some given placed sound adds = stated_sound number begun w answer some (not_ended begun w placed) sound adds
+    (λ names is. grouped_sound begun.names names number g sound.names (All-head IsName g.name [] given) few is) adds
+adds_sound number begun w answer some given few placed sound adds = stated_sound number begun w answer some (not_ended begun w placed) sound adds
 
 line_sound : (line : List ℕ) (number : ℕ) (begun : Begun) (answer : Answer) → 1 ≤ number → IsSoundBegun number begun → LineIs line number begun answer → IsSoundAnswer (number + 1) answer
 line_sound line number begun answer some sound (LineIs.long l) = tt
 line_sound line number begun answer some sound (LineIs.blank short is) = later number begun sound
 line_sound line number begun answer some sound (LineIs.garbled short is) = tt
 line_sound line number begun answer some sound (LineIs.misplaced w short is placed) = tt
-line_sound line number begun answer some sound (LineIs.placed w short is placed adds) = adds_sound number begun w answer some (names_are line w is) placed sound adds
+line_sound line number begun answer some sound (LineIs.placed w short is placed adds) = adds_sound number begun w answer some (names_are line w is) (members_few line w 1000 short is) placed sound adds
 
 lines_sound : (number : ℕ) (begun last : Begun) (text : List (List ℕ)) → 1 ≤ number → IsSoundBegun number begun → AreGood number begun text last → (behind : ℕ) × IsSoundBegun behind last
 lines_sound number begun last [] some sound good = (number, subst (IsSoundBegun number) (sym good) sound)

@@ -1,5 +1,5 @@
 -- What is declared is sound.
-use Rattle.std.proofs.Common.{◌≡◌, ℕ, ◌<◌, ◌≤◌, true, List, [], ◌∷◌, ◌++◌, length, map, Some, refl, subst, arith, leb, ◌&&◌, length-append}
+use Rattle.std.proofs.Common.{◌≡◌, ℕ, ◌<◌, ◌≤◌, true, List, [], ◌∷◌, ◌++◌, length, map, Some, refl, sym, subst, arith, leb, ◌&&◌, length-append}
 use Rattle.std.specs.Prelude.{All}
 use Rattle.std.specs.List.{sum_by}
 use Rattle.std.proofs.lemmas.Bool.{and_parts, leb-true}
@@ -17,7 +17,7 @@ use Rattle.fj_syntax.proofs.Holding.{bound, passed, some_is}
 use Rattle.fj_meaning.proofs.SoundLemmas.{FoundIs, found_is}
 use Rattle.fj_meaning.proofs.NameLemmas.{free_is_none}
 use Rattle.fj_meaning.proofs.NamesSound.{group_more, nothing_named, variables_more}
-use Rattle.fj_meaning.proofs.StatementSound.{each_is}
+use Rattle.fj_meaning.proofs.StatementSound.{each_is, each_length}
 
 within_is : (vs : List Variable) → is_within vs ≡ true → AreWithin vs
 within_is vs h =
@@ -32,8 +32,11 @@ within_is vs h =
 abbrev HasMembers : Scope → Namelist → Type 0
 HasMembers s g = All (λ var. var < length s.variables) g.vars
 
+abbrev HasFew : Namelist → Type 0
+HasFew g = length g.vars ≤ 1000
+
 pub empty_sound : EmptyIsSound
-empty_sound = record { within = within_is [] refl; members = All-nil (HasMembers empty); names = nothing_named }
+empty_sound = record { within = within_is [] refl; members = All-nil (HasMembers empty); few = All-nil HasFew; names = nothing_named }
 
 pub declared_sound : DeclaredIsSound
 unfolding with_declaration
@@ -46,6 +49,7 @@ declared_sound s next line d sound names h limits =
       within = within_is next.variables limits;
       members = subst (λ n. All (λ g. All (λ var. var < length n.variables) g.vars) n.groups) same
           (λ k e le i x lt. let low : _ < length s.variables = sound.members k e le i x lt in omega arith);
+      few = subst (λ n. All HasFew n.groups) same sound.few;
       names = subst AreNamed same (variables_more s line d.kind d.entities sound.names names p.0);
     }
 
@@ -57,12 +61,14 @@ number_is s name n h =
 
 pub grouped_sound : GroupedIsSound
 unfolding with_group
-grouped_sound s next line g sound name h =
+grouped_sound s next line g sound name few h =
     let p = passed (is_free s g.name) _ next h in
     let vars = bound (each (number_of s) g.members) _ next p.1 in
     let made : Namelist = record { name = g.name; vars = vars.0 } in
+    let counted : HasFew made = subst (λ n. n ≤ 1000) (sym (each_length (number_of s) g.members vars.0 vars.1)) few in
     subst IsSoundScope (some_is _ next vars.2) (record {
       within = sound.within;
       members = All-append (HasMembers s) s.groups (made ∷ []) sound.members (All-cons (HasMembers s) made [] (each_is (number_of s) (λ var. var < length s.variables) (number_is s) g.members vars.0 vars.1) (All-nil (HasMembers s)));
+      few = All-append HasFew s.groups (made ∷ []) sound.few (All-cons HasFew made [] counted (All-nil HasFew));
       names = group_more s made line sound.names (free_is_none s g.name p.0) name;
     })

@@ -15,11 +15,13 @@ use Rattle.fj_modes.specs.declared.unit.UnitRef.{UnitRef}
 use Rattle.fj_modes.specs.declared.unit.UnitRef.TheVariants.{Star}
 use Rattle.fj_format.specs.declared.item.FormatItem.{FormatItem}
 use Rattle.fj_format.specs.Unfolding.{has_width_zero}
+use Rattle.fj_statement.specs.declared.deck.Variable.{Variable}
 use Rattle.fj_statement.specs.declared.statement.Operand as operands
 use Rattle.fj_statement.specs.declared.statement.Operand.TheVariants.{Literal, One, Whole}
 use Rattle.fj_statement.specs.declared.statement.Statement.{Statement}
 use Rattle.fj_statement.specs.declared.statement.Statement.TheVariants as statement
-use Rattle.fj_statement.specs.Sound.{bytes_of, IsIntegerPlace, IsIntegerOperand, IsVariable, Takes, TakesLiteral, Fits, IsAnswerKind, IsAsked, IsExplicit, IsFormatted, MayHaveRecord, HasNoZeroWidth, HasMembers, HasNoItems, AreItems, IsList, IsAllowed, IsSoundStatement}
+use Rattle.fj_statement.specs.Sound.{bytes_of, IsIntegerPlace, IsIntegerOperand, IsVariable, Takes, TakesLiteral, Fits, IsAnswerKind, IsAsked, IsExplicit, IsFormatted, MayHaveRecord, HasNoZeroWidth, AreMembers, members_of, HasNoItems, AreItems, IsList, IsAllowed, IsSoundStatement}
+use Rattle.fj_statement.proofs.Naming.{members_few}
 use Rattle.fj_syntax.specs.declared.operand.Designator.{Designator}
 use Rattle.fj_syntax.specs.declared.operand.Operand.{Operand}
 use Rattle.fj_syntax.specs.declared.operand.Operand.TheVariants as operand
@@ -133,6 +135,15 @@ each_is f P is (x ∷ xs) ys h =
     let y = bound (f x) _ ys h in
     let more = bound (each f xs) _ ys y.2 in
     subst (All P) (some_is (y.0 ∷ more.0) ys more.2) (All-cons P y.0 more.0 (is x y.0 y.1) (each_is f P is xs more.0 more.1))
+
+-- as many
+pub each_length : {A B : Type 0} (f : A → Option B) (xs : List A) (ys : List B) → each f xs ≡ Some ys → length ys ≡ length xs
+each_length f [] ys h = ap length (sym (some_is [] ys h))
+each_length f (x ∷ xs) ys h =
+    let y = bound (f x) _ ys h in
+    let more = bound (each f xs) _ ys y.2 in
+    let same = each_length f xs more.0 more.1 in
+    omega (arith, ap length (some_is (y.0 ∷ more.0) ys more.2))
 
 inquired_is : (s : Scope) (i : Inquire) (m : Statement) → inquired s i ≡ Some m → IsSoundStatement s.variables m
 unfolding inquired
@@ -285,29 +296,32 @@ star_is u e = ap is_star e
 all_at : {A : Type 0} (P : A → Type 0) (xs : List A) (n : ℕ) (x : A) → All P xs → slice_get xs n ≡ Some x → P x
 all_at P xs n x all h = subst P (get_or_from_slice_get xs n x x h) (all n x (slice_get_within xs n x h))
 
-abbrev AreMembers : Scope → List ℕ → Type 0
-AreMembers s vars = All (λ var. var < length s.variables) vars
-
-group_members : (s : Scope) → IsSoundScope s → (n : Named) (vars : List ℕ) → group_at s n ≡ Some vars → AreMembers s vars
+group_members : (s : Scope) → IsSoundScope s → (n : Named) (vars : List ℕ) → group_at s n ≡ Some vars → AreMembers s.variables vars
 group_members s sound (stands_for.Variable k) vars h = cc
 group_members s sound (stands_for.Group k) vars h =
     let g = bound (slice_get s.groups k) (λ g. Some g.vars) vars h in
-    subst (AreMembers s) (some_is g.0.vars vars g.2) (all_at (λ g. AreMembers s g.vars) s.groups k g.0 sound.members g.1)
+    let there = all_at (λ g. All (λ var. var < length s.variables) g.vars) s.groups k g.0 sound.members g.1 in
+    let few = all_at (λ g. length g.vars ≤ 1000) s.groups k g.0 sound.few g.1 in
+    subst (AreMembers s.variables) (some_is g.0.vars vars g.2) (members_few s.variables g.0.vars sound.within there few)
 
-members_is : (s : Scope) → IsSoundScope s → (name vars : List ℕ) → members s name ≡ Some vars → AreMembers s vars
+members_is : (s : Scope) → IsSoundScope s → (name vars : List ℕ) → members s name ≡ Some vars → AreMembers s.variables vars
 unfolding members
 members_is s sound name vars h = let n = bound (named s name) (group_at s) vars h in group_members s sound n.0 vars n.2
 
-has_members : (s : Scope) → IsSoundScope s → (g : Option (List ℕ)) (vars : Option (List ℕ)) (f : Option Format) (items : Option (List FormatItem)) → optional (members s) g ≡ Some vars → HasMembers s.variables (control_of g vars f items)
+no_members : (vs : List Variable) → AreMembers vs []
+no_members vs = record { there = All-nil (λ var. var < length vs); few = omega arith }
+
+has_members : (s : Scope) → IsSoundScope s → (g : Option (List ℕ)) (vars : Option (List ℕ)) (f : Option Format) (items : Option (List FormatItem)) → optional (members s) g ≡ Some vars
+    → AreMembers s.variables (members_of (control_of g vars f items))
 has_members s sound (Some name) (Some vars) f items h =
     let b = bound (members s name) (λ y. Some (Some y)) (Some vars) h in
     members_is s sound name vars (b.1 ∙ (let e : Some (Some b.0) ≡ Some (Some vars) = b.2 in cc))
-has_members s sound (Some name) None f (Some items) h = tt
-has_members s sound (Some name) None (Some f) None h = tt
-has_members s sound (Some name) None None None h = tt
-has_members s sound None vars f (Some items) h = tt
-has_members s sound None vars (Some f) None h = tt
-has_members s sound None vars None None h = tt
+has_members s sound (Some name) None f (Some items) h = no_members s.variables
+has_members s sound (Some name) None (Some f) None h = no_members s.variables
+has_members s sound (Some name) None None None h = no_members s.variables
+has_members s sound None vars f (Some items) h = no_members s.variables
+has_members s sound None vars (Some f) None h = no_members s.variables
+has_members s sound None vars None None h = no_members s.variables
 
 -- ---- READ and WRITE
 

@@ -1,5 +1,5 @@
 -- What holds of what is declared, and of what a statement means.
-use Rattle.std.specs.Prelude.{◌≡◌, ℕ, ◌<◌, true, List, length, map, All, Option, Some, None, slice_get}
+use Rattle.std.specs.Prelude.{◌≡◌, ℕ, ◌<◌, ◌≤◌, true, List, length, map, All, Option, Some, None, slice_get}
 use Rattle.fj_format.specs.declared.item.FormatItem.{FormatItem}
 use Rattle.fj_statement.specs.declared.deck.Variable.{Variable}
 use Rattle.fj_statement.specs.declared.statement.Statement.{Statement}
@@ -28,10 +28,11 @@ pub record AreNamed (s : Scope) : Type 0 where
   pub variables : (n : ℕ) (v : Variable) → slice_get s.variables n ≡ Some v → named s v.name ≡ Some (stands_for.Variable n)
   pub groups : (n : ℕ) (g : Namelist) → slice_get s.groups n ≡ Some g → named s g.name ≡ Some (stands_for.Group n)
 
--- no limit is passed, and the members of groups are variables
+-- no limit is passed, and the members of groups are variables, no more than a line has room for
 pub record IsSoundScope (s : Scope) : Type 0 where
   pub within : AreWithin s.variables
   pub members : All (λ g. All (λ var. var < length s.variables) g.vars) s.groups
+  pub few : All (λ g. length g.vars ≤ 1000) s.groups
   pub names : AreNamed s
 
 abbrev pub EmptyIsSound : Type 0
@@ -41,7 +42,7 @@ abbrev pub DeclaredIsSound : Type 0
 DeclaredIsSound = (s next : Scope) (line : ℕ) (d : Declaration) → IsSoundScope s → All IsName (map (λ e. e.name) d.entities) → with_declaration s line d ≡ Some next → is_within next.variables ≡ true → IsSoundScope next
 
 abbrev pub GroupedIsSound : Type 0
-GroupedIsSound = (s next : Scope) (line : ℕ) (g : Group) → IsSoundScope s → IsName g.name → with_group s line g ≡ Some next → IsSoundScope next
+GroupedIsSound = (s next : Scope) (line : ℕ) (g : Group) → IsSoundScope s → IsName g.name → length g.members ≤ 1000 → with_group s line g ≡ Some next → IsSoundScope next
 
 -- no name stands twice
 abbrev pub NamesAreApart : Type 0

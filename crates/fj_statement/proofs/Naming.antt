@@ -1,5 +1,5 @@
 -- What a sound statement names is there, and no more than is allowed.
-use Rattle.std.proofs.Common.{◌≡◌, ℕ, ◌<◌, ◌≤◌, zero, suc, List, [], ◌∷◌, ◌++◌, length, map, max, Option, Some, None, refl, sym, ap, ◌∙◌, subst, arith}
+use Rattle.std.proofs.Common.{◌≡◌, ℕ, ◌*◌, ◌<◌, ◌≤◌, zero, suc, List, [], ◌∷◌, ◌++◌, length, map, max, Option, Some, None, refl, sym, ap, ◌∙◌, subst, arith}
 use Rattle.std.specs.Prelude.{All, IfSome, slice_get}
 use Rattle.std.specs.List.{flat_map, sum_by}
 use Rattle.std.specs.Option.{option_map_or}
@@ -12,11 +12,9 @@ use Rattle.fj_modes.specs.declared.asked.Wanted.{Wanted}
 use Rattle.fj_statement.specs.declared.deck.Variable.{Variable}
 use Rattle.fj_statement.specs.declared.statement.Operand.{Operand}
 use Rattle.fj_statement.specs.declared.statement.Operand.TheVariants as operand
-use Rattle.fj_statement.specs.declared.statement.Control.{Control}
-use Rattle.fj_statement.specs.declared.statement.Control.TheVariants as control
 use Rattle.fj_statement.specs.declared.statement.Statement.TheVariants as statement
-use Rattle.fj_statement.specs.Sound.{Variables, AreItems, HasMembers, IsAsked, IsIntegerOperand, IsIntegerPlace, IsOperand, places_of}
-use Rattle.fj_statement.specs.Naming.{ElementsAreFew, IsSomePlace, PlacesAreFew, PlacesAreThere, VariablesAreThere, array_of, elements_of, if_given, members_of, place_given, place_of}
+use Rattle.fj_statement.specs.Sound.{Variables, AreItems, AreWithin, IsAsked, IsIntegerOperand, IsIntegerPlace, IsOperand, members_of, places_at, places_of}
+use Rattle.fj_statement.specs.Naming.{ElementsAreFew, IsSomePlace, MembersAreFew, PlacesAreFew, PlacesAreThere, VariablesAreThere, array_of, elements_of, if_given, place_given, place_of}
 
 -- ---- places
 
@@ -89,15 +87,11 @@ module _ (vs : Variables) where
   item_arrays (o ∷ os) [] are = absurd are
   item_arrays (o ∷ os) (s ∷ shapes) are = All-append IsThere (array_of o) (flat_map array_of os) (operand_array o s.0 s.1 are.0) (item_arrays os shapes are.1)
 
-  group_members : (c : Control) → HasMembers vs c → All IsThere (members_of c)
-  group_members (control.Group name vars) has = has
-  group_members c has = All-nil IsThere
-
 pub variables_there : VariablesAreThere
 variables_there vs (statement.Assign to from) is =
     All-append (IsThere vs) (array_of to) (array_of from) (operand_array vs to is.to_kind is.to_count is.to_is) (operand_array vs from is.from_kind is.from_count is.from_is)
 variables_there vs (statement.Transfer t) is =
-    All-append (IsThere vs) (flat_map array_of t.items) (members_of t.control) (item_arrays vs t.items is.items.shapes is.items.are) (group_members vs t.control is.members)
+    All-append (IsThere vs) (flat_map array_of t.items) (members_of t.control) (item_arrays vs t.items is.items.shapes is.items.are) is.members.there
 variables_there vs s is = All-nil (IsThere vs)
 
 -- ---- elements
@@ -132,3 +126,18 @@ places_within (x ∷ vs) (suc var) v h = let more = places_within vs var v h in 
 
 pub places_few : PlacesAreFew
 places_few vs var v within h = let most = within.places in omega (arith, places_within vs var v h)
+
+-- ---- groups
+
+count_few : (vs : Variables) (var : ℕ) → AreWithin vs → places_at vs var ≤ 1000000
+count_few vs var within = by (slice_get vs var) refl where
+  by : (o : Option Variable) → slice_get vs var ≡ o → option_map_or places_of o 0 ≤ 1000000
+  by None e = omega arith
+  by (Some v) e = places_few vs var v within e
+
+counts_few : (vs : Variables) (vars : List ℕ) → AreWithin vs → sum_by (places_at vs) vars ≤ length vars * 1000000
+counts_few vs [] within = omega arith
+counts_few vs (var ∷ vars) within = omega (arith, sum_by-cons (places_at vs) var vars, count_few vs var within, counts_few vs vars within)
+
+pub members_few : MembersAreFew
+members_few vs vars within there few = record { there = there; few = omega (arith, counts_few vs vars within) }

@@ -1,19 +1,16 @@
 -- The places and variables that a statement names, and what the layers above take from a sound statement.
 use Rattle.std.specs.Prelude.{◌≡◌, ℕ, ◌<◌, ◌≤◌, List, [], ◌∷◌, ◌++◌, length, map, All, Option, Some, None, slice_get}
 use Rattle.std.specs.List.{flat_map, sum_by}
-use Rattle.std.specs.Option.{option_map_or}
 use Rattle.fj_value.specs.declared.kind.Kind.{Kind}
 use Rattle.fj_value.specs.declared.place.Place.{Place}
 use Rattle.fj_modes.specs.declared.asked.Wanted.{Wanted}
 use Rattle.fj_statement.specs.declared.deck.Variable.{Variable}
 use Rattle.fj_statement.specs.declared.statement.Operand.{Operand}
 use Rattle.fj_statement.specs.declared.statement.Operand.TheVariants as operand
-use Rattle.fj_statement.specs.declared.statement.Control.{Control}
-use Rattle.fj_statement.specs.declared.statement.Control.TheVariants as control
 use Rattle.fj_statement.specs.declared.statement.Transfer.{Transfer}
 use Rattle.fj_statement.specs.declared.statement.Statement.{Statement}
 use Rattle.fj_statement.specs.declared.statement.Statement.TheVariants as statement
-use Rattle.fj_statement.specs.Sound.{Variables, AreWithin, IsPlace, IsSoundStatement, IsTransfer, places_of}
+use Rattle.fj_statement.specs.Sound.{Variables, AreWithin, IsPlace, IsSoundStatement, AreMembers, IsTransfer, members_of, places_at, places_of}
 
 abbrev pub if_given : {A : Type 0} → Option A → List A
 if_given None = []
@@ -51,11 +48,6 @@ abbrev pub array_of : Operand → List ℕ
 array_of (operand.Whole var) = var ∷ []
 array_of o = []
 
--- the members of a group
-abbrev pub members_of : Control → List ℕ
-members_of (control.Group name vars) = vars
-members_of c = []
-
 -- the arrays and members of groups that stand in a statement
 abbrev pub named_variables : Statement → List ℕ
 named_variables (statement.Assign to from) = array_of to ++ array_of from
@@ -66,7 +58,7 @@ named_variables s = []
 
 -- how many elements an item is
 abbrev pub elements_of : Variables → Operand → ℕ
-elements_of vs (operand.Whole var) = option_map_or places_of (slice_get vs var) 0
+elements_of vs (operand.Whole var) = places_at vs var
 elements_of vs o = 1
 
 -- ---- laws
@@ -89,3 +81,7 @@ ElementsAreFew = (vs : Variables) (t : Transfer) → IsTransfer vs t → sum_by 
 -- and no variable has more places than all of them together
 abbrev pub PlacesAreFew : Type 0
 PlacesAreFew = (vs : Variables) (var : ℕ) (v : Variable) → AreWithin vs → slice_get vs var ≡ Some v → places_of v ≤ 1000000
+
+-- 1,000 variables are few enough for a group, with one of them again and again
+abbrev pub MembersAreFew : Type 0
+MembersAreFew = (vs : Variables) (vars : List ℕ) → AreWithin vs → All (λ var. var < length vs) vars → length vars ≤ 1000 → AreMembers vs vars

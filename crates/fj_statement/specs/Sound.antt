@@ -2,6 +2,7 @@
 use Rattle.std.specs.Prelude.{◌≡◌, ℕ, ◌*◌, ◌<◌, ◌≤◌, Bool, true, false, ◌||◌, ◌==◌, List, [], ◌∷◌, ◌++◌, length, map, max, All, Option, Some, None, IsSome, IfSome, slice_get, unwrap_or}
 use Rattle.std.specs.Char.{is_ascii_uppercase, is_ascii_digit}
 use Rattle.std.specs.List.{AllPass, Contains, sum_by}
+use Rattle.std.specs.Option.{option_map_or}
 use Rattle.fj_value.specs.declared.kind.Kind.{Kind}
 use Rattle.fj_value.specs.declared.kind.Kind.TheVariants.{Int4, Int8, Logical, Chars}
 use Rattle.fj_value.specs.declared.place.Place.{Place}
@@ -30,6 +31,10 @@ Variables = List Variable
 -- the places of a variable: a scalar is one
 abbrev pub places_of : Variable → ℕ
 places_of v = max 1 v.count
+
+-- the places of the variable of a number
+abbrev pub places_at : Variables → ℕ → ℕ
+places_at vs var = option_map_or places_of (slice_get vs var) 0
 
 -- the bytes of a value of a kind
 abbrev pub bytes_of : Kind → ℕ
@@ -143,10 +148,16 @@ abbrev pub HasNoZeroWidth : Control → Type 0
 HasNoZeroWidth (control.Explicit items) = has_width_zero items ≡ false
 HasNoZeroWidth c = Unit {0}
 
--- the members of a group are variables
-abbrev pub HasMembers : Variables → Control → Type 0
-HasMembers vs (control.Group name vars) = All (λ var. var < length vs) vars
-HasMembers vs c = Unit {0}
+-- the members of a group
+abbrev pub members_of : Control → List ℕ
+members_of (control.Group name vars) = vars
+members_of c = []
+
+-- The members of a group are variables. They have no more than 1,000,000,000 places: 1,000 members, for which a line has
+-- room, of 1,000,000 each (own).
+pub record AreMembers (vs : Variables) (vars : List ℕ) : Type 0 where
+  pub there : All (λ var. var < length vs) vars
+  pub few : sum_by (places_at vs) vars ≤ 1000000000
 
 abbrev pub HasNoItems : Control → List Operand → Type 0
 HasNoItems (control.Group name vars) items = items ≡ []
@@ -189,7 +200,7 @@ pub record IsAllowed (t : Transfer) : Type 0 where
 pub record IsTransfer (vs : Variables) (t : Transfer) : Type 0 where
   pub allowed : IsAllowed t
   pub items : IsList vs t.items
-  pub members : HasMembers vs t.control
+  pub members : AreMembers vs (members_of t.control)
   pub rec : IfSome t.rec (IsIntegerOperand vs)
   pub pos : IfSome t.pos (IsIntegerOperand vs)
   pub id : IfSome t.id (IsIntegerPlace vs)

@@ -1,5 +1,5 @@
 // Laws of sound statements.
-ghost use Rattle.fj_statement.specs.Naming.{ElementsAreFew, PlacesAreFew, PlacesAreThere, VariablesAreThere};
+ghost use Rattle.fj_statement.specs.Naming.{ElementsAreFew, MembersAreFew, PlacesAreFew, PlacesAreThere, VariablesAreThere};
 
 /// What a sound statement names is there, and no more than is allowed.
 pub fn named_is_there()
@@ -7,4 +7,5 @@ pub fn named_is_there()
     ensures variables { VariablesAreThere }
     ensures elements { ElementsAreFew }
     ensures few { PlacesAreFew }
+    ensures members { MembersAreFew }
 {}
