@@ -35,7 +35,7 @@ use Rattle.fj_plain.specs.Items.{operand_places, places_of}
 use Rattle.fj_plain.specs.Needs.{group_places, if_given}
 use Rattle.fj_plain.specs.State.{Output, elements}
 use Rattle.fj_plain.specs.Transfers.{member_of, members_of, layout_of, moved_in, printed_to}
-use Rattle.fj_items.specs.Fitting.{IsCountable, Finds}
+use Rattle.fj_items.specs.Fitting.{Finds}
 use Rattle.fj_items.specs.Gathering.{IsGathered, IsNumbered, all_items, members_in, count_of}
 use Rattle.fj_items.specs.declared.gathering.Gathered.{Gathered}
 use Rattle.fj_items.specs.declared.lost.Lost.{Lost}
@@ -82,16 +82,16 @@ members_step vs before vars i g low h =
 
 -- ---- the items and the group
 
-pub items_found : (vs : List Variable) (t : Transfer) (slice : List Operand) (size : ℕ) → IsTransfer vs t → IsCountable vs t → slice ≡ t.items → size ≡ 0 → size + sum_by (count_of vs) slice < 2 ^ 32
-items_found vs t slice size is few same none =
-    let all = items_few vs t is few in
+pub items_found : (vs : List Variable) (t : Transfer) (slice : List Operand) (size : ℕ) → IsTransfer vs t → slice ≡ t.items → size ≡ 0 → size + sum_by (count_of vs) slice < 2 ^ 32
+items_found vs t slice size is same none =
+    let all = items_few vs t is in
     let items : sum_by (count_of vs) slice ≡ sum_by (count_of vs) t.items = ap (sum_by (count_of vs)) same in
     omega (arith, none, all, items)
 
-pub group_found : (vs : List Variable) (t : Transfer) (slice : List Operand) (vars : List ℕ) (size : ℕ) → IsTransfer vs t → IsCountable vs t → slice ≡ t.items → group_places vs t.control ≡ flat_map (places_of vs) vars
+pub group_found : (vs : List Variable) (t : Transfer) (slice : List Operand) (vars : List ℕ) (size : ℕ) → IsTransfer vs t → slice ≡ t.items → group_places vs t.control ≡ flat_map (places_of vs) vars
     → size ≡ 0 + sum_by (count_of vs) slice → size + length (flat_map (places_of vs) vars) < 2 ^ 32
-group_found vs t slice vars size is few same group sized =
-    let both = items_few vs t is few in
+group_found vs t slice vars size is same group sized =
+    let both = items_few vs t is in
     let all : sum_by (count_of vs) slice ≡ sum_by (count_of vs) t.items = ap (sum_by (count_of vs)) same in
     let long : length (group_places vs t.control) ≡ length (flat_map (places_of vs) vars) = ap length group in
     omega (arith, both, all, long, sized)

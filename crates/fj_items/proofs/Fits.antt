@@ -1,15 +1,15 @@
 -- What is given fits.
-use Rattle.std.proofs.Common.{◌≡◌, ℕ, ◌+◌, ◌<◌, ◌≤◌, ◌^◌, eqb, cond, false, List, [], ◌∷◌, ◌++◌, length, map, All, slice_get, sum_by, refl, sym, ap, subst, ◌∙◌, arith}
+use Rattle.std.proofs.Common.{◌≡◌, ℕ, ◌+◌, ◌<◌, ◌≤◌, ◌^◌, eqb, cond, false, List, [], ◌∷◌, ◌++◌, length, map, All, Option, Some, None, slice_get, sum_by, refl, sym, ap, subst, ◌∙◌, inl, inr, arith, length-append}
 use Rattle.std.specs.Option.{option_map_or}
 use Rattle.std.specs.List.{flat_map}
-use Rattle.std.proofs.lemmas.Bool.Decides.{nat_tests}
+use Rattle.std.proofs.lemmas.Bool.Decides.{eqb_tells, nat_tests}
 use Rattle.std.proofs.lemmas.List.Elements.{All-nil, All-cons, All-head, All-tail, All-append}
 use Rattle.std.proofs.lemmas.List.Sums.{sum_by-cons}
 use Rattle.fj_value.specs.Kind.{IsOfKind}
 use Rattle.fj_value.specs.declared.kind.Kind.{Kind}
 use Rattle.fj_value.specs.declared.place.Place.{Place}
 use Rattle.fj_value.specs.declared.value.Cell.{Cell}
-use Rattle.fj_statement.specs.Sound.{IsArray, IsOperand, AreItems, IsList, HasNoItems, IsTransfer}
+use Rattle.fj_statement.specs.Sound.{IsArray, IsOperand, AreItems, AreMembers, IsList, HasNoItems, IsTransfer, members_of, places_at, places_of as places_in}
 use Rattle.fj_statement.specs.declared.deck.Variable.{Variable}
 use Rattle.fj_statement.specs.declared.statement.Operand.{Operand}
 use Rattle.fj_statement.specs.declared.statement.Operand.TheVariants as operand
@@ -58,15 +58,30 @@ items_count vs (o ∷ items) (s ∷ shapes) h =
 few_items : (vs : List Variable) (items : List Operand) → IsList vs items → sum_by (count_of vs) items ≤ 1000000
 few_items vs items h = subst (λ n. n ≤ 1000000) (sym (items_count vs items h.shapes h.are)) h.elements
 
-few_by : (vs : List Variable) (items : List Operand) (c : Control) → HasNoItems c items → IsList vs items → length (group_places vs c) < 2 ^ 32 → sum_by (count_of vs) items + length (group_places vs c) < 2 ^ 32
-few_by vs items control.Unformatted none h group = let low = few_items vs items h in omega (arith, low)
-few_by vs items (control.Explicit f) none h group = let low = few_items vs items h in omega (arith, low)
-few_by vs items control.Listed none h group = let low = few_items vs items h in omega (arith, low)
-few_by vs items (control.Group name vars) none h group =
-    let zero : sum_by (count_of vs) items ≡ 0 = ap (sum_by (count_of vs)) none in omega (arith, zero, group)
+-- a variable has no more places than are declared
+places_low : (vs : List Variable) (var : ℕ) → length (places_of vs var) ≤ places_at vs var
+places_low vs var =
+    let same : length (places_of vs var) ≡ option_map_or elements (slice_get vs var) 0 = length-counted_from var 1 (option_map_or elements (slice_get vs var) 0) in
+    let low = by (slice_get vs var) in
+    omega (arith, same, low)
+  where
+    by : (o : Option Variable) → option_map_or elements o 0 ≤ option_map_or places_in o 0
+    by None = omega arith
+    by (Some v) = elim (eqb_tells v.count 0) [ inl none ↦ rw none.0 (omega arith) | inr some ↦ rw some.0 (omega arith) ]
 
-pub items_few : (vs : List Variable) (t : Transfer) → IsTransfer vs t → length (group_places vs t.control) < 2 ^ 32 → sum_by (count_of vs) t.items + length (group_places vs t.control) < 2 ^ 32
-items_few vs t h group = few_by vs t.items t.control h.allowed.group_excludes_items h.items group
+group_low : (vs : List Variable) (vars : List ℕ) → length (flat_map (places_of vs) vars) ≤ sum_by (places_at vs) vars
+group_low vs [] = omega arith
+group_low vs (var ∷ vars) = omega (arith, length-append (places_of vs var) (flat_map (places_of vs) vars), sum_by-cons (places_at vs) var vars, places_low vs var, group_low vs vars)
+
+few_by : (vs : List Variable) (items : List Operand) (c : Control) → HasNoItems c items → IsList vs items → AreMembers vs (members_of c) → sum_by (count_of vs) items + length (group_places vs c) < 2 ^ 32
+few_by vs items control.Unformatted none h are = let low = few_items vs items h in omega (arith, low)
+few_by vs items (control.Explicit f) none h are = let low = few_items vs items h in omega (arith, low)
+few_by vs items control.Listed none h are = let low = few_items vs items h in omega (arith, low)
+few_by vs items (control.Group name vars) none h are =
+    let zero : sum_by (count_of vs) items ≡ 0 = ap (sum_by (count_of vs)) none in omega (arith, zero, group_low vs vars, are.few)
+
+pub items_few : (vs : List Variable) (t : Transfer) → IsTransfer vs t → sum_by (count_of vs) t.items + length (group_places vs t.control) < 2 ^ 32
+items_few vs t h = few_by vs t.items t.control h.allowed.group_excludes_items h.items h.members
 
 -- ---- parts of a list
 

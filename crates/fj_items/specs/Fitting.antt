@@ -1,12 +1,12 @@
 -- When what a statement is given fits: what its deck says of it, and what the variables hold.
-use Rattle.std.specs.Prelude.{◌≡◌, ◌<◌, ◌^◌, false, List, length, map, All}
+use Rattle.std.specs.Prelude.{◌≡◌, false, List, length, map, All}
 use Rattle.fj_value.specs.Kind.{IsOfKind}
 use Rattle.fj_value.specs.declared.place.Place.{Place}
 use Rattle.fj_statement.specs.declared.deck.Variable.{Variable}
 use Rattle.fj_statement.specs.declared.statement.Transfer.{Transfer}
 use Rattle.fj_store.specs.Variables.{Variables, value_at}
 use Rattle.fj_plain.specs.Items.{kind_of}
-use Rattle.fj_plain.specs.Needs.{group_places, transfer_places}
+use Rattle.fj_plain.specs.Needs.{transfer_places}
 use Rattle.fj_plain.specs.State.{elements}
 use Rattle.fj_items.specs.Kinds.{Fits}
 
@@ -23,12 +23,6 @@ pub record AreKept (variables : List Variable) (vars : Variables) : Type 0 where
 abbrev pub AreDefined : List Variable → Variables → List Place → Type 0
 AreDefined variables vars places = All (λ (place : Place). IsOfKind (kind_of variables place.var) (value_at vars place)) places
 
--- a group may have a variable again and again: its elements have numbers of 32 bits all the same
-abbrev pub IsCountable : List Variable → Transfer → Type 0
-IsCountable variables t = length (group_places variables t.control) < 2 ^ 32
-
--- A transfer finds what it is to have.
+-- A transfer finds what it is to have: an output has values.
 pub record Finds (variables : List Variable) (vars : Variables) (t : Transfer) : Type 0 where
-  pub items : IsCountable variables t
-  -- an output has values
   pub defined : t.input ≡ false → AreDefined variables vars (transfer_places variables t)

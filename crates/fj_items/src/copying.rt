@@ -6,7 +6,6 @@ ghost use Rattle.fj_plain.specs.Transfers.{moved_in};
 ghost use Rattle.fj_statement.specs.Sound.{IsTransfer};
 ghost use Rattle.fj_store.specs.Storage.{values_of};
 ghost use Rattle.fj_transfer.specs.Moving.{HasValues};
-ghost use Rattle.fj_items.specs.Fitting.{IsCountable};
 ghost use Rattle.fj_items.specs.Gathering.{IsNumbered};
 ghost use Rattle.fj_items.specs.Kinds.{kinds_of};
 
@@ -31,7 +30,7 @@ pub(crate) fn copied(
     ensures numbered { IfOk result (λ copied. IsNumbered copied.moved) }
     ensures defined { IfOk result (λ copied. IsTrue copied.defined ↔ HasValues copied.moved) }
     ensures same { store.new ≡ store.old }
-    ensures fits { IsTransfer variables.now t.now → IsCountable variables.now t.now → result ≢ Err Lost.Unfit }
+    ensures fits { IsTransfer variables.now t.now → result ≢ Err Lost.Unfit }
     ensures causes { (result ≢ Err Lost.Disk) × (result ≢ Err Lost.Sink) }
 {
     let gathered = gather(alloc, variables, t)?;

@@ -7,7 +7,6 @@ ghost use Rattle.fj_statement.specs.declared.statement.Operand.{Operand};
 ghost use Rattle.fj_statement.specs.declared.statement.Operand.TheVariants.{Whole};
 ghost use Rattle.fj_store.specs.Pieces.{size_of};
 ghost use Rattle.fj_store.specs.Places.{places_of};
-ghost use Rattle.fj_items.specs.Fitting.{IsCountable};
 ghost use Rattle.fj_items.specs.Gathering.{IsPiece, IsGathered, all_items, count_of};
 
 use crate::assigning::elements_of;
@@ -105,7 +104,7 @@ fn add_members(variables: &Variables, vars: &[u32], gathered: &mut Gathered) -> 
 /// The items of a transfer, and the variables of its group. `Unfit`: they are too many.
 pub(crate) fn gather(alloc: Global, variables: &Variables, t: &Transfer) -> Result<Gathered, Lost>
     ensures gathered { IfOk result (λ gathered. IsGathered variables.now (all_items t.now) gathered) }
-    ensures fits { IsTransfer variables.now t.now → IsCountable variables.now t.now → result ≢ Err Lost.Unfit }
+    ensures fits { IsTransfer variables.now t.now → result ≢ Err Lost.Unfit }
     ensures causes { (result ≢ Err Lost.Disk) × (result ≢ Err Lost.Sink) }
 {
     let mut gathered = Gathered {

@@ -8,7 +8,6 @@ ghost use Rattle.fj_statement.specs.Sound.{IsTransfer};
 ghost use Rattle.fj_transfer.specs.Moving.{members_of};
 ghost use Rattle.fj_transfer.specs.Transfer.{is_explicit};
 ghost use Rattle.fj_transfer.specs.Printing.{IsRecords, actions_by, control_of, printed_by};
-ghost use Rattle.fj_items.specs.Fitting.{IsCountable};
 ghost use Rattle.fj_items.specs.Handing.{open_record, ended_part, printed_on, IsPrinted, HandsOver, HandsFront, HandsPart, TakesFront, TakesPart};
 ghost use Rattle.fj_items.specs.Kinds.{kinds_of};
 
@@ -210,7 +209,7 @@ pub fn write_star<W: Sink>(
     ensures later { W.count out.old ≤ W.count out.new }
     ensures failed { result ≡ Err Lost.Sink → Rose (W.count out.old) (W.count out.new) }
     ensures limit { output.old.begun ≤ star_limit → OnOk result (output.new.begun ≤ star_limit) }
-    ensures fits { IsTransfer variables.now t.now → IsCountable variables.now t.now → output.old.begun ≤ star_limit → result ≢ Err Lost.Unfit }
+    ensures fits { IsTransfer variables.now t.now → output.old.begun ≤ star_limit → result ≢ Err Lost.Unfit }
     ensures disk { result ≢ Err Lost.Disk }
 {
     output.open_is_part();

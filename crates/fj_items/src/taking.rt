@@ -14,7 +14,7 @@ ghost use Rattle.fj_store.specs.Storage.{values_of};
 ghost use Rattle.fj_store.specs.Variables.{undefined_at};
 ghost use Rattle.fj_store.specs.declared.piece.Piece.TheVariants.{Places};
 ghost use Rattle.fj_transfer.specs.Moving.{HasValues, members_of};
-ghost use Rattle.fj_items.specs.Fitting.{AreKept, IsCountable, Finds};
+ghost use Rattle.fj_items.specs.Fitting.{AreKept, Finds};
 ghost use Rattle.fj_items.specs.Gathering.{IsNumbered};
 ghost use Rattle.fj_items.specs.Kinds.{kinds_of};
 
@@ -61,7 +61,7 @@ fn taken(
     ensures vars { OnOk result (values_of store.new ≡ undefined_at (moved_in variables.now (values_of store.old) t.now).cells (values_of store.old)) }
     ensures numbered { IfOk result IsNumbered }
     ensures kinds { store.new.kinds ≡ store.old.kinds }
-    ensures fits { IsTransfer variables.now t.now → t.now.input ≡ true → IsCountable variables.now t.now → result ≢ Err Lost.Unfit }
+    ensures fits { IsTransfer variables.now t.now → t.now.input ≡ true → result ≢ Err Lost.Unfit }
     ensures causes { (result ≢ Err Lost.Disk) × (result ≢ Err Lost.Sink) }
 {
     let gathered = gather(alloc, variables, t)?;

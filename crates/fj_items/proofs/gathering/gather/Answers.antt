@@ -30,15 +30,15 @@ returns-in_ok-add_members-in-Group-clause-gathered c =
     (c.in_ok-add_members-in-Group.ensures.more c.as_slice.result.now (c.in_ok-add_items.ensures.more [] (none_yet c.args.variables.now _ c.new.ensures.items refl)))
 
 pub returns-in_err-add_items-clause-fits : goal.returns-in_err-add_items-clause-fits
-returns-in_err-add_items-clause-fits c = λ is finds.
+returns-in_err-add_items-clause-fits c = λ is.
     let p = err_from_is_err_and c.from_residual.result c.from_residual.ensures.1 in
-    let found = items_found c.args.variables.now c.args.t.now c.as_slice.result.now 0 is finds c.as_slice.ensures refl in
+    let found = items_found c.args.variables.now c.args.t.now c.as_slice.result.now 0 is c.as_slice.ensures refl in
     not_passed c.from_residual.result c.in_err-add_items.field-0.0 p.0 Unfit p.1 p.2 (c.in_err-add_items.ensures.fits found)
 
 pub returns-in_err-add_members-in-Group-clause-fits : goal.returns-in_err-add_members-in-Group-clause-fits
-returns-in_err-add_members-in-Group-clause-fits c = λ is finds.
+returns-in_err-add_members-in-Group-clause-fits c = λ is.
     let p = err_from_is_err_and c.from_residual-in_err-add_members-in-Group.result c.from_residual-in_err-add_members-in-Group.ensures.1 in
     let group : group_places c.args.variables.now c.args.t.now.control ≡ flat_map (places_of c.args.variables.now) c.as_slice-in-Group.result.now =
     ap (group_places c.args.variables.now) c.in-Group.is ∙ ap (flat_map (places_of c.args.variables.now)) (sym c.as_slice-in-Group.ensures) in
-    let found = group_found c.args.variables.now c.args.t.now c.as_slice.result.now c.as_slice-in-Group.result.now c.add_items.new.gathered.size is finds c.as_slice.ensures group c.in_ok-add_items.ensures.size in
+    let found = group_found c.args.variables.now c.args.t.now c.as_slice.result.now c.as_slice-in-Group.result.now c.add_items.new.gathered.size is c.as_slice.ensures group c.in_ok-add_items.ensures.size in
     not_passed c.from_residual-in_err-add_members-in-Group.result c.in_err-add_members-in-Group.field-0.0 p.0 Unfit p.1 p.2 (c.in_err-add_members-in-Group.ensures.fits found)

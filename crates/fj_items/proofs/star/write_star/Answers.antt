@@ -31,7 +31,7 @@ returns-then-not-is_grouped-clause-front g c = λ _.
     nothing_printed c.args.variables.now (values_of c.args.store.now) c.args.t.now c.args.output.now taken taken c.open_is_part.ensures refl
 
 pub returns-then-not-is_grouped-clause-fits : goal.returns-then-not-is_grouped-clause-fits
-returns-then-not-is_grouped-clause-fits g c = λ is finds low _.
+returns-then-not-is_grouped-clause-fits g c = λ is low _.
     let same = layout_grouped c.args.variables.now c.args.t.now.control c.in_ok-copy.copy.moved.cells c.in_ok-layout.layout c.len.result c.len.ensures c.in_ok-layout.ensures
     (grouped c.args.variables.now (values_of c.args.store.now) c.args.t.now c.in_ok-copy.copy.moved is c.in_ok-copy.ensures.moved) in
     absurd (false≢true (c.if-not-is_grouped.ensures.1 same))

@@ -33,7 +33,7 @@ returns-clause-numbered c =
     numbered (map (cell_at c.args.store.now) (places_in c.as_slice.result.now)) c.in_ok-moved.moved c.in_ok-moved.ensures.moved (omega (arith, size, mapped))
 
 pub returns-in_err-runs-clause-fits : goal.returns-in_err-runs-clause-fits
-returns-in_err-runs-clause-fits c = λ is reads finds.
+returns-in_err-runs-clause-fits c = λ is reads.
     let p = err_from_is_err_and c.from_residual-in_err-runs.result c.from_residual-in_err-runs.ensures.1 in
     let runs = input_runs c.args.variables.now c.args.t.now c.in_ok-gathered.gathered is reads c.in_ok-gathered.ensures.gathered in
     not_passed c.from_residual-in_err-runs.result c.in_err-runs.field-0.0 p.0 Unfit p.1 p.2 (c.in_err-runs.ensures.fits runs.0 runs.1)
