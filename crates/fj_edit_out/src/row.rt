@@ -49,8 +49,12 @@ pub fn write_integer(field: &mut [u8], plus: bool, n: i64)
     ensures { field.new ≡ integer_field plus (length field.old, None) n }
 {
     let width = field.len();
-    let sign = sign_of(plus, n);
     let amount = n.unsigned_abs();
+    if n >= 0 && !plus && has_digits(amount, width) {
+        write_digits(amount, field, width);
+        return;
+    }
+    let sign = sign_of(plus, n);
     if !has_digits(amount, width - sign.len()) {
         field.fill(b'*');
         return;

@@ -14,12 +14,12 @@ in_front start s ds h =
     by zero = refl
     by (suc n) = ap (λ l. 32 ∷ l) (by n)
 
-sign_short : (plus : Bool) (n : ℤ) → length (sign plus n) ≤ 1
+pub sign_short : (plus : Bool) (n : ℤ) → length (sign plus n) ≤ 1
 sign_short true (pos n) = omega arith
 sign_short false (pos n) = omega arith
 sign_short plus (negsuc n) = omega arith
 
-only : (s : List ℕ) → length s ≤ 1 → 0 < length s → s ≡ get_or s 0 0 ∷ []
+pub only : (s : List ℕ) → length s ≤ 1 → 0 < length s → s ≡ get_or s 0 0 ∷ []
 only [] h k = absurd (omega arith)
 only (x ∷ []) h k = refl
 only (x ∷ y ∷ s) h k = absurd (omega arith)

@@ -20,3 +20,4 @@ pub mod ItemLemmas
 pub mod LoadLemmas
 pub mod Cutting
 pub mod MovedLemmas
+pub mod Rows

@@ -1,5 +1,5 @@
 -- List-directed output (ISO/IEC 1539-1:2004, 10.9.2) as actions on the record at hand.
-use Rattle.std.specs.Prelude.{ℕ, ◌+◌, ◌≡◌, if◌then◌else◌, Bool, List, [], ◌∷◌, ◌++◌, length}
+use Rattle.std.specs.Prelude.{ℕ, ◌+◌, ◌≡◌, if◌then◌else◌, Bool, false, List, [], ◌∷◌, ◌++◌, length}
 use Rattle.fj_value.specs.declared.edit.EditModes.{EditModes}
 use Rattle.fj_value.specs.declared.value.Value.{Value}
 use Rattle.fj_line.specs.Actions.{Action, put, end_record}
@@ -20,6 +20,13 @@ texts_behind modes width characters [] = []
 texts_behind modes width characters (v ∷ vs) =
     let before = gap modes characters (is_characters v) in
     next_text width before (shown modes v) ++ texts_behind modes (width_behind width before (shown modes v)) (is_characters v) vs
+
+-- a value's text behind a blank, which stands before each value that is not of type CHARACTER
+abbrev pub behind_blank : EditModes → Value → List ℕ
+behind_blank modes v = 32 ∷ shown modes v
+
+abbrev pub IsNoText : Value → Type 0
+IsNoText v = is_characters v ≡ false
 
 -- a blank, and the values
 abbrev pub list_texts : EditModes → List Value → List Action

@@ -9,6 +9,7 @@ mod memory_records;
 mod moved;
 mod read;
 mod records;
+mod row;
 mod scan;
 mod shown;
 mod split;

@@ -1,6 +1,7 @@
 // List-directed output.
-ghost use Rattle.std.specs.Prelude.{◌≡◌, ◌∷◌, ◌+◌, [], length, OnOk, IfOk};
-ghost use Rattle.fj_line.specs.Actions.{put, end_record};
+ghost use Rattle.std.specs.Prelude.{◌≡◌, ◌∷◌, ◌+◌, ◌≤◌, ◌++◌, ◌&&◌, ◌==◌, [], Bool, List, length, take, OnOk, IfOk};
+ghost use Rattle.fj_value.specs.declared.value.Value.{Value as AnyValue};
+ghost use Rattle.fj_line.specs.Actions.{carried_out, put, end_record};
 ghost use Rattle.fj_line.specs.Page.{at_hand, IsIn, IsAtEnd, Keeps, Carries};
 ghost use Rattle.fj_list.specs.Items.{items_left, items_of, values_in};
 ghost use Rattle.fj_list.specs.ListText.{gap, is_characters, listed, shown, text_of};
@@ -9,6 +10,7 @@ ghost use Rattle.fj_list.specs.ReadAgain.{AreReadAgain};
 
 use crate::items::OutputItems;
 use crate::moved::Moved;
+use crate::row::write_integers;
 use crate::shown::{is_characters, push_next, push_value};
 use fj_line::{Page, Unwritten};
 use fj_value::{EditModes, Text, Value};
@@ -103,6 +105,63 @@ fn put_next(
     put_first(page, text, modes, value)
 }
 
+/// Writes the first of some values behind another one, as far as they are integers that the record has room for, and answers
+/// how many these are.
+fn add_row(
+    page: &mut Page,
+    text: &mut Text,
+    modes: EditModes,
+    values: &[Value],
+) -> Result<usize, AllocError>
+    requires { IsAtEnd page.old text.old }
+    ensures few { IfOk result (λ count. count ≤ length values.now) }
+    ensures done { IfOk result (λ count. (characters : Bool) (more : List AnyValue) →
+        carried_out (at_hand page.old text.old) (texts_behind modes page.old.at characters (take count values.now ++ more))
+        ≡ carried_out (at_hand page.new text.new) (texts_behind modes page.new.at (characters && (count == 0)) more)) }
+    ensures end { OnOk result (IsAtEnd page.new text.new) }
+    ensures kept { Keeps page.old text.old page.new text.new }
+{
+    let width = page.width(text);
+    if width > COLUMNS {
+        return Ok(0);
+    }
+    let mut columns = [b' '; COLUMNS];
+    let row = &mut columns[width..];
+    let (count, end) = write_integers(row, modes, values);
+    let start = text.len();
+    text.push_all(&row[..end])?;
+    let before = *page;
+    match page.take_in(text) {
+        Ok(()) => Ok(count),
+        Err(_) => {
+            *page = before;
+            text.truncate(start);
+            Ok(0)
+        }
+    }
+}
+
+/// Writes those of the next items behind another one that are integers of a row for which the record has room, and answers
+/// whether the last that was written is of type CHARACTER.
+fn put_row(
+    page: &mut Page,
+    text: &mut Text,
+    modes: EditModes,
+    characters: bool,
+    items: &mut OutputItems,
+) -> Result<bool, AllocError>
+    requires { IsAtEnd page.old text.old }
+    ensures done { IfOk result (λ behind. carried_out (at_hand page.old text.old) (texts_behind modes page.old.at characters (values_in (items_left items.old)))
+        ≡ carried_out (at_hand page.new text.new) (texts_behind modes page.new.at behind (values_in (items_left items.new)))) }
+    ensures less { OnOk result (length (items_left items.new) ≤ length (items_left items.old)) }
+    ensures end { OnOk result (IsAtEnd page.new text.new) }
+    ensures kept { Keeps page.old text.old page.new text.new }
+{
+    let count = add_row(page, text, modes, items.ahead().1)?;
+    items.pass(count);
+    Ok(characters && count == 0)
+}
+
 /// Writes values behind another one.
 fn put_rest(
     page: &mut Page,
@@ -119,7 +178,7 @@ fn put_rest(
 {
     while let Some(item) = items.next() {
         put_next(page, text, modes, characters, item.value)?;
-        characters = is_characters(item.value);
+        characters = put_row(page, text, modes, is_characters(item.value), &mut items)?;
     }
     Ok(())
 }

@@ -10,7 +10,7 @@ ghost use Rattle.fj_store.specs.Tables.{element_at};
 ghost use Rattle.fj_store.specs.Taking.{AreUnused, HasRoom, IsMarked, IsMarkedAt, cell_read, items_in, value_read, values_in};
 ghost use Rattle.fj_store.specs.Variables.{moved_from, with_item};
 
-use crate::kinds::{is_defined, kind_in};
+use crate::kinds::{integers_of, is_defined, is_defined_by, kind_in};
 use crate::piece::Piece;
 use crate::run::Run;
 use crate::slot::Slot;
@@ -46,16 +46,23 @@ pub(crate) fn are_defined(cells: &[Cell]) -> bool
     true
 }
 
-/// The same value once more.
+/// The same value once more, where it may be no integer.
+#[inline(never)]
+fn cloned(value: &Value) -> Result<Value, AllocError>
+    ensures { IfOk result (λ copy. copy ≡ value.now) }
+{
+    value.try_clone()
+}
+
+/// The same value once more. Most are integers.
 #[inline(always)]
 fn copied_value(value: &Value) -> Result<Value, AllocError>
     ensures { IfOk result (λ copy. copy ≡ value.now) }
 {
-    match value {
-        Value::Int(number) => Ok(Value::Int(*number)),
-        Value::Log(truth) => Ok(Value::Log(*truth)),
-        Value::Undefined | Value::Chars(_) => value.try_clone(),
+    if let Value::Int(number) = value {
+        return Ok(Value::Int(*number));
     }
+    cloned(value)
 }
 
 /// The value of a place once more.
@@ -84,10 +91,11 @@ pub(crate) fn copy_row(alloc: Global, kind: Kind, slots: &[Slot]) -> Result<Copi
 {
     let mut values = Vec::new(alloc);
     values.reserve(slots.len())?;
+    let integers = integers_of(kind);
     let mut defined = true;
     for slot in slots {
         let copy = copied_slot(slot)?;
-        defined = both(defined, is_defined(kind, &copy));
+        defined = both(defined, is_defined_by(integers, kind, &copy));
         values.push_reserved(copy);
     }
     let values = Items::from_vec(values);

@@ -14,8 +14,8 @@ loop-slot-preserved c =
     record {
       values = slot_copied slots l.slot-index c.slot-item.result copy l.values.items c.push_reserved.new.self.items low c.slot-item.is c.in_ok-copy.ensures c.push_reserved.ensures.items l.invariant.values;
       room = omega (arith, c.push_reserved.ensures.capacity, l.invariant.room);
-      defined = defined_more (IsOfKind c.args.kind) l.values.items c.push_reserved.new.self.items copy l.defined c.is_defined.result c.both-defined.result c.push_reserved.ensures.items c.both-defined.ensures
-          c.is_defined.ensures l.invariant.defined;
+      defined = defined_more (IsOfKind c.args.kind) l.values.items c.push_reserved.new.self.items copy l.defined c.is_defined_by.result c.both-defined.result c.push_reserved.ensures.items c.both-defined.ensures
+          c.is_defined_by.ensures l.invariant.defined;
     }
 
 pub returns-clause-values : goal.returns-clause-values

@@ -6,7 +6,7 @@ use Rattle.fj_line.specs.Records.{texts_from}
 use Rattle.fj_edit_out.specs.Item.{integers_in}
 use Rattle.fj_edit_out.specs.OutputField.{integer_field}
 use Rattle.fj_transfer.specs.Writing.{row_of}
-use Rattle.fj_transfer.proofs.RowLemmas.{row_done, row_texts}
+use Rattle.fj_list.proofs.Rows.{row_done, row_texts}
 use Rattle.fj_transfer.proofs.run.add_row.Goals as goal
 
 -- the position is behind the last character
