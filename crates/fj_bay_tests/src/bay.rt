@@ -33,11 +33,14 @@ fn jobs_are_sent<F: FileStore + Send>(job: Job<F>) {
 /// What a row does.
 #[derive(Clone, Copy)]
 enum Step {
-    Attach,
+    /// Of a connection on whose file the call of that number fails; none for 0.
+    Attach(u64),
     Detach,
     /// A READ, awaited or pending.
     Read,
     Pend,
+    /// A WRITE that leaves its record open.
+    Open,
     Go(Positioning),
     Change,
     Flush,
@@ -118,11 +121,12 @@ fn transfer(
 
 fn job_of(alloc: Global, step: Step) -> Result<Job<FailingFile>, OpenFault> {
     match step {
-        Step::Attach => Ok(Job::Attach(Some(connection(alloc, 0)?))),
+        Step::Attach(fails) => Ok(Job::Attach(Some(connection(alloc, fails)?))),
         Step::Detach => Ok(Job::Detach(None)),
         // It passes over a record.
         Step::Read => Ok(Job::Move(transfer(alloc, 0, true, true, b"()")?)),
         Step::Pend => Ok(Job::Move(transfer(alloc, 1, true, true, b"()")?)),
+        Step::Open => Ok(Job::Move(transfer(alloc, 0, false, false, b"('b')")?)),
         Step::Go(how) => Ok(Job::Go(how)),
         Step::Change => Ok(Job::Change(MODES)),
         Step::Flush => Ok(Job::Flush),
@@ -132,7 +136,7 @@ fn job_of(alloc: Global, step: Step) -> Result<Job<FailingFile>, OpenFault> {
 }
 
 /// Whether the job has a connection, or where it was looked at.
-fn brings(job: &Job<FailingFile>) -> Option<u64> {
+fn brings<F: FileStore>(job: &Job<F>) -> Option<u64> {
     match job {
         Job::Attach(Some(_)) | Job::Detach(Some(_)) => Some(0),
         Job::Look(Some(look)) => Some(look.spot.at),
@@ -140,7 +144,7 @@ fn brings(job: &Job<FailingFile>) -> Option<u64> {
     }
 }
 
-use Step::{Attach, Change, Detach, Flush, Go, Look as LookAt, Pend, Read, Resume};
+use Step::{Attach, Change, Detach, Flush, Go, Look as LookAt, Open, Pend, Read, Resume};
 
 // Each job in turn, its answer, and what it brings back: the place that was looked at, or 0 for a connection.
 static EMPTY: [(Step, Answer, Option<u64>); 8] = [
@@ -151,12 +155,12 @@ static EMPTY: [(Step, Answer, Option<u64>); 8] = [
     (Flush, Done(Fine), None),
     (LookAt, Done(Error(1)), None),
     (Resume, Done(Fine), None),
-    (Attach, Done(Fine), None),
+    (Attach(0), Done(Fine), None),
 ];
 
 static FULL: [(Step, Answer, Option<u64>); 10] = [
-    (Attach, Done(Fine), None),
-    (Attach, Done(Error(7)), Some(0)),
+    (Attach(0), Done(Fine), None),
+    (Attach(0), Done(Error(7)), Some(0)),
     (LookAt, Done(Fine), Some(0)),
     (Read, Done(Fine), None),
     (LookAt, Done(Fine), Some(2)),
@@ -169,13 +173,13 @@ static FULL: [(Step, Answer, Option<u64>); 10] = [
 
 // An awaited transfer halts the bay, and the halt is ended.
 static HALTED: [(Step, Answer, Option<u64>); 15] = [
-    (Attach, Done(Fine), None),
+    (Attach(0), Done(Fine), None),
     (Pend, Done(Fine), None),
     (Read, Done(EndOfFile), None),
     (LookAt, Done(Fine), Some(2)),
     (Pend, Skipped(EndOfFile), None),
     (Go(Positioning::Rewind), Done(Fine), None),
-    (Attach, Done(Error(7)), Some(0)),
+    (Attach(0), Done(Error(7)), Some(0)),
     (Change, Done(Fine), None),
     (Flush, Done(Fine), None),
     (Read, Skipped(EndOfFile), None),
@@ -188,13 +192,19 @@ static HALTED: [(Step, Answer, Option<u64>); 15] = [
 
 // A pending transfer halts the bay, and the connection goes out.
 static HALTED_BY_PENDING: [(Step, Answer, Option<u64>); 6] = [
-    (Attach, Done(Fine), None),
+    (Attach(0), Done(Fine), None),
     (Read, Done(Fine), None),
     (Pend, Done(EndOfFile), None),
     (Pend, Skipped(EndOfFile), None),
     (LookAt, Done(Fine), Some(2)),
     (Detach, Done(Fine), Some(0)),
 ];
+
+/// Carries out a job, and answers what the bay answers, and what the job brings back.
+fn done<F: FileStore>(bay: &mut Bay<F>, mut job: Job<F>) -> (Result<Answer, Stop>, Option<u64>) {
+    let answer = bay.perform(&mut job);
+    (answer, brings(&job))
+}
 
 /// The number of the first row that comes to something else.
 fn differs(
@@ -203,9 +213,7 @@ fn differs(
 ) -> Result<Option<usize>, OpenFault> {
     let mut bay = Bay::empty(alloc);
     for (number, (step, answer, brought)) in rows.iter().enumerate() {
-        let mut job = job_of(alloc, *step)?;
-        let got = bay.perform(&mut job)?;
-        if got != *answer || brings(&job) != *brought {
+        if done(&mut bay, job_of(alloc, *step)?) != (Ok(*answer), *brought) {
             return Ok(Some(number));
         }
     }
@@ -221,52 +229,49 @@ fn jobs_on_empty_full_and_halted_bays(rt: HostRuntime) -> Result<(), Fail> {
     Ok(())
 }
 
-/// Whether the job meets the failure of the first call on the file, how many faults the bay has then, and whether it still
+/// What steps come to: whether all but the last are fine, what the last answers, how many faults the bay has then, and whether it still
 /// has its connection.
-fn stops(alloc: Global, step: Step) -> Result<(bool, u64, bool), OpenFault> {
+type Came = (bool, Result<Answer, Stop>, u64, bool);
+
+fn come_to(alloc: Global, steps: &[Step]) -> Result<Came, OpenFault> {
     let mut bay = Bay::empty(alloc);
-    let mut first = Job::Attach(Some(connection(alloc, 1)?));
-    bay.perform(&mut first)?;
-    let mut job = job_of(alloc, step)?;
-    let failed = bay.perform(&mut job) == Err(Stop::Failed);
+    let mut fine = true;
+    let mut last = Ok(Done(Fine));
+    for step in steps {
+        fine &= last == Ok(Done(Fine));
+        (last, _) = done(&mut bay, job_of(alloc, *step)?);
+    }
     let faults = bay.faults();
-    Ok((failed, faults, bay.into_connection().is_some()))
+    Ok((fine, last, faults, bay.into_connection().is_some()))
 }
 
+// The first call on the file fails, if there is one.
 #[test]
 fn stops_keep_the_connection(rt: HostRuntime) -> Result<(), Fail> {
     for step in [Read, Go(Positioning::Endfile)] {
-        assert_eq!(rt; stops(rt.alloc(), step), Ok((true, 1, true)));
+        let came = come_to(rt.alloc(), &[Attach(1), step]);
+        assert!(rt; came == Ok((true, Err(Stop::Failed), 1, true)));
     }
-    for step in [LookAt, Flush, Change, Resume, Attach] {
-        assert_eq!(rt; stops(rt.alloc(), step), Ok((false, 0, true)));
+    for (step, condition) in [
+        (LookAt, Fine),
+        (Flush, Fine),
+        (Change, Fine),
+        (Resume, Fine),
+        (Attach(0), Error(7)),
+    ] {
+        let came = come_to(rt.alloc(), &[Attach(1), step]);
+        assert!(rt; came == Ok((true, Ok(Done(condition)), 0, true)));
     }
     Ok(())
 }
 
-/// A record is left open, and the connection goes out, where a call on the file fails: whether the first job was carried out and the
-/// second met the failure; how many faults the bay has then, and whether it still has its connection.
-fn leaves_open(alloc: Global, fails: u64) -> Result<(bool, u64, bool), OpenFault> {
-    let mut bay = Bay::empty(alloc);
-    let mut first = Job::Attach(Some(connection(alloc, fails)?));
-    bay.perform(&mut first)?;
-    let mut open = Job::Move(transfer(alloc, 0, false, false, b"('b')")?);
-    let begun = bay.perform(&mut open) == Ok(Done(Fine));
-    let mut last = Job::Detach(None);
-    let stopped = bay.perform(&mut last) == Err(Stop::Failed);
-    let faults = bay.faults();
-    Ok((begun && stopped, faults, bay.into_connection().is_some()))
-}
-
+// A record is left open, and a call on the file fails where the connection goes out.
 #[test]
 fn a_stop_keeps_the_connection_of_an_open_record(rt: HostRuntime) -> Result<(), Fail> {
     let mut met: u32 = 0;
     for fails in [1, 2, 3, 4] {
-        let (stopped, faults, has_connection) = match leaves_open(rt.alloc(), fails) {
-            Ok(found) => found,
-            Err(_) => (false, 0, false),
-        };
-        if stopped {
+        let came = come_to(rt.alloc(), &[Attach(fails), Open, Detach]);
+        if let Ok((true, Err(Stop::Failed), faults, has_connection)) = came {
             met = met.saturating_add(1);
             assert_eq!(rt; (faults, has_connection), (1, true));
         }
