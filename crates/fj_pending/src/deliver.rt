@@ -10,7 +10,7 @@ ghost use Rattle.fj_plain.specs.Telling.{count_for, graver, with_input, with_inp
 ghost use Rattle.fj_plain.specs.Telling as telling;
 ghost use Rattle.fj_pending.specs.Plain.{entry_of, entries, tells_of};
 ghost use Rattle.fj_pending.specs.Fits.{fits, fits_cell};
-ghost use Rattle.fj_pending.specs.Fitting.{IsTellable};
+ghost use Rattle.fj_pending.specs.Fitting.{CountFits, GaveFitting, IsTellable};
 
 use crate::held::Held;
 use crate::lost::Lost;
@@ -115,6 +115,7 @@ fn give_size(
     ensures values { OnOk result (values_of store.new ≡ with_size variables.now size count (values_of store.old)) }
     ensures kinds { store.new.kinds ≡ store.old.kinds }
     ensures fits { IfSome size (IsIntegerPlace variables.now) → result ≢ Err Lost.Unfit }
+    ensures fitted { OnOk result (CountFits variables.now size count) }
 {
     let Some(place) = size else {
         return Ok(());
@@ -138,6 +139,8 @@ fn give(
     ensures values { OnOk result (values_of store.new ≡ with_size variables.now size transfer.count (given_back transfer.moved.cells (values_of store.old))) }
     ensures kinds { store.new.kinds ≡ store.old.kinds }
     ensures fits { All (λ cell. fits_cell variables.now cell ≡ true) transfer.moved.cells → IfSome size (IsIntegerPlace variables.now) → result ≢ Err Lost.Unfit }
+    ensures cells { OnOk result (All (λ cell. fits_cell variables.now cell ≡ true) transfer.moved.cells) }
+    ensures size { OnOk result (CountFits variables.now size transfer.count) }
 {
     if !load_fits(variables, &transfer.moved) {
         return Err(Lost::Unfit);
@@ -153,6 +156,7 @@ fn give_told(variables: &[Variable], store: &mut Store, held: Held) -> Result<()
     ensures values { OnOk result (values_of store.new ≡ with_input variables.now (entry_of held) (values_of store.old)) }
     ensures kinds { store.new.kinds ≡ store.old.kinds }
     ensures fits { IsTellable variables.now (entry_of held) → result ≢ Err Lost.Unfit }
+    ensures fitted { OnOk result (GaveFitting variables.now (entry_of held)) }
 {
     let Held {
         input,
@@ -201,6 +205,7 @@ fn deliver_one(
     ensures kinds { store.new.kinds ≡ store.old.kinds }
     ensures tells { OnOk result (tells_of tells.new ≡ tells_of tells.old ++ telling.tell_of line (entry_of held) ∷ []) }
     ensures fits { IsTellable variables.now (entry_of held) → result ≢ Err Lost.Unfit }
+    ensures fitted { OnOk result (GaveFitting variables.now (entry_of held)) }
 {
     let condition = condition_of(&held);
     let tell = Tell {
@@ -228,6 +233,7 @@ pub(crate) fn deliver(
     ensures kinds { store.new.kinds ≡ store.old.kinds }
     ensures tells { OnOk result (tells_of tells.new ≡ tells_of tells.old ++ map (telling.tell_of line) (entries told.items)) }
     ensures fits { All (IsTellable variables.now) (entries told.items) → result ≢ Err Lost.Unfit }
+    ensures fitted { OnOk result (All (GaveFitting variables.now) (entries told.items)) }
 {
     let mut left = told;
     tells.reserve(left.len())?;

@@ -13,7 +13,7 @@ ghost use Rattle.fj_desk.specs.Desks.{most_slots};
 ghost use Rattle.fj_turns.specs.Turns.{is_at, unsettled, with_answer};
 ghost use Rattle.fj_pending.specs.Plain.{held, entries, holders, outcome_of, tells_of};
 ghost use Rattle.fj_pending.specs.Busy.{AreBusy};
-ghost use Rattle.fj_pending.specs.Fitting.{IsNext, IsTellable};
+ghost use Rattle.fj_pending.specs.Fitting.{GaveFitting, IsNext, IsTellable};
 ghost use Rattle.fj_pending.specs.Taking.{LeavesSome};
 ghost use Rattle.fj_pending.specs.Tied.{IsAscending, IsMarked, entered_marks, answered_marks};
 ghost use Rattle.fj_pending.specs.Waits.{waited_of, IsPassed, is_due, is_cause};
@@ -371,6 +371,7 @@ impl Pendings {
         ensures tells { OnOk result (tells_of tells.new ≡ tells_of tells.old ++ map (telling.tell_of line) (waited_of whose (entries self.old))) }
         ensures some { LeavesSome self.old self.new }
         ensures fits { All (IsTellable variables.now) (waited_of whose (entries self.old)) → result ≢ Err Lost.Unfit }
+        ensures fitted { OnOk result (All (GaveFitting variables.now) (waited_of whose (entries self.old))) }
     {
         let pick = picked(&self.helds, whose);
         let told = take_picked(alloc, &mut self.helds, &self.busy, pick)?;

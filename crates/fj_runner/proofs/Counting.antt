@@ -15,6 +15,7 @@ use Rattle.fj_world.specs.Conduct.{IsDueAsk, IsSettling, owed_after_settle, owed
 use Rattle.fj_world.specs.declared.ask.Ask.{Ask}
 use Rattle.fj_world.specs.declared.ask.Ask.TheVariants as ask
 use Rattle.fj_units.specs.Having.{HaveFiles}
+use Rattle.fj_acts.specs.Fitting.{IsKept}
 use Rattle.fj_acts.specs.Having.{HaveThen}
 use Rattle.fj_acts.specs.declared.doing.Then.{Then}
 use Rattle.fj_runner.specs.Admitting.{MayAsk}
@@ -37,6 +38,7 @@ use Rattle.fj_acts.specs.declared.doing.Given.{Given}
 use Rattle.fj_acts.specs.declared.doing.Given.TheVariants as given
 use Rattle.fj_acts.specs.declared.state.Core.{Core}
 use Rattle.fj_items.specs.declared.lost.Lost.{Lost}
+use Rattle.fj_runner.proofs.Keeping.{kept_as}
 use Rattle.fj_runner.proofs.Numbering.{equal_by}
 
 -- ---- one more at a slot
@@ -78,9 +80,16 @@ have_start s names us what is have = subst (λ x. HaveAt x names us what) (sym i
 pub files_at : {F : Type 0} → (s : Stage F) (names : List (List ℕ)) (us : List Connected) (what : Statement) → s ≡ stage.Start → HaveAt s names us what → HaveFiles names us
 files_at s names us what is have = subst (λ x. HaveAt x names us what) is have
 
+-- ---- variables are as they are declared
+
+kept_in : {F : Type 0} {ghosts : Ghosts F} → (m m' : Machine F ghosts) → m'.deck ≡ m.deck → m'.state ≡ m.state → IsKept m.deck.variables m.state.core → IsKept m'.deck.variables m'.state.core
+kept_in {F = F} {ghosts = ghosts} m m' deck same kept =
+    subst (λ d. IsKept d.variables m'.state.core) (sym deck) (subst (λ (x : State F ghosts). IsKept m.deck.variables x.core) (sym same) kept)
+
 -- ---- a turn was taken
 
-module _ {F : Type 0} {ghosts : Ghosts F} (m : Machine F ghosts) (s : State F ghosts) (st : Stated) (more : List Stated) (few : s.ending ≡ None → s.core.next ≤ m.at + 1) where
+module _ {F : Type 0} {ghosts : Ghosts F} (m : Machine F ghosts) (s : State F ghosts) (st : Stated) (more : List Stated) (few : s.ending ≡ None → s.core.next ≤ m.at + 1)
+    (kept : IsKept m.deck.variables m.state.core) where
   at_hand : (st' : Stated) (more' : List Stated) → rest_of m ≡ st ∷ more → rest_of m ≡ st' ∷ more' → st ≡ st'
   at_hand st' more' here e = let both : st ∷ more ≡ st' ∷ more' = sym here ∙ e in cc
 
@@ -88,22 +97,25 @@ module _ {F : Type 0} {ghosts : Ghosts F} (m : Machine F ghosts) (s : State F gh
   on_paused a here have counts = record {
     files = λ st' more' e. subst (λ (x : Stated). HaveAt m.state.stage m.state.core.names m.state.core.units x.0.what) (at_hand st' more' here e) have;
     few = λ none. let f = few (sym counts.2 ∙ none) in omega (arith, f, counts.0);
+    kept = kept;
   }
 
   pub on_stopped : (have : (m.state.stage ≡ stage.Start) × HaveFiles m.state.core.names m.state.core.units) → IsSome m.state.ending → IsAt m
   on_stopped have ended = record {
     files = λ st' more' e. have_start m.state.stage m.state.core.names m.state.core.units st'.0.what have.0 have.1;
     few = λ none. absurd (let z : false ≡ true = sym (ap is_some none) ∙ ended in let bad : ⊥ = cc in bad);
+    kept = kept;
   }
 
-  pub on_passed : (m' : Machine F ghosts) → m'.state ≡ m.state → m'.at ≡ m.at + 1 → (m.state.stage ≡ stage.Start) × HaveFiles m.state.core.names m.state.core.units
+  pub on_passed : (m' : Machine F ghosts) → m'.state ≡ m.state → m'.deck ≡ m.deck → m'.at ≡ m.at + 1 → (m.state.stage ≡ stage.Start) × HaveFiles m.state.core.names m.state.core.units
       → m.state.core.next ≤ s.core.next + 1 → m.state.ending ≡ s.ending → IsAt m'
-  on_passed m' same at have next ending = record {
+  on_passed m' same deck at have next ending = record {
     files = λ st' more' e. subst (λ (x : State F ghosts). HaveAt x.stage x.core.names x.core.units st'.0.what) (sym same) (have_start m.state.stage m.state.core.names m.state.core.units st'.0.what have.0 have.1);
     few = λ none.
         let f = few (sym ending ∙ ap (λ (x : State F ghosts). x.ending) (sym same) ∙ none) in
         let n : m'.state.core.next ≡ m.state.core.next = ap (λ (x : State F ghosts). x.core.next) same in
         omega (arith, f, next, n, at);
+    kept = kept_in m m' deck same kept;
   }
 
 -- one that does not pause gives no job
@@ -135,6 +147,7 @@ on_same {F = F} {ghosts = ghosts} m m' deck at same on =
           let f = on.few (ap (λ (x : State F ghosts). x.ending) (sym same) ∙ none) in
           let n : m'.state.core.next ≡ m.state.core.next = ap (λ (x : State F ghosts). x.core.next) same in
           omega (arith, f, n, at);
+      kept = kept_in m m' deck same on.kept;
     }
 
 -- ---- counts
@@ -300,6 +313,7 @@ module _ {F : Type 0} {ghosts : Ghosts F} (m m' : Machine F ghosts) (g : IsGoing
         at = record {
           files = λ st more e. h.files st.0.what (g.at.files st more (sym rest ∙ e));
           few = λ none. let f = g.at.few (sym h.ending ∙ none) in omega (arith, f, h.next, at);
+          kept = subst (λ d. IsKept d.variables m'.state.core) (sym deck) (kept_as m.deck.variables m.state.core m'.state.core h.store h.output g.at.kept);
         };
         sent = subst (CanCount m'.state.sent.items m'.tally.left) (sym (none_idle m'.tally.hand idle))
             (subst (λ l. CanCount l.items m'.tally.left 0) (sym h.sent) (can_less m.state.sent.items m.tally.left m'.tally.left m.tally.hand less g.sent));

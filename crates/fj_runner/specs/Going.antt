@@ -9,6 +9,7 @@ use Rattle.fj_desk.specs.Desks.{most_slots}
 use Rattle.fj_units.specs.Having.{HaveFiles}
 use Rattle.fj_world.specs.declared.ask.Ask.{Ask}
 use Rattle.fj_world.specs.declared.ask.Ask.TheVariants as ask
+use Rattle.fj_acts.specs.Fitting.{IsKept}
 use Rattle.fj_acts.specs.Having.{HaveThen}
 use Rattle.fj_runner.specs.Machine.{rest_of}
 use Rattle.fj_runner.specs.Passing.{is_waiting}
@@ -83,6 +84,8 @@ pub record Hears {F : Type 0} {ghosts : Ghosts F} (s s' : State F ghosts) : Type
   pub next : s'.core.next ≡ s.core.next
   pub ending : s'.ending ≡ s.ending
   pub sent : s'.sent ≡ s.sent
+  pub store : s'.core.store ≡ s.core.store
+  pub output : s'.core.output ≡ s.core.output
   -- one more was told
   pub told : IsMore s.due s.told.items s'.told.items
 
@@ -102,15 +105,17 @@ AwaitsAtHand _ s = Unit {0}
 
 -- ---- a run
 
--- At a statement: the units have the files that are out, and each statement behind had one identifier at most.
+-- At a statement: the units have the files that are out, each statement behind had one identifier at most, variables are as they are
+-- declared, and the record of `*` is within its limit.
 pub record IsAt {F : Type 0} {ghosts : Ghosts F} (m : Machine F ghosts) : Type 0 where
   pub files : (st : Stated) (more : List Stated) → rest_of m ≡ st ∷ more → HaveAt m.state.stage m.state.core.names m.state.core.units st.0.what
   pub few : m.state.ending ≡ None → m.state.core.next ≤ m.at + 1
+  pub kept : IsKept m.deck.variables m.state.core
 
 -- what follows from a turn of the statement at hand that brought the state here
 abbrev pub FromTurn : {F : Type 0} {ghosts : Ghosts F} → Machine F ghosts → Turned F → Type 0 → Type 0
 FromTurn {F} {ghosts} m t P = (s : State F ghosts) (st : Stated) (more : List Stated) → rest_of m ≡ st ∷ more → HaveTurned t m.state st.0.what → Counts t s m.state
-    → (s.ending ≡ None → s.core.next ≤ m.at + 1) → P
+    → (s.ending ≡ None → s.core.next ≤ m.at + 1) → IsKept m.deck.variables m.state.core → P
 
 -- and from where it began
 abbrev pub SinceTurn : {F : Type 0} {ghosts : Ghosts F} → Machine F ghosts → Turned F → (State F ghosts → Type 0) → Type 0

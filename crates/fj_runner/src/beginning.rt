@@ -1,5 +1,5 @@
 // How a statement begins: prohibitions, then the transfers that it waits for are settled and told.
-ghost use Rattle.std.specs.Prelude.{◌≡◌, ◌≢◌, ◌<◌, List, ◌∷◌, ◌++◌, not, map, filter, get_or, true, Some, IfOk, OnOk};
+ghost use Rattle.std.specs.Prelude.{◌≡◌, ◌≢◌, ◌<◌, List, ◌∷◌, ◌++◌, not, map, filter, get_or, true, All, Some, Err, IfOk, OnOk};
 ghost use Rattle.fj_items.specs.Kinds.{kinds_of};
 ghost use Rattle.fj_store.specs.Storage.{values_of};
 ghost use Rattle.fj_plain.specs.State.{Entry, Files};
@@ -18,6 +18,7 @@ ghost use Rattle.fj_pending.specs.Taking.{LeavesSome};
 ghost use Rattle.fj_pending.specs.Waits.{waited_of};
 ghost use Rattle.fj_units.specs.Names.{AreInUse};
 ghost use Rattle.fj_acts.specs.Calling.{calls_disk};
+ghost use Rattle.fj_acts.specs.Fitting.{IsKept};
 ghost use Rattle.fj_acts.specs.State.{core_of};
 ghost use Rattle.fj_units.specs.Files.{files_of};
 ghost use Rattle.fj_runner.specs.Machine.{run_in, stage_of};
@@ -28,7 +29,9 @@ ghost use Rattle.fj_runner.specs.Stepping.{Keeps, Steps};
 ghost use Rattle.fj_runner.specs.Failing.{FailsTurn, FailsStage};
 ghost use Rattle.fj_runner.specs.Closing.{may_be_at};
 ghost use Rattle.fj_units.specs.Having.{HaveFiles};
-ghost use Rattle.fj_runner.specs.Fitting.{HasRoom};
+ghost use Rattle.fj_statement.specs.Sound.{IsSoundStatement};
+ghost use Rattle.fj_pending.specs.Fitting.{IsTellable};
+ghost use Rattle.fj_runner.specs.Fitting.{FitsTelling, HasRoom};
 ghost use Rattle.fj_runner.specs.Going.{Counts, HaveAt, HaveTurned};
 
 use crate::ending::Ending;
@@ -78,6 +81,8 @@ fn tell_all(
     ensures next { core.new.next ≡ core.old.next }
     ensures units { core.new.units ≡ core.old.units }
     ensures keeps { Keeps core.old result core.new }
+    ensures holds { IsKept variables.now core.old → OnOk result (IsKept variables.now core.new) }
+    ensures fits { All (IsTellable variables.now) (waited_of whose (entries core.old.pending)) → result ≢ Err Lost.Unfit }
 {
     let told = core.pending.tell(
         alloc,
@@ -115,6 +120,9 @@ impl<F: FileStore> State<F> {
         ensures steps { Steps W.tells W.taken W.count D.tells D.held D.count D.refusals out.old disk.old self.old.core result out.new disk.new self.new.core }
         ensures files { HaveFiles self.old.core.names self.old.core.units → IfOk result (λ t. HaveTurned t self.new lined.now.what) }
         ensures counts { IfOk result (λ t. Counts t self.old self.new) }
+        ensures holds { IsKept variables.now self.old.core → OnOk result (IsKept variables.now self.new.core) }
+        ensures fits { IsSoundStatement variables.now lined.now.what → HaveFiles self.old.core.names self.old.core.units → IsKept variables.now self.old.core
+            → FitsTelling variables.now lined.now.what (waited_of whose (entries self.old.core.pending)) (values_of self.old.core.store) → result ≢ Err Lost.Unfit }
         ensures heard { self.new.told ≡ self.old.told }
         ensures fails { D.tells disk.old → (more : List Stated) (stage : PlainStage)
             → FailsTurn W.tells W.taken out.old self.old.core result out.new self.new.core (D.held disk.new) (D.refusals disk.old) (D.refusals disk.new)
@@ -186,6 +194,9 @@ impl<F: FileStore> State<F> {
         ensures steps { Steps W.tells W.taken W.count D.tells D.held D.count D.refusals out.old disk.old self.old.core result out.new disk.new self.new.core }
         ensures files { HaveFiles self.old.core.names self.old.core.units → IfOk result (λ t. HaveTurned t self.new lined.now.what) }
         ensures counts { IfOk result (λ t. Counts t self.old self.new) }
+        ensures holds { IsKept variables.now self.old.core → OnOk result (IsKept variables.now self.new.core) }
+        ensures fits { IsSoundStatement variables.now lined.now.what → HaveFiles self.old.core.names self.old.core.units → IsKept variables.now self.old.core
+            → FitsTelling variables.now lined.now.what (waited_of whose (entries self.old.core.pending)) (values_of self.old.core.store) → result ≢ Err Lost.Unfit }
         ensures heard { self.new.told ≡ self.old.told }
         ensures fails { D.tells disk.old → (more : List Stated) (stage : PlainStage)
             → FailsStage W.tells W.taken out.old self.old.core result out.new self.new.core (D.held disk.new) (D.refusals disk.old) (D.refusals disk.new) (lined.now, control_by lined.now.what) Waiting
@@ -221,6 +232,9 @@ impl<F: FileStore> State<F> {
         ensures steps { Steps W.tells W.taken W.count D.tells D.held D.count D.refusals out.old disk.old self.old.core result out.new disk.new self.new.core }
         ensures files { HaveFiles self.old.core.names self.old.core.units → IfOk result (λ t. HaveTurned t self.new lined.now.what) }
         ensures counts { IfOk result (λ t. Counts t self.old self.new) }
+        ensures holds { IsKept variables.now self.old.core → OnOk result (IsKept variables.now self.new.core) }
+        ensures fits { IsSoundStatement variables.now lined.now.what → HaveFiles self.old.core.names self.old.core.units → IsKept variables.now self.old.core
+            → FitsTelling variables.now lined.now.what (waited_in (entries self.old.core.pending) (values_of self.old.core.store) lined.now.what) (values_of self.old.core.store) → result ≢ Err Lost.Unfit }
         ensures heard { self.new.told ≡ self.old.told }
         ensures fails { D.tells disk.old → (more : List Stated) (stage : PlainStage)
             → FailsStage W.tells W.taken out.old self.old.core result out.new self.new.core (D.held disk.new) (D.refusals disk.old) (D.refusals disk.new) (lined.now, control_by lined.now.what) Waiting
@@ -253,6 +267,9 @@ impl<F: FileStore> State<F> {
         ensures steps { Steps W.tells W.taken W.count D.tells D.held D.count D.refusals out.old disk.old self.old.core result out.new disk.new self.new.core }
         ensures files { HaveFiles self.old.core.names self.old.core.units → IfOk result (λ t. HaveTurned t self.new lined.now.what) }
         ensures counts { IfOk result (λ t. Counts t self.old self.new) }
+        ensures holds { IsKept variables.now self.old.core → OnOk result (IsKept variables.now self.new.core) }
+        ensures fits { IsSoundStatement variables.now lined.now.what → HaveFiles self.old.core.names self.old.core.units → IsKept variables.now self.old.core
+            → FitsTelling variables.now lined.now.what (waited_in (entries self.old.core.pending) (values_of self.old.core.store) lined.now.what) (values_of self.old.core.store) → result ≢ Err Lost.Unfit }
         ensures heard { self.new.told ≡ self.old.told }
         ensures fails { D.tells disk.old → (more : List Stated) (stage : PlainStage)
             → FailsStage W.tells W.taken out.old self.old.core result out.new self.new.core (D.held disk.new) (D.refusals disk.old) (D.refusals disk.new) (lined.now, control_by lined.now.what) Start

@@ -1,11 +1,12 @@
 // A statement goes on from its stage.
-ghost use Rattle.std.specs.Prelude.{◌≡◌, ◌≢◌, ◌+◌, ◌<◌, ◌^◌, List, ◌∷◌, true, Some, IfOk, Err};
+ghost use Rattle.std.specs.Prelude.{◌≡◌, ◌≢◌, ◌+◌, ◌<◌, ◌^◌, List, ◌∷◌, true, Some, IfOk, OnOk, Err};
 ghost use Rattle.fj_statement.specs.Sound.{IsSoundStatement};
 ghost use Rattle.fj_items.specs.Kinds.{kinds_of};
 ghost use Rattle.fj_plain.specs.Statement.{Stated, control_by};
 ghost use Rattle.fj_turns.specs.Run.{Stage as PlainStage};
 ghost use Rattle.fj_turns.specs.Turns as turns;
 ghost use Rattle.fj_units.specs.Names.{AreInUse};
+ghost use Rattle.fj_acts.specs.Fitting.{IsKept};
 ghost use Rattle.fj_acts.specs.State.{core_of};
 ghost use Rattle.fj_units.specs.Files.{files_of};
 ghost use Rattle.fj_runner.specs.Machine.{run_in, stage_of};
@@ -47,7 +48,8 @@ impl<F: FileStore> State<F> {
             (run_in variables.now ((lined.now, control_by lined.now.what) ∷ more) (files_of (D.held disk.old)) self.old stage))) }
         ensures steps { Steps W.tells W.taken W.count D.tells D.held D.count D.refusals out.old disk.old self.old.core result out.new disk.new self.new.core }
         ensures fits { IsSoundStatement variables.now lined.now.what → HaveAt self.old.stage self.old.core.names self.old.core.units lined.now.what → self.old.core.next + 1 < 2 ^ 32
-            → FitsStage variables.now lined.now.what self.old.core self.old.stage → result ≢ Err Lost.Unfit }
+            → IsKept variables.now self.old.core → FitsStage variables.now lined.now.what self.old.core self.old.stage → result ≢ Err Lost.Unfit }
+        ensures holds { IsKept variables.now self.old.core → OnOk result (IsKept variables.now self.new.core) }
         ensures files { HaveAt self.old.stage self.old.core.names self.old.core.units lined.now.what → IfOk result (λ t. HaveTurned t self.new lined.now.what) }
         ensures counts { IfOk result (λ t. Counts t self.old self.new) }
         ensures heard { self.new.told ≡ self.old.told }

@@ -1,5 +1,5 @@
 // The turns of a statement once its transfers are told: each comes to an ask, passes on to the next statement, or stops at an ending.
-ghost use Rattle.std.specs.Prelude.{◌≡◌, ◌≢◌, ◌<◌, ◌+◌, ◌^◌, ℕ, List, ◌∷◌, true, Some, Err, IfOk, drop, map, get_or};
+ghost use Rattle.std.specs.Prelude.{◌≡◌, ◌≢◌, ◌<◌, ◌+◌, ◌^◌, ℕ, List, ◌∷◌, true, Some, Err, IfOk, OnOk, drop, map, get_or};
 ghost use Rattle.fj_statement.specs.declared.deck.Variable.{Variable};
 ghost use Rattle.fj_statement.specs.Sound.{IsSoundStatement};
 ghost use Rattle.fj_value.specs.declared.condition.Condition.TheVariants.{Fine};
@@ -18,7 +18,7 @@ ghost use Rattle.fj_turns.specs.Turns.{submits, turn_finish, turn_act, matched, 
 ghost use Rattle.fj_pending.specs.Plain.{held, tells_of};
 ghost use Rattle.fj_acts.specs.Calling.{calls_disk, may_do};
 ghost use Rattle.fj_acts.specs.Doing.{IsDoing};
-ghost use Rattle.fj_acts.specs.Fitting.{Meets};
+ghost use Rattle.fj_acts.specs.Fitting.{IsKept, Meets};
 ghost use Rattle.fj_acts.specs.Placing.{IsPlaced};
 ghost use Rattle.fj_units.specs.Names.{AreInUse};
 ghost use Rattle.fj_acts.specs.State.{core_of};
@@ -100,6 +100,7 @@ impl<F: FileStore> State<F> {
             (record (run_in variables.now ((lined.now, control_by lined.now.what) ∷ more) files self.old stage) { core = core; book = book }))) }
         ensures keeps { Keeps self.old.core result self.new.core }
         ensures fits { IsSoundStatement variables.now lined.now.what → result ≢ Err Lost.Unfit }
+        ensures holds { IsKept variables.now self.old.core → OnOk result (IsKept variables.now self.new.core) }
         ensures start { self.new.stage ≡ Stage.Start }
         ensures files { HaveFiles self.old.core.names self.old.core.units → IfOk result (λ t. HaveTurned t self.new lined.now.what) }
         ensures counts { IfOk result (λ t. Counts t self.old self.new) }
@@ -146,6 +147,7 @@ impl<F: FileStore> State<F> {
         ensures fits { IsSoundStatement variables.now lined.now.what → result ≢ Err Lost.Unfit }
         ensures files { HaveNext doing self.old.core.names self.old.core.units lined.now.what → IfOk result (λ t. HaveTurned t self.new lined.now.what) }
         ensures counts { IfOk result (λ t. Counts t self.old self.new) }
+        ensures holds { IsKept variables.now self.old.core → OnOk result (IsKept variables.now self.new.core) }
         ensures ends { Ends doing → IfOk result DoesNotPause }
         ensures next { self.new.core.next ≡ self.old.core.next }
         ensures heard { self.new.told ≡ self.old.told }
@@ -189,6 +191,7 @@ impl<F: FileStore> State<F> {
         ensures steps { Steps W.tells W.taken W.count D.tells D.held D.count D.refusals out.old disk.old self.old.core result out.new disk.new self.new.core }
         ensures fits { IsSoundStatement variables.now lined.now.what → HaveFiles self.old.core.names self.old.core.units
             → (condition ≡ Fine → Meets variables.now self.old.core lined.now.what) → result ≢ Err Lost.Unfit }
+        ensures holds { IsKept variables.now self.old.core → OnOk result (IsKept variables.now self.new.core) }
         ensures files { HaveFiles self.old.core.names self.old.core.units → IfOk result (λ t. HaveTurned t self.new lined.now.what) }
         ensures counts { IfOk result (λ t. Counts t self.old self.new) }
         ensures heard { self.new.told ≡ self.old.told }

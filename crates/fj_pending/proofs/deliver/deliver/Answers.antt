@@ -1,10 +1,10 @@
 use Rattle.std.proofs.Common.{◌≡◌, [], ◌∷◌, ◌++◌, map, append_assoc, All, subst, sym, ap, ◌∙◌}
-use Rattle.std.proofs.lemmas.List.Elements.{All-head, All-tail}
+use Rattle.std.proofs.lemmas.List.Elements.{All-cons, All-head, All-tail}
 use Rattle.std.proofs.lemmas.Result.{err_from_is_err_and}
 use Rattle.fj_store.specs.Storage.{values_of}
 use Rattle.fj_plain.specs.Telling.{with_inputs, condition_of, graver, tell_of}
 use Rattle.fj_pending.specs.declared.lost.Lost.TheVariants.{Unfit}
-use Rattle.fj_pending.specs.Fitting.{IsTellable}
+use Rattle.fj_pending.specs.Fitting.{GaveFitting, IsTellable}
 use Rattle.fj_pending.specs.Plain.{entry_of, entries, tells_of}
 use Rattle.fj_pending.proofs.Fitting.{never_passed}
 use Rattle.fj_pending.proofs.Giving.{graver_joins}
@@ -15,6 +15,8 @@ loop-held-preserved c =
     let popped : c.loop-held.left.items ≡ c.in-Some.held ∷ c.pop_front.new.self.items = c.in-Some.ensures.items in
     record {
       fits = λ all. All-tail (IsTellable c.args.variables.now) (entry_of c.in-Some.held) (entries c.pop_front.new.self.items) (subst (λ l. All (IsTellable c.args.variables.now) (entries l)) popped (c.loop-held.invariant.fits all));
+      fitted = λ rest. c.loop-held.invariant.fitted (subst (λ l. All (GaveFitting c.args.variables.now) (entries l)) (sym popped)
+          (All-cons (GaveFitting c.args.variables.now) (entry_of c.in-Some.held) (entries c.pop_front.new.self.items) c.in_ok-next.ensures.fitted rest));
       kinds = c.in_ok-next.ensures.kinds ∙ c.loop-held.invariant.kinds;
       values = ap (with_inputs c.args.variables.now (entries c.pop_front.new.self.items)) c.in_ok-next.ensures.values
           ∙ ap (λ l. with_inputs c.args.variables.now (entries l) (values_of c.loop-held.store)) (sym popped) ∙ c.loop-held.invariant.values;

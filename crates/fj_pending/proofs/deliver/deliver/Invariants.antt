@@ -1,7 +1,7 @@
 use Rattle.std.proofs.Common.{◌≡◌, ◌++◌, map, length, All}
 use Rattle.fj_store.specs.Storage.{values_of}
 use Rattle.fj_plain.specs.Telling.{with_inputs, condition_of, graver, tell_of}
-use Rattle.fj_pending.specs.Fitting.{IsTellable}
+use Rattle.fj_pending.specs.Fitting.{GaveFitting, IsTellable}
 use Rattle.fj_pending.specs.Plain.{entries, tells_of}
 use Rattle.fj_pending.proofs.deliver.deliver.Given as goal
 
@@ -11,6 +11,7 @@ invariant-loop-held l = record {
   kinds : l.store.kinds ≡ l.initial.store.kinds;
   values : with_inputs l.variables (entries l.left.items) (values_of l.store) ≡ with_inputs l.variables (entries l.initial.left.items) (values_of l.initial.store);
   fits : All (IsTellable l.variables) (entries l.initial.left.items) → All (IsTellable l.variables) (entries l.left.items);
+  fitted : All (GaveFitting l.variables) (entries l.left.items) → All (GaveFitting l.variables) (entries l.initial.left.items);
   condition : graver l.condition (condition_of (entries l.left.items)) ≡ condition_of (entries l.initial.left.items);
   tells : tells_of l.tells ++ map (tell_of l.line) (entries l.left.items) ≡ tells_of l.initial.tells ++ map (tell_of l.line) (entries l.initial.left.items);
 }

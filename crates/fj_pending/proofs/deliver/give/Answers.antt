@@ -1,10 +1,11 @@
-use Rattle.std.proofs.Common.{◌≡◌, true, false, OnOk, subst, sym, ap, ◌∙◌, rules}
+use Rattle.std.proofs.Common.{◌≡◌, true, false, All, OnOk, subst, sym, ap, ◌∙◌, rules}
 use Rattle.std.specs.List.{list_all}
 use Rattle.fj_store.specs.Storage.{values_of}
 use Rattle.fj_store.specs.Variables.{given_back}
 use Rattle.fj_plain.specs.Telling.{with_size}
 use Rattle.fj_pending.specs.Fits.{fits_cell}
-use Rattle.fj_pending.proofs.Fitting.{all_pass}
+use Rattle.fj_pending.specs.Fitting.{CountFits}
+use Rattle.fj_pending.proofs.Fitting.{all_pass, all_passed, ok_one}
 use Rattle.fj_pending.proofs.Giving.{given_plain}
 use Rattle.fj_pending.proofs.deliver.give.Goals as goal
 
@@ -22,3 +23,11 @@ returns-then-not-load_fits-clause-fits c = λ all _ _.
     let fit : list_all (fits_cell c.args.variables.now) c.args.transfer.moved.cells ≡ true = all_pass (fits_cell c.args.variables.now) c.args.transfer.moved.cells all in
     let never : true ≡ false = sym fit ∙ sym c.load_fits.ensures ∙ none in
     cc
+
+pub returns-clause-cells : goal.returns-clause-cells
+returns-clause-cells c =
+    let variables = c.args.variables.now in
+    let cells = c.args.transfer.moved.cells in
+    let done : c.load_fits.result ≡ true = search rules in
+    let fit : list_all (fits_cell variables) cells ≡ true = sym c.load_fits.ensures ∙ done in
+    ok_one c.give_size.result (CountFits variables c.args.size c.args.transfer.count) (All (λ cell. fits_cell variables cell ≡ true) cells) (λ _. all_passed (fits_cell variables) cells fit) c.give_size.ensures.fitted

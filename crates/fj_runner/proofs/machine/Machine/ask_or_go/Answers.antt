@@ -21,11 +21,11 @@ returns-in-None-clause-fails g c = λ tells t i.
     (c.go.ensures.fails tells)
 
 pub returns-in-Some-clause-on : goal.returns-in-Some-clause-on
-returns-in-Some-clause-on g c = λ s st more here have counts few. c.asked_by.ensures.on s st more here have counts few
+returns-in-Some-clause-on g c = λ s st more here have counts few kept. c.asked_by.ensures.on s st more here have counts few kept
 
 pub returns-in-None-clause-on : goal.returns-in-None-clause-on
-returns-in-None-clause-on g c = λ s st more here have counts few.
-    c.go.ensures.on (c.in-None.ensures.start s st more here have counts few) (c.asked_by.ensures.on s st more here have counts few)
+returns-in-None-clause-on g c = λ s st more here have counts few kept.
+    c.go.ensures.on (c.in-None.ensures.start s st more here have counts few kept) (c.asked_by.ensures.on s st more here have counts few kept)
 
 pub go-requires-clause-room : goal.go-requires-clause-room
 go-requires-clause-room g c = subst (λ s. HasRoom s.sent.items) (sym c.asked_by.ensures.state) (c.requires.room c.in-None.ensures.behind)

@@ -26,9 +26,9 @@ returns-in-Passes-clause-passed g c = λ files t i.
     ap (passed_by more) it.1
 
 pub returns-in-Pauses-clause-on : goal.returns-in-Pauses-clause-on
-returns-in-Pauses-clause-on g c = λ s st more here have counts few.
+returns-in-Pauses-clause-on g c = λ s st more here have counts few kept.
     let m = c.args.self.now in
-    on_paused m s st more few c.in-Pauses.ask here (subst (λ t. HaveTurned t m.state st.0.what) c.in-Pauses.is have) (subst (λ t. Counts t s m.state) c.in-Pauses.is counts)
+    on_paused m s st more few kept c.in-Pauses.ask here (subst (λ t. HaveTurned t m.state st.0.what) c.in-Pauses.is have) (subst (λ t. Counts t s m.state) c.in-Pauses.is counts)
 
 pub returns-in-Pauses-clause-sent : goal.returns-in-Pauses-clause-sent
 returns-in-Pauses-clause-sent g c = λ s counts.
@@ -41,14 +41,14 @@ returns-in-Pauses-clause-slots g c = λ s counts.
     (subst (λ t. Counts t s m.state) c.in-Pauses.is counts).3
 
 pub returns-in-Passes-clause-on : goal.returns-in-Passes-clause-on
-returns-in-Passes-clause-on g c = λ s st more here have counts few.
+returns-in-Passes-clause-on g c = λ s st more here have counts few kept.
     let m = c.args.self.now in
     let at = subst (λ t. HaveTurned t m.state st.0.what) c.in-Passes.is have in
     let more_is = subst (λ t. Counts t s m.state) c.in-Passes.is counts in
-    on_passed m s st more few _ refl refl at more_is.0 more_is.2
+    on_passed m s st more few kept _ refl refl refl at more_is.0 more_is.2
 
 pub returns-in-Passes-clause-start : goal.returns-in-Passes-clause-start
-returns-in-Passes-clause-start g c = λ s st more here have counts few.
+returns-in-Passes-clause-start g c = λ s st more here have counts few kept.
     let m = c.args.self.now in
     (subst (λ t. HaveTurned t m.state st.0.what) c.in-Passes.is have).0
 
@@ -58,9 +58,9 @@ returns-in-Passes-clause-still g c = λ s counts.
     (subst (λ t. Counts t s m.state) c.in-Passes.is counts).1
 
 pub returns-in-Stops-clause-on : goal.returns-in-Stops-clause-on
-returns-in-Stops-clause-on g c = λ s st more here have counts few.
+returns-in-Stops-clause-on g c = λ s st more here have counts few kept.
     let m = c.args.self.now in
-    on_stopped m s st more few (subst (λ t. HaveTurned t m.state st.0.what) c.in-Stops.is have) (subst (λ t. Counts t s m.state) c.in-Stops.is counts).1
+    on_stopped m s st more few kept (subst (λ t. HaveTurned t m.state st.0.what) c.in-Stops.is have) (subst (λ t. Counts t s m.state) c.in-Stops.is counts).1
 
 pub returns-in-Stops-clause-sent : goal.returns-in-Stops-clause-sent
 returns-in-Stops-clause-sent g c = λ s counts.

@@ -82,7 +82,7 @@ returns-in-Ok-clause-on g c = λ start i.
     let st : Stated = (lined, control_by lined.what) in
     let more : List Stated = drop (m.at + 1) (stated m.deck.statements) in
     let h = read_at_hand m.deck.statements c.as_slice.result.now m.at lined c.as_slice.ensures c.requires.at c.index-as_slice-self.is in
-    c.asked_by.ensures.on m.state st more h (c.in-Ok.ensures.files (files_at m.state.stage m.state.core.names m.state.core.units lined.what start (i.files st more h))) c.in-Ok.ensures.counts i.few
+    c.asked_by.ensures.on m.state st more h (c.in-Ok.ensures.files (files_at m.state.stage m.state.core.names m.state.core.units lined.what start (i.files st more h))) c.in-Ok.ensures.counts i.few (c.in-Ok.ensures.holds i.kept)
 
 pub returns-in-Ok-clause-start : goal.returns-in-Ok-clause-start
 returns-in-Ok-clause-start g c = λ start i.
@@ -91,7 +91,7 @@ returns-in-Ok-clause-start g c = λ start i.
     let st : Stated = (lined, control_by lined.what) in
     let more : List Stated = drop (m.at + 1) (stated m.deck.statements) in
     let h = read_at_hand m.deck.statements c.as_slice.result.now m.at lined c.as_slice.ensures c.requires.at c.index-as_slice-self.is in
-    c.asked_by.ensures.start m.state st more h (c.in-Ok.ensures.files (files_at m.state.stage m.state.core.names m.state.core.units lined.what start (i.files st more h))) c.in-Ok.ensures.counts i.few
+    c.asked_by.ensures.start m.state st more h (c.in-Ok.ensures.files (files_at m.state.stage m.state.core.names m.state.core.units lined.what start (i.files st more h))) c.in-Ok.ensures.counts i.few (c.in-Ok.ensures.holds i.kept)
 
 pub returns-in-Ok-clause-sent : goal.returns-in-Ok-clause-sent
 returns-in-Ok-clause-sent g c = c.asked_by.ensures.sent c.args.self.now.state c.in-Ok.ensures.counts

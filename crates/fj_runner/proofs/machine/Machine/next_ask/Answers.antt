@@ -112,7 +112,7 @@ returns-in-Ok-clause-on g c = λ i.
     let more : List Stated = drop (m.at + 1) (stated m.deck.statements) in
     let low : m.at < length m.deck.statements = omega arith in
     let h = read_at_hand m.deck.statements c.as_slice.result.now m.at lined c.as_slice.ensures low c.index-as_slice-self.is in
-    c.ask_or_go.ensures.on m.state st more h (c.in-Ok.ensures.files (i.files st more h)) c.in-Ok.ensures.counts i.few
+    c.ask_or_go.ensures.on m.state st more h (c.in-Ok.ensures.files (i.files st more h)) c.in-Ok.ensures.counts i.few (c.in-Ok.ensures.holds i.kept)
 
 pub returns-in-Ok-clause-sent : goal.returns-in-Ok-clause-sent
 returns-in-Ok-clause-sent g c = c.ask_or_go.ensures.sent c.args.self.now.state c.in-Ok.ensures.counts

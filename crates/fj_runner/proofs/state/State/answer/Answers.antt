@@ -139,6 +139,8 @@ returns-then-has-clause-hears g c =
       next = refl;
       ending = refl;
       sent = refl;
+      store = refl;
+      output = refl;
       told = is_more s.told.items s.due (number + 1) (omega (arith, s.told_slots, s.due_slot)) (ap (λ k. k + 1) n);
     }
 
@@ -153,5 +155,7 @@ returns-clause-hears g c =
       next = refl;
       ending = refl;
       sent = refl;
+      store = refl;
+      output = refl;
       told = is_more s.told.items s.due (number + 1) (omega (arith, s.told_slots, s.due_slot)) (ap (λ k. k + 1) n);
     }

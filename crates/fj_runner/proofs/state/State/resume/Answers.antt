@@ -8,6 +8,7 @@ use Rattle.fj_desk.specs.Doing.{Doing}
 use Rattle.fj_turns.specs.Run.{Run, Acting}
 use Rattle.fj_turns.specs.Turns.{turn_act, ends_halts}
 use Rattle.fj_pending.specs.Plain.{held}
+use Rattle.fj_acts.specs.Fitting.{IsKept}
 use Rattle.fj_acts.specs.State.{core_of}
 use Rattle.fj_units.specs.Files.{files_of}
 use Rattle.fj_runner.specs.Machine.{run_in}
@@ -113,3 +114,9 @@ returns-clause-steps g c =
 pub returns-in-Some-clause-steps : goal.returns-in-Some-clause-steps
 returns-in-Some-clause-steps g c =
     kept_steps c.args.out.now c.args.disk.now c.args.self.now.core c.submit.new.self.core (went c.submit.result) (ok_keeps c.args.self.now.core c.submit.new.self.core c.submit.result c.submit.ensures.core)
+
+pub returns-in-Some-clause-holds : goal.returns-in-Some-clause-holds
+returns-in-Some-clause-holds g c = λ kept. subst (IsKept c.args.variables.now) (sym c.submit.ensures.core) kept
+
+pub returns-in-Ok-clause-holds : goal.returns-in-Ok-clause-holds
+returns-in-Ok-clause-holds g c = λ kept. c.act.ensures.holds (c.in-Ok.ensures.keeps kept)

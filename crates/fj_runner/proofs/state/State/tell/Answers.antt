@@ -1,4 +1,4 @@
-use Rattle.std.proofs.Common.{List, ◌∷◌, Some, IfOk, ap, ◌∙◌, subst}
+use Rattle.std.proofs.Common.{◌≡◌, List, ◌∷◌, Some, None, IfOk, sym, ap, ◌∙◌, subst}
 use Rattle.fj_plain.specs.State.{Files, Entry}
 use Rattle.fj_plain.specs.Statement.{Stated, control_by}
 use Rattle.fj_desk.specs.Core.{Core, Connected}
@@ -12,6 +12,10 @@ use Rattle.fj_runner.specs.Machine.{run_in}
 use Rattle.fj_runner.specs.Turned.{IsTurn}
 use Rattle.fj_runner.proofs.Beginnings.{told_run, tells_turn, tells_doing}
 use Rattle.fj_turns.specs.Passing.{output_of}
+use Rattle.fj_store.specs.Storage.{values_of}
+use Rattle.fj_plain.specs.Telling.{with_inputs}
+use Rattle.fj_acts.specs.Fitting.{FindsItems}
+use Rattle.fj_units.specs.Having.{HaveFiles}
 use Rattle.fj_runner.proofs.Failures.{fails_from}
 use Rattle.fj_runner.proofs.Numbering.{given_left, named_left, untold_left}
 use Rattle.fj_runner.proofs.state.State.tell.Goals as goal
@@ -68,3 +72,19 @@ pub invariant_of-self-2-clause-untold : goal.invariant_of-self-2-clause-untold
 invariant_of-self-2-clause-untold g c =
     let s = c.args.self.now in
     untold_left s.told.items s.core.pending c.tell_all.new.core.pending c.tell_all.ensures.some s.untold
+
+pub returns-in-Ok-tell_all-clause-holds : goal.returns-in-Ok-tell_all-clause-holds
+returns-in-Ok-tell_all-clause-holds g c = λ kept. c.resume.ensures.holds (c.in-Ok-tell_all.ensures.holds kept)
+
+pub returns-in-Ok-tell_all-clause-fits : goal.returns-in-Ok-tell_all-clause-fits
+returns-in-Ok-tell_all-clause-fits g c = λ sound have kept fits.
+    let s = c.args.self.now in
+    let new = c.tell_all.new.core in
+    let told : List Entry = waited_of c.args.whose (entries s.core.pending) in
+    let files : Files = λ name. None in
+    let values : values_of new.store ≡ with_inputs c.args.variables.now told (values_of s.core.store) = ap (λ (k : Core). k.vars) (c.in-Ok-tell_all.ensures.core files) in
+    let names = subst (λ ns. HaveFiles ns s.core.units) (sym c.tell_all.ensures.keeps.names) have in
+    c.resume.ensures.fits sound (subst (HaveFiles new.names) (sym c.tell_all.ensures.units) names) (λ fine. record {
+      kept = c.in-Ok-tell_all.ensures.holds kept;
+      finds = subst (λ vs. FindsItems c.args.variables.now vs c.args.lined.now.what) (sym values) (fits.finds (sym c.in-Ok-tell_all.ensures.condition ∙ fine));
+    })

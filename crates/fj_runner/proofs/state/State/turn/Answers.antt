@@ -8,6 +8,7 @@ use Rattle.fj_turns.specs.Run.{Run, Start, Waiting, Acting, Awaiting}
 use Rattle.fj_turns.specs.Turns.{turn}
 use Rattle.fj_pending.specs.Plain.{held}
 use Rattle.fj_acts.specs.Doing.{next_of, then_of}
+use Rattle.fj_acts.specs.Fitting.{IsKept}
 use Rattle.fj_acts.specs.State.{core_of}
 use Rattle.fj_units.specs.Files.{files_of}
 use Rattle.fj_runner.specs.Machine.{run_in, stage_of}
@@ -261,37 +262,41 @@ settle-requires-clause-own g c = λ slot number e.
     c.args.self.now.own slot number (subst (λ x. gave slot number x ≡ true) (sym (sym c.replace.ensures.value ∙ c.in-Awaiting.is)) e)
 
 pub returns-in-Start-clause-fits : goal.returns-in-Start-clause-fits
-returns-in-Start-clause-fits g c = λ sound have more f.
+returns-in-Start-clause-fits g c = λ sound have more kept f.
     let fits = subst (FitsStage c.args.variables.now c.args.lined.now.what c.args.self.now.core) (sym c.replace.ensures.value ∙ c.in-Start.is) f in
-    absurd fits
+    let s = c.args.self.now in
+    let files = subst (λ x. HaveAt x s.core.names s.core.units c.args.lined.now.what) (sym c.replace.ensures.value ∙ c.in-Start.is) have in
+    c.start.ensures.fits sound files kept fits
 
 pub returns-in-Waiting-clause-fits : goal.returns-in-Waiting-clause-fits
-returns-in-Waiting-clause-fits g c = λ sound have more f.
+returns-in-Waiting-clause-fits g c = λ sound have more kept f.
     let fits = subst (FitsStage c.args.variables.now c.args.lined.now.what c.args.self.now.core) (sym c.replace.ensures.value ∙ c.in-Waiting.is) f in
-    absurd fits
+    let s = c.args.self.now in
+    let files = subst (λ x. HaveAt x s.core.names s.core.units c.args.lined.now.what) (sym c.replace.ensures.value ∙ c.in-Waiting.is) have in
+    c.wait.ensures.fits sound files kept fits
 
 pub returns-in-Resuming-clause-fits : goal.returns-in-Resuming-clause-fits
-returns-in-Resuming-clause-fits g c = λ sound have more f.
+returns-in-Resuming-clause-fits g c = λ sound have more kept f.
     let fits = subst (FitsStage c.args.variables.now c.args.lined.now.what c.args.self.now.core) (sym c.replace.ensures.value ∙ c.in-Resuming.is) f in
     let s = c.args.self.now in
     let files = subst (λ x. HaveAt x s.core.names s.core.units c.args.lined.now.what) (sym c.replace.ensures.value ∙ c.in-Resuming.is) have in
-    c.resume.ensures.fits sound files fits
+    c.resume.ensures.fits sound files (λ fine. record { kept = kept; finds = fits fine })
 
 pub returns-in-Ok-clause-fits : goal.returns-in-Ok-clause-fits
-returns-in-Ok-clause-fits g c = λ sound have more f. c.act.ensures.fits sound
+returns-in-Ok-clause-fits g c = λ sound have more kept f. c.act.ensures.fits sound
 
 pub returns-in-Err-clause-fits : goal.returns-in-Err-clause-fits
-returns-in-Err-clause-fits g c = λ sound have more f.
+returns-in-Err-clause-fits g c = λ sound have more kept f.
     let s = c.args.self.now in
     λ e. c.given.ensures.fits sound
     (may_go_on s.sent.items c.in-Going.next c.in-Going.number s.core s.sent_slots s.named
     (λ slot e. s.own slot c.in-Going.number (subst (λ x. gave slot c.in-Going.number x ≡ true) (sym (sym c.replace.ensures.value ∙ c.in-Going.is)) e)) more) (cc (c.in-Err.is, e))
 
 pub returns-in-Ok-doing-clause-fits : goal.returns-in-Ok-doing-clause-fits
-returns-in-Ok-doing-clause-fits g c = λ sound have more f. c.act-in-Ok-doing.ensures.fits sound
+returns-in-Ok-doing-clause-fits g c = λ sound have more kept f. c.act-in-Ok-doing.ensures.fits sound
 
 pub returns-in-Err-doing-clause-fits : goal.returns-in-Err-doing-clause-fits
-returns-in-Err-doing-clause-fits g c = λ sound have more f.
+returns-in-Err-doing-clause-fits g c = λ sound have more kept f.
     let fits = subst (FitsStage c.args.variables.now c.args.lined.now.what c.args.self.now.core) (sym c.replace.ensures.value ∙ c.in-Answered.is) f in
     let s = c.args.self.now in
     let files = subst (λ x. HaveAt x s.core.names s.core.units c.args.lined.now.what) (sym c.replace.ensures.value ∙ c.in-Answered.is) have in
@@ -337,3 +342,12 @@ pub returns-in-Ok-clause-counts : goal.returns-in-Ok-clause-counts
 returns-in-Ok-clause-counts g c =
     let s = c.args.self.now in
     count_entered c.act.result s _ c.act.new.self (entered_next c.in-Going.next c.in-Going.number s.core c.given.new.core c.given.ensures.enters) refl refl c.act.ensures.next c.act.ensures.counts (c.act.ensures.ends c.in-Ok.ensures.ends)
+
+pub returns-in-Ok-clause-holds : goal.returns-in-Ok-clause-holds
+returns-in-Ok-clause-holds g c = λ kept. c.act.ensures.holds (c.in-Ok.ensures.keeps kept)
+
+pub returns-in-Awaiting-clause-holds : goal.returns-in-Awaiting-clause-holds
+returns-in-Awaiting-clause-holds g c = λ kept. subst (IsKept c.args.variables.now) (sym c.settle.ensures.core) kept
+
+pub returns-in-Ok-doing-clause-holds : goal.returns-in-Ok-doing-clause-holds
+returns-in-Ok-doing-clause-holds g c = λ kept. c.act-in-Ok-doing.ensures.holds (c.in-Ok-doing.ensures.keeps kept)

@@ -4,6 +4,7 @@ use Rattle.fj_plain.specs.Statement.{Stated, control_by}
 use Rattle.fj_turns.specs.Run.{Run, Waiting}
 use Rattle.fj_pending.specs.Plain.{held, entries}
 use Rattle.fj_pending.specs.Waits.{waited_of}
+use Rattle.fj_acts.specs.Fitting.{IsKept}
 use Rattle.fj_units.specs.Files.{files_of}
 use Rattle.fj_runner.specs.Machine.{run_in}
 use Rattle.fj_runner.specs.Turned.{IsTurn}
@@ -77,3 +78,6 @@ settle-requires-clause-owed g c =
 
 pub returns-in-Some-clause-fails : goal.returns-in-Some-clause-fails
 returns-in-Some-clause-fails g c = λ tells more stage. fails_still c.args.out.now c.args.self.now.core c.settle.new.self.core (went c.settle.result) _ _ _ (λ e. cc) (λ e. cc)
+
+pub returns-in-Some-clause-holds : goal.returns-in-Some-clause-holds
+returns-in-Some-clause-holds g c = λ kept. subst (IsKept c.args.variables.now) (sym c.settle.ensures.core) kept
