@@ -1,10 +1,19 @@
 -- Where the disk fails in a statement's own call.
 use Rattle.std.proofs.Common.{◌≡◌, ◌⊎◌, ℕ, Bool, true, List, [], ◌∷◌, Option, Some, None, Result, Ok, Err, inl, inr, refl, sym, ap, subst, ◌∙◌}
-use Rattle.std.specs.Prelude.{◌≢◌, ◌↔◌, if◌then◌else◌, unwrap_or}
+use Rattle.std.specs.Prelude.{◌≢◌, ◌↔◌, ◌&&◌, ℤ, false, OnErr, if◌then◌else◌, unwrap_or}
+use Rattle.std.specs.List.{list_any}
 use Rattle.std.specs.FinMap as map
 use Rattle.fj_value.specs.declared.condition.Condition.{Condition}
-use Rattle.fj_value.specs.declared.condition.Condition.TheVariants.{Fine}
-use Rattle.fj_modes.specs.Modes.{settled}
+use Rattle.fj_value.specs.declared.condition.Condition.TheVariants.{Fine, EndOfFile, EndOfRecord, Error}
+use Rattle.fj_modes.specs.Modes.{settled, changed}
+use Rattle.fj_modes.specs.declared.asked.Wanted.{Wanted}
+use Rattle.fj_modes.specs.declared.unit.Motion.{Motion}
+use Rattle.fj_modes.specs.declared.unit.UnitRef.{UnitRef}
+use Rattle.fj_modes.specs.declared.unit.UnitRef.TheVariants as unit
+use Rattle.fj_control.specs.Steps.{Given}
+use Rattle.fj_list.specs.declared.moved.Moved.{Moved}
+use Rattle.fj_statement.specs.declared.deck.Variable.{Variable}
+use Rattle.fj_statement.specs.declared.statement.Transfer.{Transfer}
 use Rattle.fj_modes.specs.declared.modes.Modes.{Modes}
 use Rattle.fj_modes.specs.declared.specifiers.FileStatus.TheVariants.{Unknown}
 use Rattle.fj_modes.specs.declared.specifiers.OpenSpec.{OpenSpec}
@@ -23,24 +32,31 @@ use Rattle.fj_connect.specs.Linked.{Linked}
 use Rattle.fj_connect.specs.Opening.{bytes_opened, connected_to, opened_file}
 use Rattle.fj_statement.specs.declared.statement.Statement.{Statement}
 use Rattle.fj_statement.specs.declared.statement.Statement.TheVariants as statement
-use Rattle.fj_bay.specs.Jobs.{Answer, detach}
+use Rattle.fj_bay.specs.Halt.{halts}
+use Rattle.fj_bay.specs.Jobs.{Answer, Looked, detach}
 use Rattle.fj_bay.specs.Plain.{told_of}
-use Rattle.fj_plain.specs.Connecting.{file_due}
+use Rattle.fj_plain.specs.Connecting.{file_due, keeps_name}
+use Rattle.fj_plain.specs.Needs.{number_of, number_given, unit_about}
+use Rattle.fj_plain.specs.Statement.{Stated, file_asked}
+use Rattle.fj_plain.specs.Telling.{is_asynchronous}
+use Rattle.fj_plain.specs.Transfers.{moved_in}
 use Rattle.fj_plain.specs.State.{Files}
 use Rattle.fj_plain.proofs.Units.{bytes_differ}
-use Rattle.fj_desk.specs.Acting.{all_closed, attaches, connects_at, free_from}
-use Rattle.fj_desk.specs.Core.{Core as PlainCore, Connected, connected_at, without_connected}
-use Rattle.fj_desk.specs.Desks.{most_slots}
+use Rattle.fj_desk.specs.Acting.{all_closed, attaches, connects, connects_at, free_from, changes, closes, closes_first, closes_anyway, opens, opens_with, is_taken, moves, inquires, asks_connection, transferred, unless_refused, on_unit, transfer_at, if_numbered, unit_at, own, instead, doing}
+use Rattle.fj_desk.specs.Core.{Core as PlainCore, Connected, connected_at, unit_named, without_connected}
+use Rattle.fj_desk.specs.Desks.{Outcome, condition_in, look_in, most_slots}
 use Rattle.fj_desk.specs.Doing.{Doing, finishes}
 use Rattle.fj_items.specs.declared.lost.Lost.{Lost}
 use Rattle.fj_items.specs.declared.lost.Lost.TheVariants.{Disk}
 use Rattle.fj_units.specs.Files.{files_of}
 use Rattle.fj_units.specs.Returning.{IsAsDue, returned}
 use Rattle.fj_units.proofs.Returning.{given_back, given_files}
-use Rattle.fj_acts.specs.Doing.{closed, connects_by, connects_in, goes_on}
-use Rattle.fj_acts.specs.Failing.{FailsWhere, connected_next}
+use Rattle.fj_acts.specs.Doing.{carries, closed, connects_by, connects_in, goes_on, looks, looks_at, next_of, pends}
+use Rattle.fj_acts.specs.Failing.{FailsWhere, StandsWhere, AreStill, connected_next}
 use Rattle.fj_acts.specs.State.{core_at}
 use Rattle.fj_acts.specs.Steps.{is_due}
+use Rattle.fj_acts.specs.declared.doing.Given.{Given as Next}
+use Rattle.fj_acts.specs.declared.doing.Given.TheVariants as given
 use Rattle.fj_acts.specs.declared.doing.After.{After}
 use Rattle.fj_acts.specs.declared.doing.After.TheVariants as after
 use Rattle.fj_acts.specs.declared.state.Core.{Core}
@@ -89,6 +105,164 @@ goes_on_there what core (after.Finishes condition) = ends_there core condition
 goes_on_there what core (after.ClosesAll condition) = closes_there core.units core condition
 goes_on_there what core (after.Connects number) = opens_there what number core
 
+either_there : (core : PlainCore) (b : Bool) (x y : Doing) → Leaves core x → Leaves core y → Leaves core (if b then x else y)
+either_there core true x y l k = l
+either_there core false x y l k = k
+
+-- ---- so are those of what a statement does first
+
+changes_there : (core : PlainCore) (u : Connected) (r : Result Modes Condition) → Leaves core (changes core u r)
+changes_there core u (Err condition) = ends_there core condition
+changes_there core u (Ok modes) = record { units = refl; files = λ name other. refl }
+
+first_there : (core : PlainCore) (number : ℕ) (spec : OpenSpec) (modes : Modes) (old : Option Connected) → Leaves core (closes_first core old (connects number spec modes))
+first_there core number spec modes None = connects_there number spec modes core (free_from core.units 0 most_slots)
+first_there core number spec modes (Some u) = record { units = refl; files = λ name other. refl }
+
+another_there : (core : PlainCore) (number : ℕ) (spec : OpenSpec) (old : Option Connected) (r : Result Modes Condition) → Leaves core (opens_with core number spec old r)
+another_there core number spec old (Err condition) = ends_there core condition
+another_there core number spec old (Ok modes) = either_there core (is_taken core number (file_due spec number)) _ _ (ends_there core _) (first_there core number spec modes old)
+
+opened_there : (core : PlainCore) (number : ℕ) (spec : OpenSpec) (old : Option Connected) → Leaves core (opens core number spec old)
+opened_there core number spec None = another_there core number spec None (settled spec)
+opened_there core number spec (Some u) = either_there core (keeps_name u.name spec spec.file) _ _ (changes_there core u (changed u.modes spec)) (another_there core number spec (Some u) (settled spec))
+
+numbered_there : (core : PlainCore) (number : Option ℕ) (spec : OpenSpec) → Leaves core (if_numbered core number (λ n. opens core n spec (connected_at core.units n)))
+numbered_there core None spec = ends_there core _
+numbered_there core (Some n) spec = opened_there core n spec (connected_at core.units n)
+
+closed_there : (core : PlainCore) (keep : Option Bool) (old : Option Connected) → Leaves core (closes core keep old)
+closed_there core keep None = ends_there core Fine
+closed_there core keep (Some u) = either_there core (unwrap_or keep false && u.modes.scratch) _ _ (ends_there core _) (record { units = refl; files = λ name other. refl })
+
+anyway_there : (core : PlainCore) (keep : Option Bool) (condition : Condition) (old : Option Connected) → Leaves core (closes_anyway core keep condition old)
+anyway_there core keep condition None = ends_there core condition
+anyway_there core keep condition (Some u) = record { units = refl; files = λ name other. refl }
+
+moved_there : (core : PlainCore) (how : Motion) (old : Option Connected) → Leaves core (moves core how old)
+moved_there core how None = ends_there core _
+moved_there core how (Some u) = record { units = refl; files = λ name other. refl }
+
+asked_there : (core : PlainCore) (number : Option ℕ) (file : Option (List ℕ)) (asked : List Wanted) (id : Option ℤ) (old : Option Connected) → Leaves core (inquires core number file asked id old)
+asked_there core number file asked id None = record { units = refl; files = λ name other. refl }
+asked_there core number file asked id (Some u) =
+    either_there core (list_any (λ (w : Wanted). asks_connection w.what) asked) _ _ (record { units = refl; files = λ name other. refl }) (record { units = refl; files = λ name other. refl })
+
+module _ (control : ℕ → List Given) (variables : List Variable) (line : ℕ) (core : PlainCore) where
+  carried_there : (t : Transfer) (moved : Moved) (u : Connected) → Leaves core (transferred control variables line core t moved u)
+  carried_there t moved u = either_there core (is_asynchronous t) _ _ (record { units = refl; files = λ name other. refl }) (record { units = refl; files = λ name other. refl })
+
+  unless_there : (t : Transfer) (moved : Moved) (u : Connected) (condition : Condition) → Leaves core (unless_refused control variables line core t moved u condition)
+  unless_there t moved u Fine = carried_there t moved u
+  unless_there t moved u EndOfFile = record { units = refl; files = λ name other. refl }
+  unless_there t moved u EndOfRecord = record { units = refl; files = λ name other. refl }
+  unless_there t moved u (Error n) = record { units = refl; files = λ name other. refl }
+
+  unit_there : (t : Transfer) (moved : Moved) (old : Option Connected) → Leaves core (on_unit control variables line core t moved old)
+  unit_there t moved None = record { units = refl; files = λ name other. refl }
+  unit_there t moved (Some u) = unless_there t moved u _
+
+  at_there : (t : Transfer) (moved : Moved) (ref : UnitRef) → Leaves core (transfer_at control variables line core t moved ref)
+  at_there t moved unit.Star = record { units = refl; files = λ name other. refl }
+  at_there t moved (unit.Number n) = unit_there t moved (connected_at core.units n)
+
+  own_there : (what : Statement) → Leaves core (own control variables line core what)
+  own_there (statement.Assign to from) = record { units = refl; files = λ name other. refl }
+  own_there (statement.OpenUnit u spec iostat) = numbered_there core (number_of u) spec
+  own_there (statement.CloseUnit u keep iostat) = closed_there core keep (unit_at core (number_of u))
+  own_there (statement.WaitFor u id iostat) = ends_there core Fine
+  own_there (statement.Move how u iostat) = moved_there core how (unit_at core (number_of u))
+  own_there (statement.Inquire subject asked id iostat) =
+      let number = unit_about (unit_named core.units) subject in asked_there core number (file_asked subject) asked (number_given core.vars id) (unit_at core number)
+  own_there (statement.Transfer t) = at_there t (moved_in variables core.vars t) t.unit
+  own_there statement.End = closes_there core.units core Fine
+
+  instead_there : (what : Statement) (condition : Condition) → Leaves core (instead variables core what condition)
+  instead_there (statement.Assign to from) condition = ends_there core condition
+  instead_there (statement.OpenUnit u spec iostat) condition = ends_there core condition
+  instead_there (statement.CloseUnit u keep iostat) condition = anyway_there core keep condition (unit_at core (number_of u))
+  instead_there (statement.WaitFor u id iostat) condition = ends_there core condition
+  instead_there (statement.Move how u iostat) condition = ends_there core condition
+  instead_there (statement.Inquire subject asked id iostat) condition = ends_there core condition
+  instead_there (statement.Transfer t) condition = record { units = refl; files = λ name other. refl }
+  instead_there statement.End condition = closes_there core.units core condition
+
+  pub doing_there : (what : Statement) (condition : Condition) → Leaves core (doing control variables line core what condition)
+  doing_there what Fine = own_there what
+  doing_there what EndOfFile = instead_there what EndOfFile
+  doing_there what EndOfRecord = instead_there what EndOfRecord
+  doing_there what (Error n) = instead_there what (Error n)
+
+-- ---- and of what it does once it has the number of its job, or the job came back
+
+pends_there : (variables : List Variable) (core : PlainCore) (what : Statement) (unit slot number : ℕ) → Leaves core (pends variables core what unit slot number)
+pends_there variables core (statement.Assign to from) unit slot number = ends_there core Fine
+pends_there variables core (statement.OpenUnit u spec iostat) unit slot number = ends_there core Fine
+pends_there variables core (statement.CloseUnit u keep iostat) unit slot number = ends_there core Fine
+pends_there variables core (statement.WaitFor u id iostat) unit slot number = ends_there core Fine
+pends_there variables core (statement.Move how u iostat) unit slot number = ends_there core Fine
+pends_there variables core (statement.Inquire subject asked id iostat) unit slot number = ends_there core Fine
+pends_there variables core (statement.Transfer t) unit slot number = record { units = refl; files = λ name other. refl }
+pends_there variables core statement.End unit slot number = ends_there core Fine
+
+pub next_there : (variables : List Variable) (st : Stated) (core : PlainCore) (next : Next) (number : ℕ) → Leaves core (next_of variables st core next number)
+next_there variables st core (given.Finishes condition) number = ends_there core condition
+next_there variables st core (given.Pends unit slot) number = pends_there variables core st.0.what unit slot number
+
+pub carries_there : (variables : List Variable) (core : PlainCore) (what : Statement) (slot : ℕ) (o : Outcome) → Leaves core (carries variables core what slot o)
+carries_there variables core (statement.Assign to from) slot o = ends_there core Fine
+carries_there variables core (statement.OpenUnit u spec iostat) slot o = ends_there core Fine
+carries_there variables core (statement.CloseUnit u keep iostat) slot o = ends_there core Fine
+carries_there variables core (statement.WaitFor u id iostat) slot o = ends_there core Fine
+carries_there variables core (statement.Move how u iostat) slot o = ends_there core Fine
+carries_there variables core (statement.Inquire subject asked id iostat) slot o = ends_there core Fine
+carries_there variables core (statement.Transfer t) slot o =
+    either_there core (halts (condition_in o.1)) _ _ (record { units = refl; files = λ name other. refl }) (record { units = refl; files = λ name other. refl })
+carries_there variables core statement.End slot o = ends_there core Fine
+
+seen_there : (core : PlainCore) (number : Option ℕ) (file : Option (List ℕ)) (asked : List Wanted) (id : Option ℤ) (u : Option Connected) (look : Option Looked) → Leaves core (looks_at core number file asked id u look)
+seen_there core number file asked id None look = ends_there core Fine
+seen_there core number file asked id (Some u) look = record { units = refl; files = λ name other. refl }
+
+pub looks_there : (core : PlainCore) (what : Statement) (o : Outcome) → Leaves core (looks core what o)
+looks_there core (statement.Assign to from) o = ends_there core Fine
+looks_there core (statement.OpenUnit u spec iostat) o = ends_there core Fine
+looks_there core (statement.CloseUnit u keep iostat) o = ends_there core Fine
+looks_there core (statement.WaitFor u id iostat) o = ends_there core Fine
+looks_there core (statement.Move how u iostat) o = ends_there core Fine
+looks_there core (statement.Inquire subject asked id iostat) o =
+    let number = unit_about (unit_named core.units) subject in seen_there core number (file_asked subject) asked (number_given core.vars id) (unit_at core number) (look_in o.0)
+looks_there core (statement.Transfer t) o = ends_there core Fine
+looks_there core statement.End o = ends_there core Fine
+
+-- ---- a call that is given up
+
+-- whatever it comes to
+pub on_err : {X : Type 0} → (r : Result X Lost) (P : Type 0) → P → OnErr r P
+on_err (Ok x) P p = tt
+on_err (Err lost) P p = p
+
+-- units and files stand where they were due, if they are as they were
+pub stands_still : {X : Type 0} → (r : Result X Lost) (core : PlainCore) (due : Doing) (new : Core) (old held : Holdings) (before now : ℕ) → Leaves core due → core.files ≡ files_of old → new.units ≡ core.units
+    → OnErr r (AreStill due old held) → OnErr r (StandsWhere due new held before now)
+stands_still (Ok x) core due new old held before now leaves home units still = tt
+stands_still (Err lost) core due new old held before now leaves home units still = record {
+  units = units ∙ sym leaves.units;
+  files = λ name other. inl (still name other ∙ sym (ap (λ (f : Files). f name) home) ∙ sym (leaves.files name other));
+}
+
+-- and so they do, where the call changes neither
+pub stands_here : {X : Type 0} → (r : Result X Lost) (core : PlainCore) (due : Doing) (new : Core) (held : Holdings) (before now : ℕ) → Leaves core due → core.files ≡ files_of held → new.units ≡ core.units → OnErr r (StandsWhere due new held before now)
+stands_here r core due new held before now leaves home units = stands_still r core due new held held before now leaves home units (on_err r (AreStill due held held) (λ name other. refl))
+
+-- the same by an equal meaning
+pub stands_as : {X : Type 0} → (r : Result X Lost) (old due : Doing) (new : Core) (held : Holdings) (before now : ℕ) → old ≡ due → OnErr r (StandsWhere old new held before now) → OnErr r (StandsWhere due new held before now)
+stands_as r old due new held before now e h = subst (λ (d : Doing). OnErr r (StandsWhere d new held before now)) e h
+
+-- and where the number was the same before
+pub stands_since : {X : Type 0} → (r : Result X Lost) (due : Doing) (new : Core) (held : Holdings) (start before now : ℕ) → before ≡ start → OnErr r (StandsWhere due new held before now) → OnErr r (StandsWhere due new held start now)
+stands_since r due new held start before now e h = subst (λ n. OnErr r (StandsWhere due new held n now)) e h
+
 -- ---- the disk failed there
 
 fails : (core : PlainCore) (due : Doing) (new : Core) (held : Holdings) (before now : ℕ) → Leaves core due → Rose before now → new.units ≡ core.units
@@ -129,12 +303,9 @@ open_rose opened f stop lost before now is stops same e own =
     let failed : opened ≡ Err (fault.Stop Failed) = is ∙ ap Err (stops ∙ ap fault.Stop (same.0 (lost_is lost Disk e))) in
     (subst (λ b. CountsFailure b before now) (ap has_failed failed) own).1
 
-pub fails_open : (core : PlainCore) (number slot : ℕ) (name : List ℕ) (spec : OpenSpec) (modes : Modes) (new : Core) (h left : Holdings) (before now : ℕ)
-    → core.files ≡ files_of h → new.units ≡ core.units → Rose before now → LeavesAtHome (unwrap_or spec.status Unknown) h name left
-    → FailsWhere (attaches core number slot (opened_file (files_of h name) name spec modes)) new left before now
-fails_open core number slot name spec modes new h left before now home units rose leaves =
-    fails core due new left before now (attaches_there core number slot (opened_file (files_of h name) name spec modes)) rose units
-    (λ q other. inl (by leaves.files q other ∙ sym (ap (λ (f : Files). f q) home)))
+pub still_open : (core : PlainCore) (number slot : ℕ) (name : List ℕ) (spec : OpenSpec) (modes : Modes) (h left : Holdings) → LeavesAtHome (unwrap_or spec.status Unknown) h name left
+    → AreStill (attaches core number slot (opened_file (files_of h name) name spec modes)) h left
+still_open core number slot name spec modes h left leaves = by leaves.files
   where
     due : Doing
     due = attaches core number slot (opened_file (files_of h name) name spec modes)
@@ -147,6 +318,17 @@ fails_open core number slot name spec modes new h left before now home units ros
     by (inl same) q other = ap (λ (f : disk.Files). map.get f q) same
     by (inr (ok, inl gone)) q other = ap (λ (f : disk.Files). map.get f q) gone ∙ without_other h name q (λ same. other (opens ok ∙ ap Some (sym same)))
     by (inr (ok, inr empty)) q other = ap (λ (f : disk.Files). map.get f q) empty ∙ with_other h name q (λ same. other (opens ok ∙ ap Some (sym same)))
+
+pub fails_open : (core : PlainCore) (number slot : ℕ) (name : List ℕ) (spec : OpenSpec) (modes : Modes) (new : Core) (h left : Holdings) (before now : ℕ)
+    → core.files ≡ files_of h → new.units ≡ core.units → Rose before now → LeavesAtHome (unwrap_or spec.status Unknown) h name left
+    → FailsWhere (attaches core number slot (opened_file (files_of h name) name spec modes)) new left before now
+fails_open core number slot name spec modes new h left before now home units rose leaves =
+    fails core (attaches core number slot (opened_file (files_of h name) name spec modes)) new left before now (attaches_there core number slot (opened_file (files_of h name) name spec modes)) rose units
+    (λ q other. inl (still_open core number slot name spec modes h left leaves q other ∙ sym (ap (λ (f : Files). f q) home)))
+
+-- the same by an equal meaning
+pub still_as : {X : Type 0} → (r : Result X Lost) (due other : Doing) (old new : Holdings) → due ≡ other → OnErr r (AreStill due old new) → OnErr r (AreStill other old new)
+still_as r due other old new e h = subst (λ (d : Doing). OnErr r (AreStill d old new)) e h
 
 -- ---- the file of a connection went back
 

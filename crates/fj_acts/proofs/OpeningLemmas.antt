@@ -72,21 +72,27 @@ stop_of P f stop e p = subst (λ (x : OpenFault). IfStopped x P) e p
 
 -- ---- one connection
 
-pub attaches_is : {F : Type 0} (told : F → Bool) (bytes : F → List ℕ) (variables : List Variable) (st : Stated) (core : Core) (left : Files) (number slot : ℕ) (name : List ℕ) (modes : Modes) (conn : Linked F) (r : Result Connection Condition)
-    → (place : slot < most_slots) → told conn.file ≡ true → conn.modes ≡ modes → conn.name ≡ name → r ≡ Ok (connection_of bytes conn) → left ≡ without_file name core.files
-    → IsDoing told bytes variables st (record core { files = left }) (doing.Awaits slot (job.Attach (Some conn)) (then.Attaches (record { number = number; slot = slot; name = name; modes = modes; place = place }))) (attaches core number slot r)
-attaches_is told bytes variables st core left number slot name modes conn r place is_told same_modes same_name opened is_left =
-    let goes : List ℕ → Modes → Files → Doing = λ n m files. awaits slot (attach (Some (connection_of bytes conn))) (record core { files = files })
-    (λ o. finishes (record core { files = files; units = inserted (record { number = number; slot = slot; name = n; modes = m }) core.units }) (condition_in o.1)) in
+pub attaches_is : {F : Type 0} (told : F → Bool) (bytes : F → List ℕ) (variables : List Variable) (st : Stated) (core : Core) (left : Files) (units : List Connected) (number slot : ℕ) (conn : Linked F) (r : Result Connection Condition)
+    → told conn.file ≡ true → units ≡ inserted (record { number = number; slot = slot; name = conn.name; modes = conn.modes }) core.units → r ≡ Ok (connection_of bytes conn) → left ≡ without_file conn.name core.files
+    → IsDoing told bytes variables st (record core { files = left }) (doing.Awaits slot (job.Attach (Some conn)) (then.Attaches units)) (attaches core number slot r)
+attaches_is told bytes variables st core left units number slot conn r is_told are opened is_left =
+    let goes : List Connected → Files → Doing = λ us files. awaits slot (attach (Some (connection_of bytes conn))) (record core { files = files })
+    (λ o. finishes (record core { files = files; units = us }) (condition_in o.1)) in
     record {
       task = attach (Some (connection_of bytes conn));
       is = ap (λ b. option_map attach (option_map Some (if b then Some (connection_of bytes conn) else None))) is_told;
       gives =
           ap (attaches core number slot) opened
-          ∙ ap (λ n. goes n conn.modes (without_file n core.files)) same_name
-          ∙ ap (λ m. goes name m (without_file name core.files)) same_modes
-          ∙ ap (goes name modes) (sym is_left);
+          ∙ ap (λ us. goes us (without_file conn.name core.files)) (sym are)
+          ∙ ap (goes units) (sym is_left);
     }
+
+-- the unit that is to be connected, by its copied name and by the modes of its connection
+pub unit_more : (us old : List Connected) (number slot : ℕ) (name copy given : List ℕ) (modes of : Modes) → us ≡ inserted (record { number = number; slot = slot; name = copy; modes = modes }) old
+    → copy ≡ name → given ≡ name → of ≡ modes → us ≡ inserted (record { number = number; slot = slot; name = given; modes = of }) old
+unit_more us old number slot name copy given modes of are is_copy is_given is_modes =
+    are ∙ ap (λ n. inserted (record { number = number; slot = slot; name = n; modes = modes }) old) (is_copy ∙ sym is_given)
+    ∙ ap (λ m. inserted (record { number = number; slot = slot; name = given; modes = m }) old) (sym is_modes)
 
 pub changes_is : {F : Type 0} (told : F → Bool) (bytes : F → List ℕ) (variables : List Variable) (st : Stated) (core : Core) (u : Connected) (number : ℕ) (modes : Modes) (r : Result Modes Condition)
     → connected_at core.units number ≡ Some u → r ≡ Ok modes

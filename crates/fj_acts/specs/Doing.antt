@@ -19,11 +19,11 @@ use Rattle.fj_bay.specs.Plain.{task_of}
 use Rattle.fj_plain.specs.Needs.{unit_about, number_given}
 use Rattle.fj_plain.specs.Statement.{Stated, file_asked}
 use Rattle.fj_plain.specs.Transfers.{with_cells, with_number, held_places}
-use Rattle.fj_desk.specs.Core.{Core, Connected, connected_at, unit_named, inserted}
+use Rattle.fj_desk.specs.Core.{Core, Connected, connected_at, unit_named}
 use Rattle.fj_desk.specs.Desks.{Outcome, cells_in, count_in, look_in, condition_in}
 use Rattle.fj_desk.specs.Doing.{Doing as PlainDoing, finishes, gives, awaits}
 use Rattle.fj_desk.specs.Acting.{disconnected, all_closed, connects, about_unit, answers, unit_at}
-use Rattle.fj_units.specs.Units.{connected_of, with_modes}
+use Rattle.fj_units.specs.Units.{with_modes}
 use Rattle.fj_acts.specs.declared.doing.Given.{Given}
 use Rattle.fj_acts.specs.declared.doing.Given.TheVariants as given
 use Rattle.fj_acts.specs.declared.doing.After.{After}
@@ -94,7 +94,7 @@ then_of variables st core then.Finishes o = finishes core (condition_in o.1)
 then_of variables st core (then.Carries slot) o = carries variables core st.0.what slot o
 then_of variables st core (then.Closes number keep next) o = goes_on st.0.what (closed core (connected_at core.units number) keep o) next
 then_of variables st core (then.Changes number modes) o = finishes (record core { units = with_modes core.units (connected_at core.units number) modes }) (condition_in o.1)
-then_of variables st core (then.Attaches u) o = finishes (record core { units = inserted (connected_of u) core.units }) (condition_in o.1)
+then_of variables st core (then.Attaches us) o = finishes (record core { units = us }) (condition_in o.1)
 then_of variables st core then.Looks o = looks core st.0.what o
 
 -- ---- the same by what the program holds, where the files of connections tell their bytes

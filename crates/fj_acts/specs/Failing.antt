@@ -14,6 +14,10 @@ abbrev pub connected_next : Doing → Option (List ℕ)
 connected_next (awaits slot (attach (Some c)) core next) = Some c.name
 connected_next _ = None
 
+-- each file is as it was, but for the one that was to be connected
+abbrev pub AreStill : Doing → Holdings → Holdings → Type 0
+AreStill due old new = (name : List ℕ) → connected_next due ≢ Some name → files_of new name ≡ files_of old name
+
 -- The units are those that were due there; and so is each file, but for the one that was to be connected.
 pub record StandsWhere (due : Doing) (core : Core) (held : Holdings) (before now : ℕ) : Type 0 where
   pub units : core.units ≡ (core_at due).units

@@ -57,7 +57,7 @@ MayGoOn core (given.Pends unit slot) number = MayPend core slot number
 abbrev pub Brings : {F : Type 0} → List Variable → List Connected → Then → Job F → Type 0
 Brings variables us (then.Carries slot) (job.Move moved) = All (CellFits variables) moved.moved.cells
 Brings variables us (then.Closes number keep next) (job.Detach (Some connection)) = IfSome (connected_at us number) (λ (u : Connected). u.name ≡ connection.name)
-Brings variables us (then.Attaches unit) (job.Attach None) = Unit {0}
+Brings variables us (then.Attaches more) (job.Attach None) = Unit {0}
 Brings variables us then.Looks (job.Look look) = Unit {0}
 Brings variables us (then.Changes number modes) (job.Change edit) = Unit {0}
 Brings variables us then.Finishes (job.Go how) = Unit {0}

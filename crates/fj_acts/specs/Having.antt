@@ -3,9 +3,8 @@ use Rattle.std.specs.Prelude.{◌≡◌, ℕ, true, false, List, None, is_some}
 use Rattle.fj_statement.specs.declared.statement.Statement.{Statement}
 use Rattle.fj_statement.specs.declared.statement.Statement.TheVariants as statement
 use Rattle.fj_plain.specs.Connecting.{file_due}
-use Rattle.fj_desk.specs.Core.{Connected, connected_at, has_name, inserted, without_connected}
+use Rattle.fj_desk.specs.Core.{Connected, connected_at, has_name, without_connected}
 use Rattle.fj_units.specs.Having.{HaveFiles}
-use Rattle.fj_units.specs.Units.{connected_of}
 use Rattle.fj_acts.specs.declared.doing.After.{After}
 use Rattle.fj_acts.specs.declared.doing.After.TheVariants as after
 use Rattle.fj_acts.specs.declared.doing.Then.{Then}
@@ -20,7 +19,7 @@ IsFreeNext next what us = Unit {0}
 
 -- A unit that is being connected has its file already; one that is being closed is connected, and without it OPEN may go on.
 abbrev pub HaveThen : Then → List (List ℕ) → List Connected → Statement → Type 0
-HaveThen (then.Attaches u) names us what = HaveFiles names (inserted (connected_of u) us)
+HaveThen (then.Attaches more) names us what = HaveFiles names more
 HaveThen (then.Closes number keep next) names us what = HaveFiles names us × (is_some (connected_at us number) ≡ true) × IsFreeNext next what (without_connected number us)
 HaveThen _ names us what = HaveFiles names us
 

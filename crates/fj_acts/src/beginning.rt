@@ -17,7 +17,7 @@ ghost use Rattle.fj_acts.specs.Calling.{calls_disk, may_do};
 ghost use Rattle.fj_acts.specs.Placing.{IsPlaced};
 ghost use Rattle.fj_acts.specs.Fitting.{IsKept, Meets};
 ghost use Rattle.fj_acts.specs.State.{KeepsAnswers, KeepsPending, core_of, core_at};
-ghost use Rattle.fj_acts.specs.Failing.{FailsWhere, StandsWhere};
+ghost use Rattle.fj_acts.specs.Failing.{FailsWhere, StandsWhere, AreStill};
 ghost use Rattle.fj_units.specs.Files.{files_of};
 ghost use Rattle.fj_acts.specs.Doing.{IsDoing};
 ghost use Rattle.fj_statement.specs.declared.statement.Statement.{Statement};
@@ -87,10 +87,11 @@ fn own<W: Sink, D: Disk>(
     ensures fault { D.tells disk.old → result ≡ Err Lost.Disk → FailsWhere
         (own (control_by lined.now.what) variables.now lined.now.line (core_of (files_of (D.held disk.old)) core.old) lined.now.what)
         core.new (D.held disk.new) (D.refusals disk.old) (D.refusals disk.new) }
-    ensures fault_out { D.tells disk.old → result ≡ Err Lost.Sink → StandsWhere
+    ensures stays { D.tells disk.old → OnErr result (AreStill
         (own (control_by lined.now.what) variables.now lined.now.line (core_of (files_of (D.held disk.old)) core.old) lined.now.what)
-        core.new (D.held disk.new) (D.refusals disk.old) (D.refusals disk.new) }
+        (D.held disk.old) (D.held disk.new)) }
     ensures own { D.tells disk.old → D.refusals disk.old ≤ D.refusals disk.new }
+    ensures units { core.new.units ≡ core.old.units }
     ensures names { D.tells disk.old → AreInUse core.new.names (D.held disk.new).in_use }
     ensures kinds { core.new.store.kinds ≡ core.old.store.kinds }
     ensures telling { D.tells disk.old ↔ D.tells disk.new }
@@ -162,6 +163,7 @@ fn instead<F: FileStore>(
     requires { core.old.store.kinds ≡ kinds_of variables.now }
     ensures doing { (files : Files) → IfOk result (λ next. IsDoing F.told F.bytes variables.now (lined.now, control_by lined.now.what)
         (core_of files core.new) next (instead variables.now (core_of files core.old) lined.now.what condition)) }
+    ensures units { core.new.units ≡ core.old.units }
     ensures kinds { core.new.store.kinds ≡ core.old.store.kinds }
     ensures names { core.new.names ≡ core.old.names }
     ensures output { core.new.output ≡ core.old.output }
@@ -205,10 +207,11 @@ pub fn begin<W: Sink, D: Disk>(
     ensures fault { D.tells disk.old → result ≡ Err Lost.Disk → FailsWhere
         (doing (control_by lined.now.what) variables.now lined.now.line (core_of (files_of (D.held disk.old)) core.old) lined.now.what condition)
         core.new (D.held disk.new) (D.refusals disk.old) (D.refusals disk.new) }
-    ensures fault_out { D.tells disk.old → result ≡ Err Lost.Sink → StandsWhere
+    ensures stands { D.tells disk.old → OnErr result (StandsWhere
         (doing (control_by lined.now.what) variables.now lined.now.line (core_of (files_of (D.held disk.old)) core.old) lined.now.what condition)
-        core.new (D.held disk.new) (D.refusals disk.old) (D.refusals disk.new) }
+        core.new (D.held disk.new) (D.refusals disk.old) (D.refusals disk.new)) }
     ensures own { D.tells disk.old → D.refusals disk.old ≤ D.refusals disk.new }
+    ensures units { core.new.units ≡ core.old.units }
     ensures names { D.tells disk.old → AreInUse core.new.names (D.held disk.new).in_use }
     ensures kinds { core.new.store.kinds ≡ core.old.store.kinds }
     ensures telling { D.tells disk.old ↔ D.tells disk.new }

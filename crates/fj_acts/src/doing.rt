@@ -2,7 +2,7 @@
 use fj_bay::Job;
 use fj_modes::Modes;
 use fj_outside::FileStore;
-use fj_units::Connected;
+use fj_units::Units;
 use fj_value::Condition;
 
 /// How a statement goes on once it has the number of its job.
@@ -45,8 +45,8 @@ pub enum Then {
         number: u32,
         modes: Modes,
     },
-    /// A unit is connected.
-    Attaches(Connected),
+    /// A unit is connected: the units are these then.
+    Attaches(Units),
     /// INQUIRE has its look at the connection.
     Looks,
 }

@@ -147,6 +147,7 @@ fn answer<F: FileStore>(
     requires { core.old.store.kinds ≡ kinds_of variables.now }
     ensures doing { (about : Told) (plain : About) (st : Stated) (files : Files) → cells ≡ told.inquired about asked.now → AnswersAlike about plain →
         IfOk result (λ next. IsDoing F.told F.bytes variables.now st (core_of files core.new) next (answers (core_of files core.old) plain asked.now)) }
+    ensures units { core.new.units ≡ core.old.units }
     ensures kinds { core.new.store.kinds ≡ core.old.store.kinds }
     ensures names { core.new.names ≡ core.old.names }
     ensures output { core.new.output ≡ core.old.output }
@@ -206,6 +207,7 @@ fn answer_other<D: Disk>(
         core.new (D.held disk.new) (D.refusals disk.old) (D.refusals disk.new) }
     ensures own { D.tells disk.old → D.refusals disk.old ≤ D.refusals disk.new }
     ensures held { D.tells disk.old → D.held disk.new ≡ D.held disk.old }
+    ensures units { core.new.units ≡ core.old.units }
     ensures kinds { core.new.store.kinds ≡ core.old.store.kinds }
     ensures names { core.new.names ≡ core.old.names }
     ensures output { core.new.output ≡ core.old.output }
@@ -282,6 +284,7 @@ pub(crate) fn answer_look<F: FileStore>(
     ensures doing { (st : Stated) (files : Files) → IfOk result (λ next. IsDoing F.told F.bytes variables.now st (core_of files core.new) next
         (looks_at (core_of files core.old) (unit_about (unit_named core.old.units) subject.now) (file_asked subject.now) asked.now
         (number_given (values_of core.old.store) (option_copied id.entry)) (unit_at (core_of files core.old) (unit_about (unit_named core.old.units) subject.now)) (option_map looked_of look))) }
+    ensures units { core.new.units ≡ core.old.units }
     ensures kinds { core.new.store.kinds ≡ core.old.store.kinds }
     ensures names { core.new.names ≡ core.old.names }
     ensures output { core.new.output ≡ core.old.output }
@@ -330,6 +333,7 @@ pub(crate) fn inquire<D: Disk>(
         core.new (D.held disk.new) (D.refusals disk.old) (D.refusals disk.new) }
     ensures own { D.tells disk.old → D.refusals disk.old ≤ D.refusals disk.new }
     ensures held { D.tells disk.old → D.held disk.new ≡ D.held disk.old }
+    ensures units { core.new.units ≡ core.old.units }
     ensures kinds { core.new.store.kinds ≡ core.old.store.kinds }
     ensures names { core.new.names ≡ core.old.names }
     ensures output { core.new.output ≡ core.old.output }

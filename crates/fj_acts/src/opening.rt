@@ -1,5 +1,5 @@
 // OPEN (ISO/IEC 1539-1:2004, 9.4.5).
-ghost use Rattle.std.specs.Prelude.{◌≡◌, ◌≢◌, ◌↔◌, ◌≤◌, ◌<◌, ◌++◌, ℕ, false, List, [], ◌∷◌, Some, None, IfOk, Result, Ok, Err};
+ghost use Rattle.std.specs.Prelude.{◌≡◌, ◌≢◌, ◌↔◌, ◌≤◌, ◌<◌, ℕ, false, List, Some, None, IfOk, OnErr, Result, Ok, Err};
 ghost use Rattle.std.specs.Option.{option_map, option_copied};
 ghost use Rattle.fj_outside.specs.Faults.{Rose};
 ghost use Rattle.fj_modes.specs.Modes.{settled};
@@ -9,7 +9,7 @@ ghost use Rattle.fj_plain.specs.Needs.{number_of};
 ghost use Rattle.fj_plain.specs.State.{Files, without_file};
 ghost use Rattle.fj_plain.specs.Statement.{Stated};
 ghost use Rattle.fj_plain.specs.Connecting.{file_due};
-ghost use Rattle.fj_desk.specs.Core.{Core as PlainCore, Connected as PlainConnected, connected_at, has_name};
+ghost use Rattle.fj_desk.specs.Core.{Core as PlainCore, Connected as PlainConnected, connected_at, has_name, inserted};
 ghost use Rattle.fj_desk.specs.Acting.{attaches, connects, opens, opens_with, changes, if_numbered};
 ghost use Rattle.fj_connect.specs.Connection.{Connection as PlainConnection};
 ghost use Rattle.fj_connect.specs.Linked.{connection_of};
@@ -19,7 +19,7 @@ ghost use Rattle.fj_units.specs.Names.{AreInUse, stands};
 ghost use Rattle.fj_desk.specs.Desks.{most_slots};
 ghost use Rattle.fj_acts.specs.Placing.{IsPlaced};
 ghost use Rattle.fj_acts.specs.State.{core_of};
-ghost use Rattle.fj_acts.specs.Failing.{FailsWhere};
+ghost use Rattle.fj_acts.specs.Failing.{FailsWhere, AreStill};
 ghost use Rattle.fj_units.specs.Files.{files_of};
 ghost use Rattle.fj_units.specs.Units.{connected_of};
 ghost use Rattle.fj_acts.specs.Doing.{IsDoing, AsksToOpen};
@@ -38,35 +38,24 @@ use fj_connect::{Connection, OpenFault, open_file};
 use fj_items::Lost;
 use fj_modes::{FileName, Modes, OpenSpec, UnitRef, settle_open};
 use fj_outside::{Disk, FileStore};
-use fj_units::Connected;
+use fj_units::{Connected, Units};
 use fj_value::Condition;
 use std::alloc::Global;
 
-/// A new connection, whose file is out, goes to a slot.
-fn attaching<F: FileStore>(
-    number: u32,
-    slot: u32,
-    name: FileName,
-    connection: Connection<F>,
-) -> Doing<F>
+/// A new connection, whose file is out, goes to a slot; the units are these once it is there.
+fn attaching<F: FileStore>(slot: u32, units: Units, connection: Connection<F>) -> Doing<F>
     requires { slot < most_slots }
-    ensures doing { F.tells connection.file → (variables : List Variable) (st : Stated) (core : PlainCore) (files : Files) (opened : Result PlainConnection Condition) →
-        connection.name ≡ name → opened ≡ Ok (connection_of F.bytes connection) → files ≡ without_file name core.files →
+    ensures doing { F.tells connection.file → (number : ℕ) (variables : List Variable) (st : Stated) (core : PlainCore) (files : Files) (opened : Result PlainConnection Condition) →
+        units ≡ inserted (record { number = number; slot = slot; name = connection.name; modes = connection.modes }) core.units →
+        opened ≡ Ok (connection_of F.bytes connection) → files ≡ without_file connection.name core.files →
         IsDoing F.told F.bytes variables st (record core { files = files }) result (attaches core number slot opened) }
     ensures placed { IsPlaced result }
-    ensures files { (names : List (List ℕ)) (us : List PlainConnected) (what : Statement) → connected_at us number ≡ None → has_name us name ≡ false → HaveFiles names us
-        → HaveNext result (names ++ name ∷ []) us what }
+    ensures files { (names : List (List ℕ)) (us : List PlainConnected) (what : Statement) → HaveFiles names units → HaveNext result names us what }
 {
-    let modes = *connection.modes();
     Doing::Awaits {
         slot,
         job: Job::Attach(Some(connection)),
-        then: Then::Attaches(Connected {
-            number,
-            slot,
-            name,
-            modes,
-        }),
+        then: Then::Attaches(units),
     }
 }
 
@@ -90,7 +79,11 @@ fn attach<D: Disk>(
     ensures fault { D.tells disk.old → result ≡ Err Lost.Disk → FailsWhere
         (attaches (core_of (files_of (D.held disk.old)) core.old) number slot (opened_file (files_of (D.held disk.old) name) name spec.now modes))
         core.new (D.held disk.new) (D.refusals disk.old) (D.refusals disk.new) }
+    ensures stays { D.tells disk.old → OnErr result (AreStill
+        (attaches (core_of (files_of (D.held disk.old)) core.old) number slot (opened_file (files_of (D.held disk.old) name) name spec.now modes))
+        (D.held disk.old) (D.held disk.new)) }
     ensures own { D.tells disk.old → D.refusals disk.old ≤ D.refusals disk.new }
+    ensures units { core.new.units ≡ core.old.units }
     ensures names { D.tells disk.old → AreInUse core.new.names (D.held disk.new).in_use }
     ensures store { core.new.store ≡ core.old.store }
     ensures output { core.new.output ≡ core.old.output }
@@ -109,9 +102,17 @@ fn attach<D: Disk>(
     if core.names.holds(&name) {
         return Err(Lost::Unfit);
     }
+    let copy = name.try_clone()?;
+    let unit = Connected {
+        number,
+        slot,
+        name: copy,
+        modes,
+    };
+    let units = core.units.with(unit)?;
     core.names.add(&name)?;
     match open_file(alloc, disk, &name, spec, modes) {
-        Ok(connection) => Ok(attaching(number, slot, name, connection)),
+        Ok(connection) => Ok(attaching(slot, units, connection)),
         Err(fault) => {
             core.names.remove(&name);
             match fault {
@@ -138,7 +139,11 @@ pub(crate) fn connect<D: Disk>(
     ensures fault { D.tells disk.old → result ≡ Err Lost.Disk → FailsWhere
         (connects number spec.now modes (core_of (files_of (D.held disk.old)) core.old))
         core.new (D.held disk.new) (D.refusals disk.old) (D.refusals disk.new) }
+    ensures stays { D.tells disk.old → OnErr result (AreStill
+        (connects number spec.now modes (core_of (files_of (D.held disk.old)) core.old))
+        (D.held disk.old) (D.held disk.new)) }
     ensures own { D.tells disk.old → D.refusals disk.old ≤ D.refusals disk.new }
+    ensures units { core.new.units ≡ core.old.units }
     ensures names { D.tells disk.old → AreInUse core.new.names (D.held disk.new).in_use }
     ensures store { core.new.store ≡ core.old.store }
     ensures output { core.new.output ≡ core.old.output }
@@ -196,7 +201,11 @@ fn open_other<D: Disk>(
     ensures fault { D.tells disk.old → result ≡ Err Lost.Disk → FailsWhere
         (opens_with (core_of (files_of (D.held disk.old)) core.old) number spec.now (connected_at core.old.units number) (settled spec.now))
         core.new (D.held disk.new) (D.refusals disk.old) (D.refusals disk.new) }
+    ensures stays { D.tells disk.old → OnErr result (AreStill
+        (opens_with (core_of (files_of (D.held disk.old)) core.old) number spec.now (connected_at core.old.units number) (settled spec.now))
+        (D.held disk.old) (D.held disk.new)) }
     ensures own { D.tells disk.old → D.refusals disk.old ≤ D.refusals disk.new }
+    ensures units { core.new.units ≡ core.old.units }
     ensures names { D.tells disk.old → AreInUse core.new.names (D.held disk.new).in_use }
     ensures store { core.new.store ≡ core.old.store }
     ensures output { core.new.output ≡ core.old.output }
@@ -244,7 +253,12 @@ pub(crate) fn open<D: Disk>(
         (if_numbered (core_of (files_of (D.held disk.old)) core.old) (number_of unit)
         (λ n. opens (core_of (files_of (D.held disk.old)) core.old) n spec.now (connected_at core.old.units n)))
         core.new (D.held disk.new) (D.refusals disk.old) (D.refusals disk.new) }
+    ensures stays { D.tells disk.old → OnErr result (AreStill
+        (if_numbered (core_of (files_of (D.held disk.old)) core.old) (number_of unit)
+        (λ n. opens (core_of (files_of (D.held disk.old)) core.old) n spec.now (connected_at core.old.units n)))
+        (D.held disk.old) (D.held disk.new)) }
     ensures own { D.tells disk.old → D.refusals disk.old ≤ D.refusals disk.new }
+    ensures units { core.new.units ≡ core.old.units }
     ensures names { D.tells disk.old → AreInUse core.new.names (D.held disk.new).in_use }
     ensures store { core.new.store ≡ core.old.store }
     ensures output { core.new.output ≡ core.old.output }

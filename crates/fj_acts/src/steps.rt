@@ -1,8 +1,8 @@
 // How a statement goes on from a job that it gave.
-ghost use Rattle.std.specs.Prelude.{◌<◌, ◌≡◌, ◌≢◌, ◌↔◌, ◌≤◌, true, All, Some, IfOk, IfSome, OnOk, Err};
+ghost use Rattle.std.specs.Prelude.{◌<◌, ◌≡◌, ◌≢◌, ◌↔◌, ◌≤◌, ℕ, true, All, Some, IfOk, IfSome, OnErr, OnOk, Err};
 ghost use Rattle.std.specs.Option.{option_map};
 ghost use Rattle.fj_outside.specs.Faults.{Rose};
-ghost use Rattle.fj_outside.specs.Holdings.{IsFree};
+ghost use Rattle.fj_outside.specs.Holdings.{Holdings, IsFree};
 ghost use Rattle.fj_bay.specs.Jobs.{Job as Task, Answer as PlainAnswer};
 ghost use Rattle.fj_bay.specs.Jobs as job;
 ghost use Rattle.fj_bay.specs.Plain.{told_of, task_of, reply_of, looked_of, moving_of};
@@ -21,7 +21,7 @@ ghost use Rattle.fj_acts.specs.Placing.{IsPlaced, slot_behind};
 ghost use Rattle.fj_acts.specs.Fitting.{Brings, IsKept, MayGoOn};
 ghost use Rattle.fj_acts.specs.Holding.{MayEnter};
 ghost use Rattle.fj_acts.specs.State.{KeepsAnswers, KeepsPending, core_of};
-ghost use Rattle.fj_acts.specs.Failing.{FailsWhere};
+ghost use Rattle.fj_acts.specs.Failing.{AreStill, FailsWhere, StandsWhere};
 ghost use Rattle.fj_units.specs.Files.{files_of};
 ghost use Rattle.fj_acts.specs.Steps.{held_in, is_due};
 ghost use Rattle.fj_acts.specs.Doing.{Ends, IsDoing, next_of, then_of, goes_on, closed, carries, looks};
@@ -56,6 +56,9 @@ pub fn given<F: FileStore>(
     requires { core.old.store.kinds ≡ kinds_of variables.now }
     ensures doing { (files : Files) → IfOk result (λ goes. IsDoing F.told F.bytes variables.now (lined.now, control_by lined.now.what)
         (core_of files core.new) goes (next_of variables.now (lined.now, control_by lined.now.what) (core_of files core.old) next number)) }
+    ensures stands { (held : Holdings) (before now : ℕ) → OnErr result (StandsWhere
+        (next_of variables.now (lined.now, control_by lined.now.what) (core_of (files_of held) core.old) next number) core.new held before now) }
+    ensures units { core.new.units ≡ core.old.units }
     ensures names { core.new.names ≡ core.old.names }
     ensures output { core.new.output ≡ core.old.output }
     ensures tells { core.new.tells ≡ core.old.tells }
@@ -147,6 +150,8 @@ fn go_on<D: Disk>(
     ensures fault { D.tells disk.old → result ≡ Err Lost.Disk → FailsWhere
         (goes_on lined.now.what (core_of (files_of (D.held disk.old)) core.old) after)
         core.new (D.held disk.new) (D.refusals disk.old) (D.refusals disk.new) }
+    ensures stays { D.tells disk.old → OnErr result (AreStill (goes_on lined.now.what (core_of (files_of (D.held disk.old)) core.old) after) (D.held disk.old) (D.held disk.new)) }
+    ensures units { core.new.units ≡ core.old.units }
     ensures own { D.tells disk.old → D.refusals disk.old ≤ D.refusals disk.new }
     ensures names { D.tells disk.old → AreInUse core.new.names (D.held disk.new).in_use }
     ensures store { core.new.store ≡ core.old.store }
@@ -215,6 +220,10 @@ fn closed<D: Disk>(
         result ≡ Err Lost.Disk → FailsWhere
         (goes_on lined.now.what (closed (core_of (files_of (D.held disk.old)) core.old) (connected_at core.old.units number) keep (job.detach (Some c), answer)) after)
         core.new (D.held disk.new) (D.refusals disk.old) (D.refusals disk.new) }
+    ensures stands { D.tells disk.old → (c : PlainConnection) (answer : PlainAnswer) → told_of D.File.told D.File.bytes connection ≡ Some c →
+        result ≢ Err Lost.Unfit → OnErr result (StandsWhere
+        (goes_on lined.now.what (closed (core_of (files_of (D.held disk.old)) core.old) (connected_at core.old.units number) keep (job.detach (Some c), answer)) after)
+        core.new (D.held disk.new) (D.refusals disk.old) (D.refusals disk.new)) }
     ensures own { D.tells disk.old → D.refusals disk.old ≤ D.refusals disk.new }
     ensures names { D.tells disk.old → AreInUse core.new.names (D.held disk.new).in_use }
     ensures store { core.new.store ≡ core.old.store }
@@ -254,6 +263,7 @@ fn looked<F: FileStore>(
     requires { core.old.store.kinds ≡ kinds_of variables.now }
     ensures doing { (files : Files) (answer : PlainAnswer) → IfOk result (λ goes. IsDoing F.told F.bytes variables.now (lined.now, control_by lined.now.what)
         (core_of files core.new) goes (looks (core_of files core.old) lined.now.what (job.look (option_map looked_of look), answer))) }
+    ensures units { core.new.units ≡ core.old.units }
     ensures names { core.new.names ≡ core.old.names }
     ensures output { core.new.output ≡ core.old.output }
     ensures tells { core.new.tells ≡ core.old.tells }
@@ -290,6 +300,7 @@ fn carried<F: FileStore>(
     requires { core.old.store.kinds ≡ kinds_of variables.now }
     ensures doing { (files : Files) (answer : PlainAnswer) → condition_in answer ≡ condition → IfOk result (λ goes. IsDoing F.told F.bytes variables.now (lined.now, control_by lined.now.what)
         (core_of files core.new) goes (carries variables.now (core_of files core.old) lined.now.what slot (job.move (moving_of moved), answer))) }
+    ensures units { core.new.units ≡ core.old.units }
     ensures names { core.new.names ≡ core.old.names }
     ensures output { core.new.output ≡ core.old.output }
     ensures tells { core.new.tells ≡ core.old.tells }
@@ -338,6 +349,9 @@ pub fn answered<D: Disk>(
     ensures fault { D.tells disk.old → (task : Task) → task_of D.File.told D.File.bytes job ≡ Some task → result ≡ Err Lost.Disk → FailsWhere
         (then_of variables.now (lined.now, control_by lined.now.what) (core_of (files_of (D.held disk.old)) core.old) then (task, reply_of answer))
         core.new (D.held disk.new) (D.refusals disk.old) (D.refusals disk.new) }
+    ensures stands { D.tells disk.old → (task : Task) → task_of D.File.told D.File.bytes job ≡ Some task → result ≢ Err Lost.Unfit → OnErr result (StandsWhere
+        (then_of variables.now (lined.now, control_by lined.now.what) (core_of (files_of (D.held disk.old)) core.old) then (task, reply_of answer))
+        core.new (D.held disk.new) (D.refusals disk.old) (D.refusals disk.new)) }
     ensures own { D.tells disk.old → D.refusals disk.old ≤ D.refusals disk.new }
     ensures names { D.tells disk.old → AreInUse core.new.names (D.held disk.new).in_use }
     ensures output { core.new.output ≡ core.old.output }
@@ -372,8 +386,8 @@ pub fn answered<D: Disk>(
         ) => closed(
             alloc, variables, lined, number, keep, after, connection, core, disk,
         ),
-        (Then::Attaches(unit), Job::Attach(None)) => {
-            core.units.insert(unit)?;
+        (Then::Attaches(units), Job::Attach(None)) => {
+            core.units = units;
             Ok(Doing::Finishes(condition))
         }
         (Then::Looks, Job::Look(look)) => looked(alloc, variables, lined, look, core),

@@ -2,7 +2,6 @@
 ghost use Rattle.std.specs.Prelude.{◌<◌, ◌≡◌, ◌≢◌, ◌↔◌, ◌≤◌, ◌++◌, [], ◌∷◌, ℕ, All, List, Some, true, IfOk, OnOk, OnErr, Err};
 ghost use Rattle.std.specs.Option.{option_map, option_copied};
 ghost use Rattle.fj_outside.specs.Faults.{Rose};
-ghost use Rattle.fj_outside.specs.Holdings.{Holdings};
 ghost use Rattle.fj_statement.specs.declared.statement.Statement.TheVariants as statement;
 ghost use Rattle.fj_statement.specs.Sound.{IsAllowed, IsTransfer};
 ghost use Rattle.fj_store.specs.Storage.{values_of};
@@ -19,12 +18,10 @@ ghost use Rattle.fj_items.specs.Handing.{HandsOver, HandsFront, HandsPart};
 ghost use Rattle.fj_pending.specs.Fitting.{IsNext};
 ghost use Rattle.fj_pending.specs.Plain.{held};
 ghost use Rattle.fj_pending.specs.declared.held.Held.{Held};
-ghost use Rattle.fj_units.specs.Files.{files_of};
 ghost use Rattle.fj_desk.specs.Desks.{most_slots};
 ghost use Rattle.fj_statement.specs.declared.statement.Statement.{Statement as PlainStatement};
 ghost use Rattle.fj_acts.specs.Calling.{may_do};
 ghost use Rattle.fj_acts.specs.Placing.{IsPlaced};
-ghost use Rattle.fj_acts.specs.Failing.{StandsWhere};
 ghost use Rattle.fj_acts.specs.Fitting.{IsKept, MayPend};
 ghost use Rattle.fj_acts.specs.Holding.{Enters, HoldsMore, pending_under, unanswered};
 ghost use Rattle.fj_acts.specs.State.{KeepsAnswers, KeepsPending, core_of, core_at};
@@ -58,6 +55,7 @@ pub(crate) fn refuse<F: FileStore>(
     requires { core.old.store.kinds ≡ kinds_of variables.now }
     ensures doing { (st : Stated) (files : Files) → IfOk result (λ next. IsDoing F.told F.bytes variables.now st (core_of files core.new) next
         (refused variables.now (core_of files core.old) t.now (moved_in variables.now (values_of core.old.store) t.now) condition)) }
+    ensures units { core.new.units ≡ core.old.units }
     ensures kinds { core.new.store.kinds ≡ core.old.store.kinds }
     ensures names { core.new.names ≡ core.old.names }
     ensures output { core.new.output ≡ core.old.output }
@@ -90,6 +88,7 @@ fn transfer<F: FileStore>(
     ensures doing { (u : PlainConnected) (st : Stated) (files : Files) → u.number ≡ unit → u.slot ≡ slot → st.0.what ≡ statement.Transfer t.now →
         IfOk result (λ next. IsDoing F.told F.bytes variables.now st (core_of files core.new) next
         (transferred (control_by (statement.Transfer t.now)) variables.now line (core_of files core.old) t.now (moved_in variables.now (values_of core.old.store) t.now) u)) }
+    ensures units { core.new.units ≡ core.old.units }
     ensures kinds { core.new.store.kinds ≡ core.old.store.kinds }
     ensures names { core.new.names ≡ core.old.names }
     ensures output { core.new.output ≡ core.old.output }
@@ -135,6 +134,7 @@ fn transfer_on<F: FileStore>(
         IfOk result (λ next. IsDoing F.told F.bytes variables.now st (core_of files core.new) next
         (on_unit (control_by (statement.Transfer t.now)) variables.now line (core_of files core.old) t.now (moved_in variables.now (values_of core.old.store) t.now)
         (connected_at core.old.units number))) }
+    ensures units { core.new.units ≡ core.old.units }
     ensures kinds { core.new.store.kinds ≡ core.old.store.kinds }
     ensures names { core.new.names ≡ core.old.names }
     ensures output { core.new.output ≡ core.old.output }
@@ -172,12 +172,10 @@ pub(crate) fn read_or_write<F: FileStore, W: Sink>(
     ensures doing { (st : Stated) (files : Files) → st.0.what ≡ statement.Transfer t.now →
         IfOk result (λ next. IsDoing F.told F.bytes variables.now st (core_of files core.new) next
         (transfer_at (control_by (statement.Transfer t.now)) variables.now line (core_of files core.old) t.now (moved_in variables.now (values_of core.old.store) t.now) t.now.unit)) }
+    ensures units { core.new.units ≡ core.old.units }
     ensures kinds { core.new.store.kinds ≡ core.old.store.kinds }
     ensures names { core.new.names ≡ core.old.names }
     ensures disk { result ≢ Err Lost.Disk }
-    ensures fault { result ≡ Err Lost.Sink → (h : Holdings) (before now : ℕ) → StandsWhere
-        (transfer_at (control_by (statement.Transfer t.now)) variables.now line (core_of (files_of h) core.old) t.now (moved_in variables.now (values_of core.old.store) t.now) t.now.unit)
-        core.new h before now }
     ensures telling { W.tells out.old ↔ W.tells out.new }
     ensures output { W.tells out.old → OnOk result (HandsOver (W.taken out.old) (W.taken out.new) core.old.output core.new.output) }
     ensures front { W.tells out.old → (files : Files) → OnErr result (HandsFront (W.taken out.old) (W.taken out.new) core.old.output
@@ -292,6 +290,7 @@ pub(crate) fn carry<F: FileStore>(
     requires { core.old.store.kinds ≡ kinds_of variables.now }
     ensures doing { (st : Stated) (files : Files) → IfOk result (λ next. IsDoing F.told F.bytes variables.now st (core_of files core.new) next
         (ends_behind slot (record (core_of files core.old) { vars = with_cells variables.now t.now job.moved.cells job.count (values_of core.old.store) }) condition)) }
+    ensures units { core.new.units ≡ core.old.units }
     ensures kinds { core.new.store.kinds ≡ core.old.store.kinds }
     ensures names { core.new.names ≡ core.old.names }
     ensures output { core.new.output ≡ core.old.output }

@@ -1,7 +1,7 @@
 // What holds of every deck that is cut, as contracts of functions with nothing to do.
 ghost use Rattle.fj_cut.specs.Others.{OthersStay, UnitsKeepDesks, StopsLeaveOthers, CutRunsLeaveOthers};
 ghost use Rattle.fj_cut.specs.Stopping.{StopsAreGiven, TurnsAreGiven, EndsAreGiven};
-ghost use Rattle.fj_cut.specs.Turning.{TurnsDo, TurnsLeaveOthers};
+ghost use Rattle.fj_cut.specs.Turning.{TurnsDo, TurnsLeaveOthers, SubmitsLeaveOthers};
 ghost use Rattle.fj_cut.specs.Awaiting.{StopsAreAwaited, WaitsAtOneUnit};
 
 /// Inside a statement each file that it is not about is as closing all units just before it leaves it.
@@ -32,6 +32,11 @@ pub fn turns_do()
 /// In each turn of a runner, once it knows the answers that it needs, so is each file that the statement at hand is not about.
 pub fn turns_leave_others()
     ensures { TurnsLeaveOthers }
+{}
+
+/// And so it is at each ask that submits a job.
+pub fn submits_leave_others()
+    ensures { SubmitsLeaveOthers }
 {}
 
 /// Where a stop was told, its slot is that of a unit at which the statement waits, or no unit is there.

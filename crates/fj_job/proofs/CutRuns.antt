@@ -59,7 +59,7 @@ pub record IsRunner {S W D F : Type 0} {ghosts : Ghosts F} (s : Shows S) (tells_
   pub due : (a : S) → s.due a ≡ due_of (machine a).tally.hand
   pub leaves : (a b : S) → s.leads a b → Leaves tells_out taken count_out tells count refusals (out a) (disk a) (machine a) (out b) (disk b) (machine b)
   pub gives_up : (a b : S) → s.leads a b → IsGivenUp (tells_out (out a)) (taken (out a)) (taken (out b)) (held (disk b)) (refusals (disk a)) (refusals (disk b)) (s.state a) (machine a) (machine b)
-  pub asking : (a b : S) → s.leads a b → FailsAsking (machine a) (machine b)
+  pub asking : (a b : S) → s.leads a b → FailsAsking (disk a) (disk b) (machine a) (machine b)
   pub stays : (a b : S) → s.leads a b → Stays (taken (out a)) (taken (out b)) (disk a) (disk b) (machine a) (machine b)
   pub reason : (a b : S) → s.leads a b → HasReason (machine a) (machine b)
 
@@ -202,8 +202,8 @@ module _ {S W D F : Type 0} {ghosts : Ghosts F} (s : Shows S) (tells_out : W →
                   at = (after (over_bays meaning) (run_conduct s) w.asks (begins meaning s deck.variables (stated deck.statements) files)).script;
                   call = f;
                   learns = learns_at meaning s deck.variables (stated deck.statements) files (ends_so deck sound) (some_statement deck sound) w.asks f.count f.run hand f.passed;
-                  turn = λ d. absurd (due (r.due before ∙ ap due_of (r.asking before gone w.call.leads going d)));
-                  given = λ d. absurd (due (r.due before ∙ ap due_of (r.asking before gone w.call.leads going d)));
+                  turn = λ d. absurd (due (r.due before ∙ ap due_of ((r.asking before gone w.call.leads).outside going d)));
+                  given = λ d. absurd (due (r.due before ∙ ap due_of ((r.asking before gone w.call.leads).outside going d)));
                 }
           ]
 

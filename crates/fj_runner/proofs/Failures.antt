@@ -9,7 +9,7 @@ use Rattle.fj_statement.specs.declared.statement.Statement.{Statement}
 use Rattle.fj_statement.specs.declared.statement.Statement.TheVariants as statement
 use Rattle.fj_items.specs.Handing.{HandsOver, HandsFront, HandsPart, whole_records}
 use Rattle.fj_items.specs.declared.lost.Lost.{Lost}
-use Rattle.fj_items.specs.declared.lost.Lost.TheVariants.{Disk, Sink}
+use Rattle.fj_items.specs.declared.lost.Lost.TheVariants.{Disk, Sink, Unfit}
 use Rattle.fj_plain.specs.State.{Output, Tell}
 use Rattle.fj_plain.specs.Statement.{Stated, Ending, ends}
 use Rattle.fj_desk.specs.Core.{Core as PlainCore}
@@ -24,7 +24,7 @@ use Rattle.fj_acts.specs.Doing.{IsDoing}
 use Rattle.fj_acts.specs.declared.doing.Doing.{Doing}
 use Rattle.fj_acts.specs.declared.doing.Doing.TheVariants as doing
 use Rattle.fj_acts.specs.declared.state.Core.{Core}
-use Rattle.fj_runner.specs.Failing.{FailsTurn, FailsStage, StandsDoing, OfOutside}
+use Rattle.fj_runner.specs.Failing.{AllFits, FailsTurn, FailsStage, StandsDoing, OfOutside}
 
 -- ---- what a sink took
 
@@ -71,11 +71,31 @@ neither : {X : Type 0} → {r : Result X Lost} {P : Type 0} → r ≢ Err Disk �
 neither n s (inl e) = absurd (n e)
 neither n s (inr e) = absurd (s e)
 
+-- it went, where it can be given up only because something does not fit
+pub only_unfit : {X : Type 0} → (r : Result X Lost) (P : Type 0) → OnErr r (r ≡ Err Unfit) → AllFits (λ lost. r ≡ Err lost) → OnErr r P
+only_unfit (Ok it) P u fits = tt
+only_unfit (Err lost) P u fits = absurd (fits u)
+
+-- what the outside fails in fits
+outside_fits : {X : Type 0} → (r : Result X Lost) → OfOutside (λ lost. r ≡ Err lost) → AllFits (λ lost. r ≡ Err lost)
+outside_fits {X = X} r (inl d) u = let z : (let x : Result X Lost = Err Disk in x) ≡ Err Unfit = sym d ∙ u in cc
+outside_fits {X = X} r (inr s) u = let z : (let x : Result X Lost = Err Sink in x) ≡ Err Unfit = sym s ∙ u in cc
+
+outside_err : {X : Type 0} → (r : Result X Lost) (P : Type 0) → OnErr r P → OfOutside (λ lost. r ≡ Err lost) → P
+outside_err (Ok it) P p (inl e) = cc
+outside_err (Ok it) P p (inr e) = cc
+outside_err (Err lost) P p o = p
+
+pub on_err_by : {X : Type 0} → (r : Result X Lost) (P Q : Type 0) → (P → Q) → OnErr r P → OnErr r Q
+on_err_by (Ok it) P Q go p = tt
+on_err_by (Err lost) P Q go p = go p
+
 module _ {W : Type 0} {tells_out : W → Type 0} {taken : W → List ℕ} {held : Holdings} {before now : ℕ} where
   -- it is not for the outside, and nothing is written
-  pub fails_still : {X : Type 0} → (out : W) (core core' : Core) (r : Result X Lost) (due : Output) (Known : Type 0) (told : List Tell) {does : Option PlainDoing} {Called : Type 0} → r ≢ Err Disk → r ≢ Err Sink
-      → FailsTurn tells_out taken out core r out core' held before now due Known told does Called
-  fails_still out core core' r due Known told n s = record {
+  pub fails_still : {X : Type 0} → (out : W) (core core' : Core) (r : Result X Lost) (due : Output) (Known : Type 0) (told : List Tell) {Still : Type 0} {does : Option PlainDoing} {Called : Type 0} → r ≢ Err Disk → r ≢ Err Sink
+      → (AllFits (λ lost. r ≡ Err lost) → OnErr r (Still ⊎ (Known × StandsDoing does core' held before now))) → FailsTurn tells_out taken out core r out core' held before now due Still Known told does Called
+  fails_still out core core' r due Known told n s w = record {
+    fits = w;
     front = λ t. on_err r (HandsFront (taken out) (taken out) core.output due ⊎ (taken out ≡ taken out)) (inr refl);
     known = λ e. neither n s e;
     stands = λ e. neither n s e;
@@ -87,9 +107,10 @@ module _ {W : Type 0} {tells_out : W → Type 0} {taken : W → List ℕ} {held 
   }
 
   -- it is not for the outside, and all is written
-  pub fails_acting : {X : Type 0} → (out out' : W) (core core' : Core) (r : Result X Lost) (due : Output) (Known : Type 0) (told : List Tell) {does : Option PlainDoing} {Called : Type 0} → r ≢ Err Disk → r ≢ Err Sink
-      → (tells_out out → HandsOver (taken out) (taken out') core.output due) → FailsTurn tells_out taken out core r out' core' held before now due Known told does Called
-  fails_acting out out' core core' r due Known told n s h = record {
+  pub fails_acting : {X : Type 0} → (out out' : W) (core core' : Core) (r : Result X Lost) (due : Output) (Known : Type 0) (told : List Tell) {Still : Type 0} {does : Option PlainDoing} {Called : Type 0} → r ≢ Err Disk → r ≢ Err Sink
+      → OnErr r (r ≡ Err Unfit) → (tells_out out → HandsOver (taken out) (taken out') core.output due) → FailsTurn tells_out taken out core r out' core' held before now due Still Known told does Called
+  fails_acting out out' core core' r due Known told {Still = Still} {does = does} n s u h = record {
+    fits = only_unfit r (Still ⊎ (Known × StandsDoing does core' held before now)) u;
     front = λ t. on_err r (HandsFront (taken out) (taken out') core.output due ⊎ (taken out' ≡ taken out)) (inl (hands_front (taken out) (taken out') core.output due (h t)));
     known = λ e. neither n s e;
     stands = λ e. neither n s e;
@@ -101,14 +122,15 @@ module _ {W : Type 0} {tells_out : W → Type 0} {taken : W → List ℕ} {held 
   }
 
   -- its own action is given up
-  pub fails_begun : {X : Type 0} → (out out' : W) (core core' : Core) (r : Result X Lost) (due : Output) {does : Option PlainDoing} {Called : Type 0} → (tells_out out → OnErr r (HandsFront (taken out) (taken out') core.output due))
+  pub fails_begun : {X : Type 0} → (out out' : W) (core core' : Core) (r : Result X Lost) (due : Output) {Still : Type 0} {does : Option PlainDoing} {Called : Type 0} → (tells_out out → OnErr r (HandsFront (taken out) (taken out') core.output due))
       → (tells_out out → r ≡ Err Sink → HandsPart (taken out) (taken out') core.output due)
-      → (r ≡ Err Disk → core'.output ≡ core.output) → core'.tells ≡ core.tells → (OfOutside (λ lost. r ≡ Err lost) → StandsDoing does core' held before now) → (r ≡ Err Disk → Rose before now) → (r ≡ Err Disk → Called)
-      → FailsTurn tells_out taken out core r out' core' held before now due (Unit {0}) (tells_of core.tells) does Called
-  fails_begun out out' core core' r due h part o t f rose called = record {
+      → (r ≡ Err Disk → core'.output ≡ core.output) → core'.tells ≡ core.tells → OnErr r (StandsDoing does core' held before now) → (r ≡ Err Disk → Rose before now) → (r ≡ Err Disk → Called)
+      → FailsTurn tells_out taken out core r out' core' held before now due Still (Unit {0}) (tells_of core.tells) does Called
+  fails_begun out out' core core' r due {Still = Still} {does = does} h part o t f rose called = record {
+    fits = λ fits. on_err_by r (StandsDoing does core' held before now) (Still ⊎ (Unit {0} × StandsDoing does core' held before now)) (λ d. inr (tt, d)) f;
     front = λ k. by r (h k);
     known = λ e. tt;
-    stands = f;
+    stands = outside_err r (StandsDoing does core' held before now) f;
     output = o;
     tells = λ e. ap tells_of t;
     rose = rose;
@@ -121,13 +143,14 @@ module _ {W : Type 0} {tells_out : W → Type 0} {taken : W → List ℕ} {held 
       by (Err lost) k = inl k
 
   -- nothing is written, and what is told stays
-  pub fails_quiet : {X : Type 0} → (out : W) (core core' : Core) (r : Result X Lost) (due : Output) {does : Option PlainDoing} {Called : Type 0} → core'.output ≡ core.output → core'.tells ≡ core.tells
-      → r ≢ Err Sink → (r ≡ Err Disk → StandsDoing does core' held before now) → (r ≡ Err Disk → Rose before now) → (r ≡ Err Disk → Called)
-      → FailsTurn tells_out taken out core r out core' held before now due (Unit {0}) (tells_of core.tells) does Called
-  fails_quiet out core core' r due o t s f rose called = record {
+  pub fails_quiet : {X : Type 0} → (out : W) (core core' : Core) (r : Result X Lost) (due : Output) {Still : Type 0} {does : Option PlainDoing} {Called : Type 0} → core'.output ≡ core.output → core'.tells ≡ core.tells
+      → r ≢ Err Sink → (AllFits (λ lost. r ≡ Err lost) → OnErr r (StandsDoing does core' held before now)) → (r ≡ Err Disk → Rose before now) → (r ≡ Err Disk → Called)
+      → FailsTurn tells_out taken out core r out core' held before now due Still (Unit {0}) (tells_of core.tells) does Called
+  fails_quiet out core core' r due {Still = Still} {does = does} o t s f rose called = record {
+    fits = λ fits. on_err_by r (StandsDoing does core' held before now) (Still ⊎ (Unit {0} × StandsDoing does core' held before now)) (λ d. inr (tt, d)) (f fits);
     front = λ k. on_err r (HandsFront (taken out) (taken out) core.output due ⊎ (taken out ≡ taken out)) (inr refl);
     known = λ e. tt;
-    stands = λ e. elim e [ inl d ↦ f d | inr lost ↦ absurd (s lost) ];
+    stands = λ e. outside_err r (StandsDoing does core' held before now) (f (outside_fits r e)) e;
     output = λ e. o;
     tells = λ e. ap tells_of t;
     rose = rose;
@@ -136,9 +159,10 @@ module _ {W : Type 0} {tells_out : W → Type 0} {taken : W → List ℕ} {held 
   }
 
   -- by another word for what was due
-  pub fails_from : {X : Type 0} → (out out' : W) (core half core' : Core) (r : Result X Lost) (due due' : Output) (Known Known' : Type 0) (told told' : List Tell) {does does' : Option PlainDoing} {Called : Type 0} → half.output ≡ core.output → due ≡ due' → (Known → Known')
-      → told ≡ told' → does ≡ does' → FailsTurn tells_out taken out half r out' core' held before now due Known told does Called → FailsTurn tells_out taken out core r out' core' held before now due' Known' told' does' Called
-  fails_from out out' core half core' r due due' Known Known' told told' o d k t w f = record {
+  pub fails_from : {X : Type 0} → (out out' : W) (core half core' : Core) (r : Result X Lost) (due due' : Output) (Known Known' : Type 0) (told told' : List Tell) {Still Still' : Type 0} {does does' : Option PlainDoing} {Called : Type 0} → half.output ≡ core.output → due ≡ due' → (Still → Still') → (Known → Known')
+      → told ≡ told' → does ≡ does' → FailsTurn tells_out taken out half r out' core' held before now due Still Known told does Called → FailsTurn tells_out taken out core r out' core' held before now due' Still' Known' told' does' Called
+  fails_from out out' core half core' r due due' Known Known' told told' {Still = Still} {Still' = Still'} {does = does} {does' = does'} o d l k t w f = record {
+    fits = λ fits. on_err_by r (Still ⊎ (Known × StandsDoing does core' held before now)) (Still' ⊎ (Known' × StandsDoing does' core' held before now)) by (f.fits fits);
     front = λ s. subst (λ x. OnErr r (HandsFront (taken out) (taken out') x due' ⊎ (taken out' ≡ taken out))) o
         (subst (λ x. OnErr r (HandsFront (taken out) (taken out') half.output x ⊎ (taken out' ≡ taken out))) d (f.front s));
     known = λ e. k (f.known e);
@@ -149,6 +173,10 @@ module _ {W : Type 0} {tells_out : W → Type 0} {taken : W → List ℕ} {held 
     called = f.called;
     begun = λ s e. subst (λ x. HandsPart (taken out) (taken out') x due') o (subst (λ x. HandsPart (taken out) (taken out') half.output x) d (f.begun s e));
   }
+    where
+      by : Still ⊎ (Known × StandsDoing does core' held before now) → Still' ⊎ (Known' × StandsDoing does' core' held before now)
+      by (inl x) = inl (l x)
+      by (inr x) = inr (k x.0, subst (λ y. StandsDoing y core' held before now) w x.1)
 
   -- by another word for the stage
   pub fails_at : {X : Type 0} → (out out' : W) (core core' : Core) (r : Result X Lost) (st : Stated) (x y : Stage) (run : Run) → x ≡ y → FailsStage tells_out taken out core r out' core' held before now st x run → FailsStage tells_out taken out core r out' core' held before now st y run

@@ -7,6 +7,7 @@ use Rattle.fj_outside.specs.declared.outside.FileStore.{Ghosts}
 use Rattle.fj_items.specs.Handing.{HandsOver, HandsFront, HandsPart, whole_records}
 use Rattle.fj_items.specs.declared.lost.Lost.{Lost}
 use Rattle.fj_items.specs.declared.lost.Lost.TheVariants.{Disk, Sink, Unfit}
+use Rattle.fj_world.specs.Conduct.{IsSubmitting}
 use Rattle.fj_world.specs.declared.ask.Ask.{Ask}
 use Rattle.fj_world.specs.declared.ask.Ask.TheVariants.{Submit, Settle, Finished}
 use Rattle.fj_bay.specs.Jobs.{Job as Task}
@@ -17,19 +18,20 @@ use Rattle.fj_value.specs.declared.condition.Rule.{Rule}
 use Rattle.fj_desk.specs.Doing.{Doing, finishes, gives, awaits}
 use Rattle.fj_turns.specs.Run.{Run, Stage, Start, Waiting, Acting, Awaiting}
 use Rattle.fj_turns.specs.Turns.{Turn, Pauses, Passes, Stops, Asked, finish_by, with_core, with_iostat, turn_act, with_tells, doing_told, wait_by, waited_now, unsettled, start_by, rule_of, turn_start, turn, goes, by_turn, asked_on, asked}
-use Rattle.fj_turns.specs.Passing.{passed_by, passed_on, passes, output_of, output_due, turn_output, known_due, tells_due}
-use Rattle.fj_cut.specs.Turning.{doing_due, turn_doing}
+use Rattle.fj_turns.specs.Passing.{passed_by, passed_on, passes, output_of, output_due, turn_output, knows_at, known_due, tells_due}
+use Rattle.fj_cut.specs.Turning.{doing_at, doing_due, turn_doing, IsUnbegun}
 use Rattle.fj_units.specs.Files.{files_of}
 use Rattle.fj_units.specs.Returning.{IsAsDue}
 use Rattle.fj_pending.specs.Plain.{tells_of}
 use Rattle.fj_acts.specs.Failing.{StandsWhere}
 use Rattle.fj_acts.specs.State.{core_at}
 use Rattle.fj_acts.specs.declared.state.Core.{Core}
-use Rattle.fj_runner.specs.Failing.{FailsStage, StandsDoing, CallsDisk, FailsCall, OfOutside, IsGivenUp, FailsAsking}
+use Rattle.fj_runner.specs.Failing.{AllFits, FailsStage, StandsAt, StandsDoing, StandsStill, CallsDisk, FailsCall, OfOutside, IsGivenUp, FailsAsking}
 use Rattle.fj_runner.specs.Leaving.{Rests}
 use Rattle.fj_runner.specs.Machine.{rest_of, run_in, run_at, run_of, stage_at}
-use Rattle.fj_runner.specs.Tallying.{first_lost}
+use Rattle.fj_runner.specs.Tallying.{due_of, first_lost}
 use Rattle.fj_runner.specs.Turned.{IsTask, IsAsked}
+use Rattle.fj_runner.specs.declared.hand.Hand.TheVariants.{Idle}
 use Rattle.fj_runner.specs.declared.machine.Machine.{Machine}
 use Rattle.fj_runner.proofs.Failures.{hands_front}
 use Rattle.fj_runner.proofs.NextAsks.{goes_turn, run_known, some_same}
@@ -85,14 +87,15 @@ doing_before due core held before mid now h f = record { does = f.does; is = f.i
 module _ {F : Type 0} {ghosts : Ghosts F} where
   -- behind statements that were passed
   pub fails_behind : (Of : Lost → Type 0) (TellsOut TellsMid : Type 0) (a b c : List ℕ) {held : Holdings} {before between now : ℕ} (n : ℕ) (r half : Run) (m mid m' : Machine F ghosts) → passes n r ≡ Some half → (TellsOut → TellsMid)
-      → (TellsOut → HandsOver a b m.state.core.output mid.state.core.output) → before ≤ between → FailsCall Of TellsMid b c held between now half mid m' → FailsCall Of TellsOut a c held before now r m m'
-  fails_behind Of TellsOut TellsMid a b c {held = held} {before = before} {between = between} {now = now} n r half m mid m' p tells h own f = record {
+      → (TellsOut → HandsOver a b m.state.core.output mid.state.core.output) → before ≤ between → mid.tally.hand ≡ m.tally.hand → FailsCall Of TellsMid b c held between now half mid m' → FailsCall Of TellsOut a c held before now r m m'
+  fails_behind Of TellsOut TellsMid a b c {held = held} {before = before} {between = between} {now = now} n r half m mid m' p tells h own hand f = record {
     count = n + f.count;
     run = f.run;
     passed = passes_both n f.count r half f.run p f.passed;
     rest = f.rest;
     front = λ t. by t (f.front (tells t));
-    outside = λ o. let k = f.outside o in record { known = k.known; does = doing_before (turn_doing f.run) m'.state.core held before between now own k.does };
+    outside = λ o. by_then (f.outside o);
+    fits = λ idle fits. elim (f.fits (hand ∙ idle) fits) [ inl s ↦ inl s | inr k ↦ inr (by_then k) ];
     disk = λ d. let k = f.disk d in record {
       output = k.output;
       handed = λ t. hands_both a b c m.state.core.output mid.state.core.output f.run.core.output (h t) (k.handed (tells t));
@@ -103,16 +106,19 @@ module _ {F : Type 0} {ghosts : Ghosts F} where
     sink = λ s t. let k = f.sink s (tells t) in (k.0, hands_both a b k.0 m.state.core.output mid.state.core.output f.run.core.output (h t) k.1, k.2);
   }
     where
+      by_then : StandsAt held between now f.run m' → StandsAt held before now f.run m'
+      by_then k = record { known = k.known; does = doing_before (turn_doing f.run) m'.state.core held before between now own k.does }
+
       by : TellsOut → HandsFront b c mid.state.core.output (turn_output f.run) ⊎ HandsOver b c mid.state.core.output f.run.core.output
           → HandsFront a c m.state.core.output (turn_output f.run) ⊎ HandsOver a c m.state.core.output f.run.core.output
       by t (inl k) = inl (hands_then a b c m.state.core.output mid.state.core.output (turn_output f.run) (h t) k)
       by t (inr k) = inr (hands_both a b c m.state.core.output mid.state.core.output f.run.core.output (h t) k)
 
   -- from another machine with the same output
-  pub fails_like : (Of : Lost → Type 0) (TellsOut : Type 0) (a b : List ℕ) {held : Holdings} {before now : ℕ} (r : Run) (m mid m' : Machine F ghosts) → mid.state.core.output ≡ m.state.core.output
+  pub fails_like : (Of : Lost → Type 0) (TellsOut : Type 0) (a b : List ℕ) {held : Holdings} {before now : ℕ} (r : Run) (m mid m' : Machine F ghosts) → mid.state.core.output ≡ m.state.core.output → mid.tally.hand ≡ m.tally.hand
       → FailsCall Of TellsOut a b held before now r mid m' → FailsCall Of TellsOut a b held before now r m m'
-  fails_like Of TellsOut a b r m mid m' e f =
-      fails_behind Of TellsOut TellsOut a a b 0 r r m mid m' refl (λ t. t) (λ t. hands_none a a m.state.core.output mid.state.core.output refl e) (omega arith) f
+  fails_like Of TellsOut a b r m mid m' e hand f =
+      fails_behind Of TellsOut TellsOut a a b 0 r r m mid m' refl (λ t. t) (λ t. hands_none a a m.state.core.output mid.state.core.output refl e) (omega arith) hand f
 
   -- to another machine with the same state
   pub fails_to : (Of : Lost → Type 0) (TellsOut : Type 0) (a b : List ℕ) {held : Holdings} {before now : ℕ} (r : Run) (m m' m'' : Machine F ghosts) → rest_of m'' ≡ rest_of m' → m''.state.core ≡ m'.state.core
@@ -123,7 +129,8 @@ module _ {F : Type 0} {ghosts : Ghosts F} where
     passed = f.passed;
     rest = rest ∙ f.rest;
     front = f.front;
-    outside = λ o. let k = f.outside o in record { known = k.known; does = subst (λ (x : Core). StandsDoing (turn_doing f.run) x held before now) (sym core) k.does };
+    outside = λ o. by (f.outside o);
+    fits = λ idle fits. elim (f.fits idle fits) [ inl s ↦ inl (subst (λ (x : Core). StandsStill (IsUnbegun f.run.stage) f.run x held) (sym core) s) | inr k ↦ inr (by k) ];
     disk = λ d. let k = f.disk d in record {
       output = ap (λ (x : Core). x.output) core ∙ k.output;
       handed = k.handed;
@@ -133,21 +140,25 @@ module _ {F : Type 0} {ghosts : Ghosts F} where
     };
     sink = f.sink;
   }
+    where
+      by : StandsAt held before now f.run m' → StandsAt held before now f.run m''
+      by k = record { known = k.known; does = subst (λ (x : Core). StandsDoing (turn_doing f.run) x held before now) (sym core) k.does }
 
   -- by another word for the run
   pub fails_run : (Of : Lost → Type 0) (TellsOut : Type 0) (a b : List ℕ) {held : Holdings} {before now : ℕ} (r r' : Run) (m m' : Machine F ghosts) → r ≡ r' → FailsCall Of TellsOut a b held before now r m m' → FailsCall Of TellsOut a b held before now r' m m'
   fails_run Of TellsOut a b {held = held} {before = before} {now = now} r r' m m' e f = subst (λ x. FailsCall Of TellsOut a b held before now x m m') e f
 
   -- by another word for what it is for
-  pub fails_for : (Of Of' : Lost → Type 0) (TellsOut : Type 0) (a b : List ℕ) {held : Holdings} {before now : ℕ} (r : Run) (m m' : Machine F ghosts) → ((lost : Lost) → Of' lost → Of lost) → FailsCall Of TellsOut a b held before now r m m'
+  pub fails_for : (Of Of' : Lost → Type 0) (TellsOut : Type 0) (a b : List ℕ) {held : Holdings} {before now : ℕ} (r : Run) (m m' : Machine F ghosts) → ((lost : Lost) → Of' lost → Of lost) → (Of Unfit → Of' Unfit) → FailsCall Of TellsOut a b held before now r m m'
       → FailsCall Of' TellsOut a b held before now r m m'
-  fails_for Of Of' TellsOut a b r m m' go f = record {
+  fails_for Of Of' TellsOut a b r m m' go back f = record {
     count = f.count;
     run = f.run;
     passed = f.passed;
     rest = f.rest;
     front = f.front;
     outside = λ o. f.outside (elim o [ inl d ↦ inl (go Disk d) | inr s ↦ inr (go Sink s) ]);
+    fits = λ idle fits. f.fits idle (λ u. fits (back u));
     disk = λ d. f.disk (go Disk d);
     sink = λ s. f.sink (go Sink s);
   }
@@ -163,10 +174,11 @@ module _ {F : Type 0} {ghosts : Ghosts F} where
     passed = refl;
     rest = rest;
     front = λ t. by (subst (λ (y : Result X Lost). OnErr y (HandsFront (taken out) (taken out') m.state.core.output (output_of (turn st r.stage r)) ⊎ (taken out' ≡ taken out))) is (f.front t));
-    outside = λ o. record {
-      known = subst (λ rest. known_due rest r) (sym h) (f.known o);
-      does = subst (λ rest. StandsDoing (doing_due rest r) m'.state.core held before now) (sym h) (f.stands o);
-    };
+    outside = λ o. there (f.known o) (f.stands o);
+    fits = λ idle fits. elim (subst (λ (y : Result X Lost). OnErr y (StandsStill (IsUnbegun r.stage) r m'.state.core held ⊎ (knows_at st r.stage r × StandsDoing (doing_at st r.stage r) m'.state.core held before now))) is (f.fits fits)) [
+      | inl s ↦ inl s
+      | inr k ↦ inr (there k.0 k.1)
+    ];
     disk = λ d. record {
       output = f.output d ∙ sym o;
       handed = λ t. subst (λ y. HandsOver (taken out) (taken out') m.state.core.output y) (f.output d ∙ sym o) (still t d);
@@ -181,6 +193,12 @@ module _ {F : Type 0} {ghosts : Ghosts F} where
     );
   }
     where
+      there : knows_at st r.stage r → StandsDoing (doing_at st r.stage r) m'.state.core held before now → StandsAt held before now r m'
+      there known stands = record {
+        known = subst (λ rest. known_due rest r) (sym h) known;
+        does = subst (λ rest. StandsDoing (doing_due rest r) m'.state.core held before now) (sym h) stands;
+      }
+
       due : output_of (turn st r.stage r) ≡ turn_output r
       due = ap (λ rest. output_due rest r) (sym h)
 
@@ -190,14 +208,15 @@ module _ {F : Type 0} {ghosts : Ghosts F} where
       by (inr k) = inr (hands_none (taken out) (taken out') m.state.core.output r.core.output k o)
 
   -- nothing was done
-  pub fails_none : (Of : Lost → Type 0) (TellsOut : Type 0) (a : List ℕ) {held : Holdings} {before now : ℕ} (r : Run) (m m' : Machine F ghosts) → rest_of m' ≡ r.rest → r.core.output ≡ m.state.core.output → (OfOutside Of → ⊥) → FailsCall Of TellsOut a a held before now r m m'
-  fails_none Of TellsOut a r m m' rest o n = record {
+  pub fails_none : (Of : Lost → Type 0) (TellsOut : Type 0) (a : List ℕ) {held : Holdings} {before now : ℕ} (r : Run) (m m' : Machine F ghosts) → rest_of m' ≡ r.rest → r.core.output ≡ m.state.core.output → (OfOutside Of → ⊥) → m.tally.hand ≢ Idle → FailsCall Of TellsOut a a held before now r m m'
+  fails_none Of TellsOut a r m m' rest o n asks = record {
     count = 0;
     run = r;
     passed = refl;
     rest = rest;
     front = λ t. inr (hands_none a a m.state.core.output r.core.output refl o);
     outside = λ o. absurd (n o);
+    fits = λ idle fits. absurd (asks idle);
     disk = λ d. absurd (n (inl d));
     sink = λ s. absurd (n (inr s));
   }
@@ -292,8 +311,8 @@ task_finished told bytes Finished Finished t n e = absurd (n refl)
 
 module _ {F : Type 0} {ghosts : Ghosts F} where
   pub refused_fails : (told : F → Bool) (bytes : F → List ℕ) (Of : Lost → Type 0) (TellsOut : Type 0) (a b : List ℕ) {held : Holdings} {before now : ℕ} (files : Files) (r : Run) (m mid m' : Machine F ghosts) (ask : Ask (Job F)) → IsAsked told bytes files mid ask (asked r) → ask ≢ Finished
-      → mid.deck ≡ m'.deck → mid.at ≡ m'.at → (TellsOut → HandsOver a b m.state.core.output mid.state.core.output) → (OfOutside Of → ⊥) → FailsCall Of TellsOut a b held before now r m m'
-  refused_fails told bytes Of TellsOut a b files r m mid m' ask it n deck at h none =
+      → mid.deck ≡ m'.deck → mid.at ≡ m'.at → (TellsOut → HandsOver a b m.state.core.output mid.state.core.output) → (OfOutside Of → ⊥) → Of Unfit → FailsCall Of TellsOut a b held before now r m m'
+  refused_fails told bytes Of TellsOut a b files r m mid m' ask it n deck at h none unfit =
       let p = asked_pauses r (task_finished told bytes (asked r).ask ask it.asks n) in
       let k = run_known (run_at files mid) (stage_at told bytes files mid) (asked r).run it.run in
       let out : mid.state.core.output ≡ turn_output p.run = ap (λ (x : Run). x.core.output) k.2 ∙ p.output in
@@ -304,6 +323,7 @@ module _ {F : Type 0} {ghosts : Ghosts F} where
         rest = same_rest mid m' deck at ∙ ap (λ (x : Run). x.rest) k.2 ∙ p.rest;
         front = λ t. inl (hands_front a b m.state.core.output (turn_output p.run) (subst (λ o. HandsOver a b m.state.core.output o) out (h t)));
         outside = λ o. absurd (none o);
+        fits = λ idle fits. absurd (fits unfit);
         disk = λ d. absurd (none (inl d));
         sink = λ s. absurd (none (inr s));
       }
@@ -313,9 +333,12 @@ module _ {F : Type 0} {ghosts : Ghosts F} where
 
 -- ---- what was lost
 
-first_some : {X : Type 0} → (o : Option X) (b : Bool) → (IsSome o → b ≡ true) → b ≡ false → o ≡ None
+pub first_some : {X : Type 0} → (o : Option X) (b : Bool) → (IsSome o → b ≡ true) → b ≡ false → o ≡ None
 first_some None b h f = refl
 first_some (Some x) b h f = absurd (not_both b (h refl) f)
+
+pub lost_is : {X : Type 0} → {lost other : Lost} → (let r : Result X Lost = Err lost in r) ≡ Err other → lost ≡ other
+lost_is e = cc
 
 -- while it is not over nothing is lost
 pub only_first : (o : Option Lost) (b : Bool) (lost first : Lost) → (IsSome o → b ≡ true) → b ≡ false → first_lost o lost ≡ Some first → lost ≡ first
@@ -325,6 +348,11 @@ only_first o b lost first h f e = let n = first_some o b h f in some_same lost f
 pub unfit_inside : (o : Option Lost) (b : Bool) → (IsSome o → b ≡ true) → b ≡ false → OfOutside (λ lost. first_lost o Unfit ≡ Some lost) → ⊥
 unfit_inside o b h f (inl e) = let no : Unfit ≡ Disk = only_first o b Unfit Disk h f e in cc
 unfit_inside o b h f (inr e) = let no : Unfit ≡ Sink = only_first o b Unfit Sink h f e in cc
+
+-- and it fits not, where no stop was told
+pub only_stop : (stopped : Bool) (lost : Option Lost) → stopped ≡ false → (stopped ≡ true) ⊎ (lost ≡ Some Unfit) → AllFits (λ x. lost ≡ Some x) → ⊥
+only_stop stopped lost n (inl stop) fits = not_both stopped stop n
+only_stop stopped lost n (inr unfit) fits = fits unfit
 
 -- what it was lost for, where the records that ended are with the sink
 pub disk_lost : (o o' : Option Lost) (b : Bool) (lost : Lost) → (IsSome o → b ≡ true) → b ≡ false → o' ≡ first_lost o lost → (o' ≡ None) ⊎ (o' ≡ Some Disk) → lost ≡ Disk
@@ -342,14 +370,21 @@ module _ {F : Type 0} {ghosts : Ghosts F} where
   none_rests m m' s going o =
       none_outside m.tally.lost (first_some m.tally.lost m.tally.over m.tally.lost_over going) (elim o [ inl d ↦ inl (s.of_disk d) | inr k ↦ inr (s.of_sink k) ])
 
-  pub rests_give_up : (told : F → Bool) (bytes : F → List ℕ) (TellsOut : Type 0) (a : List ℕ) {held : Holdings} {before now : ℕ} (files : Files) (m m' : Machine F ghosts) → Rests m m' → IsGivenUp TellsOut a a held before now (run_of told bytes files m) m m'
-  rests_give_up told bytes TellsOut a files m m' s r e going over stopped =
+  pub rests_give_up : (told : F → Bool) (bytes : F → List ℕ) (TellsOut : Type 0) (a : List ℕ) {held : Holdings} {before now : ℕ} (files : Files) (m m' : Machine F ghosts) → m.tally.hand ≢ Idle → Rests m m' → IsGivenUp TellsOut a a held before now (run_of told bytes files m) m m'
+  rests_give_up told bytes TellsOut a files m m' asks s r e going over stopped =
       let k = run_known (run_at files m) (stage_at told bytes files m) r e in
       let rest : rest_of m' ≡ rest_of m = ap (λ d. drop m'.at (stated d.statements)) s.deck ∙ ap (λ i. drop i (stated m.deck.statements)) s.at in
-      fails_none (λ lost. m'.tally.lost ≡ Some lost) TellsOut a r m m' (rest ∙ ap (λ (x : Run). x.rest) k.2) (sym (ap (λ (x : Run). x.core.output) k.2)) (none_rests m m' s going)
+      fails_none (λ lost. m'.tally.lost ≡ Some lost) TellsOut a r m m' (rest ∙ ap (λ (x : Run). x.rest) k.2) (sym (ap (λ (x : Run). x.core.output) k.2)) (none_rests m m' s going) asks
 
-  pub rests_ask : (m m' : Machine F ghosts) → Rests m m' → FailsAsking m m'
-  rests_ask m m' s going o = absurd (none_rests m m' s going o)
+  pub rests_ask : {D : Type 0} (disk : D) (m m' : Machine F ghosts) → Rests m m'
+      → (m.tally.over ≡ false → m'.tally.over ≡ true → m'.tally.stopped ≡ false → AllFits (λ lost. m'.tally.lost ≡ Some lost) → IsSubmitting (due_of m.tally.hand)) → FailsAsking disk disk m m'
+  rests_ask disk m m' s submits = record {
+    outside = λ going o. absurd (none_rests m m' s going o);
+    same_disk = λ asks. refl;
+    units = λ asks. s.units;
+    at = λ asks. s.at;
+    submits = λ asks. submits;
+  }
 
   -- where the disk tells
   pub given_up_told : (TellsOut : Type 0) (a b : List ℕ) {held : Holdings} {before now : ℕ} (decided : Bool) (o : Option Run) (m m' : Machine F ghosts) → (decided ≡ true → IsGivenUp TellsOut a b held before now o m m')
@@ -362,7 +397,3 @@ module _ {F : Type 0} {ghosts : Ghosts F} where
 pub passed_at : {F : Type 0} {ghosts : Ghosts F} → (files : Files) (m : Machine F ghosts) (x : Stage) (st : Stated) (more : List Stated) (r : Run) → run_at files m x ≡ r → rest_of m ≡ st ∷ more
     → passed_on r.rest r ≡ passed_by more (turn st x (run_in m.deck.variables (st ∷ more) files m.state x))
 passed_at files m x st more r e h = ap (λ (y : Run). passed_on y.rest y) (sym e) ∙ ap (λ (rest : List Stated). passed_on rest (run_in m.deck.variables rest files m.state x)) h
-
-pub on_err_by : {X : Type 0} → (r : Result X Lost) (P Q : Type 0) → (P → Q) → OnErr r P → OnErr r Q
-on_err_by (Ok it) P Q go p = tt
-on_err_by (Err lost) P Q go p = go p

@@ -28,6 +28,7 @@ pub record Leaves {W D F : Type 0} {ghosts : Ghosts F} (tells_out : W → Type 0
 pub record Rests {F : Type 0} {ghosts : Ghosts F} (m m' : Machine F ghosts) : Type 0 where
   pub at : m'.at ≡ m.at
   pub names : m'.state.core.names ≡ m.state.core.names
+  pub units : m'.state.core.units ≡ m.state.core.units
   pub output : m'.state.core.output ≡ m.state.core.output
   pub of_disk : m'.tally.lost ≡ Some Disk → m.tally.lost ≡ Some Disk
   pub of_sink : m'.tally.lost ≡ Some Sink → m.tally.lost ≡ Some Sink

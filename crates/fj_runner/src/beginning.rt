@@ -26,7 +26,7 @@ ghost use Rattle.fj_runner.specs.Numbering.{AreSlots, OwnIsLast, OwnIsUntold, sl
 ghost use Rattle.fj_runner.specs.Passing.{are_passed, is_passed, is_waiting};
 ghost use Rattle.fj_runner.specs.Turned.{IsTurn};
 ghost use Rattle.fj_runner.specs.Stepping.{Keeps, Steps};
-ghost use Rattle.fj_runner.specs.Failing.{FailsTurn, FailsStage};
+ghost use Rattle.fj_runner.specs.Failing.{FailsTurn, FailsStage, StandsStill};
 ghost use Rattle.fj_runner.specs.Closing.{may_be_at};
 ghost use Rattle.fj_units.specs.Having.{HaveFiles};
 ghost use Rattle.fj_statement.specs.Sound.{IsSoundStatement};
@@ -127,7 +127,8 @@ impl<F: FileStore> State<F> {
         ensures fails { D.tells disk.old → (more : List Stated) (stage : PlainStage)
             → FailsTurn W.tells W.taken out.old self.old.core result out.new self.new.core (D.held disk.new) (D.refusals disk.old) (D.refusals disk.new)
             (output_of (turn_tell (lined.now, control_by lined.now.what) (waited_of whose (entries self.old.core.pending))
-            (run_in variables.now ((lined.now, control_by lined.now.what) ∷ more) (files_of (D.held disk.old)) self.old stage))) (Unit {0})
+            (run_in variables.now ((lined.now, control_by lined.now.what) ∷ more) (files_of (D.held disk.old)) self.old stage)))
+            (StandsStill (Unit {0}) (run_in variables.now ((lined.now, control_by lined.now.what) ∷ more) (files_of (D.held disk.old)) self.old stage) self.new.core (D.held disk.new)) (Unit {0})
             (tells_of self.old.core.tells ++ map (tell_of lined.now.line) (waited_of whose (entries self.old.core.pending)))
             (Some (doing_told variables.now (lined.now, control_by lined.now.what) (waited_of whose (entries self.old.core.pending)) (core_of (files_of (D.held disk.old)) self.old.core))) (calls_disk lined.now.what ≡ true) }
         ensures may { may_be_at lined.now.what self.new.stage ≡ true }

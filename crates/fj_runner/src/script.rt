@@ -74,7 +74,7 @@ impl<'a, 'b, 'c, W: Sink, D: Disk> Script for Runner<'a, 'b, 'c, W, D> {
           (Leaves W.tells W.taken W.count D.tells D.count D.refusals old.out.now old.disk.now old.machine.now new.out.now new.disk.now new.machine.now)
           (IsGivenUp (W.tells old.out.now) (W.taken old.out.now) (W.taken new.out.now) (D.held new.disk.now) (D.refusals old.disk.now) (D.refusals new.disk.now)
           (if D.told old.disk.now then run_of D.File.told D.File.bytes (files_of (D.held old.disk.now)) old.machine.now else None) old.machine.now new.machine.now)
-          (FailsAsking old.machine.now new.machine.now) (Stays (W.taken old.out.now) (W.taken new.out.now) old.disk.now new.disk.now old.machine.now new.machine.now) (HasReason old.machine.now new.machine.now);
+          (FailsAsking old.disk.now new.disk.now old.machine.now new.machine.now) (Stays (W.taken old.out.now) (W.taken new.out.now) old.disk.now new.disk.now old.machine.now new.machine.now) (HasReason old.machine.now new.machine.now);
       state = λ r. if D.told r.disk.now then run_of D.File.told D.File.bytes (files_of (D.held r.disk.now)) r.machine.now else None;
     }) };
 

@@ -160,6 +160,7 @@ impl<F: FileStore> Machine<F> {
         ensures owed { self.new.tally.owed ≡ self.old.tally.owed }
         ensures over { self.old.tally.over ≡ true → self.new.tally.over ≡ true }
         ensures reason { self.old.tally.over ≡ false → self.new.tally.over ≡ true → IsSome self.new.tally.lost }
+        ensures unfit { self.old.tally.over ≡ false → self.new.tally.over ≡ true → self.new.tally.lost ≡ Some Lost.Unfit }
         ensures stopped { self.new.tally.stopped ≡ self.old.tally.stopped }
         ensures hears { self.new.tally.over ≡ false → Hears self.old.state self.new.state }
         ensures rests { Rests self.old self.new }
@@ -181,6 +182,7 @@ impl<F: FileStore> Machine<F> {
         ensures owed { (slot : ℕ) → owed_at self.new.tally.owed.items slot ≡ owed_after_settle (due_of self.old.tally.hand) (owed_at self.old.tally.owed.items) slot }
         ensures over { self.old.tally.over ≡ true → self.new.tally.over ≡ true }
         ensures reason { HasReason self.old self.new }
+        ensures unfit { self.old.tally.over ≡ false → self.new.tally.over ≡ true → (self.new.tally.stopped ≡ true) ⊎ (self.new.tally.lost ≡ Some Lost.Unfit) }
         ensures halts { is_done told ≡ false → (self.new.tally.over ≡ true) × (self.new.tally.stopped ≡ true) }
         ensures stops { self.new.tally.stopped ≡ true → (is_done told ≡ false) × (self.new.state ≡ self.old.state) × (self.new.at ≡ self.old.at) }
         ensures told { (files : Files) (r : Run) (reply : Outcome) → run_of F.told F.bytes files self.old ≡ Some r → self.new.tally.over ≡ false

@@ -1,5 +1,5 @@
 // The turns of a statement once its transfers are told: each comes to an ask, passes on to the next statement, or stops at an ending.
-ghost use Rattle.std.specs.Prelude.{◌≡◌, ◌≢◌, ◌<◌, ◌+◌, ◌^◌, ℕ, List, ◌∷◌, true, Some, Err, IfOk, OnOk, drop, map, get_or};
+ghost use Rattle.std.specs.Prelude.{◌≡◌, ◌≢◌, ◌<◌, ◌+◌, ◌^◌, ℕ, List, ◌∷◌, true, Some, Err, IfOk, OnErr, OnOk, drop, map, get_or};
 ghost use Rattle.fj_statement.specs.declared.deck.Variable.{Variable};
 ghost use Rattle.fj_statement.specs.Sound.{IsSoundStatement};
 ghost use Rattle.fj_value.specs.declared.condition.Condition.TheVariants.{Fine};
@@ -99,6 +99,7 @@ impl<F: FileStore> State<F> {
             (turn_finish (lined.now, control_by lined.now.what) (core_of files self.old.core) condition
             (record (run_in variables.now ((lined.now, control_by lined.now.what) ∷ more) files self.old stage) { core = core; book = book }))) }
         ensures keeps { Keeps self.old.core result self.new.core }
+        ensures lost { OnErr result (result ≡ Err Lost.Unfit) }
         ensures fits { IsSoundStatement variables.now lined.now.what → result ≢ Err Lost.Unfit }
         ensures holds { IsKept variables.now self.old.core → OnOk result (IsKept variables.now self.new.core) }
         ensures start { self.new.stage ≡ Stage.Start }
@@ -144,6 +145,7 @@ impl<F: FileStore> State<F> {
         ensures keeps { Keeps self.old.core result self.new.core }
         ensures may { may_be_at lined.now.what self.new.stage ≡ true }
         ensures starts { IfOk result (λ t. t ≡ Turned.Passes → self.new.stage ≡ Stage.Start) }
+        ensures lost { OnErr result (result ≡ Err Lost.Unfit) }
         ensures fits { IsSoundStatement variables.now lined.now.what → result ≢ Err Lost.Unfit }
         ensures files { HaveNext doing self.old.core.names self.old.core.units lined.now.what → IfOk result (λ t. HaveTurned t self.new lined.now.what) }
         ensures counts { IfOk result (λ t. Counts t self.old self.new) }
@@ -200,7 +202,7 @@ impl<F: FileStore> State<F> {
             (output_of (turn_act (lined.now, control_by lined.now.what)
             (ends_halts (drop next slots) (core_of (files_of (D.held disk.old)) self.old.core)
             (doing (control_by lined.now.what) variables.now lined.now.line (core_of (files_of (D.held disk.old)) self.old.core) lined.now.what condition))
-            (run_in variables.now ((lined.now, control_by lined.now.what) ∷ more) (files_of (D.held disk.old)) self.old stage))) (Unit {0}) (tells_of self.old.core.tells)
+            (run_in variables.now ((lined.now, control_by lined.now.what) ∷ more) (files_of (D.held disk.old)) self.old stage))) ⊥ (Unit {0}) (tells_of self.old.core.tells)
             (Some (ends_halts (drop next slots) (core_of (files_of (D.held disk.old)) self.old.core)
             (doing (control_by lined.now.what) variables.now lined.now.line (core_of (files_of (D.held disk.old)) self.old.core) lined.now.what condition))) (calls_disk lined.now.what ≡ true) }
         ensures may { may_be_at lined.now.what self.new.stage ≡ true }

@@ -102,6 +102,10 @@ map_append : {X Y : Type 0} (f : X → Y) (xs ys : List X) → map f (xs ++ ys) 
 map_append f [] ys = refl
 map_append f (x ∷ xs) ys = ap (λ l. f x ∷ l) (map_append f xs ys)
 
+pub map_push : {X Y : Type 0} (f : X → Y) (xs : List X) (x : X) (ys : List Y) → map f (xs ++ x ∷ []) ++ ys ≡ map f xs ++ f x ∷ ys
+map_push f [] x ys = refl
+map_push f (z ∷ zs) x ys = ap (λ l. f z ∷ l) (map_push f zs x ys)
+
 joined : {X : Type 0} (xs : List X) (y : X) (zs : List X) → (xs ++ y ∷ []) ++ zs ≡ xs ++ y ∷ zs
 joined [] y zs = refl
 joined (x ∷ xs) y zs = ap (λ l. x ∷ l) (joined xs y zs)

@@ -1,5 +1,5 @@
 // The connected units.
-ghost use Rattle.std.specs.Prelude.{◌≡◌, ◌+◌, ◌≤◌, ◌<◌, ◌++◌, ℕ, List, [], None, Some, length, map, filter, nat_lt, slice_get, HoldsAt, IfSome, IfNone, OnOk};
+ghost use Rattle.std.specs.Prelude.{◌≡◌, ◌+◌, ◌≤◌, ◌<◌, ◌++◌, ℕ, List, [], None, Some, length, map, filter, nat_lt, slice_get, HoldsAt, IfOk, IfSome, IfNone, OnOk};
 ghost use Rattle.std.specs.Option.{option_copied, option_map, option_and_then};
 ghost use Rattle.fj_desk.specs.Core.{Connected as PlainConnected, connected_at, unit_named, inserted, without_connected};
 ghost use Rattle.fj_desk.specs.Desks.{most_slots};
@@ -144,6 +144,30 @@ fn append(list: &mut Vec<Connected>, more: Vec<Connected>) -> Result<(), AllocEr
     Ok(())
 }
 
+/// The same unit once more.
+fn copied(unit: &Connected) -> Result<Connected, AllocError>
+    ensures { IfOk result (λ copy. connected_of copy ≡ connected_of unit.now) }
+{
+    Ok(Connected {
+        number: unit.number,
+        slot: unit.slot,
+        name: unit.name.try_clone()?,
+        modes: unit.modes,
+    })
+}
+
+/// Adds copies of units behind others.
+#[tactic(auto, using(crate::proofs::UnitLemmas::map_push))]
+fn append_copies(list: &mut Vec<Connected>, units: &[Connected]) -> Result<(), AllocError>
+    ensures { OnOk result (map connected_of list.new.items ≡ map connected_of list.old.items ++ map connected_of units.now) }
+{
+    for unit in units {
+        let copy = copied(unit)?;
+        list.push(copy)?;
+    }
+    Ok(())
+}
+
 impl Units {
     /// No units.
     pub fn new(alloc: Global) -> Units
@@ -221,6 +245,17 @@ impl Units {
         append(&mut list, above)?;
         self.list = list;
         Ok(())
+    }
+
+    /// These units and one more, in place of one of its number.
+    pub fn with(&self, new: Connected) -> Result<Units, AllocError>
+        ensures { IfOk result (λ units. units ≡ inserted (connected_of new) self.now) }
+    {
+        let mut list = Vec::new(*self.list.allocator());
+        append_copies(&mut list, &self.list)?;
+        let mut units = Units { list };
+        units.insert(new)?;
+        Ok(units)
     }
 
     /// Takes the unit of a number off.

@@ -9,10 +9,9 @@ use Rattle.fj_desk.specs.Core.{Core}
 use Rattle.fj_desk.specs.Doing.{Doing as PlainDoing}
 use Rattle.fj_units.specs.Files.{files_of}
 use Rattle.fj_acts.specs.Doing.{IsDoing}
-use Rattle.fj_acts.specs.Failing.{StandsWhere}
 use Rattle.fj_acts.specs.State.{core_of}
 use Rattle.fj_acts.proofs.BeginningLemmas.{asks_about, own_is, assign_front, open_front, inquire_front, takes_as, part_as}
-use Rattle.fj_acts.proofs.FailingLemmas.{fails_as}
+use Rattle.fj_acts.proofs.FailingLemmas.{fails_as, still_as, on_err}
 use Rattle.fj_acts.proofs.OpeningLemmas.{meant}
 use Rattle.fj_acts.proofs.StateLemmas.{keeps_answers}
 use Rattle.fj_acts.proofs.StepLemmas.{asks_to_open}
@@ -130,13 +129,6 @@ returns-in-Transfer-clause-part g c = λ tells lost.
     (own_is c.args.variables.now c.args.lined.now.line (core_of files c.args.core.now) c.args.lined.now.what (statement.Transfer c.in-Transfer.t) c.in-Transfer.is)
     (c.read_or_write.ensures.part tells files lost)
 
-pub returns-in-Transfer-clause-fault_out : goal.returns-in-Transfer-clause-fault_out
-returns-in-Transfer-clause-fault_out g c = λ tells lost.
-    let disk = c.args.disk.now in
-    subst (λ (d : PlainDoing). StandsWhere d c.read_or_write.new.core (g.D.Disk.held disk) (g.D.Disk.refusals disk) (g.D.Disk.refusals disk))
-    (own_is c.args.variables.now c.args.lined.now.line (core_of (files_of (g.D.Disk.held disk)) c.args.core.now) c.args.lined.now.what (statement.Transfer c.in-Transfer.t) c.in-Transfer.is)
-    (c.read_or_write.ensures.fault lost (g.D.Disk.held disk) (g.D.Disk.refusals disk) (g.D.Disk.refusals disk))
-
 pub returns-in-End-clause-doing : goal.returns-in-End-clause-doing
 returns-in-End-clause-doing g c = λ tells.
     let files : Files = files_of (g.D.Disk.held c.args.disk.now) in
@@ -149,3 +141,16 @@ returns-in-End-clause-doing g c = λ tells.
 
 pub returns-in-End-clause-pending : goal.returns-in-End-clause-pending
 returns-in-End-clause-pending g c = keeps_answers c.args.core.now c.args.core.now refl
+
+pub returns-in-OpenUnit-clause-stays : goal.returns-in-OpenUnit-clause-stays
+returns-in-OpenUnit-clause-stays g c = λ tells.
+    still_as c.open.result _ _ (g.D.Disk.held c.args.disk.now) (g.D.Disk.held c.open.new.disk)
+    (own_is c.args.variables.now c.args.lined.now.line (core_of (files_of (g.D.Disk.held c.args.disk.now)) c.args.core.now) c.args.lined.now.what
+    (statement.OpenUnit c.in-OpenUnit.unit c.in-OpenUnit.spec c.in-OpenUnit.iostat) c.in-OpenUnit.is)
+    (c.open.ensures.stays tells)
+
+pub returns-in-Inquire-clause-stays : goal.returns-in-Inquire-clause-stays
+returns-in-Inquire-clause-stays g c = λ tells. on_err c.inquire.result _ (λ name other. ap (λ h. files_of h name) (c.inquire.ensures.held tells))
+
+pub returns-in-Transfer-clause-stays : goal.returns-in-Transfer-clause-stays
+returns-in-Transfer-clause-stays g c = λ tells. on_err c.read_or_write.result _ (λ name other. refl)

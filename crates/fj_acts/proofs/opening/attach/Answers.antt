@@ -1,27 +1,29 @@
-use Rattle.std.proofs.Common.{refl, ap, ◌∙◌, sym, subst}
+use Rattle.std.proofs.Common.{refl, ap, ◌∙◌, sym, subst, [], ◌∷◌, ◌++◌}
 use Rattle.fj_connect.specs.Linked.{connection_of}
 use Rattle.fj_connect.specs.Opening.{opened_file}
 use Rattle.fj_outside.specs.Holdings.{Holdings}
+use Rattle.fj_plain.specs.State.{without_file}
 use Rattle.fj_units.specs.Files.{files_of}
 use Rattle.fj_units.proofs.Files.{files-out_of}
 use Rattle.fj_acts.specs.State.{core_of}
-use Rattle.fj_acts.proofs.OpeningLemmas.{opened_is, names_taken, names_back, refusal_of, stop_of}
-use Rattle.fj_acts.proofs.FailingLemmas.{fails_open, open_rose}
+use Rattle.fj_acts.proofs.OpeningLemmas.{opened_is, unit_more, names_taken, names_back, refusal_of, stop_of}
+use Rattle.fj_acts.proofs.FailingLemmas.{fails_open, still_open, open_rose}
 use Rattle.fj_acts.specs.Having.{HaveNext}
 use Rattle.fj_units.specs.Having.{HaveFiles}
 use Rattle.fj_units.specs.Names.{left_of}
-use Rattle.fj_units.proofs.Having.{have_vain}
+use Rattle.fj_units.proofs.Having.{have_more, have_vain}
 use Rattle.fj_acts.proofs.opening.attach.Goals as goal
 
 pub returns-in-Ok-clause-doing : goal.returns-in-Ok-clause-doing
 returns-in-Ok-clause-doing g c = λ tells variables st.
     let held : Holdings = g.D.Disk.held c.args.disk.now in
     let f = c.in-Ok.ensures.opened tells in
-    c.attaching.ensures.doing f.0 variables st (core_of (files_of held) c.args.core.now) (files_of (g.D.Disk.held c.open_file.new.disk))
+    c.attaching.ensures.doing f.0 c.args.number variables st (core_of (files_of held) c.args.core.now) (files_of (g.D.Disk.held c.open_file.new.disk))
     (opened_file (files_of held c.args.name) c.args.name c.args.spec.now c.args.modes)
-    c.in-Ok.ensures.connected.1
+    (unit_more c.in_ok-units.units c.args.core.now.units c.args.number c.args.slot c.args.name c.in_ok-copy.copy c.in-Ok.connection.name c.args.modes c.in-Ok.connection.modes c.in_ok-units.ensures c.in_ok-copy.ensures
+    c.in-Ok.ensures.connected.1 c.in-Ok.ensures.connected.0)
     (opened_is held.files (g.D.Disk.held c.open_file.new.disk).files (opened_file (files_of held c.args.name) c.args.name c.args.spec.now c.args.modes) (connection_of g.D.File.FileStore.bytes c.in-Ok.connection) f.1)
-    (ap (λ (h : Holdings). files_of h) f.2 ∙ files-out_of held c.args.name)
+    (ap (λ (h : Holdings). files_of h) f.2 ∙ files-out_of held c.args.name ∙ ap (λ n. without_file n (files_of held)) (sym c.in-Ok.ensures.connected.1))
 
 pub returns-in-Ok-clause-names : goal.returns-in-Ok-clause-names
 returns-in-Ok-clause-names g c = λ tells.
@@ -52,10 +54,19 @@ returns-clause-fault g c = λ tells lost.
 pub returns-in-Ok-clause-files : goal.returns-in-Ok-clause-files
 returns-in-Ok-clause-files g c = λ what none free have.
     let us = c.args.core.now.units in
-    subst (λ ns. HaveNext c.attaching.result ns us what) (sym c.in_ok-add.ensures.ok) (c.attaching.ensures.files c.args.core.now.names us what none free have)
+    let more = unit_more c.in_ok-units.units us c.args.number c.args.slot c.args.name c.in_ok-copy.copy c.args.name c.args.modes c.args.modes c.in_ok-units.ensures c.in_ok-copy.ensures refl refl in
+    let names = c.args.core.now.names ++ c.args.name ∷ [] in
+    subst (λ ns. HaveNext c.attaching.result ns us what) (sym c.in_ok-add.ensures.ok)
+    (c.attaching.ensures.files names us what (subst (HaveFiles names) (sym more) (have_more c.args.core.now.names us (record { number = c.args.number; slot = c.args.slot; name = c.args.name; modes = c.args.modes }) none free have)))
 
 pub returns-in-Refused-clause-files : goal.returns-in-Refused-clause-files
 returns-in-Refused-clause-files g c = λ what none free have.
     let names = c.args.core.now.names in
     let us = c.args.core.now.units in
     subst (λ ns. HaveFiles ns us) (sym (c.remove.ensures ∙ ap (λ ns. left_of ns c.args.name) c.in_ok-add.ensures.ok)) (have_vain names us c.args.name (sym c.holds.ensures ∙ c.if-holds.false) have)
+
+pub returns-clause-stays : goal.returns-clause-stays
+returns-clause-stays g c = λ tells.
+    let held : Holdings = g.D.Disk.held c.args.disk.now in
+    still_open (core_of (files_of held) c.args.core.now) c.args.number c.args.slot c.args.name c.args.spec.now c.args.modes held (g.D.Disk.held c.open_file.new.disk)
+    (stop_of _ c.in-Err.fault c.in-Stop.stop c.in-Stop.is (c.in-Err.ensures.stopped tells))

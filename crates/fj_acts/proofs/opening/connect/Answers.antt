@@ -3,7 +3,7 @@ use Rattle.fj_desk.specs.Core.{has_name}
 use Rattle.fj_units.specs.Files.{files_of}
 use Rattle.fj_acts.specs.State.{core_of}
 use Rattle.fj_acts.proofs.OpeningLemmas.{connects_is, meant}
-use Rattle.fj_acts.proofs.FailingLemmas.{fails_as}
+use Rattle.fj_acts.proofs.FailingLemmas.{fails_as, still_as}
 use Rattle.fj_acts.proofs.opening.connect.Goals as goal
 
 pub returns-in_ok-name-in-Some-clause-doing : goal.returns-in_ok-name-in-Some-clause-doing
@@ -23,3 +23,10 @@ returns-in_ok-name-in-Some-clause-fault g c = λ tells lost.
 pub returns-in_ok-name-in-Some-clause-files : goal.returns-in_ok-name-in-Some-clause-files
 returns-in_ok-name-in-Some-clause-files g c = λ what none free have.
     c.attach.ensures.files what none (ap (has_name c.args.core.now.units) c.in_ok-name-in-Some.ensures ∙ free) have
+
+pub returns-in_ok-name-in-Some-clause-stays : goal.returns-in_ok-name-in-Some-clause-stays
+returns-in_ok-name-in-Some-clause-stays g c = λ tells.
+    still_as c.attach.result _ _ (g.D.Disk.held c.args.disk.now) (g.D.Disk.held c.attach.new.disk)
+    (connects_is (core_of (files_of (g.D.Disk.held c.args.disk.now)) c.args.core.now) c.args.number c.in-Some.slot c.in_ok-name-in-Some.name c.args.spec.now c.args.modes
+    (sym c.free_slot.ensures.free ∙ c.in-Some.is) c.in_ok-name-in-Some.ensures)
+    (c.attach.ensures.stays tells)

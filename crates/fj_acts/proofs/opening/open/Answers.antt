@@ -7,6 +7,7 @@ use Rattle.fj_units.specs.Files.{files_of}
 use Rattle.fj_units.specs.Units.{connected_of}
 use Rattle.fj_acts.specs.Doing.{IsDoing}
 use Rattle.fj_acts.specs.State.{core_of}
+use Rattle.fj_acts.proofs.FailingLemmas.{fails_as, still_as}
 use Rattle.fj_acts.proofs.OpeningLemmas.{opens_again, opens_none, opens_another, numbered, meant}
 use Rattle.fj_acts.specs.declared.state.Core.{Core as Held}
 use Rattle.fj_acts.proofs.opening.open.Goals as goal
@@ -43,3 +44,47 @@ returns-clause-doing g c = λ tells variables st asks.
           ∙ opens_none core number c.args.spec.now (connected_at c.args.core.now.units number) found
     ] ∙ whole)
     (c.open_other.ensures.doing tells variables st asks)
+
+pub returns-clause-stays : goal.returns-clause-stays
+returns-clause-stays g c = λ tells.
+    let files = files_of (g.D.Disk.held c.args.disk.now) in
+    let core : Core = core_of files c.args.core.now in
+    let number : ℕ = c.in-Number.number in
+    let whole = numbered core c.args.unit number (λ n. opens core n c.args.spec.now (connected_at c.args.core.now.units n)) c.in-Number.is in
+    still_as c.open_other.result _ _ (g.D.Disk.held c.args.disk.now) (g.D.Disk.held c.open_other.new.disk)
+    (elim c.match-find.branch [
+      | in-Some+else-keeps_name w ↦
+          let u : PlainConnected = connected_of w.in-Some.unit.now in
+          let found : connected_at c.args.core.now.units number ≡ Some u = sym w.in-Some.ensures in
+          let same : c.match-find.core ≡ c.args.core.now = w.core-is in
+          ap (λ (x : Held). opens_with (core_of files x) number c.args.spec.now (connected_at x.units number) (settled c.args.spec.now)) same
+          ∙ opens_another core number c.args.spec.now (connected_at c.args.core.now.units number) u found (sym w.keeps_name.ensures ∙ w.if-keeps_name.false)
+      | in_default-find w ↦
+          let found : connected_at c.args.core.now.units number ≡ None = sym w.in_default-find.ensures in
+          let same : c.match-find.core ≡ c.args.core.now = w.core-is in
+          ap (λ (x : Held). opens_with (core_of files x) number c.args.spec.now (connected_at x.units number) (settled c.args.spec.now)) same
+          ∙ opens_none core number c.args.spec.now (connected_at c.args.core.now.units number) found
+    ] ∙ whole)
+    (c.open_other.ensures.stays tells)
+
+pub returns-clause-fault : goal.returns-clause-fault
+returns-clause-fault g c = λ tells lost.
+    let files = files_of (g.D.Disk.held c.args.disk.now) in
+    let core : Core = core_of files c.args.core.now in
+    let number : ℕ = c.in-Number.number in
+    let whole = numbered core c.args.unit number (λ n. opens core n c.args.spec.now (connected_at c.args.core.now.units n)) c.in-Number.is in
+    fails_as _ _ c.open_other.new.core (g.D.Disk.held c.open_other.new.disk) (g.D.Disk.refusals c.args.disk.now) (g.D.Disk.refusals c.open_other.new.disk)
+    (elim c.match-find.branch [
+      | in-Some+else-keeps_name w ↦
+          let u : PlainConnected = connected_of w.in-Some.unit.now in
+          let found : connected_at c.args.core.now.units number ≡ Some u = sym w.in-Some.ensures in
+          let same : c.match-find.core ≡ c.args.core.now = w.core-is in
+          ap (λ (x : Held). opens_with (core_of files x) number c.args.spec.now (connected_at x.units number) (settled c.args.spec.now)) same
+          ∙ opens_another core number c.args.spec.now (connected_at c.args.core.now.units number) u found (sym w.keeps_name.ensures ∙ w.if-keeps_name.false)
+      | in_default-find w ↦
+          let found : connected_at c.args.core.now.units number ≡ None = sym w.in_default-find.ensures in
+          let same : c.match-find.core ≡ c.args.core.now = w.core-is in
+          ap (λ (x : Held). opens_with (core_of files x) number c.args.spec.now (connected_at x.units number) (settled c.args.spec.now)) same
+          ∙ opens_none core number c.args.spec.now (connected_at c.args.core.now.units number) found
+    ] ∙ whole)
+    (c.open_other.ensures.fault tells lost)

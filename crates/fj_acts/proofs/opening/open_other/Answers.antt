@@ -6,7 +6,7 @@ use Rattle.fj_units.specs.Files.{files_of}
 use Rattle.fj_units.specs.Units.{connected_of, is_taken}
 use Rattle.fj_acts.specs.State.{core_of}
 use Rattle.fj_acts.proofs.OpeningLemmas.{opens_behind, opens_new, meant}
-use Rattle.fj_acts.proofs.FailingLemmas.{fails_as}
+use Rattle.fj_acts.proofs.FailingLemmas.{fails_as, still_as}
 use Rattle.fj_acts.proofs.FittingLemmas.{free_home}
 use Rattle.fj_acts.specs.declared.doing.After.TheVariants as after
 use Rattle.fj_acts.proofs.ClosingLemmas.{found_again, found_number}
@@ -56,3 +56,10 @@ returns-clause-files g c = λ what asks have.
     let us = c.args.core.now.units in
     let none : connected_at us c.args.number ≡ None = sym c.in_default.ensures in
     c.connect.ensures.files what none (ap (has_name us) (sym c.in_ok-name.ensures) ∙ free_there us c.args.number c.in_ok-name.name none (sym c.is_taken.ensures ∙ c.if-is_taken.false)) have
+
+pub returns-clause-stays : goal.returns-clause-stays
+returns-clause-stays g c = λ tells.
+    still_as c.connect.result _ _ (g.D.Disk.held c.args.disk.now) (g.D.Disk.held c.connect.new.disk)
+    (opens_new (core_of (files_of (g.D.Disk.held c.args.disk.now)) c.args.core.now) c.args.number c.in_ok-name.name c.args.spec.now c.in-Ok.modes (connected_at c.args.core.now.units c.args.number) (settled c.args.spec.now)
+    (sym c.in_default.ensures) (sym c.settle_open.ensures.settled ∙ c.in-Ok.is) c.in_ok-name.ensures (sym c.is_taken.ensures ∙ c.if-is_taken.false))
+    (c.connect.ensures.stays tells)

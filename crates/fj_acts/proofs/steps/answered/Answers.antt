@@ -10,16 +10,12 @@ use Rattle.fj_units.specs.Files.{files_of}
 use Rattle.fj_acts.specs.Doing.{carries, closed, goes_on, looks, then_of}
 use Rattle.fj_acts.specs.State.{core_of}
 use Rattle.fj_acts.specs.declared.doing.Then.{Then}
-use Rattle.fj_acts.proofs.FailingLemmas.{fails_as}
+use Rattle.fj_acts.proofs.FailingLemmas.{carries_there, fails_as, looks_there, stands_as, stands_here}
 use Rattle.fj_acts.proofs.OpeningLemmas.{meant}
 use Rattle.fj_acts.proofs.StateLemmas.{keeps_answers}
 use Rattle.fj_acts.proofs.StepLemmas.{detached_is, looked_is, moved_is}
 use Rattle.fj_acts.specs.Having.{HaveThen}
-use Rattle.fj_units.specs.Having.{HaveFiles}
 use Rattle.fj_acts.proofs.steps.answered.Goals as goal
-
-pub returns-in_err-insert-in-Attaches-Attach-None-clause-pending : goal.returns-in_err-insert-in-Attaches-Attach-None-clause-pending
-returns-in_err-insert-in-Attaches-Attach-None-clause-pending g c = keeps_answers c.args.core.now (record c.args.core.now { units = c.insert.new.self }) refl
 
 pub returns-in-Carries-Move-clause-doing : goal.returns-in-Carries-Move-clause-doing
 returns-in-Carries-Move-clause-doing g c = λ tells task is.
@@ -65,8 +61,8 @@ returns-in-Closes-Detach-Some-clause-fault g c = λ tells task is lost.
 pub returns-in-Closes-Detach-Some-clause-pending : goal.returns-in-Closes-Detach-Some-clause-pending
 returns-in-Closes-Detach-Some-clause-pending g c = keeps_answers c.args.core.now c.closed.new.core c.closed.ensures.pending
 
-pub returns-in_ok-insert-in-Attaches-Attach-None-clause-pending : goal.returns-in_ok-insert-in-Attaches-Attach-None-clause-pending
-returns-in_ok-insert-in-Attaches-Attach-None-clause-pending g c = keeps_answers c.args.core.now (record c.args.core.now { units = c.insert.new.self }) refl
+pub returns-in-Attaches-Attach-None-clause-pending : goal.returns-in-Attaches-Attach-None-clause-pending
+returns-in-Attaches-Attach-None-clause-pending g c = keeps_answers c.args.core.now (record c.args.core.now { units = c.in-Attaches-Attach-None.units }) refl
 
 pub returns-in-Looks-Look-clause-doing : goal.returns-in-Looks-Look-clause-doing
 returns-in-Looks-Look-clause-doing g c = λ tells task is.
@@ -89,6 +85,48 @@ returns-in-Finishes-Go-clause-pending g c = keeps_answers c.args.core.now c.args
 pub returns-in_default-clause-pending : goal.returns-in_default-clause-pending
 returns-in_default-clause-pending g c = keeps_answers c.args.core.now c.give_up.new.core c.give_up.ensures.pending
 
+pub returns-in-Carries-Move-clause-stands : goal.returns-in-Carries-Move-clause-stands
+returns-in-Carries-Move-clause-stands g c = λ tells task is fits.
+    let held = g.D.Disk.held c.args.disk.now in
+    let own = g.D.Disk.refusals c.args.disk.now in
+    let core : Core = core_of (files_of held) c.args.core.now in
+    let variables = c.args.variables.now in
+    let what : Statement = c.args.lined.now.what in
+    let st : Stated = (c.args.lined.now, control_by what) in
+    let reply : Answer = reply_of c.args.answer in
+    let slot : ℕ = c.in-Carries-Move.slot in
+    stands_as c.carried.result (carries variables core what slot (task, reply)) _ c.carried.new.core held own own (ap (λ (t : Then). then_of variables st core t (task, reply)) (sym c.in-Carries-Move.is-0))
+    (stands_here c.carried.result core (carries variables core what slot (task, reply)) c.carried.new.core held own own (carries_there variables core what slot (task, reply)) refl c.carried.ensures.units)
+
+pub returns-in-Looks-Look-clause-stands : goal.returns-in-Looks-Look-clause-stands
+returns-in-Looks-Look-clause-stands g c = λ tells task is fits.
+    let held = g.D.Disk.held c.args.disk.now in
+    let own = g.D.Disk.refusals c.args.disk.now in
+    let core : Core = core_of (files_of held) c.args.core.now in
+    let variables = c.args.variables.now in
+    let what : Statement = c.args.lined.now.what in
+    let st : Stated = (c.args.lined.now, control_by what) in
+    let reply : Answer = reply_of c.args.answer in
+    stands_as c.looked.result (looks core what (task, reply)) _ c.looked.new.core held own own (ap (λ (t : Then). then_of variables st core t (task, reply)) (sym c.in-Looks-Look.is-0))
+    (stands_here c.looked.result core (looks core what (task, reply)) c.looked.new.core held own own (looks_there core what (task, reply)) refl c.looked.ensures.units)
+
+pub returns-in-Closes-Detach-Some-clause-stands : goal.returns-in-Closes-Detach-Some-clause-stands
+returns-in-Closes-Detach-Some-clause-stands g c = λ tells task is fits.
+    let core : Core = core_of (files_of (g.D.Disk.held c.args.disk.now)) c.args.core.now in
+    let what : Statement = c.args.lined.now.what in
+    let st : Stated = (c.args.lined.now, control_by what) in
+    let reply : Answer = reply_of c.args.answer in
+    let number : ℕ = c.in-Closes-Detach-Some.number in
+    let has : c.args.job ≡ job.Detach (Some c.in-Closes-Detach-Some.connection) = cc in
+    let out = detached_is g.D.File.FileStore.told g.D.File.FileStore.bytes c.args.job c.in-Closes-Detach-Some.connection task has is in
+    stands_as c.closed.result _ _ c.closed.new.core (g.D.Disk.held c.closed.new.disk) (g.D.Disk.refusals c.args.disk.now) (g.D.Disk.refusals c.closed.new.disk)
+    (ap (λ (t : Task). goes_on what (closed core (connected_at core.units number) c.in-Closes-Detach-Some.keep (t, reply)) c.in-Closes-Detach-Some.after) out.2
+    ∙ ap (λ (t : Then). then_of c.args.variables.now st core t (task, reply)) (sym c.in-Closes-Detach-Some.is-0))
+    (c.closed.ensures.stands tells out.0 reply out.1 fits)
+
+pub returns-in_default-clause-stands : goal.returns-in_default-clause-stands
+returns-in_default-clause-stands g c = λ tells task is fits. absurd (fits refl)
+
 pub returns-in-Carries-Move-clause-files : goal.returns-in-Carries-Move-clause-files
 returns-in-Carries-Move-clause-files g c = λ have.
     let core = c.args.core.now in
@@ -101,11 +139,10 @@ returns-in-Closes-Detach-Some-clause-files g c = λ have.
     let it = subst (λ (t : Then). HaveThen t core.names core.units c.args.lined.now.what) c.in-Closes-Detach-Some.is-0 have in
     c.closed.ensures.files it
 
-pub returns-in_ok-insert-in-Attaches-Attach-None-clause-files : goal.returns-in_ok-insert-in-Attaches-Attach-None-clause-files
-returns-in_ok-insert-in-Attaches-Attach-None-clause-files g c = λ have.
+pub returns-in-Attaches-Attach-None-clause-files : goal.returns-in-Attaches-Attach-None-clause-files
+returns-in-Attaches-Attach-None-clause-files g c = λ have.
     let core = c.args.core.now in
-    let it = subst (λ (t : Then). HaveThen t core.names core.units c.args.lined.now.what) c.in-Attaches-Attach-None.is-0 have in
-    subst (HaveFiles core.names) (sym c.in_ok-insert-in-Attaches-Attach-None.ensures) it
+    subst (λ (t : Then). HaveThen t core.names core.units c.args.lined.now.what) c.in-Attaches-Attach-None.is-0 have
 
 pub returns-in-Looks-Look-clause-files : goal.returns-in-Looks-Look-clause-files
 returns-in-Looks-Look-clause-files g c = λ have.

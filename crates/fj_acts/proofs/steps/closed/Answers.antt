@@ -7,8 +7,9 @@ use Rattle.fj_units.specs.Files.{files_of}
 use Rattle.fj_units.specs.Names.{left_of}
 use Rattle.fj_units.proofs.Files.{used_name}
 use Rattle.fj_units.proofs.Returning.{due_back, names_back}
+use Rattle.fj_acts.specs.Doing.{goes_on}
 use Rattle.fj_acts.specs.State.{core_of}
-use Rattle.fj_acts.proofs.FailingLemmas.{fails_as, fails_since, fails_closing}
+use Rattle.fj_acts.proofs.FailingLemmas.{fails_as, fails_since, fails_closing, goes_on_there, stands_as, stands_since, stands_still}
 use Rattle.fj_acts.proofs.OpeningLemmas.{meant}
 use Rattle.fj_acts.proofs.StepLemmas.{closed_goes_on, due_stands}
 use Rattle.fj_acts.specs.Having.{IsFreeNext}
@@ -61,6 +62,33 @@ returns-in-Err-clause-fault g c = λ tells conn answer is lost.
     (sym c.if-not-is_due.ensures) is refl c.remove-2.ensures.left (c.in-Err.ensures.own tells).1
     (due_back held left c.args.connection.name (g.D.File.FileStore.bytes c.args.connection.file) _ c.args.keep c.close_file.result (g.D.Disk.refusals c.args.disk.now) (g.D.Disk.refusals c.close_file.new.disk)
     (c.close_file.ensures.back tells) (c.close_file.ensures.err tells) c.close_file.ensures.kept (c.close_file.ensures.own tells))
+
+pub returns-in-Err-clause-stands : goal.returns-in-Err-clause-stands
+returns-in-Err-clause-stands g c = λ tells conn answer is fits.
+    let held : Holdings = g.D.Disk.held c.args.disk.now in
+    let left : Holdings = g.D.Disk.held c.close_file.new.disk in
+    (fails_closing g.D.File.FileStore.told g.D.File.FileStore.bytes (core_of (files_of held) c.args.core.now) held left c.args.number c.args.core.now.names c.args.connection conn c.args.keep answer
+    c.args.lined.now.what c.args.after _ (g.D.Disk.refusals c.args.disk.now) (g.D.Disk.refusals c.close_file.new.disk)
+    (sym c.if-not-is_due.ensures) is refl c.remove-2.ensures.left (c.in-Err.ensures.own tells).1
+    (due_back held left c.args.connection.name (g.D.File.FileStore.bytes c.args.connection.file) _ c.args.keep c.close_file.result (g.D.Disk.refusals c.args.disk.now) (g.D.Disk.refusals c.close_file.new.disk)
+    (c.close_file.ensures.back tells) (c.close_file.ensures.err tells) c.close_file.ensures.kept (c.close_file.ensures.own tells))).stands
+
+pub returns-in-Ok-clause-stands : goal.returns-in-Ok-clause-stands
+returns-in-Ok-clause-stands g c = λ tells conn answer is fits.
+    let held : Holdings = g.D.Disk.held c.args.disk.now in
+    let what : Statement = c.args.lined.now.what in
+    let mid : Holdings = g.D.Disk.held c.close_file.new.disk in
+    let core = core_of (files_of mid) (record c.args.core.now { names = c.remove.new.self; units = c.remove-2.new.self }) in
+    let left : Holdings = g.D.Disk.held c.go_on.new.disk in
+    stands_since c.go_on.result _ c.go_on.new.core left (g.D.Disk.refusals c.args.disk.now) (g.D.Disk.refusals c.close_file.new.disk) (g.D.Disk.refusals c.go_on.new.disk) (c.in-Ok.ensures.own tells)
+    (stands_as c.go_on.result (goes_on what core c.args.after) _ c.go_on.new.core left (g.D.Disk.refusals c.close_file.new.disk) (g.D.Disk.refusals c.go_on.new.disk)
+    (closed_goes_on g.D.File.FileStore.told g.D.File.FileStore.bytes (core_of (files_of held) c.args.core.now) held mid c.args.number c.args.core.now.names c.args.connection conn _ c.args.keep answer
+    what c.args.after _ (sym c.if-not-is_due.ensures) is refl (c.in-Ok.ensures.back tells) c.remove-2.ensures.left)
+    (stands_still c.go_on.result core (goes_on what core c.args.after) c.go_on.new.core mid left (g.D.Disk.refusals c.close_file.new.disk) (g.D.Disk.refusals c.go_on.new.disk)
+    (goes_on_there what core c.args.after) refl c.go_on.ensures.units (c.go_on.ensures.stays (c.in-Ok.ensures.telling.0 tells))))
+
+pub returns-then-not-is_due-clause-stands : goal.returns-then-not-is_due-clause-stands
+returns-then-not-is_due-clause-stands g c = λ tells conn answer is fits. absurd (fits refl)
 
 pub returns-in-Ok-clause-files : goal.returns-in-Ok-clause-files
 returns-in-Ok-clause-files g c = λ have.

@@ -8,7 +8,7 @@ use Rattle.fj_acts.specs.Doing.{IsDoing, goes_on}
 use Rattle.fj_acts.specs.State.{core_of}
 use Rattle.fj_acts.specs.declared.doing.After.{After}
 use Rattle.fj_acts.proofs.ClosingLemmas.{connects_is}
-use Rattle.fj_acts.proofs.FailingLemmas.{fails_as}
+use Rattle.fj_acts.proofs.FailingLemmas.{fails_as, still_as}
 use Rattle.fj_acts.proofs.OpeningLemmas.{meant}
 use Rattle.fj_acts.proofs.StepLemmas.{asks_to_open}
 use Rattle.fj_plain.specs.Connecting.{file_due}
@@ -43,6 +43,15 @@ returns-in-Ok-clause-fault g c = λ tells lost.
     (sym (connects_is what c.in-Connects.number c.in-OpenUnit.spec c.in-Ok.modes core (asks_to_open what c.in-OpenUnit.unit c.in-OpenUnit.spec c.in-OpenUnit.iostat c.in-OpenUnit.is) (sym c.settle_open.ensures.settled ∙ c.in-Ok.is))
     ∙ ap (goes_on what core) (sym c.in-Connects.is))
     (c.connect.ensures.fault tells lost)
+
+pub returns-in-Ok-clause-stays : goal.returns-in-Ok-clause-stays
+returns-in-Ok-clause-stays g c = λ tells.
+    let core : Core = core_of (files_of (g.D.Disk.held c.args.disk.now)) c.args.core.now in
+    let what : Statement = c.args.lined.now.what in
+    still_as c.connect.result _ _ (g.D.Disk.held c.args.disk.now) (g.D.Disk.held c.connect.new.disk)
+    (sym (connects_is what c.in-Connects.number c.in-OpenUnit.spec c.in-Ok.modes core (asks_to_open what c.in-OpenUnit.unit c.in-OpenUnit.spec c.in-OpenUnit.iostat c.in-OpenUnit.is) (sym c.settle_open.ensures.settled ∙ c.in-Ok.is))
+    ∙ ap (goes_on what core) (sym c.in-Connects.is))
+    (c.connect.ensures.stays tells)
 
 pub returns-in-ClosesAll-clause-files : goal.returns-in-ClosesAll-clause-files
 returns-in-ClosesAll-clause-files g c = λ free have. c.close_all.ensures.files c.args.lined.now.what have

@@ -1,10 +1,11 @@
 use Rattle.std.proofs.Common.{◌≡◌, false, Some, Err, inl, inr, refl, sym, ap, ◌∙◌, subst}
 use Rattle.fj_plain.specs.State.{Files}
 use Rattle.fj_units.specs.Files.{files_of}
-use Rattle.fj_runner.proofs.GivingUp.{only_first, unfit_inside, fails_for, fails_to, refused_fails}
+use Rattle.fj_runner.proofs.GivingUp.{first_some, lost_is, only_first, unfit_inside, fails_for, fails_to, refused_fails}
 use Rattle.fj_runner.proofs.Tallies.{not_both}
 use Rattle.fj_world.specs.Conduct.{IsDueAsk}
-use Rattle.fj_runner.specs.Tallying.{due_of}
+use Rattle.fj_items.specs.declared.lost.Lost.TheVariants.{Unfit}
+use Rattle.fj_runner.specs.Tallying.{due_of, first_lost}
 use Rattle.fj_runner.proofs.Counting.{going_asked, may_ask}
 use Rattle.fj_runner.specs.Admitting.{MayAsk}
 use Rattle.fj_runner.specs.Going.{OwesAsGiven}
@@ -27,6 +28,7 @@ returns-in-Ok-clause-fails g c = λ tells r e going over stopped.
       | inr b ↦ refused_fails g.F.FileStore.told g.F.FileStore.bytes (λ lost. new.tally.lost ≡ Some lost) (g.W.Sink.tells c.args.out.now) (taken c.args.out.now) (taken c.next_ask.new.out) after r m mid new c.in-Ok.ask
           (c.in-Ok.ensures.asks tells r e) b.3 (sym c.admit.ensures.deck) (sym c.admit.ensures.at) c.in-Ok.ensures.steps.output
           (λ o. unfit_inside mid.tally.lost mid.tally.over mid.tally.lost_over goes (elim o [ inl d ↦ inl (sym b.2 ∙ d) | inr s ↦ inr (sym b.2 ∙ s) ]))
+          (b.2 ∙ ap (λ o. first_lost o Unfit) (first_some mid.tally.lost mid.tally.over mid.tally.lost_over goes))
     ]
 
 pub returns-in-Err-clause-fails : goal.returns-in-Err-clause-fails
@@ -37,7 +39,8 @@ returns-in-Err-clause-fails g c = λ tells r e going over stopped.
     let goes : mid.tally.over ≡ false = ap (λ t. t.over) c.next_ask.ensures.tally ∙ going in
     fails_to _ (g.W.Sink.tells c.args.out.now) (taken c.args.out.now) (taken c.next_ask.new.out) r m mid _ refl refl
     (fails_for _ (λ lost. c.lose.new.self.lost ≡ Some lost) (g.W.Sink.tells c.args.out.now) (taken c.args.out.now) (taken c.next_ask.new.out) r m mid
-    (λ lost e. ap Err (only_first mid.tally.lost mid.tally.over c.in-Err.lost lost mid.tally.lost_over goes (sym c.lose.ensures.lost ∙ e))) (c.in-Err.ensures.fails tells r e))
+    (λ lost e. ap Err (only_first mid.tally.lost mid.tally.over c.in-Err.lost lost mid.tally.lost_over goes (sym c.lose.ensures.lost ∙ e)))
+    (λ e. c.lose.ensures.lost ∙ ap (λ o. first_lost o c.in-Err.lost) (first_some mid.tally.lost mid.tally.over mid.tally.lost_over goes) ∙ ap Some (lost_is e)) (c.in-Err.ensures.fails tells r e))
 
 pub returns-in-Ok-clause-on : goal.returns-in-Ok-clause-on
 returns-in-Ok-clause-on g c = λ going over.

@@ -3,7 +3,8 @@ use Rattle.fj_plain.specs.State.{Files}
 use Rattle.fj_units.specs.Files.{files_of}
 use Rattle.fj_turns.specs.Run.{Start}
 use Rattle.fj_runner.specs.Machine.{run_at}
-use Rattle.fj_runner.proofs.GivingUp.{fails_like, on_err_by}
+use Rattle.fj_runner.proofs.Failures.{on_err_by}
+use Rattle.fj_runner.proofs.GivingUp.{fails_like}
 use Rattle.fj_runner.proofs.Going.{none_has}
 use Rattle.fj_runner.specs.Fitting.{HasRoom}
 use Rattle.fj_runner.proofs.machine.Machine.ask_or_go.Goals as goal
@@ -17,7 +18,7 @@ returns-in-None-clause-fails g c = λ tells t i.
     let passed = none_has c.asked_by.result _ c.in-None.is (c.asked_by.ensures.passed files t i) in
     let r = run_at files mid Start in
     on_err_by c.go.result _ _
-    (λ f. (r, passed, fails_like _ (g.W.Sink.tells c.args.out.now) (taken c.args.out.now) (taken c.go.new.out) r m mid c.go.new.self (ap (λ s. s.core.output) c.asked_by.ensures.state) f))
+    (λ f. (r, passed, fails_like _ (g.W.Sink.tells c.args.out.now) (taken c.args.out.now) (taken c.go.new.out) r m mid c.go.new.self (ap (λ s. s.core.output) c.asked_by.ensures.state) (ap (λ t. t.hand) c.asked_by.ensures.tally) f))
     (c.go.ensures.fails tells)
 
 pub returns-in-Some-clause-on : goal.returns-in-Some-clause-on

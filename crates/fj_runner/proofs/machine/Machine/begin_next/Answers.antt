@@ -72,7 +72,7 @@ returns-in-Err-clause-fails g c = λ tells.
     let taken = g.W.Sink.taken in
     let f = subst (λ (rest : List Stated). FailsStage g.W.Sink.tells taken out m.state.core c.start.result out' c.start.new.self.core (g.D.Disk.held c.start.new.disk) (g.D.Disk.refusals c.args.disk.now) (g.D.Disk.refusals c.start.new.disk) st Start (run_in m.deck.variables rest files m.state Start)) (sym h)
     (c.start.ensures.fails tells more Start) in
-    fails_for _ _ (g.W.Sink.tells out) (taken out) (taken out') (run_at files m Start) m _ (λ lost e. cc (c.in-Err.is, e))
+    fails_for _ _ (g.W.Sink.tells out) (taken out) (taken out') (run_at files m Start) m _ (λ lost e. cc (c.in-Err.is, e)) (λ e. cc (c.in-Err.is, e))
     (fails_turn g.W.Sink.tells taken out out' m _ c.start.result c.in-Err.lost st more (run_at files m Start) c.in-Err.is h refl refl c.start.ensures.steps.still f)
 
 pub returns-in-Ok-clause-on : goal.returns-in-Ok-clause-on

@@ -1,4 +1,4 @@
-use Rattle.std.proofs.Common.{sym, subst, ◌∙◌, IfSome}
+use Rattle.std.proofs.Common.{sym, ap, subst, ◌∙◌, IfSome}
 use Rattle.fj_turns.specs.Run.{Start}
 use Rattle.fj_units.specs.Files.{files_of}
 use Rattle.fj_runner.specs.Machine.{run_at}
@@ -24,9 +24,9 @@ returns-in-Err-clause-fails g c = λ tells.
     let p = it.passed tells in
     let taken = g.W.Sink.taken in
     fails_behind _ (g.W.Sink.tells c.args.out.now) (g.W.Sink.tells c.loop-self.out) (taken c.args.out.now) (taken c.loop-self.out) (taken c.begin_next.new.out) p.0
-    (run_at (files_of (g.D.Disk.held c.args.disk.now)) m Start) (run_at (files_of (g.D.Disk.held c.loop-self.disk)) half Start) m half c.begin_next.new.self p.1 it.steps.telling_out.0 it.steps.output (it.steps.own tells)
+    (run_at (files_of (g.D.Disk.held c.args.disk.now)) m Start) (run_at (files_of (g.D.Disk.held c.loop-self.disk)) half Start) m half c.begin_next.new.self p.1 it.steps.telling_out.0 it.steps.output (it.steps.own tells) (ap (λ t. t.hand) it.tally)
     (fails_for _ _ (g.W.Sink.tells c.loop-self.out) (taken c.loop-self.out) (taken c.begin_next.new.out) (run_at (files_of (g.D.Disk.held c.loop-self.disk)) half Start) half c.begin_next.new.self
-    (λ lost e. cc) (c.in-Err.ensures.fails (it.steps.telling.0 tells)))
+    (λ lost e. cc) (λ e. cc) (c.in-Err.ensures.fails (it.steps.telling.0 tells)))
 
 pub returns-in-Err-clause-steps : goal.returns-in-Err-clause-steps
 returns-in-Err-clause-steps g c =

@@ -7,7 +7,8 @@ use Rattle.fj_acts.specs.State.{core_of}
 use Rattle.fj_runner.specs.Failing.{FailsStage}
 use Rattle.fj_runner.specs.Machine.{run_in, run_at, run_of, stage_at, stage_of}
 use Rattle.fj_runner.specs.Turned.{IsTurn, IsAsked}
-use Rattle.fj_runner.proofs.GivingUp.{fails_behind, fails_for, fails_run, fails_turn, on_err_by, passed_at, passes_one}
+use Rattle.fj_runner.proofs.Failures.{on_err_by}
+use Rattle.fj_runner.proofs.GivingUp.{fails_behind, fails_for, fails_run, fails_turn, passed_at, passes_one}
 use Rattle.fj_runner.proofs.NextAsks.{read_at_hand, asked_at, not_ended, run_known, rests_asked, ended_asked, done_asked}
 use Rattle.fj_runner.proofs.Stepping.{then_steps}
 use Rattle.fj_runner.proofs.Counting.{room_kept}
@@ -62,7 +63,7 @@ returns-in-Ok-clause-fails g c = λ tells r known.
     let out' = c.turn.new.out in
     on_err_by c.ask_or_go.result _ _
     (λ f. fails_behind _ (tells_out out) (tells_out out') (taken out) (taken out') (taken c.ask_or_go.new.out) 1 r f.0 m _ c.ask_or_go.new.self
-    (passes_one r f.0 (passed_at files m k.0 st more r k.2 h ∙ f.1)) c.turn.ensures.steps.telling_out.0 c.in-Ok.ensures.steps.output (c.turn.ensures.steps.own tells) f.2)
+    (passes_one r f.0 (passed_at files m k.0 st more r k.2 h ∙ f.1)) c.turn.ensures.steps.telling_out.0 c.in-Ok.ensures.steps.output (c.turn.ensures.steps.own tells) refl f.2)
     (c.ask_or_go.ensures.fails (c.turn.ensures.steps.telling.0 tells) t it)
 
 pub returns-in-Err-clause-fails : goal.returns-in-Err-clause-fails
@@ -85,7 +86,7 @@ returns-in-Err-clause-fails g c = λ tells r known.
     let f = subst (λ (rest : List Stated). FailsStage tells_out taken out m.state.core c.turn.result out' c.turn.new.self.core (g.D.Disk.held c.turn.new.disk) (g.D.Disk.refusals c.args.disk.now) (g.D.Disk.refusals c.turn.new.disk) st k.0 (run_in m.deck.variables rest files m.state k.0)) (sym h)
     (c.turn.ensures.fails tells more k.0 stands) in
     fails_run _ (tells_out out) (taken out) (taken out') (run_at files m k.0) r m _ k.2
-    (fails_for _ _ (tells_out out) (taken out) (taken out') (run_at files m k.0) m _ (λ lost e. cc (c.in-Err.is, e))
+    (fails_for _ _ (tells_out out) (taken out) (taken out') (run_at files m k.0) m _ (λ lost e. cc (c.in-Err.is, e)) (λ e. cc (c.in-Err.is, e))
     (fails_turn tells_out taken out out' m _ c.turn.result c.in-Err.lost st more (run_at files m k.0) c.in-Err.is h refl refl c.turn.ensures.steps.still f))
 
 pub returns-then-is_some-clause-asks : goal.returns-then-is_some-clause-asks

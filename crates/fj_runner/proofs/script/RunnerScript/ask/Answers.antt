@@ -3,6 +3,7 @@ use Rattle.fj_plain.specs.State.{Files}
 use Rattle.fj_units.specs.Files.{files_of}
 use Rattle.fj_runner.specs.Machine.{run_of}
 use Rattle.fj_runner.specs.Tallying.{owed_at}
+use Rattle.fj_runner.specs.declared.hand.Hand.TheVariants.{Idle}
 use Rattle.fj_runner.proofs.GivingUp.{given_up_told}
 use Rattle.fj_runner.proofs.Scripting.{asks_of, asked_told}
 use Rattle.fj_runner.proofs.Tallies.{asking}
@@ -25,6 +26,7 @@ returns g c =
     let files : Files = files_of (g.D.Disk.held disk) in
     let files_after : Files = files_of (g.D.Disk.held after) in
     let same : new.tally.left ≡ m.tally.left = it.due.left in
+    let idle : m.tally.hand ≡ Idle = asking m.tally.hand c.requires in
     asks_of _ _ _ _ c.next_of.result new.tally.hand new.tally.over new.tally.left new.tally.owed.items refl refl (λ slot. refl) refl it.due.due new.tally.submits new.tally.settles
     (omega (arith, same)) refl (λ slot. ap (λ o. owed_at o.items slot) it.due.owed) it.due.over it.due.ends
     (λ s.
@@ -38,7 +40,13 @@ returns g c =
       leaves = it.leaves;
       gives_up = given_up_told (g.W.Sink.tells old.out.now) (g.W.Sink.taken old.out.now) (g.W.Sink.taken c.next_of.new.out) (g.D.Disk.told disk) (run_of told bytes files m) m new
           (λ t. it.fails ((g.met.D.Disk.decided disk).0 t));
-      asking = λ going d. asking m.tally.hand c.requires;
+      asking = record {
+        outside = λ going d. idle;
+        same_disk = λ asks. absurd (asks idle);
+        units = λ asks. absurd (asks idle);
+        at = λ asks. absurd (asks idle);
+        submits = λ asks. absurd (asks idle);
+      };
       stays = λ over. let still = it.rests over in (still.0, ap g.W.Sink.taken still.2, still.1);
       reason = it.reason;
     })

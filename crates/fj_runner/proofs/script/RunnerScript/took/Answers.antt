@@ -2,6 +2,7 @@ use Rattle.std.proofs.Common.{cond, None, refl, ap, sym, ◌∙◌, subst}
 use Rattle.fj_plain.specs.State.{Files}
 use Rattle.fj_units.specs.Files.{files_of}
 use Rattle.fj_runner.specs.Machine.{run_of}
+use Rattle.fj_world.specs.Conduct.{IsSubmitting}
 use Rattle.fj_runner.specs.Tallying.{due_of}
 use Rattle.fj_runner.proofs.GivingUp.{given_up_told, rests_give_up, rests_ask}
 use Rattle.fj_runner.proofs.Scripting.{run_same, rests_leaves, took_by}
@@ -36,8 +37,8 @@ returns g c =
         same_machine = refl;
         leaves = rests_leaves old.out.now old.disk.now m new it.rests;
         gives_up = given_up_told (g.W.Sink.tells old.out.now) (g.W.Sink.taken old.out.now) (g.W.Sink.taken old.out.now) (g.D.Disk.told old.disk.now) (run_of told bytes files m) m new
-            (λ _. rests_give_up told bytes (g.W.Sink.tells old.out.now) (g.W.Sink.taken old.out.now) files m new it.rests);
-        asking = rests_ask m new it.rests;
+            (λ _. rests_give_up told bytes (g.W.Sink.tells old.out.now) (g.W.Sink.taken old.out.now) files m new (λ idle. subst (λ h. IsSubmitting (due_of h)) idle c.requires) it.rests);
+        asking = rests_ask old.disk.now m new it.rests (λ going over stop fits. c.requires);
         stays = λ over. absurd (not_both m.tally.over over (submitting_runs m.tally.hand m.tally.over m.tally.left m.tally.submits c.requires));
         reason = it.reason;
       };

@@ -1,4 +1,4 @@
-use Rattle.std.proofs.Common.{◌≡◌, ◌+◌, ◌∷◌, drop, Some, IfOk, refl, sym, subst, ap, ◌∙◌, inl, inr}
+use Rattle.std.proofs.Common.{◌≡◌, ◌+◌, ◌∷◌, drop, Some, IfOk, refl, sym, subst, ap, ◌∙◌}
 use Rattle.fj_bay.specs.Jobs.{resume}
 use Rattle.fj_plain.specs.State.{Files}
 use Rattle.fj_plain.specs.Statement.{Stated, control_by}
@@ -55,7 +55,7 @@ returns-in-Ok-clause-turn g c = λ tells more stage.
     (c.act.ensures.turn more after core (held s.core.pending) stage does c.begin.ensures.pending (c.in-Ok.ensures.doing tells))
 
 pub returns-in-Some-clause-fails : goal.returns-in-Some-clause-fails
-returns-in-Some-clause-fails g c = λ tells more stage. fails_still c.args.out.now c.args.self.now.core c.submit.new.self.core (went c.submit.result) _ _ _ (λ e. cc) (λ e. cc)
+returns-in-Some-clause-fails g c = λ tells more stage. fails_still c.args.out.now c.args.self.now.core c.submit.new.self.core (went c.submit.result) _ _ _ (λ e. cc) (λ e. cc) (λ fits. tt)
 
 pub returns-in-Ok-clause-fails : goal.returns-in-Ok-clause-fails
 returns-in-Ok-clause-fails g c = λ tells more stage.
@@ -73,7 +73,7 @@ returns-in-Ok-clause-fails g c = λ tells more stage.
     let due : output_of (turn_act st (ends_halts (drop c.args.next c.args.slots) core does) run) ≡ c.begin.new.core.output =
     ap (λ xs. output_of (turn_act st (ends_halts xs core does) run)) e ∙ act_output st does run ∙ doing_output told bytes variables st (core_of after c.begin.new.core) c.in-Ok.doing does (c.in-Ok.ensures.doing tells) in
     let taken = g.W.Sink.taken in
-    fails_acting c.args.out.now c.begin.new.out s.core c.act.new.self.core c.act.result _ _ _ c.act.ensures.keeps.disk c.act.ensures.keeps.sink
+    fails_acting c.args.out.now c.begin.new.out s.core c.act.new.self.core c.act.result _ _ _ c.act.ensures.keeps.disk c.act.ensures.keeps.sink c.act.ensures.lost
     (λ t. subst (λ o. HandsOver (taken c.args.out.now) (taken c.begin.new.out) s.core.output o) (sym due) (c.in-Ok.ensures.output t))
 
 pub returns-clause-fails : goal.returns-clause-fails
@@ -94,11 +94,7 @@ returns-clause-fails g c = λ tells more stage.
     fails_begun c.args.out.now c.begin.new.out s.core c.begin.new.core _ _ (λ t. subst (λ o. HandsFront (taken c.args.out.now) (taken c.begin.new.out) s.core.output o) (sym due) (c.in-Err.ensures.front t))
     (λ t e. subst (λ o. HandsPart (taken c.args.out.now) (taken c.begin.new.out) s.core.output o) (sym due) (c.begin.ensures.part t (cc (c.in-Err.is, e))))
     (λ e. (c.begin.ensures.still (cc (c.in-Err.is, e))).1) c.begin.ensures.tells
-    (λ o. record {
-      does = does;
-      is = ap (λ xs. Some (ends_halts xs core does)) e;
-      stands = elim o [ inl d ↦ (c.begin.ensures.fault tells (cc (c.in-Err.is, d))).stands | inr s ↦ c.begin.ensures.fault_out tells (cc (c.in-Err.is, s)) ];
-    })
+    (record { does = does; is = ap (λ xs. Some (ends_halts xs core does)) e; stands = c.in-Err.ensures.stands tells })
     (λ d. (c.begin.ensures.fault tells (cc (c.in-Err.is, d))).rose) (λ d. c.begin.ensures.called (cc (c.in-Err.is, d)))
 
 pub returns-clause-steps : goal.returns-clause-steps

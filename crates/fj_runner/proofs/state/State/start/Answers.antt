@@ -1,4 +1,4 @@
-use Rattle.std.proofs.Common.{◌∷◌, Some, None, IfOk, refl, sym, subst, ap}
+use Rattle.std.proofs.Common.{◌∷◌, Some, None, IfOk, inl, refl, sym, subst, ap}
 use Rattle.fj_plain.specs.State.{Files}
 use Rattle.fj_plain.specs.Statement.{Stated, control_by}
 use Rattle.fj_turns.specs.Run.{Run}
@@ -7,7 +7,9 @@ use Rattle.fj_runner.specs.Machine.{run_in}
 use Rattle.fj_runner.specs.Turned.{IsTurn}
 use Rattle.fj_runner.proofs.Beginnings.{rule_by, starts_free, starts_ruled}
 use Rattle.fj_turns.specs.Passing.{output_of}
-use Rattle.fj_runner.proofs.Failures.{fails_from}
+use Rattle.fj_runner.proofs.Failures.{fails_from, fails_still}
+use Rattle.fj_runner.proofs.Stepping.{given_up}
+use Rattle.fj_items.specs.declared.lost.Lost.TheVariants.{Memory}
 use Rattle.fj_runner.proofs.state.State.start.Goals as goal
 
 pub returns-in-None-clause-turn : goal.returns-in-None-clause-turn
@@ -48,4 +50,8 @@ returns-in-None-clause-fails g c = λ tells more stage.
     let run : Run = run_in variables (st ∷ more) files s stage in
     let rule = rule_by variables c.as_slice.result.now st files s.core c.unit_asked-named.result c.check-broken.result c.in-Ok.broken None c.as_slice.ensures c.check-broken.ensures c.in-Ok.is
     c.in-None.is c.unit_asked-named.ensures in
-    fails_from c.args.out.now c.wait.new.out s.core s.core c.wait.new.self.core c.wait.result _ _ _ _ _ _ refl (ap output_of (sym (starts_free st run rule))) (λ k. k) refl refl (c.wait.ensures.fails tells more stage)
+    fails_from c.args.out.now c.wait.new.out s.core s.core c.wait.new.self.core c.wait.result _ _ _ _ _ _ refl (ap output_of (sym (starts_free st run rule))) (λ s. s) (λ k. k) refl refl (c.wait.ensures.fails tells more stage)
+
+pub returns-in-Err-clause-fails : goal.returns-in-Err-clause-fails
+returns-in-Err-clause-fails g c = λ tells more stage.
+    fails_still c.args.out.now c.args.self.now.core c.args.self.now.core (given_up (Memory c.in-Err.error)) _ _ _ (λ e. cc) (λ e. cc) (λ fits. inl (record { may = tt; units = refl; files = refl }))

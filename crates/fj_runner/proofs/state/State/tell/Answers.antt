@@ -1,4 +1,4 @@
-use Rattle.std.proofs.Common.{◌≡◌, List, ◌∷◌, Some, None, IfOk, sym, ap, ◌∙◌, subst}
+use Rattle.std.proofs.Common.{◌≡◌, List, ◌∷◌, Some, None, IfOk, inl, refl, sym, ap, ◌∙◌, subst}
 use Rattle.fj_plain.specs.State.{Files, Entry}
 use Rattle.fj_plain.specs.Statement.{Stated, control_by}
 use Rattle.fj_desk.specs.Core.{Core, Connected}
@@ -16,8 +16,10 @@ use Rattle.fj_store.specs.Storage.{values_of}
 use Rattle.fj_plain.specs.Telling.{with_inputs}
 use Rattle.fj_acts.specs.Fitting.{FindsItems}
 use Rattle.fj_units.specs.Having.{HaveFiles}
-use Rattle.fj_runner.proofs.Failures.{fails_from}
+use Rattle.fj_runner.proofs.Failures.{fails_from, fails_still}
 use Rattle.fj_runner.proofs.Numbering.{given_left, named_left, untold_left}
+use Rattle.fj_runner.proofs.Stepping.{given_up}
+use Rattle.fj_items.specs.declared.lost.Lost.TheVariants.{Memory}
 use Rattle.fj_runner.proofs.state.State.tell.Goals as goal
 
 pub returns-in-Ok-tell_all-clause-turn : goal.returns-in-Ok-tell_all-clause-turn
@@ -53,7 +55,7 @@ returns-in-Ok-tell_all-clause-fails g c = λ tells more stage.
     let due = tells_turn st es run left c.in-Ok.slots c.in-Ok-tell_all.condition
     (told_run st es run (core_of files new) (held new.pending) (c.in-Ok-tell_all.ensures.core files) c.in-Ok-tell_all.ensures.left)
     (c.in-Ok.ensures.halted ∙ ap (λ (us : List Connected). halted_slots es us) c.as_slice-units.ensures) c.in-Ok-tell_all.ensures.condition in
-    fails_from c.args.out.now c.resume.new.out s.core new c.resume.new.self.core c.resume.result _ _ _ _ _ _ c.tell_all.ensures.keeps.output (ap output_of due) (λ k. k)
+    fails_from c.args.out.now c.resume.new.out s.core new c.resume.new.self.core c.resume.result _ _ _ _ _ _ c.tell_all.ensures.keeps.output (ap output_of due) (λ s. absurd s) (λ k. k)
     (ap (λ (k : Core). k.tells) (c.in-Ok-tell_all.ensures.core files))
     (ap Some (tells_doing st es run c.in-Ok.slots c.in-Ok-tell_all.condition (core_of files new) (c.in-Ok-tell_all.ensures.core files)
     (c.in-Ok.ensures.halted ∙ ap (λ (us : List Connected). halted_slots es us) c.as_slice-units.ensures) c.in-Ok-tell_all.ensures.condition)) (c.resume.ensures.fails tells more stage)
@@ -88,3 +90,13 @@ returns-in-Ok-tell_all-clause-fits g c = λ sound have kept fits.
       kept = c.in-Ok-tell_all.ensures.holds kept;
       finds = subst (λ vs. FindsItems c.args.variables.now vs c.args.lined.now.what) (sym values) (fits.finds (sym c.in-Ok-tell_all.ensures.condition ∙ fine));
     })
+
+pub returns-in-Err-clause-fails : goal.returns-in-Err-clause-fails
+returns-in-Err-clause-fails g c = λ tells more stage.
+    fails_still c.args.out.now c.args.self.now.core c.args.self.now.core (given_up (Memory c.in-Err.error)) _ _ _ (λ e. cc) (λ e. cc) (λ fits. inl (record { may = tt; units = refl; files = refl }))
+
+pub returns-in-Err-tell_all-clause-fails : goal.returns-in-Err-tell_all-clause-fails
+returns-in-Err-tell_all-clause-fails g c = λ tells more stage.
+    let keeps = c.tell_all.ensures.keeps in
+    fails_still c.args.out.now c.args.self.now.core c.tell_all.new.core (given_up c.in-Err-tell_all.lost) _ _ _ (λ e. keeps.disk (cc (c.in-Err-tell_all.is, e))) (λ e. keeps.sink (cc (c.in-Err-tell_all.is, e)))
+    (λ fits. inl (record { may = tt; units = c.tell_all.ensures.units; files = refl }))

@@ -1,4 +1,4 @@
-use Rattle.std.proofs.Common.{◌≡◌, ◌∷◌, true, Ok, Some, IfOk, refl, sym, ◌∙◌, subst, arith}
+use Rattle.std.proofs.Common.{◌≡◌, ◌∷◌, true, Ok, Some, IfOk, inr, refl, sym, ◌∙◌, subst, arith}
 use Rattle.fj_bay.specs.Plain.{task_of, reply_of}
 use Rattle.fj_plain.specs.State.{Files}
 use Rattle.fj_plain.specs.Statement.{Stated, control_by}
@@ -17,7 +17,7 @@ use Rattle.fj_runner.proofs.NextAsks.{some_same, run_known}
 use Rattle.fj_runner.proofs.Stepping.{kept_steps, ok_keeps, disk_steps, then_steps}
 use Rattle.fj_turns.specs.Passing.{output_of}
 use Rattle.fj_runner.specs.Failing.{FailsStage}
-use Rattle.fj_runner.proofs.Failures.{closing_calls, fails_still, fails_quiet, fails_at}
+use Rattle.fj_runner.proofs.Failures.{closing_calls, fails_from, fails_still, fails_quiet, fails_at, only_unfit}
 use Rattle.fj_runner.proofs.Stepping.{went, given_up}
 use Rattle.fj_runner.specs.Fitting.{FitsStage}
 use Rattle.fj_runner.specs.Closing.{may_be_at}
@@ -184,20 +184,36 @@ returns-in-Resuming-clause-fails g c = λ tells more stage e.
     let core : Core = core_of files s.core in
     let known = subst (λ x. stage_of told bytes variables (st ∷ more) core x ≡ Some stage) (sym c.replace.ensures.value ∙ c.in-Resuming.is) e in
     subst (λ x. FailsStage g.W.Sink.tells g.W.Sink.taken c.args.out.now s.core c.resume.result c.resume.new.out c.resume.new.self.core (g.D.Disk.held c.resume.new.disk) (g.D.Disk.refusals c.args.disk.now) (g.D.Disk.refusals c.resume.new.disk) st x run) (some_same _ stage known)
-    (c.resume.ensures.fails tells more stage)
+    (fails_from c.args.out.now c.resume.new.out s.core s.core c.resume.new.self.core c.resume.result _ _ _ _ _ _ refl refl (λ z. absurd z) (λ k. k) refl refl (c.resume.ensures.fails tells more stage))
 
 pub returns-in-Ok-clause-fails : goal.returns-in-Ok-clause-fails
 returns-in-Ok-clause-fails g c = λ tells more stage e. fails_still c.args.out.now c.args.self.now.core c.act.new.self.core c.act.result _ _ _ c.act.ensures.keeps.disk c.act.ensures.keeps.sink
+    (only_unfit c.act.result _ c.act.ensures.lost)
 
 pub returns-in-Err-clause-fails : goal.returns-in-Err-clause-fails
-returns-in-Err-clause-fails g c = λ tells more stage e. fails_still c.args.out.now c.args.self.now.core c.given.new.core _ _ _ _ (λ e. c.given.ensures.causes.0 (cc (c.in-Err.is, e))) (λ e. c.given.ensures.causes.1 (cc (c.in-Err.is, e)))
+returns-in-Err-clause-fails g c = λ tells more stage e.
+    let told = g.F.FileStore.told in
+    let bytes = g.F.FileStore.bytes in
+    let s = c.args.self.now in
+    let variables = c.args.variables.now in
+    let st : Stated = (c.args.lined.now, control_by c.args.lined.now.what) in
+    let held = g.D.Disk.held c.args.disk.now in
+    let own = g.D.Disk.refusals c.args.disk.now in
+    let run : Run = run_in variables (st ∷ more) (files_of held) s stage in
+    let core : Core = core_of (files_of held) s.core in
+    let known = subst (λ x. stage_of told bytes variables (st ∷ more) core x ≡ Some stage) (sym c.replace.ensures.value ∙ c.in-Going.is) e in
+    let does : Doing = next_of variables st core c.in-Going.next c.in-Going.number in
+    fails_at c.args.out.now c.args.out.now s.core c.given.new.core (given_up c.in-Err.lost) st (Acting does) stage run (some_same (Acting does) stage known)
+    (fails_still c.args.out.now s.core c.given.new.core (given_up c.in-Err.lost) _ _ _ (λ e. c.given.ensures.causes.0 (cc (c.in-Err.is, e))) (λ e. c.given.ensures.causes.1 (cc (c.in-Err.is, e)))
+    (λ fits. inr (tt, record { does = does; is = refl; stands = c.in-Err.ensures.stands held own own })))
 
 pub returns-in-Awaiting-clause-fails : goal.returns-in-Awaiting-clause-fails
-returns-in-Awaiting-clause-fails g c = λ tells more stage e. fails_still c.args.out.now c.args.self.now.core c.settle.new.self.core (went c.settle.result) _ _ _ (λ e. cc) (λ e. cc)
+returns-in-Awaiting-clause-fails g c = λ tells more stage e. fails_still c.args.out.now c.args.self.now.core c.settle.new.self.core (went c.settle.result) _ _ _ (λ e. cc) (λ e. cc) (λ fits. tt)
 
 pub returns-in-Ok-doing-clause-fails : goal.returns-in-Ok-doing-clause-fails
 returns-in-Ok-doing-clause-fails g c = λ tells more stage e.
     fails_still c.args.out.now c.args.self.now.core c.act-in-Ok-doing.new.self.core c.act-in-Ok-doing.result _ _ _ c.act-in-Ok-doing.ensures.keeps.disk c.act-in-Ok-doing.ensures.keeps.sink
+    (only_unfit c.act-in-Ok-doing.result _ c.act-in-Ok-doing.ensures.lost)
 
 pub returns-in-Err-doing-clause-fails : goal.returns-in-Err-doing-clause-fails
 returns-in-Err-doing-clause-fails g c = λ tells more stage e.
@@ -214,7 +230,7 @@ returns-in-Err-doing-clause-fails g c = λ tells more stage e.
     let does : Doing = then_of variables st core c.in-Answered.then (k.0, reply_of c.in-Answered.answer) in
     fails_at c.args.out.now c.args.out.now s.core c.answered-doing.new.core (given_up c.in-Err-doing.lost) st (Acting does) stage run k.2
     (fails_quiet c.args.out.now s.core c.answered-doing.new.core (given_up c.in-Err-doing.lost) (output_of (turn st (Acting does) run)) c.answered-doing.ensures.output c.answered-doing.ensures.tells
-    (λ e. c.answered-doing.ensures.sink (cc (c.in-Err-doing.is, e))) (λ d. record { does = does; is = refl; stands = (c.answered-doing.ensures.fault tells k.0 k.1 (cc (c.in-Err-doing.is, d))).stands })
+    (λ e. c.answered-doing.ensures.sink (cc (c.in-Err-doing.is, e))) (λ fits. record { does = does; is = refl; stands = c.in-Err-doing.ensures.stands tells k.0 k.1 (λ z. fits (cc z)) })
     (λ d. (c.answered-doing.ensures.fault tells k.0 k.1 (cc (c.in-Err-doing.is, d))).rose)
     (λ d. closing_calls st.0.what (c.answered-doing.ensures.called (subst (λ x. may_be_at st.0.what x ≡ true) (sym c.replace.ensures.value ∙ c.in-Answered.is) c.requires.hand) (cc (c.in-Err-doing.is, d)))))
 

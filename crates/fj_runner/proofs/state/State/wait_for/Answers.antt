@@ -63,7 +63,7 @@ returns-in-None-clause-fails g c = λ tells more stage.
     let w : waited_now st run ≡ es = sym (c.requires.whose (entries s.core.pending)) in
     let u : unsettled es (held s.core.pending) ≡ None = sym (c.in-None.ensures.slot (none_of _ c.requires.from)) in
     fails_from c.args.out.now c.tell.new.out s.core s.core c.tell.new.self.core c.tell.result _ _ _ _ _ _ refl (ap output_of (sym (waits_none st run es w u)))
-    (λ k. ap (λ xs. unsettled xs run.book) w ∙ u) (ap (λ xs. tells_of s.core.tells ++ map (tell_of st.0.line) xs) (sym w))
+    (λ s. s) (λ k. ap (λ xs. unsettled xs run.book) w ∙ u) (ap (λ xs. tells_of s.core.tells ++ map (tell_of st.0.line) xs) (sym w))
     (ap (λ xs. Some (doing_told variables st xs run.core)) (sym w)) (c.tell.ensures.fails tells more stage)
 
 pub settle-requires-clause-slot : goal.settle-requires-clause-slot
@@ -77,7 +77,7 @@ settle-requires-clause-owed g c =
     (unsettled_slot s.sent.items s.told.items (waited_of c.args.whose (entries s.core.pending)) s.core.pending c.in-Some.slot s.sent_slots s.given s.untold (sym (c.in-Some.ensures.slot (none_of _ c.requires.from)))).1
 
 pub returns-in-Some-clause-fails : goal.returns-in-Some-clause-fails
-returns-in-Some-clause-fails g c = λ tells more stage. fails_still c.args.out.now c.args.self.now.core c.settle.new.self.core (went c.settle.result) _ _ _ (λ e. cc) (λ e. cc)
+returns-in-Some-clause-fails g c = λ tells more stage. fails_still c.args.out.now c.args.self.now.core c.settle.new.self.core (went c.settle.result) _ _ _ (λ e. cc) (λ e. cc) (λ fits. tt)
 
 pub returns-in-Some-clause-holds : goal.returns-in-Some-clause-holds
 returns-in-Some-clause-holds g c = λ kept. subst (IsKept c.args.variables.now) (sym c.settle.ensures.core) kept
