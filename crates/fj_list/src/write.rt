@@ -122,12 +122,15 @@ fn add_row(
     ensures kept { Keeps page.old text.old page.new text.new }
 {
     let width = page.width(text);
-    if width > COLUMNS {
+    if values.is_empty() || width > COLUMNS {
         return Ok(0);
     }
     let mut columns = [b' '; COLUMNS];
     let row = &mut columns[width..];
     let (count, end) = write_integers(row, modes, values);
+    if count == 0 {
+        return Ok(0);
+    }
     let start = text.len();
     text.push_all(&row[..end])?;
     let before = *page;

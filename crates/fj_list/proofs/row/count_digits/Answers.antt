@@ -1,5 +1,4 @@
-use Rattle.std.proofs.Common.{arith, sym, ap}
-use Rattle.std.specs.Fmt.{decimal}
+use Rattle.std.proofs.Common.{sym}
 use Rattle.fj_list.proofs.Rows.{digits_are, no_digits}
 use Rattle.fj_list.proofs.row.count_digits.Goals as goal
 
