@@ -40,14 +40,14 @@ use fj_modes::{FileName, Modes, OpenSpec, UnitRef, settle_open};
 use fj_outside::{Disk, FileStore};
 use fj_units::Connected;
 use fj_value::Condition;
-use std::alloc::Global;
+use std::alloc::{AllocError, Global};
 
 /// A new connection, whose file is out, goes to a slot.
 fn attaching<F: FileStore>(
     number: u32,
     slot: u32,
     name: FileName,
-    connection: Connection<F>,
+    connection: Box<Connection<F>>,
 ) -> Doing<F>
     requires { slot < most_slots }
     ensures doing { F.tells connection.file → (variables : List Variable) (st : Stated) (core : PlainCore) (files : Files) (opened : Result PlainConnection Condition) →
@@ -111,7 +111,13 @@ fn attach<D: Disk>(
     }
     core.names.add(&name)?;
     match open_file(alloc, disk, &name, spec, modes) {
-        Ok(connection) => Ok(attaching(number, slot, name, connection)),
+        Ok(connection) => {
+            let connection = match Box::new(alloc, connection) {
+            Ok(it) => it,
+            Err(e) => return Err(AllocError::from(e).into()),
+        };
+            Ok(attaching(number, slot, name, connection))
+        }
         Err(fault) => {
             core.names.remove(&name);
             match fault {

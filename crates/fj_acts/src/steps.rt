@@ -86,8 +86,8 @@ fn connection_in<F: FileStore>(job: Job<F>) -> Option<Connection<F>>
     ensures { result ≡ held_in job }
 {
     match job {
-        Job::Attach(brought) => brought,
-        Job::Detach(place) => place,
+        Job::Attach(Some(brought)) => Some(Box::into_inner(brought)),
+        Job::Detach(Some(place)) => Some(Box::into_inner(place)),
         _ => None,
     }
 }
@@ -360,7 +360,7 @@ pub fn answered<D: Disk>(
     let condition = condition_in(answer);
     match (then, job) {
         (Then::Carries { slot }, Job::Move(moved)) => {
-            carried(variables, lined, slot, moved, condition, core)
+            carried(variables, lined, slot, Box::into_inner(moved), condition, core)
         }
         (
             Then::Closes {
@@ -370,7 +370,7 @@ pub fn answered<D: Disk>(
             },
             Job::Detach(Some(connection)),
         ) => closed(
-            alloc, variables, lined, number, keep, after, connection, core, disk,
+            alloc, variables, lined, number, keep, after, Box::into_inner(connection), core, disk,
         ),
         (Then::Attaches(unit), Job::Attach(None)) => {
             core.units.insert(unit)?;

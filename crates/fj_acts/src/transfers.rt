@@ -108,14 +108,20 @@ fn transfer<F: FileStore>(
         let job = moving(alloc, variables, &mut core.store, line, tag, t).map_err(lost_by_items)?;
         return Ok(Doing::Gives {
             slot,
-            job: Job::Move(job),
+            job: Job::Move(match Box::new(alloc, job) {
+            Ok(it) => it,
+            Err(e) => return Err(AllocError::from(e).into()),
+        }),
             next: Given::Pends { unit, slot },
         });
     }
     let job = moving(alloc, variables, &mut core.store, line, Tag(0), t).map_err(lost_by_items)?;
     Ok(Doing::Awaits {
         slot,
-        job: Job::Move(job),
+        job: Job::Move(match Box::new(alloc, job) {
+            Ok(it) => it,
+            Err(e) => return Err(AllocError::from(e).into()),
+        }),
         then: Then::Carries { slot },
     })
 }

@@ -24,7 +24,7 @@ const MANY_CELLS: usize = 256;
 #[derive(Drop)]
 pub struct Bay<F: FileStore> {
     alloc: Global,
-    connection: Option<Connection<F>>,
+    connection: Option<Box<Connection<F>>>,
     /// The condition that halted it, until the halt is ended.
     halt: Option<Condition>,
     /// How many of its jobs the outside failed.
@@ -79,11 +79,14 @@ impl<F: FileStore> Bay<F> {
     pub fn into_connection(self) -> Option<Connection<F>>
         ensures { result ≡ self.connection }
     {
-        self.connection
+        match self.connection {
+            Some(it) => Some(Box::into_inner(it)),
+            None => None,
+        }
     }
 
     /// Takes a connection in. Where there is one, the other stays where it is.
-    fn attach(&mut self, brought: &mut Option<Connection<F>>) -> Condition
+    fn attach(&mut self, brought: &mut Option<Box<Connection<F>>>) -> Condition
         ensures refused { IsSome self.old.connection → (self.new ≡ self.old) × (brought.new ≡ brought.old) × (result ≡ Condition.Error 7) }
         ensures taken { self.old.connection ≡ None → (self.new ≡ record self.old { connection = brought.old }) × (brought.new ≡ None) × (result ≡ Condition.Fine) }
     {
@@ -95,7 +98,7 @@ impl<F: FileStore> Bay<F> {
     }
 
     /// Ends the open record, and moves the connection out.
-    fn detach(&mut self, place: &mut Option<Connection<F>>) -> Result<Answer, Stop>
+    fn detach(&mut self, place: &mut Option<Box<Connection<F>>>) -> Result<Answer, Stop>
         ensures serves { (s : PlainState) (t : PlainTask) → state_of F.told F.bytes self.old ≡ Some s → task_of F.told F.bytes (Job.Detach place.old) ≡ Some t
             → Serves (bay_meaning F.told F.bytes F.count) s t result self.new (Job.Detach place.new) }
         ensures failed { result ≡ Err Stop.Failed → Rose (file_faults F.count self.old.connection) (file_faults F.count self.new.connection) }
@@ -121,7 +124,7 @@ impl<F: FileStore> Bay<F> {
         if let Some(cause) = self.halt {
             return Ok(skip(job, cause));
         }
-        let condition = perform(self.alloc, connection, job)?;
+        let condition = perform(self.alloc, &mut **connection, job)?;
         self.halt = halt_of(condition);
         Ok(Answer::Done(condition))
     }
@@ -175,7 +178,7 @@ impl<F: FileStore> Bay<F> {
         match job {
             Job::Attach(brought) => Ok(Answer::Done(self.attach(brought))),
             Job::Detach(place) => self.detach(place),
-            Job::Move(transfer) => self.transfer(transfer),
+            Job::Move(transfer) => self.transfer(&mut **transfer),
             Job::Go(how) => self.go(*how),
             Job::Change(edit) => Ok(Answer::Done(self.change(*edit))),
             Job::Flush => Ok(Answer::Done(Condition::Fine)),

@@ -8,11 +8,11 @@ use fj_value::{Condition, EditModes};
 #[derive(Drop)]
 pub enum Job<F: FileStore> {
     /// Brings a connection. It is gone from the job where the bay took it in.
-    Attach(Option<Connection<F>>),
+    Attach(Option<Box<Connection<F>>>),
     /// Gets the connection, with no record open.
-    Detach(Option<Connection<F>>),
+    Detach(Option<Box<Connection<F>>>),
     /// READ or WRITE.
-    Move(Transfer),
+    Move(Box<Transfer>),
     /// BACKSPACE, REWIND or ENDFILE.
     Go(Positioning),
     /// Other modes of formatted editing.

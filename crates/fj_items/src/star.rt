@@ -113,7 +113,9 @@ impl Output {
             Ok(()) => {}
             Err(e) => return Err(AllocError::from(e).into()),
         }
-        self.open = rest;
+        // The next records go where these stood.
+        self.open.clear();
+        self.open.push_all(rest.bytes())?;
         Ok(())
     }
 

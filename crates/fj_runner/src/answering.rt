@@ -44,7 +44,7 @@ fn keep<F: FileStore>(
     let Job::Move(transfer) = job else {
         return Err(Lost::Unfit);
     };
-    let Ok(()) = pending.answer(slot, number, Told { transfer, answer }) else {
+    let Ok(()) = pending.answer(slot, number, Told { transfer: Box::into_inner(transfer), answer }) else {
         unreachable!();
     };
     Ok(())

@@ -42,7 +42,10 @@ impl<F: FileStore> Machine<F> {
         ensures deck { self.new.deck ≡ self.old.deck }
     {
         if let Job::Attach(brought) = job {
-            self.kept = brought;
+            self.kept = match brought {
+                Some(it) => Some(Box::into_inner(it)),
+                None => None,
+            };
         }
     }
 
