@@ -1,6 +1,6 @@
 -- Units have the files that are out, where a statement closes one, and where OPEN connects one.
 use Rattle.std.proofs.Common.{◌≡◌, ℕ, Bool, true, false, ◌&&◌, List, [], ◌∷◌, Option, Some, None, refl, sym, ap, subst, ◌∙◌}
-use Rattle.std.specs.Prelude.{◌==◌, option_and_then, slice_get, if◌then◌else◌, is_some, IfSome}
+use Rattle.std.specs.Prelude.{option_and_then, slice_get, if◌then◌else◌, is_some, IfSome}
 use Rattle.std.specs.Str.{bytes_eq}
 use Rattle.std.proofs.lemmas.Bool.{eq-eqb}
 use Rattle.std.proofs.lemmas.Slice.Eq.{bytes_eq-Decides}

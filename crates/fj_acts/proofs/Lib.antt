@@ -9,3 +9,4 @@ pub mod InquiryLemmas
 pub mod FailingLemmas
 pub mod FittingLemmas
 pub mod HavingLemmas
+pub mod JobLemmas

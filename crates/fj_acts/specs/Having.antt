@@ -1,5 +1,5 @@
 -- Which units have the files that are out, while a statement waits for its job.
-use Rattle.std.specs.Prelude.{◌≡◌, ℕ, true, false, List, None, is_some}
+use Rattle.std.specs.Prelude.{◌≡◌, ℕ, ◌+◌, ◌≤◌, true, false, List, length, None, is_some}
 use Rattle.fj_statement.specs.declared.statement.Statement.{Statement}
 use Rattle.fj_statement.specs.declared.statement.Statement.TheVariants as statement
 use Rattle.fj_plain.specs.Connecting.{file_due}
@@ -17,9 +17,9 @@ abbrev pub IsFreeNext : After → Statement → List Connected → Type 0
 IsFreeNext (after.Connects number) (statement.OpenUnit u spec iostat) us = (connected_at us number ≡ None) × (has_name us (file_due spec number) ≡ false)
 IsFreeNext next what us = Unit {0}
 
--- A unit that is being connected has its file already; one that is being closed is connected, and without it OPEN may go on.
+-- A unit that is being connected has its file already, and is the only one more; one that is being closed is connected, and without it OPEN may go on.
 abbrev pub HaveThen : Then → List (List ℕ) → List Connected → Statement → Type 0
-HaveThen (then.Attaches more) names us what = HaveFiles names more
+HaveThen (then.Attaches more) names us what = HaveFiles names more × (length more ≤ length us + 1)
 HaveThen (then.Closes number keep next) names us what = HaveFiles names us × (is_some (connected_at us number) ≡ true) × IsFreeNext next what (without_connected number us)
 HaveThen _ names us what = HaveFiles names us
 

@@ -9,3 +9,4 @@ pub mod Fitting
 pub mod Placing
 pub mod Calling
 pub mod Having
+pub mod Jobs

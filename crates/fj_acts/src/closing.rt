@@ -1,5 +1,5 @@
 // CLOSE, and END, which closes all units (ISO/IEC 1539-1:2004, 9.4.6).
-ghost use Rattle.std.specs.Prelude.{◌≡◌, ℕ, List, None, Some};
+ghost use Rattle.std.specs.Prelude.{◌≡◌, ◌≤◌, ℕ, List, None, Some, length};
 ghost use Rattle.std.specs.Option.{option_copied, option_map};
 ghost use Rattle.fj_statement.specs.declared.deck.Variable.{Variable};
 ghost use Rattle.fj_bay.specs.declared.job.Job.TheVariants as job;
@@ -8,6 +8,7 @@ ghost use Rattle.fj_plain.specs.State.{Files};
 ghost use Rattle.fj_plain.specs.Statement.{Stated};
 ghost use Rattle.fj_desk.specs.Acting.{all_closed, closes, closes_anyway, unit_at};
 ghost use Rattle.fj_acts.specs.Placing.{IsPlaced};
+ghost use Rattle.fj_acts.specs.Jobs.{jobs_of};
 ghost use Rattle.fj_acts.specs.State.{core_of};
 ghost use Rattle.fj_acts.specs.Doing.{IsDoing};
 ghost use Rattle.fj_statement.specs.declared.statement.Statement.{Statement};
@@ -85,6 +86,7 @@ pub(crate) fn close_all<F: FileStore>(condition: Condition, core: &Core) -> Doin
     ensures doing { (variables : List Variable) (st : Stated) (files : Files) → IsDoing F.told F.bytes variables st (core_of files core.now) result
         (all_closed core.now.units (core_of files core.now) condition) }
     ensures placed { IsPlaced result }
+    ensures jobs { jobs_of result (length core.now.units) ≤ length core.now.units }
     ensures files { (what : Statement) → HaveFiles core.now.names core.now.units → HaveNext result core.now.names core.now.units what }
 {
     match core.units.first() {

@@ -28,7 +28,7 @@ ghost use Rattle.fj_acts.specs.Fitting.{IsKept};
 ghost use Rattle.fj_acts.specs.State.{KeepsAnswers, KeepsPending, core_of};
 ghost use Rattle.fj_acts.specs.Failing.{FailsWhere};
 ghost use Rattle.fj_units.specs.Files.{files_of};
-ghost use Rattle.fj_acts.specs.Doing.{IsDoing, AsksAbout, looks_at};
+ghost use Rattle.fj_acts.specs.Doing.{Ends, IsDoing, AsksAbout, looks_at};
 ghost use Rattle.fj_statement.specs.declared.statement.Statement.{Statement};
 ghost use Rattle.fj_units.specs.Having.{HaveFiles};
 ghost use Rattle.fj_acts.specs.Having.{HaveNext};
@@ -158,6 +158,7 @@ fn answer<F: FileStore>(
     ensures keeps { IsKept variables.now core.old → OnOk result (IsKept variables.now core.new) }
     ensures fits { All (IsAsked variables.now) asked.now → result ≢ Err Lost.Unfit }
     ensures placed { IfOk result IsPlaced }
+    ensures ends { IfOk result Ends }
     ensures closes { (what : PlainStatement) → IfOk result (λ next. may_do what next ≡ true) }
     ensures files { (what : Statement) → HaveFiles core.old.names core.old.units → IfOk result (λ next. HaveNext next core.new.names core.new.units what) }
 {
@@ -295,6 +296,7 @@ pub(crate) fn answer_look<F: FileStore>(
     ensures keeps { IsKept variables.now core.old → OnOk result (IsKept variables.now core.new) }
     ensures fits { All (IsAsked variables.now) asked.now → result ≢ Err Lost.Unfit }
     ensures placed { IfOk result IsPlaced }
+    ensures ends { IfOk result Ends }
     ensures closes { (what : PlainStatement) → IfOk result (λ next. may_do what next ≡ true) }
     ensures files { (what : Statement) → HaveFiles core.old.names core.old.units → IfOk result (λ next. HaveNext next core.new.names core.new.units what) }
 {

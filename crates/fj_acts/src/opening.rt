@@ -1,5 +1,5 @@
 // OPEN (ISO/IEC 1539-1:2004, 9.4.5).
-ghost use Rattle.std.specs.Prelude.{◌≡◌, ◌≢◌, ◌↔◌, ◌≤◌, ◌<◌, ℕ, false, List, Some, None, IfOk, OnErr, Result, Ok, Err};
+ghost use Rattle.std.specs.Prelude.{◌≡◌, ◌≢◌, ◌↔◌, ◌≤◌, ◌<◌, ◌+◌, ℕ, false, List, length, Some, None, IfOk, OnErr, Result, Ok, Err};
 ghost use Rattle.std.specs.Option.{option_map, option_copied};
 ghost use Rattle.fj_outside.specs.Faults.{Rose};
 ghost use Rattle.fj_modes.specs.Modes.{settled};
@@ -18,6 +18,7 @@ ghost use Rattle.fj_value.specs.declared.condition.Condition.{Condition};
 ghost use Rattle.fj_units.specs.Names.{AreInUse, stands};
 ghost use Rattle.fj_desk.specs.Desks.{most_slots};
 ghost use Rattle.fj_acts.specs.Placing.{IsPlaced};
+ghost use Rattle.fj_acts.specs.Jobs.{GivesOne};
 ghost use Rattle.fj_acts.specs.State.{core_of};
 ghost use Rattle.fj_acts.specs.Failing.{FailsWhere, AreStill};
 ghost use Rattle.fj_units.specs.Files.{files_of};
@@ -50,7 +51,8 @@ fn attaching<F: FileStore>(slot: u32, units: Units, connection: Connection<F>) -
         opened ≡ Ok (connection_of F.bytes connection) → files ≡ without_file connection.name core.files →
         IsDoing F.told F.bytes variables st (record core { files = files }) result (attaches core number slot opened) }
     ensures placed { IsPlaced result }
-    ensures files { (names : List (List ℕ)) (us : List PlainConnected) (what : Statement) → HaveFiles names units → HaveNext result names us what }
+    ensures jobs { GivesOne result }
+    ensures files { (names : List (List ℕ)) (us : List PlainConnected) (what : Statement) → HaveFiles names units → length units ≤ length us + 1 → HaveNext result names us what }
 {
     Doing::Awaits {
         slot,
@@ -96,6 +98,7 @@ fn attach<D: Disk>(
     ensures next { core.new.next ≡ core.old.next }
     ensures fits { stands core.old.names name ≡ false → result ≢ Err Lost.Unfit }
     ensures placed { IfOk result IsPlaced }
+    ensures jobs { IfOk result GivesOne }
     ensures files { (what : Statement) → connected_at core.old.units number ≡ None → has_name core.old.units name ≡ false → HaveFiles core.old.names core.old.units
         → IfOk result (λ next. HaveNext next core.new.names core.new.units what) }
 {
@@ -156,6 +159,7 @@ pub(crate) fn connect<D: Disk>(
     ensures next { core.new.next ≡ core.old.next }
     ensures fits { stands core.old.names (file_due spec.now number) ≡ false → result ≢ Err Lost.Unfit }
     ensures placed { IfOk result IsPlaced }
+    ensures jobs { IfOk result GivesOne }
     ensures files { (what : Statement) → connected_at core.old.units number ≡ None → has_name core.old.units (file_due spec.now number) ≡ false → HaveFiles core.old.names core.old.units
         → IfOk result (λ next. HaveNext next core.new.names core.new.units what) }
 {

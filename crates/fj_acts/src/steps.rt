@@ -1,5 +1,5 @@
 // How a statement goes on from a job that it gave.
-ghost use Rattle.std.specs.Prelude.{◌<◌, ◌≡◌, ◌≢◌, ◌↔◌, ◌≤◌, ℕ, true, All, Some, IfOk, IfSome, OnErr, OnOk, Err};
+ghost use Rattle.std.specs.Prelude.{◌<◌, ◌≡◌, ◌≢◌, ◌↔◌, ◌≤◌, ◌+◌, ◌-◌, ℕ, true, length, All, Some, IfOk, IfSome, OnErr, OnOk, Err};
 ghost use Rattle.std.specs.Option.{option_map};
 ghost use Rattle.fj_outside.specs.Faults.{Rose};
 ghost use Rattle.fj_outside.specs.Holdings.{Holdings, IsFree};
@@ -18,6 +18,7 @@ ghost use Rattle.fj_desk.specs.Desks.{most_slots};
 ghost use Rattle.fj_statement.specs.declared.statement.Statement.{Statement as PlainStatement};
 ghost use Rattle.fj_acts.specs.Calling.{may_await, may_close, may_do};
 ghost use Rattle.fj_acts.specs.Placing.{IsPlaced, slot_behind};
+ghost use Rattle.fj_acts.specs.Jobs.{GivesOne, jobs_after, jobs_behind, jobs_of, units_more};
 ghost use Rattle.fj_acts.specs.Fitting.{Brings, IsKept, MayGoOn};
 ghost use Rattle.fj_acts.specs.Holding.{MayEnter};
 ghost use Rattle.fj_acts.specs.State.{KeepsAnswers, KeepsPending, core_of};
@@ -165,6 +166,7 @@ fn go_on<D: Disk>(
     ensures next { core.new.next ≡ core.old.next }
     ensures fits { IsFreeNext after lined.now.what core.old.units → HaveFiles core.old.names core.old.units → result ≢ Err Lost.Unfit }
     ensures placed { IfOk result IsPlaced }
+    ensures jobs { IfOk result (λ goes. jobs_of goes (length core.new.units) ≤ jobs_after after (length core.old.units)) }
     ensures files { IsFreeNext after lined.now.what core.old.units → HaveFiles core.old.names core.old.units
         → IfOk result (λ goes. HaveNext goes core.new.names core.new.units lined.now.what) }
 {
@@ -238,6 +240,8 @@ fn closed<D: Disk>(
     ensures fits { HaveThen (Then.Closes number keep after) core.old.names core.old.units lined.now.what
         → IfSome (connected_at core.old.units number) (λ u. u.name ≡ connection.name) → result ≢ Err Lost.Unfit }
     ensures placed { IfOk result IsPlaced }
+    ensures units { OnOk result (length core.new.units + 1 ≤ length core.old.units) }
+    ensures jobs { IfOk result (λ goes. jobs_of goes (length core.new.units) ≤ jobs_after after (length core.old.units - 1)) }
     ensures files { HaveThen (Then.Closes number keep after) core.old.names core.old.units lined.now.what → IfOk result (λ goes. HaveNext goes core.new.names core.new.units lined.now.what) }
 {
     if !is_due(&connection, number, core) {
@@ -274,6 +278,7 @@ fn looked<F: FileStore>(
     ensures keeps { IsKept variables.now core.old → OnOk result (IsKept variables.now core.new) }
     ensures fits { IsSoundStatement variables.now lined.now.what → result ≢ Err Lost.Unfit }
     ensures placed { IfOk result IsPlaced }
+    ensures ends { IfOk result Ends }
     ensures closes { (what : PlainStatement) → IfOk result (λ next. may_do what next ≡ true) }
     ensures files { HaveFiles core.old.names core.old.units → IfOk result (λ next. HaveNext next core.new.names core.new.units lined.now.what) }
 {
@@ -311,6 +316,7 @@ fn carried<F: FileStore>(
     ensures keeps { IsKept variables.now core.old → OnOk result (IsKept variables.now core.new) }
     ensures fits { IsSoundStatement variables.now lined.now.what → All (CellFits variables.now) moved.moved.cells → result ≢ Err Lost.Unfit }
     ensures placed { slot < most_slots → IfOk result IsPlaced }
+    ensures jobs { IfOk result GivesOne }
     ensures closes { (what : PlainStatement) → IfOk result (λ next. may_do what next ≡ true) }
     ensures files { HaveFiles core.old.names core.old.units → IfOk result (λ next. HaveNext next core.new.names core.new.units lined.now.what) }
 {
@@ -367,6 +373,8 @@ pub fn answered<D: Disk>(
     ensures fits { IsSoundStatement variables.now lined.now.what → HaveThen then core.old.names core.old.units lined.now.what
         → Brings variables.now core.old.units then job → result ≢ Err Lost.Unfit }
     ensures placed { slot_behind then < most_slots → IfOk result IsPlaced }
+    ensures units { HaveThen then core.old.names core.old.units lined.now.what → IfOk result (λ goes. length core.new.units ≤ length core.old.units + units_more goes) }
+    ensures jobs { IfOk result (λ goes. jobs_of goes (length core.new.units) ≤ jobs_behind then (length core.old.units)) }
     ensures closes { may_await lined.now.what then ≡ true → IfOk result (λ next. may_do lined.now.what next ≡ true) }
     ensures called { may_await lined.now.what then ≡ true → result ≡ Err Lost.Disk → may_close lined.now.what ≡ true }
     ensures files { HaveThen then core.old.names core.old.units lined.now.what → IfOk result (λ goes. HaveNext goes core.new.names core.new.units lined.now.what) }

@@ -22,6 +22,7 @@ ghost use Rattle.fj_desk.specs.Desks.{most_slots};
 ghost use Rattle.fj_statement.specs.declared.statement.Statement.{Statement as PlainStatement};
 ghost use Rattle.fj_acts.specs.Calling.{may_do};
 ghost use Rattle.fj_acts.specs.Placing.{IsPlaced};
+ghost use Rattle.fj_acts.specs.Jobs.{GivesOne};
 ghost use Rattle.fj_acts.specs.Fitting.{IsKept, MayPend};
 ghost use Rattle.fj_acts.specs.Holding.{Enters, HoldsMore, pending_under, unanswered};
 ghost use Rattle.fj_acts.specs.State.{KeepsAnswers, KeepsPending, core_of, core_at};
@@ -301,6 +302,7 @@ pub(crate) fn carry<F: FileStore>(
     ensures keeps { IsKept variables.now core.old → OnOk result (IsKept variables.now core.new) }
     ensures fits { IsTransfer variables.now t.now → All (CellFits variables.now) job.moved.cells → result ≢ Err Lost.Unfit }
     ensures placed { slot < most_slots → IfOk result IsPlaced }
+    ensures jobs { IfOk result GivesOne }
     ensures closes { (what : PlainStatement) → IfOk result (λ next. may_do what next ≡ true) }
     ensures files { (what : Statement) → HaveFiles core.old.names core.old.units → IfOk result (λ next. HaveNext next core.new.names core.new.units what) }
 {

@@ -1,7 +1,9 @@
 -- Units have the files that are out, and jobs are counted: turn by turn, and ask by ask.
-use Rattle.std.proofs.Common.{◌≡◌, ℕ, zero, suc, ◌+◌, ◌-◌, ◌<◌, ◌≤◌, ◌==◌, ◌&&◌, Bool, true, false, cond, List, [], ◌∷◌, replicate, drop, length, get_or, slice_set, None, IsSome, refl, sym, ap, ◌∙◌, subst, inl, inr, arith}
-use Rattle.std.specs.Prelude.{is_some, Result, Ok, Err, IfOk, if◌then◌else◌}
+use Rattle.std.proofs.Common.{◌≡◌, ℕ, zero, suc, ◌+◌, ◌-◌, ◌*◌, ◌<◌, ◌≤◌, ◌==◌, ◌&&◌, Bool, true, false, cond, List, [], ◌∷◌, replicate, drop, length, get_or, slice_set, None, IsSome, refl, sym, ap, ◌∙◌, subst, inl, inr, arith}
+use Rattle.std.specs.Prelude.{Result, Ok, Err, IfOk, if◌then◌else◌}
+use Rattle.std.specs.List.{sum}
 use Rattle.std.proofs.Props.{props}
+use Rattle.std.proofs.lemmas.List.Sums.{get_or-le-sum_by}
 use Rattle.std.proofs.lemmas.Bool.Decides.{eqb_tells}
 use Rattle.std.proofs.lemmas.List.{get_or-set_same, get_or-set_other}
 use Rattle.fj_outside.specs.declared.outside.FileStore.{Ghosts}
@@ -11,18 +13,23 @@ use Rattle.fj_statement.specs.Sound.{IsSound}
 use Rattle.fj_statement.specs.declared.statement.Statement.{Statement}
 use Rattle.fj_plain.specs.Statement.{Stated, stated}
 use Rattle.fj_desk.specs.Core.{Connected}
-use Rattle.fj_world.specs.Conduct.{IsDueAsk, IsSettling, owed_after_settle, owed_after_submit}
+use Rattle.fj_world.specs.Conduct.{IsDueAsk, IsSettling, IsSubmitting, owed_after_settle, owed_after_submit}
 use Rattle.fj_world.specs.declared.ask.Ask.{Ask}
 use Rattle.fj_world.specs.declared.ask.Ask.TheVariants as ask
 use Rattle.fj_units.specs.Having.{HaveFiles}
 use Rattle.fj_acts.specs.Fitting.{IsKept}
 use Rattle.fj_acts.specs.Having.{HaveThen}
+use Rattle.fj_acts.specs.Doing.{Ends}
+use Rattle.fj_acts.specs.Jobs.{units_more}
+use Rattle.fj_acts.specs.declared.doing.Doing.{Doing}
+use Rattle.fj_acts.specs.declared.doing.Doing.TheVariants as doing
 use Rattle.fj_acts.specs.declared.doing.Then.{Then}
 use Rattle.fj_runner.specs.Admitting.{MayAsk}
 use Rattle.fj_runner.specs.Answering.{with_own}
 use Rattle.fj_runner.specs.Fitting.{HasRoom}
-use Rattle.fj_runner.specs.Going.{Awaits, CanCount, Counts, DoesNotPause, HaveAt, HaveTurned, Hears, IsAt, AwaitsAtHand, IsGoing, IsMore, KeepsToSlots, OwesAsGiven, SentFor, asked_for, given_ahead}
+use Rattle.fj_runner.specs.Going.{Awaits, CanCount, Connects, Counts, DoesNotPause, HaveAt, HaveTurned, Hears, IsAt, AwaitsAtHand, IsGoing, IsMore, KeepsToSlots, OwesAsGiven, SentFor, asked_for, given_ahead, most_more}
 use Rattle.fj_runner.specs.Machine.{rest_of}
+use Rattle.fj_runner.specs.Spending.{HasAsks, Lives, Spent, asks_for, jobs_at, jobs_from, jobs_left}
 use Rattle.fj_runner.specs.Tallying.{MaySettle, due_of, owed_at}
 use Rattle.fj_runner.specs.declared.hand.Hand.{Hand}
 use Rattle.fj_runner.specs.declared.hand.Hand.TheVariants.{Idle, Submitting, Settling}
@@ -40,6 +47,7 @@ use Rattle.fj_acts.specs.declared.state.Core.{Core}
 use Rattle.fj_items.specs.declared.lost.Lost.{Lost}
 use Rattle.fj_runner.proofs.Keeping.{kept_as}
 use Rattle.fj_runner.proofs.Numbering.{equal_by}
+use Rattle.fj_runner.proofs.Spending.{none_ended, settle_asks, settle_left, submit_asks, submit_left, told_asks, took_asks}
 
 -- ---- one more at a slot
 
@@ -89,32 +97,38 @@ kept_in {F = F} {ghosts = ghosts} m m' deck same kept =
 -- ---- a turn was taken
 
 module _ {F : Type 0} {ghosts : Ghosts F} (m : Machine F ghosts) (s : State F ghosts) (st : Stated) (more : List Stated) (few : s.ending ≡ None → s.core.next ≤ m.at + 1)
-    (kept : IsKept m.deck.variables m.state.core) where
+    (units : s.ending ≡ None → length s.core.units ≤ m.at) (kept : IsKept m.deck.variables m.state.core) where
   at_hand : (st' : Stated) (more' : List Stated) → rest_of m ≡ st ∷ more → rest_of m ≡ st' ∷ more' → st ≡ st'
   at_hand st' more' here e = let both : st ∷ more ≡ st' ∷ more' = sym here ∙ e in cc
 
-  pub on_paused : (a : Ask (Job F)) → rest_of m ≡ st ∷ more → HaveTurned (turned.Pauses a) m.state st.0.what → Counts (turned.Pauses a) s m.state → IsAt m
-  on_paused a here have counts = record {
+  pub on_paused : (a : Ask (Job F)) → rest_of m ≡ st ∷ more → HaveTurned (turned.Pauses a) m.state st.0.what → Counts (turned.Pauses a) s m.state → Connects (turned.Pauses a) s m.state → IsAt m
+  on_paused a here have counts connects = record {
     files = λ st' more' e. subst (λ (x : Stated). HaveAt m.state.stage m.state.core.names m.state.core.units x.0.what) (at_hand st' more' here e) have;
     few = λ none. let f = few (sym counts.2 ∙ none) in omega (arith, f, counts.0);
+    units = λ none. let u = units (sym counts.2 ∙ none) in omega (arith, u, connects);
     kept = kept;
   }
 
   pub on_stopped : (have : (m.state.stage ≡ stage.Start) × HaveFiles m.state.core.names m.state.core.units) → IsSome m.state.ending → IsAt m
   on_stopped have ended = record {
     files = λ st' more' e. have_start m.state.stage m.state.core.names m.state.core.units st'.0.what have.0 have.1;
-    few = λ none. absurd (let z : false ≡ true = sym (ap is_some none) ∙ ended in let bad : ⊥ = cc in bad);
+    few = λ none. none_ended m.state.ending ended none;
+    units = λ none. none_ended m.state.ending ended none;
     kept = kept;
   }
 
   pub on_passed : (m' : Machine F ghosts) → m'.state ≡ m.state → m'.deck ≡ m.deck → m'.at ≡ m.at + 1 → (m.state.stage ≡ stage.Start) × HaveFiles m.state.core.names m.state.core.units
-      → m.state.core.next ≤ s.core.next + 1 → m.state.ending ≡ s.ending → IsAt m'
-  on_passed m' same deck at have next ending = record {
+      → m.state.core.next ≤ s.core.next + 1 → m.state.ending ≡ s.ending → length m.state.core.units ≤ length s.core.units + 1 → IsAt m'
+  on_passed m' same deck at have next ending more = record {
     files = λ st' more' e. subst (λ (x : State F ghosts). HaveAt x.stage x.core.names x.core.units st'.0.what) (sym same) (have_start m.state.stage m.state.core.names m.state.core.units st'.0.what have.0 have.1);
     few = λ none.
         let f = few (sym ending ∙ ap (λ (x : State F ghosts). x.ending) (sym same) ∙ none) in
         let n : m'.state.core.next ≡ m.state.core.next = ap (λ (x : State F ghosts). x.core.next) same in
         omega (arith, f, next, n, at);
+    units = λ none.
+        let u = units (sym ending ∙ ap (λ (x : State F ghosts). x.ending) (sym same) ∙ none) in
+        let n : length m'.state.core.units ≡ length m.state.core.units = ap (λ (x : State F ghosts). length x.core.units) same in
+        omega (arith, u, more, n, at);
     kept = kept_in m m' deck same kept;
   }
 
@@ -137,6 +151,35 @@ count_entered (Ok turned.Passes) s mid s' few sent ending next counts still = (o
 count_entered (Ok turned.Stops) s mid s' few sent ending next counts still = (counts.0 ∙ sent, counts.1)
 count_entered (Err lost) s mid s' few sent ending next counts still = tt
 
+-- ---- units that a turn connects
+
+-- none
+pub connects_by : {F : Type 0} → (t : Turned F) (us us' : List Connected) → us' ≡ us → length us' ≤ length us + most_more t
+connects_by t us us' same = let e : length us' ≡ length us = ap length same in omega (arith, e)
+
+pub connects_none : {F : Type 0} → (r : Result (Turned F) Lost) (us us' : List Connected) → us' ≡ us → IfOk r (λ t. length us' ≤ length us + most_more t)
+connects_none (Ok t) us us' same = connects_by t us us' same
+connects_none (Err lost) us us' same = tt
+
+-- as many as there were, or one more where it ends
+paused_units : {F : Type 0} → (does : Doing F) (a b : ℕ) → (Ends does → ⊥) → a ≤ b + units_more does → a ≤ b + 0
+paused_units (doing.Finishes condition) a b goes low = absurd (goes tt)
+paused_units (doing.Gives slot job next) a b goes low = omega (arith, low)
+paused_units (doing.Awaits slot job next) a b goes low = omega (arith, low)
+
+passed_units : {F : Type 0} → (does : Doing F) (a b : ℕ) → a ≤ b + units_more does → a ≤ b + 1
+passed_units (doing.Finishes condition) a b low = low
+passed_units (doing.Gives slot job next) a b low = omega (arith, low)
+passed_units (doing.Awaits slot job next) a b low = omega (arith, low)
+
+-- behind an answer
+pub connects_answered : {F : Type 0} → (r : Result (Turned F) Lost) (does : Doing F) (us mid us' : List Connected) → length mid ≤ length us + units_more does → us' ≡ mid → (Ends does → IfOk r DoesNotPause)
+    → IfOk r (λ t. length us' ≤ length us + most_more t)
+connects_answered (Ok (turned.Pauses a)) does us mid us' low same ends = paused_units does (length us') (length us) ends (subst (λ l. length l ≤ length us + units_more does) (sym same) low)
+connects_answered (Ok turned.Passes) does us mid us' low same ends = passed_units does (length us') (length us) (subst (λ l. length l ≤ length us + units_more does) (sym same) low)
+connects_answered (Ok turned.Stops) does us mid us' low same ends = passed_units does (length us') (length us) (subst (λ l. length l ≤ length us + units_more does) (sym same) low)
+connects_answered (Err lost) does us mid us' low same ends = tt
+
 -- the same statement
 pub on_same : {F : Type 0} {ghosts : Ghosts F} → (m m' : Machine F ghosts) → m'.deck ≡ m.deck → m'.at ≡ m.at → m'.state ≡ m.state → IsAt m → IsAt m'
 on_same {F = F} {ghosts = ghosts} m m' deck at same on =
@@ -147,6 +190,10 @@ on_same {F = F} {ghosts = ghosts} m m' deck at same on =
           let f = on.few (ap (λ (x : State F ghosts). x.ending) (sym same) ∙ none) in
           let n : m'.state.core.next ≡ m.state.core.next = ap (λ (x : State F ghosts). x.core.next) same in
           omega (arith, f, n, at);
+      units = λ none.
+          let u = on.units (ap (λ (x : State F ghosts). x.ending) (sym same) ∙ none) in
+          let n : length m'.state.core.units ≡ length m.state.core.units = ap (λ (x : State F ghosts). length x.core.units) same in
+          omega (arith, u, n, at);
       kept = kept_in m m' deck same on.kept;
     }
 
@@ -240,16 +287,22 @@ awaited_asked (ask.Settle at) (Settling n) s due keeps = let same : at ≡ n = c
 pub none_awaited : {F : Type 0} {ghosts : Ghosts F} → (hand : Hand) (s : State F ghosts) → hand ≡ Idle → AwaitsAtHand hand s
 none_awaited hand s idle = subst (λ h. AwaitsAtHand h s) (sym idle) tt
 
--- so it may be asked for
-pub may_ask : {F : Type 0} {ghosts : Ghosts F} → (a : Ask (Job F)) (s : State F ghosts) (hand : Hand) (owed sent : List ℕ) → hand ≡ Idle → OwesAsGiven hand owed sent s.told.items → SentFor a sent s.sent.items → KeepsToSlots a s
-    → MayAsk a owed
-may_ask ask.Finished s hand owed sent idle owes same keeps = tt
-may_ask (ask.Submit at job) s hand owed sent idle owes more keeps = omega (arith, keeps)
-may_ask (ask.Settle at) s hand owed sent idle owes same keeps =
+-- so it may be asked for, where as many asks are left as the deck may still make
+pub may_ask : {F : Type 0} {ghosts : Ghosts F} → (a : Ask (Job F)) (m mid : Machine F ghosts) → m.tally.hand ≡ Idle → OwesAsGiven m.tally.hand m.tally.owed.items m.state.sent.items mid.state.told.items
+    → SentFor a m.state.sent.items mid.state.sent.items → KeepsToSlots a mid.state → HasAsks m → Spent a (jobs_left m) mid → Lives a m → MayAsk a m.tally.owed.items m.tally.left
+may_ask ask.Finished m mid idle owes same keeps asks spent lives = tt
+may_ask (ask.Submit at job) m mid idle owes more keeps asks spent lives =
+    (omega (arith, keeps), submit_left (sum m.tally.owed.items) (jobs_left m) (jobs_left mid) (asks_for m.tally.hand) m.tally.left (asks lives.0 lives.1) spent)
+may_ask (ask.Settle at) m mid idle owes same keeps asks spent lives =
+    let hand = m.tally.hand in
+    let owed = m.tally.owed.items in
     let o = owes at in
     let none : given_ahead hand at ≡ 0 = ap (λ h. given_ahead h at) idle in
-    let e : get_or s.sent.items at 0 ≡ get_or sent at 0 = ap (λ l. get_or l at 0) same in
-    (omega (arith, keeps.inside), omega (arith, o, none, e, keeps.owed))
+    let e : get_or mid.state.sent.items at 0 ≡ get_or m.state.sent.items at 0 = ap (λ l. get_or l at 0) same in
+    let some : 0 < get_or owed at 0 = omega (arith, o, none, e, keeps.owed) in
+    let within : at < length owed = omega (arith, keeps.inside, m.tally.sixteen) in
+    let part = get_or-le-sum_by (λ (n : ℕ). n) owed at 0 within in
+    (omega (arith, keeps.inside), some, settle_left (sum owed) (get_or owed at 0) (jobs_left m) (asks_for hand) m.tally.left (asks lives.0 lives.1) some part)
 
 module _ {F : Type 0} {ghosts : Ghosts F} (hand : Hand) (s : State F ghosts) (settling : IsSettling (due_of hand)) (awaited : AwaitsAtHand hand s) where
   -- that of the slot of the last Settle
@@ -265,12 +318,73 @@ pub still_going : (a b : Bool) → (a ≡ true → b ≡ true) → b ≡ false �
 still_going true b up e = absurd (let z : true ≡ false = sym (up refl) ∙ e in let bad : ⊥ = cc in bad)
 still_going false b up e = refl
 
+-- ---- asks that are left
+
+none_asked : (hand : Hand) → hand ≡ Idle → asks_for hand ≡ 0
+none_asked hand e = ap asks_for e
+
+submitting_asks : (hand : Hand) → IsSubmitting (due_of hand) → asks_for hand ≡ 2
+submitting_asks Idle s = absurd s
+submitting_asks (Submitting n) s = refl
+submitting_asks (Settling n) s = absurd s
+
+settling_asks : (hand : Hand) → IsSettling (due_of hand) → asks_for hand ≡ 0
+settling_asks Idle s = absurd s
+settling_asks (Submitting n) s = absurd s
+settling_asks (Settling n) s = refl
+
+module _ {F : Type 0} {ghosts : Ghosts F} (m m' : Machine F ghosts) where
+  still_inside : m'.deck ≡ m.deck → m'.at ≡ m.at → m'.at < length m'.deck.statements → m.at < length m.deck.statements
+  still_inside deck at low = subst (λ n. n < length m.deck.statements) at (subst (λ d. m'.at < length d.statements) deck low)
+
+  jobs_same : m'.deck ≡ m.deck → m'.at ≡ m.at → m'.state.stage ≡ m.state.stage → m'.state.core.units ≡ m.state.core.units → jobs_left m' ≡ jobs_left m
+  jobs_same deck at stage units =
+      ap (λ d. jobs_at (length d.statements) m'.state.stage (length m'.state.core.units) + jobs_from (length d.statements) (m'.at + 1)) deck
+      ∙ ap (λ n. jobs_at (length m.deck.statements) m'.state.stage (length m'.state.core.units) + jobs_from (length m.deck.statements) (n + 1)) at
+      ∙ ap (λ s. jobs_at (length m.deck.statements) s (length m'.state.core.units) + jobs_from (length m.deck.statements) (m.at + 1)) stage
+      ∙ ap (λ us. jobs_at (length m.deck.statements) m.state.stage (length us) + jobs_from (length m.deck.statements) (m.at + 1)) units
+
+  jobs_heard : m'.deck ≡ m.deck → m'.at ≡ m.at → Hears m.state m'.state → jobs_left m' ≡ jobs_left m
+  jobs_heard deck at h =
+      ap (λ d. jobs_at (length d.statements) m'.state.stage (length m'.state.core.units) + jobs_from (length d.statements) (m'.at + 1)) deck
+      ∙ ap (λ n. jobs_at (length m.deck.statements) m'.state.stage (length m'.state.core.units) + jobs_from (length m.deck.statements) (n + 1)) at
+      ∙ ap (λ n. n + jobs_from (length m.deck.statements) (m.at + 1)) (h.jobs (length m.deck.statements) (length m'.state.core.units))
+      ∙ ap (λ us. jobs_at (length m.deck.statements) m.state.stage (length us) + jobs_from (length m.deck.statements) (m.at + 1)) h.units
+
+  has_asks : (mid : Machine F ghosts) (a : Ask (Job F)) → m.tally.hand ≡ Idle → m'.deck ≡ mid.deck → m'.at ≡ mid.at → m'.state ≡ mid.state → m'.tally.left ≡ m.tally.left → m'.tally.owed ≡ m.tally.owed
+      → IsDueAsk (due_of m'.tally.hand) a → HasAsks m → Spent a (jobs_left m) mid → Lives a m → HasAsks m'
+  has_asks mid a idle deck at state left owed due asks spent lives = λ none low.
+      let hand = m'.tally.hand in
+      let have : sum m.tally.owed.items + 2 * jobs_left mid + asks_for hand ≤ m.tally.left =
+      by a hand due spent lives (ap (λ (x : State F ghosts). x.ending) (sym state) ∙ none) (subst (λ n. n < length mid.deck.statements) at (subst (λ d. m'.at < length d.statements) deck low)) in
+      let same = jobs_between mid deck at state in
+      subst (λ n. sum m'.tally.owed.items + 2 * jobs_left m' + asks_for hand ≤ n) (sym left)
+      (subst (λ o. sum o.items + 2 * jobs_left m' + asks_for hand ≤ m.tally.left) (sym owed)
+      (subst (λ k. sum m.tally.owed.items + 2 * k + asks_for hand ≤ m.tally.left) (sym same) have))
+    where
+      jobs_between : (mid : Machine F ghosts) → m'.deck ≡ mid.deck → m'.at ≡ mid.at → m'.state ≡ mid.state → jobs_left m' ≡ jobs_left mid
+      jobs_between mid deck at state =
+          ap (λ d. jobs_at (length d.statements) m'.state.stage (length m'.state.core.units) + jobs_from (length d.statements) (m'.at + 1)) deck
+          ∙ ap (λ n. jobs_at (length mid.deck.statements) m'.state.stage (length m'.state.core.units) + jobs_from (length mid.deck.statements) (n + 1)) at
+          ∙ ap (λ (x : State F ghosts). jobs_at (length mid.deck.statements) x.stage (length x.core.units) + jobs_from (length mid.deck.statements) (mid.at + 1)) state
+
+      by : (b : Ask (Job F)) (hand : Hand) → IsDueAsk (due_of hand) b → Spent b (jobs_left m) mid → Lives b m → mid.state.ending ≡ None → mid.at < length mid.deck.statements
+          → sum m.tally.owed.items + 2 * jobs_left mid + asks_for hand ≤ m.tally.left
+      by ask.Finished hand d sp li none low = let past = sp none in absurd (omega (arith, past, low))
+      by (ask.Submit at job) Idle d sp li none low = absurd (let bad : ⊥ = cc in bad)
+      by (ask.Submit at job) (Submitting n) d sp li none low = submit_asks (sum m.tally.owed.items) (jobs_left m) (jobs_left mid) (asks_for m.tally.hand) m.tally.left (asks li.0 li.1) (none_asked m.tally.hand idle) sp
+      by (ask.Submit at job) (Settling n) d sp li none low = absurd (let bad : ⊥ = cc in bad)
+      by (ask.Settle at) Idle d sp li none low = absurd (let bad : ⊥ = cc in bad)
+      by (ask.Settle at) (Submitting n) d sp li none low = absurd (let bad : ⊥ = cc in bad)
+      by (ask.Settle at) (Settling n) d sp li none low = settle_asks (sum m.tally.owed.items) (jobs_left m) (jobs_left mid) (asks_for m.tally.hand) m.tally.left (asks li.0 li.1) (none_asked m.tally.hand idle) sp
+
 -- ---- one call
 
 module _ {F : Type 0} {ghosts : Ghosts F} (m m' : Machine F ghosts) (g : IsGoing m) where
   pub going_asked : (mid : Machine F ghosts) (a : Ask (Job F)) → m.tally.hand ≡ Idle → IsAt mid → mid.deck ≡ m.deck → mid.tally ≡ m.tally → SentFor a m.state.sent.items mid.state.sent.items → KeepsToSlots a mid.state
-      → mid.state.told ≡ m.state.told → m'.deck ≡ mid.deck → m'.at ≡ mid.at → m'.state ≡ mid.state → m'.tally.left ≡ mid.tally.left → m'.tally.owed ≡ mid.tally.owed → IsDueAsk (due_of m'.tally.hand) a → IsGoing m'
-  going_asked mid a idle on deck tally sent keeps told deck' at' state' left' owed' due =
+      → mid.state.told ≡ m.state.told → m'.deck ≡ mid.deck → m'.at ≡ mid.at → m'.state ≡ mid.state → m'.tally.left ≡ mid.tally.left → m'.tally.owed ≡ mid.tally.owed → IsDueAsk (due_of m'.tally.hand) a
+      → Spent a (jobs_left m) mid → Lives a m → IsGoing m'
+  going_asked mid a idle on deck tally sent keeps told deck' at' state' left' owed' due spent lives =
       let left : m'.tally.left ≡ m.tally.left = left' ∙ ap (λ t. t.left) tally in
       record {
         sound = subst (λ d. IsSound d) (sym (deck' ∙ deck)) g.sound;
@@ -286,12 +400,13 @@ module _ {F : Type 0} {ghosts : Ghosts F} (m m' : Machine F ghosts) (g : IsGoing
             (owes_asked a m'.tally.hand m.tally.owed.items m.state.sent.items mid.state.sent.items m.state.told.items due sent
             (subst (λ h. OwesAsGiven h m.tally.owed.items m.state.sent.items m.state.told.items) idle g.owes))));
         awaited = subst (AwaitsAtHand m'.tally.hand) (sym state') (awaited_asked a m'.tally.hand mid.state due keeps);
+        asks = has_asks m m' mid a idle deck' at' state' left (owed' ∙ ap (λ t. t.owed) tally) due g.asks spent lives;
       }
 
   -- a job was taken
-  pub going_took : m'.deck ≡ m.deck → m'.at ≡ m.at → m'.state ≡ m.state → m'.tally.left < m.tally.left → m'.tally.hand ≡ Idle
+  pub going_took : m'.deck ≡ m.deck → m'.at ≡ m.at → m'.state ≡ m.state → m'.tally.left + 1 ≡ m.tally.left → m'.tally.hand ≡ Idle → IsSubmitting (due_of m.tally.hand) → sum m'.tally.owed.items ≡ sum m.tally.owed.items + 1
       → ((slot : ℕ) → owed_at m'.tally.owed.items slot ≡ owed_after_submit (due_of m.tally.hand) (owed_at m.tally.owed.items) slot) → IsGoing m'
-  going_took deck at state less idle owed = record {
+  going_took deck at state one_less idle submitting one_more owed = let less : m'.tally.left < m.tally.left = omega (arith, one_less) in record {
     sound = subst (λ d. IsSound d) (sym deck) g.sound;
     at = on_same m m' deck at state g.at;
     sent = subst (CanCount m'.state.sent.items m'.tally.left) (sym (none_idle m'.tally.hand idle))
@@ -301,18 +416,28 @@ module _ {F : Type 0} {ghosts : Ghosts F} (m m' : Machine F ghosts) (g : IsGoing
         (subst (λ (x : State F ghosts). OwesAsGiven Idle m'.tally.owed.items x.sent.items x.told.items) (sym state)
         (owes_took m.tally.hand m.tally.owed.items m'.tally.owed.items m.state.sent.items m.state.told.items owed g.owes));
     awaited = none_awaited m'.tally.hand m'.state idle;
+    asks = λ none low.
+        let same = jobs_same m m' deck at (ap (λ (x : State F ghosts). x.stage) state) (ap (λ (x : State F ghosts). x.core.units) state) in
+        subst (λ k. sum m'.tally.owed.items + 2 * jobs_left m' + k ≤ m'.tally.left) (sym (ap asks_for idle)) (subst (λ k. sum m'.tally.owed.items + 2 * k + 0 ≤ m'.tally.left) (sym same)
+        (took_asks (sum m.tally.owed.items) (sum m'.tally.owed.items) (jobs_left m) m.tally.left m'.tally.left
+        (subst (λ k. sum m.tally.owed.items + 2 * jobs_left m + k ≤ m.tally.left) (submitting_asks m.tally.hand submitting) (g.asks (ap (λ (x : State F ghosts). x.ending) (sym state) ∙ none) (still_inside m m' deck at low))) one_more one_less));
   }
 
   -- an answer was told
-  pub going_told : m'.deck ≡ m.deck → m'.at ≡ m.at → Hears m.state m'.state → m'.tally.left < m.tally.left → m'.tally.hand ≡ Idle → IsSettling (due_of m.tally.hand)
+  pub going_told : m'.deck ≡ m.deck → m'.at ≡ m.at → Hears m.state m'.state → m'.tally.left + 1 ≡ m.tally.left → m'.tally.hand ≡ Idle → IsSettling (due_of m.tally.hand) → sum m'.tally.owed.items + 1 ≡ sum m.tally.owed.items
       → ((slot : ℕ) → owed_at m'.tally.owed.items slot ≡ owed_after_settle (due_of m.tally.hand) (owed_at m.tally.owed.items) slot) → IsGoing m'
-  going_told deck at h less idle settling owed =
+  going_told deck at h one_less idle settling one_fewer owed =
+      let less : m'.tally.left < m.tally.left = omega (arith, one_less) in
       let rest : rest_of m' ≡ rest_of m = ap (λ n. drop n (stated m'.deck.statements)) at ∙ ap (λ d. drop m.at (stated d.statements)) deck in
       record {
         sound = subst (λ d. IsSound d) (sym deck) g.sound;
         at = record {
           files = λ st more e. h.files st.0.what (g.at.files st more (sym rest ∙ e));
           few = λ none. let f = g.at.few (sym h.ending ∙ none) in omega (arith, f, h.next, at);
+          units = λ none.
+              let u = g.at.units (sym h.ending ∙ none) in
+              let n : length m'.state.core.units ≡ length m.state.core.units = ap length h.units in
+              omega (arith, u, n, at);
           kept = subst (λ d. IsKept d.variables m'.state.core) (sym deck) (kept_as m.deck.variables m.state.core m'.state.core h.store h.output g.at.kept);
         };
         sent = subst (CanCount m'.state.sent.items m'.tally.left) (sym (none_idle m'.tally.hand idle))
@@ -322,6 +447,11 @@ module _ {F : Type 0} {ghosts : Ghosts F} (m m' : Machine F ghosts) (g : IsGoing
             (subst (λ l. OwesAsGiven Idle m'.tally.owed.items l.items m'.state.told.items) (sym h.sent)
             (owes_told m.tally.hand m.tally.over m.tally.left m.state m.tally.owed.items m'.tally.owed.items m'.state.told.items m.tally.settles settling g.awaited owed h.told g.owes));
         awaited = none_awaited m'.tally.hand m'.state idle;
+        asks = λ none low.
+            let same = jobs_heard m m' deck at h in
+            subst (λ k. sum m'.tally.owed.items + 2 * jobs_left m' + k ≤ m'.tally.left) (sym (ap asks_for idle)) (subst (λ k. sum m'.tally.owed.items + 2 * k + 0 ≤ m'.tally.left) (sym same)
+            (told_asks (sum m.tally.owed.items) (sum m'.tally.owed.items) (jobs_left m) m.tally.left m'.tally.left
+            (subst (λ k. sum m.tally.owed.items + 2 * jobs_left m + k ≤ m.tally.left) (settling_asks m.tally.hand settling) (g.asks (sym h.ending ∙ none) (still_inside m m' deck at low))) one_fewer one_less));
       }
 
 -- ---- the first one

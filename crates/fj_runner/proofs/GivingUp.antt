@@ -1,5 +1,5 @@
 -- Calls that give up, behind statements that are passed.
-use Rattle.std.proofs.Common.{◌≡◌, ◌≢◌, ℕ, zero, suc, ◌+◌, ◌≤◌, Bool, true, false, List, [], ◌∷◌, ◌++◌, drop, Option, Some, None, is_some, Result, Ok, Err, OnErr, IsSome, inl, inr, refl, sym, ap, ◌∙◌, subst, arith, append_assoc}
+use Rattle.std.proofs.Common.{◌≡◌, ◌≢◌, ℕ, zero, suc, ◌+◌, ◌≤◌, Bool, true, false, List, ◌∷◌, ◌++◌, drop, Option, Some, None, Result, Err, OnErr, IsSome, inl, inr, refl, sym, ap, ◌∙◌, subst, arith, append_assoc}
 use Rattle.std.specs.Prelude.{◌⊎◌, if◌then◌else◌}
 use Rattle.std.specs.Option.{option_and_then}
 use Rattle.fj_outside.specs.Holdings.{Holdings}
@@ -8,16 +8,11 @@ use Rattle.fj_items.specs.Handing.{HandsOver, HandsFront, HandsPart, whole_recor
 use Rattle.fj_items.specs.declared.lost.Lost.{Lost}
 use Rattle.fj_items.specs.declared.lost.Lost.TheVariants.{Disk, Sink, Unfit}
 use Rattle.fj_world.specs.Conduct.{IsSubmitting}
-use Rattle.fj_world.specs.declared.ask.Ask.{Ask}
-use Rattle.fj_world.specs.declared.ask.Ask.TheVariants.{Submit, Settle, Finished}
-use Rattle.fj_bay.specs.Jobs.{Job as Task}
-use Rattle.fj_bay.specs.declared.job.Job.{Job}
-use Rattle.fj_plain.specs.State.{Entry, Files, Output}
-use Rattle.fj_plain.specs.Statement.{Stated, stated, Ending, ends, prohibition}
-use Rattle.fj_value.specs.declared.condition.Rule.{Rule}
-use Rattle.fj_desk.specs.Doing.{Doing, finishes, gives, awaits}
-use Rattle.fj_turns.specs.Run.{Run, Stage, Start, Waiting, Acting, Awaiting}
-use Rattle.fj_turns.specs.Turns.{Turn, Pauses, Passes, Stops, Asked, finish_by, with_core, with_iostat, turn_act, with_tells, doing_told, wait_by, waited_now, unsettled, start_by, rule_of, turn_start, turn, goes, by_turn, asked_on, asked}
+use Rattle.fj_plain.specs.State.{Files, Output}
+use Rattle.fj_plain.specs.Statement.{Stated, stated}
+use Rattle.fj_desk.specs.Doing.{Doing}
+use Rattle.fj_turns.specs.Run.{Run, Stage}
+use Rattle.fj_turns.specs.Turns.{turn}
 use Rattle.fj_turns.specs.Passing.{passed_by, passed_on, passes, output_of, output_due, turn_output, knows_at, known_due, tells_due}
 use Rattle.fj_cut.specs.Turning.{doing_at, doing_due, turn_doing, IsUnbegun}
 use Rattle.fj_units.specs.Files.{files_of}
@@ -30,11 +25,9 @@ use Rattle.fj_runner.specs.Failing.{AllFits, FailsStage, StandsAt, StandsDoing, 
 use Rattle.fj_runner.specs.Leaving.{Rests}
 use Rattle.fj_runner.specs.Machine.{rest_of, run_in, run_at, run_of, stage_at}
 use Rattle.fj_runner.specs.Tallying.{due_of, first_lost}
-use Rattle.fj_runner.specs.Turned.{IsTask, IsAsked}
 use Rattle.fj_runner.specs.declared.hand.Hand.TheVariants.{Idle}
 use Rattle.fj_runner.specs.declared.machine.Machine.{Machine}
-use Rattle.fj_runner.proofs.Failures.{hands_front}
-use Rattle.fj_runner.proofs.NextAsks.{goes_turn, run_known, some_same}
+use Rattle.fj_runner.proofs.NextAsks.{run_known, some_same}
 use Rattle.fj_runner.proofs.Runs.{hands_none}
 use Rattle.fj_runner.proofs.Stepping.{hands_both, rose_before}
 use Rattle.fj_runner.proofs.Tallies.{not_both}
@@ -223,114 +216,6 @@ module _ {F : Type 0} {ghosts : Ghosts F} where
 
 -- ---- a turn that pauses, whose ask is refused
 
--- it keeps the statements at hand, and passes at the start of a statement
-abbrev KeepsRest : List Stated → Turn → Type 0
-KeepsRest rest (Pauses ask run) = run.rest ≡ rest
-KeepsRest rest (Passes run) = run.stage ≡ Start
-KeepsRest rest (Stops run) = Unit {0}
-
-finish_keeps : (o : Option Ending) (r : Run) → KeepsRest r.rest (finish_by o r)
-finish_keeps None r = refl
-finish_keeps (Some e) r = tt
-
-act_keeps : (st : Stated) (does : Doing) (r : Run) → KeepsRest r.rest (turn_act st does r)
-act_keeps st (finishes core condition) r = finish_keeps (ends st.0.line st.0.what condition) (with_core (with_iostat st condition r core) r)
-act_keeps st (gives slot job core next) r = refl
-act_keeps st (awaits slot job core next) r = refl
-
-wait_keeps : (st : Stated) (waited : List Entry) (o : Option ℕ) (r : Run) → KeepsRest r.rest (wait_by st waited o r)
-wait_keeps st waited None r = act_keeps st (doing_told r.variables st waited r.core) (with_tells st waited r)
-wait_keeps st waited (Some slot) r = refl
-
-start_keeps : (st : Stated) (o : Option Rule) (r : Run) → KeepsRest r.rest (start_by st o r)
-start_keeps st (Some rule) r = finish_keeps (Some (prohibition st.0.line rule)) r
-start_keeps st None r = wait_keeps st (waited_now st r) (unsettled (waited_now st r) r.book) r
-
-turn_keeps : (st : Stated) (stage : Stage) (r : Run) → KeepsRest r.rest (turn st stage r)
-turn_keeps st Start r = start_keeps st (rule_of r.variables st r.core) r
-turn_keeps st Waiting r = wait_keeps st (waited_now st r) (unsettled (waited_now st r) r.book) r
-turn_keeps st (Acting does) r = act_keeps st does r
-turn_keeps st (Awaiting slot number next) r = refl
-
--- behind so many statements that it passed, it pauses in the turn of one
-pub record PausesAt (r : Run) (a : Asked) : Type 0 where
-  pub count : ℕ
-  pub run : Run
-  pub passed : passes count r ≡ Some run
-  pub rest : a.run.rest ≡ run.rest
-  pub output : a.run.core.output ≡ turn_output run
-
-pauses_behind : (r half : Run) (a : Asked) → passed_on r.rest r ≡ Some half → PausesAt half a → PausesAt r a
-pauses_behind r half a e p = record {
-  count = 1 + p.count;
-  run = p.run;
-  passed = passes_both 1 p.count r half p.run (passes_one r half e) p.passed;
-  rest = p.rest;
-  output = p.output;
-}
-
-turn_pauses : (st : Stated) (more : List Stated) (r : Run) (t : Turn) → r.rest ≡ st ∷ more → turn st r.stage r ≡ t → KeepsRest r.rest t
-    → ((run : Run) → run.stage ≡ Start → (goes more run).ask ≢ Finished → PausesAt (record run { rest = more }) (goes more run)) → (by_turn more t).ask ≢ Finished → PausesAt r (by_turn more t)
-turn_pauses st more r (Pauses ask run) h e k go n = record {
-  count = 0;
-  run = r;
-  passed = refl;
-  rest = k;
-  output = sym (ap (λ rest. output_due rest r) h ∙ ap output_of e);
-}
-turn_pauses st more r (Passes run) h e k go n =
-    pauses_behind r (record run { rest = more }) (goes more run) (ap (λ rest. passed_on rest r) h ∙ ap (passed_by more) e) (go run k n)
-turn_pauses st more r (Stops run) h e k go n = absurd (n refl)
-
-goes_pauses : (rest : List Stated) (r : Run) → r.stage ≡ Start → (goes rest r).ask ≢ Finished → PausesAt (record r { rest = rest }) (goes rest r)
-goes_pauses [] r s n = absurd (n refl)
-goes_pauses (st ∷ more) r s n =
-    let run : Run = record r { rest = st ∷ more } in
-    let at : turn st run.stage run ≡ turn_start st run = ap (λ x. turn st x run) s in
-    let e = goes_turn st more r in
-    subst (λ a. PausesAt run a) (sym e)
-    (turn_pauses st more run (turn_start st run) refl at (subst (λ t. KeepsRest run.rest t) at (turn_keeps st run.stage run)) (goes_pauses more) (subst (λ (a : Asked). a.ask ≢ Finished) e n))
-
-on_pauses : (rest : List Stated) (r : Run) → r.rest ≡ rest → (asked_on rest r).ask ≢ Finished → PausesAt r (asked_on rest r)
-on_pauses [] r h n = absurd (n refl)
-on_pauses (st ∷ more) r h n = turn_pauses st more r (turn st r.stage r) h refl (turn_keeps st r.stage r) (goes_pauses more) n
-
-asked_by : (b : Bool) (r : Run) → let a : Asked = if b then record { ask = Finished; run = r } else asked_on r.rest r in a.ask ≢ Finished → PausesAt r a
-asked_by true r n = absurd (n refl)
-asked_by false r n = on_pauses r.rest r refl n
-
-pub asked_pauses : (r : Run) → (asked r).ask ≢ Finished → PausesAt r (asked r)
-asked_pauses r n = asked_by (is_some r.ending) r n
-
-pub task_finished : {F : Type 0} → (told : F → Bool) (bytes : F → List ℕ) (a : Ask Task) (b : Ask (Job F)) → IsTask told bytes a b → b ≢ Finished → a ≢ Finished
-task_finished told bytes (Submit slot task) b t n e = cc
-task_finished told bytes (Settle slot) b t n e = cc
-task_finished told bytes Finished (Submit slot job) t n e = absurd t
-task_finished told bytes Finished (Settle slot) t n e = absurd t
-task_finished told bytes Finished Finished t n e = absurd (n refl)
-
-module _ {F : Type 0} {ghosts : Ghosts F} where
-  pub refused_fails : (told : F → Bool) (bytes : F → List ℕ) (Of : Lost → Type 0) (TellsOut : Type 0) (a b : List ℕ) {held : Holdings} {before now : ℕ} (files : Files) (r : Run) (m mid m' : Machine F ghosts) (ask : Ask (Job F)) → IsAsked told bytes files mid ask (asked r) → ask ≢ Finished
-      → mid.deck ≡ m'.deck → mid.at ≡ m'.at → (TellsOut → HandsOver a b m.state.core.output mid.state.core.output) → (OfOutside Of → ⊥) → Of Unfit → FailsCall Of TellsOut a b held before now r m m'
-  refused_fails told bytes Of TellsOut a b files r m mid m' ask it n deck at h none unfit =
-      let p = asked_pauses r (task_finished told bytes (asked r).ask ask it.asks n) in
-      let k = run_known (run_at files mid) (stage_at told bytes files mid) (asked r).run it.run in
-      let out : mid.state.core.output ≡ turn_output p.run = ap (λ (x : Run). x.core.output) k.2 ∙ p.output in
-      record {
-        count = p.count;
-        run = p.run;
-        passed = p.passed;
-        rest = same_rest mid m' deck at ∙ ap (λ (x : Run). x.rest) k.2 ∙ p.rest;
-        front = λ t. inl (hands_front a b m.state.core.output (turn_output p.run) (subst (λ o. HandsOver a b m.state.core.output o) out (h t)));
-        outside = λ o. absurd (none o);
-        fits = λ idle fits. absurd (fits unfit);
-        disk = λ d. absurd (none (inl d));
-        sink = λ s. absurd (none (inr s));
-      }
-    where
-      same_rest : (x y : Machine F ghosts) → x.deck ≡ y.deck → x.at ≡ y.at → rest_of y ≡ rest_of x
-      same_rest x y d e = sym (ap (λ k. drop x.at (stated k.statements)) d ∙ ap (λ i. drop i (stated y.deck.statements)) e)
-
 -- ---- what was lost
 
 pub first_some : {X : Type 0} → (o : Option X) (b : Bool) → (IsSome o → b ≡ true) → b ≡ false → o ≡ None
@@ -344,21 +229,10 @@ lost_is e = cc
 pub only_first : (o : Option Lost) (b : Bool) (lost first : Lost) → (IsSome o → b ≡ true) → b ≡ false → first_lost o lost ≡ Some first → lost ≡ first
 only_first o b lost first h f e = let n = first_some o b h f in some_same lost first (sym (ap (λ k. first_lost k lost) n) ∙ e)
 
--- what does not fit is no loss of the outside
-pub unfit_inside : (o : Option Lost) (b : Bool) → (IsSome o → b ≡ true) → b ≡ false → OfOutside (λ lost. first_lost o Unfit ≡ Some lost) → ⊥
-unfit_inside o b h f (inl e) = let no : Unfit ≡ Disk = only_first o b Unfit Disk h f e in cc
-unfit_inside o b h f (inr e) = let no : Unfit ≡ Sink = only_first o b Unfit Sink h f e in cc
-
 -- and it fits not, where no stop was told
 pub only_stop : (stopped : Bool) (lost : Option Lost) → stopped ≡ false → (stopped ≡ true) ⊎ (lost ≡ Some Unfit) → AllFits (λ x. lost ≡ Some x) → ⊥
 only_stop stopped lost n (inl stop) fits = not_both stopped stop n
 only_stop stopped lost n (inr unfit) fits = fits unfit
-
--- what it was lost for, where the records that ended are with the sink
-pub disk_lost : (o o' : Option Lost) (b : Bool) (lost : Lost) → (IsSome o → b ≡ true) → b ≡ false → o' ≡ first_lost o lost → (o' ≡ None) ⊎ (o' ≡ Some Disk) → lost ≡ Disk
-disk_lost o o' b lost h f e (inl n) =
-    let s : Some lost ≡ None = sym (ap (λ k. first_lost k lost) (first_some o b h f)) ∙ sym e ∙ n in cc
-disk_lost o o' b lost h f e (inr d) = only_first o b lost Disk h f (sym e ∙ d)
 
 none_outside : (o : Option Lost) → o ≡ None → OfOutside (λ lost. o ≡ Some lost) → ⊥
 none_outside o n (inl d) = let no : None ≡ Some Disk = sym n ∙ d in cc

@@ -1,5 +1,5 @@
 -- Statements that are carried out one after another, none of which asks.
-use Rattle.std.proofs.Common.{◌≡◌, ℕ, ◌+◌, List, Option, Some, None, IfNone, refl, ◌∙◌}
+use Rattle.std.proofs.Common.{◌≡◌, ℕ, ◌+◌, ◌≤◌, List, Option, Some, None, IfNone, refl, ◌∙◌, arith}
 use Rattle.fj_outside.specs.Holdings.{Holdings}
 use Rattle.fj_outside.specs.declared.outside.FileStore.{Ghosts}
 use Rattle.fj_turns.specs.Run.{Start}
@@ -27,6 +27,8 @@ module _ {W D F : Type 0} {ghosts : Ghosts F} (tells_out : W → Type 0) (taken 
     pub on : m.state.stage ≡ stage.Start → IsAt m → (m'.state.stage ≡ stage.Start) × IsAt m'
     pub sent : m'.state.sent ≡ m.state.sent
     pub heard : m'.state.told ≡ m.state.told
+    pub ending : m'.state.ending ≡ m.state.ending
+    pub at : m.at ≤ m'.at
 
   pub goes_none : (out : W) (disk : D) (m : Machine F ghosts) → GoesOn out disk m out disk m
   goes_none out disk m = record {
@@ -39,6 +41,8 @@ module _ {W D F : Type 0} {ghosts : Ghosts F} (tells_out : W → Type 0) (taken 
     on = λ h i. (h, i);
     sent = refl;
     heard = refl;
+    ending = refl;
+    at = omega arith;
   }
 
   pub goes_more : {X : Type 0} → (out mid out' : W) (disk between disk' : D) (m half m' : Machine F ghosts) (x : X) → GoesOn out disk m mid between half
@@ -46,8 +50,9 @@ module _ {W D F : Type 0} {ghosts : Ghosts F} (tells_out : W → Type 0) (taken 
       → (tells between → (m'.state.stage ≡ stage.Start) × (goes (rest_of half) (run_at (files_of (held between)) half Start) ≡ goes (rest_of m') (run_at (files_of (held disk')) m' Start)))
       → (tells between → passed_on (rest_of half) (run_at (files_of (held between)) half Start) ≡ Some (run_at (files_of (held disk')) m' Start))
       → m'.deck ≡ half.deck → m'.tally ≡ half.tally → m'.kept ≡ half.kept
-      → (half.state.stage ≡ stage.Start → IsAt half → (m'.state.stage ≡ stage.Start) × IsAt m') → m'.state.sent ≡ half.state.sent → m'.state.told ≡ half.state.told → GoesOn out disk m out' disk' m'
-  goes_more out mid out' disk between disk' m half m' x a b next passed deck tally kept on sent heard = record {
+      → (half.state.stage ≡ stage.Start → IsAt half → (m'.state.stage ≡ stage.Start) × IsAt m') → m'.state.sent ≡ half.state.sent → m'.state.told ≡ half.state.told → m'.state.ending ≡ half.state.ending
+      → half.at ≤ m'.at → GoesOn out disk m out' disk' m'
+  goes_more out mid out' disk between disk' m half m' x a b next passed deck tally kept on sent heard ending at = record {
     steps = then_steps out mid out' disk between disk' m.state.core half.state.core m'.state.core (tt {0}) (went (tt {0})) a.steps
         (ok_steps mid out' between disk' half.state.core m'.state.core (went x) x (tt {0}) refl b);
     goes = λ t h. let k = next (a.steps.telling.0 t) in (k.0, (a.goes t h).1 ∙ k.1);
@@ -63,6 +68,8 @@ module _ {W D F : Type 0} {ghosts : Ghosts F} (tells_out : W → Type 0) (taken 
     on = λ h i. let k = a.on h i in on k.0 k.1;
     sent = sent ∙ a.sent;
     heard = heard ∙ a.heard;
+    ending = ending ∙ a.ending;
+    at = omega (arith, at, a.at);
   }
 
 pub none_has : {X : Type 0} → (o : Option X) (P : Type 0) → o ≡ None → IfNone o P → P

@@ -1,5 +1,5 @@
 -- What a run keeps as long as it is not given up.
-use Rattle.std.specs.Prelude.{◌≡◌, ℕ, ◌+◌, ◌<◌, ◌≤◌, ◌==◌, ◌^◌, true, List, ◌∷◌, None, IsSome, get_or, if◌then◌else◌}
+use Rattle.std.specs.Prelude.{◌≡◌, ℕ, ◌+◌, ◌<◌, ◌≤◌, ◌==◌, ◌^◌, true, List, ◌∷◌, length, None, IsSome, get_or, if◌then◌else◌}
 use Rattle.fj_outside.specs.declared.outside.FileStore.{Ghosts}
 use Rattle.fj_statement.specs.Sound.{IsSound}
 use Rattle.fj_statement.specs.declared.statement.Statement.{Statement}
@@ -13,6 +13,7 @@ use Rattle.fj_acts.specs.Fitting.{IsKept}
 use Rattle.fj_acts.specs.Having.{HaveThen}
 use Rattle.fj_runner.specs.Machine.{rest_of}
 use Rattle.fj_runner.specs.Passing.{is_waiting}
+use Rattle.fj_runner.specs.Spending.{HasAsks, jobs_at}
 use Rattle.fj_runner.specs.declared.hand.Hand.{Hand}
 use Rattle.fj_runner.specs.declared.hand.Hand.TheVariants.{Idle, Submitting, Settling}
 use Rattle.fj_runner.specs.declared.machine.Machine.{Machine}
@@ -65,6 +66,15 @@ Counts (turned.Pauses ask) s s' = (s'.core.next ≡ s.core.next) × SentFor ask 
 Counts turned.Passes s s' = (s'.core.next ≤ s.core.next + 1) × (s'.sent ≡ s.sent) × (s'.ending ≡ s.ending)
 Counts turned.Stops s s' = (s'.sent ≡ s.sent) × IsSome s'.ending
 
+-- one unit more at most, and none where it pauses
+abbrev pub most_more : {F : Type 0} → Turned F → ℕ
+most_more (turned.Pauses ask) = 0
+most_more _ = 1
+
+-- units that a turn connects
+abbrev pub Connects : {F : Type 0} {ghosts : Ghosts F} → Turned F → State F ghosts → State F ghosts → Type 0
+Connects t s s' = length s'.core.units ≤ length s.core.units + most_more t
+
 abbrev pub DoesNotPause : {F : Type 0} → Turned F → Type 0
 DoesNotPause (turned.Pauses ask) = ⊥
 DoesNotPause _ = Unit {0}
@@ -86,6 +96,8 @@ pub record Hears {F : Type 0} {ghosts : Ghosts F} (s s' : State F ghosts) : Type
   pub sent : s'.sent ≡ s.sent
   pub store : s'.core.store ≡ s.core.store
   pub output : s'.core.output ≡ s.core.output
+  pub units : s'.core.units ≡ s.core.units
+  pub jobs : (most units : ℕ) → jobs_at most s'.stage units ≡ jobs_at most s.stage units
   -- one more was told
   pub told : IsMore s.due s.told.items s'.told.items
 
@@ -105,23 +117,29 @@ AwaitsAtHand _ s = Unit {0}
 
 -- ---- a run
 
--- At a statement: the units have the files that are out, each statement behind had one identifier at most, variables are as they are
--- declared, and the record of `*` is within its limit.
+-- At a statement: the units have the files that are out, each statement behind had one identifier at most and connected one unit at
+-- most, variables are as they are declared, and the record of `*` is within its limit.
 pub record IsAt {F : Type 0} {ghosts : Ghosts F} (m : Machine F ghosts) : Type 0 where
   pub files : (st : Stated) (more : List Stated) → rest_of m ≡ st ∷ more → HaveAt m.state.stage m.state.core.names m.state.core.units st.0.what
   pub few : m.state.ending ≡ None → m.state.core.next ≤ m.at + 1
+  pub units : m.state.ending ≡ None → length m.state.core.units ≤ m.at
   pub kept : IsKept m.deck.variables m.state.core
 
--- what follows from a turn of the statement at hand that brought the state here
-abbrev pub FromTurn : {F : Type 0} {ghosts : Ghosts F} → Machine F ghosts → Turned F → Type 0 → Type 0
-FromTurn {F} {ghosts} m t P = (s : State F ghosts) (st : Stated) (more : List Stated) → rest_of m ≡ st ∷ more → HaveTurned t m.state st.0.what → Counts t s m.state
-    → (s.ending ≡ None → s.core.next ≤ m.at + 1) → IsKept m.deck.variables m.state.core → P
+-- what follows from a turn of the statement at hand that brought the state here, and from where it began
+abbrev pub FromStart : {F : Type 0} {ghosts : Ghosts F} → Machine F ghosts → Turned F → (State F ghosts → Type 0) → Type 0
+FromStart {F} {ghosts} m t P = (s : State F ghosts) (st : Stated) (more : List Stated) → rest_of m ≡ st ∷ more → HaveTurned t m.state st.0.what → Counts t s m.state → Connects t s m.state
+    → (s.ending ≡ None → s.core.next ≤ m.at + 1) → (s.ending ≡ None → length s.core.units ≤ m.at) → IsKept m.deck.variables m.state.core → P s
 
--- and from where it began
+-- from the turn alone
+abbrev pub FromTurn : {F : Type 0} {ghosts : Ghosts F} → Machine F ghosts → Turned F → Type 0 → Type 0
+FromTurn m t P = FromStart m t (λ s. P)
+
+-- from where it began, and what it counts
 abbrev pub SinceTurn : {F : Type 0} {ghosts : Ghosts F} → Machine F ghosts → Turned F → (State F ghosts → Type 0) → Type 0
 SinceTurn {F} {ghosts} m t P = (s : State F ghosts) → Counts t s m.state → P s
 
--- The deck is sound, jobs that are given and told can be counted for so many asks as are left, and those that are owed are known.
+-- The deck is sound, jobs that are given and told can be counted for so many asks as are left, those that are owed are known, and as
+-- many asks are left as the deck may still make.
 pub record IsGoing {F : Type 0} {ghosts : Ghosts F} (m : Machine F ghosts) : Type 0 where
   pub sound : IsSound m.deck
   pub at : IsAt m
@@ -129,3 +147,4 @@ pub record IsGoing {F : Type 0} {ghosts : Ghosts F} (m : Machine F ghosts) : Typ
   pub told : CanCount m.state.told.items m.tally.left 0
   pub owes : OwesAsGiven m.tally.hand m.tally.owed.items m.state.sent.items m.state.told.items
   pub awaited : AwaitsAtHand m.tally.hand m.state
+  pub asks : HasAsks m

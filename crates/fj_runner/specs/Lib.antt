@@ -14,3 +14,4 @@ pub mod Leaving
 pub mod Making
 pub mod Fitting
 pub mod Going
+pub mod Spending

@@ -46,6 +46,7 @@ fn next_of<W: Sink, D: Disk>(
     requires names { D.tells disk.old → AreInUse machine.old.state.core.names (D.held disk.old).in_use }
     requires room { machine.old.tally.over ≡ false → HasRoom machine.old.state.sent.items }
     requires owes { machine.old.tally.over ≡ false → OwesAsGiven machine.old.tally.hand machine.old.tally.owed.items machine.old.state.sent.items machine.old.state.told.items }
+    requires going { ∥ (machine.old.tally.over ≡ false → IsGoing machine.old) ∥₁ }
     ensures due { IsDue machine.old.tally result machine.new.tally }
     ensures rests { machine.old.tally.over ≡ true → (machine.new ≡ machine.old) × (disk.new ≡ disk.old) × (out.new ≡ out.old) }
     ensures reason { HasReason machine.old machine.new }

@@ -15,7 +15,7 @@ ghost use Rattle.fj_runner.specs.Failing.{IsGivenUp, HasReason};
 ghost use Rattle.fj_runner.specs.Leaving.{Leaves, Rests};
 ghost use Rattle.fj_runner.specs.Machine.{run_of};
 ghost use Rattle.fj_runner.specs.Refused.{brought};
-ghost use Rattle.fj_runner.specs.Tallying.{due_of, first_lost, owed_at};
+ghost use Rattle.fj_runner.specs.Tallying.{due_of, owed_at};
 ghost use Rattle.fj_runner.specs.Turned.{IsAsked};
 ghost use Rattle.fj_runner.specs.declared.hand.Hand.TheVariants.{Idle};
 ghost use Rattle.fj_runner.specs.Fitting.{HasRoom};
@@ -46,45 +46,23 @@ impl<F: FileStore> Machine<F> {
         }
     }
 
-    /// Gives up, where an ask may not be asked.
-    fn refuse(&mut self, ask: Ask<Job<F>>) -> Ask<Job<F>>
-        requires idle { self.old.tally.hand ≡ Idle }
-        requires none { self.old.kept ≡ None }
-        ensures due { IsDue self.old.tally result self.new.tally }
-        ensures finished { result ≡ Ask.Finished }
-        ensures over { self.new.tally.over ≡ true }
-        ensures lost { self.new.tally.lost ≡ first_lost self.old.tally.lost Lost.Unfit }
-        ensures state { self.new.state ≡ self.old.state }
-        ensures at { self.new.at ≡ self.old.at }
-        ensures deck { self.new.deck ≡ self.old.deck }
-    {
-        self.tally.lose(Lost::Unfit);
-        if let Ask::Submit { slot: _, job } = ask {
-            self.keep(job);
-        }
-        Ask::Finished
-    }
-
-    /// Asks, where one more ask may come; else it is given up.
+    /// Asks.
     fn admit(&mut self, ask: Ask<Job<F>>) -> Ask<Job<F>>
         requires idle { self.old.tally.hand ≡ Idle }
         requires going { self.old.tally.over ≡ false }
-        requires may { MayAsk ask self.old.tally.owed.items }
+        requires may { MayAsk ask self.old.tally.owed.items self.old.tally.left }
         ensures due { IsDue self.old.tally result self.new.tally }
         ensures admitted { IsAdmitted self.old.tally ask result self.new.tally }
         ensures state { self.new.state ≡ self.old.state }
         ensures at { self.new.at ≡ self.old.at }
         ensures deck { self.new.deck ≡ self.old.deck }
     {
-        let may = match &ask {
-            Ask::Submit { slot, job: _ } => self.tally.may_submit(*slot),
-            Ask::Settle { slot } => self.tally.may_settle(*slot),
-            Ask::Finished => true,
-        };
-        if may {
-            return ask;
+        match &ask {
+            Ask::Submit { slot, job: _ } => self.tally.submits(*slot),
+            Ask::Settle { slot } => self.tally.settles(*slot),
+            Ask::Finished => {}
         }
-        self.refuse(ask)
+        ask
     }
 
     /// Asks what the deck asks next, unless it is over.
@@ -98,6 +76,7 @@ impl<F: FileStore> Machine<F> {
         requires names { D.tells disk.old → AreInUse self.old.state.core.names (D.held disk.old).in_use }
         requires room { self.old.tally.over ≡ false → HasRoom self.old.state.sent.items }
         requires owes { self.old.tally.over ≡ false → OwesAsGiven self.old.tally.hand self.old.tally.owed.items self.old.state.sent.items self.old.state.told.items }
+        requires going { ∥ (self.old.tally.over ≡ false → IsGoing self.old) ∥₁ }
         ensures due { IsDue self.old.tally result self.new.tally }
         ensures rests { self.old.tally.over ≡ true → (self.new ≡ self.old) × (disk.new ≡ disk.old) × (out.new ≡ out.old) }
         ensures reason { HasReason self.old self.new }

@@ -1,5 +1,6 @@
 // How far the asks have come.
-ghost use Rattle.std.specs.Prelude.{◌≡◌, ℕ, ◌<◌, ◌≤◌, true, false, length, Some, IsSome};
+ghost use Rattle.std.specs.Prelude.{◌≡◌, ℕ, ◌+◌, ◌<◌, ◌≤◌, true, false, length, Some, IsSome};
+ghost use Rattle.std.specs.List.{sum};
 ghost use Rattle.fj_world.specs.Conduct.{IsSubmitting, IsSettling, owed_after_submit, owed_after_settle};
 ghost use Rattle.fj_runner.specs.declared.hand.Hand.TheVariants.{Idle, Submitting, Settling};
 ghost use Rattle.fj_runner.specs.Tallying.{due_of, MaySubmit, MaySettle, AreFew, owed_at, first_lost};
@@ -29,42 +30,35 @@ pub(crate) struct Tally {
 }
 
 impl Tally {
-    /// Whether one more ask may come; that of a job for a slot is then at hand.
-    pub(crate) fn may_submit(&mut self, slot: u32) -> bool
-        requires idle { (self.old.hand ≡ Idle) × (self.old.over ≡ false) }
+    /// The ask of a job for a slot is at hand.
+    pub(crate) fn submits(&mut self, slot: u32)
+        requires over { self.old.over ≡ false }
         requires slot { slot < 16 }
-        ensures may { result ≡ true → (self.new.hand ≡ Submitting slot) × (0 < self.new.left) }
-        ensures not { result ≡ false → (self.new.hand ≡ Idle) × (self.old.left ≡ 0) }
+        requires left { 0 < self.old.left }
+        ensures hand { self.new.hand ≡ Submitting slot }
         ensures left { self.new.left ≡ self.old.left }
         ensures owed { self.new.owed ≡ self.old.owed }
         ensures over { self.new.over ≡ self.old.over }
         ensures stopped { self.new.stopped ≡ self.old.stopped }
         ensures lost { self.new.lost ≡ self.old.lost }
     {
-        if self.left == 0 {
-            return false;
-        }
         self.hand = Hand::Submitting(slot);
-        true
     }
 
-    /// Whether one more ask may come; that for the answer of a slot is then at hand.
-    pub(crate) fn may_settle(&mut self, slot: u32) -> bool
-        requires idle { (self.old.hand ≡ Idle) × (self.old.over ≡ false) }
-        requires slot { (slot < 16) × (0 < owed_at self.old.owed.items slot) }
-        ensures may { result ≡ true → (self.new.hand ≡ Settling slot) × (0 < self.new.left) }
-        ensures not { result ≡ false → (self.new.hand ≡ Idle) × (self.old.left ≡ 0) }
+    /// The ask for the answer of a slot is at hand.
+    pub(crate) fn settles(&mut self, slot: u32)
+        requires over { self.old.over ≡ false }
+        requires slot { slot < 16 }
+        requires owed { 0 < owed_at self.old.owed.items slot }
+        requires left { 0 < self.old.left }
+        ensures hand { self.new.hand ≡ Settling slot }
         ensures left { self.new.left ≡ self.old.left }
         ensures owed { self.new.owed ≡ self.old.owed }
         ensures over { self.new.over ≡ self.old.over }
         ensures stopped { self.new.stopped ≡ self.old.stopped }
         ensures lost { self.new.lost ≡ self.old.lost }
     {
-        if self.left == 0 {
-            return false;
-        }
         self.hand = Hand::Settling(slot);
-        true
     }
 
     /// It is given up: that was lost.
@@ -87,7 +81,8 @@ impl Tally {
     pub(crate) fn submitted(&mut self)
         requires { IsSubmitting (due_of self.old.hand) }
         ensures hand { self.new.hand ≡ Idle }
-        ensures left { self.new.left < self.old.left }
+        ensures left { self.new.left + 1 ≡ self.old.left }
+        ensures sum { sum self.new.owed.items ≡ sum self.old.owed.items + 1 }
         ensures owed { (slot : ℕ) → owed_at self.new.owed.items slot ≡ owed_after_submit (due_of self.old.hand) (owed_at self.old.owed.items) slot }
         ensures over { self.new.over ≡ self.old.over }
         ensures stopped { self.new.stopped ≡ self.old.stopped }
@@ -124,7 +119,8 @@ impl Tally {
     pub(crate) fn settled(&mut self)
         requires { IsSettling (due_of self.old.hand) }
         ensures hand { self.new.hand ≡ Idle }
-        ensures left { self.new.left < self.old.left }
+        ensures left { self.new.left + 1 ≡ self.old.left }
+        ensures sum { sum self.new.owed.items + 1 ≡ sum self.old.owed.items }
         ensures owed { (slot : ℕ) → owed_at self.new.owed.items slot ≡ owed_after_settle (due_of self.old.hand) (owed_at self.old.owed.items) slot }
         ensures over { self.new.over ≡ self.old.over }
         ensures stopped { self.new.stopped ≡ self.old.stopped }

@@ -1,4 +1,4 @@
-use Rattle.std.proofs.Common.{refl, ap, ◌∙◌, sym, subst, [], ◌∷◌, ◌++◌}
+use Rattle.std.proofs.Common.{◌+◌, ◌≤◌, length, refl, ap, ◌∙◌, sym, subst, [], ◌∷◌, ◌++◌}
 use Rattle.fj_connect.specs.Linked.{connection_of}
 use Rattle.fj_connect.specs.Opening.{opened_file}
 use Rattle.fj_outside.specs.Holdings.{Holdings}
@@ -8,6 +8,7 @@ use Rattle.fj_units.proofs.Files.{files-out_of}
 use Rattle.fj_acts.specs.State.{core_of}
 use Rattle.fj_acts.proofs.OpeningLemmas.{opened_is, unit_more, names_taken, names_back, refusal_of, stop_of}
 use Rattle.fj_acts.proofs.FailingLemmas.{fails_open, still_open, open_rose}
+use Rattle.fj_acts.proofs.JobLemmas.{inserted_more}
 use Rattle.fj_acts.specs.Having.{HaveNext}
 use Rattle.fj_units.specs.Having.{HaveFiles}
 use Rattle.fj_units.specs.Names.{left_of}
@@ -57,7 +58,8 @@ returns-in-Ok-clause-files g c = λ what none free have.
     let more = unit_more c.in_ok-units.units us c.args.number c.args.slot c.args.name c.in_ok-copy.copy c.args.name c.args.modes c.args.modes c.in_ok-units.ensures c.in_ok-copy.ensures refl refl in
     let names = c.args.core.now.names ++ c.args.name ∷ [] in
     subst (λ ns. HaveNext c.attaching.result ns us what) (sym c.in_ok-add.ensures.ok)
-    (c.attaching.ensures.files names us what (subst (HaveFiles names) (sym more) (have_more c.args.core.now.names us (record { number = c.args.number; slot = c.args.slot; name = c.args.name; modes = c.args.modes }) none free have)))
+    (c.attaching.ensures.files names us what (subst (HaveFiles names) (sym more) (have_more c.args.core.now.names us (record { number = c.args.number; slot = c.args.slot; name = c.args.name; modes = c.args.modes }) none free have))
+    (subst (λ l. length l ≤ length us + 1) (sym more) (inserted_more (record { number = c.args.number; slot = c.args.slot; name = c.args.name; modes = c.args.modes }) us)))
 
 pub returns-in-Refused-clause-files : goal.returns-in-Refused-clause-files
 returns-in-Refused-clause-files g c = λ what none free have.

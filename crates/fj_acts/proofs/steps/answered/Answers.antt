@@ -15,6 +15,9 @@ use Rattle.fj_acts.proofs.OpeningLemmas.{meant}
 use Rattle.fj_acts.proofs.StateLemmas.{keeps_answers}
 use Rattle.fj_acts.proofs.StepLemmas.{detached_is, looked_is, moved_is}
 use Rattle.fj_acts.specs.Having.{HaveThen}
+use Rattle.std.proofs.Common.{length, ◌≤◌, IfOk, arith}
+use Rattle.fj_acts.specs.Jobs.{jobs_behind, jobs_of}
+use Rattle.fj_acts.proofs.JobLemmas.{as_many, fewer_units, if_ended, if_one, modes_as_many}
 use Rattle.fj_acts.proofs.steps.answered.Goals as goal
 
 pub returns-in-Carries-Move-clause-doing : goal.returns-in-Carries-Move-clause-doing
@@ -142,7 +145,8 @@ returns-in-Closes-Detach-Some-clause-files g c = λ have.
 pub returns-in-Attaches-Attach-None-clause-files : goal.returns-in-Attaches-Attach-None-clause-files
 returns-in-Attaches-Attach-None-clause-files g c = λ have.
     let core = c.args.core.now in
-    subst (λ (t : Then). HaveThen t core.names core.units c.args.lined.now.what) c.in-Attaches-Attach-None.is-0 have
+    let it = subst (λ (t : Then). HaveThen t core.names core.units c.args.lined.now.what) c.in-Attaches-Attach-None.is-0 have in
+    it.0
 
 pub returns-in-Looks-Look-clause-files : goal.returns-in-Looks-Look-clause-files
 returns-in-Looks-Look-clause-files g c = λ have.
@@ -161,3 +165,37 @@ returns-in-Finishes-Go-clause-files g c = λ have.
     let core = c.args.core.now in
     let it = subst (λ (t : Then). HaveThen t core.names core.units c.args.lined.now.what) c.in-Finishes-Go.is-0 have in
     it
+
+pub returns-in-Carries-Move-clause-units : goal.returns-in-Carries-Move-clause-units
+returns-in-Carries-Move-clause-units g c = λ have. as_many c.carried.result c.args.core.now.units c.carried.new.core.units c.carried.ensures.units
+
+pub returns-in-Carries-Move-clause-jobs : goal.returns-in-Carries-Move-clause-jobs
+returns-in-Carries-Move-clause-jobs g c =
+    let most = length c.args.core.now.units in
+    if_one c.carried.result (length c.carried.new.core.units) (jobs_behind c.args.then most) (subst (λ (t : Then). 1 ≤ jobs_behind t most) (sym c.in-Carries-Move.is-0) (omega arith)) c.carried.ensures.jobs
+
+pub returns-in-Closes-Detach-Some-clause-units : goal.returns-in-Closes-Detach-Some-clause-units
+returns-in-Closes-Detach-Some-clause-units g c = λ have. fewer_units c.closed.result c.args.core.now.units c.closed.new.core.units c.closed.ensures.units
+
+pub returns-in-Closes-Detach-Some-clause-jobs : goal.returns-in-Closes-Detach-Some-clause-jobs
+returns-in-Closes-Detach-Some-clause-jobs g c =
+    let most = length c.args.core.now.units in
+    subst (λ (t : Then). IfOk c.closed.result (λ does. jobs_of does (length c.closed.new.core.units) ≤ jobs_behind t most)) (sym c.in-Closes-Detach-Some.is-0) c.closed.ensures.jobs
+
+pub returns-in-Attaches-Attach-None-clause-units : goal.returns-in-Attaches-Attach-None-clause-units
+returns-in-Attaches-Attach-None-clause-units g c = λ have.
+    let core = c.args.core.now in
+    let it = subst (λ (t : Then). HaveThen t core.names core.units c.args.lined.now.what) c.in-Attaches-Attach-None.is-0 have in
+    it.1
+
+pub returns-in-Looks-Look-clause-units : goal.returns-in-Looks-Look-clause-units
+returns-in-Looks-Look-clause-units g c = λ have. as_many c.looked.result c.args.core.now.units c.looked.new.core.units c.looked.ensures.units
+
+pub returns-in-Looks-Look-clause-jobs : goal.returns-in-Looks-Look-clause-jobs
+returns-in-Looks-Look-clause-jobs g c = if_ended c.looked.result (length c.looked.new.core.units) _ c.looked.ensures.ends
+
+pub returns-in-Changes-Change-clause-units : goal.returns-in-Changes-Change-clause-units
+returns-in-Changes-Change-clause-units g c = λ have.
+    let us = c.args.core.now.units in
+    let same : length c.set_modes.new.self ≡ length us = ap length c.set_modes.ensures.modes ∙ modes_as_many us _ _ in
+    omega (arith, same)

@@ -13,7 +13,9 @@ use Rattle.fj_acts.proofs.FailingLemmas.{fails_as, fails_since, fails_closing, g
 use Rattle.fj_acts.proofs.OpeningLemmas.{meant}
 use Rattle.fj_acts.proofs.StepLemmas.{closed_goes_on, due_stands}
 use Rattle.fj_acts.specs.Having.{IsFreeNext}
+use Rattle.std.proofs.Common.{length, ◌+◌, ◌≤◌}
 use Rattle.fj_acts.proofs.HavingLemmas.{closed_has, comes_due}
+use Rattle.fj_acts.proofs.JobLemmas.{closed_less, less_jobs, on_ok}
 use Rattle.fj_acts.proofs.steps.closed.Goals as goal
 
 pub close_file-requires : goal.close_file-requires
@@ -108,3 +110,15 @@ returns-then-not-is_due-clause-fits g c = λ have comes e.
     let due = comes_due core.units c.args.number core.names c.args.connection.name c.args.lined.now.what c.args.keep c.args.after have comes in
     let z : false ≡ true = c.if-not-is_due.ensures ∙ due in
     absurd (let bad : ⊥ = cc in bad)
+
+pub returns-in-Ok-clause-units : goal.returns-in-Ok-clause-units
+returns-in-Ok-clause-units g c =
+    let core = c.args.core.now in
+    let less = closed_less core.units c.remove-2.new.self c.args.number core.names c.args.connection.name (sym c.if-not-is_due.ensures) c.remove-2.ensures.left in
+    on_ok c.go_on.result _ (subst (λ us. length us + 1 ≤ length core.units) (sym c.go_on.ensures.units) less)
+
+pub returns-in-Ok-clause-jobs : goal.returns-in-Ok-clause-jobs
+returns-in-Ok-clause-jobs g c =
+    let core = c.args.core.now in
+    let less = closed_less core.units c.remove-2.new.self c.args.number core.names c.args.connection.name (sym c.if-not-is_due.ensures) c.remove-2.ensures.left in
+    less_jobs c.go_on.result c.args.after (length c.remove-2.new.self) (length core.units) c.go_on.new.core.units less c.go_on.ensures.jobs

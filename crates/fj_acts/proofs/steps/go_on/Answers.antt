@@ -13,6 +13,9 @@ use Rattle.fj_acts.proofs.OpeningLemmas.{meant}
 use Rattle.fj_acts.proofs.StepLemmas.{asks_to_open}
 use Rattle.fj_plain.specs.Connecting.{file_due}
 use Rattle.fj_acts.proofs.HavingLemmas.{free_of}
+use Rattle.std.proofs.Common.{length, ◌≤◌, arith}
+use Rattle.fj_acts.specs.Jobs.{jobs_after, jobs_of}
+use Rattle.fj_acts.proofs.JobLemmas.{if_one}
 use Rattle.fj_acts.proofs.steps.go_on.Goals as goal
 
 pub returns-in-ClosesAll-clause-doing : goal.returns-in-ClosesAll-clause-doing
@@ -67,3 +70,13 @@ returns-in-Ok-clause-fits g c = λ free have.
     let what : Statement = c.args.lined.now.what in
     let f = free_of c.args.after c.in-Connects.number what c.in-OpenUnit.spec c.args.core.now.units c.in-Connects.is (asks_to_open what c.in-OpenUnit.unit c.in-OpenUnit.spec c.in-OpenUnit.iostat c.in-OpenUnit.is) free in
     c.connect.ensures.fits (have.0 (file_due c.in-OpenUnit.spec c.in-Connects.number) ∙ f.1)
+
+pub returns-in-ClosesAll-clause-jobs : goal.returns-in-ClosesAll-clause-jobs
+returns-in-ClosesAll-clause-jobs g c =
+    let us = c.args.core.now.units in
+    subst (λ (a : After). jobs_of c.close_all.result (length us) ≤ jobs_after a (length us)) (sym c.in-ClosesAll.is) c.close_all.ensures.jobs
+
+pub returns-in-Ok-clause-jobs : goal.returns-in-Ok-clause-jobs
+returns-in-Ok-clause-jobs g c =
+    let us = c.args.core.now.units in
+    if_one c.connect.result (length c.connect.new.core.units) (jobs_after c.args.after (length us)) (subst (λ (a : After). 1 ≤ jobs_after a (length us)) (sym c.in-Connects.is) (omega arith)) c.connect.ensures.jobs

@@ -1,4 +1,5 @@
-use Rattle.std.proofs.Common.{◌≡◌, true, Some, sym, ap, ◌∙◌, subst, ◌<◌, arith}
+use Rattle.std.proofs.Common.{◌≡◌, true, Some, sym, ap, ◌∙◌, subst, ◌+◌, arith}
+use Rattle.std.specs.List.{sum}
 use Rattle.fj_bay.specs.Meaning.{bay_meaning}
 use Rattle.fj_bay.specs.Jobs.{Answer as Reply}
 use Rattle.fj_desk.specs.Desks.{Outcome}
@@ -22,6 +23,7 @@ returns-in-Done-clause-told g c = λ files r reply known over answers.
 
 pub returns-in-Done-clause-on : goal.returns-in-Done-clause-on
 returns-in-Done-clause-on g c = λ going over.
-    let less : c.take_answer.new.self.tally.left < c.args.self.now.tally.left = omega (arith, c.take_answer.ensures.left, c.settled.ensures.left) in
-    going_told c.args.self.now c.take_answer.new.self going c.take_answer.ensures.rests.deck c.take_answer.ensures.rests.at (c.take_answer.ensures.hears over) less c.take_answer.ensures.hand c.requires.settling
+    let less : c.take_answer.new.self.tally.left + 1 ≡ c.args.self.now.tally.left = omega (arith, c.take_answer.ensures.left, c.settled.ensures.left) in
+    let fewer : sum c.take_answer.new.self.tally.owed.items + 1 ≡ sum c.args.self.now.tally.owed.items = ap (λ o. sum o.items + 1) c.take_answer.ensures.owed ∙ c.settled.ensures.sum in
+    going_told c.args.self.now c.take_answer.new.self going c.take_answer.ensures.rests.deck c.take_answer.ensures.rests.at (c.take_answer.ensures.hears over) less c.take_answer.ensures.hand c.requires.settling fewer
     (λ slot. ap (λ o. owed_at o.items slot) c.take_answer.ensures.owed ∙ c.settled.ensures.owed slot)

@@ -1,10 +1,13 @@
-use Rattle.std.proofs.Common.{◌≡◌, Some, replicate, ap, ◌∙◌, rules, None, sym, subst, arith}
+use Rattle.std.proofs.Common.{◌≡◌, Some, length, replicate, ap, ◌∙◌, rules, None, sym, subst, arith}
 use Rattle.fj_desk.specs.Core.{Core as PlainCore}
 use Rattle.fj_desk.specs.Desking.{fresh}
 use Rattle.fj_plain.specs.Statement.{stated}
 use Rattle.fj_acts.specs.Fitting.{IsKept}
 use Rattle.fj_runner.proofs.Made.{core_kept, run_made}
+use Rattle.std.specs.List.{sum}
 use Rattle.fj_runner.specs.Going.{CanCount, asked_for}
+use Rattle.fj_runner.specs.Spending.{asks_for}
+use Rattle.fj_runner.proofs.Spending.{first_asks, none_owed}
 use Rattle.fj_runner.proofs.Counting.{first_can, first_files, first_owes, none_awaited}
 use Rattle.fj_runner.proofs.machine.Machine.new.Goals as goal
 
@@ -30,10 +33,12 @@ returns-clause-on g c = λ sound.
       at = record {
         files = λ st more e. files;
         few = λ none. omega (arith, next);
+        units = λ none. let no : length c.in_ok-core.core.units ≡ 0 = ap (λ (k : PlainCore). length k.units) core in omega (arith, no);
         kept = subst (λ vs. IsKept vs c.in_ok-core.core) variables (core_kept c.as_slice.result.now c.in_ok-core.core (λ name. None) core);
       };
       sent = subst (CanCount c.in_ok-vec.field-0.items tally.left) (sym (ap asked_for t.0)) (first_can tally c.in_ok-vec.field-0.items t.5 sent);
       told = first_can tally c.in_ok-vec-2.field-0.items t.5 told;
       owes = first_owes tally.hand tally.owed.items c.in_ok-vec.field-0.items c.in_ok-vec-2.field-0.items t.0 t.5 sent told;
       awaited = none_awaited tally.hand _ t.0;
+      asks = λ none low. first_asks (length c.args.deck.statements) (sum tally.owed.items) (asks_for tally.hand) tally.left sound.few low (none_owed tally.owed.items t.5) (ap asks_for t.0) t.4;
     }

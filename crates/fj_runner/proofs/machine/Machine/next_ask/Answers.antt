@@ -1,4 +1,4 @@
-use Rattle.std.proofs.Common.{◌≡◌, ◌+◌, ◌<◌, ◌≤◌, List, ◌∷◌, drop, length, Some, IfOk, refl, sym, ◌∙◌, subst, arith}
+use Rattle.std.proofs.Common.{◌≡◌, ◌+◌, ◌<◌, ◌≤◌, List, ◌∷◌, drop, length, Some, None, IfOk, refl, sym, ◌∙◌, subst, arith}
 use Rattle.fj_plain.specs.State.{Files}
 use Rattle.fj_plain.specs.Statement.{Stated, stated, control_by}
 use Rattle.fj_units.specs.Files.{files_of}
@@ -11,6 +11,9 @@ use Rattle.fj_runner.proofs.Failures.{on_err_by}
 use Rattle.fj_runner.proofs.GivingUp.{fails_behind, fails_for, fails_run, fails_turn, passed_at, passes_one}
 use Rattle.fj_runner.proofs.NextAsks.{read_at_hand, asked_at, not_ended, run_known, rests_asked, ended_asked, done_asked}
 use Rattle.fj_runner.proofs.Stepping.{then_steps}
+use Rattle.fj_runner.specs.Spending.{jobs_at, jobs_from}
+use Rattle.fj_runner.proofs.Spending.{is_none_by, ok_lives, some_ended}
+use Rattle.fj_runner.specs.declared.machine.Machine.{Machine}
 use Rattle.fj_runner.proofs.Counting.{room_kept}
 use Rattle.fj_runner.proofs.machine.Machine.next_ask.Goals as goal
 use Rattle.fj_runner.proofs.machine.Machine.next_ask.Goals.{then-is_some-via-then-is_some, then-is_some-via-else-is_some+then-self-len}
@@ -113,7 +116,7 @@ returns-in-Ok-clause-on g c = λ i.
     let more : List Stated = drop (m.at + 1) (stated m.deck.statements) in
     let low : m.at < length m.deck.statements = omega arith in
     let h = read_at_hand m.deck.statements c.as_slice.result.now m.at lined c.as_slice.ensures low c.index-as_slice-self.is in
-    c.ask_or_go.ensures.on m.state st more h (c.in-Ok.ensures.files (i.files st more h)) c.in-Ok.ensures.counts i.few (c.in-Ok.ensures.holds i.kept)
+    c.ask_or_go.ensures.on m.state st more h (c.in-Ok.ensures.files (i.files st more h)) c.in-Ok.ensures.counts (c.in-Ok.ensures.connects (i.files st more h)) i.few i.units (c.in-Ok.ensures.holds i.kept)
 
 pub returns-in-Ok-clause-sent : goal.returns-in-Ok-clause-sent
 returns-in-Ok-clause-sent g c = c.ask_or_go.ensures.sent c.args.self.now.state c.in-Ok.ensures.counts
@@ -123,3 +126,28 @@ returns-in-Ok-clause-slots g c = c.ask_or_go.ensures.slots c.args.self.now.state
 
 pub ask_or_go-requires-clause-room : goal.ask_or_go-requires-clause-room
 ask_or_go-requires-clause-room g c = λ no. room_kept c.in-Ok.turned c.args.self.now.state c.turn.new.self c.in-Ok.ensures.counts no c.requires.room
+
+pub returns-in-Ok-clause-spends : goal.returns-in-Ok-clause-spends
+returns-in-Ok-clause-spends g c = λ i.
+    let m = c.args.self.now in
+    let most = length m.deck.statements in
+    let lined = c.index-as_slice-self.result in
+    let st : Stated = (lined, control_by lined.what) in
+    let more : List Stated = drop (m.at + 1) (stated m.deck.statements) in
+    let low : m.at < most = omega arith in
+    let none : m.state.ending ≡ None = is_none_by m.state.ending (sym c.is_some.ensures ∙ c.if-is_some.false) in
+    let h = read_at_hand m.deck.statements c.as_slice.result.now m.at lined c.as_slice.ensures low c.index-as_slice-self.is in
+    let units = i.units none in
+    let within : length m.state.core.units ≤ most = omega (arith, units, low) in
+    let jobs = jobs_at most m.state.stage (length m.state.core.units) in
+    ok_lives c.ask_or_go.result m c.ask_or_go.new.self (jobs + jobs_from most (m.at + 1)) none low
+    (c.ask_or_go.ensures.spends jobs (c.in-Ok.ensures.spends most within) m.state st more h (c.in-Ok.ensures.files (i.files st more h)) c.in-Ok.ensures.counts (c.in-Ok.ensures.connects (i.files st more h)) i.few i.units (c.in-Ok.ensures.holds i.kept) none)
+
+pub returns-then-is_some-clause-spends : goal.returns-then-is_some-clause-spends
+returns-then-is_some-clause-spends g c = λ i.
+    let m = c.args.self.now in
+    let Past = λ (x : Machine g.row.F.Denot g.F.FileStore). x.state.ending ≡ None → length x.deck.statements ≤ x.at in
+    elim c.then-is_some.branch [
+      | then-is_some-via-then-is_some w ↦ (subst Past (sym w.self-is) (λ none. some_ended m.state.ending (sym c.is_some.ensures ∙ w.if-is_some.true) none), tt)
+      | then-is_some-via-else-is_some+then-self-len w ↦ (subst Past (sym w.self-is) (λ none. omega arith), tt)
+    ]

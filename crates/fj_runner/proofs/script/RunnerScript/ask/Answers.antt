@@ -66,6 +66,9 @@ next_of-requires-clause-owes g c = λ over.
     let m = old.machine.now in
     ∥∥₁_elim old.on (owes_prop m.tally.hand m.tally.owed.items m.state.sent.items m.state.told.items) (λ f. (f over).owes)
 
+pub next_of-requires-clause-going : goal.next_of-requires-clause-going
+next_of-requires-clause-going g c = c.args.self.now.on
+
 pub invariant_of-self : goal.invariant_of-self
 invariant_of-self g c =
     let old = c.args.self.now in

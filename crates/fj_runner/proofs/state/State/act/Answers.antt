@@ -1,10 +1,12 @@
-use Rattle.std.proofs.Common.{◌∷◌, IfOk, refl, sym, subst}
+use Rattle.std.proofs.Common.{◌∷◌, length, IfOk, refl, sym, subst}
 use Rattle.fj_plain.specs.Statement.{Stated, control_by}
 use Rattle.fj_turns.specs.Run.{Run, Acting, Awaiting}
 use Rattle.fj_turns.specs.Turns.{turn_act}
 use Rattle.fj_acts.specs.Doing.{IsDoing, next_of, then_of}
 use Rattle.fj_acts.specs.Fitting.{IsKept}
 use Rattle.fj_acts.specs.State.{core_of}
+use Rattle.fj_acts.specs.Jobs.{jobs_of}
+use Rattle.fj_runner.specs.Spending.{Spends}
 use Rattle.fj_runner.specs.Machine.{run_in}
 use Rattle.fj_runner.specs.Turned.{IsTurn}
 use Rattle.fj_runner.proofs.Pauses.{acts_gives, acts_awaits}
@@ -47,3 +49,16 @@ returns-in-Gives-clause-holds g c = λ kept. subst (IsKept c.args.variables.now)
 
 pub returns-in-Awaits-clause-holds : goal.returns-in-Awaits-clause-holds
 returns-in-Awaits-clause-holds g c = λ kept. subst (IsKept c.args.variables.now) (sym c.submit-in-Awaits.ensures.core) kept
+
+pub returns-in-Finishes-clause-spends : goal.returns-in-Finishes-clause-spends
+returns-in-Finishes-clause-spends g c = λ most. c.finish.ensures.spends most (jobs_of c.args.doing (length c.args.self.now.core.units))
+
+pub returns-in-Gives-clause-spends : goal.returns-in-Gives-clause-spends
+returns-in-Gives-clause-spends g c = λ most.
+    let units = length c.args.self.now.core.units in
+    subst (λ d. Spends most (jobs_of d units) c.submit.result c.submit.new.self) (sym c.in-Gives.is) (c.submit.ensures.spends most)
+
+pub returns-in-Awaits-clause-spends : goal.returns-in-Awaits-clause-spends
+returns-in-Awaits-clause-spends g c = λ most.
+    let units = length c.args.self.now.core.units in
+    subst (λ d. Spends most (jobs_of d units) c.submit-in-Awaits.result c.submit-in-Awaits.new.self) (sym c.in-Awaits.is) (c.submit-in-Awaits.ensures.spends most)

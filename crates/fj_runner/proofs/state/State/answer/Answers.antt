@@ -17,6 +17,8 @@ use Rattle.fj_runner.proofs.Answered.{answered_stands, core_answered, own_stage,
 use Rattle.fj_runner.proofs.Numbering.{transfers_kept, given_answered, named_answered, own_answered, own_with, behind_with, not_awaited, within_told, untold_answered, own_untold_kept, own_untold_with}
 use Rattle.fj_runner.specs.Going.{HaveAt}
 use Rattle.fj_runner.proofs.Counting.{have_with, is_more}
+use Rattle.fj_runner.specs.Spending.{jobs_at}
+use Rattle.fj_runner.proofs.Spending.{own_jobs}
 use Rattle.fj_runner.proofs.state.State.answer.Goals as goal
 
 pub invariant_of-self : goal.invariant_of-self
@@ -141,6 +143,8 @@ returns-then-has-clause-hears g c =
       sent = refl;
       store = refl;
       output = refl;
+      units = refl;
+      jobs = λ most units. refl;
       told = is_more s.told.items s.due (number + 1) (omega (arith, s.told_slots, s.due_slot)) (ap (λ k. k + 1) n);
     }
 
@@ -157,5 +161,7 @@ returns-clause-hears g c =
       sent = refl;
       store = refl;
       output = refl;
+      units = refl;
+      jobs = λ most units. ap (λ x. jobs_at most x units) (c.own.ensures ∙ ap (with_own s.due number c.args.job c.args.answer) c.replace-stage.ensures.value) ∙ own_jobs s.due number c.args.job c.args.answer s.stage most units;
       told = is_more s.told.items s.due (number + 1) (omega (arith, s.told_slots, s.due_slot)) (ap (λ k. k + 1) n);
     }

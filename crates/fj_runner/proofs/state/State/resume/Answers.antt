@@ -1,4 +1,5 @@
-use Rattle.std.proofs.Common.{◌≡◌, ◌+◌, ◌∷◌, drop, Some, IfOk, refl, sym, subst, ap, ◌∙◌}
+use Rattle.std.proofs.Common.{◌≡◌, ◌+◌, ◌∷◌, drop, Some, IfOk, refl, sym, subst, ap, ◌∙◌, ◌-◌, ◌<◌, ◌≤◌, length, arith}
+use Rattle.std.proofs.lemmas.Option.{slice_get_within}
 use Rattle.fj_bay.specs.Jobs.{resume}
 use Rattle.fj_plain.specs.State.{Files}
 use Rattle.fj_plain.specs.Statement.{Stated, control_by}
@@ -15,6 +16,8 @@ use Rattle.fj_runner.specs.Machine.{run_in}
 use Rattle.fj_runner.specs.Turned.{IsTurn}
 use Rattle.fj_runner.proofs.Lists.{drop_at, drop_none}
 use Rattle.fj_runner.proofs.Pauses.{ends_next}
+use Rattle.fj_acts.specs.Jobs.{jobs_of}
+use Rattle.fj_runner.proofs.Spending.{doing_few, ok_spends}
 use Rattle.fj_runner.proofs.Runs.{matched_same}
 use Rattle.fj_items.specs.Handing.{HandsOver, HandsFront, HandsPart}
 use Rattle.fj_turns.specs.Passing.{output_of}
@@ -116,3 +119,19 @@ returns-in-Some-clause-holds g c = λ kept. subst (IsKept c.args.variables.now) 
 
 pub returns-in-Ok-clause-holds : goal.returns-in-Ok-clause-holds
 returns-in-Ok-clause-holds g c = λ kept. c.act.ensures.holds (c.in-Ok.ensures.keeps kept)
+
+pub returns-in-Some-clause-spends : goal.returns-in-Some-clause-spends
+returns-in-Some-clause-spends g c = λ most low.
+    let slots = length c.args.slots in
+    let next = c.args.next in
+    let within : next < slots = slice_get_within c.args.slots next c.in-Some.slot.now (sym c.in-Some.ensures) in
+    let few : ((slots - (next + 1)) + (most + 2)) + 1 ≤ (slots - next) + (most + 2) = omega (arith, within) in
+    ok_spends (went c.submit.result) most (((slots - (next + 1)) + (most + 2)) + 1) ((slots - next) + (most + 2)) c.submit.new.self few (c.submit.ensures.spends most)
+
+pub returns-in-Ok-clause-spends : goal.returns-in-Ok-clause-spends
+returns-in-Ok-clause-spends g c = λ most low.
+    let units = length c.begin.new.core.units in
+    let fits : units ≤ most = subst (λ us. length us ≤ most) (sym c.begin.ensures.units) low in
+    let does = doing_few c.in-Ok.doing units most fits in
+    let few : jobs_of c.in-Ok.doing units ≤ (length c.args.slots - c.args.next) + (most + 2) = omega (arith, does) in
+    ok_spends c.act.result most (jobs_of c.in-Ok.doing units) ((length c.args.slots - c.args.next) + (most + 2)) c.act.new.self few (c.act.ensures.spends most)

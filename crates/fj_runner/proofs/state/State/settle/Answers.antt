@@ -1,6 +1,7 @@
-use Rattle.std.proofs.Common.{◌≡◌, true, Some, refl, sym, subst}
+use Rattle.std.proofs.Common.{◌≡◌, ◌≤◌, length, true, Some, refl, sym, subst, arith}
 use Rattle.fj_acts.specs.State.{core_of}
 use Rattle.fj_runner.specs.Passing.{is_waiting}
+use Rattle.fj_runner.specs.Spending.{jobs_at}
 use Rattle.fj_runner.specs.Machine.{run_in, stage_of}
 use Rattle.fj_runner.proofs.Pauses.{settle_pauses}
 use Rattle.fj_runner.proofs.state.State.settle.Goals as goal
@@ -14,3 +15,9 @@ returns-clause-turn g c = λ variables rest files before after s.
 pub returns-clause-counts : goal.returns-clause-counts
 returns-clause-counts g c =
     (refl, refl, refl, record { inside = c.requires.slot; due = refl; owed = c.requires.owed; waits = subst (λ x. is_waiting x ≡ true) (sym c.put_stage.ensures) c.requires.waits })
+
+pub returns-clause-spends : goal.returns-clause-spends
+returns-clause-spends g c = λ most.
+    let units = length c.args.self.now.core.units in
+    let n = jobs_at most c.args.stage units in
+    subst (λ x. jobs_at most x units ≤ n) (sym c.put_stage.ensures) (omega arith)

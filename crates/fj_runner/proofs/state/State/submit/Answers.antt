@@ -1,4 +1,4 @@
-use Rattle.std.proofs.Common.{◌≡◌, ◌+◌, get_or, slice_set, Some, refl, ap, sym, ◌∙◌, subst, arith}
+use Rattle.std.proofs.Common.{◌≡◌, ◌+◌, ◌≤◌, length, get_or, slice_set, Some, refl, ap, sym, ◌∙◌, subst, arith}
 use Rattle.std.proofs.lemmas.List.{get_or_read, length-set}
 use Rattle.fj_acts.specs.State.{core_of}
 use Rattle.fj_turns.specs.Run.{Run}
@@ -6,6 +6,7 @@ use Rattle.fj_runner.specs.Machine.{run_in, stage_of}
 use Rattle.fj_runner.proofs.Counting.{is_more}
 use Rattle.fj_runner.proofs.Numbering.{given_still, own_given, own_not_told, within_still}
 use Rattle.fj_runner.proofs.Pauses.{submit_pauses}
+use Rattle.fj_runner.specs.Spending.{jobs_at}
 use Rattle.fj_runner.specs.Numbering.{AreSlots, OwnIsLast, OwnIsUntold, slots_behind}
 use Rattle.fj_runner.proofs.state.State.submit.Goals as goal
 
@@ -54,3 +55,9 @@ pub invariant_of-self-clause-own_untold : goal.invariant_of-self-clause-own_unto
 invariant_of-self-clause-own_untold g c =
     let old = c.args.self.now in
     subst (OwnIsUntold old.told.items) (sym c.put_stage.ensures) (own_not_told old.told.items old.sent.items c.args.slot c.args.stage old.within c.requires.own)
+
+pub returns-clause-spends : goal.returns-clause-spends
+returns-clause-spends g c = λ most.
+    let units = length c.args.self.now.core.units in
+    let n = jobs_at most c.args.stage units in
+    subst (λ x. jobs_at most x units + 1 ≤ n + 1) (sym c.put_stage.ensures) (omega arith)

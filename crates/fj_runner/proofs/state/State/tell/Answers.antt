@@ -1,4 +1,4 @@
-use Rattle.std.proofs.Common.{◌≡◌, List, ◌∷◌, Some, None, IfOk, inl, refl, sym, ap, ◌∙◌, subst}
+use Rattle.std.proofs.Common.{◌≡◌, List, ◌∷◌, Some, None, IfOk, inl, refl, sym, ap, ◌∙◌, subst, ◌+◌, ◌-◌, ◌≤◌, length, arith}
 use Rattle.fj_plain.specs.State.{Files, Entry}
 use Rattle.fj_plain.specs.Statement.{Stated, control_by}
 use Rattle.fj_desk.specs.Core.{Core, Connected}
@@ -17,6 +17,8 @@ use Rattle.fj_plain.specs.Telling.{with_inputs}
 use Rattle.fj_acts.specs.Fitting.{FindsItems}
 use Rattle.fj_units.specs.Having.{HaveFiles}
 use Rattle.fj_runner.proofs.Failures.{fails_from, fails_still}
+use Rattle.fj_runner.specs.Spending.{most_jobs}
+use Rattle.fj_runner.proofs.Spending.{halted_few, ok_spends}
 use Rattle.fj_runner.proofs.Numbering.{given_left, named_left, untold_left}
 use Rattle.fj_runner.proofs.Stepping.{given_up}
 use Rattle.fj_items.specs.declared.lost.Lost.TheVariants.{Memory}
@@ -100,3 +102,13 @@ returns-in-Err-tell_all-clause-fails g c = λ tells more stage.
     let keeps = c.tell_all.ensures.keeps in
     fails_still c.args.out.now c.args.self.now.core c.tell_all.new.core (given_up c.in-Err-tell_all.lost) _ _ _ (λ e. keeps.disk (cc (c.in-Err-tell_all.is, e))) (λ e. keeps.sink (cc (c.in-Err-tell_all.is, e)))
     (λ fits. inl (record { may = tt; units = c.tell_all.ensures.units; files = refl }))
+
+pub returns-in-Ok-tell_all-clause-spends : goal.returns-in-Ok-tell_all-clause-spends
+returns-in-Ok-tell_all-clause-spends g c = λ most low.
+    let s = c.args.self.now in
+    let es : List Entry = waited_of c.args.whose (entries s.core.pending) in
+    let are : c.in-Ok.slots ≡ halted_slots es s.core.units = c.in-Ok.ensures.halted ∙ ap (λ (us : List Connected). halted_slots es us) c.as_slice-units.ensures in
+    let slots : length c.in-Ok.slots ≤ length s.core.units = subst (λ l. length l ≤ length s.core.units) (sym are) (halted_few es s.core.units) in
+    let few : (length c.in-Ok.slots - 0) + (most + 2) ≤ most_jobs most = omega (arith, slots, low) in
+    ok_spends c.resume.result most ((length c.in-Ok.slots - 0) + (most + 2)) (most_jobs most) c.resume.new.self few
+    (c.resume.ensures.spends most (subst (λ us. length us ≤ most) (sym c.tell_all.ensures.units) low))
