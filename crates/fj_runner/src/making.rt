@@ -69,7 +69,7 @@ fn first_core(alloc: Global, variables: &[Variable]) -> Result<Core, AllocError>
     })
 }
 
-/// Nothing was asked. No deck makes as many asks as are left.
+/// Nothing was asked. No sound deck makes as many asks as are left.
 fn first_tally(alloc: Global) -> Result<Tally, AllocError>
     ensures { IfOk result (λ tally. (tally.hand ≡ Idle) × (tally.over ≡ false) × (tally.stopped ≡ false) × (tally.lost ≡ None)
         × (tally.left ≡ most_asks) × (tally.owed.items ≡ replicate 16 0)) }
