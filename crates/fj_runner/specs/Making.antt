@@ -8,6 +8,6 @@ use Rattle.fj_plain.specs.State.{elements}
 abbrev pub shape_of : Variable → Kind × ℕ
 shape_of v = (v.kind, elements v)
 
--- a number that no deck reaches
+-- a number that no sound deck reaches
 abbrev pub most_asks : ℕ
 most_asks = 2 ^ 62 - 1
