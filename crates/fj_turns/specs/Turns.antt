@@ -14,7 +14,7 @@ use Rattle.fj_plain.specs.Telling.{waited_in, condition_of, tells_id, tells_caus
 use Rattle.fj_plain.specs.Transfers.{with_number}
 use Rattle.fj_plain.specs.Statement.{Stated, Ending, prohibition, iostat_of, ends}
 use Rattle.fj_desk.specs.Core.{Core, Pending, Connected, pending_holders, unit_named}
-use Rattle.fj_desk.specs.Desks.{Outcome}
+use Rattle.fj_desk.specs.Desks.{Outcome, brought_by}
 use Rattle.fj_desk.specs.Doing.{Doing, finishes, gives, awaits}
 use Rattle.fj_desk.specs.Acting.{doing}
 use Rattle.fj_desk.specs.Desking.{told_core}
@@ -153,7 +153,7 @@ abbrev pub is_at : ℕ → ℕ → Pending → Bool
 is_at slot number e = (e.slot == slot) && (e.number == number)
 
 abbrev pub with_answer : ℕ → ℕ → Outcome → List Held → List Held
-with_answer slot number it hs = map (λ (h : Held). if is_at slot number h.pending then record { pending = h.pending; answer = Some it } else h) hs
+with_answer slot number it hs = map (λ (h : Held). if is_at slot number h.pending then record { pending = h.pending; answer = Some (brought_by it) } else h) hs
 
 -- or it is the statement's own job
 abbrev pub stage_told : Stage → ℕ → ℕ → Outcome → Stage
