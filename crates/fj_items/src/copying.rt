@@ -26,7 +26,7 @@ pub(crate) fn copied(
 ) -> Result<Load, Lost>
     requires { store.old.kinds ≡ kinds_of variables.now }
     ensures moved { IfOk result (λ moved. moved ≡ moved_in variables.now (values_of store.old) t.now) }
-    ensures numbered { IfOk result (λ moved. IsNumbered moved) }
+    ensures numbered { IfOk result IsNumbered }
     ensures same { store.new ≡ store.old }
     ensures fits { IsTransfer variables.now t.now → result ≢ Err Lost.Unfit }
     ensures causes { (result ≢ Err Lost.Disk) × (result ≢ Err Lost.Sink) }

@@ -165,9 +165,9 @@ pub fn moving(
         };
         return job_with(alloc, variables, line, tag, t, parts);
     }
-    let moved = copied(alloc, variables, store, t)?;
+    let copy = copied(alloc, variables, store, t)?;
     let parts = Parts {
-        moved,
+        moved: copy,
         size,
         rec,
         pos,

@@ -39,4 +39,4 @@ returns-then-t-clause-fits c = λ is.
 
 pub returns-clause-fits : goal.returns-clause-fits
 returns-clause-fits c = λ is.
-    c.job_with-2.ensures.fits (grouped c.args.variables.now (values_of c.args.store.now) c.args.t.now c.in_ok-moved-2.moved is (c.in_ok-moved-2.ensures.moved ∙ ap (λ (x : Storage). moved_in c.args.variables.now (values_of x) c.args.t.now) c.in_ok-size.ensures.same))
+    c.job_with-2.ensures.fits (grouped c.args.variables.now (values_of c.args.store.now) c.args.t.now c.in_ok-copy.copy is (c.in_ok-copy.ensures.moved ∙ ap (λ (x : Storage). moved_in c.args.variables.now (values_of x) c.args.t.now) c.in_ok-size.ensures.same))
