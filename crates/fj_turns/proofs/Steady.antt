@@ -11,7 +11,7 @@ use Rattle.fj_plain.specs.State.{Entry}
 use Rattle.fj_plain.specs.Statement.{Stated, Ending}
 use Rattle.fj_plain.specs.Telling.{tells_id}
 use Rattle.fj_desk.specs.Core.{Core, Pending}
-use Rattle.fj_desk.specs.Desks.{Outcome, most_slots}
+use Rattle.fj_desk.specs.Desks.{Outcome, brought_by, most_slots}
 use Rattle.fj_desk.specs.Doing.{Doing, finishes, gives, awaits}
 use Rattle.fj_desk.specs.Desking.{told_core}
 use Rattle.fj_desk.proofs.Apart.{Each, each_filter, each_append, each_imp, each_map, filter_map}
@@ -180,7 +180,7 @@ settle_sound r slot stage o t inside owed = record {
   sent = t.sent;
   told = length_set r.told slot (get_or r.told slot 0 + 1) ∙ t.told;
   within = λ s. one_told r.told slot s (get_or r.sent s 0) here (t.within s) (λ e f. below s e f);
-  same = answers_pending slot (get_or r.told slot 0) o r.book ∙ t.same;
+  same = answers_pending slot (get_or r.told slot 0) (brought_by o) r.book ∙ t.same;
   open_ones = each_map (IsOpen (bump r.told slot) r.sent) (λ (h : Held). if is_at slot (get_or r.told slot 0) h.pending then record { pending = h.pending; answer = Some o } else h) r.book
       (each_imp (IsOpen r.told r.sent) (λ h. IsOpen (bump r.told slot) r.sent (if is_at slot (get_or r.told slot 0) h.pending then record { pending = h.pending; answer = Some o } else h)) r.book
       (λ h k. by h k (is_at slot (get_or r.told slot 0) h.pending) refl) t.open_ones);
