@@ -19,6 +19,7 @@ use std::alloc::AllocError;
 use std::collections::VecDeque;
 
 /// What SIZE= gets for a count: its variable has that as its kind does. No kind has 2^63 or more.
+#[tactic(auto, using(crate::proofs::Giving::too_great))]
 fn value_of(count: Option<u64>) -> Value
     ensures { (variables : List Variable) (place : Place) → of_kind (kind_of variables place.var) result ≡ count_for variables place count }
 {
