@@ -27,7 +27,7 @@ use Rattle.fj_plain.specs.State.{Files}
 use Rattle.fj_plain.specs.Statement.{Stated, about_other, about_connected, file_asked, has_pending}
 use Rattle.fj_inquire.specs.Inquiring as told
 use Rattle.fj_inquire.specs.declared.connected.Connected.{Connected}
-use Rattle.fj_items.proofs.Values.{cut_is, back_is}
+use Rattle.fj_items.proofs.Values.{cut_is}
 use Rattle.std.proofs.Math.Path.{fun_ext}
 use Rattle.std.specs.List.{list_any}
 use Rattle.std.specs.Ordering.{int_eq}
@@ -37,7 +37,6 @@ use Rattle.fj_statement.specs.declared.statement.Operand.{Operand}
 use Rattle.fj_statement.specs.declared.statement.Statement.{Statement}
 use Rattle.fj_statement.specs.declared.statement.Statement.TheVariants as statement
 use Rattle.fj_store.specs.Places.{places_in}
-use Rattle.fj_store.specs.Storage as store
 use Rattle.fj_store.specs.Storage.{Storage, values_of}
 use Rattle.fj_plain.specs.Items.{given_back}
 use Rattle.fj_book.specs.Prohibitions.{Holder}
@@ -51,7 +50,6 @@ use Rattle.fj_desk.specs.Acting.{answers, inquires, about_unit, asks_connection,
 use Rattle.fj_turns.specs.Run.{Held as PlainHeld}
 use Rattle.fj_pending.specs.Plain.{held, holders}
 use Rattle.fj_pending.specs.declared.held.Held.{Held}
-use Rattle.fj_items.specs.Kinds.{kinds_of}
 use Rattle.fj_acts.specs.State.{core_of}
 use Rattle.fj_acts.specs.Doing.{IsDoing, AsksAbout, looks, looks_at}
 use Rattle.fj_acts.specs.declared.state.Core.{Core as Kept}
@@ -246,12 +244,12 @@ book_is (h ∷ hs) = ap (λ l. (let r : Holder = record { id = h.tag.0; unit = h
 
 -- ---- what is done
 
-pub answers_is : (variables : List Variable) (files : Files) (old : Kept) (new : Storage) (cells : List Cell) (asked : List Wanted) (about : told.About) (p : plain.About) → old.store.kinds ≡ kinds_of variables
-    → cells ≡ told.inquired about asked → AnswersAlike about p → new ≡ store.given_back cells old.store
+pub answers_is : (variables : List Variable) (files : Files) (old : Kept) (new : Storage) (cells : List Cell) (asked : List Wanted) (about : told.About) (p : plain.About)
+    → cells ≡ told.inquired about asked → AnswersAlike about p → values_of new ≡ given_back variables cells (values_of old.store)
     → answers variables (core_of files old) p asked ≡ finishes (record (core_of files old) { vars = values_of new }) Fine
-answers_is variables files old new cells asked about p kinds is alike back =
+answers_is variables files old new cells asked about p is alike back =
     let values : values_of new ≡ given_back variables (plain.inquired p asked) (values_of old.store) =
-    back_is variables old.store new cells kinds back ∙ ap (λ cs. given_back variables cs (values_of old.store)) (is ∙ cells_same about p asked alike) in
+    back ∙ ap (λ cs. given_back variables cs (values_of old.store)) (is ∙ cells_same about p asked alike) in
     ap (λ v. finishes (record (core_of files old) { vars = v }) Fine) (sym values)
 
 -- of a unit that is connected

@@ -32,7 +32,7 @@ use crate::state::Core;
 use fj_bay::Job;
 use fj_connect::Look;
 use fj_inquire::{Connected, inquire_file, inquire_unit};
-use fj_items::{Lost, number_given};
+use fj_items::{Lost, give_back, number_given};
 use fj_list::Cells;
 use fj_modes::{Asked, FileName, Question, Subject, UnitRef};
 use fj_outside::{Disk, FileStore};
@@ -169,12 +169,12 @@ fn answer_other<D: Disk>(
     match subject {
         Subject::Unit(_) => {
             inquire_unit(alloc, 0, None, None, false, asked, &mut cells)?;
-            core.store.give_back(cells);
+            give_back(variables, &mut core.store, cells);
         }
         Subject::File(name) => {
             let there = is_there(name, &core.names, disk)?;
             inquire_file(alloc, name, there, None, None, false, asked, &mut cells)?;
-            core.store.give_back(cells);
+            give_back(variables, &mut core.store, cells);
         }
     }
     Ok(Doing::Finishes(Condition::Fine))
@@ -245,7 +245,7 @@ pub(crate) fn answer_look<F: FileStore>(
     let id = number_given(&core.store, id);
     let pending = has_pending(&core.pending, number, id);
     let cells = told_of(alloc, number, unit, look, pending, asked)?;
-    core.store.give_back(cells);
+    give_back(variables, &mut core.store, cells);
     Ok(Doing::Finishes(Condition::Fine))
 }
 

@@ -38,4 +38,4 @@ returns-clause-doing g c = λ st files.
     unit_answers_alike files old o n u file id c.args.look connected pending c.in-Some.ensures (found_number old.units n u (sym c.in-Some-find.ensures)) refl refl
     (c.has_pending-pending.ensures ∙ ap (has_pending (holders old.pending) (Some n)) c.number_given-id.ensures) in
     look_known c.args.variables.now (core_of files old) o n u file asked id seen c.in-Some.ensures c.in-Some-find.ensures
-    ∙ answers_is c.args.variables.now files old c.give_back.new.self c.in_ok-cells.cells asked about plain c.requires cells alike c.give_back.ensures
+    ∙ answers_is c.args.variables.now files old c.give_back.new.store c.in_ok-cells.cells asked about plain cells alike c.give_back.ensures.vars
