@@ -27,7 +27,7 @@ use Rattle.fj_statement.specs.declared.statement.Transfer.{Transfer}
 use Rattle.fj_bay.specs.Halt.{halts}
 use Rattle.fj_bay.specs.Jobs.{items_for, Moving, Looked, Job, attach, detach, move, go, change, flush, look, resume}
 use Rattle.fj_store.specs.Variables.{Variables, moved_of}
-use Rattle.fj_plain.specs.Items.{cell_at, operand_places, value_of}
+use Rattle.fj_plain.specs.Items.{given_back, cell_at, operand_places, value_of}
 use Rattle.fj_plain.specs.Needs.{number_of, number_given, unit_about}
 use Rattle.fj_plain.specs.State.{Files, with_file, without_file}
 use Rattle.fj_plain.specs.Telling.{is_asynchronous}

@@ -26,7 +26,7 @@ use Rattle.fj_statement.specs.declared.statement.Statement.TheVariants as statem
 use Rattle.fj_bay.specs.Jobs.{Looked, looked_at}
 use Rattle.fj_store.specs.Kinds.{of_kind}
 use Rattle.fj_store.specs.Variables.{Variables, with_value}
-use Rattle.fj_plain.specs.Items.{kind_of, operand_places, value_of}
+use Rattle.fj_plain.specs.Items.{given_back, kind_of, operand_places, value_of}
 use Rattle.fj_book.specs.Prohibitions.{prohibited, Holder, has_id}
 use Rattle.fj_plain.specs.Needs.{number_of, need, holders, given_number, unit_asked}
 use Rattle.fj_plain.specs.Telling.{waited, condition_of, after_tells}

@@ -12,7 +12,7 @@ use Rattle.fj_statement.specs.declared.statement.Transfer.{Transfer}
 use Rattle.fj_statement.specs.declared.statement.Statement.{Statement}
 use Rattle.fj_statement.specs.declared.statement.Statement.TheVariants as statement
 use Rattle.fj_store.specs.Variables.{Variables, with_value}
-use Rattle.fj_plain.specs.Items.{kind_of, number_for}
+use Rattle.fj_plain.specs.Items.{given_back, kind_of, number_for}
 use Rattle.fj_plain.specs.Needs.{number_of, number_given}
 use Rattle.fj_plain.specs.State.{State, Unit, Entry, Tell, halts}
 

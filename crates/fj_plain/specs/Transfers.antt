@@ -21,7 +21,7 @@ use Rattle.fj_modes.specs.declared.unit.UnitRef.{UnitRef}
 use Rattle.fj_modes.specs.declared.unit.UnitRef.TheVariants as unit
 use Rattle.fj_statement.specs.declared.statement.Transfer.{Transfer}
 use Rattle.fj_store.specs.Variables.{Variables, with_value, undefined_at, moved_of, is_at}
-use Rattle.fj_plain.specs.Items.{kind_of, cell_at, cells_of, number_for}
+use Rattle.fj_plain.specs.Items.{given_back, kind_of, cell_at, cells_of, number_for}
 use Rattle.fj_plain.specs.Needs.{transfer_places, group_places, if_given, number_given}
 use Rattle.fj_plain.specs.Telling.{is_asynchronous, with_size}
 use Rattle.fj_transfer.specs.Printing.{Printed, printed}
