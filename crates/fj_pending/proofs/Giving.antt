@@ -1,5 +1,5 @@
 -- What comes back to the variables.
-use Rattle.std.proofs.Common.{◌≡◌, ℕ, ◌<◌, ◌≤◌, ◌^◌, pos, Bool, true, false, List, [], ◌∷◌, map, slice_get, Option, Some, None, refl, sym, ap, ◌∙◌, arith}
+use Rattle.std.proofs.Common.{◌≡◌, ℕ, ◌<◌, pos, false, List, [], ◌∷◌, map, slice_get, Option, Some, None, refl, sym, ap, ◌∙◌, arith}
 use Rattle.std.specs.Prelude.{if◌then◌else◌, nat_lt, unwrap_or}
 use Rattle.std.specs.Option.{option_map, option_map_or}
 use Rattle.std.proofs.lemmas.Bool.Decides.{nat_tests}
@@ -13,14 +13,14 @@ use Rattle.fj_value.specs.declared.value.Cell.{Cell}
 use Rattle.fj_value.specs.declared.value.Value.{Value}
 use Rattle.fj_value.specs.declared.value.Value.TheVariants as value
 use Rattle.fj_statement.specs.declared.deck.Variable.{Variable}
-use Rattle.fj_store.specs.Kinds.{kind_at, is_of_kind, of_kind}
+use Rattle.fj_store.specs.Kinds.{kind_at, of_kind}
 use Rattle.fj_store.specs.Tables.{with_element, with_cells}
 use Rattle.fj_store.specs.Storage.{Storage, values_of, returned}
 use Rattle.fj_store.specs.Storage as storage
 use Rattle.fj_store.specs.Variables.{with_value}
 use Rattle.fj_store.proofs.TableLemmas.{mapped_with}
-use Rattle.fj_plain.specs.Items.{kind_of, number_for, value_for, given_back}
-use Rattle.fj_plain.specs.Telling.{graver, count_for}
+use Rattle.fj_plain.specs.Items.{kind_of, number_for, given_back}
+use Rattle.fj_plain.specs.Telling.{graver}
 
 -- ---- kept variables as plain ones
 
@@ -56,17 +56,11 @@ given_plain s variables cells are = cells_plain s.kinds variables cells s.values
 -- ---- SIZE=
 
 -- no kind has so great a number
-pub too_great : (kind : Kind) (n : ℕ) → 2 ^ 63 ≤ n → of_kind kind value.Undefined ≡ number_for kind (pos n)
-too_great Int4 n far = let not : nat_lt n (2 ^ 31) ≡ false = grind (arith, nat_tests) in sym (ap (λ b. if b then value.Int (pos n) else value.Undefined) not)
-too_great Int8 n far = let not : nat_lt n (2 ^ 63) ≡ false = grind (arith, nat_tests) in sym (ap (λ b. if b then value.Int (pos n) else value.Undefined) not)
+pub too_great : (kind : Kind) (n : ℕ) → 9223372036854775807 < n → of_kind kind value.Undefined ≡ number_for kind (pos n)
+too_great Int4 n far = let not : nat_lt n 2147483648 ≡ false = grind (arith, nat_tests) in sym (ap (λ b. if b then value.Int (pos n) else value.Undefined) not)
+too_great Int8 n far = let not : nat_lt n 9223372036854775808 ≡ false = grind (arith, nat_tests) in sym (ap (λ b. if b then value.Int (pos n) else value.Undefined) not)
 too_great Logical n far = refl
 too_great (Chars length) n far = refl
-
-pub undefined_size : (kind : Kind) → of_kind kind value.Undefined ≡ value.Undefined
-undefined_size Int4 = refl
-undefined_size Int8 = refl
-undefined_size Logical = refl
-undefined_size (Chars length) = refl
 
 -- ---- conditions
 

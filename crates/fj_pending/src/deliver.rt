@@ -1,11 +1,11 @@
 // What telling transfers does to the variables (ISO/IEC 1539-1:2004, 9.5.1.4, 9.6).
-ghost use Rattle.std.specs.Prelude.{◌≡◌, ◌++◌, List, [], ◌∷◌, map, IfOk, OnOk, pos};
-ghost use Rattle.fj_value.specs.declared.kind.Kind.{Kind};
+ghost use Rattle.std.specs.Prelude.{◌≡◌, ◌++◌, List, [], ◌∷◌, map, IfOk, OnOk};
+ghost use Rattle.fj_value.specs.declared.place.Place.{Place};
 ghost use Rattle.fj_statement.specs.declared.deck.Variable.{Variable};
 ghost use Rattle.fj_store.specs.Kinds.{of_kind};
 ghost use Rattle.fj_store.specs.Storage.{values_of};
-ghost use Rattle.fj_plain.specs.Items.{given_back, number_for};
-ghost use Rattle.fj_plain.specs.Telling.{graver, with_input, with_inputs, with_size};
+ghost use Rattle.fj_plain.specs.Items.{kind_of, given_back};
+ghost use Rattle.fj_plain.specs.Telling.{count_for, graver, with_input, with_inputs, with_size};
 ghost use Rattle.fj_plain.specs.Telling as telling;
 ghost use Rattle.fj_pending.specs.Plain.{cells_of, entry_of, entries, tells_of};
 
@@ -18,14 +18,18 @@ use fj_value::{Condition, Items, Place, Value};
 use std::alloc::AllocError;
 use std::collections::VecDeque;
 
-/// A count as a value, which an integer variable of any kind takes as that number; undefined where no kind has it.
-fn value_of(count: u64) -> Value
-    ensures { (kind : Kind) → of_kind kind result ≡ number_for kind (pos count) }
+/// What SIZE= gets for a count: its variable has that as its kind does. No kind has 2^63 or more.
+#[tactic(auto, using(crate::proofs::Giving::too_great))]
+fn value_of(count: Option<u64>) -> Value
+    ensures { (variables : List Variable) (place : Place) → of_kind (kind_of variables place.var) result ≡ count_for variables place count }
 {
-    if count > 9223372036854775807 {
+    let Some(number) = count else {
+        return Value::Undefined;
+    };
+    if number > 9223372036854775807 {
         return Value::Undefined;
     }
-    Value::Int(count as i64)
+    Value::Int(number as i64)
 }
 
 /// SIZE= gets the count of characters.
@@ -33,14 +37,9 @@ fn give_size(store: &mut Store, size: Option<Place>, count: Option<u64>)
     ensures values { (variables : List Variable) → store.old.kinds ≡ map (λ v. v.kind) variables → values_of store.new ≡ with_size variables size count (values_of store.old) }
     ensures kinds { store.new.kinds ≡ store.old.kinds }
 {
-    let Some(place) = size else {
-        return;
-    };
-    let value = match count {
-        Some(number) => value_of(number),
-        None => Value::Undefined,
-    };
-    store.set(place, value);
+    if let Some(place) = size {
+        store.set(place, value_of(count));
+    }
 }
 
 /// The items get their values.

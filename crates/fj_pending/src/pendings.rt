@@ -53,13 +53,9 @@ pub struct Pendings {
 
 impl Model for Pendings {
     ghost use Rattle.std.specs.Prelude.{List};
-    ghost use Rattle.std.specs.Coded.{codes};
-    ghost use Rattle.fj_format.specs.contracts.item.FormatItem as item;
     ghost use Rattle.fj_pending.specs.declared.held.Held.{Held};
 
     ghost Value = { List Held };
-
-    ghost coded = { Prim.hlevel (codes, item.the_row.coded) };
 
     ghost use Rattle.fj_pending.specs.Tied.{IsTied};
 
