@@ -31,7 +31,7 @@ use Rattle.fj_plain.specs.Connecting.{file_due, keeps_name}
 use Rattle.fj_desk.specs.Core.{Core, Connected, connected_at, unit_named}
 use Rattle.fj_desk.specs.Desks.{Outcome, most_slots}
 use Rattle.fj_desk.specs.Doing.{Doing, finishes, gives, awaits}
-use Rattle.fj_desk.specs.Acting.{finishes_behind, transferred, unless_refused, on_unit, transfer_at, keeps, disconnected, detaches, closes, closes_anyway, all_closed, free_from, changes, is_taken, attaches, connects_at, connects, closes_first, opens_with, opens, moves, asks_connection, inquires, if_numbered, unit_at, own, instead, doing}
+use Rattle.fj_desk.specs.Acting.{finishes_behind, transferred, unless_refused, on_unit, transfer_at, keeps, disconnected, came_out, closes, closes_anyway, all_closed, free_from, changes, is_taken, attaches, connects_at, connects, closes_first, opens_with, opens, moves, asks_connection, inquires, if_numbered, unit_at, own, instead, doing}
 use Rattle.fj_desk.specs.Desking.{told_core}
 use Rattle.fj_turns.specs.Turns.{halted_slots, ends_halts, doing_told}
 
@@ -77,15 +77,15 @@ module _ (control : ℕ → List Given) (variables : List Variable) (line : ℕ)
 
 closes_waits : (core : Core) (keep : Option Bool) (o : Option Connected) → WaitsToTake (closes core keep o)
 closes_waits core keep None = tt
-closes_waits core keep (Some u) = waits_if (unwrap_or keep false && u.modes.scratch) _ _ tt (λ o. tt)
+closes_waits core keep (Some u) = waits_if (unwrap_or keep false && u.modes.scratch) _ _ tt (λ o. waits_if (came_out u o) _ _ tt tt)
 
 anyway_waits : (core : Core) (keep : Option Bool) (condition : Condition) (o : Option Connected) → WaitsToTake (closes_anyway core keep condition o)
 anyway_waits core keep condition None = tt
-anyway_waits core keep condition (Some u) = λ o. tt
+anyway_waits core keep condition (Some u) = λ o. waits_if (came_out u o) _ _ tt tt
 
 all_wait : (us : List Connected) (core : Core) (condition : Condition) → WaitsToTake (all_closed us core condition)
 all_wait [] core condition = tt
-all_wait (u ∷ us) core condition = λ o. all_wait us _ condition
+all_wait (u ∷ us) core condition = λ o. waits_if (came_out u o) _ _ (all_wait us (disconnected core u (keeps u) o) condition) tt
 
 -- ---- OPEN
 
@@ -108,7 +108,7 @@ module _ (number : ℕ) (spec : OpenSpec) where
     where
       first : (o : Option Connected) → WaitsToTake (closes_first core o (connects number spec modes))
       first None = connects_waits modes core (free_from core.units 0 most_slots)
-      first (Some u) = λ o. let new = disconnected core u (keeps u) o in connects_waits modes new (free_from new.units 0 most_slots)
+      first (Some u) = λ o. let new = disconnected core u (keeps u) o in waits_if (came_out u o) _ _ (connects_waits modes new (free_from new.units 0 most_slots)) tt
 
   opens_waits : (core : Core) (o : Option Connected) → WaitsToTake (opens core number spec o)
   opens_waits core None = with_waits core None (settled spec)

@@ -35,7 +35,7 @@ use Rattle.fj_desk.specs.Desks.{Desk, Outcome, carry, log_length, most_slots}
 use Rattle.fj_desk.specs.Desks as desks
 use Rattle.fj_desk.specs.Desking.{told_core}
 use Rattle.fj_desk.specs.Doing.{Doing, finishes, gives, awaits}
-use Rattle.fj_desk.specs.Acting.{finishes_behind, transferred, unless_refused, on_unit, transfer_at, keeps, disconnected, closes, closes_anyway, all_closed, free_from, changes, is_taken, attaches, connects_at, connects, closes_first, opens_with, opens, moves, asks_connection, inquires, if_numbered, unit_at, own, instead, doing}
+use Rattle.fj_desk.specs.Acting.{finishes_behind, transferred, unless_refused, on_unit, transfer_at, keeps, disconnected, came_out, closes, closes_anyway, all_closed, free_from, changes, is_taken, attaches, connects_at, connects, closes_first, opens_with, opens, moves, asks_connection, inquires, if_numbered, unit_at, own, instead, doing}
 use Rattle.fj_turns.specs.Turns.{halted_slots, ends_halts, doing_told}
 use Rattle.fj_turns.specs.Inside.{walked}
 use Rattle.fj_cut.specs.Others.{Names, names_of, opens_on, file_opened, file_about}
@@ -92,15 +92,15 @@ module _ (Q : List ℕ → Type 0) where
 
   closes_connect : (core : Core) (keep : Option Bool) (o : Option Connected) → Connects (closes core keep o)
   closes_connect core keep None = tt
-  closes_connect core keep (Some u) = either (unwrap_or keep false && u.modes.scratch) _ _ tt (tt, λ o. tt)
+  closes_connect core keep (Some u) = either (unwrap_or keep false && u.modes.scratch) _ _ tt (tt, λ o. either (came_out u o) _ _ tt tt)
 
   anyway_connect : (core : Core) (keep : Option Bool) (condition : Condition) (o : Option Connected) → Connects (closes_anyway core keep condition o)
   anyway_connect core keep condition None = tt
-  anyway_connect core keep condition (Some u) = (tt, λ o. tt)
+  anyway_connect core keep condition (Some u) = (tt, λ o. either (came_out u o) _ _ tt tt)
 
   end_connects : (us : List Connected) (core : Core) (condition : Condition) → Connects (all_closed us core condition)
   end_connects [] core condition = tt
-  end_connects (u ∷ us) core condition = (tt, λ o. end_connects us _ condition)
+  end_connects (u ∷ us) core condition = (tt, λ o. either (came_out u o) _ _ (end_connects us (disconnected core u (keeps u) o) condition) tt)
 
   -- ---- OPEN
 
@@ -125,7 +125,7 @@ module _ (Q : List ℕ → Type 0) where
     where
       first : (o : Option Connected) → Connects (closes_first core o (connects number spec modes))
       first None = connects_connect core number spec modes q
-      first (Some u) = (tt, λ o. connects_connect (disconnected core u (keeps u) o) number spec modes q)
+      first (Some u) = (tt, λ o. either (came_out u o) _ _ (connects_connect (disconnected core u (keeps u) o) number spec modes q) tt)
 
   opens_connect : (core : Core) (number : ℕ) (spec : OpenSpec) (o : Option Connected) → ((name : List ℕ) → opens_on (option_map (λ (x : Connected). x.name) o) spec number ≡ Some name → Q name) → Connects (opens core number spec o)
   opens_connect core number spec None h = with_connects core number spec None (settled spec) (h (file_due spec number) refl)

@@ -35,7 +35,7 @@ use Rattle.fj_desk.specs.Desks.{Desk, Outcome, Brought, brought_by, carry, log_a
 use Rattle.fj_desk.specs.Desks as desks
 use Rattle.fj_desk.specs.Doing.{Doing, finishes, gives, awaits, Desked, acted}
 use Rattle.fj_desk.specs.Desking.{entries, told_core, completed, goes_on, desk_step, fresh}
-use Rattle.fj_desk.specs.Acting.{pending_of, finishes_behind, transferred, unless_refused, on_unit, transfer_at, keeps, disconnected, closes, closes_anyway, all_closed, free_from, changes, is_taken, attaches, connects_at, connects, closes_first, opens_with, opens, moves, asks_connection, inquires, if_numbered, unit_at, own, instead, doing}
+use Rattle.fj_desk.specs.Acting.{pending_of, finishes_behind, transferred, unless_refused, on_unit, transfer_at, keeps, disconnected, came_out, closes, closes_anyway, all_closed, free_from, changes, is_taken, attaches, connects_at, connects, closes_first, opens_with, opens, moves, asks_connection, inquires, if_numbered, unit_at, own, instead, doing}
 use Rattle.fj_desk.proofs.Apart.{Each, each_imp, each_filter, each_append}
 use Rattle.fj_turns.specs.Turns.{halted_slots, ends_halts, rule_of}
 use Rattle.fj_turns.specs.Inside.{waited_at, does, cut_desks}
@@ -187,15 +187,15 @@ closes_ends : (core : Core) (keep : Option Bool) (number : Option ℕ) (o : Opti
 closes_ends core keep number None h gone e = h
 closes_ends core keep number (Some u) h gone e =
     let at = by_number core.units number u core refl e in
-    ends_if (unwrap_or keep false && u.modes.scratch) _ _ h (λ o. without_seated core u at.0 (unwrap_or keep (keeps u)) o h (gone at.0 at.1) at.2)
+    ends_if (unwrap_or keep false && u.modes.scratch) _ _ h (λ o. ends_if (came_out u o) _ _ (without_seated core u at.0 (unwrap_or keep (keeps u)) o h (gone at.0 at.1) at.2) h)
 
 anyway_ends : (core : Core) (keep : Option Bool) (condition : Condition) (number : Option ℕ) (o : Option Connected) → AreSeated core → GoneAt number core → unit_at core number ≡ o → Ends (closes_anyway core keep condition o)
 anyway_ends core keep condition number None h gone e = h
-anyway_ends core keep condition number (Some u) h gone e = let at = by_number core.units number u core refl e in (λ o. without_seated core u at.0 (keeps u && unwrap_or keep true) o h (gone at.0 at.1) at.2)
+anyway_ends core keep condition number (Some u) h gone e = let at = by_number core.units number u core refl e in (λ o. ends_if (came_out u o) _ _ (without_seated core u at.0 (keeps u && unwrap_or keep true) o h (gone at.0 at.1) at.2) h)
 
 end_ends : (us : List Connected) (core : Core) (condition : Condition) → core.book ≡ [] → Ends (all_closed us core condition)
 end_ends [] core condition e = none_seated core e
-end_ends (u ∷ us) core condition e = λ o. end_ends us (disconnected core u (keeps u) o) condition e
+end_ends (u ∷ us) core condition e = λ o. ends_if (came_out u o) _ _ (end_ends us (disconnected core u (keeps u) o) condition e) (none_seated core e)
 
 changes_ends : (core : Core) (u : Connected) (n : ℕ) (result : Result Modes Condition) → AreSeated core → Gone n core → u.number ≡ n → Ends (changes core u result)
 changes_ends core u n (Err condition) h gone e = h
@@ -219,7 +219,7 @@ connects_ends core number spec modes h gone = by (free_from core.units 0 most_sl
 first_ends : (core : Core) (number : ℕ) (spec : OpenSpec) (modes : Modes) (o : Option Connected) → AreSeated core → Gone number core → connected_at core.units number ≡ o → Ends (closes_first core o (connects number spec modes))
 first_ends core number spec modes None h gone e = connects_ends core number spec modes h gone
 first_ends core number spec modes (Some u) h gone e =
-    λ o. connects_ends (disconnected core u (keeps u) o) number spec modes (without_seated core u number (keeps u) o h gone (found_number core.units number u e)) gone
+    λ o. ends_if (came_out u o) _ _ (connects_ends (disconnected core u (keeps u) o) number spec modes (without_seated core u number (keeps u) o h gone (found_number core.units number u e)) gone) h
 
 with_ends : (core : Core) (number : ℕ) (spec : OpenSpec) (o : Option Connected) (result : Result Modes Condition) → AreSeated core → Gone number core → connected_at core.units number ≡ o → Ends (opens_with core number spec o result)
 with_ends core number spec o (Err condition) h gone e = h

@@ -117,8 +117,16 @@ left name (Some c) keep files = if keep then with_file name c.bytes files else w
 abbrev pub disconnected : Core → Connected → Bool → Outcome → Core
 disconnected core u keep o = record core { units = without_connected u.number core.units; files = left u.name (connection_in o.0) keep core.files }
 
+-- the connection of the unit came out of its bay
+abbrev pub came_out : Connected → Outcome → Bool
+came_out u o = unwrap_or (option_map (λ (c : Connection). bytes_eq c.name u.name) (connection_in o.0)) false
+
+-- a unit whose connection does not come out counts as not connected (1)
+abbrev pub once_out : Core → Connected → Bool → (Core → Doing) → Outcome → Doing
+once_out core u keep next o = if came_out u o then next (disconnected core u keep o) else finishes core (Error 1)
+
 abbrev pub detaches : Core → Connected → Bool → (Core → Doing) → Doing
-detaches core u keep next = awaits u.slot (detach None) core (λ o. next (disconnected core u keep o))
+detaches core u keep next = awaits u.slot (detach None) core (once_out core u keep next)
 
 -- a scratch file cannot be kept (4)
 abbrev pub closes : Core → Option Bool → Option Connected → Doing

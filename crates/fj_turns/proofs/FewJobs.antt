@@ -32,7 +32,7 @@ use Rattle.fj_desk.specs.Core.{Core, Connected, connected_at, unit_named}
 use Rattle.fj_desk.specs.Desks.{Desk, Outcome, most_slots, carry, log_length}
 use Rattle.fj_desk.specs.Desks as desks
 use Rattle.fj_desk.specs.Doing.{Doing, finishes, gives, awaits, Desked, acted}
-use Rattle.fj_desk.specs.Acting.{finishes_behind, transferred, unless_refused, on_unit, transfer_at, keeps, detaches, closes, closes_anyway, all_closed, free_from, changes, is_taken, attaches, connects_at, connects, closes_first, opens_with, opens, moves, asks_connection, inquires, if_numbered, unit_at, own, instead, doing}
+use Rattle.fj_desk.specs.Acting.{finishes_behind, transferred, unless_refused, on_unit, transfer_at, keeps, came_out, detaches, closes, closes_anyway, all_closed, free_from, changes, is_taken, attaches, connects_at, connects, closes_first, opens_with, opens, moves, asks_connection, inquires, if_numbered, unit_at, own, instead, doing}
 use Rattle.fj_desk.specs.Desking.{told_core, desk_step, goes_on, completed, fresh}
 use Rattle.fj_desk.proofs.Apart.{Differs}
 use Rattle.fj_desk.proofs.Opening.{free_found}
@@ -83,7 +83,7 @@ transfer_fair k control variables line core t moved (unit.Number n) h = on_unit_
 -- ---- CLOSE
 
 detaches_fair : (k : ℕ) (core : Core) (u : Connected) (keep : Bool) (next : Core → Doing) → Seated core.units → ((new : Core) → Seated new.units → Fair k (next new)) → Fair (suc k) (detaches core u keep next)
-detaches_fair k core u keep next h f = (h, (λ o. f _ (filter_seated (λ (v : Connected). not (v.number == u.number)) core.units h)))
+detaches_fair k core u keep next h f = (h, (λ o. fair_if k (came_out u o) _ _ (f _ (filter_seated (λ (v : Connected). not (v.number == u.number)) core.units h)) h))
 
 closes_fair : (k : ℕ) (core : Core) (keep : Option Bool) (o : Option Connected) → Seated core.units → Fair (suc k) (closes core keep o)
 closes_fair k core keep None h = h

@@ -32,7 +32,7 @@ use Rattle.fj_desk.specs.Core.{Core, Connected, connected_at, unit_named}
 use Rattle.fj_desk.specs.Desks.{Desk, Outcome, carry, log_length, most_slots}
 use Rattle.fj_desk.specs.Desks as desks
 use Rattle.fj_desk.specs.Doing.{Doing, finishes, gives, awaits, Desked, acted}
-use Rattle.fj_desk.specs.Acting.{finishes_behind, transferred, unless_refused, on_unit, transfer_at, keeps, disconnected, detaches, closes, closes_anyway, all_closed, free_from, changes, is_taken, attaches, connects_at, connects, closes_first, opens_with, opens, moves, asks_connection, inquires, if_numbered, unit_at, own, instead, doing}
+use Rattle.fj_desk.specs.Acting.{finishes_behind, transferred, unless_refused, on_unit, transfer_at, keeps, disconnected, came_out, detaches, closes, closes_anyway, all_closed, free_from, changes, is_taken, attaches, connects_at, connects, closes_first, opens_with, opens, moves, asks_connection, inquires, if_numbered, unit_at, own, instead, doing}
 use Rattle.fj_desk.specs.Desking.{told_core}
 use Rattle.fj_turns.specs.Run.{Held}
 use Rattle.fj_turns.specs.Turns.{unsettled, halted_slots, ends_halts, doing_told}
@@ -87,7 +87,7 @@ module _ (control : ℕ → List Given) (variables : List Variable) (line : ℕ)
 -- ---- CLOSE
 
 detaches_silent : (o : Output) (core : Core) (u : Connected) (keep : Bool) (next : Core → Doing) → core.output ≡ o → ((new : Core) → new.output ≡ o → Silent o (next new)) → Silent o (detaches core u keep next)
-detaches_silent o core u keep next h f = (h, λ x. f (disconnected core u keep x) h)
+detaches_silent o core u keep next h f = (h, λ x. silent_if o (came_out u x) _ _ (f (disconnected core u keep x) h) h)
 
 closes_silent : (core : Core) (keep : Option Bool) (at : Option Connected) → Silent core.output (closes core keep at)
 closes_silent core keep None = refl
