@@ -170,14 +170,15 @@ fn answer_other<D: Disk>(
         Subject::Unit(_) => {
             inquire_unit(alloc, 0, None, None, false, asked, &mut cells)?;
             give_back(variables, &mut core.store, cells);
+            Ok(Doing::Finishes(Condition::Fine))
         }
         Subject::File(name) => {
             let there = is_there(name, &core.names, disk)?;
             inquire_file(alloc, name, there, None, None, false, asked, &mut cells)?;
             give_back(variables, &mut core.store, cells);
+            Ok(Doing::Finishes(Condition::Fine))
         }
     }
-    Ok(Doing::Finishes(Condition::Fine))
 }
 
 /// What a connected unit tells of itself.

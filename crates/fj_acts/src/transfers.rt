@@ -67,7 +67,9 @@ pub(crate) fn refuse<F: FileStore>(
     ensures closes { (what : PlainStatement) → IfOk result (λ next. may_do what next ≡ true) }
     ensures files { (what : Statement) → HaveFiles core.old.names core.old.units → IfOk result (λ next. HaveNext next core.new.names core.new.units what) }
 {
-    undefine(variables, &mut core.store, t)?;
+    if undefine(variables, &mut core.store, t).is_err() {
+        return Err(Lost::Unfit);
+    }
     Ok(Doing::Finishes(condition))
 }
 

@@ -27,7 +27,7 @@ go_on-requires g c = record {
   names = λ tells.
       let told : g.D.Disk.tells c.args.disk.now = c.in-Ok.ensures.telling.1 tells in
       names_back c.args.core.now.names c.remove.new.self (g.D.Disk.held c.args.disk.now) (g.D.Disk.held c.close_file.new.disk) c.args.connection.name (g.D.File.FileStore.bytes c.args.connection.file) _ c.args.keep
-      c.close_file.result (c.remove.ensures ∙ ap (left_of c.args.core.now.names) c.name.ensures) (c.close_file.ensures.back told) (c.close_file.ensures.err told) (c.requires.names told);
+      c.close_file.result (c.remove.ensures ∙ ap (left_of c.args.core.now.names) c.name-2.ensures) (c.close_file.ensures.back told) (c.close_file.ensures.err told) (c.requires.names told);
 }
 
 pub returns-in-Ok-clause-doing : goal.returns-in-Ok-clause-doing
@@ -42,7 +42,7 @@ returns-in-Ok-clause-doing g c = λ tells conn answer is.
 pub returns-in-Err-clause-names : goal.returns-in-Err-clause-names
 returns-in-Err-clause-names g c = λ tells.
     names_back c.args.core.now.names c.remove.new.self (g.D.Disk.held c.args.disk.now) (g.D.Disk.held c.close_file.new.disk) c.args.connection.name (g.D.File.FileStore.bytes c.args.connection.file) _ c.args.keep
-    c.close_file.result (c.remove.ensures ∙ ap (left_of c.args.core.now.names) c.name.ensures) (c.close_file.ensures.back tells) (c.close_file.ensures.err tells) (c.requires.names tells)
+    c.close_file.result (c.remove.ensures ∙ ap (left_of c.args.core.now.names) c.name-2.ensures) (c.close_file.ensures.back tells) (c.close_file.ensures.err tells) (c.requires.names tells)
 
 pub returns-in-Ok-clause-fault : goal.returns-in-Ok-clause-fault
 returns-in-Ok-clause-fault g c = λ tells conn answer is lost.
@@ -100,13 +100,13 @@ pub returns-in-Ok-clause-files : goal.returns-in-Ok-clause-files
 returns-in-Ok-clause-files g c = λ have.
     let core = c.args.core.now in
     c.go_on.ensures.files (subst (IsFreeNext c.args.after c.args.lined.now.what) (sym c.remove-2.ensures.left) have.2)
-    (closed_has core.units c.remove-2.new.self c.args.number core.names c.remove.new.self c.args.connection.name (sym c.if-not-is_due.ensures) (c.remove.ensures ∙ ap (left_of core.names) c.name.ensures) have.0 c.remove-2.ensures.files)
+    (closed_has core.units c.remove-2.new.self c.args.number core.names c.remove.new.self c.args.connection.name (sym c.if-not-is_due.ensures) (c.remove.ensures ∙ ap (left_of core.names) c.name-2.ensures) have.0 c.remove-2.ensures.files)
 
 pub returns-in-Ok-clause-fits : goal.returns-in-Ok-clause-fits
 returns-in-Ok-clause-fits g c = λ have.
     let core = c.args.core.now in
     c.go_on.ensures.fits (subst (IsFreeNext c.args.after c.args.lined.now.what) (sym c.remove-2.ensures.left) have.2)
-    (closed_has core.units c.remove-2.new.self c.args.number core.names c.remove.new.self c.args.connection.name (sym c.if-not-is_due.ensures) (c.remove.ensures ∙ ap (left_of core.names) c.name.ensures) have.0 c.remove-2.ensures.files)
+    (closed_has core.units c.remove-2.new.self c.args.number core.names c.remove.new.self c.args.connection.name (sym c.if-not-is_due.ensures) (c.remove.ensures ∙ ap (left_of core.names) c.name-2.ensures) have.0 c.remove-2.ensures.files)
 
 pub returns-then-not-holds-clause-fits : goal.returns-then-not-holds-clause-fits
 returns-then-not-holds-clause-fits g c = λ have e.
