@@ -1,5 +1,5 @@
 // How a statement begins: prohibitions, then the transfers that it waits for are settled and told.
-ghost use Rattle.std.specs.Prelude.{◌≡◌, ◌≢◌, ◌<◌, ℕ, List, length, ◌∷◌, ◌++◌, not, map, filter, get_or, true, Some, IfOk, OnOk, All, Err};
+ghost use Rattle.std.specs.Prelude.{◌≡◌, ◌≢◌, ◌<◌, List, length, ◌∷◌, ◌++◌, not, map, filter, get_or, true, Some, IfOk, OnOk, All, Err};
 ghost use Rattle.fj_items.specs.Kinds.{kinds_of};
 ghost use Rattle.fj_store.specs.Storage.{values_of};
 ghost use Rattle.fj_plain.specs.State.{Entry, Files};

@@ -1,4 +1,4 @@
-use Rattle.std.proofs.Common.{◌+◌, ◌≤◌, length, ap, sym, subst, ◌∙◌, IfSome, IfOk, arith}
+use Rattle.std.proofs.Common.{◌+◌, ◌≤◌, length, ap, sym, subst, IfSome, IfOk, arith}
 use Rattle.fj_plain.specs.State.{Files}
 use Rattle.fj_units.specs.Files.{files_of}
 use Rattle.fj_turns.specs.Run.{Start}

@@ -1,4 +1,4 @@
-use Rattle.std.proofs.Common.{◌+◌, List, drop, length, ap, subst, refl, sym}
+use Rattle.std.proofs.Common.{◌+◌, List, drop, ap, subst, refl, sym}
 use Rattle.fj_plain.specs.Statement.{Stated, stated}
 use Rattle.fj_turns.specs.Passing.{passed_by}
 use Rattle.fj_runner.specs.Machine.{rest_of}

@@ -1,4 +1,4 @@
-use Rattle.std.proofs.Common.{◌≡◌, false, List, map, sym, ap, subst, ◌∙◌}
+use Rattle.std.proofs.Common.{◌≡◌, false, map, sym, ap, subst, ◌∙◌}
 use Rattle.fj_desk.specs.Core.{inserted}
 use Rattle.fj_units.specs.Units.{StandApart, connected_of, has_slot}
 use Rattle.fj_units.proofs.UnitLemmas.{inserted_is, inserted_apart}
