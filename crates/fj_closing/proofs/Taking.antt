@@ -124,9 +124,9 @@ moves_wait : (core : Core) (how : Motion) (o : Option Connected) → WaitsToTake
 moves_wait core how None = tt
 moves_wait core how (Some u) = λ o. tt
 
-inquires_waits : (core : Core) (number : Option ℕ) (file : Option (List ℕ)) (asked : List Wanted) (id : Option ℤ) (o : Option Connected) → WaitsToTake (inquires core number file asked id o)
-inquires_waits core number file asked id None = tt
-inquires_waits core number file asked id (Some u) = waits_if (list_any (λ (w : Wanted). asks_connection w.what) asked) _ _ (λ o. tt) tt
+inquires_waits : (variables : List Variable) (core : Core) (number : Option ℕ) (file : Option (List ℕ)) (asked : List Wanted) (id : Option ℤ) (o : Option Connected) → WaitsToTake (inquires variables core number file asked id o)
+inquires_waits variables core number file asked id None = tt
+inquires_waits variables core number file asked id (Some u) = waits_if (list_any (λ (w : Wanted). asks_connection w.what) asked) _ _ (λ o. tt) tt
 
 -- ---- each kind of statement
 
@@ -139,7 +139,7 @@ module _ (control : ℕ → List Given) (variables : List Variable) (line : ℕ)
   own_waits (statement.Move how u iostat) = moves_wait core how (unit_at core (number_of u))
   own_waits (statement.Inquire subject asked id iostat) =
       let number = unit_about (unit_named core.units) subject in
-      inquires_waits core number (file_asked subject) asked (number_given core.vars id) (unit_at core number)
+      inquires_waits variables core number (file_asked subject) asked (number_given core.vars id) (unit_at core number)
   own_waits (statement.Transfer t) = transfer_waits control variables line core t (moved_in variables core.vars t) t.unit
   own_waits statement.End = all_wait core.units core Fine
 
