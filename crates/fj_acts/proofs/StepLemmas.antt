@@ -31,7 +31,7 @@ use Rattle.fj_acts.specs.Doing.{AsksToOpen, carries, closed, entered, goes_on, n
 use Rattle.fj_acts.specs.declared.doing.After.{After}
 use Rattle.fj_acts.specs.declared.doing.Given.{Given}
 use Rattle.fj_acts.specs.declared.doing.Given.TheVariants as given
-use Rattle.fj_acts.specs.Steps.{is_due, looked_in, told_in}
+use Rattle.fj_acts.specs.Steps.{held_in, is_due, looked_in, told_in}
 use Rattle.fj_acts.proofs.ClosingLemmas.{found_number}
 
 -- ---- the connection of a unit is closed
@@ -128,16 +128,16 @@ same_task f None make task x is each = absurd (let bad : ⊥ = cc in bad)
 same_task f (Some a) make task x is each = each a ∙ ap f (let same : make a ≡ task = cc in same)
 
 -- no connection, where it brings none out
-pub none_out : {F : Type 0} (told : F → Bool) (bytes : F → List ℕ) (it : Job F) (task : Task) → task_of told bytes it ≡ Some task → ((conn : Linked F) → it ≡ job.Detach (Some conn) → ⊥) → connection_in task ≡ None
-none_out told bytes (job.Attach brought) task is never = sym (same_task connection_in (place_of told bytes brought) attach task _ is (λ c. refl))
-none_out told bytes (job.Detach None) task is never = ap connection_in (sym (let same : detach None ≡ task = cc in same))
-none_out told bytes (job.Detach (Some conn)) task is never = absurd (never conn refl)
-none_out told bytes (job.Move m) task is never = ap connection_in (sym (let same : move (moving_of m) ≡ task = cc in same))
-none_out told bytes (job.Go how) task is never = ap connection_in (sym (let same : go how ≡ task = cc in same))
-none_out told bytes (job.Change edit) task is never = ap connection_in (sym (let same : change edit ≡ task = cc in same))
-none_out told bytes job.Flush task is never = ap connection_in (sym (let same : flush ≡ task = cc in same))
-none_out told bytes (job.Look l) task is never = ap connection_in (sym (let same : look (option_map looked_of l) ≡ task = cc in same))
-none_out told bytes job.Resume task is never = ap connection_in (sym (let same : resume ≡ task = cc in same))
+pub none_out : {F : Type 0} (told : F → Bool) (bytes : F → List ℕ) (it : Job F) (task : Task) → task_of told bytes it ≡ Some task → held_in it ≡ None → connection_in task ≡ None
+none_out told bytes (job.Attach brought) task is none = sym (same_task connection_in (place_of told bytes brought) attach task _ is (λ c. refl))
+none_out told bytes (job.Detach None) task is none = ap connection_in (sym (let same : detach None ≡ task = cc in same))
+none_out told bytes (job.Detach (Some conn)) task is none = absurd (let bad : ⊥ = cc in bad)
+none_out told bytes (job.Move m) task is none = ap connection_in (sym (let same : move (moving_of m) ≡ task = cc in same))
+none_out told bytes (job.Go how) task is none = ap connection_in (sym (let same : go how ≡ task = cc in same))
+none_out told bytes (job.Change edit) task is none = ap connection_in (sym (let same : change edit ≡ task = cc in same))
+none_out told bytes job.Flush task is none = ap connection_in (sym (let same : flush ≡ task = cc in same))
+none_out told bytes (job.Look l) task is none = ap connection_in (sym (let same : look (option_map looked_of l) ≡ task = cc in same))
+none_out told bytes job.Resume task is none = ap connection_in (sym (let same : resume ≡ task = cc in same))
 
 -- what it brought
 pub brought_is : {F : Type 0} (told : F → Bool) (bytes : F → List ℕ) (it : Job F) (task : Task) (answer : Answer) → task_of told bytes it ≡ Some task
@@ -166,6 +166,16 @@ detached_by : (o : Option Connection) (task : Task) → option_map detach (optio
 detached_by None task e = absurd (let bad : ⊥ = cc in bad)
 detached_by (Some c) task e = (c, refl, cc)
 
-pub detached_is : {F : Type 0} (told : F → Bool) (bytes : F → List ℕ) (it : Job F) (conn : Linked F) (task : Task) → it ≡ job.Detach (Some conn) → task_of told bytes it ≡ Some task
+pub detached_is : {F : Type 0} (told : F → Bool) (bytes : F → List ℕ) (it : Job F) (conn : Linked F) (task : Task) → held_in it ≡ Some conn → task_of told bytes it ≡ Some task
     → (c : Connection) × (told_of told bytes conn ≡ Some c) × (detach (Some c) ≡ task)
-detached_is told bytes it conn task is is_task = detached_by (told_of told bytes conn) task (sym (ap (task_of told bytes) is) ∙ is_task)
+detached_is told bytes (job.Detach None) conn task some is = absurd (let bad : ⊥ = cc in bad)
+detached_is {F = F} told bytes (job.Detach (Some held)) conn task some is =
+    let same : held ≡ conn = cc in
+    detached_by (told_of told bytes conn) task (ap (λ (x : Linked F). option_map detach (option_map Some (told_of told bytes x))) (sym same) ∙ is)
+detached_is told bytes (job.Attach brought) conn task some is = absurd (let bad : ⊥ = cc in bad)
+detached_is told bytes (job.Move m) conn task some is = absurd (let bad : ⊥ = cc in bad)
+detached_is told bytes (job.Go how) conn task some is = absurd (let bad : ⊥ = cc in bad)
+detached_is told bytes (job.Change edit) conn task some is = absurd (let bad : ⊥ = cc in bad)
+detached_is told bytes job.Flush conn task some is = absurd (let bad : ⊥ = cc in bad)
+detached_is told bytes (job.Look l) conn task some is = absurd (let bad : ⊥ = cc in bad)
+detached_is told bytes job.Resume conn task some is = absurd (let bad : ⊥ = cc in bad)

@@ -2,11 +2,17 @@
 use Rattle.std.specs.Prelude.{ℕ, Bool, false, List, Option, Some, None}
 use Rattle.std.specs.Str.{bytes_eq}
 use Rattle.fj_value.specs.declared.condition.Condition.{Condition}
+use Rattle.fj_connect.specs.Linked.{Linked}
 use Rattle.fj_connect.specs.declared.spot.Look.{Look}
 use Rattle.fj_bay.specs.declared.job.Job.{Job}
 use Rattle.fj_bay.specs.declared.job.Job.TheVariants as job
 use Rattle.fj_desk.specs.Core.{Connected}
 use Rattle.fj_pending.specs.declared.held.Told.{Told}
+
+-- the connection that a job took out, if it took one
+abbrev pub held_in : {F : Type 0} → Job F → Option (Linked F)
+held_in (job.Detach place) = place
+held_in _ = None
 
 -- a connection of that name is that of the unit
 abbrev pub is_due : Option Connected → List ℕ → Bool

@@ -303,7 +303,5 @@ pub(crate) fn inquire<D: Disk>(
             then: Then::Looks,
         });
     }
-    Ok(answer_look(
-        alloc, variables, subject, asked, id, None, core,
-    )?)
+    Ok(answer_look(alloc, variables, subject, asked, id, None, core)?)
 }

@@ -24,7 +24,7 @@ ghost use Rattle.fj_acts.specs.Holding.{MayEnter};
 ghost use Rattle.fj_acts.specs.State.{KeepsAnswers, KeepsPending, core_of};
 ghost use Rattle.fj_acts.specs.Failing.{AreStill, FailsWhere, StandsWhere};
 ghost use Rattle.fj_units.specs.Files.{files_of};
-ghost use Rattle.fj_acts.specs.Steps.{is_due, looked_in};
+ghost use Rattle.fj_acts.specs.Steps.{held_in, is_due, looked_in};
 ghost use Rattle.fj_acts.specs.Doing.{Ends, IsDoing, next_of, then_of, goes_on, closed, carries, looks};
 ghost use Rattle.fj_units.specs.Having.{HaveFiles};
 ghost use Rattle.fj_acts.specs.Having.{HaveNext, HaveThen, IsFreeNext};
@@ -135,6 +135,16 @@ fn go_on<D: Disk>(
     match settle_open(spec) {
         Ok(modes) => connect(alloc, number, spec, modes, core, disk),
         Err(condition) => Ok(Doing::Finishes(condition)),
+    }
+}
+
+/// The connection that a job took out, if it took one.
+fn connection_in<F: FileStore>(job: Job<F>) -> Option<Connection<F>>
+    ensures { result ≡ held_in job }
+{
+    match job {
+        Job::Detach(place) => place,
+        _ => None,
     }
 }
 
@@ -331,12 +341,14 @@ pub fn answered<D: Disk>(
             number,
             keep,
             after,
-        } => match job {
-            Job::Detach(Some(connection)) => closed(
+        } => {
+            let Some(connection) = connection_in(job) else {
+                return Ok(Doing::Finishes(Condition::Error(1)));
+            };
+            closed(
                 alloc, variables, lined, number, keep, after, connection, core, disk,
-            ),
-            _ => Ok(Doing::Finishes(Condition::Error(1))),
-        },
+            )
+        }
         Then::Changes { number, modes } => {
             core.units.set_modes(number, modes);
             Ok(Doing::Finishes(condition))

@@ -298,7 +298,14 @@ pub(crate) fn carry<F: FileStore>(
     ensures closes { (what : PlainStatement) → may_do what result ≡ true }
     ensures files { (what : Statement) → HaveFiles core.old.names core.old.units → HaveNext result core.new.names core.new.units what }
 {
-    give_cells(variables, &mut core.store, t.input, t.size, told.moved, told.count);
+    give_cells(
+        variables,
+        &mut core.store,
+        t.input,
+        t.size,
+        told.moved,
+        told.count,
+    );
     match told.condition {
         Condition::EndOfFile | Condition::Error(_) => Doing::Gives {
             slot,

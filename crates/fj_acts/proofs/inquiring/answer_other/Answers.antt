@@ -20,7 +20,7 @@ returns-in_ok-inquire_unit-in-Unit-clause-doing g c = λ tells st.
     let variables = c.args.variables.now in
     let files : Files = files_of (g.D.Disk.held c.args.disk.now) in
     let cells : c.inquire_unit.new.out ≡ told.inquired told.unit asked = alone c.inquire_unit.new.out c.new-cells.result (told.inquired told.unit asked) c.in_ok-inquire_unit-in-Unit.ensures c.new-cells.ensures in
-    ap (λ (s : Subject). answers variables (core_of files old) (about_other files (file_asked s)) asked) (sym c.in-Unit.is)
+    ap (λ (s : Subject). answers variables (core_of files old) (about_other files (file_asked s)) asked) c.in-Unit.is
     ∙ answers_is variables files old c.give_back.new.store c.inquire_unit.new.out asked told.unit (about_other files None) cells (unit_alike files) c.give_back.ensures.vars
 
 pub returns-in_ok-inquire_file-in-File-clause-doing : goal.returns-in_ok-inquire_file-in-File-clause-doing
@@ -35,7 +35,7 @@ returns-in_ok-inquire_file-in-File-clause-doing g c = λ tells st.
     let about : told.About = told.file name c.in_ok-there-in-File.there in
     let plain : About = about_other (files_of before) (Some name) in
     let cells : c.inquire_file.new.out ≡ told.inquired about asked = alone c.inquire_file.new.out c.new-cells.result (told.inquired about asked) c.in_ok-inquire_file-in-File.ensures c.new-cells.ensures in
-    ap (λ (s : Subject). answers variables (core_of (files_of before) old) (about_other (files_of before) (file_asked s)) asked) (sym c.in-File.is)
+    ap (λ (s : Subject). answers variables (core_of (files_of before) old) (about_other (files_of before) (file_asked s)) asked) c.in-File.is
     ∙ answers_is variables (files_of before) old c.give_back-in-File.new.store c.inquire_file.new.out asked about plain cells
     (file_alike (files_of before) name c.in_ok-there-in-File.there (c.in_ok-there-in-File.ensures.there tells)) c.give_back-in-File.ensures.vars
     ∙ ap (λ (h : Holdings). finishes (core_of (files_of h) (record old { store = c.give_back-in-File.new.store })) Fine) (sym same)

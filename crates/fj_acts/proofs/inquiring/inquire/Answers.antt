@@ -1,4 +1,4 @@
-use Rattle.std.proofs.Common.{ℕ, List, Option, None, sym}
+use Rattle.std.proofs.Common.{ℕ, List, Option, sym, subst}
 use Rattle.std.specs.Prelude.{ℤ}
 use Rattle.std.specs.Option.{option_copied}
 use Rattle.fj_store.specs.Storage.{values_of}
@@ -9,7 +9,8 @@ use Rattle.fj_desk.specs.Core.{Connected as PlainConnected, unit_named}
 use Rattle.fj_desk.specs.Acting.{answers, inquires, unit_at}
 use Rattle.fj_units.specs.Files.{files_of}
 use Rattle.fj_units.specs.Units.{connected_of}
-use Rattle.fj_acts.specs.Doing.{looks_at}
+use Rattle.fj_desk.specs.Doing.{Doing}
+use Rattle.fj_acts.specs.Doing.{IsDoing}
 use Rattle.fj_acts.specs.State.{core_of}
 use Rattle.fj_acts.proofs.FailingLemmas.{fails_as}
 use Rattle.fj_acts.proofs.FittingLemmas.{nobody_home, unknown_home}
@@ -71,9 +72,8 @@ returns-clause-doing g c = λ tells st asks.
     let file : Option (List ℕ) = file_asked c.args.subject.now in
     let id : Option ℤ = number_given (values_of old.store) (option_copied c.args.id) in
     let u : PlainConnected = connected_of c.in-Some-find.unit.now in
-    ok_same g.D.File.FileStore.told g.D.File.FileStore.bytes c.args.variables.now st (core_of files c.answer_look.new.core) c.answer_look.result
-    (looks_at c.args.variables.now (core_of files old) o file asked id (unit_at (core_of files old) o) None) (inquires c.args.variables.now (core_of files old) o file asked id (unit_at (core_of files old) o))
-    (inquires_at_once c.args.variables.now (core_of files old) o c.in-Some.number u file asked id c.in-Some.ensures c.in-Some-find.ensures c.if-needs_look.ensures) (c.answer_look.ensures.doing st files)
+    subst (λ (d : Doing). IsDoing g.D.File.FileStore.told g.D.File.FileStore.bytes c.args.variables.now st (core_of files c.answer_look.new.core) c.in_ok-answer_look.field-0 d)
+    (sym (inquires_at_once c.args.variables.now (core_of files old) o c.in-Some.number u file asked id c.in-Some.ensures c.in-Some-find.ensures c.if-needs_look.ensures)) (c.in_ok-answer_look.ensures.doing st files)
 
 pub returns-in_default-find-clause-fits : goal.returns-in_default-find-clause-fits
 returns-in_default-find-clause-fits g c = λ have.

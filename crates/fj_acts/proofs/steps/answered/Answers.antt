@@ -2,7 +2,6 @@ use Rattle.std.proofs.Common.{◌≡◌, ℕ, Some, refl, sym, ap, ◌∙◌, su
 use Rattle.std.specs.Option.{option_map}
 use Rattle.fj_bay.specs.Jobs.{Job as Task, Answer}
 use Rattle.fj_bay.specs.Plain.{looked_of, reply_of}
-use Rattle.fj_bay.specs.declared.job.Job.TheVariants as job
 use Rattle.fj_statement.specs.declared.statement.Statement.{Statement}
 use Rattle.fj_plain.specs.State.{Files}
 use Rattle.fj_plain.specs.Statement.{Stated, control_by}
@@ -35,37 +34,35 @@ returns-in-Carries-clause-doing g c = λ tells task is.
     (then_of c.args.variables.now st core t (task, reply))) (sym c.in-Carries.is)
     (c.carried.ensures.doing (files_of (g.D.Disk.held c.args.disk.now)) (task, reply) brings)
 
-pub returns-in-Detach-Some-clause-doing : goal.returns-in-Detach-Some-clause-doing
-returns-in-Detach-Some-clause-doing g c = λ tells task is.
+pub returns-in-Some-clause-doing : goal.returns-in-Some-clause-doing
+returns-in-Some-clause-doing g c = λ tells task is.
     let files : Files = files_of (g.D.Disk.held c.args.disk.now) in
     let core : Core = core_of files c.args.core.now in
     let what : Statement = c.args.lined.now.what in
     let st : Stated = (c.args.lined.now, control_by what) in
     let reply : Answer = reply_of c.args.answer in
     let number : ℕ = c.in-Closes.number in
-    let has : c.args.job ≡ job.Detach (Some c.in-Detach-Some.connection) = cc in
-    let out = detached_is g.D.File.FileStore.told g.D.File.FileStore.bytes c.args.job c.in-Detach-Some.connection task has is in
+    let out = detached_is g.D.File.FileStore.told g.D.File.FileStore.bytes c.args.job c.in-Some.connection task (sym c.in-Some.ensures) is in
     meant g.D.File.FileStore.told g.D.File.FileStore.bytes c.args.variables.now st _ c.closed.result _ _
     (ap (λ (t : Task). closed core (connected_at core.units number) c.in-Closes.keep (λ (new : Core). goes_on what new c.in-Closes.after) (t, reply)) out.2
     ∙ ap (λ (t : Then). then_of c.args.variables.now st core t (task, reply)) (sym c.in-Closes.is))
     (c.closed.ensures.doing tells out.0 reply out.1)
 
-pub returns-in-Detach-Some-clause-fault : goal.returns-in-Detach-Some-clause-fault
-returns-in-Detach-Some-clause-fault g c = λ tells task is lost.
+pub returns-in-Some-clause-fault : goal.returns-in-Some-clause-fault
+returns-in-Some-clause-fault g c = λ tells task is lost.
     let core : Core = core_of (files_of (g.D.Disk.held c.args.disk.now)) c.args.core.now in
     let what : Statement = c.args.lined.now.what in
     let st : Stated = (c.args.lined.now, control_by what) in
     let reply : Answer = reply_of c.args.answer in
     let number : ℕ = c.in-Closes.number in
-    let has : c.args.job ≡ job.Detach (Some c.in-Detach-Some.connection) = cc in
-    let out = detached_is g.D.File.FileStore.told g.D.File.FileStore.bytes c.args.job c.in-Detach-Some.connection task has is in
+    let out = detached_is g.D.File.FileStore.told g.D.File.FileStore.bytes c.args.job c.in-Some.connection task (sym c.in-Some.ensures) is in
     fails_as _ _ c.closed.new.core (g.D.Disk.held c.closed.new.disk) (g.D.Disk.refusals c.args.disk.now) (g.D.Disk.refusals c.closed.new.disk)
     (ap (λ (t : Task). closed core (connected_at core.units number) c.in-Closes.keep (λ (new : Core). goes_on what new c.in-Closes.after) (t, reply)) out.2
     ∙ ap (λ (t : Then). then_of c.args.variables.now st core t (task, reply)) (sym c.in-Closes.is))
     (c.closed.ensures.fault tells out.0 reply out.1 lost)
 
-pub returns-in-Detach-Some-clause-pending : goal.returns-in-Detach-Some-clause-pending
-returns-in-Detach-Some-clause-pending g c = keeps_answers c.args.core.now c.closed.new.core c.closed.ensures.pending
+pub returns-in-Some-clause-pending : goal.returns-in-Some-clause-pending
+returns-in-Some-clause-pending g c = keeps_answers c.args.core.now c.closed.new.core c.closed.ensures.pending
 
 pub returns-in-Attaches-clause-pending : goal.returns-in-Attaches-clause-pending
 returns-in-Attaches-clause-pending g c = keeps_answers c.args.core.now (record c.args.core.now { units = c.in-Attaches.units }) refl
@@ -78,7 +75,7 @@ returns-in_ok-looked-in-Looks-clause-doing g c = λ tells task is.
     let st : Stated = (c.args.lined.now, control_by what) in
     let reply : Answer = reply_of c.args.answer in
     let variables = c.args.variables.now in
-    subst (λ (t : Then). IsDoing g.D.File.FileStore.told g.D.File.FileStore.bytes variables st (core_of files c.looked.new.core) c.in_ok-looked-in-Looks.value (then_of variables st core t (task, reply))) (sym c.in-Looks.is)
+    subst (λ (t : Then). IsDoing g.D.File.FileStore.told g.D.File.FileStore.bytes variables st (core_of files c.looked.new.core) c.in_ok-looked-in-Looks.field-0 (then_of variables st core t (task, reply))) (sym c.in-Looks.is)
     (c.in_ok-looked-in-Looks.ensures.doing files (task, reply) (ap (option_map looked_of) c.look_in.ensures ∙ looked_is g.D.File.FileStore.told g.D.File.FileStore.bytes c.args.job task is))
 
 pub returns-in-Changes-clause-pending : goal.returns-in-Changes-clause-pending
@@ -95,7 +92,7 @@ returns-in_default-clause-doing g c = λ tells task is.
     let reply : Answer = reply_of c.args.answer in
     ap (λ (t : Then). then_of c.args.variables.now st core t (task, reply)) c.in-Closes.is
     ∙ none_closed core c.in-Closes.keep _ (task, reply) (connected_at core.units c.in-Closes.number)
-    (none_out g.D.File.FileStore.told g.D.File.FileStore.bytes c.args.job task is c.in_default.not-Detach-Some)
+    (none_out g.D.File.FileStore.told g.D.File.FileStore.bytes c.args.job task is (sym c.in_default.ensures))
 
 pub returns-in_default-clause-pending : goal.returns-in_default-clause-pending
 returns-in_default-clause-pending g c = keeps_answers c.args.core.now c.args.core.now refl
@@ -118,15 +115,14 @@ returns-in_err-looked-in-Looks-clause-stands g c = λ tells task is fits.
     stands_as c.from_residual.result (looks variables core what (task, reply)) _ c.looked.new.core held own own (ap (λ (t : Then). then_of variables st core t (task, reply)) (sym c.in-Looks.is))
     (stands_here c.from_residual.result core (looks variables core what (task, reply)) c.looked.new.core held own own (looks_there variables core what (task, reply)) refl c.looked.ensures.units)
 
-pub returns-in-Detach-Some-clause-stands : goal.returns-in-Detach-Some-clause-stands
-returns-in-Detach-Some-clause-stands g c = λ tells task is fits.
+pub returns-in-Some-clause-stands : goal.returns-in-Some-clause-stands
+returns-in-Some-clause-stands g c = λ tells task is fits.
     let core : Core = core_of (files_of (g.D.Disk.held c.args.disk.now)) c.args.core.now in
     let what : Statement = c.args.lined.now.what in
     let st : Stated = (c.args.lined.now, control_by what) in
     let reply : Answer = reply_of c.args.answer in
     let number : ℕ = c.in-Closes.number in
-    let has : c.args.job ≡ job.Detach (Some c.in-Detach-Some.connection) = cc in
-    let out = detached_is g.D.File.FileStore.told g.D.File.FileStore.bytes c.args.job c.in-Detach-Some.connection task has is in
+    let out = detached_is g.D.File.FileStore.told g.D.File.FileStore.bytes c.args.job c.in-Some.connection task (sym c.in-Some.ensures) is in
     stands_as c.closed.result _ _ c.closed.new.core (g.D.Disk.held c.closed.new.disk) (g.D.Disk.refusals c.args.disk.now) (g.D.Disk.refusals c.closed.new.disk)
     (ap (λ (t : Task). closed core (connected_at core.units number) c.in-Closes.keep (λ (new : Core). goes_on what new c.in-Closes.after) (t, reply)) out.2
     ∙ ap (λ (t : Then). then_of c.args.variables.now st core t (task, reply)) (sym c.in-Closes.is))
@@ -138,8 +134,8 @@ returns-in-Carries-clause-files g c = λ have.
     let it = subst (λ (t : Then). HaveThen t core.names core.units c.args.lined.now.what) c.in-Carries.is have in
     c.carried.ensures.files it
 
-pub returns-in-Detach-Some-clause-files : goal.returns-in-Detach-Some-clause-files
-returns-in-Detach-Some-clause-files g c = λ have.
+pub returns-in-Some-clause-files : goal.returns-in-Some-clause-files
+returns-in-Some-clause-files g c = λ have.
     let core = c.args.core.now in
     let it = subst (λ (t : Then). HaveThen t core.names core.units c.args.lined.now.what) c.in-Closes.is have in
     c.closed.ensures.files it
@@ -173,11 +169,11 @@ returns-in-Carries-clause-jobs g c =
     let most = length c.args.core.now.units in
     subst (λ (t : Then). jobs_of c.carried.result (length c.carried.new.core.units) ≤ jobs_behind t most) (sym c.in-Carries.is) (c.carried.ensures.jobs (length c.carried.new.core.units))
 
-pub returns-in-Detach-Some-clause-units : goal.returns-in-Detach-Some-clause-units
-returns-in-Detach-Some-clause-units g c = λ have. fewer_units c.closed.result c.args.core.now.units c.closed.new.core.units c.closed.ensures.units
+pub returns-in-Some-clause-units : goal.returns-in-Some-clause-units
+returns-in-Some-clause-units g c = λ have. fewer_units c.closed.result c.args.core.now.units c.closed.new.core.units c.closed.ensures.units
 
-pub returns-in-Detach-Some-clause-jobs : goal.returns-in-Detach-Some-clause-jobs
-returns-in-Detach-Some-clause-jobs g c =
+pub returns-in-Some-clause-jobs : goal.returns-in-Some-clause-jobs
+returns-in-Some-clause-jobs g c =
     let most = length c.args.core.now.units in
     subst (λ (t : Then). IfOk c.closed.result (λ does. jobs_of does (length c.closed.new.core.units) ≤ jobs_behind t most)) (sym c.in-Closes.is) c.closed.ensures.jobs
 
@@ -188,7 +184,7 @@ returns-in-Attaches-clause-units g c = λ have.
     it.1
 
 pub returns-in_ok-looked-in-Looks-clause-jobs : goal.returns-in_ok-looked-in-Looks-clause-jobs
-returns-in_ok-looked-in-Looks-clause-jobs g c = none_when_ended c.in_ok-looked-in-Looks.value (length c.looked.new.core.units) _ c.in_ok-looked-in-Looks.ensures.ends
+returns-in_ok-looked-in-Looks-clause-jobs g c = none_when_ended c.in_ok-looked-in-Looks.field-0 (length c.looked.new.core.units) _ c.in_ok-looked-in-Looks.ensures.ends
 
 pub returns-in-Changes-clause-units : goal.returns-in-Changes-clause-units
 returns-in-Changes-clause-units g c = λ have.
