@@ -27,7 +27,7 @@ use Rattle.fj_turns.proofs.Passed.{At, stands_at, tells_at, output_at, Led, aske
 use Rattle.fj_turns.proofs.Before.{fares_after}
 use Rattle.fj_cut.specs.Stopping.{WereGiven}
 use Rattle.fj_cut.proofs.Given.{each_turn_given}
-use Rattle.fj_runner.proofs.GivingUp.{asked_pauses}
+use Rattle.fj_job.proofs.Pausing.{asked_pauses}
 use Rattle.fj_job.proofs.Passes.{IsPassed, EndsSo, passed_is, passes_on}
 
 -- ---- a runner that waits for an answer
