@@ -143,9 +143,9 @@ moved_there : (core : PlainCore) (how : Motion) (old : Option Connected) → Lea
 moved_there core how None = ends_there core _
 moved_there core how (Some u) = record { units = refl; files = λ name other. refl }
 
-asked_there : (core : PlainCore) (number : Option ℕ) (file : Option (List ℕ)) (asked : List Wanted) (id : Option ℤ) (old : Option Connected) → Leaves core (inquires core number file asked id old)
-asked_there core number file asked id None = record { units = refl; files = λ name other. refl }
-asked_there core number file asked id (Some u) =
+asked_there : (variables : List Variable) (core : PlainCore) (number : Option ℕ) (file : Option (List ℕ)) (asked : List Wanted) (id : Option ℤ) (old : Option Connected) → Leaves core (inquires variables core number file asked id old)
+asked_there variables core number file asked id None = record { units = refl; files = λ name other. refl }
+asked_there variables core number file asked id (Some u) =
     either_there core (list_any (λ (w : Wanted). asks_connection w.what) asked) _ _ (record { units = refl; files = λ name other. refl }) (record { units = refl; files = λ name other. refl })
 
 module _ (control : ℕ → List Given) (variables : List Variable) (line : ℕ) (core : PlainCore) where
@@ -173,7 +173,7 @@ module _ (control : ℕ → List Given) (variables : List Variable) (line : ℕ)
   own_there (statement.WaitFor u id iostat) = ends_there core Fine
   own_there (statement.Move how u iostat) = moved_there core how (unit_at core (number_of u))
   own_there (statement.Inquire subject asked id iostat) =
-      let number = unit_about (unit_named core.units) subject in asked_there core number (file_asked subject) asked (number_given core.vars id) (unit_at core number)
+      let number = unit_about (unit_named core.units) subject in asked_there variables core number (file_asked subject) asked (number_given core.vars id) (unit_at core number)
   own_there (statement.Transfer t) = at_there t (moved_in variables core.vars t) t.unit
   own_there statement.End = closes_there core.units core Fine
 
@@ -220,20 +220,20 @@ carries_there variables core (statement.Transfer t) slot o =
     either_there core (halts (condition_in o.1)) _ _ (record { units = refl; files = λ name other. refl }) (record { units = refl; files = λ name other. refl })
 carries_there variables core statement.End slot o = ends_there core Fine
 
-seen_there : (core : PlainCore) (number : Option ℕ) (file : Option (List ℕ)) (asked : List Wanted) (id : Option ℤ) (u : Option Connected) (look : Option Looked) → Leaves core (looks_at core number file asked id u look)
-seen_there core number file asked id None look = ends_there core Fine
-seen_there core number file asked id (Some u) look = record { units = refl; files = λ name other. refl }
+seen_there : (variables : List Variable) (core : PlainCore) (number : Option ℕ) (file : Option (List ℕ)) (asked : List Wanted) (id : Option ℤ) (u : Option Connected) (look : Option Looked) → Leaves core (looks_at variables core number file asked id u look)
+seen_there variables core number file asked id None look = ends_there core Fine
+seen_there variables core number file asked id (Some u) look = record { units = refl; files = λ name other. refl }
 
-pub looks_there : (core : PlainCore) (what : Statement) (o : Outcome) → Leaves core (looks core what o)
-looks_there core (statement.Assign to from) o = ends_there core Fine
-looks_there core (statement.OpenUnit u spec iostat) o = ends_there core Fine
-looks_there core (statement.CloseUnit u keep iostat) o = ends_there core Fine
-looks_there core (statement.WaitFor u id iostat) o = ends_there core Fine
-looks_there core (statement.Move how u iostat) o = ends_there core Fine
-looks_there core (statement.Inquire subject asked id iostat) o =
-    let number = unit_about (unit_named core.units) subject in seen_there core number (file_asked subject) asked (number_given core.vars id) (unit_at core number) (look_in o.0)
-looks_there core (statement.Transfer t) o = ends_there core Fine
-looks_there core statement.End o = ends_there core Fine
+pub looks_there : (variables : List Variable) (core : PlainCore) (what : Statement) (o : Outcome) → Leaves core (looks variables core what o)
+looks_there variables core (statement.Assign to from) o = ends_there core Fine
+looks_there variables core (statement.OpenUnit u spec iostat) o = ends_there core Fine
+looks_there variables core (statement.CloseUnit u keep iostat) o = ends_there core Fine
+looks_there variables core (statement.WaitFor u id iostat) o = ends_there core Fine
+looks_there variables core (statement.Move how u iostat) o = ends_there core Fine
+looks_there variables core (statement.Inquire subject asked id iostat) o =
+    let number = unit_about (unit_named core.units) subject in seen_there variables core number (file_asked subject) asked (number_given core.vars id) (unit_at core number) (look_in o.0)
+looks_there variables core (statement.Transfer t) o = ends_there core Fine
+looks_there variables core statement.End o = ends_there core Fine
 
 -- ---- a call that is given up
 
@@ -332,15 +332,15 @@ still_as r due other old new e h = subst (λ (d : Doing). OnErr r (AreStill d ol
 
 -- ---- the file of a connection went back
 
-pub fails_closing : {F : Type 0} (told : F → Bool) (bytes : F → List ℕ) (core : PlainCore) (h left : Holdings) (number : ℕ) (names : List (List ℕ)) (conn : Linked F) (c : Connection) (keep : Bool) (answer : Answer)
+pub fails_closing : {F : Type 0} (told : F → Bool) (bytes : F → List ℕ) (core : PlainCore) (h left : Holdings) (number : ℕ) (conn : Linked F) (c : Connection) (keep : Bool) (answer : Answer)
     (what : Statement) (next : After) (new : Core) (before now : ℕ)
-    → is_due (connected_at core.units number) names conn.name ≡ true → told_of told bytes conn ≡ Some c → core.files ≡ files_of h → new.units ≡ without_connected number core.units → Rose before now
+    → is_due (connected_at core.units number) conn.name ≡ true → told_of told bytes conn ≡ Some c → core.files ≡ files_of h → new.units ≡ without_connected number core.units → Rose before now
     → ((name : List ℕ) → IsAsDue before now (files_of left name) (returned conn.name (bytes conn.file) keep (files_of h) name))
-    → FailsWhere (goes_on what (closed core (connected_at core.units number) keep (detach (Some c), answer)) next) new left before now
-fails_closing told bytes core h left number names conn c keep answer what next new before now due is_told home units rose back =
-    let there : PlainCore = closed core (connected_at core.units number) keep (detach (Some c), answer) in
-    let is : (let it : PlainCore = record core { units = without_connected number core.units; files = files_of (given_back keep h conn.name (bytes conn.file) true) } in it) ≡ there =
-    disconnects_is told bytes core h (given_back keep h conn.name (bytes conn.file) true) number names conn c true keep answer (connected_at core.units number) refl due is_told home refl in
-    fails there (goes_on what there next) new left before now (goes_on_there what there next) rose (units ∙ ap (λ (x : PlainCore). x.units) is)
-    (λ name other. subst (IsAsDue before now (files_of left name))
-    (ap (λ (f : Files). f name) (sym (given_files keep h conn.name (bytes conn.file) true)) ∙ ap (λ (x : PlainCore). x.files name) is) (back name))
+    → FailsWhere (closed core (connected_at core.units number) keep (λ (k : PlainCore). goes_on what k next) (detach (Some c), answer)) new left before now
+fails_closing told bytes core h left number conn c keep answer what next new before now due is_told home units rose back =
+    let home_again : Holdings = given_back keep h conn.name (bytes conn.file) true in
+    let there : PlainCore = record core { units = without_connected number core.units; files = files_of home_again } in
+    fails_as (goes_on what there next) _ new left before now
+    (disconnects_is told bytes core h home_again number conn c true keep answer (λ (k : PlainCore). goes_on what k next) (connected_at core.units number) refl due is_told home refl)
+    (fails there (goes_on what there next) new left before now (goes_on_there what there next) rose units
+    (λ name other. subst (IsAsDue before now (files_of left name)) (ap (λ (f : Files). f name) (sym (given_files keep h conn.name (bytes conn.file) true))) (back name)))

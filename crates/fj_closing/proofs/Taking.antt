@@ -31,7 +31,7 @@ use Rattle.fj_plain.specs.Connecting.{file_due, keeps_name}
 use Rattle.fj_desk.specs.Core.{Core, Connected, connected_at, unit_named}
 use Rattle.fj_desk.specs.Desks.{Outcome, most_slots}
 use Rattle.fj_desk.specs.Doing.{Doing, finishes, gives, awaits}
-use Rattle.fj_desk.specs.Acting.{finishes_behind, transferred, unless_refused, on_unit, transfer_at, keeps, disconnected, detaches, closes, closes_anyway, all_closed, free_from, changes, is_taken, attaches, connects_at, connects, closes_first, opens_with, opens, moves, asks_connection, inquires, if_numbered, unit_at, own, instead, doing}
+use Rattle.fj_desk.specs.Acting.{finishes_behind, transferred, unless_refused, on_unit, transfer_at, keeps, disconnected, came_out, closes, closes_anyway, all_closed, free_from, changes, is_taken, attaches, connects_at, connects, closes_first, opens_with, opens, moves, asks_connection, inquires, if_numbered, unit_at, own, instead, doing}
 use Rattle.fj_desk.specs.Desking.{told_core}
 use Rattle.fj_turns.specs.Turns.{halted_slots, ends_halts, doing_told}
 
@@ -77,15 +77,15 @@ module _ (control : ℕ → List Given) (variables : List Variable) (line : ℕ)
 
 closes_waits : (core : Core) (keep : Option Bool) (o : Option Connected) → WaitsToTake (closes core keep o)
 closes_waits core keep None = tt
-closes_waits core keep (Some u) = waits_if (unwrap_or keep false && u.modes.scratch) _ _ tt (λ o. tt)
+closes_waits core keep (Some u) = waits_if (unwrap_or keep false && u.modes.scratch) _ _ tt (λ o. waits_if (came_out u o) _ _ tt tt)
 
 anyway_waits : (core : Core) (keep : Option Bool) (condition : Condition) (o : Option Connected) → WaitsToTake (closes_anyway core keep condition o)
 anyway_waits core keep condition None = tt
-anyway_waits core keep condition (Some u) = λ o. tt
+anyway_waits core keep condition (Some u) = λ o. waits_if (came_out u o) _ _ tt tt
 
 all_wait : (us : List Connected) (core : Core) (condition : Condition) → WaitsToTake (all_closed us core condition)
 all_wait [] core condition = tt
-all_wait (u ∷ us) core condition = λ o. all_wait us _ condition
+all_wait (u ∷ us) core condition = λ o. waits_if (came_out u o) _ _ (all_wait us (disconnected core u (keeps u) o) condition) tt
 
 -- ---- OPEN
 
@@ -108,7 +108,7 @@ module _ (number : ℕ) (spec : OpenSpec) where
     where
       first : (o : Option Connected) → WaitsToTake (closes_first core o (connects number spec modes))
       first None = connects_waits modes core (free_from core.units 0 most_slots)
-      first (Some u) = λ o. let new = disconnected core u (keeps u) o in connects_waits modes new (free_from new.units 0 most_slots)
+      first (Some u) = λ o. let new = disconnected core u (keeps u) o in waits_if (came_out u o) _ _ (connects_waits modes new (free_from new.units 0 most_slots)) tt
 
   opens_waits : (core : Core) (o : Option Connected) → WaitsToTake (opens core number spec o)
   opens_waits core None = with_waits core None (settled spec)
@@ -124,9 +124,9 @@ moves_wait : (core : Core) (how : Motion) (o : Option Connected) → WaitsToTake
 moves_wait core how None = tt
 moves_wait core how (Some u) = λ o. tt
 
-inquires_waits : (core : Core) (number : Option ℕ) (file : Option (List ℕ)) (asked : List Wanted) (id : Option ℤ) (o : Option Connected) → WaitsToTake (inquires core number file asked id o)
-inquires_waits core number file asked id None = tt
-inquires_waits core number file asked id (Some u) = waits_if (list_any (λ (w : Wanted). asks_connection w.what) asked) _ _ (λ o. tt) tt
+inquires_waits : (variables : List Variable) (core : Core) (number : Option ℕ) (file : Option (List ℕ)) (asked : List Wanted) (id : Option ℤ) (o : Option Connected) → WaitsToTake (inquires variables core number file asked id o)
+inquires_waits variables core number file asked id None = tt
+inquires_waits variables core number file asked id (Some u) = waits_if (list_any (λ (w : Wanted). asks_connection w.what) asked) _ _ (λ o. tt) tt
 
 -- ---- each kind of statement
 
@@ -139,7 +139,7 @@ module _ (control : ℕ → List Given) (variables : List Variable) (line : ℕ)
   own_waits (statement.Move how u iostat) = moves_wait core how (unit_at core (number_of u))
   own_waits (statement.Inquire subject asked id iostat) =
       let number = unit_about (unit_named core.units) subject in
-      inquires_waits core number (file_asked subject) asked (number_given core.vars id) (unit_at core number)
+      inquires_waits variables core number (file_asked subject) asked (number_given core.vars id) (unit_at core number)
   own_waits (statement.Transfer t) = transfer_waits control variables line core t (moved_in variables core.vars t) t.unit
   own_waits statement.End = all_wait core.units core Fine
 

@@ -41,7 +41,7 @@ use Rattle.fj_desk.specs.Desks.{Desk, Outcome, carry, log_length, most_slots, en
 use Rattle.fj_desk.specs.Desks as desks
 use Rattle.fj_desk.specs.Doing.{Doing, finishes, gives, awaits, Desked}
 use Rattle.fj_desk.specs.Desking.{entries, told_core, fresh}
-use Rattle.fj_desk.specs.Acting.{finishes_behind, transferred, unless_refused, on_unit, transfer_at, keeps, disconnected, closes, closes_anyway, all_closed, free_from, changes, is_taken, attaches, connects_at, connects, closes_first, opens_with, opens, moves, asks_connection, inquires, if_numbered, unit_at, own, instead, doing}
+use Rattle.fj_desk.specs.Acting.{finishes_behind, transferred, unless_refused, on_unit, transfer_at, keeps, disconnected, came_out, closes, closes_anyway, all_closed, free_from, changes, is_taken, attaches, connects_at, connects, closes_first, opens_with, opens, moves, asks_connection, inquires, if_numbered, unit_at, own, instead, doing}
 use Rattle.fj_desk.proofs.Apart.{Each, each_imp, each_both, Differs, Apart}
 use Rattle.fj_desk.proofs.Opening.{free_found}
 use Rattle.fj_desk.proofs.Seen.{numbers_apart, named_same}
@@ -142,11 +142,11 @@ module _ (what : Statement) (names : Names) (unit_named_by : List ℕ → Option
 
   closes_places : (core : Core) (keep : Option Bool) (number : Option ℕ) (o : Option Connected) → IsNamed core → MayWait number → unit_at core number ≡ o → Places (closes core keep o)
   closes_places core keep number None named w e = tt
-  closes_places core keep number (Some u) named w e = either (unwrap_or keep false && u.modes.scratch) _ _ (λ k. tt) (λ k. (place_of core number u named w e, λ o. tt))
+  closes_places core keep number (Some u) named w e = either (unwrap_or keep false && u.modes.scratch) _ _ (λ k. tt) (λ k. (place_of core number u named w e, λ o. either (came_out u o) _ _ (λ i. tt) (λ i. tt)))
 
   anyway_places : (core : Core) (keep : Option Bool) (condition : Condition) (number : Option ℕ) (o : Option Connected) → IsNamed core → MayWait number → unit_at core number ≡ o → Places (closes_anyway core keep condition o)
   anyway_places core keep condition number None named w e = tt
-  anyway_places core keep condition number (Some u) named w e = (place_of core number u named w e, λ o. tt)
+  anyway_places core keep condition number (Some u) named w e = (place_of core number u named w e, λ o. either (came_out u o) _ _ (λ i. tt) (λ i. tt))
 
   -- END, unit after unit
   end_places : (us : List Connected) (core : Core) (condition : Condition) → ((n : ℕ) → WaitsBy unit_named_by what n) → Apart (λ (u : Connected). u.number) us
@@ -154,10 +154,12 @@ module _ (what : Statement) (names : Names) (unit_named_by : List ℕ → Option
   end_places [] core condition w apart found named = tt
   end_places (u ∷ us) core condition w apart found named = (
     inl (u.number, u.name, w u.number, named.0, file_there core.units u.number u found.0),
-    λ o. end_places us (disconnected core u (keeps u) o) condition w apart.1
+    λ o. either (came_out u o) _ _
+        (λ i. end_places us (disconnected core u (keeps u) o) condition w apart.1
         (each_both (λ (x : Connected). x.number ≡ u.number → ⊥) (λ (x : Connected). connected_at core.units x.number ≡ Some x)
         (λ (x : Connected). connected_at (without_connected u.number core.units) x.number ≡ Some x) us (λ x ne e. found_without core.units u.number x.number ne ∙ e) apart.0 found.1)
-        named.1,
+        named.1)
+        (λ i. tt),
   )
 
   changes_places : (core : Core) (u : Connected) (result : Result Modes Condition) → IsPlace core.units u.slot → Places (changes core u result)
@@ -178,7 +180,7 @@ module _ (what : Statement) (names : Names) (unit_named_by : List ℕ → Option
 
   first_places : (core : Core) (number : ℕ) (spec : OpenSpec) (modes : Modes) (o : Option Connected) → ((u : Connected) → o ≡ Some u → IsPlace core.units u.slot) → Places (closes_first core o (connects number spec modes))
   first_places core number spec modes None at = connects_places core number spec modes
-  first_places core number spec modes (Some u) at = (at u refl, λ o. connects_places (disconnected core u (keeps u) o) number spec modes)
+  first_places core number spec modes (Some u) at = (at u refl, λ o. either (came_out u o) _ _ (λ i. connects_places (disconnected core u (keeps u) o) number spec modes) (λ i. tt))
 
   with_places : (core : Core) (number : ℕ) (spec : OpenSpec) (o : Option Connected) (result : Result Modes Condition) → ((u : Connected) → o ≡ Some u → IsPlace core.units u.slot) → Places (opens_with core number spec o result)
   with_places core number spec o (Err condition) at = tt
@@ -197,10 +199,10 @@ module _ (what : Statement) (names : Names) (unit_named_by : List ℕ → Option
   moves_places core how number None named w e = tt
   moves_places core how number (Some u) named w e = (place_of core number u named w e, λ o. tt)
 
-  inquires_places : (core : Core) (number : Option ℕ) (file : Option (List ℕ)) (asked : List Wanted) (id : Option ℤ) (o : Option Connected) → IsNamed core
-      → (list_any (λ (w : Wanted). asks_connection w.what) asked ≡ true → MayWait number) → unit_at core number ≡ o → Places (inquires core number file asked id o)
-  inquires_places core number file asked id None named w e = tt
-  inquires_places core number file asked id (Some u) named w e =
+  inquires_places : (variables : List Variable) (core : Core) (number : Option ℕ) (file : Option (List ℕ)) (asked : List Wanted) (id : Option ℤ) (o : Option Connected) → IsNamed core
+      → (list_any (λ (w : Wanted). asks_connection w.what) asked ≡ true → MayWait number) → unit_at core number ≡ o → Places (inquires variables core number file asked id o)
+  inquires_places variables core number file asked id None named w e = tt
+  inquires_places variables core number file asked id (Some u) named w e =
       either (list_any (λ (w : Wanted). asks_connection w.what) asked) _ _ (λ k. (place_of core number u named (w k) e, λ o. tt)) (λ k. tt)
 
 -- its own, and what is done in its place
@@ -225,7 +227,7 @@ module _ (control : ℕ → List Given) (variables : List Variable) (line : ℕ)
       moves_places (statement.Move how u iostat) (names_of core.units) (unit_named core.units) core how (number_of u) (unit_at core (number_of u)) (λ n. refl) (λ n e. e) refl
   own_places (statement.Inquire subject asked id iostat) =
       let number = unit_about (unit_named core.units) subject in
-      inquires_places (statement.Inquire subject asked id iostat) (names_of core.units) (unit_named core.units) core number (file_asked subject) asked (number_given core.vars id) (unit_at core number) (λ n. refl) (λ k n e. (k, e)) refl
+      inquires_places (statement.Inquire subject asked id iostat) (names_of core.units) (unit_named core.units) variables core number (file_asked subject) asked (number_given core.vars id) (unit_at core number) (λ n. refl) (λ k n e. (k, e)) refl
   own_places (statement.Transfer t) =
       transfer_places (statement.Transfer t) (names_of core.units) (unit_named core.units) control variables line core t (moved_in variables core.vars t) t.unit (λ n. refl) (λ k n e. (k, e))
   own_places statement.End = ended Fine

@@ -35,7 +35,7 @@ use Rattle.fj_desk.specs.Desks.{Desk, Outcome, carry, log_length, most_slots}
 use Rattle.fj_desk.specs.Desks as desks
 use Rattle.fj_desk.specs.Desking.{told_core}
 use Rattle.fj_desk.specs.Doing.{Doing, finishes, gives, awaits}
-use Rattle.fj_desk.specs.Acting.{finishes_behind, transferred, unless_refused, on_unit, transfer_at, keeps, disconnected, closes, closes_anyway, all_closed, free_from, changes, is_taken, attaches, connects_at, connects, closes_first, opens_with, opens, moves, asks_connection, inquires, if_numbered, unit_at, own, instead, doing}
+use Rattle.fj_desk.specs.Acting.{finishes_behind, transferred, unless_refused, on_unit, transfer_at, keeps, disconnected, came_out, closes, closes_anyway, all_closed, free_from, changes, is_taken, attaches, connects_at, connects, closes_first, opens_with, opens, moves, asks_connection, inquires, if_numbered, unit_at, own, instead, doing}
 use Rattle.fj_turns.specs.Turns.{halted_slots, ends_halts, doing_told}
 use Rattle.fj_turns.specs.Inside.{walked}
 use Rattle.fj_cut.specs.Others.{Names, names_of, opens_on, file_opened, file_about}
@@ -92,15 +92,15 @@ module _ (Q : List ℕ → Type 0) where
 
   closes_connect : (core : Core) (keep : Option Bool) (o : Option Connected) → Connects (closes core keep o)
   closes_connect core keep None = tt
-  closes_connect core keep (Some u) = either (unwrap_or keep false && u.modes.scratch) _ _ tt (tt, λ o. tt)
+  closes_connect core keep (Some u) = either (unwrap_or keep false && u.modes.scratch) _ _ tt (tt, λ o. either (came_out u o) _ _ tt tt)
 
   anyway_connect : (core : Core) (keep : Option Bool) (condition : Condition) (o : Option Connected) → Connects (closes_anyway core keep condition o)
   anyway_connect core keep condition None = tt
-  anyway_connect core keep condition (Some u) = (tt, λ o. tt)
+  anyway_connect core keep condition (Some u) = (tt, λ o. either (came_out u o) _ _ tt tt)
 
   end_connects : (us : List Connected) (core : Core) (condition : Condition) → Connects (all_closed us core condition)
   end_connects [] core condition = tt
-  end_connects (u ∷ us) core condition = (tt, λ o. end_connects us _ condition)
+  end_connects (u ∷ us) core condition = (tt, λ o. either (came_out u o) _ _ (end_connects us (disconnected core u (keeps u) o) condition) tt)
 
   -- ---- OPEN
 
@@ -125,7 +125,7 @@ module _ (Q : List ℕ → Type 0) where
     where
       first : (o : Option Connected) → Connects (closes_first core o (connects number spec modes))
       first None = connects_connect core number spec modes q
-      first (Some u) = (tt, λ o. connects_connect (disconnected core u (keeps u) o) number spec modes q)
+      first (Some u) = (tt, λ o. either (came_out u o) _ _ (connects_connect (disconnected core u (keeps u) o) number spec modes q) tt)
 
   opens_connect : (core : Core) (number : ℕ) (spec : OpenSpec) (o : Option Connected) → ((name : List ℕ) → opens_on (option_map (λ (x : Connected). x.name) o) spec number ≡ Some name → Q name) → Connects (opens core number spec o)
   opens_connect core number spec None h = with_connects core number spec None (settled spec) (h (file_due spec number) refl)
@@ -149,9 +149,9 @@ module _ (Q : List ℕ → Type 0) where
   moves_connect core motion.Rewind (Some u) = (tt, λ o. tt)
   moves_connect core motion.Endfile (Some u) = (tt, λ o. tt)
 
-  inquires_connect : (core : Core) (number : Option ℕ) (file : Option (List ℕ)) (asked : List Wanted) (id : Option ℤ) (o : Option Connected) → Connects (inquires core number file asked id o)
-  inquires_connect core number file asked id None = tt
-  inquires_connect core number file asked id (Some u) = either (list_any (λ (w : Wanted). asks_connection w.what) asked) _ _ (tt, λ o. tt) tt
+  inquires_connect : (variables : List Variable) (core : Core) (number : Option ℕ) (file : Option (List ℕ)) (asked : List Wanted) (id : Option ℤ) (o : Option Connected) → Connects (inquires variables core number file asked id o)
+  inquires_connect variables core number file asked id None = tt
+  inquires_connect variables core number file asked id (Some u) = either (list_any (λ (w : Wanted). asks_connection w.what) asked) _ _ (tt, λ o. tt) tt
 
   -- ---- each kind of statement
 
@@ -163,7 +163,7 @@ module _ (Q : List ℕ → Type 0) where
     own_connects (statement.WaitFor u id iostat) h = tt
     own_connects (statement.Move how u iostat) h = moves_connect core how (unit_at core (number_of u))
     own_connects (statement.Inquire subject asked id iostat) h =
-        let number = unit_about (unit_named core.units) subject in inquires_connect core number (file_asked subject) asked (number_given core.vars id) (unit_at core number)
+        let number = unit_about (unit_named core.units) subject in inquires_connect variables core number (file_asked subject) asked (number_given core.vars id) (unit_at core number)
     own_connects (statement.Transfer t) h = transfer_connects control variables line core t (moved_in variables core.vars t) t.unit
     own_connects statement.End h = end_connects core.units core Fine
 

@@ -4,16 +4,20 @@ use Rattle.std.specs.Prelude.{◌==◌, if◌then◌else◌}
 use Rattle.std.specs.Str.{bytes_eq}
 use Rattle.std.proofs.lemmas.Bool.{eqb-true}
 use Rattle.std.proofs.lemmas.Bool.Decides.{eqb_tells}
+use Rattle.fj_value.specs.declared.condition.Condition.TheVariants.{Error}
 use Rattle.fj_connect.specs.Connection.{Connection}
 use Rattle.fj_connect.specs.Positions.{ended}
 use Rattle.fj_bay.specs.Jobs.{detach}
+use Rattle.fj_bay.proofs.Keeping.{ended_kept}
 use Rattle.fj_plain.specs.State.{Files}
-use Rattle.fj_desk.specs.Core.{Connected, connected_at, without_connected}
+use Rattle.fj_desk.specs.Core.{Core, Connected, connected_at, without_connected}
 use Rattle.fj_desk.specs.Desks.{Desk, carry, outcome, connection_in}
 use Rattle.fj_desk.specs.Desking.{connection_at, all_left}
-use Rattle.fj_desk.specs.Acting.{keeps, left}
+use Rattle.fj_desk.specs.Doing.{Doing, finishes}
+use Rattle.fj_desk.specs.Acting.{keeps, left, disconnected, once_out}
 use Rattle.fj_desk.proofs.Apart.{Each, each_both, each_filter, each_imp, Differs, apart_filter}
 use Rattle.fj_desk.proofs.Carrying.{carry_other, carry_later}
+use Rattle.fj_desk.proofs.Closing.{comes_out}
 use Rattle.fj_desk.proofs.Opening.{gone_differs}
 use Rattle.fj_cut.proofs.Through.{over, through, through_same, one_same, one_filter, parted}
 use Rattle.fj_cut.proofs.Units.{each_all, each_unfilter, each_at, only, alone}
@@ -38,6 +42,13 @@ module _ (name : List ℕ) (ds : List Desk) (us : List Connected) (u : Connected
 
   home : IsHome ds u
   home = each_at (IsHome ds) us u.number u s.homes found
+
+  -- its connection comes out
+  pub gone_out : (P : Doing → Type 0) (core : Core) (keep : Bool) (next : Core → Doing)
+      → (let o = outcome ds u.slot (detach None) in P (next (disconnected core u keep o)) → P (once_out core u keep next o))
+  gone_out P core keep next h =
+      let o = outcome ds u.slot (detach None) in
+      subst (λ b. P (if b then next (disconnected core u keep o) else finishes core (Error 1))) (sym (comes_out u o (ended home.it) (came_out ds u.slot home.it home.is) ((ended_kept home.it).named ∙ sym home.named))) h
 
   slots_differ : Differs (λ (x : Connected). x.slot) u.slot others
   slots_differ =

@@ -51,7 +51,7 @@ use Rattle.fj_cut.proofs.Units.{each_at, none_at, only, each_found, found_withou
 use Rattle.fj_cut.proofs.Carried.{Idles, resume_idles, flush_idles, look_idles, idle_there}
 use Rattle.fj_cut.proofs.Touching.{IsHome, touch, at, Other, all_is, still, at_slot, same_left, idle_at, change_idles, backspace_idles, rewind_idles, brought, Stand, stand_same}
 use Rattle.fj_cut.proofs.Housed.{home_housed, each_behind, each_idle, brought_housed, seat_in}
-use Rattle.fj_cut.proofs.Detached.{gone_stand, gone_left}
+use Rattle.fj_cut.proofs.Detached.{gone_out, gone_stand, gone_left}
 
 -- A file, and what it is to be; a fact by which the statement does not open it, and one by which the statement is not about it.
 module _ (name : List ℕ) (due : Option (List ℕ)) (NotOpened NotAbout : Type 0) where
@@ -152,10 +152,10 @@ module _ (name : List ℕ) (due : Option (List ℕ)) (NotOpened NotAbout : Type 
       → Stays ds (detaches core u keep (λ new. finishes new condition))
   detached_stays ds core u keep condition r found h = (
     ready_wait ds core r,
-    record {
+    gone_out name ds core.units u r.stand found (Stays behind) core keep (λ new. finishes new condition) (record {
       housed = each_imp (IsHome behind) (IsHoused behind) (without_connected u.number core.units) (home_housed behind) (gone_stand name ds core.units u r.stand found).homes;
       is_due = λ b. gone_left name ds core.units u r.stand found core.files keep (h b) ∙ r.is_due;
-    },
+    }),
   )
     where
       behind : List Desk
@@ -165,8 +165,11 @@ module _ (name : List ℕ) (due : Option (List ℕ)) (NotOpened NotAbout : Type 
   detaches_stay : (ds : List Desk) (core : Core) (u : Connected) (next : Core → Doing) → Ready ds core → connected_at core.units u.number ≡ Some u
       → (let new : Core = disconnected core u (keeps u) (desks.outcome ds u.slot (detach None)) in Ready (carry ds u.slot (detach None)) new → Stays (carry ds u.slot (detach None)) (next new))
       → Stays ds (detaches core u (keeps u) next)
-  detaches_stay ds core u next r found f =
-      (ready_wait ds core r, f (record { stand = gone_stand name ds core.units u r.stand found; is_due = gone_left name ds core.units u r.stand found core.files (keeps u) (inl refl) ∙ r.is_due }))
+  detaches_stay ds core u next r found f = (
+    ready_wait ds core r,
+    gone_out name ds core.units u r.stand found (Stays (carry ds u.slot (detach None))) core (keeps u) next
+        (f (record { stand = gone_stand name ds core.units u r.stand found; is_due = gone_left name ds core.units u r.stand found core.files (keeps u) (inl refl) ∙ r.is_due })),
+  )
 
   close_stays : (ds : List Desk) (core : Core) (keep : Option Bool) (n : ℕ) (o : Option Connected) → Ready ds core → connected_at core.units n ≡ o
       → (keep ≡ Some false → NotAbout → names_of core.units n ≢ Some name) → Stays ds (closes core keep o)
@@ -356,9 +359,9 @@ module _ (name : List ℕ) (due : Option (List ℕ)) (NotOpened NotAbout : Type 
   moves_stay ds core how n None r e h = ready_point ds core r
   moves_stay ds core how n (Some u) r e h = (ready_wait ds core r, moved_point ds core u how r (own_number core.units n u e) (λ is. other_file core.units n u e (h is)))
 
-  inquires_stay : (ds : List Desk) (core : Core) (number : Option ℕ) (file : Option (List ℕ)) (asked : List Wanted) (id : Option ℤ) (o : Option Connected) → Ready ds core → Stays ds (inquires core number file asked id o)
-  inquires_stay ds core number file asked id None r = ready_point ds core r
-  inquires_stay ds core number file asked id (Some u) r =
+  inquires_stay : (variables : List Variable) (ds : List Desk) (core : Core) (number : Option ℕ) (file : Option (List ℕ)) (asked : List Wanted) (id : Option ℤ) (o : Option Connected) → Ready ds core → Stays ds (inquires variables core number file asked id o)
+  inquires_stay variables ds core number file asked id None r = ready_point ds core r
+  inquires_stay variables ds core number file asked id (Some u) r =
       stays_if ds (list_any (λ (w : Wanted). asks_connection w.what) asked) _ _
       (ready_wait ds core r, idle_point ds core u.slot (look None) r (look_idles (touch name) None)) (ready_point ds core r)
 
@@ -401,7 +404,7 @@ module _ (name : List ℕ) (due : Option (List ℕ)) (NotOpened NotAbout : Type 
     own_stays (statement.WaitFor u id iostat) opened about = ready_point ds core r
     own_stays (statement.Move how u iostat) opened about = moves_at ds core how (number_of u) r (endfile_about (names_of core.units) how u iostat about)
     own_stays (statement.Inquire subject asked id iostat) opened about =
-        let number = unit_about (unit_named core.units) subject in inquires_stay ds core number (file_asked subject) asked (number_given core.vars id) (unit_at core number) r
+        let number = unit_about (unit_named core.units) subject in inquires_stay variables ds core number (file_asked subject) asked (number_given core.vars id) (unit_at core number) r
     own_stays (statement.Transfer t) opened about = transfer_stays control variables line ds core t (moved_in variables core.vars t) t.unit r about
     own_stays statement.End opened about = end_stays ds core Fine r
 

@@ -1,6 +1,6 @@
 -- Each pending transfer has its job at the slot of its unit.
 use Rattle.std.proofs.Common.{◌≡◌, ℕ, ℤ, zero, suc, Bool, true, false, not, List, [], ◌∷◌, ◌++◌, map, Option, Some, None, slice_get, refl, sym, ap, ◌∙◌, subst, inl, inr, ◌||◌, ◌&&◌}
-use Rattle.std.specs.Prelude.{◌==◌, if◌then◌else◌, filter, nat_lt, unwrap_or, Result, Ok, Err}
+use Rattle.std.specs.Prelude.{◌==◌, if◌then◌else◌, filter, nat_lt, option_map, unwrap_or, Result, Ok, Err}
 use Rattle.std.specs.List.{list_any}
 use Rattle.std.proofs.lemmas.Bool.{eq-eqb, ne_eqb}
 use Rattle.std.proofs.lemmas.Bool.Decides.{eqb_tells}
@@ -31,11 +31,11 @@ use Rattle.fj_plain.specs.Telling.{of_unit, is_asynchronous, condition_of, tells
 use Rattle.fj_plain.specs.Transfers.{moved_in, layout_of, refusal}
 use Rattle.fj_plain.specs.Connecting.{file_due, keeps_name}
 use Rattle.fj_desk.specs.Core.{Core, Pending, Connected, connected_at, unit_named, with_connected, inserted, without_connected}
-use Rattle.fj_desk.specs.Desks.{Desk, Outcome, carry, log_at, log_length, most_slots, entry_with, entry_of}
+use Rattle.fj_desk.specs.Desks.{Desk, Outcome, Brought, brought_by, carry, log_at, log_length, most_slots, entry_with, entry_of}
 use Rattle.fj_desk.specs.Desks as desks
 use Rattle.fj_desk.specs.Doing.{Doing, finishes, gives, awaits, Desked, acted}
 use Rattle.fj_desk.specs.Desking.{entries, told_core, completed, goes_on, desk_step, fresh}
-use Rattle.fj_desk.specs.Acting.{pending_of, finishes_behind, transferred, unless_refused, on_unit, transfer_at, keeps, disconnected, closes, closes_anyway, all_closed, free_from, changes, is_taken, attaches, connects_at, connects, closes_first, opens_with, opens, moves, asks_connection, inquires, if_numbered, unit_at, own, instead, doing}
+use Rattle.fj_desk.specs.Acting.{pending_of, finishes_behind, transferred, unless_refused, on_unit, transfer_at, keeps, disconnected, came_out, closes, closes_anyway, all_closed, free_from, changes, is_taken, attaches, connects_at, connects, closes_first, opens_with, opens, moves, asks_connection, inquires, if_numbered, unit_at, own, instead, doing}
 use Rattle.fj_desk.proofs.Apart.{Each, each_imp, each_filter, each_append}
 use Rattle.fj_turns.specs.Turns.{halted_slots, ends_halts, rule_of}
 use Rattle.fj_turns.specs.Inside.{waited_at, does, cut_desks}
@@ -187,15 +187,15 @@ closes_ends : (core : Core) (keep : Option Bool) (number : Option ℕ) (o : Opti
 closes_ends core keep number None h gone e = h
 closes_ends core keep number (Some u) h gone e =
     let at = by_number core.units number u core refl e in
-    ends_if (unwrap_or keep false && u.modes.scratch) _ _ h (λ o. without_seated core u at.0 (unwrap_or keep (keeps u)) o h (gone at.0 at.1) at.2)
+    ends_if (unwrap_or keep false && u.modes.scratch) _ _ h (λ o. ends_if (came_out u o) _ _ (without_seated core u at.0 (unwrap_or keep (keeps u)) o h (gone at.0 at.1) at.2) h)
 
 anyway_ends : (core : Core) (keep : Option Bool) (condition : Condition) (number : Option ℕ) (o : Option Connected) → AreSeated core → GoneAt number core → unit_at core number ≡ o → Ends (closes_anyway core keep condition o)
 anyway_ends core keep condition number None h gone e = h
-anyway_ends core keep condition number (Some u) h gone e = let at = by_number core.units number u core refl e in (λ o. without_seated core u at.0 (keeps u && unwrap_or keep true) o h (gone at.0 at.1) at.2)
+anyway_ends core keep condition number (Some u) h gone e = let at = by_number core.units number u core refl e in (λ o. ends_if (came_out u o) _ _ (without_seated core u at.0 (keeps u && unwrap_or keep true) o h (gone at.0 at.1) at.2) h)
 
 end_ends : (us : List Connected) (core : Core) (condition : Condition) → core.book ≡ [] → Ends (all_closed us core condition)
 end_ends [] core condition e = none_seated core e
-end_ends (u ∷ us) core condition e = λ o. end_ends us (disconnected core u (keeps u) o) condition e
+end_ends (u ∷ us) core condition e = λ o. ends_if (came_out u o) _ _ (end_ends us (disconnected core u (keeps u) o) condition e) (none_seated core e)
 
 changes_ends : (core : Core) (u : Connected) (n : ℕ) (result : Result Modes Condition) → AreSeated core → Gone n core → u.number ≡ n → Ends (changes core u result)
 changes_ends core u n (Err condition) h gone e = h
@@ -219,7 +219,7 @@ connects_ends core number spec modes h gone = by (free_from core.units 0 most_sl
 first_ends : (core : Core) (number : ℕ) (spec : OpenSpec) (modes : Modes) (o : Option Connected) → AreSeated core → Gone number core → connected_at core.units number ≡ o → Ends (closes_first core o (connects number spec modes))
 first_ends core number spec modes None h gone e = connects_ends core number spec modes h gone
 first_ends core number spec modes (Some u) h gone e =
-    λ o. connects_ends (disconnected core u (keeps u) o) number spec modes (without_seated core u number (keeps u) o h gone (found_number core.units number u e)) gone
+    λ o. ends_if (came_out u o) _ _ (connects_ends (disconnected core u (keeps u) o) number spec modes (without_seated core u number (keeps u) o h gone (found_number core.units number u e)) gone) h
 
 with_ends : (core : Core) (number : ℕ) (spec : OpenSpec) (o : Option Connected) (result : Result Modes Condition) → AreSeated core → Gone number core → connected_at core.units number ≡ o → Ends (opens_with core number spec o result)
 with_ends core number spec o (Err condition) h gone e = h
@@ -238,9 +238,9 @@ moves_ends : (core : Core) (how : Motion) (o : Option Connected) → AreSeated c
 moves_ends core how None h = h
 moves_ends core how (Some u) h = λ o. h
 
-inquires_ends : (core : Core) (number : Option ℕ) (file : Option (List ℕ)) (asked : List Wanted) (id : Option ℤ) (o : Option Connected) → AreSeated core → Ends (inquires core number file asked id o)
-inquires_ends core number file asked id None h = h
-inquires_ends core number file asked id (Some u) h = ends_if (list_any (λ (w : Wanted). asks_connection w.what) asked) _ _ (λ o. h) h
+inquires_ends : (variables : List Variable) (core : Core) (number : Option ℕ) (file : Option (List ℕ)) (asked : List Wanted) (id : Option ℤ) (o : Option Connected) → AreSeated core → Ends (inquires variables core number file asked id o)
+inquires_ends variables core number file asked id None h = h
+inquires_ends variables core number file asked id (Some u) h = ends_if (list_any (λ (w : Wanted). asks_connection w.what) asked) _ _ (λ o. h) h
 
 -- ---- each kind of statement, once the transfers that it waits for are told
 
@@ -258,7 +258,7 @@ module _ (control : ℕ → List Given) (variables : List Variable) (line : ℕ)
   own_ends (statement.WaitFor u id iostat) h l = h
   own_ends (statement.Move how u iostat) h l = moves_ends core how (unit_at core (number_of u)) h
   own_ends (statement.Inquire subject asked id iostat) h l =
-      let number = unit_about (unit_named core.units) subject in inquires_ends core number (file_asked subject) asked (number_given core.vars id) (unit_at core number) h
+      let number = unit_about (unit_named core.units) subject in inquires_ends variables core number (file_asked subject) asked (number_given core.vars id) (unit_at core number) h
   own_ends (statement.Transfer t) h l = transfer_ends control variables line core t (moved_in variables core.vars t) t.unit h
   own_ends statement.End h l = end_ends core.units core Fine l
 
@@ -284,19 +284,19 @@ halts_end (slot ∷ slots) core next h = λ number. halts_end slots core next h
 
 -- ---- those that are told
 
-with_unit : (e : Pending) (o : Option Outcome) → (entry_with e o).unit ≡ e.unit
+with_unit : (e : Pending) (o : Option Brought) → (entry_with e o).unit ≡ e.unit
 with_unit e None = refl
 with_unit e (Some o) = refl
 
-with_id : (e : Pending) (o : Option Outcome) → (entry_with e o).id ≡ e.id
+with_id : (e : Pending) (o : Option Brought) → (entry_with e o).id ≡ e.id
 with_id e None = refl
 with_id e (Some o) = refl
 
 pub unit_kept : (ds : List Desk) (e : Pending) → (entry_of ds e).unit ≡ e.unit
-unit_kept ds e = with_unit e (log_at (slice_get ds e.slot) e.number)
+unit_kept ds e = with_unit e (option_map brought_by (log_at (slice_get ds e.slot) e.number))
 
 pub id_kept : (ds : List Desk) (e : Pending) → (entry_of ds e).id ≡ e.id
-id_kept ds e = with_id e (log_at (slice_get ds e.slot) e.number)
+id_kept ds e = with_id e (option_map brought_by (log_at (slice_get ds e.slot) e.number))
 
 first_told : (x : Entry) (es : List Entry) → tells_id (x ∷ es) x.id ≡ true
 first_told x es = ap (λ b. b || tells_id es x.id) (eq-eqb x.id x.id refl)

@@ -1,8 +1,10 @@
 -- CLOSE and END over desks.
 use Rattle.std.proofs.Common.{◌≡◌, ℕ, Bool, true, false, not, List, [], ◌∷◌, Option, Some, None, slice_get, refl, sym, ap, ◌∙◌, subst, inl, inr}
-use Rattle.std.specs.Prelude.{◌==◌, ◌&&◌, if◌then◌else◌, filter, unwrap_or}
+use Rattle.std.specs.Prelude.{◌==◌, ◌&&◌, if◌then◌else◌, filter, unwrap_or, option_map}
 use Rattle.std.proofs.lemmas.Bool.{eq-eqb, ne_eqb}
+use Rattle.std.specs.Str.{bytes_eq}
 use Rattle.std.proofs.lemmas.Bool.Decides.{eqb_tells}
+use Rattle.std.proofs.lemmas.Slice.Eq.{bytes_eq-Decides}
 use Rattle.fj_value.specs.declared.condition.Condition.{Condition}
 use Rattle.fj_value.specs.declared.condition.Condition.TheVariants.{Fine, Error}
 use Rattle.fj_modes.specs.declared.modes.Modes.{Modes}
@@ -10,15 +12,16 @@ use Rattle.fj_connect.specs.Connection.{Connection}
 use Rattle.fj_connect.specs.Positions.{ended}
 use Rattle.fj_bay.specs.Jobs.{detach, done}
 use Rattle.fj_bay.specs.Serving.{serve}
+use Rattle.fj_bay.proofs.Keeping.{ended_kept}
 use Rattle.fj_plain.specs.State.{State, Files, found, with_file, without_file, without_unit}
 use Rattle.fj_plain.specs.State as plain
 use Rattle.fj_plain.specs.Connecting as plainly
 use Rattle.fj_plain.specs.Statement as meant
 use Rattle.fj_desk.specs.Core.{Core, Connected, connected_at, without_connected}
-use Rattle.fj_desk.specs.Desks.{Desk, carry}
+use Rattle.fj_desk.specs.Desks.{Desk, Outcome, carry, outcome, connection_in}
 use Rattle.fj_desk.specs.Doing.{Doing, Desked, acted, finishes}
-use Rattle.fj_desk.specs.Acting.{keeps, left, disconnected, detaches, closes, closes_anyway, all_closed, unit_at}
-use Rattle.fj_desk.specs.Forgetting.{bay_at}
+use Rattle.fj_desk.specs.Acting.{keeps, left, disconnected, came_out, once_out, detaches, closes, closes_anyway, all_closed, unit_at}
+use Rattle.fj_desk.specs.Forgetting.{IsSeen, bay_at}
 use Rattle.fj_desk.proofs.Apart.{Each, Apart, Differs, each_filter, apart_filter}
 use Rattle.fj_desk.proofs.Carrying.{Serves, serves_at}
 use Rattle.fj_desk.proofs.Seen.{Seen, At, at_unit, not_at_unit, both_other, slot_differs}
@@ -136,14 +139,25 @@ out_tied p s number u at keep t e none = record {
     job : Serves p.desks u.slot (detach None) (bay_of at.it)
     job = serves_at p.desks u.slot (detach None) (bay_of at.it) at.seen.bay
 
+pub comes_out : (u : Connected) (o : Outcome) (c : Connection) → connection_in o.0 ≡ Some c → c.name ≡ u.name → came_out u o ≡ true
+comes_out u o c e named = ap (λ place. unwrap_or (option_map (λ (x : Connection). bytes_eq x.name u.name) place) false) e ∙ (bytes_eq-Decides c.name u.name).1 named
+
+-- at the slot of a unit its connection comes out
+pub gone_out : (P : Doing → Type 0) (desks : List Desk) (u : Connected) (v : plain.Unit) → IsSeen desks u v → (core : Core) (keep : Bool) (next : Core → Doing)
+    → P (next (disconnected core u keep (detach (Some (ended v.connection)), done Fine))) → P (once_out core u keep next (outcome desks u.slot (detach None)))
+unfolding serve
+gone_out P desks u v seen core keep next h =
+    let is = (serves_at desks u.slot (detach None) (bay_of v) seen.bay).outcome_is in
+    subst (λ o. P (once_out core u keep next o)) (sym is)
+    (subst (λ b. P (if b then next (disconnected core u keep (detach (Some (ended v.connection)), done Fine)) else finishes core (Error 1)))
+    (sym (comes_out u (detach (Some (ended v.connection)), done Fine) (ended v.connection) refl ((ended_kept v.connection).named ∙ sym seen.name))) h)
+
 -- a job that detaches, and what comes behind it
 pub detaches_tied : (p : Desked) (s : State) (number : ℕ) (u : Connected) (at : At p.desks s.units number u) (keep : Bool) (next : Core → Doing) (meaning : State × Condition) → Tied p s → connected_at p.core.units number ≡ Some u
     → at.it.halt ≡ None
     → ((q : Desked) → q.core.units ≡ without_connected u.number p.core.units → Tied q (plain.disconnected s at.it keep) → ActTied (acted q.desks (next q.core)) meaning) → ActTied (acted p.desks (detaches p.core u keep next)) meaning
-unfolding serve
 detaches_tied p s number u at keep next meaning t e none f =
-    let job = serves_at p.desks u.slot (detach None) (bay_of at.it) at.seen.bay in
-    subst (λ o. ActTied (acted (carry p.desks u.slot (detach None)) (next (disconnected p.core u keep o))) meaning) (sym job.outcome_is)
+    gone_out (λ d. ActTied (acted (carry p.desks u.slot (detach None)) d) meaning) p.desks u at.it at.seen p.core keep next
     (f (record { core = disconnected p.core u keep (detach (Some (ended at.it.connection)), done Fine); desks = carry p.desks u.slot (detach None) }) refl (out_tied p s number u at keep t e none))
 
 pub halt_none : (p : Desked) (s : State) (number : ℕ) (u : Connected) (at : At p.desks s.units number u) → Free number s.units → at.it.halt ≡ None

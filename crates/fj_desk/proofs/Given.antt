@@ -12,6 +12,7 @@ use Rattle.fj_modes.specs.declared.unit.Motion.TheVariants as motion
 use Rattle.fj_modes.specs.declared.unit.UnitRef.{UnitRef}
 use Rattle.fj_modes.specs.declared.unit.UnitRef.TheVariants as unit
 use Rattle.fj_control.specs.Steps.{Given}
+use Rattle.fj_connect.specs.Positions.{ended}
 use Rattle.fj_transfer.specs.Transfer.{Done, transfer_by}
 use Rattle.fj_bay.specs.Halt.{halts}
 use Rattle.fj_bay.specs.Jobs.{items_for, Moving, detach, move, look, resume, done}
@@ -30,14 +31,15 @@ use Rattle.fj_desk.specs.Core.{Core, Connected, connected_at}
 use Rattle.fj_desk.specs.Desks.{Desk, carry, outcome, look_in}
 use Rattle.fj_desk.specs.Doing.{Doing, Desked, acted, given, finishes, gives, awaits}
 use Rattle.fj_desk.specs.Acting as desk
-use Rattle.fj_desk.specs.Acting.{moving_of, finishes_behind, transfer_at, keeps, disconnected, detaches, closes, closes_anyway, all_closed, free_from, attaches, connects, connects_at, opens_with, opens, changes, moves, job_of, inquires, unit_at}
+use Rattle.fj_desk.specs.Acting.{moving_of, finishes_behind, transfer_at, keeps, disconnected, detaches, closes, closes_anyway, all_closed, moves, job_of, inquires, unit_at}
 use Rattle.fj_desk.specs.Both.{Both}
-use Rattle.fj_desk.specs.Forgetting.{bay_at}
+use Rattle.fj_desk.specs.Forgetting.{IsSeen, bay_at}
 use Rattle.fj_desk.specs.Giving.{Jobs, resume_behind, moving_in, transfer_jobs, unless_refused, fitting_jobs, out, close_jobs, motion_jobs, look_jobs, all_out, IsGiven}
 use Rattle.fj_desk.proofs.Apart.{Each, Apart, Differs}
-use Rattle.fj_desk.proofs.Carrying.{serves_at}
-use Rattle.fj_desk.proofs.Seen.{Seen, At, at_unit, not_at_unit, numbers_apart}
+use Rattle.fj_desk.proofs.Carrying.{carry_other, serves_at}
+use Rattle.fj_desk.proofs.Seen.{Seen, At, at_unit, not_at_unit, both_other, numbers_apart}
 use Rattle.fj_desk.proofs.Tied.{Tied, Free, each_found}
+use Rattle.fj_desk.proofs.Closing.{gone_out}
 
 -- what an action gives is due
 abbrev pub Gives : Desked → Doing → Jobs → Type 0
@@ -137,6 +139,13 @@ module _ (control : ℕ → List Given) (variables : List Variable) (line : ℕ)
 
 -- ---- CLOSE and END
 
+-- a connection goes out, and more is done behind it
+detaches_given : (before after : List Connected) (desks : List Desk) (core : Core) (u : Connected) (v : plain.Unit) (keep : Bool) (next : Core → Doing) (due : Jobs) → IsSeen desks u v → connected_at before v.number ≡ Some u
+    → Both (IsGiven before after) (given (carry desks u.slot (detach None)) (next (disconnected core u keep (detach (Some (ended v.connection)), done Fine)))) due
+    → Both (IsGiven before after) (given desks (detaches core u keep next)) ((v.number, detach None) ∷ due)
+detaches_given before after desks core u v keep next due seen found h =
+    ((refl, (u, found, refl)), gone_out (λ d. Both (IsGiven before after) (given (carry desks u.slot (detach None)) d) due) desks u v seen core keep next h)
+
 pub closes_given : (p : Desked) (s : State) (keep : Option Bool) (number : Option ℕ) → Tied p s → Gives p (closes p.core keep (unit_at p.core number)) (close_jobs keep (meant.unit_at s number))
 closes_given p s keep None t after is = tt
 closes_given p s keep (Some number) t after is = by (connected_at p.core.units number) refl
@@ -153,7 +162,7 @@ closes_given p s keep (Some number) t after is = by (connected_at p.core.units n
 
         which : (b : Bool) → Both (IsGiven p.core.units after) (given p.desks (if b then finishes p.core (Error 4) else detaches p.core u (unwrap_or keep (keeps u)) (λ new. finishes new Fine))) (if b then [] else (at.it.number, detach None) ∷ [])
         which true = tt
-        which false = ((refl, (u, here p.core.units s.units p.desks number u at e, refl)), tt)
+        which false = detaches_given p.core.units after p.desks p.core u at.it (unwrap_or keep (keeps u)) (λ new. finishes new Fine) [] at.seen (here p.core.units s.units p.desks number u at e) tt
 
 pub closes_anyway_given : (p : Desked) (s : State) (keep : Option Bool) (condition : Condition) (number : Option ℕ) → Tied p s → Gives p (closes_anyway p.core keep condition (unit_at p.core number)) (out (meant.unit_at s number))
 closes_anyway_given p s keep condition None t after is = tt
@@ -163,7 +172,8 @@ closes_anyway_given p s keep condition (Some number) t after is = by (connected_
     by None e = subst (λ o. Both (IsGiven p.core.units after) [] (out o)) (sym (not_at_unit p.desks p.core.units s.units number t.same.units e).0) tt
     by (Some u) e =
         let at = at_unit p.desks p.core.units s.units number u t.same.units e in
-        subst (λ o. Both (IsGiven p.core.units after) (given p.desks (closes_anyway p.core keep condition (Some u))) (out o)) (sym at.found_is) ((refl, (u, here p.core.units s.units p.desks number u at e, refl)), tt)
+        subst (λ o. Both (IsGiven p.core.units after) (given p.desks (closes_anyway p.core keep condition (Some u))) (out o)) (sym at.found_is)
+        (detaches_given p.core.units after p.desks p.core u at.it (keeps u && unwrap_or keep true) (λ new. finishes new condition) [] at.seen (here p.core.units s.units p.desks number u at e) tt)
 
 -- each unit of a list is found by its number
 find_further : (x : Connected) (us xs : List Connected) → Differs (λ (u : Connected). u.number) x.number xs → Each (λ (u : Connected). connected_at us u.number ≡ Some u) xs → Each (λ (u : Connected). connected_at (x ∷ us) u.number ≡ Some u) xs
@@ -177,18 +187,18 @@ find_each (x ∷ us) h = (ap (λ b. if b then Some x else connected_at us x.numb
 pub units_found : (p : Desked) (s : State) → Tied p s → Each (λ (u : Connected). connected_at p.core.units u.number ≡ Some u) p.core.units
 units_found p s t = find_each p.core.units (numbers_apart p.desks p.core.units s.units t.same.units t.numbers)
 
-all_given : (before after : List Connected) (us : List Connected) (vs : List plain.Unit) (seen_by desks : List Desk) (core : Core) (condition : Condition) → Seen seen_by us vs → Each (λ (u : Connected). connected_at before u.number ≡ Some u) us
-    → Both (IsGiven before after) (given desks (all_closed us core condition)) (all_out vs)
-all_given before after [] [] seen_by desks core condition b f = tt
-all_given before after [] (v ∷ vs) seen_by desks core condition b f = absurd b
-all_given before after (u ∷ us) [] seen_by desks core condition b f = absurd b
-all_given before after (u ∷ us) (v ∷ vs) seen_by desks core condition b f = (
-  (refl, (u, ap (connected_at before) (sym b.0.number) ∙ f.0, refl)),
-  all_given before after us vs seen_by (carry desks u.slot (detach None)) (disconnected core u (keeps u) (outcome desks u.slot (detach None))) condition b.1 f.1,
-)
+all_given : (before after : List Connected) (us : List Connected) (vs : List plain.Unit) (desks : List Desk) (core : Core) (condition : Condition) → Seen desks us vs → Apart (λ (u : Connected). u.slot) us
+    → Each (λ (u : Connected). connected_at before u.number ≡ Some u) us → Both (IsGiven before after) (given desks (all_closed us core condition)) (all_out vs)
+all_given before after [] [] desks core condition b slots f = tt
+all_given before after [] (v ∷ vs) desks core condition b slots f = absurd b
+all_given before after (u ∷ us) [] desks core condition b slots f = absurd b
+all_given before after (u ∷ us) (v ∷ vs) desks core condition b slots f =
+    detaches_given before after desks core u v (keeps u) (λ new. all_closed us new condition) (all_out vs) b.0 (ap (connected_at before) (sym b.0.number) ∙ f.0)
+    (all_given before after us vs (carry desks u.slot (detach None)) (disconnected core u (keeps u) (detach (Some (ended v.connection)), done Fine)) condition
+    (both_other desks (carry desks u.slot (detach None)) u.slot us vs (carry_other desks u.slot (detach None)) slots.0 b.1) slots.1 f.1)
 
 pub ends_given : (p : Desked) (s : State) (condition : Condition) → Tied p s → Gives p (all_closed p.core.units p.core condition) (all_out s.units)
-ends_given p s condition t after is = all_given p.core.units after p.core.units s.units p.desks p.desks p.core condition t.same.units (units_found p s t)
+ends_given p s condition t after is = all_given p.core.units after p.core.units s.units p.desks p.core condition t.same.units t.slots.apart (units_found p s t)
 
 -- ---- the motions and INQUIRE
 
@@ -209,19 +219,19 @@ moves_given p s how (Some number) t after is = by (connected_at p.core.units num
         each motion.Rewind = ((refl, (u, here p.core.units s.units p.desks number u at e, refl)), tt)
         each motion.Endfile = ((refl, (u, here p.core.units s.units p.desks number u at e, refl)), tt)
 
-pub inquires_given : (p : Desked) (s : State) (number : Option ℕ) (file : Option (List ℕ)) (asked : List Wanted) (id : Option ℤ) → Tied p s → Gives p (inquires p.core number file asked id (unit_at p.core number)) (look_jobs asked (meant.unit_at s number))
-inquires_given p s None file asked id t after is = tt
-inquires_given p s (Some number) file asked id t after is = by (connected_at p.core.units number) refl
+pub inquires_given : (variables : List Variable) (p : Desked) (s : State) (number : Option ℕ) (file : Option (List ℕ)) (asked : List Wanted) (id : Option ℤ) → Tied p s → Gives p (inquires variables p.core number file asked id (unit_at p.core number)) (look_jobs asked (meant.unit_at s number))
+inquires_given variables p s None file asked id t after is = tt
+inquires_given variables p s (Some number) file asked id t after is = by (connected_at p.core.units number) refl
   where
-    by : (o : Option Connected) → connected_at p.core.units number ≡ o → Both (IsGiven p.core.units after) (given p.desks (inquires p.core (Some number) file asked id o)) (look_jobs asked (found s.units number))
+    by : (o : Option Connected) → connected_at p.core.units number ≡ o → Both (IsGiven p.core.units after) (given p.desks (inquires variables p.core (Some number) file asked id o)) (look_jobs asked (found s.units number))
     by None e = subst (λ o. Both (IsGiven p.core.units after) [] (look_jobs asked o)) (sym (not_at_unit p.desks p.core.units s.units number t.same.units e).0) tt
-    by (Some u) e = subst (λ o. Both (IsGiven p.core.units after) (given p.desks (inquires p.core (Some number) file asked id (Some u))) (look_jobs asked o)) (sym at.found_is) (which (list_any (λ (w : Wanted). desk.asks_connection w.what) asked))
+    by (Some u) e = subst (λ o. Both (IsGiven p.core.units after) (given p.desks (inquires variables p.core (Some number) file asked id (Some u))) (look_jobs asked o)) (sym at.found_is) (which (list_any (λ (w : Wanted). desk.asks_connection w.what) asked))
       where
         at : At p.desks s.units number u
         at = at_unit p.desks p.core.units s.units number u t.same.units e
 
         which : (b : Bool) → Both (IsGiven p.core.units after)
-            (given p.desks (if b then awaits u.slot (look None) p.core (λ o. desk.answers p.core (desk.about_unit p.core (Some number) file id u (look_in o.0)) asked) else desk.answers p.core (desk.about_unit p.core (Some number) file id u None) asked))
+            (given p.desks (if b then awaits u.slot (look None) p.core (λ o. desk.answers variables p.core (desk.about_unit p.core (Some number) file id u (look_in o.0)) asked) else desk.answers variables p.core (desk.about_unit p.core (Some number) file id u None) asked))
             (if b then (at.it.number, look None) ∷ [] else [])
         which true = ((refl, (u, here p.core.units s.units p.desks number u at e, refl)), tt)
         which false = tt

@@ -12,23 +12,21 @@ use Rattle.fj_connect.specs.Connection.{Connection}
 use Rattle.fj_connect.specs.Opening.{opened_file}
 use Rattle.fj_connect.specs.Positions.{ended}
 use Rattle.fj_bay.specs.Jobs.{detach, done}
-use Rattle.fj_bay.specs.Serving.{serve}
 use Rattle.fj_plain.specs.State.{State, found, without_unit}
 use Rattle.fj_plain.specs.State as plain
 use Rattle.fj_plain.specs.Connecting as plainly
 use Rattle.fj_plain.specs.Connecting.{file_due, keeps_name}
 use Rattle.fj_desk.specs.Core.{Connected, connected_at, without_connected}
-use Rattle.fj_desk.specs.Desks.{Desk, Outcome, carry, outcome, most_slots}
+use Rattle.fj_desk.specs.Desks.{carry, most_slots}
 use Rattle.fj_desk.specs.Doing.{Doing, Desked, acted, given, finishes}
 use Rattle.fj_desk.specs.Acting as desk
-use Rattle.fj_desk.specs.Acting.{moving_of, finishes_behind, transfer_at, keeps, disconnected, detaches, closes, closes_anyway, all_closed, free_from, attaches, connects, connects_at, opens_with, opens, changes, moves, job_of, inquires, unit_at}
+use Rattle.fj_desk.specs.Acting.{keeps, disconnected, detaches, free_from, attaches, connects, connects_at, opens_with, opens, changes}
 use Rattle.fj_desk.specs.Both.{Both}
 use Rattle.fj_desk.specs.Giving.{Jobs, brought, connect_jobs, opening_jobs, mode_jobs, open_jobs, IsGiven}
 use Rattle.fj_desk.proofs.Apart.{Differs}
-use Rattle.fj_desk.proofs.Carrying.{serves_at}
 use Rattle.fj_desk.proofs.Seen.{At, at_unit, not_at_unit, taken_same}
 use Rattle.fj_desk.proofs.Tied.{Tied, Free}
-use Rattle.fj_desk.proofs.Closing.{out_tied, halt_none, keeps_same}
+use Rattle.fj_desk.proofs.Closing.{out_tied, gone_out, halt_none, keeps_same}
 use Rattle.fj_desk.proofs.Opening.{free_found, fewer, no_fewer, gone_differs}
 use Rattle.fj_desk.proofs.Given.{Gives, here}
 
@@ -81,31 +79,22 @@ new_given p s number spec t e (Ok modes) after is =
 
 other_given : (p : Desked) (s : State) (number : ℕ) (spec : OpenSpec) (u : Connected) (at : At p.desks s.units number u) → Tied p s → connected_at p.core.units number ≡ Some u → Free number s.units → (r : Result Modes Condition)
     → Gives p (opens_with p.core number spec (Some u) r) (opening_jobs s number spec (Some at.it) r)
-unfolding serve
 other_given p s number spec u at t e free (Err condition) after is = tt
 other_given p s number spec u at t e free (Ok modes) after is =
-    taken_given p s number (file_due spec number) t (detaches p.core u (keeps u) (connects number spec modes)) ((at.it.number, detach None) ∷ connect_jobs (plain.disconnected s at.it (plain.keeps at.it)) number spec modes)
+    taken_given p s number (file_due spec number) t (detaches p.core u (keeps u) (connects number spec modes)) ((at.it.number, detach None) ∷ connect_jobs meant number spec modes)
     (λ a i. (
       (refl, (u, here p.core.units s.units p.desks number u at e, refl)),
-      subst (λ k. a ≡ (acted behind (connects number spec modes (disconnected p.core u k o))).0.core.units → Both (IsGiven p.core.units a) (given behind (connects number spec modes (disconnected p.core u k o))) (connect_jobs (plain.disconnected s at.it (plain.keeps at.it)) number spec modes))
-          (sym (keeps_same p s number u at))
-          (subst (λ x. a ≡ (acted behind (connects number spec modes (disconnected p.core u keep x))).0.core.units → Both (IsGiven p.core.units a) (given behind (connects number spec modes (disconnected p.core u keep x))) (connect_jobs (plain.disconnected s at.it keep) number spec modes))
-          (sym outcome_is) (λ j. connects_given p.core.units a (record { core = disconnected p.core u keep (detach (Some (ended at.it.connection)), done Fine); desks = behind }) (plain.disconnected s at.it keep) number spec modes
-          (out_tied p s number u at keep t e (halt_none p s number u at free))
-          (subst (λ k. Differs (λ (y : Connected). y.number) k (without_connected u.number p.core.units)) at.own_number (gone_differs (λ (y : Connected). y.number) u.number p.core.units)) j)) i,
+      gone_out (λ d. a ≡ (acted q.desks d).0.core.units → Both (IsGiven p.core.units a) (given q.desks d) (connect_jobs meant number spec modes)) p.desks u at.it at.seen p.core (keeps u) (connects number spec modes)
+          (connects_given p.core.units a q meant number spec modes
+          (subst (λ k. Tied q (plain.disconnected s at.it k)) (keeps_same p s number u at) (out_tied p s number u at (keeps u) t e (halt_none p s number u at free)))
+          (subst (λ k. Differs (λ (y : Connected). y.number) k (without_connected u.number p.core.units)) at.own_number (gone_differs (λ (y : Connected). y.number) u.number p.core.units))) i,
     )) after is
   where
-    keep : Bool
-    keep = plain.keeps at.it
+    meant : State
+    meant = plain.disconnected s at.it (plain.keeps at.it)
 
-    behind : List Desk
-    behind = carry p.desks u.slot (detach None)
-
-    o : Outcome
-    o = outcome p.desks u.slot (detach None)
-
-    outcome_is : o ≡ (detach (Some (ended at.it.connection)), done Fine)
-    outcome_is = (serves_at p.desks u.slot (detach None) (record { connection = Some at.it.connection; halt = at.it.halt }) at.seen.bay).outcome_is
+    q : Desked
+    q = record { core = disconnected p.core u (keeps u) (detach (Some (ended at.it.connection)), done Fine); desks = carry p.desks u.slot (detach None) }
 
 modes_given : (p : Desked) (s : State) (number : ℕ) (u : Connected) (at : At p.desks s.units number u) (spec : OpenSpec) → connected_at p.core.units number ≡ Some u → (after : List Connected)
     → Both (IsGiven p.core.units after) (given p.desks (changes p.core u (mode.changed u.modes spec))) (mode_jobs at.it.number (mode.changed at.it.connection.modes spec))

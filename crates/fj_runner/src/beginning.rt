@@ -1,5 +1,5 @@
 // How a statement begins: prohibitions, then the transfers that it waits for are settled and told.
-ghost use Rattle.std.specs.Prelude.{◌≡◌, ◌≢◌, ◌<◌, ◌≤◌, ℕ, List, length, ◌∷◌, ◌++◌, not, map, filter, get_or, true, Some, IfOk, OnOk, All, Err};
+ghost use Rattle.std.specs.Prelude.{◌≡◌, ◌≢◌, ◌<◌, List, length, ◌∷◌, ◌++◌, not, map, filter, get_or, true, Some, IfOk, OnOk, All, Err};
 ghost use Rattle.fj_items.specs.Kinds.{kinds_of};
 ghost use Rattle.fj_store.specs.Storage.{values_of};
 ghost use Rattle.fj_plain.specs.State.{Entry, Files};
@@ -9,6 +9,7 @@ ghost use Rattle.fj_plain.specs.Telling.{waited_in, condition_of, tells_id, tell
 ghost use Rattle.fj_desk.specs.Core.{unit_named};
 ghost use Rattle.fj_desk.specs.Desks.{most_slots};
 ghost use Rattle.fj_desk.specs.Desking.{told_core};
+ghost use Rattle.fj_turns.specs.Few.{most_jobs};
 ghost use Rattle.fj_turns.specs.Run.{Stage as PlainStage, Start, Waiting};
 ghost use Rattle.fj_turns.specs.Passing.{output_of};
 ghost use Rattle.fj_turns.specs.Turns.{settles, doing_told, turn_tell, turn_wait, turn_start};
@@ -30,9 +31,8 @@ ghost use Rattle.fj_runner.specs.Failing.{FailsTurn, FailsStage, StandsStill};
 ghost use Rattle.fj_runner.specs.Closing.{may_be_at};
 ghost use Rattle.fj_units.specs.Having.{HaveFiles};
 ghost use Rattle.fj_statement.specs.Sound.{IsSoundStatement};
-ghost use Rattle.fj_pending.specs.Fitting.{IsTellable};
-ghost use Rattle.fj_runner.specs.Fitting.{FitsTelling, HasRoom};
-ghost use Rattle.fj_runner.specs.Spending.{Spends, jobs_at, most_jobs};
+ghost use Rattle.fj_runner.specs.Fitting.{HasRoom};
+ghost use Rattle.fj_runner.specs.Spending.{Spends, jobs_at};
 ghost use Rattle.fj_runner.specs.Going.{Counts, HaveAt, HaveTurned};
 
 use crate::ending::Ending;
@@ -49,7 +49,7 @@ use fj_statement::{Lined, Statement, Variables};
 use fj_units::Units;
 use fj_value::Condition;
 use fj_world::Ask;
-use std::alloc::Global;
+use std::alloc::{AllocError, Global};
 
 /// The unit that the file of an INQUIRE is connected to.
 fn unit_asked(units: &Units, statement: &Statement) -> Option<u32>
@@ -69,35 +69,22 @@ fn unit_asked(units: &Units, statement: &Statement) -> Option<u32>
 /// Tells transfers at a line: their inputs are defined, and they are pending no more.
 fn tell_all(
     alloc: Global,
-    variables: &Variables,
     line: u32,
     whose: Whose,
     core: &mut Core,
-) -> Result<Condition, Lost>
-    requires { core.old.store.kinds ≡ kinds_of variables.now }
+) -> Result<Condition, AllocError>
     ensures condition { IfOk result (λ condition. condition ≡ condition_of (waited_of whose (entries core.old.pending))) }
-    ensures core { (files : Files) → OnOk result (core_of files core.new ≡ told_core variables.now line (waited_of whose (entries core.old.pending)) (core_of files core.old)) }
+    ensures core { (variables : List Variable) (files : Files) → core.old.store.kinds ≡ kinds_of variables
+        → OnOk result (core_of files core.new ≡ told_core variables line (waited_of whose (entries core.old.pending)) (core_of files core.old)) }
     ensures left { OnOk result (held core.new.pending ≡ filter (λ h. not (tells_id (waited_of whose (entries core.old.pending)) h.pending.id)) (held core.old.pending)) }
     ensures some { LeavesSome core.old.pending core.new.pending }
     ensures next { core.new.next ≡ core.old.next }
     ensures units { core.new.units ≡ core.old.units }
-    ensures keeps { Keeps core.old result core.new }
-    ensures holds { IsKept variables.now core.old → OnOk result (IsKept variables.now core.new) }
-    ensures fits { All (IsTellable variables.now) (waited_of whose (entries core.old.pending)) → result ≢ Err Lost.Unfit }
+    ensures keeps { Keeps core.old core.new }
 {
-    let told = core.pending.tell(
-        alloc,
-        whose,
-        line,
-        variables.as_slice(),
-        &mut core.store,
-        &mut core.tells,
-    );
-    match told {
-        Ok(condition) => Ok(condition),
-        Err(fj_pending::Lost::Memory(error)) => Err(Lost::Memory(error)),
-        Err(fj_pending::Lost::Unfit) => Err(Lost::Unfit),
-    }
+    let store = &mut core.store;
+    let tells = &mut core.tells;
+    core.pending.tell(alloc, whose, line, store, tells)
 }
 
 impl<F: FileStore> State<F> {
@@ -122,10 +109,9 @@ impl<F: FileStore> State<F> {
         ensures files { HaveFiles self.old.core.names self.old.core.units → IfOk result (λ t. HaveTurned t self.new lined.now.what) }
         ensures counts { IfOk result (λ t. Counts t self.old self.new) }
         ensures units { self.new.core.units ≡ self.old.core.units }
-        ensures holds { IsKept variables.now self.old.core → OnOk result (IsKept variables.now self.new.core) }
-        ensures fits { IsSoundStatement variables.now lined.now.what → HaveFiles self.old.core.names self.old.core.units → IsKept variables.now self.old.core
-            → FitsTelling variables.now lined.now.what (waited_of whose (entries self.old.core.pending)) (values_of self.old.core.store) → result ≢ Err Lost.Unfit }
-        ensures spends { (most : ℕ) → length self.old.core.units ≤ most → IfOk result (λ t. Spends most (most_jobs most) t self.new) }
+        ensures holds { IsKept self.old.core → OnOk result (IsKept self.new.core) }
+        ensures fits { IsSoundStatement variables.now lined.now.what → HaveFiles self.old.core.names self.old.core.units → IsKept self.old.core → result ≢ Err Lost.Unfit }
+        ensures spends { IfOk result (λ t. Spends most_jobs t self.new) }
         ensures heard { self.new.told ≡ self.old.told }
         ensures fails { D.tells disk.old → (more : List Stated) (stage : PlainStage)
             → FailsTurn W.tells W.taken out.old self.old.core result out.new self.new.core (D.held disk.new) (D.refusals disk.old) (D.refusals disk.new)
@@ -143,11 +129,11 @@ impl<F: FileStore> State<F> {
             Ok(slots) => slots,
             Err(error) => return Err(Lost::Memory(error)),
         };
-        match tell_all(alloc, variables, lined.line, whose, &mut self.core) {
+        match tell_all(alloc, lined.line, whose, &mut self.core) {
             Ok(condition) => {
                 self.resume(alloc, variables, lined, slots, 0, condition, disk, out)
             }
-            Err(lost) => Err(lost),
+            Err(error) => Err(Lost::Memory(error)),
         }
     }
 
@@ -168,7 +154,7 @@ impl<F: FileStore> State<F> {
         ensures pauses { result ≢ Turned.Passes }
         ensures files { (what : Statement) → HaveAt stage self.old.core.names self.old.core.units what → HaveTurned result self.new what }
         ensures counts { Counts result self.old self.new }
-        ensures spends { (most : ℕ) → Spends most (jobs_at most stage (length self.old.core.units)) result self.new }
+        ensures spends { Spends (jobs_at stage (length self.old.core.units)) result self.new }
         ensures heard { self.new.told ≡ self.old.told }
     {
         put_stage(&mut self.stage, stage);
@@ -200,10 +186,9 @@ impl<F: FileStore> State<F> {
         ensures files { HaveFiles self.old.core.names self.old.core.units → IfOk result (λ t. HaveTurned t self.new lined.now.what) }
         ensures counts { IfOk result (λ t. Counts t self.old self.new) }
         ensures units { self.new.core.units ≡ self.old.core.units }
-        ensures holds { IsKept variables.now self.old.core → OnOk result (IsKept variables.now self.new.core) }
-        ensures fits { IsSoundStatement variables.now lined.now.what → HaveFiles self.old.core.names self.old.core.units → IsKept variables.now self.old.core
-            → FitsTelling variables.now lined.now.what (waited_of whose (entries self.old.core.pending)) (values_of self.old.core.store) → result ≢ Err Lost.Unfit }
-        ensures spends { (most : ℕ) → length self.old.core.units ≤ most → IfOk result (λ t. Spends most (most_jobs most) t self.new) }
+        ensures holds { IsKept self.old.core → OnOk result (IsKept self.new.core) }
+        ensures fits { IsSoundStatement variables.now lined.now.what → HaveFiles self.old.core.names self.old.core.units → IsKept self.old.core → result ≢ Err Lost.Unfit }
+        ensures spends { IfOk result (λ t. Spends most_jobs t self.new) }
         ensures heard { self.new.told ≡ self.old.told }
         ensures fails { D.tells disk.old → (more : List Stated) (stage : PlainStage)
             → FailsStage W.tells W.taken out.old self.old.core result out.new self.new.core (D.held disk.new) (D.refusals disk.old) (D.refusals disk.new) (lined.now, control_by lined.now.what) Waiting
@@ -240,10 +225,9 @@ impl<F: FileStore> State<F> {
         ensures files { HaveFiles self.old.core.names self.old.core.units → IfOk result (λ t. HaveTurned t self.new lined.now.what) }
         ensures counts { IfOk result (λ t. Counts t self.old self.new) }
         ensures units { self.new.core.units ≡ self.old.core.units }
-        ensures holds { IsKept variables.now self.old.core → OnOk result (IsKept variables.now self.new.core) }
-        ensures fits { IsSoundStatement variables.now lined.now.what → HaveFiles self.old.core.names self.old.core.units → IsKept variables.now self.old.core
-            → FitsTelling variables.now lined.now.what (waited_in (entries self.old.core.pending) (values_of self.old.core.store) lined.now.what) (values_of self.old.core.store) → result ≢ Err Lost.Unfit }
-        ensures spends { (most : ℕ) → length self.old.core.units ≤ most → IfOk result (λ t. Spends most (most_jobs most) t self.new) }
+        ensures holds { IsKept self.old.core → OnOk result (IsKept self.new.core) }
+        ensures fits { IsSoundStatement variables.now lined.now.what → HaveFiles self.old.core.names self.old.core.units → IsKept self.old.core → result ≢ Err Lost.Unfit }
+        ensures spends { IfOk result (λ t. Spends most_jobs t self.new) }
         ensures heard { self.new.told ≡ self.old.told }
         ensures fails { D.tells disk.old → (more : List Stated) (stage : PlainStage)
             → FailsStage W.tells W.taken out.old self.old.core result out.new self.new.core (D.held disk.new) (D.refusals disk.old) (D.refusals disk.new) (lined.now, control_by lined.now.what) Waiting
@@ -277,10 +261,9 @@ impl<F: FileStore> State<F> {
         ensures files { HaveFiles self.old.core.names self.old.core.units → IfOk result (λ t. HaveTurned t self.new lined.now.what) }
         ensures counts { IfOk result (λ t. Counts t self.old self.new) }
         ensures units { self.new.core.units ≡ self.old.core.units }
-        ensures holds { IsKept variables.now self.old.core → OnOk result (IsKept variables.now self.new.core) }
-        ensures fits { IsSoundStatement variables.now lined.now.what → HaveFiles self.old.core.names self.old.core.units → IsKept variables.now self.old.core
-            → FitsTelling variables.now lined.now.what (waited_in (entries self.old.core.pending) (values_of self.old.core.store) lined.now.what) (values_of self.old.core.store) → result ≢ Err Lost.Unfit }
-        ensures spends { (most : ℕ) → length self.old.core.units ≤ most → IfOk result (λ t. Spends most (most_jobs most) t self.new) }
+        ensures holds { IsKept self.old.core → OnOk result (IsKept self.new.core) }
+        ensures fits { IsSoundStatement variables.now lined.now.what → HaveFiles self.old.core.names self.old.core.units → IsKept self.old.core → result ≢ Err Lost.Unfit }
+        ensures spends { IfOk result (λ t. Spends most_jobs t self.new) }
         ensures heard { self.new.told ≡ self.old.told }
         ensures fails { D.tells disk.old → (more : List Stated) (stage : PlainStage)
             → FailsStage W.tells W.taken out.old self.old.core result out.new self.new.core (D.held disk.new) (D.refusals disk.old) (D.refusals disk.new) (lined.now, control_by lined.now.what) Start

@@ -30,7 +30,7 @@ use Rattle.fj_plain.specs.Statement.{file_asked}
 use Rattle.fj_desk.specs.Core.{Core, Pending, Connected, connected_at, unit_named, with_connected, inserted, without_connected}
 use Rattle.fj_desk.specs.Desks.{Outcome, most_slots, cells_in, count_in, condition_in}
 use Rattle.fj_desk.specs.Doing.{Doing, finishes, gives, awaits}
-use Rattle.fj_desk.specs.Acting.{pending_of, finishes_behind, transferred, unless_refused, on_unit, transfer_at, keeps, disconnected, detaches, closes, closes_anyway, all_closed, free_from, changes, is_taken, attaches, connects_at, connects, closes_first, opens_with, opens, moves, asks_connection, inquires, if_numbered, unit_at, own, instead, doing}
+use Rattle.fj_desk.specs.Acting.{pending_of, finishes_behind, transferred, unless_refused, on_unit, transfer_at, keeps, disconnected, came_out, detaches, closes, closes_anyway, all_closed, free_from, changes, is_taken, attaches, connects_at, connects, closes_first, opens_with, opens, moves, asks_connection, inquires, if_numbered, unit_at, own, instead, doing}
 use Rattle.fj_desk.proofs.Apart.{Each, each_filter, each_append}
 use Rattle.fj_desk.proofs.Opening.{free_found}
 use Rattle.fj_turns.specs.Turns.{ends_halts}
@@ -123,7 +123,7 @@ transfer_keeps control variables line core t moved (unit.Number n) h = on_unit_k
 
 detaches_keeps : (from core : Core) (u : Connected) (keep : Bool) (next : Core → Doing) → u.slot < most_slots → KeepsBook from core → ((new : Core) → KeepsBook from new → Keeps from (next new)) → Keeps from (detaches core u keep next)
 detaches_keeps from core u keep next s k f =
-    (s, k, (λ o. f (disconnected core u keep o) (k.0, k.1, without_housed u.number core.units k.2)))
+    (s, k, (λ o. keeps_if from (came_out u o) _ _ (f (disconnected core u keep o) (k.0, k.1, without_housed u.number core.units k.2)) k))
 
 closes_keeps : (core : Core) (keep : Option Bool) (o : Option Connected) → Housed core.units → ((u : Connected) → o ≡ Some u → u.slot < most_slots) → Keeps core (closes core keep o)
 closes_keeps core keep None h s = (refl, refl, h)
@@ -181,10 +181,10 @@ moves_keeps : (core : Core) (how : Motion) (o : Option Connected) → Housed cor
 moves_keeps core how None h s = (refl, refl, h)
 moves_keeps core how (Some u) h s = (s u refl, (refl, refl, h), (λ o. (refl, refl, h)))
 
-inquires_keeps : (core : Core) (number : Option ℕ) (file : Option (List ℕ)) (asked : List Wanted) (id : Option ℤ) (o : Option Connected) → Housed core.units → ((u : Connected) → o ≡ Some u → u.slot < most_slots)
-    → Keeps core (inquires core number file asked id o)
-inquires_keeps core number file asked id None h s = (refl, refl, h)
-inquires_keeps core number file asked id (Some u) h s =
+inquires_keeps : (variables : List Variable) (core : Core) (number : Option ℕ) (file : Option (List ℕ)) (asked : List Wanted) (id : Option ℤ) (o : Option Connected) → Housed core.units → ((u : Connected) → o ≡ Some u → u.slot < most_slots)
+    → Keeps core (inquires variables core number file asked id o)
+inquires_keeps variables core number file asked id None h s = (refl, refl, h)
+inquires_keeps variables core number file asked id (Some u) h s =
     keeps_if core (list_any (λ (w : Wanted). asks_connection w.what) asked) _ _ (s u refl, (refl, refl, h), (λ o. (refl, refl, h))) (refl, refl, h)
 
 -- ---- each kind of statement
@@ -197,7 +197,7 @@ own_keeps control variables line core (statement.WaitFor u id iostat) h = (refl,
 own_keeps control variables line core (statement.Move how u iostat) h = moves_keeps core how (unit_at core (number_of u)) h (λ v e. unit_housed core (number_of u) v h e)
 own_keeps control variables line core (statement.Inquire subject asked id iostat) h =
     let number = unit_about (unit_named core.units) subject in
-    inquires_keeps core number (file_asked subject) asked (number_given core.vars id) (unit_at core number) h (λ v e. unit_housed core number v h e)
+    inquires_keeps variables core number (file_asked subject) asked (number_given core.vars id) (unit_at core number) h (λ v e. unit_housed core number v h e)
 own_keeps control variables line core (statement.Transfer t) h = transfer_keeps control variables line core t (moved_in variables core.vars t) t.unit h
 own_keeps control variables line core statement.End h = all_keeps core core.units core Fine h (refl, refl, h)
 

@@ -32,7 +32,7 @@ use Rattle.fj_desk.specs.Core.{Core, Connected, connected_at, unit_named}
 use Rattle.fj_desk.specs.Desks.{Desk, Outcome, most_slots, carry, log_length}
 use Rattle.fj_desk.specs.Desks as desks
 use Rattle.fj_desk.specs.Doing.{Doing, finishes, gives, awaits, Desked, acted}
-use Rattle.fj_desk.specs.Acting.{finishes_behind, transferred, unless_refused, on_unit, transfer_at, keeps, detaches, closes, closes_anyway, all_closed, free_from, changes, is_taken, attaches, connects_at, connects, closes_first, opens_with, opens, moves, asks_connection, inquires, if_numbered, unit_at, own, instead, doing}
+use Rattle.fj_desk.specs.Acting.{finishes_behind, transferred, unless_refused, on_unit, transfer_at, keeps, came_out, detaches, closes, closes_anyway, all_closed, free_from, changes, is_taken, attaches, connects_at, connects, closes_first, opens_with, opens, moves, asks_connection, inquires, if_numbered, unit_at, own, instead, doing}
 use Rattle.fj_desk.specs.Desking.{told_core, desk_step, goes_on, completed, fresh}
 use Rattle.fj_desk.proofs.Apart.{Differs}
 use Rattle.fj_desk.proofs.Opening.{free_found}
@@ -83,7 +83,7 @@ transfer_fair k control variables line core t moved (unit.Number n) h = on_unit_
 -- ---- CLOSE
 
 detaches_fair : (k : ℕ) (core : Core) (u : Connected) (keep : Bool) (next : Core → Doing) → Seated core.units → ((new : Core) → Seated new.units → Fair k (next new)) → Fair (suc k) (detaches core u keep next)
-detaches_fair k core u keep next h f = (h, (λ o. f _ (filter_seated (λ (v : Connected). not (v.number == u.number)) core.units h)))
+detaches_fair k core u keep next h f = (h, (λ o. fair_if k (came_out u o) _ _ (f _ (filter_seated (λ (v : Connected). not (v.number == u.number)) core.units h)) h))
 
 closes_fair : (k : ℕ) (core : Core) (keep : Option Bool) (o : Option Connected) → Seated core.units → Fair (suc k) (closes core keep o)
 closes_fair k core keep None h = h
@@ -141,9 +141,9 @@ moves_fair : (k : ℕ) (core : Core) (how : Motion) (o : Option Connected) → S
 moves_fair k core how None h = h
 moves_fair k core how (Some u) h = (h, (λ o. h))
 
-inquires_fair : (k : ℕ) (core : Core) (number : Option ℕ) (file : Option (List ℕ)) (asked : List Wanted) (id : Option ℤ) (o : Option Connected) → Seated core.units → Fair (suc k) (inquires core number file asked id o)
-inquires_fair k core number file asked id None h = h
-inquires_fair k core number file asked id (Some u) h = fair_if (suc k) (list_any (λ (w : Wanted). asks_connection w.what) asked) _ _ (h, (λ o. h)) h
+inquires_fair : (k : ℕ) (variables : List Variable) (core : Core) (number : Option ℕ) (file : Option (List ℕ)) (asked : List Wanted) (id : Option ℤ) (o : Option Connected) → Seated core.units → Fair (suc k) (inquires variables core number file asked id o)
+inquires_fair k variables core number file asked id None h = h
+inquires_fair k variables core number file asked id (Some u) h = fair_if (suc k) (list_any (λ (w : Wanted). asks_connection w.what) asked) _ _ (h, (λ o. h)) h
 
 -- ---- each kind of statement
 
@@ -155,7 +155,7 @@ own_fair k control variables line core (statement.WaitFor u id iostat) h l = h
 own_fair k control variables line core (statement.Move how u iostat) h l = moves_fair (suc k) core how (unit_at core (number_of u)) h
 own_fair k control variables line core (statement.Inquire subject asked id iostat) h l =
     let number = unit_about (unit_named core.units) subject in
-    inquires_fair (suc k) core number (file_asked subject) asked (number_given core.vars id) (unit_at core number) h
+    inquires_fair (suc k) variables core number (file_asked subject) asked (number_given core.vars id) (unit_at core number) h
 own_fair k control variables line core (statement.Transfer t) h l = transfer_fair k control variables line core t (moved_in variables core.vars t) t.unit h
 own_fair k control variables line core statement.End h l = all_fair (suc (suc k)) core.units core Fine l h
 

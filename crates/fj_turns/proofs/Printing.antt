@@ -32,7 +32,7 @@ use Rattle.fj_desk.specs.Core.{Core, Connected, connected_at, unit_named}
 use Rattle.fj_desk.specs.Desks.{Desk, Outcome, carry, log_length, most_slots}
 use Rattle.fj_desk.specs.Desks as desks
 use Rattle.fj_desk.specs.Doing.{Doing, finishes, gives, awaits, Desked, acted}
-use Rattle.fj_desk.specs.Acting.{finishes_behind, transferred, unless_refused, on_unit, transfer_at, keeps, disconnected, detaches, closes, closes_anyway, all_closed, free_from, changes, is_taken, attaches, connects_at, connects, closes_first, opens_with, opens, moves, asks_connection, inquires, if_numbered, unit_at, own, instead, doing}
+use Rattle.fj_desk.specs.Acting.{finishes_behind, transferred, unless_refused, on_unit, transfer_at, keeps, disconnected, came_out, detaches, closes, closes_anyway, all_closed, free_from, changes, is_taken, attaches, connects_at, connects, closes_first, opens_with, opens, moves, asks_connection, inquires, if_numbered, unit_at, own, instead, doing}
 use Rattle.fj_desk.specs.Desking.{told_core}
 use Rattle.fj_turns.specs.Run.{Held}
 use Rattle.fj_turns.specs.Turns.{unsettled, halted_slots, ends_halts, doing_told}
@@ -87,7 +87,7 @@ module _ (control : ℕ → List Given) (variables : List Variable) (line : ℕ)
 -- ---- CLOSE
 
 detaches_silent : (o : Output) (core : Core) (u : Connected) (keep : Bool) (next : Core → Doing) → core.output ≡ o → ((new : Core) → new.output ≡ o → Silent o (next new)) → Silent o (detaches core u keep next)
-detaches_silent o core u keep next h f = (h, λ x. f (disconnected core u keep x) h)
+detaches_silent o core u keep next h f = (h, λ x. silent_if o (came_out u x) _ _ (f (disconnected core u keep x) h) h)
 
 closes_silent : (core : Core) (keep : Option Bool) (at : Option Connected) → Silent core.output (closes core keep at)
 closes_silent core keep None = refl
@@ -143,9 +143,9 @@ moves_silent : (core : Core) (how : Motion) (at : Option Connected) → Silent c
 moves_silent core how None = refl
 moves_silent core how (Some u) = (refl, λ x. refl)
 
-inquires_silent : (core : Core) (number : Option ℕ) (file : Option (List ℕ)) (asked : List Wanted) (id : Option ℤ) (at : Option Connected) → Silent core.output (inquires core number file asked id at)
-inquires_silent core number file asked id None = refl
-inquires_silent core number file asked id (Some u) = silent_if core.output (list_any (λ (w : Wanted). asks_connection w.what) asked) _ _ (refl, λ x. refl) refl
+inquires_silent : (variables : List Variable) (core : Core) (number : Option ℕ) (file : Option (List ℕ)) (asked : List Wanted) (id : Option ℤ) (at : Option Connected) → Silent core.output (inquires variables core number file asked id at)
+inquires_silent variables core number file asked id None = refl
+inquires_silent variables core number file asked id (Some u) = silent_if core.output (list_any (λ (w : Wanted). asks_connection w.what) asked) _ _ (refl, λ x. refl) refl
 
 -- ---- each kind of statement
 
@@ -203,7 +203,7 @@ alone_or_silent (statement.WaitFor u id iostat) = inr (doing_silent (statement.W
 alone_or_silent (statement.Move how u iostat) = inr (doing_silent (statement.Move how u iostat) (λ control variables line core. moves_silent core how (unit_at core (number_of u))))
 alone_or_silent (statement.Inquire subject asked id iostat) =
     inr (doing_silent (statement.Inquire subject asked id iostat) (λ control variables line core.
-    let number = unit_about (unit_named core.units) subject in inquires_silent core number (file_asked subject) asked (number_given core.vars id) (unit_at core number)))
+    let number = unit_about (unit_named core.units) subject in inquires_silent variables core number (file_asked subject) asked (number_given core.vars id) (unit_at core number)))
 alone_or_silent (statement.Transfer t) = transfer_silent t t.unit refl
 alone_or_silent statement.End = inr (doing_silent statement.End (λ control variables line core. all_silent core.output core.units core Fine refl))
 
