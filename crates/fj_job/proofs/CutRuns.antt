@@ -222,8 +222,8 @@ module _ {S W D F : Type 0} {ghosts : Ghosts F} (s : Shows S) (tells_out : W →
 
       -- by what became of an ask: there was no memory to submit its job
       heard_holds : (rest : List Stated) → rest_of (machine gone) ≡ rest → s.state before ≡ Some script_at.script → script_at.hand ≢ Finished → IsDueAsk (due_of (machine before).tally.hand) script_at.hand
-          → (machine gone).tally.stopped ≡ false → AllFits (λ lost. (machine gone).tally.lost ≡ Some lost) → HoldsThen rest
-      heard_holds rest place state some due stop fits =
+          → (machine gone).tally.stopped ≡ false → HoldsThen rest
+      heard_holds rest place state some due stop =
           submit_holds meaning rack (held (disk gone)) (refusals (disk first)) (refusals (disk gone)) deck files (machine gone) rest script_at.script (desks_of meaning slots_then)
           (sym place ∙ stays ∙ sym (rest_is told bytes left (machine before) script_at.script is))
           (it.units asks ∙ ap (λ (k : Core). k.units) (sym core)) (ap (λ (d : D). files_of (held d)) (it.same_disk asks) ∙ ap (λ (k : Core). k.files) (sym core)) t
@@ -239,7 +239,7 @@ module _ {S W D F : Type 0} {ghosts : Ghosts F} (s : Shows S) (tells_out : W →
           asks = hand_asks (machine before).tally.hand script_at.hand some due
 
           job : SubmitsOne script_at.hand
-          job = submits_one (machine before).tally.hand script_at.hand some due (it.submits asks going over stop fits)
+          job = submits_one (machine before).tally.hand script_at.hand some due (it.submits asks going over stop)
 
           t : SubmitLeavesOthers deck.variables (stated deck.statements) files script_at.script (desks_of meaning slots_then)
           t = each_submit meaning s deck.variables (stated deck.statements) files w.asks job.0 job.1 job.2
@@ -282,7 +282,7 @@ module _ {S W D F : Type 0} {ghosts : Ghosts F} (s : Shows S) (tells_out : W →
                   at = script_at.script;
                   call = f;
                   learns = learns_at meaning s deck.variables (stated deck.statements) files (ends_so deck sound) (some_statement deck sound) w.asks f.count f.run hand f.passed;
-                  holds = λ fits. heard_holds f.run.rest f.rest state hand (subst (λ d. IsDueAsk d script_at.hand) (r.due before) due) stop fits;
+                  holds = λ fits. heard_holds f.run.rest f.rest state hand (subst (λ d. IsDueAsk d script_at.hand) (r.due before) due) stop;
                 }
           ]
 
