@@ -9,7 +9,7 @@ use Rattle.fj_slot.specs.Serving.{Meaning}
 use Rattle.fj_slot.specs.Sound.{outcome}
 use Rattle.fj_world.specs.declared.ask.Ask.{Ask}
 use Rattle.fj_world.specs.declared.ask.Ask.TheVariants.{Submit, Settle}
-use Rattle.fj_world.specs.Conduct.{Conduct, Submitting, Settling, Asks, Takes, Tells, IsAsk}
+use Rattle.fj_world.specs.Conduct.{Conduct, Submitting, Settling, Asks, Takes, Tells, IsAsk, IsDueAsk, Idle}
 use Rattle.fj_world.specs.Leading.{LeadsTo}
 use Rattle.fj_world.specs.Plain.{Plain, PlainSlot, asked_next, after}
 use Rattle.fj_world.proofs.Places.{slice_get_set, slice_get_in}
@@ -59,12 +59,12 @@ module _ {S C G J A P T R : Type 0} (m : Meaning G J A P T R) (c : Conduct S T R
   fits_hold p script hand seats fits = record { same = fits.same; sent = λ k q s eq es. (fits.slots k q s eq es).sent; reached = fits.reached }
 
   -- by its first ask
-  pub first_gave_up : {level : Type 0} (script new : S) (hand : Ask J) (seats : List (SubmitterOf C G T)) (b : Begun m c script seats) → (level → AllAnswered seats) → c.over script ≡ false → Asks m c script hand new → c.over new ≡ true
+  pub first_gave_up : {level : Type 0} (script new : S) (hand : Ask J) (seats : List (SubmitterOf C G T)) (b : Begun m c script seats) → (level → AllAnswered seats) → c.due script ≡ Idle → c.over script ≡ false → Asks m c script hand new → c.over new ≡ true
       → CrewGaveUp m c level (c.left script) b.state b.slots script new seats
-  first_gave_up script new hand seats b levels going asks over = record {
+  first_gave_up script new hand seats b levels idle going asks over = record {
     asks = 0;
     few = omega arith;
-    call = by_first_ask m c b.state b.slots script new hand b.told going asks over;
+    call = by_first_ask m c b.state b.slots script new hand b.told idle going asks over;
     slots = record { same = b.planned.same; sent = λ k q s eq es. (b.fits k q s eq es).sent; reached = λ l. begins_reached m c script seats b (levels l) };
   }
 
@@ -90,7 +90,7 @@ module _ {S C G J A P T R : Type 0} (m : Meaning G J A P T R) (c : Conduct S T R
       record {
         asks = suc n;
         few = omega (arith, goes.few, takes.left);
-        call = by_ask m c s qs n first script mid new hand' path takes.leads going' (λ z. absurd (let no = sym plain.1 ∙ z in cc)) (taken ∙ ap (λ z. Some (c.took now.script z)) (sends.0 ∙ fit.sent) ∙ ap (λ z. Some z.0) (sym then)) asks over;
+        call = by_ask m c s qs n first script mid new hand' path takes.leads going' (λ z. absurd (let no = sym plain.1 ∙ z in cc)) (taken ∙ ap (λ z. Some (c.took now.script z)) (sends.0 ∙ fit.sent) ∙ ap (λ z. Some z.0) (sym then)) takes.due asks over;
         slots = subst (λ z. SeatsHold level z.1 seats') (sym then) (hold_set now.slots seats seats' at q' did.seat (fits_hold now script hand seats fits) did.after
             (sends.1.numbers.sent_is ∙ ap (λ z. z + 1) fit.sent ∙ sym (length-append q.jobs (t ∷ [])))
             (λ l. still_reached q q' (knows x) (knows did.seat) refl sends.1.answered sends.1.numbers.heard_is sends.1.stopped sends.1.stopped_at (fits.reached l at q x here.1 found)));
@@ -104,7 +104,7 @@ module _ {S C G J A P T R : Type 0} (m : Meaning G J A P T R) (c : Conduct S T R
       record {
         asks = n;
         few = omega (arith, goes.few);
-        call = by_answer m c s qs n first script mid new hand' path going told.0 (λ z. absurd (let no = sym plain.1 ∙ z in cc)) (λ z. absurd (let no = sym due ∙ z in cc)) takes.leads takes.refused asks;
+        call = by_answer m c s qs n first script mid new hand' path going told.0 (λ z. absurd (let no = sym plain.1 ∙ z in cc)) (subst (λ h. IsDueAsk (c.due script) h) (sym plain.1) due) takes.leads takes.refused asks;
         slots = subst (λ z. SeatsHold level z seats') (before_slots m c n s qs)
             (hold_here now.slots seats seats' at x did.seat (fits_hold now script hand seats goes.fits) found did.after sends.numbers.sent_is
             (λ l q e. still_reached q q (knows x) (knows did.seat) refl sends.answered sends.numbers.heard_is sends.stopped sends.stopped_at (goes.fits.reached l at q x e found)));
@@ -129,7 +129,7 @@ module _ {S C G J A P T R : Type 0} (m : Meaning G J A P T R) (c : Conduct S T R
       by_it reached e = record {
         asks = goes.entries;
         few = omega (arith, goes.few);
-        call = by_answer m c s qs goes.entries first script mid new hand' path going told.0 (λ z. absurd (let no = sym plain ∙ z in cc)) (λ z. absurd (let no = sym due ∙ z in cc)) tells.leads e asks;
+        call = by_answer m c s qs goes.entries first script mid new hand' path going told.0 (λ z. absurd (let no = sym plain ∙ z in cc)) (subst (λ h. IsDueAsk (c.due script) h) (sym plain) due) tells.leads e asks;
         slots = subst (λ z. SeatsHold level z seats') (before_slots m c goes.entries s qs)
             (hold_here now.slots seats seats' at x did.seat (fits_hold now script hand seats goes.fits) found did.after (did.numbers x found).sent_is reached);
       }
@@ -162,7 +162,7 @@ module _ {S C G J A P T R : Type 0} (m : Meaning G J A P T R) (c : Conduct S T R
           record {
             asks = suc goes.entries;
             few = omega (arith, goes.few, tells.left);
-            call = by_ask m c s qs goes.entries first script mid new hand' path tells.leads goes' (λ z. absurd (let no = sym plain ∙ z in cc)) (heard_it ∙ ap (λ z. Some z.0) (sym then)) asks over;
+            call = by_ask m c s qs goes.entries first script mid new hand' path tells.leads goes' (λ z. absurd (let no = sym plain ∙ z in cc)) (heard_it ∙ ap (λ z. Some z.0) (sym then)) tells.due asks over;
             slots = subst (λ z. SeatsHold level z.1 seats') (sym then) (hold_set now.slots seats seats' at q' did.seat (fits_hold now script hand seats goes.fits) did.after (numbers.sent_is ∙ fit.sent)
                 (λ l. let known : answers.KnowsStop m (knows x) (knows did.seat) (Done job answer) = subst (λ z. answers.KnowsStop m (knows x) (knows did.seat) z) e (did.told x found).stop in
                 told_reached q q' (knows x) (knows did.seat) refl heard numbers.heard_is (known.2 ∙ knew l)));

@@ -25,7 +25,7 @@ use Rattle.fj_report.specs.declared.status.Status.TheVariants.{WriteFault, DiskF
 use Rattle.fj_job.specs.Answers.{IsAnswer, HasCause}
 use Rattle.fj_job.specs.Cut.{Carried as At, CutByMemory}
 use Rattle.fj_job.specs.Cutting.{IsCut, EndsHere, IsLeftAt, IsLeftBegun, TookSome}
-use Rattle.fj_job.specs.Executing.{IsNoneOrFault, IsSettled, IsCarriedOut, IsConcluded, IsExecuted}
+use Rattle.fj_job.specs.Executing.{IsSettled, IsCarriedOut, IsConcluded, IsExecuted}
 use Rattle.fj_job.specs.declared.ending.Carried.{Carried}
 use Rattle.fj_job.proofs.Executed.{came, replies, all_taken, nothing_written}
 use Rattle.fj_job.proofs.Fronts.{fault_by, write_by, front_of_same, not_lost}
@@ -74,7 +74,7 @@ module _ {W D F : Type 0} (tells_out : W → Type 0) (taken : W → List ℕ) (c
             (ran t (sym settled.over ∙ going)) refl settled.core settled.ending (λ desks h seats. settled.files (leaves.telling.0 t) s desks h seats)));
         at_want = λ t fit fault trace. subst (λ (d : Deck). CutByMemory d trace (files_of (held disk)) (tells_out out) (taken out) (taken out') (held disk'') (refusals disk) (refusals disk'')) same
             (cut_by_memory meaning rack' (held disk') (held disk'') (refusals disk) (refusals disk') (refusals disk'') (tells_out out) (taken out) (taken out') m.deck (files_of (held disk)) m' own (there t)
-            (leaves.own t) (settled.own (leaves.telling.0 t)) (settled.found (leaves.telling.0 t) fit) (settled.spared (leaves.telling.0 t) fit) trace (subst IsNoneOrFault settled.lost fault));
+            (leaves.own t) (settled.own (leaves.telling.0 t)) (settled.found (leaves.telling.0 t) fit) (settled.spared (leaves.telling.0 t) fit) trace (λ u. fault (settled.lost ∙ u)));
         part = λ t w. subst (λ (d : Deck). TookSome d (files_of (held disk)) (taken out) (taken out')) same
             (took_some meaning rack' (held disk') (refusals disk) (refusals disk') (tells_out out) (taken out) (taken out') m.deck (files_of (held disk)) m' (there t) w);
         result_is = λ t s going. came meaning told bytes deck m.deck (files_of (held disk)) (files_of (held disk')) (files_of (held disk'')) m' rack' it.left

@@ -21,10 +21,10 @@ use Rattle.fj_turns.proofs.Meant.{cuts_agree}
 use Rattle.fj_pending.specs.Plain.{tells_of}
 use Rattle.fj_items.specs.Handing.{whole_records, HandsOver, HandsFront, HandsPart}
 use Rattle.fj_items.specs.declared.lost.Lost.{Lost}
-use Rattle.fj_items.specs.declared.lost.Lost.TheVariants.{Sink}
+use Rattle.fj_items.specs.declared.lost.Lost.TheVariants.{Unfit}
 use Rattle.fj_acts.specs.Calling.{calls_disk}
 use Rattle.fj_acts.specs.State.{core_of}
-use Rattle.fj_runner.specs.Failing.{FailsCall, FailsAtDisk, HandsThen, OfOutside, CallsDisk}
+use Rattle.fj_runner.specs.Failing.{AllFits, FailsCall, FailsAtDisk, HandsThen, CallsDisk}
 use Rattle.fj_runner.specs.Machine.{rest_of}
 use Rattle.fj_runner.specs.declared.machine.Machine.{Machine}
 use Rattle.fj_job.specs.Cut.{Untold, Told, Carried, ComesTo}
@@ -39,8 +39,11 @@ pub shown : (b : Bool) (o : Option Run) (r : Run) → cond b o None ≡ Some r �
 shown true o r e = e
 shown false o r e = cc
 
-pub lost_none : {o : Option Lost} {P : Type 0} → o ≡ None → o ≡ Some Sink → P
-lost_none none some = absurd (let z : None ≡ Some Sink = sym none ∙ some in cc)
+pub lost_none : {o : Option Lost} {lost : Lost} {P : Type 0} → o ≡ None → o ≡ Some lost → P
+lost_none {lost = lost} none some = absurd (let z : None ≡ Some lost = sym none ∙ some in cc)
+
+pub all_fits_by : {o : Option Lost} {lost : Lost} → o ≡ Some lost → lost ≢ Unfit → o ≢ Some Unfit
+all_fits_by {lost = lost} some fits unfit = let z : Some lost ≡ Some Unfit = sym some ∙ unfit in fits cc
 
 -- ---- at a statement
 
@@ -76,7 +79,7 @@ module _ {E J A F : Type 0} {ghosts : Ghosts F} (meaning : Meaning E J A Bay Job
             cause = inr cause;
           }
         ];
-        sink = λ s. lost_none none s;
+        fits = λ lost some _. lost_none none some;
         begun = λ t s. lost_none none s;
         front = λ t. record { reach = Untold; part = whole_records m.state.core.output; rest = []; due = ap whole_records (sym output) ∙ sym (append-nil _); taken = took t };
       }
@@ -152,15 +155,15 @@ module _ {E J A F : Type 0} {ghosts : Ghosts F} (meaning : Meaning E J A Bay Job
         (subst (λ o. HandsPart between new run.core.output o) (x.due ∙ it.output) front))
 
     pub cut_failing : (r : Run) (f : FailsCall (λ lost. m.tally.lost ≡ Some lost) TellsThen taken new held early late r was m) → LearnsAt deck.variables (stated deck.statements) (fresh deck.variables files) f.run → m.tally.lost ≢ None
-        → (OfOutside (λ lost. m.tally.lost ≡ Some lost) → HoldsAt meaning rack held before now deck files m f.run.rest) → IsCut meaning rack held before now Tells old new deck files m
+        → (AllFits (λ lost. m.tally.lost ≡ Some lost) → HoldsAt meaning rack held before now deck files m f.run.rest) → IsCut meaning rack held before now Tells old new deck files m
     cut_failing r f x lost holds =
         let it : IsCutOf deck.variables (stated deck.statements) files x.index x.statement x.before = cuts_agree deck.variables (stated deck.statements) files x.index x.statement x.before x.reached in
         let comes : ComesTo deck files = record { index = x.index; statement = x.statement; before = it.state; there = it.cut_is } in
         record {
           comes = comes;
           at = at_hand deck files comes m.at (hand comes f.run (sym f.rest) x.rest);
-          exact = λ how. elim how [ inl none ↦ absurd (lost none) | inr disk ↦ exact_fails f.run x it (f.outside (inl disk)).known (f.disk disk) (holds (inl disk)) ];
-          sink = λ s. holds_there meaning rack held before now deck files m f.run.rest (holds (inr s)) comes x.rest;
+          exact = λ how. elim how [ inl none ↦ absurd (lost none) | inr disk ↦ exact_fails f.run x it (f.outside (inl disk)).known (f.disk disk) (holds (all_fits_by disk (λ e. cc))) ];
+          fits = λ lost some fits. holds_there meaning rack held before now deck files m f.run.rest (holds (all_fits_by some fits)) comes x.rest;
           begun = λ t s. begun_fails f.run x it t (f.sink s (on t));
           front = λ t. front_fails f.run x it t (f.front (on t));
         }

@@ -1,12 +1,15 @@
 -- A script of runners that is over: its run was cut.
-use Rattle.std.proofs.Common.{◌≡◌, ◌≢◌, ℕ, ◌<◌, Bool, true, false, cond, List, [], ◌++◌, Option, Some, None, IsSome, refl, sym, ap, ◌∙◌, subst, inl, inr, arith}
+use Rattle.std.proofs.Common.{◌≡◌, ◌≢◌, ◌⊎◌, ℕ, ◌<◌, Bool, true, false, cond, List, [], ◌++◌, drop, Option, Some, None, IsSome, refl, sym, ap, ◌∙◌, subst, inl, inr, arith}
 use Rattle.std.proofs.lemmas.Option.{slice_get_within}
 use Rattle.fj_outside.specs.Holdings.{Holdings}
 use Rattle.fj_outside.specs.declared.outside.FileStore.{Ghosts}
 use Rattle.fj_statement.specs.declared.deck.Deck.{Deck}
 use Rattle.fj_statement.specs.Sound.{IsSound}
 use Rattle.fj_slot.specs.Serving.{Meaning}
-use Rattle.fj_world.specs.declared.ask.Ask.TheVariants.{Settle, Finished}
+use Rattle.fj_world.specs.Conduct as conduct
+use Rattle.fj_world.specs.Conduct.{IsDueAsk, IsSubmitting}
+use Rattle.fj_world.specs.declared.ask.Ask.{Ask}
+use Rattle.fj_world.specs.declared.ask.Ask.TheVariants.{Submit, Settle, Finished}
 use Rattle.fj_world.specs.Alone.{ServedAlone}
 use Rattle.fj_world.specs.Fits.{HasStopped}
 use Rattle.fj_world.specs.Leading.{LeadsTo}
@@ -17,7 +20,8 @@ use Rattle.fj_world.proofs.Places.{slice_get_in}
 use Rattle.fj_bay.specs.Bay.{Bay}
 use Rattle.fj_bay.specs.Jobs.{Job, Answer}
 use Rattle.fj_plain.specs.State.{Files, start}
-use Rattle.fj_plain.specs.Statement.{stated}
+use Rattle.fj_plain.specs.Statement.{Stated, stated}
+use Rattle.fj_desk.specs.Core.{Core}
 use Rattle.fj_desk.specs.Desking.{fresh}
 use Rattle.fj_turns.specs.Run.{Run}
 use Rattle.fj_turns.specs.Cutting.{IsCutRun, IsCut as IsCutAt}
@@ -26,27 +30,30 @@ use Rattle.fj_turns.proofs.Before.{each_asks}
 use Rattle.fj_turns.proofs.Cutting.{cut_at_stop, world_is_cut}
 use Rattle.fj_turns.proofs.Slots.{map_get}
 use Rattle.fj_cut.specs.Stopping.{WereGiven}
-use Rattle.fj_cut.specs.Turning.{TurnLeavesOthers}
+use Rattle.fj_cut.specs.Turning.{IsUnbegun, TurnLeavesOthers, SubmitLeavesOthers}
 use Rattle.fj_cut.proofs.Awaited.{stops_are_awaited}
 use Rattle.fj_cut.proofs.Stops.{stops_leave_others}
-use Rattle.fj_cut.proofs.Turns.{each_turn}
+use Rattle.fj_cut.proofs.Turns.{each_turn, each_submit}
 use Rattle.fj_cut.proofs.Given.{within_deck, each_stop_given, each_turn_given}
 use Rattle.fj_items.specs.Handing.{whole_records}
 use Rattle.fj_items.specs.declared.lost.Lost.{Lost}
+use Rattle.fj_acts.specs.State.{core_of}
 use Rattle.fj_units.specs.Files.{files_of}
-use Rattle.fj_runner.specs.Failing.{FailsCall, OfOutside, IsGivenUp, FailsAsking, Stays, HasReason}
+use Rattle.fj_runner.specs.Failing.{AllFits, StandsStill, StandsAt, FailsCall, IsGivenUp, FailsAsking, Stays, HasReason}
 use Rattle.fj_runner.specs.Leaving.{Leaves}
-use Rattle.fj_runner.specs.Machine.{run_of}
+use Rattle.fj_runner.specs.Machine.{rest_of, run_of}
 use Rattle.fj_runner.specs.Tallying.{due_of}
+use Rattle.fj_runner.specs.declared.hand.Hand.{Hand}
+use Rattle.fj_runner.specs.declared.hand.Hand.TheVariants.{Idle, Submitting, Settling}
 use Rattle.fj_runner.specs.declared.machine.Machine.{Machine}
 use Rattle.fj_job.specs.Carrying.{HasNotBegun}
 use Rattle.fj_job.specs.Cutting.{IsCut}
 use Rattle.fj_job.proofs.Cut.{shown, cut_asking, cut_failing}
 use Rattle.fj_job.proofs.Executed.{parts, nothing_written, all_taken, rest_is}
 use Rattle.fj_job.proofs.Leading.{led_to, leaves_same, leaves_on, rose_earlier}
-use Rattle.fj_job.proofs.Holding.{stop_cause, stop_holds, turn_holds}
+use Rattle.fj_job.proofs.Holding.{HoldsAt, stop_cause, stop_holds, turn_holds, still_holds, submit_holds}
 use Rattle.fj_job.proofs.Leaving.{slots_hold, within}
-use Rattle.fj_job.proofs.Learning.{LearnsAt, none_left, at_before, learns_before, learns_at, asked_slot}
+use Rattle.fj_job.proofs.Learning.{LearnsAt, none_left, at_before, learns_before, learns_at, asked_slot, asked_given}
 use Rattle.fj_job.proofs.Giving.{given_at}
 use Rattle.fj_job.proofs.Passes.{ends_so, some_statement}
 
@@ -70,6 +77,26 @@ none_lost (Some lost) over some going = absurd (let z : true ≡ false = sym (so
 
 some_not : (lost : Option Lost) → IsSome lost → lost ≢ None
 some_not lost some none = let z : false ≡ true = subst IsSome none some in cc
+
+-- ---- the ask at hand
+
+hand_idle : (hand : Hand) → due_of hand ≡ conduct.Idle → hand ≡ Idle
+hand_idle Idle e = refl
+hand_idle (Submitting slot) e = cc
+hand_idle (Settling slot) e = cc
+
+hand_asks : (hand : Hand) (ask : Ask Job) → ask ≢ Finished → IsDueAsk (due_of hand) ask → hand ≢ Idle
+hand_asks hand (Submit slot job) some due idle = absurd (let z : conduct.Idle ≡ conduct.Submitting slot = sym (ap due_of idle) ∙ due in cc)
+hand_asks hand (Settle slot) some due idle = absurd (let z : conduct.Idle ≡ conduct.Settling slot = sym (ap due_of idle) ∙ due in cc)
+hand_asks hand Finished some due idle = some refl
+
+abbrev SubmitsOne : Ask Job → Type 0
+SubmitsOne ask = (slot : ℕ) × (job : Job) × (ask ≡ Submit slot job)
+
+submits_one : (hand : Hand) (ask : Ask Job) → ask ≢ Finished → IsDueAsk (due_of hand) ask → IsSubmitting (due_of hand) → SubmitsOne ask
+submits_one hand (Submit slot job) some due submits = (slot, job, refl)
+submits_one hand (Settle slot) some due submits = absurd (subst IsSubmitting due submits)
+submits_one hand Finished some due submits = absurd (some refl)
 
 module _ {S W D F : Type 0} {ghosts : Ghosts F} (s : Shows S) (tells_out : W → Type 0) (taken : W → List ℕ) (count_out : W → ℕ) (tells : D → Type 0) (count refusals : D → ℕ)
     (disk_told : D → Bool) (held : D → Holdings) (told : F → Bool) (bytes : F → List ℕ) (out : S → W) (disk : S → D) (machine : S → Machine F ghosts)
@@ -167,43 +194,95 @@ module _ {S W D F : Type 0} {ghosts : Ghosts F} (s : Shows S) (tells_out : W →
       abbrev slots_then : List (PlainSlot Bay Job)
       slots_then = (before_ask (over_bays meaning) (run_conduct s) w.asks (first_run deck.variables (stated deck.statements) files) fresh_slots).1
 
-      -- What it was before the call, where that gave up: it stood at a statement. Where the outside failed, the slots had the jobs until then.
+      abbrev HoldsThen : List Stated → Type 0
+      HoldsThen rest = HoldsAt meaning rack (held (disk gone)) (refusals (disk first)) (refusals (disk gone)) deck files (machine gone) rest
+
+      -- What it was before the call, where that gave up: it stood at a statement. The slots had the jobs until then.
       record GaveUpAt : Type 0 where
         at : Run
         call : FailsCall (λ lost. (machine gone).tally.lost ≡ Some lost) (tells_out (out before)) (taken (out before)) (taken (out gone)) (held (disk gone)) (refusals (disk before)) (refusals (disk gone)) at (machine before) (machine gone)
         learns : LearnsAt deck.variables (stated deck.statements) (fresh deck.variables files) call.run
-        turn : OfOutside (λ lost. (machine gone).tally.lost ≡ Some lost) → TurnLeavesOthers deck.variables (stated deck.statements) files call.run (desks_of meaning slots_then)
-        given : OfOutside (λ lost. (machine gone).tally.lost ≡ Some lost) → WereGiven deck.variables (stated deck.statements) files call.run slots_then
+        holds : AllFits (λ lost. (machine gone).tally.lost ≡ Some lost) → HoldsThen call.run.rest
+
+      -- in an ask
+      asked_holds : (run : Run) → TurnLeavesOthers deck.variables (stated deck.statements) files run (desks_of meaning slots_then) → WereGiven deck.variables (stated deck.statements) files run slots_then
+          → StandsStill (IsUnbegun run.stage) run (machine gone).state.core (held (disk gone)) ⊎ StandsAt (held (disk gone)) (refusals (disk before)) (refusals (disk gone)) run (machine gone) → HoldsThen run.rest
+      asked_holds run t g stands =
+          let slots = slots_hold meaning slots_then rack w.slots in
+          let given = given_at meaning rack deck.variables (stated deck.statements) files run slots_then w.slots g t.index t.rest
+          (within deck.variables t.index (stated deck.statements) (start deck.variables files) (t.statement, t.state) t.cut_is) in
+          elim stands [
+            | inl still ↦ still_holds meaning rack (held (disk gone)) (refusals (disk first)) (refusals (disk gone)) deck files (machine gone) run (desks_of meaning slots_then) still t slots given
+            | inr at ↦ turn_holds meaning rack (held (disk gone)) (refusals (disk first)) (refusals (disk gone)) deck files (machine gone) (refusals (disk before)) (refusals (disk gone)) run (desks_of meaning slots_then)
+                (led.own on) (omega arith) at t slots given
+          ]
+
+      abbrev script_at : Plain Bay (run_conduct s)
+      script_at = after (over_bays meaning) (run_conduct s) w.asks (begins meaning s deck.variables (stated deck.statements) files)
+
+      -- by what became of an ask: there was no memory to submit its job
+      heard_holds : (rest : List Stated) → rest_of (machine gone) ≡ rest → s.state before ≡ Some script_at.script → script_at.hand ≢ Finished → IsDueAsk (due_of (machine before).tally.hand) script_at.hand
+          → (machine gone).tally.stopped ≡ false → HoldsThen rest
+      heard_holds rest place state some due stop =
+          submit_holds meaning rack (held (disk gone)) (refusals (disk first)) (refusals (disk gone)) deck files (machine gone) rest script_at.script (desks_of meaning slots_then)
+          (sym place ∙ stays ∙ sym (rest_is told bytes left (machine before) script_at.script is))
+          (it.units asks ∙ ap (λ (k : Core). k.units) (sym core)) (ap (λ (d : D). files_of (held d)) (it.same_disk asks) ∙ ap (λ (k : Core). k.files) (sym core)) t
+          (slots_hold meaning slots_then rack w.slots)
+          (given_at meaning rack deck.variables (stated deck.statements) files script_at.script slots_then w.slots
+          (asked_given meaning s deck.variables (stated deck.statements) files (ends_so deck sound) (some_statement deck sound) w.asks some) t.index t.rest
+          (within deck.variables t.index (stated deck.statements) (start deck.variables files) (t.statement, t.state) t.cut_is))
+        where
+          it : FailsAsking (disk before) (disk gone) (machine before) (machine gone)
+          it = r.asking before gone w.call.leads
+
+          asks : (machine before).tally.hand ≢ Idle
+          asks = hand_asks (machine before).tally.hand script_at.hand some due
+
+          job : SubmitsOne script_at.hand
+          job = submits_one (machine before).tally.hand script_at.hand some due (it.submits asks going over stop)
+
+          t : SubmitLeavesOthers deck.variables (stated deck.statements) files script_at.script (desks_of meaning slots_then)
+          t = each_submit meaning s deck.variables (stated deck.statements) files w.asks job.0 job.1 job.2
+
+          left : Files
+          left = files_of (held (disk before))
+
+          is : run_of told bytes left (machine before) ≡ Some script_at.script
+          is = shown (disk_told (disk before)) (run_of told bytes left (machine before)) script_at.script (sym (r.state before) ∙ state)
+
+          core : script_at.script.core ≡ core_of left (machine before).state.core
+          core = (parts told bytes left (machine before) script_at.script is).0
+
+          -- the statement at hand stays
+          stays : rest_of (machine gone) ≡ rest_of (machine before)
+          stays = ap (λ (d : Deck). drop (machine gone).at (stated d.statements)) (r.leaves before gone w.call.leads).deck ∙ ap (λ i. drop i (stated (machine before).deck.statements)) (it.at asks)
 
       gave_up : (machine gone).tally.stopped ≡ false → GaveUpAt
       gave_up stop =
           elim w.call.stood [
-            | inl (asked, state) ↦
+            | inl (asked, state, due) ↦
                 let f = r.gives_up before gone w.call.leads script_then state going over stop in
                 let x = learns_before meaning s deck.variables (stated deck.statements) files (ends_so deck sound) (some_statement deck sound) w.asks f.count f.run asked f.passed in
+                let at = at_before meaning s deck.variables (stated deck.statements) files (ends_so deck sound) (some_statement deck sound) w.asks asked in
                 record {
                   at = script_then;
                   call = f;
                   learns = x;
-                  turn = λ d. elim (each_turn meaning s deck.variables (stated deck.statements) files w.asks f.count f.run
-                      (at_before meaning s deck.variables (stated deck.statements) files (ends_so deck sound) (some_statement deck sound) w.asks asked).going f.passed) [
-                        | inl none ↦ absurd (none_left deck.variables (stated deck.statements) (fresh deck.variables files) f.run x none)
-                        | inr t ↦ t
-                      ];
-                  given = λ d. elim (each_turn_given meaning s deck.variables (stated deck.statements) files w.asks f.count f.run
-                      (at_before meaning s deck.variables (stated deck.statements) files (ends_so deck sound) (some_statement deck sound) w.asks asked).going f.passed) [
-                        | inl none ↦ absurd (none_left deck.variables (stated deck.statements) (fresh deck.variables files) f.run x none)
-                        | inr g ↦ g
-                      ];
+                  holds = λ fits. elim (each_turn meaning s deck.variables (stated deck.statements) files w.asks f.count f.run at.going f.passed) [
+                    | inl none ↦ absurd (none_left deck.variables (stated deck.statements) (fresh deck.variables files) f.run x none)
+                    | inr t ↦ elim (each_turn_given meaning s deck.variables (stated deck.statements) files w.asks f.count f.run at.going f.passed) [
+                      | inl none ↦ absurd (none_left deck.variables (stated deck.statements) (fresh deck.variables files) f.run x none)
+                      | inr g ↦ asked_holds f.run t g (f.fits (hand_idle (machine before).tally.hand (sym (r.due before) ∙ due)) fits)
+                    ]
+                  ];
                 }
             | inr (hand, state, due) ↦
-                let f = r.gives_up before gone w.call.leads (after (over_bays meaning) (run_conduct s) w.asks (begins meaning s deck.variables (stated deck.statements) files)).script state going over stop in
+                let f = r.gives_up before gone w.call.leads script_at.script state going over stop in
                 record {
-                  at = (after (over_bays meaning) (run_conduct s) w.asks (begins meaning s deck.variables (stated deck.statements) files)).script;
+                  at = script_at.script;
                   call = f;
                   learns = learns_at meaning s deck.variables (stated deck.statements) files (ends_so deck sound) (some_statement deck sound) w.asks f.count f.run hand f.passed;
-                  turn = λ d. absurd (due (r.due before ∙ ap due_of ((r.asking before gone w.call.leads).outside going d)));
-                  given = λ d. absurd (due (r.due before ∙ ap due_of ((r.asking before gone w.call.leads).outside going d)));
+                  holds = λ fits. heard_holds f.run.rest f.rest state hand (subst (λ d. IsDueAsk d script_at.hand) (r.due before) due) stop;
                 }
           ]
 
@@ -214,10 +293,7 @@ module _ {S W D F : Type 0} {ghosts : Ghosts F} (s : Shows S) (tells_out : W →
           cut_failing meaning rack (held (disk gone)) (refusals (disk first)) (refusals (disk gone)) (tells_out (out first)) (taken (out first)) (taken (out gone)) deck files (machine gone)
           ((r.leaves before gone w.call.leads).deck ∙ led.deck ∙ same) (taken (out before)) (machine before) (refusals (disk before)) (refusals (disk gone)) (tells_out (out before)) led.telling_out.0
           (took before led (none_lost (machine before).tally.lost (machine before).tally.over (machine before).tally.lost_over going)) (rose_earlier _ _ _ (led.own on)) g.at g.call g.learns (some_not (machine gone).tally.lost some)
-          (λ o. turn_holds meaning rack (held (disk gone)) (refusals (disk first)) (refusals (disk gone)) deck files (machine gone) (refusals (disk before)) (refusals (disk gone)) g.call.run (desks_of meaning slots_then)
-          (led.own on) (omega arith) (g.call.outside o) (g.turn o) (slots_hold meaning slots_then rack w.slots)
-          (given_at meaning rack deck.variables (stated deck.statements) files g.call.run slots_then w.slots (g.given o) (g.turn o).index (g.turn o).rest
-          (within deck.variables (g.turn o).index (stated deck.statements) (start deck.variables files) ((g.turn o).statement, (g.turn o).state) (g.turn o).cut_is)))
+          g.holds
 
       all_led : AllLeave first last
       all_led =

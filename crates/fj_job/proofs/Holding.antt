@@ -20,13 +20,13 @@ use Rattle.fj_turns.specs.Serving.{Shows}
 use Rattle.fj_cut.specs.Others.{names_in, file_about, has_file, core_now, AreHoused, LeavesOthers, file_renewed}
 use Rattle.fj_cut.specs.Awaiting.{IsFree, StopsAt}
 use Rattle.fj_cut.specs.Stopping.{HoldsGiven}
-use Rattle.fj_cut.specs.Turning.{TurnLeavesOthers}
+use Rattle.fj_cut.specs.Turning.{IsUnbegun, SubmitLeavesOthers, TurnLeavesOthers}
 use Rattle.fj_cut.proofs.Connecting.{opened_about}
 use Rattle.fj_acts.specs.State.{core_of, core_at}
 use Rattle.fj_units.specs.Files.{files_of}
 use Rattle.fj_units.specs.Returning.{IsAsDue}
 use Rattle.fj_closing.proofs.Due.{all_due}
-use Rattle.fj_runner.specs.Failing.{StandsAt}
+use Rattle.fj_runner.specs.Failing.{StandsAt, StandsStill}
 use Rattle.fj_runner.specs.declared.machine.Machine.{Machine}
 use Rattle.fj_job.specs.Cut.{Untold, Told, ComesTo}
 use Rattle.fj_job.specs.Cutting.{IsServed, HoldsFiles, StopsAside, IsCause}
@@ -192,3 +192,50 @@ module _ {E J A F : Type 0} {ghosts : Ghosts F} (meaning : Meaning E J A Bay Job
           due_wider before early late now (all_left desks m.state.core.units (files_of held) name) ((all_closed t.state).files name) l k
           (subst (λ (o : Option (List ℕ)). IsAsDue early late (all_left desks m.state.core.units (files_of held) name) o) left
           (all_due early late desks m.state.core.units (files_of held) (core_at it.does.does).files name due))
+
+  -- where nothing of the statement was begun
+  pub still_holds : (run : Run) (desks : List Desk) → StandsStill (IsUnbegun run.stage) run m.state.core held → (t : TurnLeavesOthers deck.variables (stated deck.statements) files run desks) → HoldsDesks meaning rack desks
+      → HoldsGiven deck.variables (stated deck.statements) files meaning rack t.index → HoldsAt run.rest
+  still_holds run desks it t slots given = record {
+    index = t.index;
+    statement = t.statement;
+    state = t.state;
+    cut_is = t.cut_is;
+    place = t.rest;
+    desks = desks;
+    slots = slots;
+    units = housed;
+    others = λ name served about. inl (due name);
+    freed = λ name none new. inl (sym (not_left desks m.state.core.units (files_of held) name housed none) ∙ due name);
+    given = given;
+  }
+    where
+      housed : AreHoused desks m.state.core.units
+      housed = subst (λ (us : List Connected). AreHoused desks us) (sym it.units) (t.unbegun it.may).0
+
+      due : (name : List ℕ) → all_left desks m.state.core.units (files_of held) name ≡ (all_closed t.state).files name
+      due name = ap (λ (us : List Connected). all_left desks us (files_of held) name) it.units ∙ ap (λ (f : Files). all_left desks run.core.units f name) it.files ∙ (t.unbegun it.may).1 name
+
+  -- where a job was to be submitted
+  pub submit_holds : (rest : List Stated) (run : Run) (desks : List Desk) → rest ≡ run.rest → m.state.core.units ≡ run.core.units → files_of held ≡ run.core.files
+      → (t : SubmitLeavesOthers deck.variables (stated deck.statements) files run desks) → HoldsDesks meaning rack desks → HoldsGiven deck.variables (stated deck.statements) files meaning rack t.index → HoldsAt rest
+  submit_holds rest run desks same units home t slots given = record {
+    index = t.index;
+    statement = t.statement;
+    state = t.state;
+    cut_is = t.cut_is;
+    place = same ∙ t.rest;
+    desks = desks;
+    slots = slots;
+    units = housed;
+    others = others;
+    freed = frees_by desks (t.statement, t.state) housed others (λ name about new. ap (λ (us : List Connected). has_name us name) units ∙ t.keeps name about new);
+    given = given;
+  }
+    where
+      housed : AreHoused desks m.state.core.units
+      housed = subst (λ (us : List Connected). AreHoused desks us) (sym units) t.units
+
+      others : LeavesSo desks (t.statement, t.state)
+      others name served about =
+          inl (ap (λ (us : List Connected). all_left desks us (files_of held) name) units ∙ ap (λ (f : Files). all_left desks run.core.units f name) home ∙ t.others name about)

@@ -25,6 +25,9 @@ use Rattle.fj_turns.proofs.Decks.{cut_here}
 use Rattle.fj_turns.proofs.Slots.{same_some}
 use Rattle.fj_turns.proofs.Passed.{At, stands_at, tells_at, output_at, Led, asked_leads}
 use Rattle.fj_turns.proofs.Before.{fares_after}
+use Rattle.fj_cut.specs.Stopping.{WereGiven}
+use Rattle.fj_cut.proofs.Given.{each_turn_given}
+use Rattle.fj_job.proofs.Pausing.{asked_pauses}
 use Rattle.fj_job.proofs.Passes.{IsPassed, EndsSo, passed_is, passes_on}
 
 -- ---- a runner that waits for an answer
@@ -241,6 +244,20 @@ module _ {E J A S : Type 0} (m : Meaning E J A Bay Job Answer) (s : Shows S) (va
         | inl (e, y) ↦
             led_learns (asked (before n).0).ask (asked (before n).0).run (before n).1 (asked_leads m variables deck first (before n).0 (before n).1 y) (asked_waits (before n).0)
             (λ f. h (ap (λ (z : Plain Bay c). z.hand) e ∙ f)) count run (ap (λ (z : Plain Bay c). passes count z.script) (sym e) ∙ p)
+        | inr (f, over, was) ↦ absurd (h f)
+      ]
+
+  -- the jobs that the slots have at an ask were given
+  pub asked_given : (n : ℕ) → (at n).hand ≢ Finished → WereGiven variables deck files (at n).script (before n).1
+  asked_given n h =
+      elim (fares_after m s variables deck files n) [
+        | inl (e, y) ↦
+            let p = asked_pauses (before n).0 (λ f. h (ap (λ (z : Plain Bay c). z.hand) e ∙ f)) in
+            let x = stands_learns p.run (before n).1 (passes_on m variables deck first so p.count (before n).0 p.run (before n).1 y p.passed) in
+            elim (each_turn_given m s variables deck files n p.count p.run y.going p.passed) [
+              | inl none ↦ absurd (none_left variables deck first p.run x none)
+              | inr g ↦ record { index = g.index; rest = ap (λ (z : Plain Bay c). z.script.rest) e ∙ p.rest ∙ g.rest; within = g.within; each = g.each; told = g.told }
+            ]
         | inr (f, over, was) ↦ absurd (h f)
       ]
 

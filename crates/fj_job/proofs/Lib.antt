@@ -11,6 +11,7 @@ pub mod Carried
 pub mod Whole
 pub mod CarriedOut
 pub mod Passes
+pub mod Pausing
 pub mod Learning
 pub mod CutTexts
 pub mod FaultLaws

@@ -87,7 +87,7 @@ module _ {E J A F : Type 0} {ghosts : Ghosts F} (meaning : Meaning E J A Bay Job
         comes = e.comes;
         at = e.at;
         exact = λ _. exact;
-        sink = λ s. lost_none none s;
+        fits = λ lost some _. lost_none none some;
         begun = λ t s. lost_none none s;
         front = λ t. front_of_exact meaning rack held before now Tells old new deck files e.comes m exact t;
       }
@@ -169,7 +169,7 @@ module _ {E J A F : Type 0} {ghosts : Ghosts F} (meaning : Meaning E J A Bay Job
 
   -- where the sink failed
   pub left_begun : m.tally.lost ≡ Some Sink → IsLeftBegun deck files l Tells old new last before end
-  left_begun lost = record { comes = cut.comes; at = hand; begun = λ t. cut.begun t lost; files_are = files_left Untold (cut.sink lost) }
+  left_begun lost = record { comes = cut.comes; at = hand; begun = λ t. cut.begun t lost; files_are = files_left Untold (cut.fits Sink lost (λ e. cc)) }
 
 -- where the deck ended
 pub left_end : {F : Type 0} {ghosts : Ghosts F} (deck : Deck) (files : Files) (m : Machine F ghosts) (l : Left F) (last : Holdings) (before end : ℕ) → EndsHere deck files m → l.at ≡ m.at

@@ -1,5 +1,5 @@
 -- What was told and written where memory was wanting.
-use Rattle.std.proofs.Common.{◌≡◌, inl, inr, ℕ, ◌≤◌, Bool, List, ◌++◌, Option, Some, None, refl, sym, ap, ◌∙◌, subst, append_assoc}
+use Rattle.std.proofs.Common.{◌≡◌, ◌≢◌, inl, inr, ℕ, ◌≤◌, Bool, List, ◌++◌, Option, Some, None, refl, sym, ap, ◌∙◌, subst, append_assoc}
 use Rattle.fj_outside.specs.declared.outside.FileStore.{Ghosts}
 use Rattle.fj_outside.specs.Holdings.{Holdings}
 use Rattle.fj_statement.specs.Sound.{IsSound}
@@ -21,7 +21,6 @@ use Rattle.fj_closing.specs.Finding.{IsLeftBehind, OfEach, AreSpared}
 use Rattle.fj_runner.specs.declared.machine.Machine.{Machine}
 use Rattle.fj_job.specs.Cut.{Reach, Untold, Told, Carried as At, reached, MayReach, ComesTo, CutByMemory}
 use Rattle.fj_job.specs.Cutting.{HoldsFiles, IsCut, TookFront}
-use Rattle.fj_job.specs.Executing.{IsNoneOrFault}
 use Rattle.fj_job.specs.Reply.{Reply, IsRunReply, open_feed, trace_of, variable_lines, report_of, status_of}
 use Rattle.fj_report.specs.Lines.{status_text}
 use Rattle.fj_job.proofs.Closed.{Follows, follows_same, records_follow, step_follows}
@@ -91,13 +90,13 @@ module _ {E J A F : Type 0} {ghosts : Ghosts F} (meaning : Meaning E J A Bay Job
         files_are = cut_short meaning rack held last before now end deck files m cut.comes At early late found spared h;
       }
 
-  -- where nothing was lost, or the outside failed
-  pub cut_by_memory : IsNoneOrFault m.tally.lost → CutByMemory deck trace files Tells old new last before end
-  cut_by_memory fault = by m.tally.lost refl fault
+  -- unless something does not fit
+  pub cut_by_memory : m.tally.lost ≢ Some Unfit → CutByMemory deck trace files Tells old new last before end
+  cut_by_memory fits = by m.tally.lost refl
     where
-      by : (o : Option Lost) → m.tally.lost ≡ o → IsNoneOrFault o → CutByMemory deck trace files Tells old new last before end
-      by None e f = let x = cut.exact (inl e) in cut_at x.reach x.may x.files_are
-      by (Some (Memory error)) e f = absurd (cc)
-      by (Some Sink) e f = cut_at Untold tt (cut.sink e)
-      by (Some Disk) e f = let x = cut.exact (inr e) in cut_at x.reach x.may x.files_are
-      by (Some Unfit) e f = absurd (cc)
+      by : (o : Option Lost) → m.tally.lost ≡ o → CutByMemory deck trace files Tells old new last before end
+      by None e = let x = cut.exact (inl e) in cut_at x.reach x.may x.files_are
+      by (Some (Memory error)) e = cut_at Untold tt (cut.fits (Memory error) e (λ u. cc))
+      by (Some Sink) e = cut_at Untold tt (cut.fits Sink e (λ u. cc))
+      by (Some Disk) e = let x = cut.exact (inr e) in cut_at x.reach x.may x.files_are
+      by (Some Unfit) e = absurd (fits e)

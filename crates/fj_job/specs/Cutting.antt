@@ -24,7 +24,8 @@ use Rattle.fj_units.specs.Files.{files_of}
 use Rattle.fj_units.specs.Returning.{IsAsDue}
 use Rattle.fj_units.specs.Units.{has_slot}
 use Rattle.fj_items.specs.Handing.{whole_records, HandsPart}
-use Rattle.fj_items.specs.declared.lost.Lost.TheVariants.{Disk, Sink}
+use Rattle.fj_items.specs.declared.lost.Lost.{Lost}
+use Rattle.fj_items.specs.declared.lost.Lost.TheVariants.{Disk, Sink, Unfit}
 use Rattle.fj_runner.specs.Machine.{rest_of}
 use Rattle.fj_runner.specs.declared.left.Left.{Left}
 use Rattle.fj_runner.specs.declared.machine.Machine.{Machine}
@@ -99,14 +100,14 @@ pub record IsOutputSoFar (deck : Deck) (files : Files) (output : List ℕ) : Typ
 abbrev pub TookSome : Deck → Files → List ℕ → List ℕ → Type 0
 TookSome deck files old new = (part rest : List ℕ) × IsOutputSoFar deck files (part ++ rest) × (new ≡ old ++ part)
 
--- The run was cut at the statement at hand. What was told and written is exact where nothing is lost but by the disk. Where the sink
--- failed it is known of the files, and of what the sink took.
+-- The run was cut at the statement at hand. What was told and written is exact where nothing is lost but by the disk. Of the files it is
+-- known unless something does not fit, and where the sink failed of what it took, too.
 pub record IsCut {E J A F : Type 0} {ghosts : Ghosts F} (meaning : Meaning E J A Bay Job Answer) (rack : Rack E J A) (held : Holdings) (before now : ℕ) (Tells : Type 0) (old new : List ℕ)
     (deck : Deck) (files : Files) (m : Machine F ghosts) : Type 0 where
   pub comes : ComesTo deck files
   pub at : slice_get deck.statements m.at ≡ Some comes.statement.0
   pub exact : (m.tally.lost ≡ None) ⊎ (m.tally.lost ≡ Some Disk) → IsExact meaning rack held before now Tells old new deck files comes m
-  pub sink : m.tally.lost ≡ Some Sink → HoldsFiles meaning rack held before now deck files comes Untold m
+  pub fits : (lost : Lost) → m.tally.lost ≡ Some lost → lost ≢ Unfit → HoldsFiles meaning rack held before now deck files comes Untold m
   pub begun : Tells → m.tally.lost ≡ Some Sink → TookBegun old new deck files comes
   pub front : Tells → TookFront old new deck files comes
 

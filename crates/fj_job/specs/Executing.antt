@@ -1,5 +1,5 @@
 -- What the steps of carrying out a deck leave: its disk, its sink and what is answered.
-use Rattle.std.specs.Prelude.{◌≡◌, ◌≢◌, ◌⊎◌, ◌↔◌, ◌≤◌, ◌++◌, ℕ, Bool, true, false, List, Result, Ok, Err, Option, Some, None, IfOk, IfErr, slice_get}
+use Rattle.std.specs.Prelude.{◌≡◌, ◌≢◌, ◌⊎◌, ◌↔◌, ◌≤◌, ◌++◌, ℕ, Bool, true, false, List, Result, Ok, Err, Some, None, IfOk, IfErr, slice_get}
 use Rattle.std.specs.FinSet as set
 use Rattle.fj_outside.specs.Faults.{Rose}
 use Rattle.fj_outside.specs.Holdings.{Holdings}
@@ -18,7 +18,6 @@ use Rattle.fj_turns.specs.Executing.{HoldsDesks}
 use Rattle.fj_items.specs.Handing.{whole_records, open_record, TakesFront, TakesPart}
 use Rattle.fj_turns.specs.Serving.{over_bays}
 use Rattle.fj_pending.specs.Plain.{tells_of}
-use Rattle.fj_items.specs.declared.lost.Lost.{Lost}
 use Rattle.fj_items.specs.declared.lost.Lost.TheVariants.{Sink, Disk, Unfit}
 use Rattle.fj_units.specs.Files.{files_of}
 use Rattle.fj_units.specs.Having.{HaveFiles}
@@ -26,7 +25,7 @@ use Rattle.fj_units.specs.Returning.{IsAsDue}
 use Rattle.fj_closing.specs.Closing.{AreSeated, AreNamed, IfClear, OthersRun}
 use Rattle.fj_closing.specs.Finding.{IsLeftBehind, OfEach, AreSpared}
 use Rattle.fj_closing.specs.Holding.{HoldUnits}
-use Rattle.fj_closing.specs.Losing.{is_fault, all_fits, may_tell}
+use Rattle.fj_closing.specs.Losing.{all_fits, may_tell}
 use Rattle.fj_report.specs.declared.status.Status.{Status}
 use Rattle.fj_report.specs.declared.status.Status.TheVariants.{WriteFault, DiskFault, Memory}
 use Rattle.fj_runner.specs.Machine.{ending_of}
@@ -69,11 +68,6 @@ pub record IsSettled {D F E J A : Type 0} {ghosts : Ghosts F} (tells : D → Typ
   pub telling : tells disk ↔ tells disk'
   pub later : count disk ≤ count disk'
 
--- nothing was lost, or the outside failed
-abbrev pub IsNoneOrFault : Option Lost → Type 0
-IsNoneOrFault None = Unit {0}
-IsNoneOrFault (Some lost) = is_fault lost ≡ true
-
 -- A deck was carried out, or there was no memory to begin it.
 pub record IsCarriedOut {W D F E : Type 0} (tells_out : W → Type 0) (taken : W → List ℕ) (count_out : W → ℕ) (tells : D → Type 0) (held : D → Holdings) (count refusals : D → ℕ)
     (deck : Deck) (out : W) (disk : D) (out' : W) (disk' : D) (result : Result (Carried F) E) : Type 0 where
@@ -86,9 +80,8 @@ pub record IsCarriedOut {W D F E : Type 0} (tells_out : W → Type 0) (taken : W
       → IsLeftBegun deck (files_of (held disk)) it.left (tells_out out) (taken out) (taken out') (held disk') (refusals disk) (refusals disk'))
   pub at_end : tells disk → IfOk result (λ it. it.settled ≡ Ok tt → it.left.over ≡ false → (ending : Ending) → it.left.ending ≡ Some ending
       → (x : IsLeftAt deck (files_of (held disk)) it.left (held disk') (refusals disk) (refusals disk')) × (x.reach ≡ At))
-  -- So it is of a run that was not given up at a statement for want of memory, nor because something does not fit: one that ended, whose slot
-  -- stopped, or whose outside failed, also where memory was wanting in closing. What it leaves fits.
-  pub at_want : tells disk → IfOk result (λ it. all_fits it.settled ≡ true → IsNoneOrFault it.left.lost → (trace : Bool)
+  -- So it is of a run that was not given up because something does not fit, also where memory was wanting in closing. What it leaves fits.
+  pub at_want : tells disk → IfOk result (λ it. all_fits it.settled ≡ true → it.left.lost ≢ Some Unfit → (trace : Bool)
       → CutByMemory deck trace (files_of (held disk)) (tells_out out) (taken out) (taken out') (held disk') (refusals disk) (refusals disk'))
   pub part : tells disk → tells_out out → IfOk result (λ it. TookSome deck (files_of (held disk)) (taken out) (taken out'))
   pub sink : IfOk result (λ it. it.settled ≡ Err Sink → Rose (count_out out) (count_out out'))

@@ -154,7 +154,8 @@ fn line_of<F: FileStore>(left: &Left<F>) -> u32
     line_at(left.deck.statements.as_slice(), left.at)
 }
 
-/// Gives a connection back whose job was refused. A run that has one was given up, and what it leaves is not known.
+/// Gives a connection back whose job was refused. A scratch file is removed. A run that has one was given up, and what it leaves is
+/// not known.
 fn give_kept<D: Disk>(
     kept: Option<Connection<D::File>>,
     names: &mut Names,
@@ -176,7 +177,8 @@ fn give_kept<D: Disk>(
         return Err(Lost::Unfit);
     }
     names.remove(connection.name());
-    let _given = connection.close_file(disk, true);
+    let keep = !connection.modes().scratch;
+    let _given = connection.close_file(disk, keep);
     Err(Lost::Unfit)
 }
 

@@ -12,7 +12,7 @@ use Rattle.fj_slot.specs.Telling as telling
 use Rattle.fj_slot.proofs.Sound.{tell_keeps, told_is_outcome, length_mapped}
 use Rattle.fj_world.specs.declared.ask.Ask.{Ask}
 use Rattle.fj_world.specs.declared.ask.Ask.TheVariants.{Submit, Settle, Finished}
-use Rattle.fj_world.specs.Conduct.{Conduct, Idle, Submitting, Settling, Asks, Takes, Tells, IsAsk}
+use Rattle.fj_world.specs.Conduct.{Conduct, Idle, Submitting, Settling, Asks, Takes, Tells, IsAsk, IsDueAsk}
 use Rattle.fj_world.specs.Rack.{Rack}
 use Rattle.fj_world.specs.Leading.{LeadsTo}
 use Rattle.fj_world.specs.Plain.{Plain, PlainSlot, asked_next, submitted_to, settled_from, told_from, served, next, after}
@@ -96,29 +96,29 @@ module _ {S G J A P T R : Type 0} (m : Meaning G J A P T R) (c : Conduct S T R) 
 
   -- by its first ask
   pub by_first_ask : (s : c.State) (qs : List (PlainSlot P T)) (script new : S) (hand : Ask J)
-      → c.state script ≡ Some s → c.over script ≡ false → Asks m c script hand new → c.over new ≡ true → GaveUp m c 0 s qs script new
-  by_first_ask s qs script new hand state going asks over =
-      record { before = script; gone = new; led = (0, refl); going = going; leads = asks.leads; over = over; rests = (0, refl); stood = inl (tt, state) }
+      → c.state script ≡ Some s → c.due script ≡ Idle → c.over script ≡ false → Asks m c script hand new → c.over new ≡ true → GaveUp m c 0 s qs script new
+  by_first_ask s qs script new hand state idle going asks over =
+      record { before = script; gone = new; led = (0, refl); going = going; leads = asks.leads; over = over; rests = (0, refl); stood = inl (tt, state, idle) }
 
   -- by the answer to the ask at hand
   pub by_answer : (s : c.State) (qs : List (PlainSlot P T)) (n : ℕ) (first script mid new : S) (hand : Ask J)
       → LeadsTo c.leads first script → c.over script ≡ false → c.state script ≡ Some (after m c n (asked_next m c s qs)).script → (after m c n (asked_next m c s qs)).hand ≢ Finished
-      → c.due script ≢ Idle → c.leads script mid → c.over mid ≡ true → Asks m c mid hand new → GaveUp m c n s qs first new
+      → IsDueAsk (c.due script) (after m c n (asked_next m c s qs)).hand → c.leads script mid → c.over mid ≡ true → Asks m c mid hand new → GaveUp m c n s qs first new
   by_answer s qs n first script mid new hand path going state asked due leads over asks =
       record { before = script; gone = mid; led = path; going = going; leads = leads; over = over; rests = led_once c.leads mid new asks.leads; stood = inr (asked, state, due) }
 
   -- by the ask behind it
   pub by_ask : (s : c.State) (qs : List (PlainSlot P T)) (n : ℕ) (first script mid new : S) (hand : Ask J)
       → LeadsTo c.leads first script → c.leads script mid → c.over mid ≡ false → (after m c n (asked_next m c s qs)).hand ≢ Finished
-      → c.state mid ≡ Some (before_ask m c (suc n) s qs).0 → Asks m c mid hand new → c.over new ≡ true → GaveUp m c (suc n) s qs first new
-  by_ask s qs n first script mid new hand path leads going asked state asks over =
-      record { before = mid; gone = new; led = led c.leads first script mid path leads; going = going; leads = asks.leads; over = over; rests = (0, refl); stood = inl (asked, state) }
+      → c.state mid ≡ Some (before_ask m c (suc n) s qs).0 → c.due mid ≡ Idle → Asks m c mid hand new → c.over new ≡ true → GaveUp m c (suc n) s qs first new
+  by_ask s qs n first script mid new hand path leads going asked state idle asks over =
+      record { before = mid; gone = new; led = led c.leads first script mid path leads; going = going; leads = asks.leads; over = over; rests = (0, refl); stood = inl (asked, state, idle) }
 
   pub first_lost : (s : c.State) (qs : List (PlainSlot P T)) (script new : S) (hand : Ask J) (rack : Rack G J A)
-      → c.state script ≡ Some s → c.over script ≡ false → SlotsFit m qs rack → Asks m c script hand new → c.over new ≡ true → WasLost m c s qs script new rack
-  first_lost s qs script new hand rack state going fit asks over = record {
+      → c.state script ≡ Some s → c.due script ≡ Idle → c.over script ≡ false → SlotsFit m qs rack → Asks m c script hand new → c.over new ≡ true → WasLost m c s qs script new rack
+  first_lost s qs script new hand rack state idle going fit asks over = record {
     asks = 0;
-    call = by_first_ask s qs script new hand state going asks over;
+    call = by_first_ask s qs script new hand state idle going asks over;
     slots = record { same = fit.same; each = λ at q l eq el. (fit.each at q l eq el).sound; done = λ at q l eq el. (fit.each at q l eq el).done };
   }
 
@@ -143,7 +143,7 @@ module _ {S G J A P T R : Type 0} (m : Meaning G J A P T R) (c : Conduct S T R) 
       record {
         asks = suc n;
         call = by_ask s qs n first script mid new hand' path takes.leads going' (λ z. absurd (let no = sym plain.1 ∙ z in cc))
-            (takes.took now.script told.0 going' ∙ ap (λ z. Some (c.took now.script z)) number ∙ ap (λ z. Some z.0) (sym then)) asks over;
+            (takes.took now.script told.0 going' ∙ ap (λ z. Some (c.took now.script z)) number ∙ ap (λ z. Some z.0) (sym then)) takes.due asks over;
         slots = subst (λ z. SlotsHold m z rack') (served_slots now.hand now) (fits_hold (next m c now) script new hand' rack' next_fits);
       }
   submit_lost s qs n first script mid new hand hand' rack rack' at job (Err e) l path fits going is due found count after_ok same takes asks over =
@@ -152,7 +152,7 @@ module _ {S G J A P T R : Type 0} (m : Meaning G J A P T R) (c : Conduct S T R) 
       let plain = ask_submit m now.hand at job (subst (IsAsk m now.hand) is told.1) in
       record {
         asks = n;
-        call = by_answer s qs n first script mid new hand' path going told.0 (λ z. absurd (let no = sym plain.1 ∙ z in cc)) (λ z. absurd (let no = sym due ∙ z in cc)) takes.leads takes.refused asks;
+        call = by_answer s qs n first script mid new hand' path going told.0 (λ z. absurd (let no = sym plain.1 ∙ z in cc)) (subst (λ h. IsDueAsk (c.due script) h) (sym plain.1) due) takes.leads takes.refused asks;
         slots = subst (λ z. SlotsHold m z rack') (before_slots n s qs) (subst (λ r. SlotsHold m now.slots r) (sym same) (fits_hold now script script hand rack fits));
       }
 
@@ -179,7 +179,7 @@ module _ {S G J A P T R : Type 0} (m : Meaning G J A P T R) (c : Conduct S T R) 
       by_it : c.over mid ≡ true → WasLost m c s qs first new rack'
       by_it e = record {
         asks = n;
-        call = by_answer s qs n first script mid new hand' path going told.0 (λ z. absurd (let no = sym plain ∙ z in cc)) (λ z. absurd (let no = sym due ∙ z in cc)) tells.leads e asks;
+        call = by_answer s qs n first script mid new hand' path going told.0 (λ z. absurd (let no = sym plain ∙ z in cc)) (subst (λ h. IsDueAsk (c.due script) h) (sym plain) due) tells.leads e asks;
         slots = subst (λ z. SlotsHold m z rack') (before_slots n s qs) holds;
       }
 
@@ -198,7 +198,7 @@ module _ {S G J A P T R : Type 0} (m : Meaning G J A P T R) (c : Conduct S T R) 
           let tells' : Tells m c script (Done job answer) mid = subst (λ z. Tells m c script z mid) e tells in
           record {
             asks = suc n;
-            call = by_ask s qs n first script mid new hand' path tells.leads goes (λ z. absurd (let no = sym plain ∙ z in cc)) (tells'.told now.script reply told.0 goes (out.1, refl) ∙ ap (λ z. Some z.0) (sym then)) asks over;
+            call = by_ask s qs n first script mid new hand' path tells.leads goes (λ z. absurd (let no = sym plain ∙ z in cc)) (tells'.told now.script reply told.0 goes (out.1, refl) ∙ ap (λ z. Some z.0) (sym then)) tells.due asks over;
             slots = subst (λ z. SlotsHold m z.1 rack') (sym then) (holds_told m now.slots rack' at (q.told + 1) q holds here.1
                 (λ y ey. elim (slice_get_set rack.slots at at (with_tell v) y (subst (λ s. slice_get s at ≡ Some y) settles.after ey)) [
                   | inl b ↦ subst (λ z. q.told + 1 ≤ z.done) (sym b.1) (let low = (subst (telling.Tells v) e settles.tells).0 in omega (arith, low, count))

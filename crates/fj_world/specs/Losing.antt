@@ -5,7 +5,7 @@ use Rattle.fj_slot.specs.Serving.{Meaning}
 use Rattle.fj_slot.specs.Sound.{IsSound, outcome}
 use Rattle.fj_world.specs.declared.ask.Ask.{Ask}
 use Rattle.fj_world.specs.declared.ask.Ask.TheVariants.{Submit, Settle, Finished}
-use Rattle.fj_world.specs.Conduct.{Conduct, Idle}
+use Rattle.fj_world.specs.Conduct.{Conduct, Idle, IsDueAsk}
 use Rattle.fj_world.specs.Leading.{LeadsTo}
 use Rattle.fj_world.specs.Plain.{Plain, PlainSlot, asked_next, after}
 use Rattle.fj_world.specs.Rack.{Rack}
@@ -47,7 +47,7 @@ module _ {S G J A P T R : Type 0} (m : Meaning G J A P T R) (c : Conduct S T R) 
   HasAsked zero s qs = Unit {0}
   HasAsked (suc n) s qs = (after m c n (asked_next m c s qs)).hand ≢ Finished
 
-  -- The script is over since one call. Before that call it stood before the ask of that number, or at it, an answer being due.
+  -- The script is over since one call. Before that call it stood before the ask of that number, none being due, or at it, that ask being due.
   pub record GaveUp (asks : ℕ) (s : c.State) (qs : List (PlainSlot P T)) (first last : S) : Type 0 where
     pub before : S
     pub gone : S
@@ -56,8 +56,9 @@ module _ {S G J A P T R : Type 0} (m : Meaning G J A P T R) (c : Conduct S T R) 
     pub leads : c.leads before gone
     pub over : c.over gone ≡ true
     pub rests : LeadsTo c.leads gone last
-    pub stood : (HasAsked asks s qs × (c.state before ≡ Some (before_ask asks s qs).0))
-        ⊎ (((after m c asks (asked_next m c s qs)).hand ≢ Finished) × (c.state before ≡ Some (after m c asks (asked_next m c s qs)).script) × (c.due before ≢ Idle))
+    pub stood : (HasAsked asks s qs × (c.state before ≡ Some (before_ask asks s qs).0) × (c.due before ≡ Idle))
+        ⊎ (((after m c asks (asked_next m c s qs)).hand ≢ Finished) × (c.state before ≡ Some (after m c asks (asked_next m c s qs)).script)
+        × IsDueAsk (c.due before) (after m c asks (asked_next m c s qs)).hand)
 
   -- and each slot is sound for the jobs that were submitted until then
   pub record WasLost (s : c.State) (qs : List (PlainSlot P T)) (first last : S) (rack : Rack G J A) : Type 0 where

@@ -27,7 +27,7 @@ loop-slot-init g c =
       answered = λ all _. all;
       stopped = λ was is. absurd (let o = (asks.stops is).0 in cc);
       leads = led_once k.leads c.args.script.now c.ask-hand.new.self asks.leads;
-      gave_up = λ b start over. first_gave_up m k c.args.script.now c.ask-hand.new.self c.ask-hand.result c.args.seats.now.items b (λ all. all) start asks over;
+      gave_up = λ b start over. first_gave_up m k c.args.script.now c.ask-hand.new.self c.ask-hand.result c.args.seats.now.items b (λ all. all) c.requires.idle start asks over;
       goes = λ b. first_goes m k c.args.script.now c.ask-hand.new.self c.ask-hand.result c.args.seats.now.items b asks (λ all. all);
     }
 

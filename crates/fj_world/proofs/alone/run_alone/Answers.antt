@@ -30,7 +30,7 @@ loop-slot-init g c =
       owed = λ at l used e. omega (arith, c.requires.owed at l (omega (arith, used, asks.uses)) e, asks.owed at);
       home = c.requires.home;
       leads = led_once k.leads c.args.script.now c.ask-hand.new.self asks.leads;
-      gave_up = λ s qs state on start fit over. first_lost m k s qs c.args.script.now c.ask-hand.new.self c.ask-hand.result c.args.slots.now state start fit asks over;
+      gave_up = λ s qs state on start fit over. first_lost m k s qs c.args.script.now c.ask-hand.new.self c.ask-hand.result c.args.slots.now state c.requires.idle start fit asks over;
       fits = λ s qs state on fit. (
         0,
         restart m k (asked_next m k s qs) c.args.script.now c.ask-hand.new.self c.ask-hand.new.self c.ask-hand.result c.args.slots.now
