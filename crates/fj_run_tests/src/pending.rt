@@ -54,27 +54,11 @@ fn tells_what_was_answered(rt: HostRuntime) -> Result<(), Fail> {
     assert!(rt; pendings.has(0, 2) && pendings.has(1, 1));
     assert!(rt; !pendings.has(1, 2) && !pendings.has(2, 1));
     // the answers of two slots in any order; no transfer has this number
-    assert!(rt;
-        pendings
-            .answer(1, 1, told(Condition::Fine))
-            .is_ok()
-    );
-    assert!(rt;
-        pendings
-            .answer(0, 0, told(Condition::Fine))
-            .is_err()
-    );
-    assert!(rt;
-        pendings
-            .answer(0, 1, told(Condition::Fine))
-            .is_ok()
-    );
+    assert!(rt; pendings.answer(1, 1, told(Condition::Fine)).is_ok());
+    assert!(rt; pendings.answer(0, 0, told(Condition::Fine)).is_err());
+    assert!(rt; pendings.answer(0, 1, told(Condition::Fine)).is_ok());
     assert!(rt; pendings.next_unsettled(Whose::OfUnit(10), 0) == Some((2, 0)));
-    assert!(rt;
-        pendings
-            .answer(0, 2, told(Condition::EndOfFile))
-            .is_ok()
-    );
+    assert!(rt; pendings.answer(0, 2, told(Condition::EndOfFile)).is_ok());
     assert!(rt; pendings.next_unsettled(Whose::All, 0).is_none());
     assert!(rt; pendings.has(0, 1));
     // a wait by an identifier that tells the end of the file is one for all of the unit
