@@ -1,7 +1,6 @@
 -- Units have the files that are out, where a statement closes one, and where OPEN connects one.
-use Rattle.std.proofs.Common.{◌≡◌, ℕ, Bool, true, false, ◌&&◌, List, [], ◌∷◌, Option, Some, None, refl, sym, ap, subst, ◌∙◌}
-use Rattle.std.specs.Prelude.{option_and_then, slice_get, if◌then◌else◌, is_some, IfSome}
-use Rattle.std.specs.Str.{bytes_eq}
+use Rattle.std.proofs.Common.{◌≡◌, ℕ, Bool, true, false, List, [], ◌∷◌, Option, Some, None, refl, sym, ap, subst, ◌∙◌}
+use Rattle.std.specs.Prelude.{option_and_then, slice_get, if◌then◌else◌, is_some}
 use Rattle.std.proofs.lemmas.Bool.{eq-eqb}
 use Rattle.std.proofs.lemmas.Slice.Eq.{bytes_eq-Decides}
 use Rattle.fj_modes.specs.declared.specifiers.OpenSpec.{OpenSpec}
@@ -15,7 +14,7 @@ use Rattle.fj_units.specs.Names.{stands, left_of}
 use Rattle.fj_units.specs.Units.{is_taken}
 use Rattle.fj_units.proofs.Having.{found_has, free_without, gone_from, without_none}
 use Rattle.fj_acts.specs.Doing.{AsksToOpen}
-use Rattle.fj_acts.specs.Having.{HaveNext, HaveThen, IsFreeNext}
+use Rattle.fj_acts.specs.Having.{HaveNext, IsFreeNext}
 use Rattle.fj_acts.specs.Steps.{is_due}
 use Rattle.fj_acts.specs.declared.doing.After.{After}
 use Rattle.fj_acts.specs.declared.doing.After.TheVariants as after

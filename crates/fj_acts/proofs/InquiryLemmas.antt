@@ -15,7 +15,6 @@ use Rattle.fj_modes.specs.declared.specifiers.Access.{Access}
 use Rattle.fj_modes.specs.declared.specifiers.Access.TheVariants.{Sequential, Direct, Stream}
 use Rattle.fj_modes.specs.declared.specifiers.Action.{Action}
 use Rattle.fj_modes.specs.declared.specifiers.Action.TheVariants.{Read, Write, ReadWrite}
-use Rattle.fj_modes.specs.declared.asked.Question.{Question}
 use Rattle.fj_modes.specs.declared.asked.Question.TheVariants as question
 use Rattle.fj_modes.specs.declared.asked.Wanted.{Wanted}
 use Rattle.fj_connect.specs.declared.spot.Look.{Look}

@@ -1,5 +1,5 @@
 -- Answers of INQUIRE, as the program and as plain data have them.
-use Rattle.std.specs.Prelude.{◌≡◌, ℕ, ℤ, pos, ◌==◌, ◌&&◌, Bool, List, Option, Some, None}
+use Rattle.std.specs.Prelude.{◌≡◌, ℕ, ℤ, pos, ◌==◌, ◌&&◌, Bool, Option, Some, None}
 use Rattle.std.specs.Ordering.{int_eq}
 use Rattle.fj_modes.specs.declared.asked.Question.{Question}
 use Rattle.fj_pending.specs.declared.held.Held.{Held}

@@ -1,4 +1,4 @@
-use Rattle.std.proofs.Common.{◌≡◌, ℕ, Some, refl, sym, ap, ◌∙◌, subst, length, ◌≤◌, IfOk, arith}
+use Rattle.std.proofs.Common.{◌≡◌, ℕ, refl, sym, ap, ◌∙◌, subst, length, ◌≤◌, IfOk, arith}
 use Rattle.std.specs.Option.{option_map}
 use Rattle.fj_bay.specs.Jobs.{Job as Task, Answer}
 use Rattle.fj_bay.specs.Plain.{looked_of, reply_of}
