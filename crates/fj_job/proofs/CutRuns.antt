@@ -34,7 +34,7 @@ use Rattle.fj_cut.proofs.Given.{within_deck, each_stop_given, each_turn_given}
 use Rattle.fj_items.specs.Handing.{whole_records}
 use Rattle.fj_items.specs.declared.lost.Lost.{Lost}
 use Rattle.fj_units.specs.Files.{files_of}
-use Rattle.fj_runner.specs.Failing.{FailsCall, OfOutside, IsGivenUp, FailsAsking, Stays, HasReason}
+use Rattle.fj_runner.specs.Failing.{FailsCall, OfOutside, IsGivenUp, FailsAsking, Stays, HasReason, IsLoss}
 use Rattle.fj_runner.specs.Leaving.{Leaves}
 use Rattle.fj_runner.specs.Machine.{run_of}
 use Rattle.fj_runner.specs.Tallying.{due_of}
@@ -68,8 +68,8 @@ none_lost : (lost : Option Lost) (over : Bool) → (IsSome lost → over ≡ tru
 none_lost None over some going = refl
 none_lost (Some lost) over some going = absurd (let z : true ≡ false = sym (some refl) ∙ going in cc)
 
-some_not : (lost : Option Lost) → IsSome lost → lost ≢ None
-some_not lost some none = let z : false ≡ true = subst IsSome none some in cc
+loss_not : (lost : Option Lost) → IsLoss lost → lost ≢ None
+loss_not lost loss none = subst IsLoss none loss
 
 module _ {S W D F : Type 0} {ghosts : Ghosts F} (s : Shows S) (tells_out : W → Type 0) (taken : W → List ℕ) (count_out : W → ℕ) (tells : D → Type 0) (count refusals : D → ℕ)
     (disk_told : D → Bool) (held : D → Holdings) (told : F → Bool) (bytes : F → List ℕ) (out : S → W) (disk : S → D) (machine : S → Machine F ghosts)
@@ -207,13 +207,13 @@ module _ {S W D F : Type 0} {ghosts : Ghosts F} (s : Shows S) (tells_out : W →
                 }
           ]
 
-      failed_cut : (machine gone).tally.stopped ≡ false → IsSome (machine gone).tally.lost
+      failed_cut : (machine gone).tally.stopped ≡ false → IsLoss (machine gone).tally.lost
           → IsCut meaning rack (held (disk gone)) (refusals (disk first)) (refusals (disk gone)) (tells_out (out first)) (taken (out first)) (taken (out gone)) deck files (machine gone)
-      failed_cut stop some =
+      failed_cut stop loss =
           let g = gave_up stop in
           cut_failing meaning rack (held (disk gone)) (refusals (disk first)) (refusals (disk gone)) (tells_out (out first)) (taken (out first)) (taken (out gone)) deck files (machine gone)
           ((r.leaves before gone w.call.leads).deck ∙ led.deck ∙ same) (taken (out before)) (machine before) (refusals (disk before)) (refusals (disk gone)) (tells_out (out before)) led.telling_out.0
-          (took before led (none_lost (machine before).tally.lost (machine before).tally.over (machine before).tally.lost_over going)) (rose_earlier _ _ _ (led.own on)) g.at g.call g.learns (some_not (machine gone).tally.lost some)
+          (took before led (none_lost (machine before).tally.lost (machine before).tally.over (machine before).tally.lost_over going)) (rose_earlier _ _ _ (led.own on)) g.at g.call g.learns (loss_not (machine gone).tally.lost loss)
           (λ o. turn_holds meaning rack (held (disk gone)) (refusals (disk first)) (refusals (disk gone)) deck files (machine gone) (refusals (disk before)) (refusals (disk gone)) g.call.run (desks_of meaning slots_then)
           (led.own on) (omega arith) (g.call.outside o) (g.turn o) (slots_hold meaning slots_then rack w.slots)
           (given_at meaning rack deck.variables (stated deck.statements) files g.call.run slots_then w.slots (g.given o) (g.turn o).index (g.turn o).rest
@@ -232,10 +232,10 @@ module _ {S W D F : Type 0} {ghosts : Ghosts F} (s : Shows S) (tells_out : W →
           elim (r.reason before gone w.call.leads going over) [
             | inl (stop, none) ↦
                 stopped_cut rack all_led alone (ap (λ (m : Machine F ghosts). m.tally.stopped) still.0 ∙ stop) (ap (λ (m : Machine F ghosts). m.tally.lost) still.0 ∙ none)
-            | inr (stop, some) ↦
+            | inr (stop, loss) ↦
                 subst (λ (d : D). IsCut meaning rack (held d) (refusals (disk first)) (refusals d) (tells_out (out first)) (taken (out first)) (taken (out last)) deck files (machine last)) (sym still.2)
                 (subst (λ n. IsCut meaning rack (held (disk gone)) (refusals (disk first)) (refusals (disk gone)) (tells_out (out first)) (taken (out first)) n deck files (machine last)) (sym still.1)
-                (subst (λ (m : Machine F ghosts). IsCut meaning rack (held (disk gone)) (refusals (disk first)) (refusals (disk gone)) (tells_out (out first)) (taken (out first)) (taken (out gone)) deck files m) (sym still.0) (failed_cut stop some)))
+                (subst (λ (m : Machine F ghosts). IsCut meaning rack (held (disk gone)) (refusals (disk first)) (refusals (disk gone)) (tells_out (out first)) (taken (out first)) (taken (out gone)) deck files m) (sym still.0) (failed_cut stop loss)))
           ]
 
 -- A script that was served until it was over: its run was cut.
