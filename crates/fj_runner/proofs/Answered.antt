@@ -111,7 +111,7 @@ core_answered files old new slot number it e h =
 
 -- ---- those before a place have answers still
 
-pub pub passed_still : {F : Type 0} → (slot number : ℕ) (it : Brought) (hs hs' : List code_held.Held) (s : Stage F) → held hs' ≡ with_answer slot number it (held hs) → is_passed hs s ≡ true → is_passed hs' s ≡ true
+pub passed_still : {F : Type 0} → (slot number : ℕ) (it : Brought) (hs hs' : List code_held.Held) (s : Stage F) → held hs' ≡ with_answer slot number it (held hs) → is_passed hs s ≡ true → is_passed hs' s ≡ true
 passed_still slot number it hs hs' (stage.Waiting whose from) e p = passed_kept slot number it hs hs' whose from e p
 passed_still slot number it hs hs' stage.Start e p = refl
 passed_still slot number it hs hs' (stage.Resuming slots next condition) e p = refl

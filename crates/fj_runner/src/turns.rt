@@ -88,12 +88,7 @@ impl<F: FileStore> State<F> {
     }
 
     /// Sets IOSTAT=, and ends the statement.
-    fn finish(
-        &mut self,
-        variables: &Variables,
-        lined: &Lined,
-        condition: Condition,
-    ) -> Turned<F>
+    fn finish(&mut self, variables: &Variables, lined: &Lined, condition: Condition) -> Turned<F>
         requires { self.old.core.store.kinds ≡ kinds_of variables.now }
         ensures turn { (more : List Stated) (files : Files) (core : PlainCore) (book : List Held) (stage : PlainStage)
             → held self.old.core.pending ≡ matched (map (λ (h : Held). h.pending) (held self.old.core.pending)) book
@@ -124,12 +119,7 @@ impl<F: FileStore> State<F> {
     }
 
     /// Does what the statement does next.
-    pub(crate) fn act(
-        &mut self,
-        variables: &Variables,
-        lined: &Lined,
-        doing: Doing<F>,
-    ) -> Turned<F>
+    pub(crate) fn act(&mut self, variables: &Variables, lined: &Lined, doing: Doing<F>) -> Turned<F>
         requires kinds { self.old.core.store.kinds ≡ kinds_of variables.now }
         requires placed { IsPlaced doing }
         requires hand { may_be_at lined.now.what self.old.stage ≡ true }

@@ -1,4 +1,5 @@
-use Rattle.std.proofs.Common.{◌≡◌, Some, length, replicate, ap, ◌∙◌, rules, None, sym, subst, arith}
+use Rattle.std.proofs.Common.{◌≡◌, Some, length, replicate, ap, ◌∙◌, rules, None, sym, subst, arith, ◌-◌}
+use Rattle.std.specs.Prelude.{◌*◌, ◌^◌, min}
 use Rattle.fj_desk.specs.Core.{Core as PlainCore}
 use Rattle.fj_desk.specs.Desking.{fresh}
 use Rattle.fj_plain.specs.Statement.{stated}
@@ -37,5 +38,5 @@ returns-clause-on g c = λ sound.
       told = first_can tally c.in_ok-vec-2.field-0.items t.5 told;
       owes = first_owes tally.hand tally.owed.items c.in_ok-vec.field-0.items c.in_ok-vec-2.field-0.items t.0 t.5 sent told;
       awaited = none_awaited tally.hand _ t.0;
-      asks = λ none low. first_asks (length c.args.deck.statements) (sum tally.owed.items) (asks_for tally.hand) tally.left sound.few low (none_owed tally.owed.items t.5) (ap asks_for t.0) t.4;
+      asks = λ none low. first_asks (length c.args.deck.statements) (sum tally.owed.items) (asks_for tally.hand) tally.left sound.few low (none_owed tally.owed.items t.5) (ap asks_for t.0) (t.4 ∙ ap (λ n. min (64 * n) (2 ^ 62 - 1)) c.len.ensures);
     }
