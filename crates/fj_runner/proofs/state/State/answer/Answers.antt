@@ -21,8 +21,8 @@ use Rattle.fj_runner.specs.Spending.{jobs_at}
 use Rattle.fj_runner.proofs.Spending.{own_jobs}
 use Rattle.fj_runner.proofs.state.State.answer.Goals as goal
 
-pub invariant_of-self-then-has : goal.invariant_of-self-then-has
-invariant_of-self-then-has g c =
+pub invariant_of-self : goal.invariant_of-self
+invariant_of-self g c =
     let s = c.args.self.now in
     let number = c.index-number.result.now in
     let inside : s.due < length s.told.items = omega (arith, s.told_slots, s.due_slot) in
@@ -111,7 +111,6 @@ returns-then-has-clause-hears g c =
       next = refl;
       ending = refl;
       sent = refl;
-      store = refl;
       output = refl;
       units = refl;
       jobs = λ units. refl;
@@ -129,7 +128,6 @@ returns-clause-hears g c =
       next = refl;
       ending = refl;
       sent = refl;
-      store = refl;
       output = refl;
       units = refl;
       jobs = λ units. ap (λ x. jobs_at x units) (c.own.ensures ∙ ap (with_own s.due number c.args.job c.args.answer) c.replace-stage.ensures.value) ∙ own_jobs s.due number c.args.job c.args.answer s.stage units;
