@@ -61,5 +61,7 @@ returns-in-Err-clause-reason g c = λ going over.
     let mid = c.next_ask.new.self in
     let goes : mid.tally.over ≡ false = ap (λ t. t.over) c.next_ask.ensures.tally ∙ going in
     let fits = ∥∥₁_elim c.requires.going (hlevel props) (λ f. let on = f going in c.next_ask.ensures.fits on.sound on.at) in
-    inr (c.lose.ensures.stopped ∙ not_stopped mid.tally.stopped mid.tally.over mid.tally.stop goes,
-    subst IsLoss (sym c.lose.ensures.lost) (first_loss mid.tally.lost mid.tally.over c.in-Err.lost mid.tally.lost_over goes (λ e. fits (c.in-Err.is ∙ ap Err e))))
+    inr (
+      c.lose.ensures.stopped ∙ not_stopped mid.tally.stopped mid.tally.over mid.tally.stop goes,
+      subst IsLoss (sym c.lose.ensures.lost) (first_loss mid.tally.lost mid.tally.over c.in-Err.lost mid.tally.lost_over goes (λ e. fits (c.in-Err.is ∙ ap Err e))),
+    )
