@@ -39,7 +39,7 @@ use Rattle.fj_items.specs.Handing.{whole_records}
 use Rattle.fj_items.specs.declared.lost.Lost.{Lost}
 use Rattle.fj_acts.specs.State.{core_of}
 use Rattle.fj_units.specs.Files.{files_of}
-use Rattle.fj_runner.specs.Failing.{AllFits, StandsStill, StandsAt, FailsCall, IsGivenUp, FailsAsking, Stays, HasReason}
+use Rattle.fj_runner.specs.Failing.{AllFits, StandsStill, StandsAt, FailsCall, IsGivenUp, FailsAsking, Stays, HasReason, IsLoss}
 use Rattle.fj_runner.specs.Leaving.{Leaves}
 use Rattle.fj_runner.specs.Machine.{rest_of, run_of}
 use Rattle.fj_runner.specs.Tallying.{due_of}
@@ -75,8 +75,8 @@ none_lost : (lost : Option Lost) (over : Bool) → (IsSome lost → over ≡ tru
 none_lost None over some going = refl
 none_lost (Some lost) over some going = absurd (let z : true ≡ false = sym (some refl) ∙ going in cc)
 
-some_not : (lost : Option Lost) → IsSome lost → lost ≢ None
-some_not lost some none = let z : false ≡ true = subst IsSome none some in cc
+loss_not : (lost : Option Lost) → IsLoss lost → lost ≢ None
+loss_not lost loss none = subst IsLoss none loss
 
 -- ---- the ask at hand
 
@@ -286,13 +286,13 @@ module _ {S W D F : Type 0} {ghosts : Ghosts F} (s : Shows S) (tells_out : W →
                 }
           ]
 
-      failed_cut : (machine gone).tally.stopped ≡ false → IsSome (machine gone).tally.lost
+      failed_cut : (machine gone).tally.stopped ≡ false → IsLoss (machine gone).tally.lost
           → IsCut meaning rack (held (disk gone)) (refusals (disk first)) (refusals (disk gone)) (tells_out (out first)) (taken (out first)) (taken (out gone)) deck files (machine gone)
-      failed_cut stop some =
+      failed_cut stop loss =
           let g = gave_up stop in
           cut_failing meaning rack (held (disk gone)) (refusals (disk first)) (refusals (disk gone)) (tells_out (out first)) (taken (out first)) (taken (out gone)) deck files (machine gone)
           ((r.leaves before gone w.call.leads).deck ∙ led.deck ∙ same) (taken (out before)) (machine before) (refusals (disk before)) (refusals (disk gone)) (tells_out (out before)) led.telling_out.0
-          (took before led (none_lost (machine before).tally.lost (machine before).tally.over (machine before).tally.lost_over going)) (rose_earlier _ _ _ (led.own on)) g.at g.call g.learns (some_not (machine gone).tally.lost some)
+          (took before led (none_lost (machine before).tally.lost (machine before).tally.over (machine before).tally.lost_over going)) (rose_earlier _ _ _ (led.own on)) g.at g.call g.learns (loss_not (machine gone).tally.lost loss)
           g.holds
 
       all_led : AllLeave first last
@@ -308,10 +308,10 @@ module _ {S W D F : Type 0} {ghosts : Ghosts F} (s : Shows S) (tells_out : W →
           elim (r.reason before gone w.call.leads going over) [
             | inl (stop, none) ↦
                 stopped_cut rack all_led alone (ap (λ (m : Machine F ghosts). m.tally.stopped) still.0 ∙ stop) (ap (λ (m : Machine F ghosts). m.tally.lost) still.0 ∙ none)
-            | inr (stop, some) ↦
+            | inr (stop, loss) ↦
                 subst (λ (d : D). IsCut meaning rack (held d) (refusals (disk first)) (refusals d) (tells_out (out first)) (taken (out first)) (taken (out last)) deck files (machine last)) (sym still.2)
                 (subst (λ n. IsCut meaning rack (held (disk gone)) (refusals (disk first)) (refusals (disk gone)) (tells_out (out first)) (taken (out first)) n deck files (machine last)) (sym still.1)
-                (subst (λ (m : Machine F ghosts). IsCut meaning rack (held (disk gone)) (refusals (disk first)) (refusals (disk gone)) (tells_out (out first)) (taken (out first)) (taken (out gone)) deck files m) (sym still.0) (failed_cut stop some)))
+                (subst (λ (m : Machine F ghosts). IsCut meaning rack (held (disk gone)) (refusals (disk first)) (refusals (disk gone)) (tells_out (out first)) (taken (out first)) (taken (out gone)) deck files m) (sym still.0) (failed_cut stop loss)))
           ]
 
 -- A script that was served until it was over: its run was cut.

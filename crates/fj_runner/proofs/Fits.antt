@@ -1,6 +1,9 @@
--- A statement that goes on with the number of its job fits.
-use Rattle.std.proofs.Common.{◌≡◌, ℕ, ◌+◌, ◌<◌, ◌^◌, true, List, length, sym, ◌∙◌, subst, arith}
-use Rattle.std.proofs.lemmas.List.Elements.{All-weaker}
+-- A statement fits that goes on with the number of its job, and that at hand of a sound deck does.
+use Rattle.std.proofs.Common.{◌≡◌, ℕ, ◌+◌, ◌<◌, ◌^◌, true, List, length, get_or, sym, ap, ◌∙◌, subst, arith}
+use Rattle.std.proofs.lemmas.List.Elements.{All-weaker, All-get_or}
+use Rattle.fj_statement.specs.Sound.{IsSound, IsSoundStatement}
+use Rattle.fj_statement.specs.declared.deck.Deck.{Deck}
+use Rattle.fj_statement.specs.declared.deck.Lined.{Lined}
 use Rattle.fj_desk.specs.Desks.{most_slots}
 use Rattle.fj_pending.specs.declared.held.Held.{Held}
 use Rattle.fj_acts.specs.Fitting.{MayGoOn}
@@ -25,3 +28,9 @@ may_go_on sent (given.Pends unit slot) number core slots named own more =
       };
       more = more;
     }
+
+-- the statement at hand of a sound deck is sound
+pub sound_at_hand : (deck : Deck) (xs : List Lined) (at : ℕ) (l : Lined) → IsSound deck → xs ≡ deck.statements → at < length deck.statements → l ≡ get_or xs at l → IsSoundStatement deck.variables l.what
+sound_at_hand deck xs at l sound same low is =
+    subst (λ (x : Lined). IsSoundStatement deck.variables x.what) (sym (is ∙ ap (λ (ys : List Lined). get_or ys at l) same))
+    (All-get_or (λ (x : Lined). IsSoundStatement deck.variables x.what) deck.statements at l low sound.statements)

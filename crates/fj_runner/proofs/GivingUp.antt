@@ -6,7 +6,7 @@ use Rattle.fj_outside.specs.Holdings.{Holdings}
 use Rattle.fj_outside.specs.declared.outside.FileStore.{Ghosts}
 use Rattle.fj_items.specs.Handing.{HandsOver, HandsFront, HandsPart, whole_records}
 use Rattle.fj_items.specs.declared.lost.Lost.{Lost}
-use Rattle.fj_items.specs.declared.lost.Lost.TheVariants.{Disk, Sink, Unfit}
+use Rattle.fj_items.specs.declared.lost.Lost.TheVariants.{Memory, Disk, Sink, Unfit}
 use Rattle.fj_world.specs.Conduct.{IsSubmitting}
 use Rattle.fj_plain.specs.State.{Files, Output}
 use Rattle.fj_plain.specs.Statement.{Stated, stated}
@@ -21,7 +21,7 @@ use Rattle.fj_pending.specs.Plain.{tells_of}
 use Rattle.fj_acts.specs.Failing.{StandsWhere}
 use Rattle.fj_acts.specs.State.{core_at}
 use Rattle.fj_acts.specs.declared.state.Core.{Core}
-use Rattle.fj_runner.specs.Failing.{AllFits, FailsStage, StandsAt, StandsDoing, StandsStill, CallsDisk, FailsCall, OfOutside, IsGivenUp, FailsAsking}
+use Rattle.fj_runner.specs.Failing.{AllFits, IsLoss, FailsStage, StandsAt, StandsDoing, StandsStill, CallsDisk, FailsCall, OfOutside, IsGivenUp, FailsAsking}
 use Rattle.fj_runner.specs.Leaving.{Rests}
 use Rattle.fj_runner.specs.Machine.{rest_of, run_in, run_at, run_of, stage_at}
 use Rattle.fj_runner.specs.Tallying.{due_of, first_lost}
@@ -228,6 +228,16 @@ lost_is e = cc
 -- while it is not over nothing is lost
 pub only_first : (o : Option Lost) (b : Bool) (lost first : Lost) → (IsSome o → b ≡ true) → b ≡ false → first_lost o lost ≡ Some first → lost ≡ first
 only_first o b lost first h f e = let n = first_some o b h f in some_same lost first (sym (ap (λ k. first_lost k lost) n) ∙ e)
+
+loss_of : (lost : Lost) → lost ≢ Unfit → IsLoss (Some lost)
+loss_of (Memory error) fits = tt
+loss_of Disk fits = tt
+loss_of Sink fits = tt
+loss_of Unfit fits = absurd (fits refl)
+
+-- what was lost first, if that fits
+pub first_loss : (o : Option Lost) (b : Bool) (lost : Lost) → (IsSome o → b ≡ true) → b ≡ false → lost ≢ Unfit → IsLoss (first_lost o lost)
+first_loss o b lost h going fits = subst (λ k. IsLoss (first_lost k lost)) (sym (first_some o b h going)) (loss_of lost fits)
 
 -- it gives up at a stop alone
 pub only_stop : (done over over' stopped : Bool) → (done ≡ true → over' ≡ over) → (done ≡ false → (over' ≡ true) × (stopped ≡ true)) → over ≡ false → over' ≡ true → stopped ≡ false → ⊥

@@ -24,3 +24,8 @@ asking (Settling slot) e = cc
 pub not_both : (b : Bool) → b ≡ true → b ≡ false → ⊥
 not_both true t f = cc
 not_both false t f = cc
+
+-- while it is not over no stop was told
+pub not_stopped : (stopped over : Bool) → (stopped ≡ true → over ≡ true) → over ≡ false → stopped ≡ false
+not_stopped true over stop going = absurd (not_both over (stop refl) going)
+not_stopped false over stop going = refl

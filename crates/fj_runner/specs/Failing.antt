@@ -1,11 +1,11 @@
 -- What was told and written until a turn was given up, and until a call was.
-use Rattle.std.specs.Prelude.{◌≡◌, ◌≢◌, ◌⊎◌, ℕ, true, false, List, [], ◌∷◌, Option, Some, None, IsSome, Result, Err, OnErr}
+use Rattle.std.specs.Prelude.{◌≡◌, ◌≢◌, ◌⊎◌, ℕ, true, false, List, [], ◌∷◌, Option, Some, None, Result, Err, OnErr}
 use Rattle.fj_outside.specs.Faults.{Rose}
 use Rattle.fj_outside.specs.Holdings.{Holdings}
 use Rattle.fj_outside.specs.declared.outside.FileStore.{Ghosts}
 use Rattle.fj_items.specs.Handing.{HandsOver, HandsFront, HandsPart}
 use Rattle.fj_items.specs.declared.lost.Lost.{Lost}
-use Rattle.fj_items.specs.declared.lost.Lost.TheVariants.{Disk, Sink, Unfit}
+use Rattle.fj_items.specs.declared.lost.Lost.TheVariants.{Memory, Disk, Sink, Unfit}
 use Rattle.fj_world.specs.Conduct.{IsSubmitting}
 use Rattle.fj_plain.specs.State.{Output, Tell}
 use Rattle.fj_plain.specs.Statement.{Stated}
@@ -133,6 +133,13 @@ pub record FailsAsking {D F : Type 0} {ghosts : Ghosts F} (disk disk' : D) (m m'
 abbrev pub Stays : {D F : Type 0} {ghosts : Ghosts F} → List ℕ → List ℕ → D → D → Machine F ghosts → Machine F ghosts → Type 0
 Stays taken taken' disk disk' m m' = m.tally.over ≡ true → (m' ≡ m) × (taken' ≡ taken) × (disk' ≡ disk)
 
--- a call by which it is over told a stop, and then nothing is lost; or something was lost
+-- memory was wanting, or the disk or the sink failed; never does something not fit
+abbrev pub IsLoss : Option Lost → Type 0
+IsLoss (Some (Memory error)) = Unit {0}
+IsLoss (Some Disk) = Unit {0}
+IsLoss (Some Sink) = Unit {0}
+IsLoss _ = ⊥
+
+-- a call by which it is over told a stop, and then nothing is lost; or that was lost
 abbrev pub HasReason : {F : Type 0} {ghosts : Ghosts F} → Machine F ghosts → Machine F ghosts → Type 0
-HasReason m m' = m.tally.over ≡ false → m'.tally.over ≡ true → ((m'.tally.stopped ≡ true) × (m'.tally.lost ≡ None)) ⊎ ((m'.tally.stopped ≡ false) × IsSome m'.tally.lost)
+HasReason m m' = m.tally.over ≡ false → m'.tally.over ≡ true → ((m'.tally.stopped ≡ true) × (m'.tally.lost ≡ None)) ⊎ ((m'.tally.stopped ≡ false) × IsLoss m'.tally.lost)

@@ -1,7 +1,8 @@
 // What a deck asks next.
-ghost use Rattle.std.specs.Prelude.{◌≡◌, ℕ, ◌+◌, ◌<◌, length, Some, Err, IfOk, OnErr, IfSome, IfNone, drop};
+ghost use Rattle.std.specs.Prelude.{◌≡◌, ◌≢◌, ℕ, ◌+◌, ◌<◌, length, Some, Err, IfOk, OnErr, IfSome, IfNone, drop};
 ghost use Rattle.fj_plain.specs.State.{Files};
 ghost use Rattle.fj_plain.specs.Statement.{stated};
+ghost use Rattle.fj_statement.specs.Sound.{IsSound};
 ghost use Rattle.fj_turns.specs.Run.{Run, Start};
 ghost use Rattle.fj_turns.specs.Turns.{Turn, asked, by_turn, goes};
 ghost use Rattle.fj_turns.specs.Passing.{passed_by, passed_on};
@@ -82,6 +83,7 @@ impl<F: FileStore> Machine<F> {
             (run_at (files_of (D.held disk.old)) self.old Start) self.old self.new) }
         ensures at { IfOk result (λ o. IfNone o (self.new.at ≡ self.old.at + 1)) }
         ensures on { self.old.state.stage ≡ Stage.Start → IsAt self.old → IfOk result (λ o. IsAt self.new) }
+        ensures fits { IsSound self.old.deck → self.old.state.stage ≡ Stage.Start → IsAt self.old → result ≢ Err Lost.Unfit }
         ensures start { self.old.state.stage ≡ Stage.Start → IsAt self.old → IfOk result (λ o. IfNone o (self.new.state.stage ≡ Stage.Start)) }
         ensures sent { IfOk result (λ o. IfSome o (λ ask. SentFor ask self.old.state.sent.items self.new.state.sent.items)) }
         ensures slots { IfOk result (λ o. IfSome o (λ ask. KeepsToSlots ask self.new.state)) }
@@ -115,6 +117,7 @@ impl<F: FileStore> Machine<F> {
         ensures asks { D.tells disk.old → self.old.state.stage ≡ Stage.Start → IfOk result (λ ask. IsAsked F.told F.bytes (files_of (D.held disk.new)) self.new ask
             (goes (rest_of self.old) (run_at (files_of (D.held disk.old)) self.old Start))) }
         ensures on { self.old.state.stage ≡ Stage.Start → IsAt self.old → IfOk result (λ ask. IsAt self.new) }
+        ensures fits { IsSound self.old.deck → self.old.state.stage ≡ Stage.Start → IsAt self.old → result ≢ Err Lost.Unfit }
         ensures spends { IfOk result (λ ask. Spent ask (jobs_from (length self.old.deck.statements) self.old.at) self.new) }
         ensures sent { IfOk result (λ ask. SentFor ask self.old.state.sent.items self.new.state.sent.items) }
         ensures slots { IfOk result (λ ask. KeepsToSlots ask self.new.state) }
@@ -154,6 +157,7 @@ impl<F: FileStore> Machine<F> {
         ensures asks { D.tells disk.old → (t : Turn) → IsTurn F.told F.bytes self.old.deck.variables (rest_of self.old) (files_of (D.held disk.old)) self.old.state turned t
             → IfOk result (λ ask. IsAsked F.told F.bytes (files_of (D.held disk.new)) self.new ask (by_turn (drop (self.old.at + 1) (stated self.old.deck.statements)) t)) }
         ensures on { FromTurn self.old turned (IfOk result (λ ask. IsAt self.new)) }
+        ensures fits { IsSound self.old.deck → FromTurn self.old turned (result ≢ Err Lost.Unfit) }
         ensures spends { (jobs : ℕ) → Spends jobs turned self.old.state
             → SinceTurn self.old turned (λ s. IfOk result (λ ask. Spent ask (jobs + jobs_from (length self.old.deck.statements) (self.old.at + 1)) self.new)) }
         ensures sent { SinceTurn self.old turned (λ s. IfOk result (λ ask. SentFor ask s.sent.items self.new.state.sent.items)) }
@@ -185,6 +189,7 @@ impl<F: FileStore> Machine<F> {
         ensures asks { D.tells disk.old → (r : Run) → run_of F.told F.bytes (files_of (D.held disk.old)) self.old ≡ Some r
             → IfOk result (λ ask. IsAsked F.told F.bytes (files_of (D.held disk.new)) self.new ask (asked r)) }
         ensures on { IsAt self.old → IfOk result (λ ask. IsAt self.new) }
+        ensures fits { IsSound self.old.deck → IsAt self.old → result ≢ Err Lost.Unfit }
         ensures spends { IfOk result (λ ask. Spent ask (jobs_left self.old) self.new × Lives ask self.old) }
         ensures sent { IfOk result (λ ask. SentFor ask self.old.state.sent.items self.new.state.sent.items) }
         ensures slots { IfOk result (λ ask. KeepsToSlots ask self.new.state) }

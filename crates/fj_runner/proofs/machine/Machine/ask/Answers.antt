@@ -1,12 +1,14 @@
-use Rattle.std.proofs.Common.{◌≡◌, false, Some, Err, refl, sym, ap, ◌∙◌, subst}
+use Rattle.std.proofs.Common.{◌≡◌, false, Some, Err, refl, sym, ap, ◌∙◌, subst, inr}
 use Rattle.std.proofs.Math.Logic.{∥∥₁_elim}
-use Rattle.fj_runner.proofs.GivingUp.{first_some, lost_is, only_first, fails_for, fails_to}
-use Rattle.fj_runner.proofs.Tallies.{not_both}
+use Rattle.std.proofs.Props.{props}
+use Rattle.fj_runner.proofs.GivingUp.{first_loss, first_some, lost_is, only_first, fails_for, fails_to}
+use Rattle.fj_runner.proofs.Tallies.{not_both, not_stopped}
 use Rattle.fj_world.specs.Conduct.{IsDueAsk}
 use Rattle.fj_runner.specs.Tallying.{due_of, first_lost}
 use Rattle.fj_runner.proofs.Counting.{going_asked, may_ask}
 use Rattle.fj_runner.proofs.Spending.{may_prop}
 use Rattle.fj_runner.specs.Admitting.{MayAsk}
+use Rattle.fj_runner.specs.Failing.{IsLoss}
 use Rattle.fj_runner.specs.Going.{OwesAsGiven}
 use Rattle.fj_runner.specs.declared.tally.Tally.{Tally}
 use Rattle.fj_runner.proofs.machine.Machine.ask.Goals as goal
@@ -53,3 +55,13 @@ admit-requires-clause-may g c =
     let spent = c.in-Ok.ensures.spends in
     may_ask c.in-Ok.ask m mid c.requires.idle
     (subst (λ l. OwesAsGiven m.tally.hand m.tally.owed.items m.state.sent.items l.items) (sym c.next_ask.ensures.heard) (c.requires.owes c.if-self.false)) c.in-Ok.ensures.sent c.in-Ok.ensures.slots on.asks spent.0 spent.1))
+
+pub returns-in-Err-clause-reason : goal.returns-in-Err-clause-reason
+returns-in-Err-clause-reason g c = λ going over.
+    let mid = c.next_ask.new.self in
+    let goes : mid.tally.over ≡ false = ap (λ t. t.over) c.next_ask.ensures.tally ∙ going in
+    let fits = ∥∥₁_elim c.requires.going (hlevel props) (λ f. let on = f going in c.next_ask.ensures.fits on.sound on.at) in
+    inr (
+      c.lose.ensures.stopped ∙ not_stopped mid.tally.stopped mid.tally.over mid.tally.stop goes,
+      subst IsLoss (sym c.lose.ensures.lost) (first_loss mid.tally.lost mid.tally.over c.in-Err.lost mid.tally.lost_over goes (λ e. fits (c.in-Err.is ∙ ap Err e))),
+    )

@@ -1,4 +1,5 @@
 use Rattle.std.proofs.Common.{◌+◌, ◌≤◌, length, ap, sym, subst, IfSome, IfOk, arith}
+use Rattle.fj_statement.specs.Sound.{IsSound}
 use Rattle.fj_plain.specs.State.{Files}
 use Rattle.fj_units.specs.Files.{files_of}
 use Rattle.fj_turns.specs.Run.{Start}
@@ -47,3 +48,7 @@ returns-in-None-clause-spends g c = λ jobs spends s counts.
     let spent = subst (λ d. IfOk c.go.result (λ ask. Spent ask (jobs_from (length d.statements) mid.at) c.go.new.self)) c.asked_by.ensures.deck c.go.ensures.spends in
     let few_jobs = from_later statements (m.at + 1) mid.at past in
     ok_spent c.go.result c.go.new.self (jobs_from statements mid.at) (jobs + jobs_from statements (m.at + 1)) (omega (arith, few_jobs)) spent
+
+pub returns-in-None-clause-fits : goal.returns-in-None-clause-fits
+returns-in-None-clause-fits g c = λ sound s st more here have counts few kept.
+    c.go.ensures.fits (subst (λ d. IsSound d) (sym c.asked_by.ensures.deck) sound) (c.in-None.ensures.start s st more here have counts few kept) (c.asked_by.ensures.on s st more here have counts few kept)

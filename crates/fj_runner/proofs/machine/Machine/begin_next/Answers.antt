@@ -12,6 +12,7 @@ use Rattle.fj_runner.specs.declared.stage.Stage.TheVariants as stage
 use Rattle.fj_runner.proofs.GivingUp.{fails_for, fails_turn, passed_at}
 use Rattle.fj_runner.proofs.NextAsks.{read_at_hand, goes_at}
 use Rattle.fj_runner.proofs.Counting.{files_at}
+use Rattle.fj_runner.proofs.Fits.{sound_at_hand}
 use Rattle.fj_runner.specs.Spending.{Spent}
 use Rattle.fj_runner.proofs.Spending.{from_next}
 use Rattle.fj_runner.proofs.machine.Machine.begin_next.Goals as goal
@@ -110,3 +111,13 @@ returns-in-Ok-clause-spends g c =
     let m = c.args.self.now in
     subst (λ jobs. IfSome c.asked_by.result (λ ask. Spent ask jobs c.asked_by.new.self)) (from_next (length m.deck.statements) m.at c.requires.at)
     (c.asked_by.ensures.spends most_jobs c.in-Ok.ensures.spends m.state c.in-Ok.ensures.counts)
+
+pub returns-in-Err-clause-fits : goal.returns-in-Err-clause-fits
+returns-in-Err-clause-fits g c = λ sound start i e.
+    let m = c.args.self.now in
+    let lined = c.index-as_slice-self.result in
+    let st : Stated = (lined, control_by lined.what) in
+    let more : List Stated = drop (m.at + 1) (stated m.deck.statements) in
+    let h = read_at_hand m.deck.statements c.as_slice.result.now m.at lined c.as_slice.ensures c.requires.at c.index-as_slice-self.is in
+    c.start.ensures.fits (sound_at_hand m.deck c.as_slice.result.now m.at lined sound c.as_slice.ensures c.requires.at c.index-as_slice-self.is)
+    (files_at m.state.stage m.state.core.names m.state.core.units lined.what start (i.files st more h)) i.kept (cc (c.in-Err.is, e))

@@ -1,4 +1,5 @@
 use Rattle.std.proofs.Common.{sym, ap, subst, ◌∙◌, IfSome, length, arith}
+use Rattle.fj_statement.specs.Sound.{IsSound}
 use Rattle.fj_turns.specs.Run.{Start}
 use Rattle.fj_units.specs.Files.{files_of}
 use Rattle.fj_runner.specs.Machine.{run_at}
@@ -79,3 +80,9 @@ returns-in-Some-clause-spends g c =
     let spent = subst (λ o. IfSome o (λ ask. Spent ask (jobs_from (length half.deck.statements) half.at) new)) c.in-Some.is c.in-Ok.ensures.spends in
     spent_le c.in-Some.ask new (jobs_from statements half.at) (jobs_from statements m.at) (from_later statements m.at half.at it.at)
     (subst (λ d. Spent c.in-Some.ask (jobs_from (length d.statements) half.at) new) it.deck spent)
+
+pub returns-in-Err-clause-fits : goal.returns-in-Err-clause-fits
+returns-in-Err-clause-fits g c = λ sound start i e.
+    let it = c.loop-self.invariant in
+    let k = it.on start i in
+    c.begin_next.ensures.fits (subst (λ d. IsSound d) (sym it.deck) sound) k.0 k.1 (cc (c.in-Err.is, e))
