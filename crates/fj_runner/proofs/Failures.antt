@@ -1,9 +1,8 @@
 -- Turns that are given up.
-use Rattle.std.proofs.Common.{◌≡◌, ◌≢◌, ℕ, Bool, true, List, [], ◌++◌, Option, Some, None, Result, Ok, Err, OnErr, inl, inr, refl, sym, ap, ◌∙◌, subst}
+use Rattle.std.proofs.Common.{◌≡◌, ◌≢◌, ℕ, true, List, Option, Some, None, Result, Ok, Err, OnErr, inl, inr, refl, sym, ap, ◌∙◌, subst}
 use Rattle.std.specs.Prelude.{◌⊎◌}
 use Rattle.fj_outside.specs.Faults.{Rose}
 use Rattle.fj_outside.specs.Holdings.{Holdings}
-use Rattle.fj_statement.specs.declared.deck.Variable.{Variable}
 use Rattle.fj_statement.specs.declared.statement.Statement.{Statement}
 use Rattle.fj_statement.specs.declared.statement.Statement.TheVariants as statement
 use Rattle.fj_items.specs.Handing.{HandsFront, HandsPart}
@@ -11,7 +10,6 @@ use Rattle.fj_items.specs.declared.lost.Lost.{Lost}
 use Rattle.fj_items.specs.declared.lost.Lost.TheVariants.{Disk, Sink, Unfit}
 use Rattle.fj_plain.specs.State.{Output, Tell}
 use Rattle.fj_plain.specs.Statement.{Stated, Ending, ends}
-use Rattle.fj_desk.specs.Core.{Core as PlainCore}
 use Rattle.fj_desk.specs.Doing.{Doing as PlainDoing, finishes, gives, awaits}
 use Rattle.fj_turns.specs.Run.{Run, Stage}
 use Rattle.fj_turns.specs.Turns.{finish_by, turn_act, with_core, with_iostat}

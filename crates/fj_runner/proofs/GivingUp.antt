@@ -21,7 +21,7 @@ use Rattle.fj_pending.specs.Plain.{tells_of}
 use Rattle.fj_acts.specs.Failing.{StandsWhere}
 use Rattle.fj_acts.specs.State.{core_at}
 use Rattle.fj_acts.specs.declared.state.Core.{Core}
-use Rattle.fj_runner.specs.Failing.{AllFits, IsLoss, FailsStage, StandsAt, StandsDoing, StandsStill, CallsDisk, FailsCall, OfOutside, IsGivenUp, FailsAsking}
+use Rattle.fj_runner.specs.Failing.{IsLoss, FailsStage, StandsAt, StandsDoing, StandsStill, CallsDisk, FailsCall, OfOutside, IsGivenUp, FailsAsking}
 use Rattle.fj_runner.specs.Leaving.{Rests}
 use Rattle.fj_runner.specs.Machine.{rest_of, run_in, run_at, run_of, stage_at}
 use Rattle.fj_runner.specs.Tallying.{due_of, first_lost}

@@ -1,4 +1,4 @@
-use Rattle.std.proofs.Common.{◌≡◌, ◌∷◌, true, Ok, Some, IfOk, inr, refl, sym, ◌∙◌, subst, arith, ◌≤◌, length}
+use Rattle.std.proofs.Common.{◌≡◌, ◌∷◌, true, Some, IfOk, inr, refl, sym, ◌∙◌, subst, arith, ◌≤◌, length}
 use Rattle.fj_bay.specs.Plain.{task_of, reply_of}
 use Rattle.fj_plain.specs.State.{Files}
 use Rattle.fj_plain.specs.Statement.{Stated, control_by}

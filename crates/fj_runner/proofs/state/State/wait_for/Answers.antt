@@ -1,4 +1,4 @@
-use Rattle.std.proofs.Common.{◌≡◌, List, ◌∷◌, Ok, IfOk, refl, sym, subst, ap, ◌∙◌, ◌++◌, map, Some, None}
+use Rattle.std.proofs.Common.{◌≡◌, List, ◌∷◌, IfOk, refl, sym, subst, ap, ◌∙◌, ◌++◌, map, Some, None}
 use Rattle.fj_plain.specs.State.{Files, Entry}
 use Rattle.fj_plain.specs.Statement.{Stated, control_by}
 use Rattle.fj_turns.specs.Run.{Run, Waiting}
