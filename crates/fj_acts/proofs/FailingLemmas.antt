@@ -143,9 +143,9 @@ moved_there : (core : PlainCore) (how : Motion) (old : Option Connected) → Lea
 moved_there core how None = ends_there core _
 moved_there core how (Some u) = record { units = refl; files = λ name other. refl }
 
-asked_there : (core : PlainCore) (number : Option ℕ) (file : Option (List ℕ)) (asked : List Wanted) (id : Option ℤ) (old : Option Connected) → Leaves core (inquires core number file asked id old)
-asked_there core number file asked id None = record { units = refl; files = λ name other. refl }
-asked_there core number file asked id (Some u) =
+asked_there : (variables : List Variable) (core : PlainCore) (number : Option ℕ) (file : Option (List ℕ)) (asked : List Wanted) (id : Option ℤ) (old : Option Connected) → Leaves core (inquires variables core number file asked id old)
+asked_there variables core number file asked id None = record { units = refl; files = λ name other. refl }
+asked_there variables core number file asked id (Some u) =
     either_there core (list_any (λ (w : Wanted). asks_connection w.what) asked) _ _ (record { units = refl; files = λ name other. refl }) (record { units = refl; files = λ name other. refl })
 
 module _ (control : ℕ → List Given) (variables : List Variable) (line : ℕ) (core : PlainCore) where
@@ -173,7 +173,7 @@ module _ (control : ℕ → List Given) (variables : List Variable) (line : ℕ)
   own_there (statement.WaitFor u id iostat) = ends_there core Fine
   own_there (statement.Move how u iostat) = moved_there core how (unit_at core (number_of u))
   own_there (statement.Inquire subject asked id iostat) =
-      let number = unit_about (unit_named core.units) subject in asked_there core number (file_asked subject) asked (number_given core.vars id) (unit_at core number)
+      let number = unit_about (unit_named core.units) subject in asked_there variables core number (file_asked subject) asked (number_given core.vars id) (unit_at core number)
   own_there (statement.Transfer t) = at_there t (moved_in variables core.vars t) t.unit
   own_there statement.End = closes_there core.units core Fine
 
@@ -220,20 +220,20 @@ carries_there variables core (statement.Transfer t) slot o =
     either_there core (halts (condition_in o.1)) _ _ (record { units = refl; files = λ name other. refl }) (record { units = refl; files = λ name other. refl })
 carries_there variables core statement.End slot o = ends_there core Fine
 
-seen_there : (core : PlainCore) (number : Option ℕ) (file : Option (List ℕ)) (asked : List Wanted) (id : Option ℤ) (u : Option Connected) (look : Option Looked) → Leaves core (looks_at core number file asked id u look)
-seen_there core number file asked id None look = ends_there core Fine
-seen_there core number file asked id (Some u) look = record { units = refl; files = λ name other. refl }
+seen_there : (variables : List Variable) (core : PlainCore) (number : Option ℕ) (file : Option (List ℕ)) (asked : List Wanted) (id : Option ℤ) (u : Option Connected) (look : Option Looked) → Leaves core (looks_at variables core number file asked id u look)
+seen_there variables core number file asked id None look = ends_there core Fine
+seen_there variables core number file asked id (Some u) look = record { units = refl; files = λ name other. refl }
 
-pub looks_there : (core : PlainCore) (what : Statement) (o : Outcome) → Leaves core (looks core what o)
-looks_there core (statement.Assign to from) o = ends_there core Fine
-looks_there core (statement.OpenUnit u spec iostat) o = ends_there core Fine
-looks_there core (statement.CloseUnit u keep iostat) o = ends_there core Fine
-looks_there core (statement.WaitFor u id iostat) o = ends_there core Fine
-looks_there core (statement.Move how u iostat) o = ends_there core Fine
-looks_there core (statement.Inquire subject asked id iostat) o =
-    let number = unit_about (unit_named core.units) subject in seen_there core number (file_asked subject) asked (number_given core.vars id) (unit_at core number) (look_in o.0)
-looks_there core (statement.Transfer t) o = ends_there core Fine
-looks_there core statement.End o = ends_there core Fine
+pub looks_there : (variables : List Variable) (core : PlainCore) (what : Statement) (o : Outcome) → Leaves core (looks variables core what o)
+looks_there variables core (statement.Assign to from) o = ends_there core Fine
+looks_there variables core (statement.OpenUnit u spec iostat) o = ends_there core Fine
+looks_there variables core (statement.CloseUnit u keep iostat) o = ends_there core Fine
+looks_there variables core (statement.WaitFor u id iostat) o = ends_there core Fine
+looks_there variables core (statement.Move how u iostat) o = ends_there core Fine
+looks_there variables core (statement.Inquire subject asked id iostat) o =
+    let number = unit_about (unit_named core.units) subject in seen_there variables core number (file_asked subject) asked (number_given core.vars id) (unit_at core number) (look_in o.0)
+looks_there variables core (statement.Transfer t) o = ends_there core Fine
+looks_there variables core statement.End o = ends_there core Fine
 
 -- ---- a call that is given up
 

@@ -14,16 +14,15 @@ use Rattle.fj_statement.specs.declared.deck.Variable.{Variable}
 use Rattle.fj_statement.specs.declared.statement.Statement.{Statement}
 use Rattle.fj_statement.specs.declared.statement.Statement.TheVariants as statement
 use Rattle.fj_statement.specs.declared.statement.Transfer.{Transfer}
-use Rattle.fj_transfer.specs.declared.transfer.Transfer.{Transfer as Moving}
-use Rattle.fj_connect.specs.declared.spot.Look.{Look}
-use Rattle.fj_bay.specs.Jobs.{Job as Task, Answer, detach, look, move}
-use Rattle.fj_bay.specs.Plain.{looked_of, moving_of, task_of, told_of}
+use Rattle.fj_bay.specs.Jobs.{Job as Task, Answer, attach, detach, move, go, change, flush, look, resume}
+use Rattle.fj_bay.specs.Plain.{looked_of, moving_of, place_of, task_of, told_of}
 use Rattle.fj_bay.specs.declared.job.Job.{Job}
 use Rattle.fj_bay.specs.declared.job.Job.TheVariants as job
 use Rattle.fj_plain.specs.State.{Files, with_file, without_file}
 use Rattle.fj_plain.specs.Statement.{Stated}
 use Rattle.fj_desk.specs.Core.{Core, Connected, connected_at, without_connected}
-use Rattle.fj_desk.specs.Desks.{Outcome}
+use Rattle.fj_desk.specs.Desks.{Outcome, brought_by, condition_in, look_in}
+use Rattle.fj_pending.specs.Plain.{brought_of}
 use Rattle.fj_desk.specs.Doing.{finishes}
 use Rattle.fj_desk.specs.Acting.{left}
 use Rattle.fj_units.specs.Files.{files_of}
@@ -33,7 +32,7 @@ use Rattle.fj_acts.specs.Doing.{AsksToOpen, carries, closed, entered, goes_on, n
 use Rattle.fj_acts.specs.declared.doing.After.{After}
 use Rattle.fj_acts.specs.declared.doing.Given.{Given}
 use Rattle.fj_acts.specs.declared.doing.Given.TheVariants as given
-use Rattle.fj_acts.specs.Steps.{is_due}
+use Rattle.fj_acts.specs.Steps.{is_due, looked_in, told_in}
 use Rattle.fj_acts.proofs.ClosingLemmas.{found_number}
 
 -- ---- the connection of a unit is closed
@@ -116,11 +115,32 @@ pends_is variables st core new next unit slot number t is what is_new =
 
 -- ---- jobs that came back
 
-pub moved_is : {F : Type 0} (told : F → Bool) (bytes : F → List ℕ) (it : Job F) (m : Moving) (task : Task) → it ≡ job.Move m → task_of told bytes it ≡ Some task → move (moving_of m) ≡ task
-moved_is told bytes it m task is is_task = let same : Some (move (moving_of m)) ≡ Some task = sym (ap (task_of told bytes) is) ∙ is_task in cc
+same_task : {A X : Type 0} → (f : Task → X) (o : Option A) (make : A → Task) (task : Task) (x : X) → option_map make o ≡ Some task → ((a : A) → x ≡ f (make a)) → x ≡ f task
+same_task f None make task x is each = absurd (let bad : ⊥ = cc in bad)
+same_task f (Some a) make task x is each = each a ∙ ap f (let same : make a ≡ task = cc in same)
 
-pub looked_is : {F : Type 0} (told : F → Bool) (bytes : F → List ℕ) (it : Job F) (l : Option Look) (task : Task) → it ≡ job.Look l → task_of told bytes it ≡ Some task → look (option_map looked_of l) ≡ task
-looked_is told bytes it l task is is_task = let same : Some (look (option_map looked_of l)) ≡ Some task = sym (ap (task_of told bytes) is) ∙ is_task in cc
+-- what it brought
+pub brought_is : {F : Type 0} (told : F → Bool) (bytes : F → List ℕ) (it : Job F) (task : Task) (answer : Answer) → task_of told bytes it ≡ Some task
+    → brought_of (told_in it (condition_in answer)) ≡ brought_by (task, answer)
+brought_is told bytes (job.Attach brought) task answer is = same_task (λ t. brought_by (t, answer)) (place_of told bytes brought) attach task _ is (λ c. refl)
+brought_is told bytes (job.Detach place) task answer is = same_task (λ t. brought_by (t, answer)) (place_of told bytes place) detach task _ is (λ c. refl)
+brought_is told bytes (job.Move m) task answer is = ap (λ t. brought_by (t, answer)) (let same : move (moving_of m) ≡ task = cc in same)
+brought_is told bytes (job.Go how) task answer is = ap (λ t. brought_by (t, answer)) (let same : go how ≡ task = cc in same)
+brought_is told bytes (job.Change edit) task answer is = ap (λ t. brought_by (t, answer)) (let same : change edit ≡ task = cc in same)
+brought_is told bytes job.Flush task answer is = ap (λ t. brought_by (t, answer)) (let same : flush ≡ task = cc in same)
+brought_is told bytes (job.Look l) task answer is = ap (λ t. brought_by (t, answer)) (let same : look (option_map looked_of l) ≡ task = cc in same)
+brought_is told bytes job.Resume task answer is = ap (λ t. brought_by (t, answer)) (let same : resume ≡ task = cc in same)
+
+-- what it saw
+pub looked_is : {F : Type 0} (told : F → Bool) (bytes : F → List ℕ) (it : Job F) (task : Task) → task_of told bytes it ≡ Some task → option_map looked_of (looked_in it) ≡ look_in task
+looked_is told bytes (job.Attach brought) task is = same_task look_in (place_of told bytes brought) attach task _ is (λ c. refl)
+looked_is told bytes (job.Detach place) task is = same_task look_in (place_of told bytes place) detach task _ is (λ c. refl)
+looked_is told bytes (job.Move m) task is = ap look_in (let same : move (moving_of m) ≡ task = cc in same)
+looked_is told bytes (job.Go how) task is = ap look_in (let same : go how ≡ task = cc in same)
+looked_is told bytes (job.Change edit) task is = ap look_in (let same : change edit ≡ task = cc in same)
+looked_is told bytes job.Flush task is = ap look_in (let same : flush ≡ task = cc in same)
+looked_is told bytes (job.Look l) task is = ap look_in (let same : look (option_map looked_of l) ≡ task = cc in same)
+looked_is told bytes job.Resume task is = ap look_in (let same : resume ≡ task = cc in same)
 
 detached_by : (o : Option Connection) (task : Task) → option_map detach (option_map Some o) ≡ Some task → (c : Connection) × (o ≡ Some c) × (detach (Some c) ≡ task)
 detached_by None task e = absurd (let bad : ⊥ = cc in bad)

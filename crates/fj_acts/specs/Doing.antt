@@ -80,14 +80,14 @@ goes_on st core (after.Finishes condition) = finishes core condition
 goes_on st core (after.ClosesAll condition) = all_closed core.units core condition
 goes_on st core (after.Connects number) = connects_in st number core
 
-abbrev pub looks_at : Core → Option ℕ → Option (List ℕ) → List Wanted → Option ℤ → Option Connected → Option Looked → PlainDoing
-looks_at core number file asked id None look = finishes core Fine
-looks_at core number file asked id (Some u) look = answers core (about_unit core number file id u look) asked
+abbrev pub looks_at : List Variable → Core → Option ℕ → Option (List ℕ) → List Wanted → Option ℤ → Option Connected → Option Looked → PlainDoing
+looks_at variables core number file asked id None look = finishes core Fine
+looks_at variables core number file asked id (Some u) look = answers variables core (about_unit core number file id u look) asked
 
-abbrev pub looks : Core → Statement → Outcome → PlainDoing
-looks core (statement.Inquire subject asked id iostat) o =
-    let number = unit_about (unit_named core.units) subject in looks_at core number (file_asked subject) asked (number_given core.vars id) (unit_at core number) (look_in o.0)
-looks core _ o = finishes core Fine
+abbrev pub looks : List Variable → Core → Statement → Outcome → PlainDoing
+looks variables core (statement.Inquire subject asked id iostat) o =
+    let number = unit_about (unit_named core.units) subject in looks_at variables core number (file_asked subject) asked (number_given core.vars id) (unit_at core number) (look_in o.0)
+looks variables core _ o = finishes core Fine
 
 abbrev pub then_of : List Variable → Stated → Core → Then → Outcome → PlainDoing
 then_of variables st core then.Finishes o = finishes core (condition_in o.1)
@@ -95,7 +95,7 @@ then_of variables st core (then.Carries slot) o = carries variables core st.0.wh
 then_of variables st core (then.Closes number keep next) o = goes_on st.0.what (closed core (connected_at core.units number) keep o) next
 then_of variables st core (then.Changes number modes) o = finishes (record core { units = with_modes core.units (connected_at core.units number) modes }) (condition_in o.1)
 then_of variables st core (then.Attaches us) o = finishes (record core { units = us }) (condition_in o.1)
-then_of variables st core then.Looks o = looks core st.0.what o
+then_of variables st core then.Looks o = looks variables core st.0.what o
 
 -- ---- the same by what the program holds, where the files of connections tell their bytes
 
