@@ -1,15 +1,10 @@
--- When a statement fits: what it meets in the core, and what the job that closes a connection brings back.
-use Rattle.std.specs.Prelude.{◌≡◌, ◌≤◌, ◌<◌, ◌+◌, ◌^◌, ℕ, List, Some, None, IfSome}
-use Rattle.fj_bay.specs.declared.job.Job.{Job}
-use Rattle.fj_bay.specs.declared.job.Job.TheVariants as job
+-- When a statement fits: what it meets in the core.
+use Rattle.std.specs.Prelude.{◌≡◌, ◌≤◌, ◌<◌, ◌+◌, ◌^◌, ℕ}
 use Rattle.fj_plain.specs.Transfers.{star_limit}
-use Rattle.fj_desk.specs.Core.{Connected, connected_at}
 use Rattle.fj_pending.specs.Fitting.{IsNext}
 use Rattle.fj_pending.specs.declared.held.Held.{Held}
 use Rattle.fj_acts.specs.declared.doing.Given.{Given}
 use Rattle.fj_acts.specs.declared.doing.Given.TheVariants as given
-use Rattle.fj_acts.specs.declared.doing.Then.{Then}
-use Rattle.fj_acts.specs.declared.doing.Then.TheVariants as then
 use Rattle.fj_acts.specs.declared.state.Core.{Core}
 
 -- the record of `*` that is begun is within its limit
@@ -28,11 +23,3 @@ pub record MayPend (core : Core) (slot number : ℕ) : Type 0 where
 abbrev pub MayGoOn : Core → Given → ℕ → Type 0
 MayGoOn core (given.Finishes condition) number = Unit {0}
 MayGoOn core (given.Pends unit slot) number = MayPend core slot number
-
--- ---- once a job was carried out
-
--- where a connection is closed, the one that comes back is that of the unit
-abbrev pub Brings : {F : Type 0} → List Connected → Then → Job F → Type 0
-Brings us (then.Closes number keep next) (job.Detach (Some connection)) = IfSome (connected_at us number) (λ (u : Connected). u.name ≡ connection.name)
-Brings us (then.Closes number keep next) it = ⊥
-Brings us next it = Unit {0}

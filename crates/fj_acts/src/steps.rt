@@ -1,8 +1,8 @@
 // How a statement goes on from a job that it gave.
-ghost use Rattle.std.specs.Prelude.{◌<◌, ◌≡◌, ◌≢◌, ◌↔◌, ◌≤◌, ◌+◌, ◌-◌, ℕ, true, length, All, Some, IfOk, IfSome, OnErr, OnOk, Err};
+ghost use Rattle.std.specs.Prelude.{◌<◌, ◌≡◌, ◌≢◌, ◌↔◌, ◌≤◌, ◌+◌, ◌-◌, ℕ, true, length, Some, IfOk, OnErr, Err};
 ghost use Rattle.std.specs.Option.{option_map};
 ghost use Rattle.fj_outside.specs.Faults.{Rose};
-ghost use Rattle.fj_outside.specs.Holdings.{Holdings, IsFree};
+ghost use Rattle.fj_outside.specs.Holdings.{Holdings};
 ghost use Rattle.fj_bay.specs.Jobs.{Job as Task, Answer as PlainAnswer};
 ghost use Rattle.fj_bay.specs.Jobs as job;
 ghost use Rattle.fj_bay.specs.Plain.{told_of, task_of, reply_of, looked_of};
@@ -19,13 +19,13 @@ ghost use Rattle.fj_statement.specs.declared.statement.Statement.{Statement as P
 ghost use Rattle.fj_acts.specs.Calling.{may_await, may_close, may_do};
 ghost use Rattle.fj_acts.specs.Placing.{IsPlaced, slot_behind};
 ghost use Rattle.fj_acts.specs.Jobs.{GivesOne, jobs_after, jobs_behind, jobs_of, units_more};
-ghost use Rattle.fj_acts.specs.Fitting.{Brings, MayGoOn};
+ghost use Rattle.fj_acts.specs.Fitting.{MayGoOn};
 ghost use Rattle.fj_acts.specs.Holding.{MayEnter};
 ghost use Rattle.fj_acts.specs.State.{KeepsAnswers, KeepsPending, core_of};
 ghost use Rattle.fj_acts.specs.Failing.{AreStill, FailsWhere, StandsWhere};
 ghost use Rattle.fj_units.specs.Files.{files_of};
-ghost use Rattle.fj_acts.specs.Steps.{held_in, is_due, looked_in};
-ghost use Rattle.fj_acts.specs.Doing.{Ends, IsDoing, next_of, then_of, goes_on, closed, carries, looks};
+ghost use Rattle.fj_acts.specs.Steps.{is_due, looked_in};
+ghost use Rattle.fj_acts.specs.Doing.{Ends, IsDoing, next_of, then_of, goes_on, closes_then, carries, looks};
 ghost use Rattle.fj_units.specs.Having.{HaveFiles};
 ghost use Rattle.fj_acts.specs.Having.{HaveNext, HaveThen, IsFreeNext};
 
@@ -85,57 +85,6 @@ pub fn given<F: FileStore>(
     }
 }
 
-/// The connection that a job has, if it has one.
-fn connection_in<F: FileStore>(job: Job<F>) -> Option<Connection<F>>
-    ensures { result ≡ held_in job }
-{
-    match job {
-        Job::Attach(brought) => brought,
-        Job::Detach(place) => place,
-        _ => None,
-    }
-}
-
-/// Gives the file of a connection back where its name is out, without what is due. What the disk answers is not told.
-fn give_back<D: Disk>(connection: Connection<D::File>, core: &mut Core, disk: &mut D)
-    requires names { D.tells disk.old → AreInUse core.old.names (D.held disk.old).in_use }
-    ensures names { D.tells disk.old → AreInUse core.new.names (D.held disk.new).in_use }
-    ensures back { D.tells disk.old → IsFree (D.held disk.new) connection.name }
-    ensures own { D.tells disk.old → D.refusals disk.old ≤ D.refusals disk.new }
-    ensures store { core.new.store ≡ core.old.store }
-    ensures output { core.new.output ≡ core.old.output }
-    ensures tells { core.new.tells ≡ core.old.tells }
-    ensures telling { D.tells disk.old ↔ D.tells disk.new }
-    ensures later { D.count disk.old ≤ D.count disk.new }
-    ensures pending { core.new.pending ≡ core.old.pending }
-    ensures next { core.new.next ≡ core.old.next }
-{
-    if core.names.holds(connection.name()) {
-        let keep = !connection.modes().scratch;
-        core.names.remove(connection.name());
-        let _ = connection.close_file(disk, keep);
-    }
-}
-
-/// What came back is not what is due: a connection that it has gives its file back.
-fn give_up<D: Disk>(job: Job<D::File>, core: &mut Core, disk: &mut D)
-    requires names { D.tells disk.old → AreInUse core.old.names (D.held disk.old).in_use }
-    ensures names { D.tells disk.old → AreInUse core.new.names (D.held disk.new).in_use }
-    ensures back { D.tells disk.old → IfSome (held_in job) (λ connection. IsFree (D.held disk.new) connection.name) }
-    ensures own { D.tells disk.old → D.refusals disk.old ≤ D.refusals disk.new }
-    ensures store { core.new.store ≡ core.old.store }
-    ensures output { core.new.output ≡ core.old.output }
-    ensures tells { core.new.tells ≡ core.old.tells }
-    ensures telling { D.tells disk.old ↔ D.tells disk.new }
-    ensures later { D.count disk.old ≤ D.count disk.new }
-    ensures pending { core.new.pending ≡ core.old.pending }
-    ensures next { core.new.next ≡ core.old.next }
-{
-    if let Some(connection) = connection_in(job) {
-        give_back(connection, core, disk);
-    }
-}
-
 /// How a statement goes on once a connection is closed.
 fn go_on<D: Disk>(
     alloc: Global,
@@ -189,19 +138,17 @@ fn go_on<D: Disk>(
     }
 }
 
-/// Whether a connection is that of the unit of a number, and its file out.
+/// Whether a connection is that of the unit of a number.
 fn is_due<F: FileStore>(connection: &Connection<F>, number: u32, core: &Core) -> bool
-    ensures { result ≡ is_due (connected_at core.now.units number) core.now.names connection.now.name }
+    ensures { result ≡ is_due (connected_at core.now.units number) connection.now.name }
 {
     match core.units.find(number) {
-        Some(unit) => {
-            unit.name.as_str() == connection.name().as_str() && core.names.holds(connection.name())
-        }
+        Some(unit) => connection.name().as_str() == unit.name.as_str(),
         None => false,
     }
 }
 
-/// The connection of a unit is closed, and the statement goes on.
+/// The connection of a unit is closed, and the statement goes on. Another one is dropped; its unit counts as not connected.
 fn closed<D: Disk>(
     alloc: Global,
     variables: &Variables,
@@ -217,14 +164,14 @@ fn closed<D: Disk>(
     ensures doing { D.tells disk.old → (c : PlainConnection) (answer : PlainAnswer) → told_of D.File.told D.File.bytes connection ≡ Some c →
         IfOk result (λ goes. IsDoing D.File.told D.File.bytes variables.now (lined.now, control_by lined.now.what)
         (core_of (files_of (D.held disk.new)) core.new) goes
-        (goes_on lined.now.what (closed (core_of (files_of (D.held disk.old)) core.old) (connected_at core.old.units number) keep (job.detach (Some c), answer)) after)) }
+        (closes_then lined.now.what (core_of (files_of (D.held disk.old)) core.old) (connected_at core.old.units number) keep after (job.detach (Some c), answer))) }
     ensures fault { D.tells disk.old → (c : PlainConnection) (answer : PlainAnswer) → told_of D.File.told D.File.bytes connection ≡ Some c →
         result ≡ Err Lost.Disk → FailsWhere
-        (goes_on lined.now.what (closed (core_of (files_of (D.held disk.old)) core.old) (connected_at core.old.units number) keep (job.detach (Some c), answer)) after)
+        (closes_then lined.now.what (core_of (files_of (D.held disk.old)) core.old) (connected_at core.old.units number) keep after (job.detach (Some c), answer))
         core.new (D.held disk.new) (D.refusals disk.old) (D.refusals disk.new) }
     ensures stands { D.tells disk.old → (c : PlainConnection) (answer : PlainAnswer) → told_of D.File.told D.File.bytes connection ≡ Some c →
         result ≢ Err Lost.Unfit → OnErr result (StandsWhere
-        (goes_on lined.now.what (closed (core_of (files_of (D.held disk.old)) core.old) (connected_at core.old.units number) keep (job.detach (Some c), answer)) after)
+        (closes_then lined.now.what (core_of (files_of (D.held disk.old)) core.old) (connected_at core.old.units number) keep after (job.detach (Some c), answer))
         core.new (D.held disk.new) (D.refusals disk.old) (D.refusals disk.new)) }
     ensures own { D.tells disk.old → D.refusals disk.old ≤ D.refusals disk.new }
     ensures names { D.tells disk.old → AreInUse core.new.names (D.held disk.new).in_use }
@@ -237,15 +184,16 @@ fn closed<D: Disk>(
     ensures sink { result ≢ Err Lost.Sink }
     ensures pending { core.new.pending ≡ core.old.pending }
     ensures next { core.new.next ≡ core.old.next }
-    ensures fits { HaveThen (Then.Closes number keep after) core.old.names core.old.units lined.now.what
-        → IfSome (connected_at core.old.units number) (λ u. u.name ≡ connection.name) → result ≢ Err Lost.Unfit }
+    ensures fits { HaveThen (Then.Closes number keep after) core.old.names core.old.units lined.now.what → result ≢ Err Lost.Unfit }
     ensures placed { IfOk result IsPlaced }
-    ensures units { OnOk result (length core.new.units + 1 ≤ length core.old.units) }
+    ensures units { IfOk result (λ goes. length core.new.units ≤ length core.old.units + units_more goes) }
     ensures jobs { IfOk result (λ goes. jobs_of goes (length core.new.units) ≤ jobs_after after (length core.old.units - 1)) }
     ensures files { HaveThen (Then.Closes number keep after) core.old.names core.old.units lined.now.what → IfOk result (λ goes. HaveNext goes core.new.names core.new.units lined.now.what) }
 {
     if !is_due(&connection, number, core) {
-        give_back(connection, core, disk);
+        return Ok(Doing::Finishes(Condition::Error(1)));
+    }
+    if !core.names.holds(connection.name()) {
         return Err(Lost::Unfit);
     }
     core.names.remove(connection.name());
@@ -363,7 +311,7 @@ pub fn answered<D: Disk>(
     ensures sink { result ≢ Err Lost.Sink }
     ensures pending { KeepsAnswers core.old core.new }
     ensures same { KeepsPending core.old core.new }
-    ensures fits { HaveThen then core.old.names core.old.units lined.now.what → Brings core.old.units then job → result ≢ Err Lost.Unfit }
+    ensures fits { HaveThen then core.old.names core.old.units lined.now.what → result ≢ Err Lost.Unfit }
     ensures placed { slot_behind then < most_slots → IfOk result IsPlaced }
     ensures units { HaveThen then core.old.names core.old.units lined.now.what → IfOk result (λ goes. length core.new.units ≤ length core.old.units + units_more goes) }
     ensures jobs { IfOk result (λ goes. jobs_of goes (length core.new.units) ≤ jobs_behind then (length core.old.units)) }
@@ -386,10 +334,7 @@ pub fn answered<D: Disk>(
             Job::Detach(Some(connection)) => closed(
                 alloc, variables, lined, number, keep, after, connection, core, disk,
             ),
-            job => {
-                give_up(job, core, disk);
-                Err(Lost::Unfit)
-            }
+            _ => Ok(Doing::Finishes(Condition::Error(1))),
         },
         Then::Changes { number, modes } => {
             core.units.set_modes(number, modes);

@@ -20,7 +20,6 @@ use Rattle.fj_turns.specs.Passing.{output_of}
 use Rattle.fj_runner.specs.Failing.{FailsStage}
 use Rattle.fj_runner.proofs.Failures.{closing_calls, fails_at, fails_from, fails_quiet, fails_still, fails_went}
 use Rattle.fj_runner.proofs.Stepping.{went, given_up}
-use Rattle.fj_runner.specs.Fitting.{FitsStage}
 use Rattle.fj_runner.specs.Closing.{may_be_at}
 use Rattle.fj_runner.specs.Numbering.{gave}
 use Rattle.fj_runner.proofs.Fits.{may_go_on}
@@ -278,33 +277,32 @@ settle-requires-clause-own g c = λ slot number e.
     c.args.self.now.own slot number (subst (λ x. gave slot number x ≡ true) (sym (sym c.replace.ensures.value ∙ c.in-Awaiting.is)) e)
 
 pub returns-in-Start-clause-fits : goal.returns-in-Start-clause-fits
-returns-in-Start-clause-fits g c = λ sound have more kept f.
+returns-in-Start-clause-fits g c = λ sound have more kept.
     let s = c.args.self.now in
     c.start.ensures.fits sound (subst (λ x. HaveAt x s.core.names s.core.units c.args.lined.now.what) (sym c.replace.ensures.value ∙ c.in-Start.is) have) kept
 
 pub returns-in-Waiting-clause-fits : goal.returns-in-Waiting-clause-fits
-returns-in-Waiting-clause-fits g c = λ sound have more kept f.
+returns-in-Waiting-clause-fits g c = λ sound have more kept.
     let s = c.args.self.now in
     c.wait.ensures.fits sound (subst (λ x. HaveAt x s.core.names s.core.units c.args.lined.now.what) (sym c.replace.ensures.value ∙ c.in-Waiting.is) have) kept
 
 pub returns-in-Resuming-clause-fits : goal.returns-in-Resuming-clause-fits
-returns-in-Resuming-clause-fits g c = λ sound have more kept f.
+returns-in-Resuming-clause-fits g c = λ sound have more kept.
     let s = c.args.self.now in
     c.resume.ensures.fits sound (subst (λ x. HaveAt x s.core.names s.core.units c.args.lined.now.what) (sym c.replace.ensures.value ∙ c.in-Resuming.is) have) kept
 
 pub returns-in-Err-clause-fits : goal.returns-in-Err-clause-fits
-returns-in-Err-clause-fits g c = λ sound have more kept f.
+returns-in-Err-clause-fits g c = λ sound have more kept.
     let s = c.args.self.now in
     λ e. c.given.ensures.fits
     (may_go_on s.sent.items c.in-Going.next c.in-Going.number s.core s.sent_slots s.named
     (λ slot e. s.own slot c.in-Going.number (subst (λ x. gave slot c.in-Going.number x ≡ true) (sym (sym c.replace.ensures.value ∙ c.in-Going.is)) e)) more) (cc (c.in-Err.is, e))
 
 pub returns-in-Err-doing-clause-fits : goal.returns-in-Err-doing-clause-fits
-returns-in-Err-doing-clause-fits g c = λ sound have more kept f.
+returns-in-Err-doing-clause-fits g c = λ sound have more kept.
     let s = c.args.self.now in
-    let fits = subst (FitsStage s.core) (sym c.replace.ensures.value ∙ c.in-Answered.is) f in
     let files = subst (λ x. HaveAt x s.core.names s.core.units c.args.lined.now.what) (sym c.replace.ensures.value ∙ c.in-Answered.is) have in
-    λ e. c.answered-doing.ensures.fits files fits (cc (c.in-Err-doing.is, e))
+    λ e. c.answered-doing.ensures.fits files (cc (c.in-Err-doing.is, e))
 
 pub returns-in-Start-clause-files : goal.returns-in-Start-clause-files
 returns-in-Start-clause-files g c = λ have.
