@@ -84,9 +84,9 @@ numbered_output : (core : Core) (number : Option ℕ) (spec : OpenSpec) → (cor
 numbered_output core None spec = refl
 numbered_output core (Some n) spec = opens_output core n spec (connected_at core.units n)
 
-inquires_output : (core : Core) (number : Option ℕ) (file : Option (List ℕ)) (asked : List Wanted) (id : Option ℤ) (found : Option Connected) → (core_at (inquires core number file asked id found)).output ≡ core.output
-inquires_output core number file asked id None = refl
-inquires_output core number file asked id (Some u) = either_output core (list_any (λ (w : Wanted). asks_connection w.what) asked) _ _ refl refl
+inquires_output : (variables : List Variable) (core : Core) (number : Option ℕ) (file : Option (List ℕ)) (asked : List Wanted) (id : Option ℤ) (found : Option Connected) → (core_at (inquires variables core number file asked id found)).output ≡ core.output
+inquires_output variables core number file asked id None = refl
+inquires_output variables core number file asked id (Some u) = either_output core (list_any (λ (w : Wanted). asks_connection w.what) asked) _ _ refl refl
 
 closed_output : (core : Core) (keep : Option Bool) (k : Condition) (found : Option Connected) → (core_at (closes_anyway core keep k found)).output ≡ core.output
 closed_output core keep k None = refl
@@ -145,7 +145,7 @@ pub inquire_front : {A E : Type 0} (r : Result A E) (taken : List ℕ) (variable
 inquire_front r taken variables line core what subject asked id iostat e =
     takes_nothing r taken core (own (control_by what) variables line core what)
     (ap (λ (d : Doing). (core_at d).output) (sym (own_is variables line core what (statement.Inquire subject asked id iostat) e))
-    ∙ inquires_output core (unit_about (unit_named core.units) subject) (file_asked subject) asked (number_given core.vars id) (unit_at core (unit_about (unit_named core.units) subject)))
+    ∙ inquires_output variables core (unit_about (unit_named core.units) subject) (file_asked subject) asked (number_given core.vars id) (unit_at core (unit_about (unit_named core.units) subject)))
 
 pub instead_front : {A E : Type 0} (r : Result A E) (taken : List ℕ) (control : ℕ → List Given) (variables : List Variable) (line : ℕ) (core : Core) (what : Statement) (k : Condition) → (k ≡ condition.Fine → ⊥)
     → OnErr r (HandsFront taken taken core.output (core_at (doing control variables line core what k)).output)
@@ -158,15 +158,15 @@ instead_front r taken control variables line core what k never =
 pub asks_about : (what : Statement) (subject : Subject) (asked : List Wanted) (id given : Option Operand) (iostat : Option Place) → what ≡ statement.Inquire subject asked id iostat → given ≡ id → AsksAbout what subject asked given
 asks_about what subject asked id given iostat e same = subst (λ (w : Statement). AsksAbout w subject asked given) (sym e) (refl, refl, sym same)
 
-pub looks_nothing : (core : Core) (what : Statement) (o : Outcome) → ((subject : Subject) (asked : List Wanted) (id : Option Operand) (iostat : Option Place) → what ≡ statement.Inquire subject asked id iostat → ⊥) → looks core what o ≡ finishes core condition.Fine
-looks_nothing core (statement.OpenUnit unit spec iostat) o never = refl
-looks_nothing core (statement.Assign to from) o never = refl
-looks_nothing core (statement.CloseUnit unit keep iostat) o never = refl
-looks_nothing core (statement.WaitFor unit id iostat) o never = refl
-looks_nothing core (statement.Move how unit iostat) o never = refl
-looks_nothing core (statement.Inquire subject asked id iostat) o never = absurd (never subject asked id iostat refl)
-looks_nothing core (statement.Transfer t) o never = refl
-looks_nothing core statement.End o never = refl
+pub looks_nothing : (variables : List Variable) (core : Core) (what : Statement) (o : Outcome) → ((subject : Subject) (asked : List Wanted) (id : Option Operand) (iostat : Option Place) → what ≡ statement.Inquire subject asked id iostat → ⊥) → looks variables core what o ≡ finishes core condition.Fine
+looks_nothing variables core (statement.OpenUnit unit spec iostat) o never = refl
+looks_nothing variables core (statement.Assign to from) o never = refl
+looks_nothing variables core (statement.CloseUnit unit keep iostat) o never = refl
+looks_nothing variables core (statement.WaitFor unit id iostat) o never = refl
+looks_nothing variables core (statement.Move how unit iostat) o never = refl
+looks_nothing variables core (statement.Inquire subject asked id iostat) o never = absurd (never subject asked id iostat refl)
+looks_nothing variables core (statement.Transfer t) o never = refl
+looks_nothing variables core statement.End o never = refl
 
 pub instead_nothing : (variables : List Variable) (core : Core) (what : Statement) (k : Condition)
     → ((unit : UnitRef) (keep : Option Bool) (iostat : Option Place) → what ≡ statement.CloseUnit unit keep iostat → ⊥) → ((t : Transfer) → what ≡ statement.Transfer t → ⊥) → (what ≡ statement.End → ⊥)

@@ -42,7 +42,7 @@ use Rattle.fj_plain.specs.Telling.{is_asynchronous}
 use Rattle.fj_plain.specs.Transfers.{moved_in}
 use Rattle.fj_plain.specs.State.{Files}
 use Rattle.fj_plain.proofs.Units.{bytes_differ}
-use Rattle.fj_desk.specs.Acting.{all_closed, attaches, connects, connects_at, free_from, changes, closes, closes_first, closes_anyway, opens, opens_with, is_taken, moves, inquires, asks_connection, transferred, unless_refused, on_unit, transfer_at, if_numbered, unit_at, own, instead, doing}
+use Rattle.fj_desk.specs.Acting.{all_closed, disconnected, attaches, connects, connects_at, free_from, changes, closes, closes_first, closes_anyway, opens, opens_with, is_taken, moves, inquires, asks_connection, transferred, unless_refused, on_unit, transfer_at, if_numbered, unit_at, own, instead, doing}
 use Rattle.fj_desk.specs.Core.{Core as PlainCore, Connected, connected_at, unit_named, without_connected}
 use Rattle.fj_desk.specs.Desks.{Outcome, condition_in, look_in, most_slots}
 use Rattle.fj_desk.specs.Doing.{Doing, finishes}
@@ -51,7 +51,7 @@ use Rattle.fj_items.specs.declared.lost.Lost.TheVariants.{Disk}
 use Rattle.fj_units.specs.Files.{files_of}
 use Rattle.fj_units.specs.Returning.{IsAsDue, returned}
 use Rattle.fj_units.proofs.Returning.{given_back, given_files}
-use Rattle.fj_acts.specs.Doing.{carries, closed, connects_by, connects_in, goes_on, looks, looks_at, next_of, pends}
+use Rattle.fj_acts.specs.Doing.{carries, closes_then, connects_by, connects_in, goes_on, looks, looks_at, next_of, pends}
 use Rattle.fj_acts.specs.Failing.{FailsWhere, StandsWhere, AreStill, connected_next}
 use Rattle.fj_acts.specs.State.{core_at}
 use Rattle.fj_acts.specs.Steps.{is_due}
@@ -60,7 +60,8 @@ use Rattle.fj_acts.specs.declared.doing.Given.TheVariants as given
 use Rattle.fj_acts.specs.declared.doing.After.{After}
 use Rattle.fj_acts.specs.declared.doing.After.TheVariants as after
 use Rattle.fj_acts.specs.declared.state.Core.{Core}
-use Rattle.fj_acts.proofs.StepLemmas.{disconnects_is}
+use Rattle.fj_acts.proofs.HavingLemmas.{due_unit}
+use Rattle.fj_acts.proofs.StepLemmas.{closes_on, disconnects_is}
 
 -- ---- the units and files of what is due are these, but for the file that is to be connected
 
@@ -143,9 +144,9 @@ moved_there : (core : PlainCore) (how : Motion) (old : Option Connected) → Lea
 moved_there core how None = ends_there core _
 moved_there core how (Some u) = record { units = refl; files = λ name other. refl }
 
-asked_there : (core : PlainCore) (number : Option ℕ) (file : Option (List ℕ)) (asked : List Wanted) (id : Option ℤ) (old : Option Connected) → Leaves core (inquires core number file asked id old)
-asked_there core number file asked id None = record { units = refl; files = λ name other. refl }
-asked_there core number file asked id (Some u) =
+asked_there : (variables : List Variable) (core : PlainCore) (number : Option ℕ) (file : Option (List ℕ)) (asked : List Wanted) (id : Option ℤ) (old : Option Connected) → Leaves core (inquires variables core number file asked id old)
+asked_there variables core number file asked id None = record { units = refl; files = λ name other. refl }
+asked_there variables core number file asked id (Some u) =
     either_there core (list_any (λ (w : Wanted). asks_connection w.what) asked) _ _ (record { units = refl; files = λ name other. refl }) (record { units = refl; files = λ name other. refl })
 
 module _ (control : ℕ → List Given) (variables : List Variable) (line : ℕ) (core : PlainCore) where
@@ -173,7 +174,7 @@ module _ (control : ℕ → List Given) (variables : List Variable) (line : ℕ)
   own_there (statement.WaitFor u id iostat) = ends_there core Fine
   own_there (statement.Move how u iostat) = moved_there core how (unit_at core (number_of u))
   own_there (statement.Inquire subject asked id iostat) =
-      let number = unit_about (unit_named core.units) subject in asked_there core number (file_asked subject) asked (number_given core.vars id) (unit_at core number)
+      let number = unit_about (unit_named core.units) subject in asked_there variables core number (file_asked subject) asked (number_given core.vars id) (unit_at core number)
   own_there (statement.Transfer t) = at_there t (moved_in variables core.vars t) t.unit
   own_there statement.End = closes_there core.units core Fine
 
@@ -220,20 +221,20 @@ carries_there variables core (statement.Transfer t) slot o =
     either_there core (halts (condition_in o.1)) _ _ (record { units = refl; files = λ name other. refl }) (record { units = refl; files = λ name other. refl })
 carries_there variables core statement.End slot o = ends_there core Fine
 
-seen_there : (core : PlainCore) (number : Option ℕ) (file : Option (List ℕ)) (asked : List Wanted) (id : Option ℤ) (u : Option Connected) (look : Option Looked) → Leaves core (looks_at core number file asked id u look)
-seen_there core number file asked id None look = ends_there core Fine
-seen_there core number file asked id (Some u) look = record { units = refl; files = λ name other. refl }
+seen_there : (variables : List Variable) (core : PlainCore) (number : Option ℕ) (file : Option (List ℕ)) (asked : List Wanted) (id : Option ℤ) (u : Option Connected) (look : Option Looked) → Leaves core (looks_at variables core number file asked id u look)
+seen_there variables core number file asked id None look = ends_there core Fine
+seen_there variables core number file asked id (Some u) look = record { units = refl; files = λ name other. refl }
 
-pub looks_there : (core : PlainCore) (what : Statement) (o : Outcome) → Leaves core (looks core what o)
-looks_there core (statement.Assign to from) o = ends_there core Fine
-looks_there core (statement.OpenUnit u spec iostat) o = ends_there core Fine
-looks_there core (statement.CloseUnit u keep iostat) o = ends_there core Fine
-looks_there core (statement.WaitFor u id iostat) o = ends_there core Fine
-looks_there core (statement.Move how u iostat) o = ends_there core Fine
-looks_there core (statement.Inquire subject asked id iostat) o =
-    let number = unit_about (unit_named core.units) subject in seen_there core number (file_asked subject) asked (number_given core.vars id) (unit_at core number) (look_in o.0)
-looks_there core (statement.Transfer t) o = ends_there core Fine
-looks_there core statement.End o = ends_there core Fine
+pub looks_there : (variables : List Variable) (core : PlainCore) (what : Statement) (o : Outcome) → Leaves core (looks variables core what o)
+looks_there variables core (statement.Assign to from) o = ends_there core Fine
+looks_there variables core (statement.OpenUnit u spec iostat) o = ends_there core Fine
+looks_there variables core (statement.CloseUnit u keep iostat) o = ends_there core Fine
+looks_there variables core (statement.WaitFor u id iostat) o = ends_there core Fine
+looks_there variables core (statement.Move how u iostat) o = ends_there core Fine
+looks_there variables core (statement.Inquire subject asked id iostat) o =
+    let number = unit_about (unit_named core.units) subject in seen_there variables core number (file_asked subject) asked (number_given core.vars id) (unit_at core number) (look_in o.0)
+looks_there variables core (statement.Transfer t) o = ends_there core Fine
+looks_there variables core statement.End o = ends_there core Fine
 
 -- ---- a call that is given up
 
@@ -332,15 +333,18 @@ still_as r due other old new e h = subst (λ (d : Doing). OnErr r (AreStill d ol
 
 -- ---- the file of a connection went back
 
-pub fails_closing : {F : Type 0} (told : F → Bool) (bytes : F → List ℕ) (core : PlainCore) (h left : Holdings) (number : ℕ) (names : List (List ℕ)) (conn : Linked F) (c : Connection) (keep : Bool) (answer : Answer)
+pub fails_closing : {F : Type 0} (told : F → Bool) (bytes : F → List ℕ) (core : PlainCore) (h left : Holdings) (number : ℕ) (conn : Linked F) (c : Connection) (keep : Bool) (answer : Answer)
     (what : Statement) (next : After) (new : Core) (before now : ℕ)
-    → is_due (connected_at core.units number) names conn.name ≡ true → told_of told bytes conn ≡ Some c → core.files ≡ files_of h → new.units ≡ without_connected number core.units → Rose before now
+    → is_due (connected_at core.units number) conn.name ≡ true → told_of told bytes conn ≡ Some c → core.files ≡ files_of h → new.units ≡ without_connected number core.units → Rose before now
     → ((name : List ℕ) → IsAsDue before now (files_of left name) (returned conn.name (bytes conn.file) keep (files_of h) name))
-    → FailsWhere (goes_on what (closed core (connected_at core.units number) keep (detach (Some c), answer)) next) new left before now
-fails_closing told bytes core h left number names conn c keep answer what next new before now due is_told home units rose back =
-    let there : PlainCore = closed core (connected_at core.units number) keep (detach (Some c), answer) in
+    → FailsWhere (closes_then what core (connected_at core.units number) keep next (detach (Some c), answer)) new left before now
+fails_closing told bytes core h left number conn c keep answer what next new before now due is_told home units rose back =
+    let u = due_unit (connected_at core.units number) conn.name due in
+    let there : PlainCore = disconnected core u.0 keep (detach (Some c), answer) in
     let is : (let it : PlainCore = record core { units = without_connected number core.units; files = files_of (given_back keep h conn.name (bytes conn.file) true) } in it) ≡ there =
-    disconnects_is told bytes core h (given_back keep h conn.name (bytes conn.file) true) number names conn c true keep answer (connected_at core.units number) refl due is_told home refl in
-    fails there (goes_on what there next) new left before now (goes_on_there what there next) rose (units ∙ ap (λ (x : PlainCore). x.units) is)
+    disconnects_is told bytes core h (given_back keep h conn.name (bytes conn.file) true) number u.0 conn c true keep answer u.1 u.2 is_told home refl in
+    fails_as (goes_on what there next) (closes_then what core (connected_at core.units number) keep next (detach (Some c), answer)) new left before now
+    (closes_on told bytes core what (connected_at core.units number) u.0 conn c keep next answer u.1 u.2 is_told)
+    (fails there (goes_on what there next) new left before now (goes_on_there what there next) rose (units ∙ ap (λ (x : PlainCore). x.units) is)
     (λ name other. subst (IsAsDue before now (files_of left name))
-    (ap (λ (f : Files). f name) (sym (given_files keep h conn.name (bytes conn.file) true)) ∙ ap (λ (x : PlainCore). x.files name) is) (back name))
+    (ap (λ (f : Files). f name) (sym (given_files keep h conn.name (bytes conn.file) true)) ∙ ap (λ (x : PlainCore). x.files name) is) (back name)))

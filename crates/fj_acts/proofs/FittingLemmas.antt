@@ -1,19 +1,13 @@
--- The file that a statement names is at home where no unit has it, and answers keep the variables as they are declared.
-use Rattle.std.proofs.Common.{◌≡◌, ◌||◌, ℕ, Bool, true, false, List, [], ◌∷◌, Some, None, refl, ap, ◌∙◌, sym, subst}
+-- The file that a statement names is at home where no unit has it.
+use Rattle.std.proofs.Common.{◌≡◌, ◌||◌, ℕ, Bool, true, false, List, [], ◌∷◌, Some, None, refl, ap, ◌∙◌}
 use Rattle.std.specs.Prelude.{◌==◌, if◌then◌else◌, IfSome}
 use Rattle.std.proofs.lemmas.Bool.{eq-eqb}
 use Rattle.std.specs.Str.{bytes_eq}
-use Rattle.fj_value.specs.declared.value.Cell.{Cell}
 use Rattle.fj_modes.specs.declared.asked.Subject.{Subject}
 use Rattle.fj_modes.specs.declared.asked.Subject.TheVariants as subject
-use Rattle.fj_statement.specs.declared.deck.Variable.{Variable}
-use Rattle.fj_store.specs.Storage.{Storage, given_back, values_of, with_value}
 use Rattle.fj_plain.specs.Needs.{unit_about}
 use Rattle.fj_plain.specs.Statement.{file_asked}
 use Rattle.fj_desk.specs.Core.{Connected, connected_at, has_name, unit_named}
-use Rattle.fj_items.specs.Fitting.{AreKept}
-use Rattle.fj_items.specs.Kinds.{kinds_of}
-use Rattle.fj_items.proofs.Keeps.{kept_set}
 use Rattle.fj_units.specs.Having.{HaveFiles}
 use Rattle.fj_units.specs.Names.{stands}
 use Rattle.fj_units.specs.Units.{is_taken}
@@ -71,15 +65,3 @@ pub unknown_home : (names : List (List ℕ)) (us : List Connected) (about : Subj
     → IfSome (file_asked about) (λ (name : List ℕ). stands names name ≡ false)
 unknown_home names us (subject.Unit u) n is none = tt
 unknown_home names us (subject.File name) n is none = absurd (named_found us name n is none)
-
--- ---- variables that get answers are as they are declared
-
--- an answer of another kind leaves its variable undefined
-cells_kept : (variables : List Variable) (cells : List Cell) (s : Storage) → s.kinds ≡ kinds_of variables → AreKept variables (values_of s) → AreKept variables (values_of (given_back cells s))
-cells_kept variables [] s kinds kept = kept
-cells_kept variables (c ∷ cells) s kinds kept =
-    let next : Storage = with_value s c.place c.value in
-    cells_kept variables cells next kinds (kept_set variables s next c.place c.value kinds refl kept)
-
-pub values_kept : (variables : List Variable) (cells : List Cell) (s new : Storage) → s.kinds ≡ kinds_of variables → new ≡ given_back cells s → AreKept variables (values_of s) → AreKept variables (values_of new)
-values_kept variables cells s new kinds back kept = subst (λ (z : Storage). AreKept variables (values_of z)) (sym back) (cells_kept variables cells s kinds kept)

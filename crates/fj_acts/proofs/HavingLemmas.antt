@@ -45,13 +45,9 @@ found_first (v ∷ us) u e =
     ap (λ b. if b then Some v else connected_at us u.number) (eq-eqb v.number u.number (ap (λ (x : Connected). x.number) is)) ∙ ap Some is
 
 -- its connection came out
-pub due_unit : (found : Option Connected) (names : List (List ℕ)) (name : List ℕ) → is_due found names name ≡ true → (u : Connected) × (found ≡ Some u) × (u.name ≡ name)
-due_unit None names name e = absurd (let bad : ⊥ = cc in bad)
-due_unit (Some u) names name e = (u, refl, (bytes_eq-Decides u.name name).0 (first (bytes_eq u.name name) (stands names name) e))
-  where
-    first : (a b : Bool) → (a && b) ≡ true → a ≡ true
-    first true b is = refl
-    first false b is = absurd (let bad : ⊥ = cc in bad)
+pub due_unit : (found : Option Connected) (name : List ℕ) → is_due found name ≡ true → (u : Connected) × (found ≡ Some u) × (u.name ≡ name)
+due_unit None name e = absurd (let bad : ⊥ = cc in bad)
+due_unit (Some u) name e = (u, refl, sym ((bytes_eq-Decides name u.name).0 e))
 
 -- ---- OPEN connects a unit
 
@@ -94,21 +90,14 @@ free_of next n what spec us is asks free = by what asks (subst (λ a. IsFreeNext
 
 -- ---- a job came back
 
--- the connection of the unit came out, and its file is out
-pub comes_due : (us : List Connected) (number : ℕ) (names : List (List ℕ)) (name : List ℕ) (what : Statement) (keep : Bool) (next : After) → HaveThen (then.Closes number keep next) names us what
-    → IfSome (connected_at us number) (λ (u : Connected). u.name ≡ name) → is_due (connected_at us number) names name ≡ true
-comes_due us number names name what keep next have same = by (connected_at us number) refl have.1 same
-  where
-    by : (o : Option Connected) → connected_at us number ≡ o → is_some o ≡ true → IfSome o (λ (u : Connected). u.name ≡ name) → is_due o names name ≡ true
-    by None e some is = absurd (let bad : ⊥ = cc in bad)
-    by (Some u) e some is =
-        let out : stands names name ≡ true = have.0.0 name ∙ ap (has_name us) (sym is) ∙ found_has us number u e in
-        ap (λ b. b && stands names name) ((bytes_eq-Decides u.name name).1 is) ∙ out
+-- the file of a connected unit is out
+pub unit_out : (us : List Connected) (number : ℕ) (names : List (List ℕ)) (name : List ℕ) → HaveFiles names us → is_due (connected_at us number) name ≡ true → stands names name ≡ true
+unit_out us number names name have due = let u = due_unit (connected_at us number) name due in have.0 name ∙ ap (has_name us) (sym u.2) ∙ found_has us number u.0 u.1
 
 -- the unit is taken off
 pub closed_has : (us us' : List Connected) (number : ℕ) (names names' : List (List ℕ)) (name : List ℕ)
-    → is_due (connected_at us number) names name ≡ true → names' ≡ left_of names name → HaveFiles names us
+    → is_due (connected_at us number) name ≡ true → names' ≡ left_of names name → HaveFiles names us
     → ((ns : List (List ℕ)) (u : Connected) → connected_at us number ≡ Some u → HaveFiles ns us → HaveFiles (left_of ns u.name) us') → HaveFiles names' us'
 closed_has us us' number names names' name due is have files =
-    let u = due_unit (connected_at us number) names name due in
+    let u = due_unit (connected_at us number) name due in
     subst (λ ns. HaveFiles ns us') (ap (left_of names) u.2 ∙ sym is) (files names u.0 u.1 have)

@@ -95,19 +95,15 @@ pub as_many : {F E : Type 0} → (r : Result (Doing F) E) (us us' : List Connect
 as_many (Ok does) us us' same = let e : length us' ≡ length us = ap length same in omega (arith, e)
 as_many (Err e) us us' same = tt
 
-pub fewer_units : {F E : Type 0} → (r : Result (Doing F) E) (us us' : List Connected) → OnOk r (length us' + 1 ≤ length us) → IfOk r (λ does. length us' ≤ length us + units_more does)
+pub fewer_units : {F E : Type 0} → (r : Result (Doing F) E) (us us' : List Connected) → length us' + 1 ≤ length us → IfOk r (λ does. length us' ≤ length us + units_more does)
 fewer_units (Ok does) us us' low = omega (arith, low)
 fewer_units (Err e) us us' low = tt
 
 -- the unit that is closed was connected
-pub closed_less : (us us' : List Connected) (number : ℕ) (names : List (List ℕ)) (name : List ℕ) → is_due (connected_at us number) names name ≡ true → us' ≡ without_connected number us → length us' + 1 ≤ length us
-closed_less us us' number names name due is =
-    let u = due_unit (connected_at us number) names name due in
+pub closed_less : (us us' : List Connected) (number : ℕ) (name : List ℕ) → is_due (connected_at us number) name ≡ true → us' ≡ without_connected number us → length us' + 1 ≤ length us
+closed_less us us' number name due is =
+    let u = due_unit (connected_at us number) name due in
     subst (λ l. length l + 1 ≤ length us) (sym is) (without_less us number u.0 u.1)
-
-pub on_ok : {A E : Type 0} → (r : Result A E) (X : Type 0) → X → OnOk r X
-on_ok (Ok a) X x = x
-on_ok (Err e) X x = tt
 
 -- of one unit less
 pub less_jobs : {F E : Type 0} → (r : Result (Doing F) E) (next : After) (left us : ℕ) (us' : List Connected) → left + 1 ≤ us → IfOk r (λ does. jobs_of does (length us') ≤ jobs_after next left)

@@ -10,7 +10,7 @@ use Rattle.fj_plain.specs.Transfers.{with_number}
 use Rattle.fj_desk.specs.Core.{Core as PlainCore, Connected, Pending}
 use Rattle.fj_turns.specs.Run.{Held as PlainHeld}
 use Rattle.fj_turns.specs.Turns.{matched}
-use Rattle.fj_pending.specs.Plain.{held, held_of, pending_of, outcome_of, tells_of}
+use Rattle.fj_pending.specs.Plain.{held, held_of, pending_of, brought_of, tells_of}
 use Rattle.fj_pending.specs.declared.tell.Tell.{Tell as Said}
 use Rattle.fj_pending.specs.declared.held.Held.{Held}
 use Rattle.fj_acts.specs.Doing.{entered}
@@ -43,8 +43,8 @@ held_more (y ∷ hs) x = ap (λ l. held_of y ∷ l) (held_more hs x)
 pub held_is : (old new : List Held) (h : Held) (p : Pending) → new ≡ old ++ h ∷ [] → pending_of h ≡ p → h.answer ≡ None → held new ≡ held old ++ unanswered p ∷ []
 held_is old new h p more is none =
     ap held more ∙ held_more old h
-    ∙ ap (λ q. held old ++ (let r : PlainHeld = record { pending = q; answer = option_map outcome_of h.answer } in r) ∷ []) is
-    ∙ ap (λ a. held old ++ (let r : PlainHeld = record { pending = p; answer = option_map outcome_of a } in r) ∷ []) none
+    ∙ ap (λ q. held old ++ (let r : PlainHeld = record { pending = q; answer = option_map brought_of h.answer } in r) ∷ []) is
+    ∙ ap (λ a. held old ++ (let r : PlainHeld = record { pending = p; answer = option_map brought_of a } in r) ∷ []) none
 
 pub answers_more : (old new : Core) (p : Pending) → held new.pending ≡ held old.pending ++ unanswered p ∷ [] → KeepsAnswers old new
 answers_more old new p e = e ∙ matched_more (held old.pending) (unanswered p) refl ∙ sym (ap (λ hs. matched (map (λ (h : PlainHeld). h.pending) hs) (held old.pending)) e)

@@ -1,18 +1,10 @@
--- Answers of INQUIRE, and the variables that get them.
+-- Answers of INQUIRE, as the program and as plain data have them.
 use Rattle.std.specs.Prelude.{◌≡◌, ℕ, ℤ, pos, ◌==◌, ◌&&◌, Bool, List, Option, Some, None}
 use Rattle.std.specs.Ordering.{int_eq}
 use Rattle.fj_modes.specs.declared.asked.Question.{Question}
-use Rattle.fj_modes.specs.declared.asked.Wanted.{Wanted}
-use Rattle.fj_statement.specs.Sound.{IsAnswerKind}
-use Rattle.fj_statement.specs.declared.deck.Variable.{Variable}
 use Rattle.fj_pending.specs.declared.held.Held.{Held}
 use Rattle.fj_inquire.specs.Inquiring as told
 use Rattle.fj_plain.specs.Inquiring.{About, Answer, truth, number, word, nothing, answer_to}
-use Rattle.fj_plain.specs.Items.{kind_of}
-
--- the variable of a question is of the kind that stands beside it, and its answers are of that kind
-abbrev pub IsSuited : List Variable → Wanted → Type 0
-IsSuited variables w = (w.kind ≡ kind_of variables w.place.var) × IsAnswerKind w.what w.kind
 
 abbrev pub answer_of : told.Answer → Answer
 answer_of (told.truth b) = truth b

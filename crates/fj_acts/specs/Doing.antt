@@ -1,7 +1,7 @@
 -- What a statement does next, as the program holds it, beside the same as plain data.
 use Rattle.std.specs.Prelude.{◌≡◌, ℕ, ℤ, pos, ◌+◌, ◌++◌, Bool, List, [], ◌∷◌, Option, Some, None, if◌then◌else◌, Result, Ok, Err}
 use Rattle.fj_value.specs.declared.condition.Condition.{Condition}
-use Rattle.fj_value.specs.declared.condition.Condition.TheVariants.{Fine}
+use Rattle.fj_value.specs.declared.condition.Condition.TheVariants.{Fine, Error}
 use Rattle.fj_modes.specs.Modes.{settled}
 use Rattle.fj_modes.specs.declared.modes.Modes.{Modes}
 use Rattle.fj_modes.specs.declared.specifiers.OpenSpec.{OpenSpec}
@@ -22,7 +22,7 @@ use Rattle.fj_plain.specs.Transfers.{with_cells, with_number, held_places}
 use Rattle.fj_desk.specs.Core.{Core, Connected, connected_at, unit_named}
 use Rattle.fj_desk.specs.Desks.{Outcome, cells_in, count_in, look_in, condition_in}
 use Rattle.fj_desk.specs.Doing.{Doing as PlainDoing, finishes, gives, awaits}
-use Rattle.fj_desk.specs.Acting.{disconnected, all_closed, connects, about_unit, answers, unit_at}
+use Rattle.fj_desk.specs.Acting.{once_out, all_closed, connects, about_unit, answers, unit_at}
 use Rattle.fj_units.specs.Units.{with_modes}
 use Rattle.fj_acts.specs.declared.doing.Given.{Given}
 use Rattle.fj_acts.specs.declared.doing.Given.TheVariants as given
@@ -63,10 +63,6 @@ carries variables core (statement.Transfer t) slot o =
     ends_behind slot (record core { vars = with_cells variables t (cells_in o.0) (count_in o.0) core.vars }) (condition_in o.1)
 carries variables core _ slot o = finishes core Fine
 
-abbrev pub closed : Core → Option Connected → Bool → Outcome → Core
-closed core None keep o = core
-closed core (Some u) keep o = disconnected core u keep o
-
 abbrev pub connects_by : ℕ → OpenSpec → Core → Result Modes Condition → PlainDoing
 connects_by number spec core (Err condition) = finishes core condition
 connects_by number spec core (Ok modes) = connects number spec modes core
@@ -80,22 +76,27 @@ goes_on st core (after.Finishes condition) = finishes core condition
 goes_on st core (after.ClosesAll condition) = all_closed core.units core condition
 goes_on st core (after.Connects number) = connects_in st number core
 
-abbrev pub looks_at : Core → Option ℕ → Option (List ℕ) → List Wanted → Option ℤ → Option Connected → Option Looked → PlainDoing
-looks_at core number file asked id None look = finishes core Fine
-looks_at core number file asked id (Some u) look = answers core (about_unit core number file id u look) asked
+-- the connection of the unit went out, or there is none (1)
+abbrev pub closes_then : Statement → Core → Option Connected → Bool → After → Outcome → PlainDoing
+closes_then st core None keep next o = finishes core (Error 1)
+closes_then st core (Some u) keep next o = once_out core u keep (λ new. goes_on st new next) o
 
-abbrev pub looks : Core → Statement → Outcome → PlainDoing
-looks core (statement.Inquire subject asked id iostat) o =
-    let number = unit_about (unit_named core.units) subject in looks_at core number (file_asked subject) asked (number_given core.vars id) (unit_at core number) (look_in o.0)
-looks core _ o = finishes core Fine
+abbrev pub looks_at : List Variable → Core → Option ℕ → Option (List ℕ) → List Wanted → Option ℤ → Option Connected → Option Looked → PlainDoing
+looks_at variables core number file asked id None look = finishes core Fine
+looks_at variables core number file asked id (Some u) look = answers variables core (about_unit core number file id u look) asked
+
+abbrev pub looks : List Variable → Core → Statement → Outcome → PlainDoing
+looks variables core (statement.Inquire subject asked id iostat) o =
+    let number = unit_about (unit_named core.units) subject in looks_at variables core number (file_asked subject) asked (number_given core.vars id) (unit_at core number) (look_in o.0)
+looks variables core _ o = finishes core Fine
 
 abbrev pub then_of : List Variable → Stated → Core → Then → Outcome → PlainDoing
 then_of variables st core then.Finishes o = finishes core (condition_in o.1)
 then_of variables st core (then.Carries slot) o = carries variables core st.0.what slot o
-then_of variables st core (then.Closes number keep next) o = goes_on st.0.what (closed core (connected_at core.units number) keep o) next
+then_of variables st core (then.Closes number keep next) o = closes_then st.0.what core (connected_at core.units number) keep next o
 then_of variables st core (then.Changes number modes) o = finishes (record core { units = with_modes core.units (connected_at core.units number) modes }) (condition_in o.1)
 then_of variables st core (then.Attaches us) o = finishes (record core { units = us }) (condition_in o.1)
-then_of variables st core then.Looks o = looks core st.0.what o
+then_of variables st core then.Looks o = looks variables core st.0.what o
 
 -- ---- the same by what the program holds, where the files of connections tell their bytes
 

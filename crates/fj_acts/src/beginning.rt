@@ -4,7 +4,6 @@ ghost use Rattle.fj_outside.specs.Faults.{Rose};
 ghost use Rattle.fj_plain.specs.Statement.{Stated, control_by};
 ghost use Rattle.fj_desk.specs.Acting.{doing, own, instead, moves, job_of, unit_at};
 ghost use Rattle.fj_bay.specs.Plain.{task_of};
-ghost use Rattle.fj_value.specs.declared.condition.Condition.TheVariants.{Fine};
 ghost use Rattle.fj_statement.specs.Sound.{IsSoundStatement};
 ghost use Rattle.fj_statement.specs.declared.deck.Variable.{Variable};
 ghost use Rattle.fj_plain.specs.Needs.{number_of};
@@ -15,7 +14,7 @@ ghost use Rattle.fj_units.specs.Names.{AreInUse};
 ghost use Rattle.fj_statement.specs.declared.statement.Statement.{Statement as PlainStatement};
 ghost use Rattle.fj_acts.specs.Calling.{calls_disk, may_do};
 ghost use Rattle.fj_acts.specs.Placing.{IsPlaced};
-ghost use Rattle.fj_acts.specs.Fitting.{IsKept, Meets};
+ghost use Rattle.fj_acts.specs.Fitting.{IsKept};
 ghost use Rattle.fj_acts.specs.State.{KeepsAnswers, KeepsPending, core_of, core_at};
 ghost use Rattle.fj_acts.specs.Failing.{FailsWhere, StandsWhere, AreStill};
 ghost use Rattle.fj_units.specs.Files.{files_of};
@@ -27,7 +26,6 @@ ghost use Rattle.fj_acts.specs.Having.{HaveNext};
 use crate::closing::{close, close_all, close_anyway};
 use crate::doing::{Doing, Then};
 use crate::inquiring::inquire;
-use crate::lost::lost_by_items;
 use crate::opening::open;
 use crate::state::Core;
 use crate::transfers::{read_or_write, refuse};
@@ -109,8 +107,8 @@ fn own<W: Sink, D: Disk>(
     ensures failed_out { result ≡ Err Lost.Sink → Rose (W.count out.old) (W.count out.new) }
     ensures pending { KeepsAnswers core.old core.new }
     ensures same { KeepsPending core.old core.new }
-    ensures keeps { IsKept variables.now core.old → OnOk result (IsKept variables.now core.new) }
-    ensures fits { IsSoundStatement variables.now lined.now.what → HaveFiles core.old.names core.old.units → Meets variables.now core.old lined.now.what → result ≢ Err Lost.Unfit }
+    ensures keeps { IsKept core.old → OnOk result (IsKept core.new) }
+    ensures fits { IsSoundStatement variables.now lined.now.what → HaveFiles core.old.names core.old.units → IsKept core.old → result ≢ Err Lost.Unfit }
     ensures placed { IfOk result IsPlaced }
     ensures closes { IfOk result (λ next. may_do lined.now.what next ≡ true) }
     ensures called { result ≡ Err Lost.Disk → calls_disk lined.now.what ≡ true }
@@ -119,7 +117,7 @@ fn own<W: Sink, D: Disk>(
     let fine = Condition::Fine;
     match &lined.what {
         Statement::Assign { to, from } => {
-            assign(alloc, variables, &mut core.store, to, from).map_err(lost_by_items)?;
+            assign(alloc, variables, &mut core.store, to, from)?;
             Ok(Doing::Finishes(fine))
         }
         Statement::OpenUnit {
@@ -171,7 +169,6 @@ fn instead<F: FileStore>(
     ensures causes { (result ≢ Err Lost.Disk) × (result ≢ Err Lost.Sink) }
     ensures pending { KeepsAnswers core.old core.new }
     ensures same { KeepsPending core.old core.new }
-    ensures keeps { IsKept variables.now core.old → OnOk result (IsKept variables.now core.new) }
     ensures fits { IsSoundStatement variables.now lined.now.what → result ≢ Err Lost.Unfit }
     ensures placed { IfOk result IsPlaced }
     ensures closes { IfOk result (λ next. may_do lined.now.what next ≡ true) }
@@ -229,9 +226,8 @@ pub fn begin<W: Sink, D: Disk>(
     ensures failed_out { result ≡ Err Lost.Sink → Rose (W.count out.old) (W.count out.new) }
     ensures pending { KeepsAnswers core.old core.new }
     ensures same { KeepsPending core.old core.new }
-    ensures keeps { IsKept variables.now core.old → OnOk result (IsKept variables.now core.new) }
-    ensures fits { IsSoundStatement variables.now lined.now.what → HaveFiles core.old.names core.old.units
-        → (condition ≡ Fine → Meets variables.now core.old lined.now.what) → result ≢ Err Lost.Unfit }
+    ensures keeps { IsKept core.old → OnOk result (IsKept core.new) }
+    ensures fits { IsSoundStatement variables.now lined.now.what → HaveFiles core.old.names core.old.units → IsKept core.old → result ≢ Err Lost.Unfit }
     ensures placed { IfOk result IsPlaced }
     ensures closes { IfOk result (λ next. may_do lined.now.what next ≡ true) }
     ensures called { result ≡ Err Lost.Disk → calls_disk lined.now.what ≡ true }

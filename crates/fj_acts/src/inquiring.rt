@@ -4,27 +4,21 @@ ghost use Rattle.std.specs.Option.{option_map, option_copied, option_and_then};
 ghost use Rattle.std.specs.List.{list_any};
 ghost use Rattle.fj_outside.specs.Faults.{Rose};
 ghost use Rattle.fj_modes.specs.declared.asked.Wanted.{Wanted};
-ghost use Rattle.fj_statement.specs.Sound.{IsAsked};
 ghost use Rattle.fj_store.specs.Storage.{values_of};
-ghost use Rattle.fj_store.specs.Variables.{given_back};
 ghost use Rattle.fj_bay.specs.Plain.{looked_of};
 ghost use Rattle.fj_inquire.specs.Inquiring as told;
-ghost use Rattle.fj_inquire.specs.Inquiring.{About as Told};
-ghost use Rattle.fj_plain.specs.Inquiring.{About, inquired};
 ghost use Rattle.fj_plain.specs.Needs.{unit_about, number_given};
 ghost use Rattle.fj_plain.specs.State.{Files};
 ghost use Rattle.fj_plain.specs.Statement.{Stated, file_asked, has_pending, about_other};
 ghost use Rattle.fj_desk.specs.Core.{Core as PlainCore, connected_at, unit_named, pending_holders};
 ghost use Rattle.fj_desk.specs.Acting.{answers, asks_connection, inquires, unit_at};
-ghost use Rattle.fj_items.specs.Fitting.{AreKept};
 ghost use Rattle.fj_items.specs.Kinds.{kinds_of};
 ghost use Rattle.fj_pending.specs.Plain.{holders};
 ghost use Rattle.fj_statement.specs.declared.statement.Statement.{Statement as PlainStatement};
 ghost use Rattle.fj_acts.specs.Calling.{may_do};
 ghost use Rattle.fj_acts.specs.Placing.{IsPlaced};
-ghost use Rattle.fj_acts.specs.Answers.{AnswersAlike, is_meant};
+ghost use Rattle.fj_acts.specs.Answers.{is_meant};
 ghost use Rattle.fj_units.specs.Names.{AreInUse, stands};
-ghost use Rattle.fj_acts.specs.Fitting.{IsKept};
 ghost use Rattle.fj_acts.specs.State.{KeepsAnswers, KeepsPending, core_of};
 ghost use Rattle.fj_acts.specs.Failing.{FailsWhere};
 ghost use Rattle.fj_units.specs.Files.{files_of};
@@ -35,17 +29,15 @@ ghost use Rattle.fj_acts.specs.Having.{HaveNext};
 
 use crate::doing::{Doing, Then};
 use crate::state::Core;
-use crate::suited::are_suited;
 use fj_bay::Job;
 use fj_connect::Look;
 use fj_inquire::{Connected, inquire_file, inquire_unit};
-use fj_items::{Lost, number_given};
+use fj_items::{Lost, give_back, number_given};
 use fj_list::Cells;
 use fj_modes::{Asked, FileName, Question, Subject, UnitRef};
 use fj_outside::{Disk, FileStore};
 use fj_pending::{Held, Pendings};
 use fj_statement::{Operand, Variables};
-use fj_store::Store;
 use fj_units::{Connected as Unit, Names, Units};
 use fj_value::{Condition, Items};
 use std::alloc::{AllocError, Global};
@@ -114,58 +106,6 @@ fn has_pending(pending: &Pendings, number: u32, id: Option<i64>) -> bool
     any_is_meant(pending.entries(), number, id)
 }
 
-/// Gives the variables their answers. `Unfit`: a variable is not of the kind of its answers; then nothing is answered.
-fn give_answers(
-    variables: &Variables,
-    asked: &Asked,
-    cells: Cells,
-    store: &mut Store,
-) -> Result<(), Lost>
-    requires { store.old.kinds ≡ kinds_of variables.now }
-    ensures vars { (about : Told) (plain : About) → cells ≡ told.inquired about asked.now → AnswersAlike about plain →
-        OnOk result (values_of store.new ≡ given_back (inquired plain asked.now) (values_of store.old)) }
-    ensures sound { All (IsAsked variables.now) asked.now → IsOk result }
-    ensures keeps { AreKept variables.now (values_of store.old) → OnOk result (AreKept variables.now (values_of store.new)) }
-    ensures kinds { store.new.kinds ≡ store.old.kinds }
-    ensures causes { (result ≢ Err Lost.Disk) × (result ≢ Err Lost.Sink) }
-{
-    if !are_suited(variables, asked) {
-        return Err(Lost::Unfit);
-    }
-    store.give_back(cells);
-    Ok(())
-}
-
-/// The variables get their answers, and the statement ends.
-#[tactic(auto, using(crate::proofs::StateLemmas::answers_kept))]
-fn answer<F: FileStore>(
-    variables: &Variables,
-    asked: &Asked,
-    cells: Cells,
-    core: &mut Core,
-) -> Result<Doing<F>, Lost>
-    requires { core.old.store.kinds ≡ kinds_of variables.now }
-    ensures doing { (about : Told) (plain : About) (st : Stated) (files : Files) → cells ≡ told.inquired about asked.now → AnswersAlike about plain →
-        IfOk result (λ next. IsDoing F.told F.bytes variables.now st (core_of files core.new) next (answers (core_of files core.old) plain asked.now)) }
-    ensures units { core.new.units ≡ core.old.units }
-    ensures kinds { core.new.store.kinds ≡ core.old.store.kinds }
-    ensures names { core.new.names ≡ core.old.names }
-    ensures output { core.new.output ≡ core.old.output }
-    ensures tells { core.new.tells ≡ core.old.tells }
-    ensures causes { (result ≢ Err Lost.Disk) × (result ≢ Err Lost.Sink) }
-    ensures pending { KeepsAnswers core.old core.new }
-    ensures same { KeepsPending core.old core.new }
-    ensures keeps { IsKept variables.now core.old → OnOk result (IsKept variables.now core.new) }
-    ensures fits { All (IsAsked variables.now) asked.now → result ≢ Err Lost.Unfit }
-    ensures placed { IfOk result IsPlaced }
-    ensures ends { IfOk result Ends }
-    ensures closes { (what : PlainStatement) → IfOk result (λ next. may_do what next ≡ true) }
-    ensures files { (what : Statement) → HaveFiles core.old.names core.old.units → IfOk result (λ next. HaveNext next core.new.names core.new.units what) }
-{
-    give_answers(variables, asked, cells, &mut core.store)?;
-    Ok(Doing::Finishes(Condition::Fine))
-}
-
 /// Whether there is a file of a name that is at home. `Unfit`: the file of that name is out.
 fn is_there<D: Disk>(name: &FileName, names: &Names, disk: &mut D) -> Result<bool, Lost>
     requires { D.tells disk.old → AreInUse names.now (D.held disk.old).in_use }
@@ -202,9 +142,9 @@ fn answer_other<D: Disk>(
     requires names { D.tells disk.old → AreInUse core.old.names (D.held disk.old).in_use }
     ensures doing { D.tells disk.old → (st : Stated) → IfOk result (λ next. IsDoing D.File.told D.File.bytes variables.now st
         (core_of (files_of (D.held disk.new)) core.new) next
-        (answers (core_of (files_of (D.held disk.old)) core.old) (about_other (files_of (D.held disk.old)) (file_asked subject.now)) asked.now)) }
+        (answers variables.now (core_of (files_of (D.held disk.old)) core.old) (about_other (files_of (D.held disk.old)) (file_asked subject.now)) asked.now)) }
     ensures fault { D.tells disk.old → result ≡ Err Lost.Disk → FailsWhere
-        (answers (core_of (files_of (D.held disk.old)) core.old) (about_other (files_of (D.held disk.old)) (file_asked subject.now)) asked.now)
+        (answers variables.now (core_of (files_of (D.held disk.old)) core.old) (about_other (files_of (D.held disk.old)) (file_asked subject.now)) asked.now)
         core.new (D.held disk.new) (D.refusals disk.old) (D.refusals disk.new) }
     ensures own { D.tells disk.old → D.refusals disk.old ≤ D.refusals disk.new }
     ensures held { D.tells disk.old → D.held disk.new ≡ D.held disk.old }
@@ -219,9 +159,7 @@ fn answer_other<D: Disk>(
     ensures sink { result ≢ Err Lost.Sink }
     ensures pending { KeepsAnswers core.old core.new }
     ensures same { KeepsPending core.old core.new }
-    ensures keeps { IsKept variables.now core.old → OnOk result (IsKept variables.now core.new) }
-    ensures fits { All (IsAsked variables.now) asked.now → IfSome (file_asked subject.now) (λ name. stands core.old.names name ≡ false)
-        → result ≢ Err Lost.Unfit }
+    ensures fits { IfSome (file_asked subject.now) (λ name. stands core.old.names name ≡ false) → result ≢ Err Lost.Unfit }
     ensures placed { IfOk result IsPlaced }
     ensures closes { (what : PlainStatement) → IfOk result (λ next. may_do what next ≡ true) }
     ensures called { result ≡ Err Lost.Disk → is_some (file_asked subject.now) ≡ true }
@@ -231,14 +169,15 @@ fn answer_other<D: Disk>(
     match subject {
         Subject::Unit(_) => {
             inquire_unit(alloc, 0, None, None, false, asked, &mut cells)?;
-            answer(variables, asked, cells, core)
+            give_back(variables, &mut core.store, cells);
         }
         Subject::File(name) => {
             let there = is_there(name, &core.names, disk)?;
             inquire_file(alloc, name, there, None, None, false, asked, &mut cells)?;
-            answer(variables, asked, cells, core)
+            give_back(variables, &mut core.store, cells);
         }
     }
+    Ok(Doing::Finishes(Condition::Fine))
 }
 
 /// What a connected unit tells of itself.
@@ -280,21 +219,18 @@ pub(crate) fn answer_look<F: FileStore>(
     id: Option<&Operand>,
     look: Option<Look>,
     core: &mut Core,
-) -> Result<Doing<F>, Lost>
+) -> Result<Doing<F>, AllocError>
     requires kinds { core.old.store.kinds ≡ kinds_of variables.now }
     ensures doing { (st : Stated) (files : Files) → IfOk result (λ next. IsDoing F.told F.bytes variables.now st (core_of files core.new) next
-        (looks_at (core_of files core.old) (unit_about (unit_named core.old.units) subject.now) (file_asked subject.now) asked.now
+        (looks_at variables.now (core_of files core.old) (unit_about (unit_named core.old.units) subject.now) (file_asked subject.now) asked.now
         (number_given (values_of core.old.store) (option_copied id.entry)) (unit_at (core_of files core.old) (unit_about (unit_named core.old.units) subject.now)) (option_map looked_of look))) }
     ensures units { core.new.units ≡ core.old.units }
     ensures kinds { core.new.store.kinds ≡ core.old.store.kinds }
     ensures names { core.new.names ≡ core.old.names }
     ensures output { core.new.output ≡ core.old.output }
     ensures tells { core.new.tells ≡ core.old.tells }
-    ensures causes { (result ≢ Err Lost.Disk) × (result ≢ Err Lost.Sink) }
     ensures pending { KeepsAnswers core.old core.new }
     ensures same { KeepsPending core.old core.new }
-    ensures keeps { IsKept variables.now core.old → OnOk result (IsKept variables.now core.new) }
-    ensures fits { All (IsAsked variables.now) asked.now → result ≢ Err Lost.Unfit }
     ensures placed { IfOk result IsPlaced }
     ensures ends { IfOk result Ends }
     ensures closes { (what : PlainStatement) → IfOk result (λ next. may_do what next ≡ true) }
@@ -309,7 +245,8 @@ pub(crate) fn answer_look<F: FileStore>(
     let id = number_given(&core.store, id);
     let pending = has_pending(&core.pending, number, id);
     let cells = told_of(alloc, number, unit, look, pending, asked)?;
-    answer(variables, asked, cells, core)
+    give_back(variables, &mut core.store, cells);
+    Ok(Doing::Finishes(Condition::Fine))
 }
 
 /// INQUIRE: of a connected unit with a look at its connection, where it asks what only that knows.
@@ -327,10 +264,10 @@ pub(crate) fn inquire<D: Disk>(
     requires names { D.tells disk.old → AreInUse core.old.names (D.held disk.old).in_use }
     ensures doing { D.tells disk.old → (st : Stated) → AsksAbout st.0.what subject.now asked.now (option_copied id.entry) → IfOk result (λ next. IsDoing D.File.told D.File.bytes variables.now st
         (core_of (files_of (D.held disk.new)) core.new) next
-        (inquires (core_of (files_of (D.held disk.old)) core.old) (unit_about (unit_named core.old.units) subject.now) (file_asked subject.now) asked.now
+        (inquires variables.now (core_of (files_of (D.held disk.old)) core.old) (unit_about (unit_named core.old.units) subject.now) (file_asked subject.now) asked.now
         (number_given (values_of core.old.store) (option_copied id.entry)) (unit_at (core_of (files_of (D.held disk.old)) core.old) (unit_about (unit_named core.old.units) subject.now)))) }
     ensures fault { D.tells disk.old → result ≡ Err Lost.Disk → FailsWhere
-        (inquires (core_of (files_of (D.held disk.old)) core.old) (unit_about (unit_named core.old.units) subject.now) (file_asked subject.now) asked.now
+        (inquires variables.now (core_of (files_of (D.held disk.old)) core.old) (unit_about (unit_named core.old.units) subject.now) (file_asked subject.now) asked.now
         (number_given (values_of core.old.store) (option_copied id.entry)) (unit_at (core_of (files_of (D.held disk.old)) core.old) (unit_about (unit_named core.old.units) subject.now)))
         core.new (D.held disk.new) (D.refusals disk.old) (D.refusals disk.new) }
     ensures own { D.tells disk.old → D.refusals disk.old ≤ D.refusals disk.new }
@@ -346,8 +283,7 @@ pub(crate) fn inquire<D: Disk>(
     ensures sink { result ≢ Err Lost.Sink }
     ensures pending { KeepsAnswers core.old core.new }
     ensures same { KeepsPending core.old core.new }
-    ensures keeps { IsKept variables.now core.old → OnOk result (IsKept variables.now core.new) }
-    ensures fits { All (IsAsked variables.now) asked.now → HaveFiles core.old.names core.old.units → result ≢ Err Lost.Unfit }
+    ensures fits { HaveFiles core.old.names core.old.units → result ≢ Err Lost.Unfit }
     ensures placed { IfOk result IsPlaced }
     ensures closes { (what : PlainStatement) → IfOk result (λ next. may_do what next ≡ true) }
     ensures called { result ≡ Err Lost.Disk → is_some (file_asked subject.now) ≡ true }
@@ -366,5 +302,7 @@ pub(crate) fn inquire<D: Disk>(
             then: Then::Looks,
         });
     }
-    answer_look(alloc, variables, subject, asked, id, None, core)
+    Ok(answer_look(
+        alloc, variables, subject, asked, id, None, core,
+    )?)
 }

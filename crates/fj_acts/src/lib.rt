@@ -3,6 +3,7 @@
 #![tactic(auto)]
 
 mod beginning;
+mod brought;
 mod closing;
 mod doing;
 mod file_names;
@@ -12,10 +13,10 @@ mod opening;
 mod places;
 mod state;
 mod steps;
-mod suited;
 mod transfers;
 
 pub use beginning::begin;
+pub use brought::told_by;
 pub use doing::{After, Doing, Given, Then};
 pub use state::Core;
 pub use steps::{answered, given};

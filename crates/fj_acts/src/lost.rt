@@ -27,14 +27,3 @@ pub(crate) fn lost_by_entry(lost: fj_pending::Lost) -> Lost
         _ => Lost::Unfit,
     }
 }
-
-/// Where what a statement moves did not fit.
-pub(crate) fn lost_by_items(lost: Lost) -> Lost
-    ensures causes { (result ≢ Lost.Disk) × (result ≢ Lost.Sink) }
-    ensures fits { (lost ≢ Lost.Disk) × (lost ≢ Lost.Sink) → lost ≢ Lost.Unfit → result ≢ Lost.Unfit }
-{
-    match lost {
-        Lost::Memory(error) => Lost::Memory(error),
-        _ => Lost::Unfit,
-    }
-}

@@ -1,34 +1,35 @@
 // How a statement goes on from a job that it gave.
-ghost use Rattle.std.specs.Prelude.{◌<◌, ◌≡◌, ◌≢◌, ◌↔◌, ◌≤◌, ◌+◌, ◌-◌, ℕ, true, length, All, Some, IfOk, IfSome, OnErr, OnOk, Err};
+ghost use Rattle.std.specs.Prelude.{◌<◌, ◌≡◌, ◌≢◌, ◌↔◌, ◌≤◌, ◌+◌, ◌-◌, ℕ, true, length, Some, IfOk, OnErr, Err};
 ghost use Rattle.std.specs.Option.{option_map};
 ghost use Rattle.fj_outside.specs.Faults.{Rose};
-ghost use Rattle.fj_outside.specs.Holdings.{Holdings, IsFree};
+ghost use Rattle.fj_outside.specs.Holdings.{Holdings};
 ghost use Rattle.fj_bay.specs.Jobs.{Job as Task, Answer as PlainAnswer};
 ghost use Rattle.fj_bay.specs.Jobs as job;
-ghost use Rattle.fj_bay.specs.Plain.{told_of, task_of, reply_of, looked_of, moving_of};
-ghost use Rattle.fj_statement.specs.Sound.{IsSoundStatement};
+ghost use Rattle.fj_bay.specs.Plain.{told_of, task_of, reply_of, looked_of};
 ghost use Rattle.fj_connect.specs.Connection.{Connection as PlainConnection};
 ghost use Rattle.fj_plain.specs.State.{Files};
+ghost use Rattle.fj_pending.specs.Plain.{brought_of};
 ghost use Rattle.fj_plain.specs.Statement.{control_by};
 ghost use Rattle.fj_desk.specs.Core.{connected_at};
-ghost use Rattle.fj_desk.specs.Desks.{condition_in};
-ghost use Rattle.fj_items.specs.Kinds.{CellFits, kinds_of};
+ghost use Rattle.fj_desk.specs.Desks.{Outcome, brought_by, look_in};
+ghost use Rattle.fj_items.specs.Kinds.{kinds_of};
 ghost use Rattle.fj_units.specs.Names.{AreInUse};
 ghost use Rattle.fj_desk.specs.Desks.{most_slots};
 ghost use Rattle.fj_statement.specs.declared.statement.Statement.{Statement as PlainStatement};
 ghost use Rattle.fj_acts.specs.Calling.{may_await, may_close, may_do};
 ghost use Rattle.fj_acts.specs.Placing.{IsPlaced, slot_behind};
 ghost use Rattle.fj_acts.specs.Jobs.{GivesOne, jobs_after, jobs_behind, jobs_of, units_more};
-ghost use Rattle.fj_acts.specs.Fitting.{Brings, IsKept, MayGoOn};
+ghost use Rattle.fj_acts.specs.Fitting.{MayGoOn};
 ghost use Rattle.fj_acts.specs.Holding.{MayEnter};
 ghost use Rattle.fj_acts.specs.State.{KeepsAnswers, KeepsPending, core_of};
 ghost use Rattle.fj_acts.specs.Failing.{AreStill, FailsWhere, StandsWhere};
 ghost use Rattle.fj_units.specs.Files.{files_of};
-ghost use Rattle.fj_acts.specs.Steps.{held_in, is_due};
-ghost use Rattle.fj_acts.specs.Doing.{Ends, IsDoing, next_of, then_of, goes_on, closed, carries, looks};
+ghost use Rattle.fj_acts.specs.Steps.{is_due, looked_in};
+ghost use Rattle.fj_acts.specs.Doing.{Ends, IsDoing, next_of, then_of, goes_on, closes_then, carries, looks};
 ghost use Rattle.fj_units.specs.Having.{HaveFiles};
 ghost use Rattle.fj_acts.specs.Having.{HaveNext, HaveThen, IsFreeNext};
 
+use crate::brought::{condition_in, told_by};
 use crate::closing::close_all;
 use crate::doing::{After, Doing, Given, Then};
 use crate::inquiring::answer_look;
@@ -40,10 +41,10 @@ use fj_connect::{Connection, Look};
 use fj_items::Lost;
 use fj_modes::settle_open;
 use fj_outside::{Disk, FileStore};
+use fj_pending::Told;
 use fj_statement::{Lined, Statement, Variables};
-use fj_transfer::Transfer as Moving;
 use fj_value::Condition;
-use std::alloc::Global;
+use std::alloc::{AllocError, Global};
 
 /// How the statement of a line goes on once it has the number of the job that it gave.
 pub fn given<F: FileStore>(
@@ -67,8 +68,7 @@ pub fn given<F: FileStore>(
     ensures causes { (result ≢ Err Lost.Disk) × (result ≢ Err Lost.Sink) }
     ensures pending { KeepsAnswers core.old core.new }
     ensures enters { MayEnter next number core.old core.new }
-    ensures keeps { IsKept variables.now core.old → OnOk result (IsKept variables.now core.new) }
-    ensures fits { IsSoundStatement variables.now lined.now.what → MayGoOn core.old next number → result ≢ Err Lost.Unfit }
+    ensures fits { MayGoOn core.old next number → result ≢ Err Lost.Unfit }
     ensures placed { IfOk result IsPlaced }
     ensures closes { IfOk result (λ next. may_do lined.now.what next ≡ true) }
     ensures ends { IfOk result Ends }
@@ -82,57 +82,6 @@ pub fn given<F: FileStore>(
             }
             Ok(Doing::Finishes(Condition::Fine))
         }
-    }
-}
-
-/// The connection that a job has, if it has one.
-fn connection_in<F: FileStore>(job: Job<F>) -> Option<Connection<F>>
-    ensures { result ≡ held_in job }
-{
-    match job {
-        Job::Attach(brought) => brought,
-        Job::Detach(place) => place,
-        _ => None,
-    }
-}
-
-/// Gives the file of a connection back where its name is out, without what is due. What the disk answers is not told.
-fn give_back<D: Disk>(connection: Connection<D::File>, core: &mut Core, disk: &mut D)
-    requires names { D.tells disk.old → AreInUse core.old.names (D.held disk.old).in_use }
-    ensures names { D.tells disk.old → AreInUse core.new.names (D.held disk.new).in_use }
-    ensures back { D.tells disk.old → IsFree (D.held disk.new) connection.name }
-    ensures own { D.tells disk.old → D.refusals disk.old ≤ D.refusals disk.new }
-    ensures store { core.new.store ≡ core.old.store }
-    ensures output { core.new.output ≡ core.old.output }
-    ensures tells { core.new.tells ≡ core.old.tells }
-    ensures telling { D.tells disk.old ↔ D.tells disk.new }
-    ensures later { D.count disk.old ≤ D.count disk.new }
-    ensures pending { core.new.pending ≡ core.old.pending }
-    ensures next { core.new.next ≡ core.old.next }
-{
-    if core.names.holds(connection.name()) {
-        let keep = !connection.modes().scratch;
-        core.names.remove(connection.name());
-        let _ = connection.close_file(disk, keep);
-    }
-}
-
-/// What came back is not what is due: a connection that it has gives its file back.
-fn give_up<D: Disk>(job: Job<D::File>, core: &mut Core, disk: &mut D)
-    requires names { D.tells disk.old → AreInUse core.old.names (D.held disk.old).in_use }
-    ensures names { D.tells disk.old → AreInUse core.new.names (D.held disk.new).in_use }
-    ensures back { D.tells disk.old → IfSome (held_in job) (λ connection. IsFree (D.held disk.new) connection.name) }
-    ensures own { D.tells disk.old → D.refusals disk.old ≤ D.refusals disk.new }
-    ensures store { core.new.store ≡ core.old.store }
-    ensures output { core.new.output ≡ core.old.output }
-    ensures tells { core.new.tells ≡ core.old.tells }
-    ensures telling { D.tells disk.old ↔ D.tells disk.new }
-    ensures later { D.count disk.old ≤ D.count disk.new }
-    ensures pending { core.new.pending ≡ core.old.pending }
-    ensures next { core.new.next ≡ core.old.next }
-{
-    if let Some(connection) = connection_in(job) {
-        give_back(connection, core, disk);
     }
 }
 
@@ -189,19 +138,17 @@ fn go_on<D: Disk>(
     }
 }
 
-/// Whether a connection is that of the unit of a number, and its file out.
+/// Whether a connection is that of the unit of a number.
 fn is_due<F: FileStore>(connection: &Connection<F>, number: u32, core: &Core) -> bool
-    ensures { result ≡ is_due (connected_at core.now.units number) core.now.names connection.now.name }
+    ensures { result ≡ is_due (connected_at core.now.units number) connection.now.name }
 {
     match core.units.find(number) {
-        Some(unit) => {
-            unit.name.as_str() == connection.name().as_str() && core.names.holds(connection.name())
-        }
+        Some(unit) => connection.name().as_str() == unit.name.as_str(),
         None => false,
     }
 }
 
-/// The connection of a unit is closed, and the statement goes on.
+/// The connection of a unit is closed, and the statement goes on. Another one is dropped; its unit counts as not connected.
 fn closed<D: Disk>(
     alloc: Global,
     variables: &Variables,
@@ -217,14 +164,14 @@ fn closed<D: Disk>(
     ensures doing { D.tells disk.old → (c : PlainConnection) (answer : PlainAnswer) → told_of D.File.told D.File.bytes connection ≡ Some c →
         IfOk result (λ goes. IsDoing D.File.told D.File.bytes variables.now (lined.now, control_by lined.now.what)
         (core_of (files_of (D.held disk.new)) core.new) goes
-        (goes_on lined.now.what (closed (core_of (files_of (D.held disk.old)) core.old) (connected_at core.old.units number) keep (job.detach (Some c), answer)) after)) }
+        (closes_then lined.now.what (core_of (files_of (D.held disk.old)) core.old) (connected_at core.old.units number) keep after (job.detach (Some c), answer))) }
     ensures fault { D.tells disk.old → (c : PlainConnection) (answer : PlainAnswer) → told_of D.File.told D.File.bytes connection ≡ Some c →
         result ≡ Err Lost.Disk → FailsWhere
-        (goes_on lined.now.what (closed (core_of (files_of (D.held disk.old)) core.old) (connected_at core.old.units number) keep (job.detach (Some c), answer)) after)
+        (closes_then lined.now.what (core_of (files_of (D.held disk.old)) core.old) (connected_at core.old.units number) keep after (job.detach (Some c), answer))
         core.new (D.held disk.new) (D.refusals disk.old) (D.refusals disk.new) }
     ensures stands { D.tells disk.old → (c : PlainConnection) (answer : PlainAnswer) → told_of D.File.told D.File.bytes connection ≡ Some c →
         result ≢ Err Lost.Unfit → OnErr result (StandsWhere
-        (goes_on lined.now.what (closed (core_of (files_of (D.held disk.old)) core.old) (connected_at core.old.units number) keep (job.detach (Some c), answer)) after)
+        (closes_then lined.now.what (core_of (files_of (D.held disk.old)) core.old) (connected_at core.old.units number) keep after (job.detach (Some c), answer))
         core.new (D.held disk.new) (D.refusals disk.old) (D.refusals disk.new)) }
     ensures own { D.tells disk.old → D.refusals disk.old ≤ D.refusals disk.new }
     ensures names { D.tells disk.old → AreInUse core.new.names (D.held disk.new).in_use }
@@ -237,15 +184,16 @@ fn closed<D: Disk>(
     ensures sink { result ≢ Err Lost.Sink }
     ensures pending { core.new.pending ≡ core.old.pending }
     ensures next { core.new.next ≡ core.old.next }
-    ensures fits { HaveThen (Then.Closes number keep after) core.old.names core.old.units lined.now.what
-        → IfSome (connected_at core.old.units number) (λ u. u.name ≡ connection.name) → result ≢ Err Lost.Unfit }
+    ensures fits { HaveThen (Then.Closes number keep after) core.old.names core.old.units lined.now.what → result ≢ Err Lost.Unfit }
     ensures placed { IfOk result IsPlaced }
-    ensures units { OnOk result (length core.new.units + 1 ≤ length core.old.units) }
+    ensures units { IfOk result (λ goes. length core.new.units ≤ length core.old.units + units_more goes) }
     ensures jobs { IfOk result (λ goes. jobs_of goes (length core.new.units) ≤ jobs_after after (length core.old.units - 1)) }
     ensures files { HaveThen (Then.Closes number keep after) core.old.names core.old.units lined.now.what → IfOk result (λ goes. HaveNext goes core.new.names core.new.units lined.now.what) }
 {
     if !is_due(&connection, number, core) {
-        give_back(connection, core, disk);
+        return Ok(Doing::Finishes(Condition::Error(1)));
+    }
+    if !core.names.holds(connection.name()) {
         return Err(Lost::Unfit);
     }
     core.names.remove(connection.name());
@@ -263,20 +211,17 @@ fn looked<F: FileStore>(
     lined: &Lined,
     look: Option<Look>,
     core: &mut Core,
-) -> Result<Doing<F>, Lost>
+) -> Result<Doing<F>, AllocError>
     requires { core.old.store.kinds ≡ kinds_of variables.now }
-    ensures doing { (files : Files) (answer : PlainAnswer) → IfOk result (λ goes. IsDoing F.told F.bytes variables.now (lined.now, control_by lined.now.what)
-        (core_of files core.new) goes (looks (core_of files core.old) lined.now.what (job.look (option_map looked_of look), answer))) }
+    ensures doing { (files : Files) (o : Outcome) → option_map looked_of look ≡ look_in o.0 → IfOk result (λ goes. IsDoing F.told F.bytes variables.now (lined.now, control_by lined.now.what)
+        (core_of files core.new) goes (looks variables.now (core_of files core.old) lined.now.what o)) }
     ensures units { core.new.units ≡ core.old.units }
     ensures names { core.new.names ≡ core.old.names }
     ensures output { core.new.output ≡ core.old.output }
     ensures tells { core.new.tells ≡ core.old.tells }
     ensures kinds { core.new.store.kinds ≡ core.old.store.kinds }
-    ensures causes { (result ≢ Err Lost.Disk) × (result ≢ Err Lost.Sink) }
     ensures pending { KeepsAnswers core.old core.new }
     ensures same { KeepsPending core.old core.new }
-    ensures keeps { IsKept variables.now core.old → OnOk result (IsKept variables.now core.new) }
-    ensures fits { IsSoundStatement variables.now lined.now.what → result ≢ Err Lost.Unfit }
     ensures placed { IfOk result IsPlaced }
     ensures ends { IfOk result Ends }
     ensures closes { (what : PlainStatement) → IfOk result (λ next. may_do what next ≡ true) }
@@ -298,40 +243,37 @@ fn carried<F: FileStore>(
     variables: &Variables,
     lined: &Lined,
     slot: u32,
-    moved: Moving,
-    condition: Condition,
+    told: Told,
     core: &mut Core,
-) -> Result<Doing<F>, Lost>
+) -> Doing<F>
     requires { core.old.store.kinds ≡ kinds_of variables.now }
-    ensures doing { (files : Files) (answer : PlainAnswer) → condition_in answer ≡ condition → IfOk result (λ goes. IsDoing F.told F.bytes variables.now (lined.now, control_by lined.now.what)
-        (core_of files core.new) goes (carries variables.now (core_of files core.old) lined.now.what slot (job.move (moving_of moved), answer))) }
+    ensures doing { (files : Files) (o : Outcome) → brought_of told ≡ brought_by o → IsDoing F.told F.bytes variables.now (lined.now, control_by lined.now.what)
+        (core_of files core.new) result (carries variables.now (core_of files core.old) lined.now.what slot o) }
     ensures units { core.new.units ≡ core.old.units }
     ensures names { core.new.names ≡ core.old.names }
     ensures output { core.new.output ≡ core.old.output }
     ensures tells { core.new.tells ≡ core.old.tells }
     ensures kinds { core.new.store.kinds ≡ core.old.store.kinds }
-    ensures causes { (result ≢ Err Lost.Disk) × (result ≢ Err Lost.Sink) }
     ensures pending { KeepsAnswers core.old core.new }
     ensures same { KeepsPending core.old core.new }
-    ensures keeps { IsKept variables.now core.old → OnOk result (IsKept variables.now core.new) }
-    ensures fits { IsSoundStatement variables.now lined.now.what → All (CellFits variables.now) moved.moved.cells → result ≢ Err Lost.Unfit }
-    ensures placed { slot < most_slots → IfOk result IsPlaced }
-    ensures jobs { IfOk result GivesOne }
-    ensures closes { (what : PlainStatement) → IfOk result (λ next. may_do what next ≡ true) }
-    ensures files { HaveFiles core.old.names core.old.units → IfOk result (λ next. HaveNext next core.new.names core.new.units lined.now.what) }
+    ensures placed { slot < most_slots → IsPlaced result }
+    ensures jobs { GivesOne result }
+    ensures closes { (what : PlainStatement) → may_do what result ≡ true }
+    ensures files { HaveFiles core.old.names core.old.units → HaveNext result core.new.names core.new.units lined.now.what }
 {
     match &lined.what {
-        Statement::Transfer(t) => carry(variables, t, slot, moved, condition, core),
-        _ => Ok(Doing::Finishes(Condition::Fine)),
+        Statement::Transfer(t) => carry(variables, t, slot, told, core),
+        _ => Doing::Finishes(Condition::Fine),
     }
 }
 
-/// The condition that an answer tells.
-fn condition_in(answer: Answer) -> Condition
-    ensures { result ≡ condition_in (reply_of answer) }
+/// The look of a job at a connection, if it has one.
+fn look_in<F: FileStore>(job: Job<F>) -> Option<Look>
+    ensures { result ≡ looked_in job }
 {
-    match answer {
-        Answer::Done(condition) | Answer::Skipped(condition) => condition,
+    match job {
+        Job::Look(look) => look,
+        _ => None,
     }
 }
 
@@ -369,9 +311,7 @@ pub fn answered<D: Disk>(
     ensures sink { result ≢ Err Lost.Sink }
     ensures pending { KeepsAnswers core.old core.new }
     ensures same { KeepsPending core.old core.new }
-    ensures keeps { IsKept variables.now core.old → OnOk result (IsKept variables.now core.new) }
-    ensures fits { IsSoundStatement variables.now lined.now.what → HaveThen then core.old.names core.old.units lined.now.what
-        → Brings variables.now core.old.units then job → result ≢ Err Lost.Unfit }
+    ensures fits { HaveThen then core.old.names core.old.units lined.now.what → result ≢ Err Lost.Unfit }
     ensures placed { slot_behind then < most_slots → IfOk result IsPlaced }
     ensures units { HaveThen then core.old.names core.old.units lined.now.what → IfOk result (λ goes. length core.new.units ≤ length core.old.units + units_more goes) }
     ensures jobs { IfOk result (λ goes. jobs_of goes (length core.new.units) ≤ jobs_behind then (length core.old.units)) }
@@ -380,33 +320,30 @@ pub fn answered<D: Disk>(
     ensures files { HaveThen then core.old.names core.old.units lined.now.what → IfOk result (λ goes. HaveNext goes core.new.names core.new.units lined.now.what) }
 {
     let condition = condition_in(answer);
-    match (then, job) {
-        (Then::Carries { slot }, Job::Move(moved)) => {
-            carried(variables, lined, slot, moved, condition, core)
+    match then {
+        Then::Finishes => Ok(Doing::Finishes(condition)),
+        Then::Carries { slot } => {
+            let told = told_by(job, answer);
+            Ok(carried(variables, lined, slot, told, core))
         }
-        (
-            Then::Closes {
-                number,
-                keep,
-                after,
-            },
-            Job::Detach(Some(connection)),
-        ) => closed(
-            alloc, variables, lined, number, keep, after, connection, core, disk,
-        ),
-        (Then::Attaches(units), Job::Attach(None)) => {
-            core.units = units;
-            Ok(Doing::Finishes(condition))
-        }
-        (Then::Looks, Job::Look(look)) => looked(alloc, variables, lined, look, core),
-        (Then::Changes { number, modes }, Job::Change(_)) => {
+        Then::Closes {
+            number,
+            keep,
+            after,
+        } => match job {
+            Job::Detach(Some(connection)) => closed(
+                alloc, variables, lined, number, keep, after, connection, core, disk,
+            ),
+            _ => Ok(Doing::Finishes(Condition::Error(1))),
+        },
+        Then::Changes { number, modes } => {
             core.units.set_modes(number, modes);
             Ok(Doing::Finishes(condition))
         }
-        (Then::Finishes, Job::Go(_) | Job::Flush) => Ok(Doing::Finishes(condition)),
-        (_, job) => {
-            give_up(job, core, disk);
-            Err(Lost::Unfit)
+        Then::Attaches(units) => {
+            core.units = units;
+            Ok(Doing::Finishes(condition))
         }
+        Then::Looks => Ok(looked(alloc, variables, lined, look_in(job), core)?),
     }
 }

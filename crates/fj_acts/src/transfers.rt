@@ -9,14 +9,13 @@ ghost use Rattle.fj_bay.specs.Jobs.{Job as Task, move};
 ghost use Rattle.fj_bay.specs.Plain.{moving_of as task_of};
 ghost use Rattle.fj_plain.specs.State.{Files};
 ghost use Rattle.fj_plain.specs.Statement.{Stated, control_by};
-ghost use Rattle.fj_plain.specs.Transfers.{moved_in, star_limit, with_cells};
+ghost use Rattle.fj_plain.specs.Transfers.{moved_in, with_cells};
 ghost use Rattle.fj_desk.specs.Core.{Connected as PlainConnected, connected_at};
 ghost use Rattle.fj_desk.specs.Acting.{refused, transferred, on_unit, transfer_at, with_items_out};
-ghost use Rattle.fj_items.specs.Fitting.{Finds};
-ghost use Rattle.fj_items.specs.Kinds.{CellFits, kinds_of};
+ghost use Rattle.fj_items.specs.Kinds.{kinds_of};
 ghost use Rattle.fj_items.specs.Handing.{HandsOver, HandsFront, HandsPart};
 ghost use Rattle.fj_pending.specs.Fitting.{IsNext};
-ghost use Rattle.fj_pending.specs.Plain.{held};
+ghost use Rattle.fj_pending.specs.Plain.{brought_of, held};
 ghost use Rattle.fj_pending.specs.declared.held.Held.{Held};
 ghost use Rattle.fj_desk.specs.Desks.{most_slots};
 ghost use Rattle.fj_statement.specs.declared.statement.Statement.{Statement as PlainStatement};
@@ -32,16 +31,15 @@ ghost use Rattle.fj_units.specs.Having.{HaveFiles};
 ghost use Rattle.fj_acts.specs.Having.{HaveNext};
 
 use crate::doing::{Doing, Given, Then};
-use crate::lost::{lost_by_entry, lost_by_items};
+use crate::lost::lost_by_entry;
 use crate::places::distinct_places;
 use crate::state::Core;
 use fj_bay::Job;
 use fj_items::{Lost, give_cells, moving, refusal, set_number, undefine, write_star};
 use fj_modes::UnitRef;
 use fj_outside::{FileStore, Sink};
-use fj_pending::{Held, Pendings, runs_held};
+use fj_pending::{Held, Pendings, Told, runs_held};
 use fj_statement::{Transfer, Variables};
-use fj_transfer::Transfer as Moving;
 use fj_value::{Condition, Tag};
 use std::alloc::{AllocError, Global};
 
@@ -64,13 +62,12 @@ pub(crate) fn refuse<F: FileStore>(
     ensures causes { (result ≢ Err Lost.Disk) × (result ≢ Err Lost.Sink) }
     ensures pending { KeepsAnswers core.old core.new }
     ensures same { KeepsPending core.old core.new }
-    ensures keeps { IsKept variables.now core.old → OnOk result (IsKept variables.now core.new) }
     ensures fits { IsAllowed t.now → result ≢ Err Lost.Unfit }
     ensures placed { IfOk result IsPlaced }
     ensures closes { (what : PlainStatement) → IfOk result (λ next. may_do what next ≡ true) }
     ensures files { (what : Statement) → HaveFiles core.old.names core.old.units → IfOk result (λ next. HaveNext next core.new.names core.new.units what) }
 {
-    undefine(variables, &mut core.store, t).map_err(lost_by_items)?;
+    undefine(variables, &mut core.store, t)?;
     Ok(Doing::Finishes(condition))
 }
 
@@ -97,22 +94,21 @@ fn transfer<F: FileStore>(
     ensures causes { (result ≢ Err Lost.Disk) × (result ≢ Err Lost.Sink) }
     ensures pending { KeepsAnswers core.old core.new }
     ensures same { KeepsPending core.old core.new }
-    ensures keeps { IsKept variables.now core.old → OnOk result (IsKept variables.now core.new) }
-    ensures fits { IsTransfer variables.now t.now → Finds variables.now (values_of core.old.store) t.now → result ≢ Err Lost.Unfit }
+    ensures fits { IsTransfer variables.now t.now → result ≢ Err Lost.Unfit }
     ensures placed { slot < most_slots → IfOk result IsPlaced }
     ensures closes { (what : PlainStatement) → IfOk result (λ next. may_do what next ≡ true) }
     ensures files { (what : Statement) → HaveFiles core.old.names core.old.units → IfOk result (λ next. HaveNext next core.new.names core.new.units what) }
 {
     if t.asynchronous.unwrap_or(false) {
         let tag = Tag(core.next);
-        let job = moving(alloc, variables, &mut core.store, line, tag, t).map_err(lost_by_items)?;
+        let job = moving(alloc, variables, &mut core.store, line, tag, t)?;
         return Ok(Doing::Gives {
             slot,
             job: Job::Move(job),
             next: Given::Pends { unit, slot },
         });
     }
-    let job = moving(alloc, variables, &mut core.store, line, Tag(0), t).map_err(lost_by_items)?;
+    let job = moving(alloc, variables, &mut core.store, line, Tag(0), t)?;
     Ok(Doing::Awaits {
         slot,
         job: Job::Move(job),
@@ -143,8 +139,7 @@ fn transfer_on<F: FileStore>(
     ensures causes { (result ≢ Err Lost.Disk) × (result ≢ Err Lost.Sink) }
     ensures pending { KeepsAnswers core.old core.new }
     ensures same { KeepsPending core.old core.new }
-    ensures keeps { IsKept variables.now core.old → OnOk result (IsKept variables.now core.new) }
-    ensures fits { IsTransfer variables.now t.now → Finds variables.now (values_of core.old.store) t.now → result ≢ Err Lost.Unfit }
+    ensures fits { IsTransfer variables.now t.now → result ≢ Err Lost.Unfit }
     ensures placed { IfOk result IsPlaced }
     ensures closes { (what : PlainStatement) → IfOk result (λ next. may_do what next ≡ true) }
     ensures files { (what : Statement) → HaveFiles core.old.names core.old.units → IfOk result (λ next. HaveNext next core.new.names core.new.units what) }
@@ -188,8 +183,8 @@ pub(crate) fn read_or_write<F: FileStore, W: Sink>(
     ensures failed { result ≡ Err Lost.Sink → Rose (W.count out.old) (W.count out.new) }
     ensures pending { KeepsAnswers core.old core.new }
     ensures same { KeepsPending core.old core.new }
-    ensures keeps { IsKept variables.now core.old → OnOk result (IsKept variables.now core.new) }
-    ensures fits { IsTransfer variables.now t.now → Finds variables.now (values_of core.old.store) t.now → core.old.output.begun ≤ star_limit → result ≢ Err Lost.Unfit }
+    ensures keeps { IsKept core.old → OnOk result (IsKept core.new) }
+    ensures fits { IsTransfer variables.now t.now → IsKept core.old → result ≢ Err Lost.Unfit }
     ensures placed { IfOk result IsPlaced }
     ensures closes { (what : PlainStatement) → IfOk result (λ next. may_do what next ≡ true) }
     ensures files { (what : Statement) → HaveFiles core.old.names core.old.units → IfOk result (λ next. HaveNext next core.new.names core.new.units what) }
@@ -264,14 +259,13 @@ pub(crate) fn enter(
     ensures pending { KeepsAnswers core.old core.new }
     ensures enters { OnOk result (Enters slot number core.old core.new) }
     ensures err { OnErr result (KeepsPending core.old core.new) }
-    ensures keeps { IsKept variables.now core.old → OnOk result (IsKept variables.now core.new) }
-    ensures fits { IsTransfer variables.now t.now → MayPend core.old slot number → result ≢ Err Lost.Unfit }
+    ensures fits { MayPend core.old slot number → result ≢ Err Lost.Unfit }
 {
     let tag = Tag(core.next);
     let Some(next) = core.next.checked_add(1) else {
         return Err(Lost::Unfit);
     };
-    set_number(variables, &mut core.store, t.id, i64::from(tag.0)).map_err(lost_by_items)?;
+    set_number(variables, &mut core.store, t.id, i64::from(tag.0));
     let pending = &mut core.pending;
     hold(alloc, variables, t, tag, unit, slot, number, pending)?;
     core.next = next;
@@ -284,35 +278,31 @@ pub(crate) fn carry<F: FileStore>(
     variables: &Variables,
     t: &Transfer,
     slot: u32,
-    job: Moving,
-    condition: Condition,
+    told: Told,
     core: &mut Core,
-) -> Result<Doing<F>, Lost>
+) -> Doing<F>
     requires { core.old.store.kinds ≡ kinds_of variables.now }
-    ensures doing { (st : Stated) (files : Files) → IfOk result (λ next. IsDoing F.told F.bytes variables.now st (core_of files core.new) next
-        (ends_behind slot (record (core_of files core.old) { vars = with_cells variables.now t.now job.moved.cells job.count (values_of core.old.store) }) condition)) }
+    ensures doing { (st : Stated) (files : Files) → IsDoing F.told F.bytes variables.now st (core_of files core.new) result
+        (ends_behind slot (record (core_of files core.old) { vars = with_cells variables.now t.now (brought_of told).cells (brought_of told).count (values_of core.old.store) }) told.condition) }
     ensures units { core.new.units ≡ core.old.units }
     ensures kinds { core.new.store.kinds ≡ core.old.store.kinds }
     ensures names { core.new.names ≡ core.old.names }
     ensures output { core.new.output ≡ core.old.output }
     ensures tells { core.new.tells ≡ core.old.tells }
-    ensures causes { (result ≢ Err Lost.Disk) × (result ≢ Err Lost.Sink) }
     ensures pending { KeepsAnswers core.old core.new }
     ensures same { KeepsPending core.old core.new }
-    ensures keeps { IsKept variables.now core.old → OnOk result (IsKept variables.now core.new) }
-    ensures fits { IsTransfer variables.now t.now → All (CellFits variables.now) job.moved.cells → result ≢ Err Lost.Unfit }
-    ensures placed { slot < most_slots → IfOk result IsPlaced }
-    ensures jobs { IfOk result GivesOne }
-    ensures closes { (what : PlainStatement) → IfOk result (λ next. may_do what next ≡ true) }
-    ensures files { (what : Statement) → HaveFiles core.old.names core.old.units → IfOk result (λ next. HaveNext next core.new.names core.new.units what) }
+    ensures placed { slot < most_slots → IsPlaced result }
+    ensures jobs { GivesOne result }
+    ensures closes { (what : PlainStatement) → may_do what result ≡ true }
+    ensures files { (what : Statement) → HaveFiles core.old.names core.old.units → HaveNext result core.new.names core.new.units what }
 {
-    give_cells(variables, &mut core.store, t.input, t.size, job).map_err(lost_by_items)?;
-    match condition {
-        Condition::EndOfFile | Condition::Error(_) => Ok(Doing::Gives {
+    give_cells(variables, &mut core.store, t.input, t.size, told.moved, told.count);
+    match told.condition {
+        Condition::EndOfFile | Condition::Error(_) => Doing::Gives {
             slot,
             job: Job::Resume,
-            next: Given::Finishes(condition),
-        }),
-        Condition::Fine | Condition::EndOfRecord => Ok(Doing::Finishes(condition)),
+            next: Given::Finishes(told.condition),
+        },
+        Condition::Fine | Condition::EndOfRecord => Doing::Finishes(told.condition),
     }
 }

@@ -199,10 +199,10 @@ module _ (what : Statement) (names : Names) (unit_named_by : List ℕ → Option
   moves_places core how number None named w e = tt
   moves_places core how number (Some u) named w e = (place_of core number u named w e, λ o. tt)
 
-  inquires_places : (core : Core) (number : Option ℕ) (file : Option (List ℕ)) (asked : List Wanted) (id : Option ℤ) (o : Option Connected) → IsNamed core
-      → (list_any (λ (w : Wanted). asks_connection w.what) asked ≡ true → MayWait number) → unit_at core number ≡ o → Places (inquires core number file asked id o)
-  inquires_places core number file asked id None named w e = tt
-  inquires_places core number file asked id (Some u) named w e =
+  inquires_places : (variables : List Variable) (core : Core) (number : Option ℕ) (file : Option (List ℕ)) (asked : List Wanted) (id : Option ℤ) (o : Option Connected) → IsNamed core
+      → (list_any (λ (w : Wanted). asks_connection w.what) asked ≡ true → MayWait number) → unit_at core number ≡ o → Places (inquires variables core number file asked id o)
+  inquires_places variables core number file asked id None named w e = tt
+  inquires_places variables core number file asked id (Some u) named w e =
       either (list_any (λ (w : Wanted). asks_connection w.what) asked) _ _ (λ k. (place_of core number u named (w k) e, λ o. tt)) (λ k. tt)
 
 -- its own, and what is done in its place
@@ -227,7 +227,7 @@ module _ (control : ℕ → List Given) (variables : List Variable) (line : ℕ)
       moves_places (statement.Move how u iostat) (names_of core.units) (unit_named core.units) core how (number_of u) (unit_at core (number_of u)) (λ n. refl) (λ n e. e) refl
   own_places (statement.Inquire subject asked id iostat) =
       let number = unit_about (unit_named core.units) subject in
-      inquires_places (statement.Inquire subject asked id iostat) (names_of core.units) (unit_named core.units) core number (file_asked subject) asked (number_given core.vars id) (unit_at core number) (λ n. refl) (λ k n e. (k, e)) refl
+      inquires_places (statement.Inquire subject asked id iostat) (names_of core.units) (unit_named core.units) variables core number (file_asked subject) asked (number_given core.vars id) (unit_at core number) (λ n. refl) (λ k n e. (k, e)) refl
   own_places (statement.Transfer t) =
       transfer_places (statement.Transfer t) (names_of core.units) (unit_named core.units) control variables line core t (moved_in variables core.vars t) t.unit (λ n. refl) (λ k n e. (k, e))
   own_places statement.End = ended Fine

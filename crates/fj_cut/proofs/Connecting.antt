@@ -149,9 +149,9 @@ module _ (Q : List ℕ → Type 0) where
   moves_connect core motion.Rewind (Some u) = (tt, λ o. tt)
   moves_connect core motion.Endfile (Some u) = (tt, λ o. tt)
 
-  inquires_connect : (core : Core) (number : Option ℕ) (file : Option (List ℕ)) (asked : List Wanted) (id : Option ℤ) (o : Option Connected) → Connects (inquires core number file asked id o)
-  inquires_connect core number file asked id None = tt
-  inquires_connect core number file asked id (Some u) = either (list_any (λ (w : Wanted). asks_connection w.what) asked) _ _ (tt, λ o. tt) tt
+  inquires_connect : (variables : List Variable) (core : Core) (number : Option ℕ) (file : Option (List ℕ)) (asked : List Wanted) (id : Option ℤ) (o : Option Connected) → Connects (inquires variables core number file asked id o)
+  inquires_connect variables core number file asked id None = tt
+  inquires_connect variables core number file asked id (Some u) = either (list_any (λ (w : Wanted). asks_connection w.what) asked) _ _ (tt, λ o. tt) tt
 
   -- ---- each kind of statement
 
@@ -163,7 +163,7 @@ module _ (Q : List ℕ → Type 0) where
     own_connects (statement.WaitFor u id iostat) h = tt
     own_connects (statement.Move how u iostat) h = moves_connect core how (unit_at core (number_of u))
     own_connects (statement.Inquire subject asked id iostat) h =
-        let number = unit_about (unit_named core.units) subject in inquires_connect core number (file_asked subject) asked (number_given core.vars id) (unit_at core number)
+        let number = unit_about (unit_named core.units) subject in inquires_connect variables core number (file_asked subject) asked (number_given core.vars id) (unit_at core number)
     own_connects (statement.Transfer t) h = transfer_connects control variables line core t (moved_in variables core.vars t) t.unit
     own_connects statement.End h = end_connects core.units core Fine
 

@@ -359,9 +359,9 @@ module _ (name : List ℕ) (due : Option (List ℕ)) (NotOpened NotAbout : Type 
   moves_stay ds core how n None r e h = ready_point ds core r
   moves_stay ds core how n (Some u) r e h = (ready_wait ds core r, moved_point ds core u how r (own_number core.units n u e) (λ is. other_file core.units n u e (h is)))
 
-  inquires_stay : (ds : List Desk) (core : Core) (number : Option ℕ) (file : Option (List ℕ)) (asked : List Wanted) (id : Option ℤ) (o : Option Connected) → Ready ds core → Stays ds (inquires core number file asked id o)
-  inquires_stay ds core number file asked id None r = ready_point ds core r
-  inquires_stay ds core number file asked id (Some u) r =
+  inquires_stay : (variables : List Variable) (ds : List Desk) (core : Core) (number : Option ℕ) (file : Option (List ℕ)) (asked : List Wanted) (id : Option ℤ) (o : Option Connected) → Ready ds core → Stays ds (inquires variables core number file asked id o)
+  inquires_stay variables ds core number file asked id None r = ready_point ds core r
+  inquires_stay variables ds core number file asked id (Some u) r =
       stays_if ds (list_any (λ (w : Wanted). asks_connection w.what) asked) _ _
       (ready_wait ds core r, idle_point ds core u.slot (look None) r (look_idles (touch name) None)) (ready_point ds core r)
 
@@ -404,7 +404,7 @@ module _ (name : List ℕ) (due : Option (List ℕ)) (NotOpened NotAbout : Type 
     own_stays (statement.WaitFor u id iostat) opened about = ready_point ds core r
     own_stays (statement.Move how u iostat) opened about = moves_at ds core how (number_of u) r (endfile_about (names_of core.units) how u iostat about)
     own_stays (statement.Inquire subject asked id iostat) opened about =
-        let number = unit_about (unit_named core.units) subject in inquires_stay ds core number (file_asked subject) asked (number_given core.vars id) (unit_at core number) r
+        let number = unit_about (unit_named core.units) subject in inquires_stay variables ds core number (file_asked subject) asked (number_given core.vars id) (unit_at core number) r
     own_stays (statement.Transfer t) opened about = transfer_stays control variables line ds core t (moved_in variables core.vars t) t.unit r about
     own_stays statement.End opened about = end_stays ds core Fine r
 

@@ -1,6 +1,6 @@
 -- Each pending transfer has its job at the slot of its unit.
 use Rattle.std.proofs.Common.{◌≡◌, ℕ, ℤ, zero, suc, Bool, true, false, not, List, [], ◌∷◌, ◌++◌, map, Option, Some, None, slice_get, refl, sym, ap, ◌∙◌, subst, inl, inr, ◌||◌, ◌&&◌}
-use Rattle.std.specs.Prelude.{◌==◌, if◌then◌else◌, filter, nat_lt, unwrap_or, Result, Ok, Err}
+use Rattle.std.specs.Prelude.{◌==◌, if◌then◌else◌, filter, nat_lt, option_map, unwrap_or, Result, Ok, Err}
 use Rattle.std.specs.List.{list_any}
 use Rattle.std.proofs.lemmas.Bool.{eq-eqb, ne_eqb}
 use Rattle.std.proofs.lemmas.Bool.Decides.{eqb_tells}
@@ -31,7 +31,7 @@ use Rattle.fj_plain.specs.Telling.{of_unit, is_asynchronous, condition_of, tells
 use Rattle.fj_plain.specs.Transfers.{moved_in, layout_of, refusal}
 use Rattle.fj_plain.specs.Connecting.{file_due, keeps_name}
 use Rattle.fj_desk.specs.Core.{Core, Pending, Connected, connected_at, unit_named, with_connected, inserted, without_connected}
-use Rattle.fj_desk.specs.Desks.{Desk, Outcome, carry, log_at, log_length, most_slots, entry_with, entry_of}
+use Rattle.fj_desk.specs.Desks.{Desk, Outcome, Brought, brought_by, carry, log_at, log_length, most_slots, entry_with, entry_of}
 use Rattle.fj_desk.specs.Desks as desks
 use Rattle.fj_desk.specs.Doing.{Doing, finishes, gives, awaits, Desked, acted}
 use Rattle.fj_desk.specs.Desking.{entries, told_core, completed, goes_on, desk_step, fresh}
@@ -238,9 +238,9 @@ moves_ends : (core : Core) (how : Motion) (o : Option Connected) → AreSeated c
 moves_ends core how None h = h
 moves_ends core how (Some u) h = λ o. h
 
-inquires_ends : (core : Core) (number : Option ℕ) (file : Option (List ℕ)) (asked : List Wanted) (id : Option ℤ) (o : Option Connected) → AreSeated core → Ends (inquires core number file asked id o)
-inquires_ends core number file asked id None h = h
-inquires_ends core number file asked id (Some u) h = ends_if (list_any (λ (w : Wanted). asks_connection w.what) asked) _ _ (λ o. h) h
+inquires_ends : (variables : List Variable) (core : Core) (number : Option ℕ) (file : Option (List ℕ)) (asked : List Wanted) (id : Option ℤ) (o : Option Connected) → AreSeated core → Ends (inquires variables core number file asked id o)
+inquires_ends variables core number file asked id None h = h
+inquires_ends variables core number file asked id (Some u) h = ends_if (list_any (λ (w : Wanted). asks_connection w.what) asked) _ _ (λ o. h) h
 
 -- ---- each kind of statement, once the transfers that it waits for are told
 
@@ -258,7 +258,7 @@ module _ (control : ℕ → List Given) (variables : List Variable) (line : ℕ)
   own_ends (statement.WaitFor u id iostat) h l = h
   own_ends (statement.Move how u iostat) h l = moves_ends core how (unit_at core (number_of u)) h
   own_ends (statement.Inquire subject asked id iostat) h l =
-      let number = unit_about (unit_named core.units) subject in inquires_ends core number (file_asked subject) asked (number_given core.vars id) (unit_at core number) h
+      let number = unit_about (unit_named core.units) subject in inquires_ends variables core number (file_asked subject) asked (number_given core.vars id) (unit_at core number) h
   own_ends (statement.Transfer t) h l = transfer_ends control variables line core t (moved_in variables core.vars t) t.unit h
   own_ends statement.End h l = end_ends core.units core Fine l
 
@@ -284,19 +284,19 @@ halts_end (slot ∷ slots) core next h = λ number. halts_end slots core next h
 
 -- ---- those that are told
 
-with_unit : (e : Pending) (o : Option Outcome) → (entry_with e o).unit ≡ e.unit
+with_unit : (e : Pending) (o : Option Brought) → (entry_with e o).unit ≡ e.unit
 with_unit e None = refl
 with_unit e (Some o) = refl
 
-with_id : (e : Pending) (o : Option Outcome) → (entry_with e o).id ≡ e.id
+with_id : (e : Pending) (o : Option Brought) → (entry_with e o).id ≡ e.id
 with_id e None = refl
 with_id e (Some o) = refl
 
 pub unit_kept : (ds : List Desk) (e : Pending) → (entry_of ds e).unit ≡ e.unit
-unit_kept ds e = with_unit e (log_at (slice_get ds e.slot) e.number)
+unit_kept ds e = with_unit e (option_map brought_by (log_at (slice_get ds e.slot) e.number))
 
 pub id_kept : (ds : List Desk) (e : Pending) → (entry_of ds e).id ≡ e.id
-id_kept ds e = with_id e (log_at (slice_get ds e.slot) e.number)
+id_kept ds e = with_id e (option_map brought_by (log_at (slice_get ds e.slot) e.number))
 
 first_told : (x : Entry) (es : List Entry) → tells_id (x ∷ es) x.id ≡ true
 first_told x es = ap (λ b. b || tells_id es x.id) (eq-eqb x.id x.id refl)

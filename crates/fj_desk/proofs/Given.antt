@@ -219,19 +219,19 @@ moves_given p s how (Some number) t after is = by (connected_at p.core.units num
         each motion.Rewind = ((refl, (u, here p.core.units s.units p.desks number u at e, refl)), tt)
         each motion.Endfile = ((refl, (u, here p.core.units s.units p.desks number u at e, refl)), tt)
 
-pub inquires_given : (p : Desked) (s : State) (number : Option ℕ) (file : Option (List ℕ)) (asked : List Wanted) (id : Option ℤ) → Tied p s → Gives p (inquires p.core number file asked id (unit_at p.core number)) (look_jobs asked (meant.unit_at s number))
-inquires_given p s None file asked id t after is = tt
-inquires_given p s (Some number) file asked id t after is = by (connected_at p.core.units number) refl
+pub inquires_given : (variables : List Variable) (p : Desked) (s : State) (number : Option ℕ) (file : Option (List ℕ)) (asked : List Wanted) (id : Option ℤ) → Tied p s → Gives p (inquires variables p.core number file asked id (unit_at p.core number)) (look_jobs asked (meant.unit_at s number))
+inquires_given variables p s None file asked id t after is = tt
+inquires_given variables p s (Some number) file asked id t after is = by (connected_at p.core.units number) refl
   where
-    by : (o : Option Connected) → connected_at p.core.units number ≡ o → Both (IsGiven p.core.units after) (given p.desks (inquires p.core (Some number) file asked id o)) (look_jobs asked (found s.units number))
+    by : (o : Option Connected) → connected_at p.core.units number ≡ o → Both (IsGiven p.core.units after) (given p.desks (inquires variables p.core (Some number) file asked id o)) (look_jobs asked (found s.units number))
     by None e = subst (λ o. Both (IsGiven p.core.units after) [] (look_jobs asked o)) (sym (not_at_unit p.desks p.core.units s.units number t.same.units e).0) tt
-    by (Some u) e = subst (λ o. Both (IsGiven p.core.units after) (given p.desks (inquires p.core (Some number) file asked id (Some u))) (look_jobs asked o)) (sym at.found_is) (which (list_any (λ (w : Wanted). desk.asks_connection w.what) asked))
+    by (Some u) e = subst (λ o. Both (IsGiven p.core.units after) (given p.desks (inquires variables p.core (Some number) file asked id (Some u))) (look_jobs asked o)) (sym at.found_is) (which (list_any (λ (w : Wanted). desk.asks_connection w.what) asked))
       where
         at : At p.desks s.units number u
         at = at_unit p.desks p.core.units s.units number u t.same.units e
 
         which : (b : Bool) → Both (IsGiven p.core.units after)
-            (given p.desks (if b then awaits u.slot (look None) p.core (λ o. desk.answers p.core (desk.about_unit p.core (Some number) file id u (look_in o.0)) asked) else desk.answers p.core (desk.about_unit p.core (Some number) file id u None) asked))
+            (given p.desks (if b then awaits u.slot (look None) p.core (λ o. desk.answers variables p.core (desk.about_unit p.core (Some number) file id u (look_in o.0)) asked) else desk.answers variables p.core (desk.about_unit p.core (Some number) file id u None) asked))
             (if b then (at.it.number, look None) ∷ [] else [])
         which true = ((refl, (u, here p.core.units s.units p.desks number u at e, refl)), tt)
         which false = tt

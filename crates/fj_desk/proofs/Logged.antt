@@ -95,9 +95,9 @@ module _ (control : ℕ → List Given) (variables : List Variable) (line : ℕ)
   own_given p s (statement.WaitFor u id iostat) t free after is = tt
   own_given p s (statement.Move how u iostat) t free after is = moves_given p s how (number_of u) t after is
   own_given p s (statement.Inquire about asked id iostat) t free after is =
-      subst (λ n. Both (IsGiven p.core.units after) (given p.desks (inquires p.core (unit_about (unit_named p.core.units) about) (file_asked about) asked (number_given p.core.vars id) (unit_at p.core (unit_about (unit_named p.core.units) about)))) (look_jobs asked (meant.unit_at s n)))
+      subst (λ n. Both (IsGiven p.core.units after) (given p.desks (inquires variables p.core (unit_about (unit_named p.core.units) about) (file_asked about) asked (number_given p.core.vars id) (unit_at p.core (unit_about (unit_named p.core.units) about)))) (look_jobs asked (meant.unit_at s n)))
       (asked_same about)
-      (inquires_given p s (unit_about (unit_named p.core.units) about) (file_asked about) asked (number_given p.core.vars id) t after is)
+      (inquires_given variables p s (unit_about (unit_named p.core.units) about) (file_asked about) asked (number_given p.core.vars id) t after is)
     where
       asked_same : (about : Subject) → unit_about (unit_named p.core.units) about ≡ unit_asked s about
       asked_same (subject.Unit ref) = refl

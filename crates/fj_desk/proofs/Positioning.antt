@@ -15,11 +15,12 @@ use Rattle.fj_modes.specs.declared.unit.Motion.TheVariants as motion
 use Rattle.fj_connect.specs.Positions as position
 use Rattle.fj_connect.specs.declared.spot.Positioning.{Positioning}
 use Rattle.fj_connect.specs.declared.spot.Positioning.TheVariants as positioning
+use Rattle.fj_statement.specs.declared.deck.Variable.{Variable}
 use Rattle.fj_statement.specs.declared.statement.Operand.{Operand}
 use Rattle.fj_bay.specs.Jobs.{Looked, looked_at, go, flush, look}
 use Rattle.fj_bay.specs.Serving.{serve}
 use Rattle.fj_bay.proofs.Keeping.{moved_kept}
-use Rattle.fj_store.specs.Variables.{given_back}
+use Rattle.fj_plain.specs.Items.{given_back}
 use Rattle.fj_plain.specs.Needs.{number_given, unit_about, unit_of_file, holders}
 use Rattle.fj_plain.specs.State.{State, found, with_unit}
 use Rattle.fj_plain.specs.Connecting as plainly
@@ -106,11 +107,11 @@ all_less number file name modes pending looked (w ∷ ws) e = by (asks_connectio
         ap (λ a. let cell : Cell = record { place = w.place; kind = w.kind; value = value_for w.kind a } in cell ∷ inquired (about_connected number file name modes None pending) ws) (asks_less number file name modes pending looked w.what q)
         ∙ ap (λ l. let cell : Cell = record { place = w.place; kind = w.kind; value = value_for w.kind (answer_to (about_connected number file name modes (Some looked) pending) w.what) } in cell ∷ l) (f e)
 
-found_inquires : (p : Desked) (s : State) (number : ℕ) (file : Option (List ℕ)) (asked : List Wanted) (id : Option ℤ) (u : Connected) (at : At p.desks s.units number u) → Tied p s → connected_at p.core.units number ≡ Some u
-    → ActTied (acted p.desks (inquires p.core (Some number) file asked id (Some u)))
-    (record s { vars = given_back (inquired (about_connected at.it.number file at.it.connection.name at.it.connection.modes (Some (looked_at at.it.connection)) (has_pending (holders s.book) (Some number) id)) asked) s.vars }, Fine)
+found_inquires : (variables : List Variable) (p : Desked) (s : State) (number : ℕ) (file : Option (List ℕ)) (asked : List Wanted) (id : Option ℤ) (u : Connected) (at : At p.desks s.units number u) → Tied p s → connected_at p.core.units number ≡ Some u
+    → ActTied (acted p.desks (inquires variables p.core (Some number) file asked id (Some u)))
+    (record s { vars = given_back variables (inquired (about_connected at.it.number file at.it.connection.name at.it.connection.modes (Some (looked_at at.it.connection)) (has_pending (holders s.book) (Some number) id)) asked) s.vars }, Fine)
 unfolding serve
-found_inquires p s number file asked id u at t e = by (list_any (λ (w : Wanted). asks_connection w.what) asked) refl
+found_inquires variables p s number file asked id u at t e = by (list_any (λ (w : Wanted). asks_connection w.what) asked) refl
   where
     abouts : (looked : Option Looked) → about_unit p.core (Some number) file id u looked
         ≡ about_connected at.it.number file at.it.connection.name at.it.connection.modes looked (has_pending (holders s.book) (Some number) id)
@@ -124,54 +125,54 @@ found_inquires p s number file asked id u at t e = by (list_any (λ (w : Wanted)
     cells = inquired (about_connected at.it.number file at.it.connection.name at.it.connection.modes (Some (looked_at at.it.connection)) (has_pending (holders s.book) (Some number) id)) asked
 
     by : (b : Bool) → list_any (λ (w : Wanted). asks_connection w.what) asked ≡ b
-        → ActTied (acted p.desks (if b then awaits u.slot (look None) p.core (λ o. answers p.core (about_unit p.core (Some number) file id u (look_in o.0)) asked) else answers p.core (about_unit p.core (Some number) file id u None) asked))
-        (record s { vars = given_back cells s.vars }, Fine)
+        → ActTied (acted p.desks (if b then awaits u.slot (look None) p.core (λ o. answers variables p.core (about_unit p.core (Some number) file id u (look_in o.0)) asked) else answers variables p.core (about_unit p.core (Some number) file id u None) asked))
+        (record s { vars = given_back variables cells s.vars }, Fine)
     by true q =
         let job = serves_at p.desks u.slot (look None) (bay_of at.it) at.seen.bay in
-        subst (λ o. ActTied (acted (carry p.desks u.slot (look None)) (answers p.core (about_unit p.core (Some number) file id u (look_in o.0)) asked)) (record s { vars = given_back cells s.vars }, Fine)) (sym job.outcome_is) (
+        subst (λ o. ActTied (acted (carry p.desks u.slot (look None)) (answers variables p.core (about_unit p.core (Some number) file id u (look_in o.0)) asked)) (record s { vars = given_back variables cells s.vars }, Fine)) (sym job.outcome_is) (
           refl,
-          with_vars (record { core = p.core; desks = carry p.desks u.slot (look None) }) s (given_back (inquired (about_unit p.core (Some number) file id u (Some (looked_at at.it.connection))) asked) p.core.vars) (given_back cells s.vars)
-              (ap (λ a. given_back (inquired a asked) p.core.vars) (abouts (Some (looked_at at.it.connection))) ∙ ap (given_back cells) t.same.vars)
+          with_vars (record { core = p.core; desks = carry p.desks u.slot (look None) }) s (given_back variables (inquired (about_unit p.core (Some number) file id u (Some (looked_at at.it.connection))) asked) p.core.vars) (given_back variables cells s.vars)
+              (ap (λ a. given_back variables (inquired a asked) p.core.vars) (abouts (Some (looked_at at.it.connection))) ∙ ap (given_back variables cells) t.same.vars)
               (unit_stays p s number u (carry p.desks u.slot (look None)) (bay_of at.it) t e at.seen.bay job.reaches),
         )
     by false q = (
       refl,
-      with_vars p s (given_back (inquired (about_unit p.core (Some number) file id u None) asked) p.core.vars) (given_back cells s.vars)
-          (ap (λ a. given_back (inquired a asked) p.core.vars) (abouts None)
-          ∙ ap (λ l. given_back l p.core.vars) (all_less at.it.number file at.it.connection.name at.it.connection.modes (has_pending (holders s.book) (Some number) id) (looked_at at.it.connection) asked q)
-          ∙ ap (given_back cells) t.same.vars) t,
+      with_vars p s (given_back variables (inquired (about_unit p.core (Some number) file id u None) asked) p.core.vars) (given_back variables cells s.vars)
+          (ap (λ a. given_back variables (inquired a asked) p.core.vars) (abouts None)
+          ∙ ap (λ l. given_back variables l p.core.vars) (all_less at.it.number file at.it.connection.name at.it.connection.modes (has_pending (holders s.book) (Some number) id) (looked_at at.it.connection) asked q)
+          ∙ ap (given_back variables cells) t.same.vars) t,
     )
 
-none_inquires : (p : Desked) (s : State) (number : Option ℕ) (file : Option (List ℕ)) (asked : List Wanted) (id : Option ℤ) → Tied p s
-    → ActTied (acted p.desks (inquires p.core number file asked id None)) (record s { vars = given_back (inquired (meant.about s number file id None) asked) s.vars }, Fine)
-none_inquires p s number file asked id t = (
+none_inquires : (variables : List Variable) (p : Desked) (s : State) (number : Option ℕ) (file : Option (List ℕ)) (asked : List Wanted) (id : Option ℤ) → Tied p s
+    → ActTied (acted p.desks (inquires variables p.core number file asked id None)) (record s { vars = given_back variables (inquired (meant.about s number file id None) asked) s.vars }, Fine)
+none_inquires variables p s number file asked id t = (
   refl,
-  with_vars p s (given_back (inquired (about_other p.core.files file) asked) p.core.vars) (given_back (inquired (about_other s.files file) asked) s.vars)
-      (ap (λ f. given_back (inquired (about_other f file) asked) p.core.vars) t.same.files ∙ ap (given_back (inquired (about_other s.files file) asked)) t.same.vars) t,
+  with_vars p s (given_back variables (inquired (about_other p.core.files file) asked) p.core.vars) (given_back variables (inquired (about_other s.files file) asked) s.vars)
+      (ap (λ f. given_back variables (inquired (about_other f file) asked) p.core.vars) t.same.files ∙ ap (given_back variables (inquired (about_other s.files file) asked)) t.same.vars) t,
 )
 
-unit_inquires : (p : Desked) (s : State) (number : Option ℕ) (file : Option (List ℕ)) (asked : List Wanted) (id : Option ℤ) → Tied p s
-    → ActTied (acted p.desks (inquires p.core number file asked id (unit_at p.core number))) (record s { vars = given_back (inquired (meant.about s number file id (meant.unit_at s number)) asked) s.vars }, Fine)
-unit_inquires p s None file asked id t = none_inquires p s None file asked id t
-unit_inquires p s (Some number) file asked id t = by (connected_at p.core.units number) refl
+unit_inquires : (variables : List Variable) (p : Desked) (s : State) (number : Option ℕ) (file : Option (List ℕ)) (asked : List Wanted) (id : Option ℤ) → Tied p s
+    → ActTied (acted p.desks (inquires variables p.core number file asked id (unit_at p.core number))) (record s { vars = given_back variables (inquired (meant.about s number file id (meant.unit_at s number)) asked) s.vars }, Fine)
+unit_inquires variables p s None file asked id t = none_inquires variables p s None file asked id t
+unit_inquires variables p s (Some number) file asked id t = by (connected_at p.core.units number) refl
   where
     by : (o : Option Connected) → connected_at p.core.units number ≡ o
-        → ActTied (acted p.desks (inquires p.core (Some number) file asked id o)) (record s { vars = given_back (inquired (meant.about s (Some number) file id (found s.units number)) asked) s.vars }, Fine)
+        → ActTied (acted p.desks (inquires variables p.core (Some number) file asked id o)) (record s { vars = given_back variables (inquired (meant.about s (Some number) file id (found s.units number)) asked) s.vars }, Fine)
     by None e =
-        subst (λ o. ActTied (acted p.desks (inquires p.core (Some number) file asked id None)) (record s { vars = given_back (inquired (meant.about s (Some number) file id o) asked) s.vars }, Fine))
-        (sym (not_at_unit p.desks p.core.units s.units number t.same.units e).0) (none_inquires p s (Some number) file asked id t)
+        subst (λ o. ActTied (acted p.desks (inquires variables p.core (Some number) file asked id None)) (record s { vars = given_back variables (inquired (meant.about s (Some number) file id o) asked) s.vars }, Fine))
+        (sym (not_at_unit p.desks p.core.units s.units number t.same.units e).0) (none_inquires variables p s (Some number) file asked id t)
     by (Some u) e =
         let at = at_unit p.desks p.core.units s.units number u t.same.units e in
-        subst (λ o. ActTied (acted p.desks (inquires p.core (Some number) file asked id (Some u))) (record s { vars = given_back (inquired (meant.about s (Some number) file id o) asked) s.vars }, Fine))
-        (sym at.found_is) (found_inquires p s number file asked id u at t e)
+        subst (λ o. ActTied (acted p.desks (inquires variables p.core (Some number) file asked id (Some u))) (record s { vars = given_back variables (inquired (meant.about s (Some number) file id o) asked) s.vars }, Fine))
+        (sym at.found_is) (found_inquires variables p s number file asked id u at t e)
 
-pub inquires_tied : (p : Desked) (s : State) (about : Subject) (asked : List Wanted) (id : Option Operand) → Tied p s
-    → ActTied (acted p.desks (inquires p.core (unit_about (unit_named p.core.units) about) (file_asked about) asked (number_given p.core.vars id) (unit_at p.core (unit_about (unit_named p.core.units) about))))
-    (meant.inquires s (unit_about (unit_of_file s.units) about) (file_asked about) asked id)
-inquires_tied p s about asked id t =
-    subst (λ n. ActTied (acted p.desks (inquires p.core n (file_asked about) asked (number_given p.core.vars id) (unit_at p.core n))) (meant.inquires s (unit_about (unit_of_file s.units) about) (file_asked about) asked id)) (sym (asked_same about))
-    (subst (λ v. ActTied (acted p.desks (inquires p.core number (file_asked about) asked (number_given v id) (unit_at p.core number))) (meant.inquires s number (file_asked about) asked id)) (sym t.same.vars)
-    (unit_inquires p s number (file_asked about) asked (number_given s.vars id) t))
+pub inquires_tied : (variables : List Variable) (p : Desked) (s : State) (about : Subject) (asked : List Wanted) (id : Option Operand) → Tied p s
+    → ActTied (acted p.desks (inquires variables p.core (unit_about (unit_named p.core.units) about) (file_asked about) asked (number_given p.core.vars id) (unit_at p.core (unit_about (unit_named p.core.units) about))))
+    (meant.inquires variables s (unit_about (unit_of_file s.units) about) (file_asked about) asked id)
+inquires_tied variables p s about asked id t =
+    subst (λ n. ActTied (acted p.desks (inquires variables p.core n (file_asked about) asked (number_given p.core.vars id) (unit_at p.core n))) (meant.inquires variables s (unit_about (unit_of_file s.units) about) (file_asked about) asked id)) (sym (asked_same about))
+    (subst (λ v. ActTied (acted p.desks (inquires variables p.core number (file_asked about) asked (number_given v id) (unit_at p.core number))) (meant.inquires variables s number (file_asked about) asked id)) (sym t.same.vars)
+    (unit_inquires variables p s number (file_asked about) asked (number_given s.vars id) t))
   where
     number : Option ℕ
     number = unit_about (unit_of_file s.units) about

@@ -1,6 +1,7 @@
 -- The tells of a statement, and the halts that they end.
 use Rattle.std.proofs.Common.{◌≡◌, ℕ, ◌<◌, Bool, true, false, not, List, [], ◌∷◌, ◌++◌, map, Option, Some, None, slice_get, refl, sym, ap, ◌∙◌, subst}
 use Rattle.std.specs.Prelude.{if◌then◌else◌, filter}
+use Rattle.std.specs.Option.{option_map}
 use Rattle.fj_bay.specs.Jobs.{resume}
 use Rattle.fj_bay.specs.Serving.{serve}
 use Rattle.fj_statement.specs.declared.deck.Variable.{Variable}
@@ -8,7 +9,7 @@ use Rattle.fj_plain.specs.State.{State, Entry}
 use Rattle.fj_plain.specs.State as plain
 use Rattle.fj_plain.specs.Telling.{tells_cause, tells_id, tell_of, with_inputs, after_tells}
 use Rattle.fj_desk.specs.Core.{Pending, Connected}
-use Rattle.fj_desk.specs.Desks.{Desk, Outcome, carry, resumed, entry_of, entry_with, log_at, log_length}
+use Rattle.fj_desk.specs.Desks.{Desk, Brought, brought_by, carry, resumed, entry_of, entry_with, log_at, log_length}
 use Rattle.fj_desk.specs.Doing.{Desked}
 use Rattle.fj_desk.specs.Desking.{told_core}
 use Rattle.fj_desk.specs.Forgetting.{IsSeen, bay_at}
@@ -67,7 +68,7 @@ both_resumed told (u ∷ us) (v ∷ vs) desks h b = (
     first : IsSeen (resumed told us then_) u (record v { halt = if tells_cause told v.number then None else v.halt })
     first = record { number = here.number; name = here.name; modes = here.modes; bay = ap bay_at (resumed_other told us then_ u.slot h.0) ∙ here.bay }
 
-id_same : (e : Pending) (o : Option Outcome) → (entry_with e o).id ≡ e.id
+id_same : (e : Pending) (o : Option Brought) → (entry_with e o).id ≡ e.id
 id_same e None = refl
 id_same e (Some o) = refl
 
@@ -75,7 +76,7 @@ id_same e (Some o) = refl
 book_left : (desks : List Desk) (told : List Entry) (book : List Pending)
     → map (entry_of desks) (filter (λ (e : Pending). not (tells_id told e.id)) book) ≡ filter (λ (e : Entry). not (tells_id told e.id)) (map (entry_of desks) book)
 book_left desks told [] = refl
-book_left desks told (x ∷ xs) = by (tells_id told x.id) (tells_id told (entry_of desks x).id) (ap (tells_id told) (sym (id_same x (log_at (slice_get desks x.slot) x.number)))) (book_left desks told xs)
+book_left desks told (x ∷ xs) = by (tells_id told x.id) (tells_id told (entry_of desks x).id) (ap (tells_id told) (sym (id_same x (option_map brought_by (log_at (slice_get desks x.slot) x.number))))) (book_left desks told xs)
   where
     by : (a b : Bool) → a ≡ b → map (entry_of desks) (filter (λ (e : Pending). not (tells_id told e.id)) xs) ≡ filter (λ (e : Entry). not (tells_id told e.id)) (map (entry_of desks) xs)
         → map (entry_of desks) (if not a then x ∷ filter (λ (e : Pending). not (tells_id told e.id)) xs else filter (λ (e : Pending). not (tells_id told e.id)) xs)

@@ -130,7 +130,7 @@ module _ (control : ℕ → List Given) (variables : List Variable) (line : ℕ)
   own_tied p s (statement.CloseUnit u keep iostat) t free = closes_tied p s keep (number_of u) t free
   own_tied p s (statement.WaitFor u id iostat) t free = (refl, t)
   own_tied p s (statement.Move how u iostat) t free = moves_tied p s how (number_of u) t
-  own_tied p s (statement.Inquire about asked id iostat) t free = inquires_tied p s about asked id t
+  own_tied p s (statement.Inquire about asked id iostat) t free = inquires_tied variables p s about asked id t
   own_tied p s (statement.Transfer tr) t free = transfer_tied control variables line p s tr t (λ q n e. free q n (ap number_of e))
   own_tied p s statement.End t free = ends_tied p s Fine t free
 

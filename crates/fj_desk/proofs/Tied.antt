@@ -1,6 +1,7 @@
 -- What ties the execution over desks to what a deck means.
 use Rattle.std.proofs.Common.{◌≡◌, ℕ, ◌<◌, List, [], ◌∷◌, map, length, Option, Some, None, slice_get, refl, sym, ap, ◌∙◌, subst, inl, inr}
 use Rattle.std.specs.Prelude.{◌==◌, if◌then◌else◌}
+use Rattle.std.specs.Option.{option_map}
 use Rattle.std.proofs.lemmas.Bool.{eq-eqb, ne_eqb}
 use Rattle.std.proofs.lemmas.Bool.Decides.{eqb_tells}
 use Rattle.fj_value.specs.declared.condition.Condition.{Condition}
@@ -12,7 +13,7 @@ use Rattle.fj_plain.specs.Needs.{holders}
 use Rattle.fj_plain.specs.State.{State, Entry, with_unit, Output}
 use Rattle.fj_plain.specs.State as plain
 use Rattle.fj_desk.specs.Core.{Pending, Connected, connected_at, pending_holders}
-use Rattle.fj_desk.specs.Desks.{Desk, Outcome, entry_with, entry_of, log_at, log_length, most_slots}
+use Rattle.fj_desk.specs.Desks.{Desk, Brought, brought_by, entry_with, entry_of, log_at, log_length, most_slots}
 use Rattle.fj_desk.specs.Doing.{Desked}
 use Rattle.fj_desk.specs.Forgetting.{IsSeen, Same, bay_at}
 use Rattle.fj_desk.proofs.Apart.{Each, Apart, Differs, each_imp, map_same}
@@ -46,7 +47,7 @@ Free number vs = Each (λ (v : plain.Unit). v.number ≡ number → v.halt ≡ N
 -- ---- pending transfers
 
 entry_later : (desks behind : List Desk) (e : Pending) → log_at (slice_get behind e.slot) e.number ≡ log_at (slice_get desks e.slot) e.number → entry_of behind e ≡ entry_of desks e
-entry_later desks behind e k = ap (entry_with e) k
+entry_later desks behind e k = ap (λ o. entry_with e (option_map brought_by o)) k
 
 pub entries_later : (desks behind : List Desk) (book : List Pending) → Later desks behind → Placed desks book → map (entry_of behind) book ≡ map (entry_of desks) book
 entries_later desks behind book l h =
@@ -57,7 +58,7 @@ pub placed_later : (desks behind : List Desk) (book : List Pending) → Later de
 placed_later desks behind book l h =
     each_imp (λ (e : Pending). e.number < log_length (slice_get desks e.slot)) (λ (e : Pending). e.number < log_length (slice_get behind e.slot)) book (λ e k. l.grows e.slot e.number k) h
 
-holder_same : (e : Pending) (o : Option Outcome) → ◌≡◌ {A = Holder} (record { id = e.id; unit = e.unit; input = e.input; places = e.places })
+holder_same : (e : Pending) (o : Option Brought) → ◌≡◌ {A = Holder} (record { id = e.id; unit = e.unit; input = e.input; places = e.places })
     (record { id = (entry_with e o).id; unit = (entry_with e o).unit; input = (entry_with e o).input; places = (entry_with e o).places })
 holder_same e None = refl
 holder_same e (Some o) = refl
@@ -65,7 +66,7 @@ holder_same e (Some o) = refl
 holders_with : (desks : List Desk) (book : List Pending) → pending_holders book ≡ holders (map (entry_of desks) book)
 holders_with desks [] = refl
 holders_with desks (e ∷ es) =
-    ap (λ h. h ∷ pending_holders es) (holder_same e (log_at (slice_get desks e.slot) e.number))
+    ap (λ h. h ∷ pending_holders es) (holder_same e (option_map brought_by (log_at (slice_get desks e.slot) e.number)))
     ∙ ap (λ l. record { id = (entry_of desks e).id; unit = (entry_of desks e).unit; input = (entry_of desks e).input; places = (entry_of desks e).places } ∷ l) (holders_with desks es)
 
 pub holders_same : (p : Desked) (s : State) → Same p s → pending_holders p.core.book ≡ holders s.book

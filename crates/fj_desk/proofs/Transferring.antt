@@ -1,6 +1,7 @@
 -- READ and WRITE over desks.
 use Rattle.std.proofs.Common.{◌≡◌, ℕ, ◌+◌, ◌<◌, Bool, true, false, List, [], ◌∷◌, ◌++◌, Option, Some, None, slice_get, refl, sym, ap, ◌∙◌, subst}
 use Rattle.std.specs.Prelude.{if◌then◌else◌, pos}
+use Rattle.std.specs.Option.{option_map}
 use Rattle.std.proofs.lemmas.List.{map-append}
 use Rattle.fj_value.specs.declared.condition.Condition.{Condition}
 use Rattle.fj_value.specs.declared.condition.Condition.TheVariants.{Fine, EndOfFile, EndOfRecord, Error}
@@ -25,7 +26,7 @@ use Rattle.fj_plain.specs.Telling.{is_asynchronous}
 use Rattle.fj_plain.specs.Transfers as plainly
 use Rattle.fj_plain.specs.Transfers.{moved_in, spec_in, layout_of, refusal, without_values, with_cells, with_number, held_places, star_printed}
 use Rattle.fj_desk.specs.Core.{Core, Pending, Connected, connected_at}
-use Rattle.fj_desk.specs.Desks.{Desk, carry, outcome, entry_with, entry_of, log_length}
+use Rattle.fj_desk.specs.Desks.{Desk, carry, outcome, brought_by, entry_with, entry_of, log_length}
 use Rattle.fj_desk.specs.Doing.{Desked, acted, finishes, gives, awaits}
 use Rattle.fj_desk.specs.Acting.{moving_of, pending_of, with_items_out, with_pending, carried_out, refused, unless_refused, on_unit, on_star, transfer_at}
 use Rattle.fj_desk.specs.Forgetting.{bay_at}
@@ -62,7 +63,7 @@ module _ (control : ℕ → List Given) (variables : List Variable) (line : ℕ)
   -- ---- a pending transfer
 
   entry_is : (e : Pending) (mv : Moving) (h : Option Condition) (c : Connection) (d : Done)
-      → ◌≡◌ {A = Entry} (entry_with e (Some (move (with_done mv (unless_halted h c e.input mv.moved.cells d)), answer_in h (unless_halted h c e.input mv.moved.cells d).condition)))
+      → ◌≡◌ {A = Entry} (entry_with e (Some (brought_by (move (with_done mv (unless_halted h c e.input mv.moved.cells d)), answer_in h (unless_halted h c e.input mv.moved.cells d).condition))))
       (record { id = e.id; unit = e.unit; input = e.input; places = e.places; cells = if e.input then (unless_halted h c e.input mv.moved.cells d).cells else []; size = e.size; count = (unless_halted h c e.input mv.moved.cells d).count; condition = (unless_halted h c e.input mv.moved.cells d).condition })
   entry_is e mv None c d = refl
   entry_is e mv (Some cause) c d = refl
@@ -128,7 +129,7 @@ module _ (control : ℕ → List Given) (variables : List Variable) (line : ℕ)
 
       entry : entry_of behind (pending_of variables p.core t u number_of_job) ≡ plainly.entry_of variables s t at.it plain_d
       entry =
-          ap (entry_with (pending_of variables p.core t u number_of_job)) job.logged
+          ap (λ o. entry_with (pending_of variables p.core t u number_of_job) (option_map brought_by o)) job.logged
           ∙ entry_is (pending_of variables p.core t u number_of_job) mv at.it.halt at.it.connection (by_job p.core.vars t moved at.it.connection)
           ∙ ap (λ x. record { id = p.core.next; unit = u.number; input = t.input; places = held_places variables t; cells = if t.input then x.cells else []; size = t.size; count = x.count; condition = x.condition }) same_d
           ∙ ap (λ n. record { id = n; unit = u.number; input = t.input; places = held_places variables t; cells = if t.input then plain_d.cells else []; size = t.size; count = plain_d.count; condition = plain_d.condition }) ties.same.next

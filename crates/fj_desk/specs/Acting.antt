@@ -26,8 +26,8 @@ use Rattle.fj_statement.specs.declared.statement.Statement.TheVariants as statem
 use Rattle.fj_statement.specs.declared.statement.Transfer.{Transfer}
 use Rattle.fj_bay.specs.Halt.{halts}
 use Rattle.fj_bay.specs.Jobs.{items_for, Moving, Looked, Job, attach, detach, move, go, change, flush, look, resume}
-use Rattle.fj_store.specs.Variables.{Variables, given_back, moved_of}
-use Rattle.fj_plain.specs.Items.{cell_at, operand_places, value_of}
+use Rattle.fj_store.specs.Variables.{Variables, moved_of}
+use Rattle.fj_plain.specs.Items.{given_back, cell_at, operand_places, value_of}
 use Rattle.fj_plain.specs.Needs.{number_of, number_given, unit_about}
 use Rattle.fj_plain.specs.State.{Files, with_file, without_file}
 use Rattle.fj_plain.specs.Telling.{is_asynchronous}
@@ -212,18 +212,18 @@ asks_connection question.Pos = true
 asks_connection question.Size = true
 asks_connection _ = false
 
-abbrev pub answers : Core → About → List Wanted → Doing
-answers core about asked = finishes (record core { vars = given_back (inquired about asked) core.vars }) Fine
+abbrev pub answers : List Variable → Core → About → List Wanted → Doing
+answers variables core about asked = finishes (record core { vars = given_back variables (inquired about asked) core.vars }) Fine
 
 abbrev pub about_unit : Core → Option ℕ → Option (List ℕ) → Option ℤ → Connected → Option Looked → About
 about_unit core number file id u looked = about_connected u.number file u.name u.modes looked (has_pending (pending_holders core.book) number id)
 
-abbrev pub inquires : Core → Option ℕ → Option (List ℕ) → List Wanted → Option ℤ → Option Connected → Doing
-inquires core number file asked id None = answers core (about_other core.files file) asked
-inquires core number file asked id (Some u) =
+abbrev pub inquires : List Variable → Core → Option ℕ → Option (List ℕ) → List Wanted → Option ℤ → Option Connected → Doing
+inquires variables core number file asked id None = answers variables core (about_other core.files file) asked
+inquires variables core number file asked id (Some u) =
     if list_any (λ (w : Wanted). asks_connection w.what) asked
-    then awaits u.slot (look None) core (λ o. answers core (about_unit core number file id u (look_in o.0)) asked)
-    else answers core (about_unit core number file id u None) asked
+    then awaits u.slot (look None) core (λ o. answers variables core (about_unit core number file id u (look_in o.0)) asked)
+    else answers variables core (about_unit core number file id u None) asked
 
 -- ---- each kind of statement
 
@@ -242,7 +242,7 @@ own control variables line core (statement.CloseUnit u keep iostat) = closes cor
 own control variables line core (statement.WaitFor u id iostat) = finishes core Fine
 own control variables line core (statement.Move how u iostat) = moves core how (unit_at core (number_of u))
 own control variables line core (statement.Inquire subject asked id iostat) =
-    let number = unit_about (unit_named core.units) subject in inquires core number (file_asked subject) asked (number_given core.vars id) (unit_at core number)
+    let number = unit_about (unit_named core.units) subject in inquires variables core number (file_asked subject) asked (number_given core.vars id) (unit_at core number)
 own control variables line core (statement.Transfer t) = transfer_at control variables line core t (moved_in variables core.vars t) t.unit
 own control variables line core statement.End = all_closed core.units core Fine
 

@@ -1,5 +1,5 @@
 -- Desks: a bay at each slot, with the log of the jobs that it was given.
-use Rattle.std.specs.Prelude.{ℕ, List, [], ◌∷◌, ◌++◌, length, replicate, Option, Some, None, slice_get, slice_set, if◌then◌else◌}
+use Rattle.std.specs.Prelude.{ℕ, List, [], ◌∷◌, ◌++◌, length, replicate, Option, Some, None, option_map, slice_get, slice_set, if◌then◌else◌}
 use Rattle.fj_value.specs.declared.condition.Condition.{Condition}
 use Rattle.fj_value.specs.declared.condition.Condition.TheVariants.{Fine, Error}
 use Rattle.fj_value.specs.declared.value.Cell.{Cell}
@@ -72,22 +72,31 @@ abbrev pub condition_in : Answer → Condition
 condition_in (done condition) = condition
 condition_in (skipped cause) = cause
 
--- a pending transfer with what became of it
-abbrev pub entry_with : Pending → Option Outcome → Entry
+-- what the job of a transfer brought: the values of its items, a count of characters, and its condition
+pub record Brought : Type 0 where
+  pub cells : List Cell
+  pub count : Option ℕ
+  pub condition : Condition
+
+abbrev pub brought_by : Outcome → Brought
+brought_by o = record { cells = cells_in o.0; count = count_in o.0; condition = condition_in o.1 }
+
+-- a pending transfer with what its job brought
+abbrev pub entry_with : Pending → Option Brought → Entry
 entry_with e None = record { id = e.id; unit = e.unit; input = e.input; places = e.places; cells = []; size = e.size; count = None; condition = Fine }
-entry_with e (Some o) = record {
+entry_with e (Some b) = record {
   id = e.id;
   unit = e.unit;
   input = e.input;
   places = e.places;
-  cells = if e.input then cells_in o.0 else [];
+  cells = if e.input then b.cells else [];
   size = e.size;
-  count = count_in o.0;
-  condition = condition_in o.1;
+  count = b.count;
+  condition = b.condition;
 }
 
 abbrev pub entry_of : List Desk → Pending → Entry
-entry_of desks e = entry_with e (log_at (slice_get desks e.slot) e.number)
+entry_of desks e = entry_with e (option_map brought_by (log_at (slice_get desks e.slot) e.number))
 
 -- ---- halts that end: the condition was told
 

@@ -4,7 +4,7 @@ use Rattle.std.specs.List.{position_or_len, flat_map}
 use Rattle.std.proofs.lemmas.Bool.Decides.{eqb_tells, nat_tests}
 use Rattle.std.proofs.lemmas.List.{map-append}
 use Rattle.std.proofs.lemmas.List.Folds.{position_or_len_push, prefix_len-append}
-use Rattle.std.proofs.lemmas.List.Elements.{All-nil, All-cons, All-head, All-tail, All-append, All-push}
+use Rattle.std.proofs.lemmas.List.Elements.{All-nil, All-push}
 use Rattle.fj_value.specs.declared.place.Place.{Place}
 use Rattle.fj_value.specs.declared.value.Cell.{Cell}
 use Rattle.fj_list.specs.Moved.{IsOrdered}
@@ -73,24 +73,6 @@ pub items_counted : (cells : List Cell) → IsCounted (moved_of cells) (length c
 items_counted cells =
     let e : 0 + length cells ≡ length cells = omega arith in
     subst (IsCounted (moved_of cells)) e (counted cells (record { cells = []; order = [] }) 0 (record { ordered = All-nil (λ k. k < 0); items = refl; cells = omega arith }))
-
--- ---- what holds of all
-
-all_added : (P : Cell → Type 0) (more : List Cell) (c : Cell) → (more ≡ []) ⊎ (more ≡ c ∷ []) → P c → All P more
-all_added P more c is p = elim is [
-  | inl none ↦ subst (All P) (sym none) (All-nil P)
-  | inr one ↦ subst (All P) (sym one) (All-cons P c [] p (All-nil P))
-]
-
-all_from : (P : Cell → Type 0) (cells : List Cell) (m : Moved) → All P m.cells → All P cells → All P (moved_from m cells).cells
-all_from P [] m old h = old
-all_from P (c ∷ cells) m old h =
-    let a : Adds m (with_item m c) c = adds m c in
-    let next : All P (with_item m c).cells = subst (All P) (sym a.cells) (All-append P m.cells a.more old (all_added P a.more c a.is (All-head P c cells h))) in
-    all_from P cells (with_item m c) next (All-tail P c cells h)
-
-pub all_moved : (P : Cell → Type 0) (cells : List Cell) → All P cells → All P (moved_of cells).cells
-all_moved P cells h = all_from P cells (record { cells = []; order = [] }) (All-nil P) h
 
 -- ---- where the cells of a variable stand
 

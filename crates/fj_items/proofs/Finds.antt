@@ -1,5 +1,5 @@
 -- What a transfer finds is enough for it.
-use Rattle.std.proofs.Common.{◌≡◌, ℕ, ◌+◌, ◌<◌, ◌≤◌, ◌^◌, Bool, true, false, List, [], ◌∷◌, ◌++◌, length, map, take, get_or, Option, Some, None, Result, Ok, Err, IfOk, OnOk, All, slice_get, sum_by, refl, sym, ap, subst, ◌∙◌, arith, append_assoc, length-append}
+use Rattle.std.proofs.Common.{◌≡◌, ℕ, ◌+◌, ◌<◌, ◌≤◌, ◌^◌, Bool, true, List, [], ◌∷◌, ◌++◌, length, map, take, get_or, Option, Some, None, Result, Ok, Err, IfOk, OnOk, All, slice_get, sum_by, refl, sym, ap, subst, ◌∙◌, arith, append_assoc, length-append}
 use Rattle.std.specs.Option.{option_map, option_map_or}
 use Rattle.std.specs.List.{flat_map}
 use Rattle.std.proofs.lemmas.List.{length-map, map-append, take_more}
@@ -31,16 +31,15 @@ use Rattle.fj_store.proofs.LawLemmas.{all_distinct}
 use Rattle.fj_store.proofs.PlaceLemmas.{length-counted_from}
 use Rattle.fj_store.proofs.StoreLemmas.{whole}
 use Rattle.fj_plain.specs.Items as plain
-use Rattle.fj_plain.specs.Items.{operand_places, places_of}
+use Rattle.fj_plain.specs.Items.{places_of}
 use Rattle.fj_plain.specs.Needs.{group_places, if_given}
 use Rattle.fj_plain.specs.State.{Output, elements}
 use Rattle.fj_plain.specs.Transfers.{member_of, members_of, layout_of, moved_in, printed_to}
-use Rattle.fj_items.specs.Fitting.{Finds}
 use Rattle.fj_items.specs.Gathering.{IsGathered, IsNumbered, all_items, members_in, count_of}
 use Rattle.fj_items.specs.declared.gathering.Gathered.{Gathered}
 use Rattle.fj_items.specs.declared.lost.Lost.{Lost}
 use Rattle.fj_items.proofs.Cells.{IsCounted, items_counted, HasRun, runs_of}
-use Rattle.fj_items.proofs.Fits.{items_few, output_defined}
+use Rattle.fj_items.proofs.Fits.{items_few}
 use Rattle.fj_items.proofs.Limits.{open_low}
 use Rattle.fj_items.proofs.Parts.{runs_are}
 
@@ -169,9 +168,6 @@ pub layout_grouped : (vs : List Variable) (c : Control) (cells : List Cell) (lay
 layout_grouped vs c cells layout n count made h =
     let P : ℕ → Layout → Type 0 = λ k l. All (IsWithin k) (moving.members_of l) in
     subst (λ k. P k layout) (sym count) (subst (P (length cells)) (sym made) h)
-
-pub has_values : (vs : List Variable) (vars : Variables) (t : Transfer) (moved : Moved) → IsTransfer vs t → Finds vs vars t → moved ≡ moved_in vs vars t → t.input ≡ false → moving.HasValues moved
-has_values vs vars t moved is finds made writes = subst moving.HasValues (sym made) (output_defined vs vars t is (finds.defined writes))
 
 -- ---- the record that stays open on `*`
 

@@ -1,14 +1,10 @@
 -- What is given fits.
-use Rattle.std.proofs.Common.{◌≡◌, ℕ, ◌+◌, ◌<◌, ◌≤◌, ◌^◌, eqb, cond, false, List, [], ◌∷◌, ◌++◌, length, map, All, Option, Some, None, slice_get, sum_by, refl, sym, ap, subst, ◌∙◌, inl, inr, arith, length-append}
+use Rattle.std.proofs.Common.{◌≡◌, ℕ, ◌+◌, ◌<◌, ◌≤◌, ◌^◌, eqb, cond, false, List, [], ◌∷◌, length, Option, Some, None, slice_get, sum_by, refl, sym, ap, subst, ◌∙◌, inl, inr, arith, length-append}
 use Rattle.std.specs.Option.{option_map_or}
 use Rattle.std.specs.List.{flat_map}
 use Rattle.std.proofs.lemmas.Bool.Decides.{eqb_tells, nat_tests}
-use Rattle.std.proofs.lemmas.List.Elements.{All-nil, All-cons, All-head, All-tail, All-append}
 use Rattle.std.proofs.lemmas.List.Sums.{sum_by-cons}
-use Rattle.fj_value.specs.Kind.{IsOfKind}
 use Rattle.fj_value.specs.declared.kind.Kind.{Kind}
-use Rattle.fj_value.specs.declared.place.Place.{Place}
-use Rattle.fj_value.specs.declared.value.Cell.{Cell}
 use Rattle.fj_statement.specs.Sound.{IsArray, IsOperand, AreItems, AreMembers, IsList, HasNoItems, IsTransfer, members_of, places_at, places_of as places_in}
 use Rattle.fj_statement.specs.declared.deck.Variable.{Variable}
 use Rattle.fj_statement.specs.declared.statement.Operand.{Operand}
@@ -16,16 +12,10 @@ use Rattle.fj_statement.specs.declared.statement.Operand.TheVariants as operand
 use Rattle.fj_statement.specs.declared.statement.Control.{Control}
 use Rattle.fj_statement.specs.declared.statement.Control.TheVariants as control
 use Rattle.fj_statement.specs.declared.statement.Transfer.{Transfer}
-use Rattle.fj_store.specs.Variables.{Variables, value_at}
 use Rattle.fj_store.proofs.PlaceLemmas.{length-counted_from}
-use Rattle.fj_store.specs.Variables.{moved_of}
-use Rattle.fj_items.proofs.Cells.{all_moved}
 use Rattle.fj_plain.specs.State.{elements}
-use Rattle.fj_plain.specs.Items.{kind_of, places_of, operand_places, cell_at, cells_from}
-use Rattle.fj_plain.specs.Needs.{group_places, transfer_places}
-use Rattle.fj_store.specs.Variables.{moved_of}
-use Rattle.fj_items.proofs.Cells.{all_moved}
-use Rattle.fj_items.specs.Fitting.{AreDefined}
+use Rattle.fj_plain.specs.Items.{places_of}
+use Rattle.fj_plain.specs.Needs.{group_places}
 use Rattle.fj_items.specs.Gathering.{count_of}
 
 -- ---- how many items there are
@@ -82,51 +72,3 @@ few_by vs items (control.Group name vars) none h are =
 
 pub items_few : (vs : List Variable) (t : Transfer) → IsTransfer vs t → sum_by (count_of vs) t.items + length (group_places vs t.control) < 2 ^ 32
 items_few vs t h = few_by vs t.items t.control h.allowed.group_excludes_items h.items h.members
-
--- ---- parts of a list
-
-pub all_front : {A : Type 0} → (P : A → Type 0) (xs ys : List A) → All P (xs ++ ys) → All P xs
-all_front {A} P [] ys h = All-nil P
-all_front {A} P (x ∷ xs) ys h = All-cons P x xs (All-head P x (xs ++ ys) h) (all_front P xs ys (All-tail P x (xs ++ ys) h))
-
-pub all_rest : {A : Type 0} → (P : A → Type 0) (xs ys : List A) → All P (xs ++ ys) → All P ys
-all_rest {A} P [] ys h = h
-all_rest {A} P (x ∷ xs) ys h = all_rest P xs ys (All-tail P x (xs ++ ys) h)
-
--- ---- the values of an output
-
-abbrev HasValue : Cell → Type 0
-HasValue cell = IsOfKind cell.kind cell.value
-
-places_defined : (vs : List Variable) (vars : Variables) (places : List Place) → AreDefined vs vars places → All HasValue (map (cell_at vs vars) places)
-places_defined vs vars [] h = All-nil HasValue
-places_defined vs vars (p ∷ places) h =
-    let P : Place → Type 0 = λ (q : Place). IsOfKind (kind_of vs q.var) (value_at vars q) in
-    All-cons HasValue (cell_at vs vars p) (map (cell_at vs vars) places) (All-head P p places h) (places_defined vs vars places (All-tail P p places h))
-
-more_defined : (vs : List Variable) (vars : Variables) (ps qs : List Place) (rest : List Cell) → AreDefined vs vars (ps ++ qs) → (AreDefined vs vars qs → All HasValue rest) → All HasValue (map (cell_at vs vars) ps ++ rest)
-more_defined vs vars ps qs rest h next =
-    let P : Place → Type 0 = λ (q : Place). IsOfKind (kind_of vs q.var) (value_at vars q) in
-    All-append HasValue (map (cell_at vs vars) ps) rest (places_defined vs vars ps (all_front P ps qs h)) (next (all_rest P ps qs h))
-
-cells_defined : (vs : List Variable) (vars : Variables) (n : ℕ) (items : List Operand) (shapes : List (Kind × ℕ)) → AreItems vs items shapes → AreDefined vs vars (flat_map (operand_places vs) items) → All HasValue (cells_from vs vars n items)
-cells_defined vs vars n [] shapes h defined = All-nil HasValue
-cells_defined vs vars n (o ∷ items) [] h defined = absurd h
-cells_defined vs vars n (operand.Literal k v ∷ items) (s ∷ shapes) h defined =
-    let c : Cell = record { place = record { var = 4294967295; index = n }; kind = k; value = v } in
-    All-cons HasValue c (cells_from vs vars (n + 1) items) h.0.1 (cells_defined vs vars (n + 1) items shapes h.1 defined)
-cells_defined vs vars n (operand.One p ∷ items) (s ∷ shapes) h defined =
-    more_defined vs vars (p ∷ []) (flat_map (operand_places vs) items) (cells_from vs vars n items) defined (cells_defined vs vars n items shapes h.1)
-cells_defined vs vars n (operand.Whole var ∷ items) (s ∷ shapes) h defined =
-    more_defined vs vars (places_of vs var) (flat_map (operand_places vs) items) (cells_from vs vars n items) defined (cells_defined vs vars n items shapes h.1)
-
--- the cells of an output have values of their kinds
-pub output_defined : (vs : List Variable) (vars : Variables) (t : Transfer) → IsTransfer vs t → AreDefined vs vars (transfer_places vs t)
-    → All HasValue (moved_of (cells_from vs vars 1 t.items ++ map (cell_at vs vars) (group_places vs t.control))).cells
-output_defined vs vars t h defined =
-    let P : Place → Type 0 = λ (q : Place). IsOfKind (kind_of vs q.var) (value_at vars q) in
-    let items : List Place = flat_map (operand_places vs) t.items in
-    let group : List Place = group_places vs t.control in
-    all_moved HasValue (cells_from vs vars 1 t.items ++ map (cell_at vs vars) group)
-    (All-append HasValue (cells_from vs vars 1 t.items) (map (cell_at vs vars) group)
-    (cells_defined vs vars 1 t.items h.items.shapes h.items.are (all_front P items group defined)) (places_defined vs vars group (all_rest P items group defined)))

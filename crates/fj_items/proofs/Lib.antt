@@ -3,7 +3,6 @@ pub mod Ends
 pub mod Finds
 pub mod Fits
 pub mod Gathers
-pub mod Keeps
 pub mod Limits
 pub mod Parts
 pub mod Prints

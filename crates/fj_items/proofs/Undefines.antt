@@ -20,13 +20,13 @@ use Rattle.fj_plain.specs.Needs.{group_places}
 use Rattle.fj_plain.specs.Telling.{with_size}
 use Rattle.fj_plain.specs.Transfers.{moved_in, without_values}
 use Rattle.fj_items.proofs.Takes.{once_undefined}
-use Rattle.fj_items.proofs.Values.{shown, undefined_fits, places_left, no_places_left}
+use Rattle.fj_items.proofs.Values.{shown, stays_undefined, places_left, no_places_left}
 
 pub place_undefined : (s new : Storage) (p : Place) → new ≡ with_value s p Undefined → values_of new ≡ plain.with_value (values_of s) p Undefined
 place_undefined s new p put =
     ap values_of put
     ∙ mapped_with shown s.values p _
-    ∙ ap (λ x. with_element (values_of s) p x) (undefined_fits (kind_at s.kinds p.var))
+    ∙ ap (λ x. with_element (values_of s) p x) (stays_undefined (kind_at s.kinds p.var))
 
 -- of a variable, the places from one on
 pub variable_step : (variables : List Variable) (values s next start : Variables) (more : List Cell) (var i n : ℕ) → i < n → next ≡ plain.with_value s (record { var = var; index = i + 1 }) Undefined

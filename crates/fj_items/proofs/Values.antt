@@ -1,7 +1,6 @@
 -- The variables of a store as plain ones.
-use Rattle.std.proofs.Common.{◌≡◌, ℕ, zero, suc, ◌+◌, ◌-◌, ◌<◌, ◌≤◌, cond, Bool, true, false, List, [], ◌∷◌, ◌++◌, length, map, take, replicate, Option, Some, None, All, unwrap_or, slice_get, refl, sym, ap, ◌∙◌, arith}
+use Rattle.std.proofs.Common.{◌≡◌, ℕ, zero, suc, ◌+◌, ◌-◌, ◌<◌, ◌≤◌, cond, Bool, true, false, List, [], ◌∷◌, ◌++◌, length, map, take, replicate, Option, Some, None, unwrap_or, slice_get, refl, sym, ap, ◌∙◌, arith}
 use Rattle.std.proofs.lemmas.Option.{slice_get-map}
-use Rattle.std.proofs.lemmas.List.Elements.{All-head, All-tail}
 use Rattle.std.specs.Option.{option_map, option_map_or, option_flatten}
 use Rattle.fj_value.specs.declared.kind.Kind.{Kind}
 use Rattle.fj_value.specs.declared.kind.Kind.TheVariants.{Logical}
@@ -10,6 +9,7 @@ use Rattle.fj_value.specs.declared.value.Cell.{Cell}
 use Rattle.fj_value.specs.declared.value.Value.{Value}
 use Rattle.fj_value.specs.declared.value.Value.TheVariants.{Undefined}
 use Rattle.fj_value.specs.Reading.{assigned_text}
+use Rattle.fj_list.specs.declared.moved.Moved.{Moved}
 use Rattle.fj_statement.specs.declared.deck.Variable.{Variable}
 use Rattle.fj_store.specs.Kinds.{kind_at, is_of_kind, of_kind}
 use Rattle.fj_store.specs.Tables.{element_at, with_element, with_cells}
@@ -17,8 +17,9 @@ use Rattle.fj_store.specs.Places.{counted_from}
 use Rattle.fj_store.specs.Storage.{Storage, value_at, with_value, returned, given_back, values_of}
 use Rattle.fj_store.specs.Variables as plain
 use Rattle.fj_store.proofs.TableLemmas.{mapped_at, mapped_with}
-use Rattle.fj_plain.specs.Items.{kind_of}
-use Rattle.fj_items.specs.Kinds.{kinds_of, Fits, CellFits}
+use Rattle.fj_plain.specs.Items.{kind_of, value_for}
+use Rattle.fj_plain.specs.Items as items
+use Rattle.fj_items.specs.Kinds.{kinds_of}
 
 -- ---- kinds
 
@@ -36,11 +37,19 @@ same_both : (b : Bool) (v : Value) → cond b v v ≡ v
 same_both true v = refl
 same_both false v = refl
 
-pub undefined_fits : (kind : Kind) → Fits kind Undefined
-undefined_fits kind = same_both (is_of_kind kind Undefined) Undefined
+-- every variable may be undefined
+pub stays_undefined : (kind : Kind) → of_kind kind Undefined ≡ Undefined
+stays_undefined kind = same_both (is_of_kind kind Undefined) Undefined
 
-pub true_fits : (kind : Kind) (v : Value) → is_of_kind kind v ≡ true → Fits kind v
-true_fits kind v e = ap (λ b. cond b v Undefined) e
+pub stays : (kind : Kind) (v : Value) → is_of_kind kind v ≡ true → of_kind kind v ≡ v
+stays kind v e = ap (λ b. cond b v Undefined) e
+
+-- a value of a kind is one
+pub stays_of_kind : (kind : Kind) (v : Value) → of_kind kind (of_kind kind v) ≡ of_kind kind v
+stays_of_kind kind v =
+    let go : (b : Bool) → is_of_kind kind v ≡ b → of_kind kind (cond b v Undefined) ≡ cond b v Undefined =
+    λ b. elim b as (λ z. is_of_kind kind v ≡ z → of_kind kind (cond z v Undefined) ≡ cond z v Undefined) [ true ↦ λ e. stays kind v e | false ↦ λ e. stays_undefined kind ] in
+    go (is_of_kind kind v) refl
 
 -- ---- a place gets a value
 
@@ -56,30 +65,41 @@ flat_shown (Some (Some v)) = refl
 pub read_is : (s : Storage) (p : Place) → plain.value_at (values_of s) p ≡ shown (value_at s p)
 read_is s p = ap (λ o. unwrap_or o Undefined) (mapped_at shown s.values p) ∙ flat_shown (element_at s.values p)
 
-pub set_is : (variables : List Variable) (s new : Storage) (p : Place) (v : Value) → s.kinds ≡ kinds_of variables → Fits (kind_of variables p.var) v → new ≡ with_value s p v
-    → values_of new ≡ plain.with_value (values_of s) p v
-set_is variables s new p v kinds fits put =
+pub set_is : (variables : List Variable) (s new : Storage) (p : Place) (v : Value) → s.kinds ≡ kinds_of variables → new ≡ with_value s p v
+    → values_of new ≡ plain.with_value (values_of s) p (of_kind (kind_of variables p.var) v)
+set_is variables s new p v kinds put =
     ap values_of put
     ∙ mapped_with shown s.values p (Some (of_kind (kind_at s.kinds p.var) v))
-    ∙ ap (λ x. with_element (values_of s) p x) (ap (λ k. of_kind k v) (kind_is variables s.kinds p.var kinds) ∙ fits)
+    ∙ ap (λ k. with_element (values_of s) p (of_kind k v)) (kind_is variables s.kinds p.var kinds)
 
 pub kinds_stay : (s new : Storage) (p : Place) (v : Value) → new ≡ with_value s p v → new.kinds ≡ s.kinds
 kinds_stay s new p v put = ap (λ z. z.kinds) put
 
 -- ---- cells come back
 
-back_rows : (variables : List Variable) (kinds : List Kind) (cells : List Cell) (rows : List (List (Option Value))) → kinds ≡ kinds_of variables → All (CellFits variables) cells
-    → map (map shown) (with_cells (returned kinds) cells rows) ≡ with_cells (λ (cell : Cell). cell.value) cells (map (map shown) rows)
-back_rows variables kinds [] rows same fit = refl
-back_rows variables kinds (c ∷ cells) rows same fit =
-    back_rows variables kinds cells (with_element rows c.place (returned kinds c)) same (All-tail (CellFits variables) c cells fit)
-    ∙ ap (with_cells (λ (cell : Cell). cell.value) cells) (
+back_rows : (variables : List Variable) (kinds : List Kind) (cells : List Cell) (rows : List (List (Option Value))) → kinds ≡ kinds_of variables
+    → map (map shown) (with_cells (returned kinds) cells rows) ≡ with_cells (value_for variables) cells (map (map shown) rows)
+back_rows variables kinds [] rows same = refl
+back_rows variables kinds (c ∷ cells) rows same =
+    back_rows variables kinds cells (with_element rows c.place (returned kinds c)) same
+    ∙ ap (with_cells (value_for variables) cells) (
     mapped_with shown rows c.place (returned kinds c)
-    ∙ ap (λ x. with_element (map (map shown) rows) c.place x) (ap (λ k. of_kind k c.value) (kind_is variables kinds c.place.var same) ∙ All-head (CellFits variables) c cells fit))
+    ∙ ap (λ k. with_element (map (map shown) rows) c.place (of_kind k c.value)) (kind_is variables kinds c.place.var same))
 
-pub back_is : (variables : List Variable) (s new : Storage) (cells : List Cell) → s.kinds ≡ kinds_of variables → All (CellFits variables) cells → new ≡ given_back cells s
-    → values_of new ≡ plain.given_back cells (values_of s)
-back_is variables s new cells kinds fit back = ap values_of back ∙ back_rows variables s.kinds cells s.values kinds fit
+pub back_is : (variables : List Variable) (s new : Storage) (cells : List Cell) → s.kinds ≡ kinds_of variables → new ≡ given_back cells s
+    → values_of new ≡ items.given_back variables cells (values_of s)
+back_is variables s new cells kinds back = ap values_of back ∙ back_rows variables s.kinds cells s.values kinds
+
+-- what a transfer moved, where it came back
+abbrev pub cells_in : Option Moved → List Cell
+cells_in moved = option_map_or (λ (m : Moved). m.cells) moved []
+
+pub load_back : (variables : List Variable) (s new : Storage) (o : Option Moved) (moved : Moved) → o ≡ Some moved → s.kinds ≡ kinds_of variables → new ≡ given_back moved.cells s
+    → values_of new ≡ items.given_back variables (cells_in o) (values_of s)
+load_back variables s new o moved e kinds back = back_is variables s new moved.cells kinds back ∙ sym (ap (λ x. items.given_back variables (cells_in x) (values_of s)) e)
+
+pub none_back : (variables : List Variable) (vars : plain.Variables) (o : Option Moved) → o ≡ None → vars ≡ items.given_back variables (cells_in o) vars
+none_back variables vars o e = sym (ap (λ x. items.given_back variables (cells_in x) vars) e)
 
 pub back_kinds : (s new : Storage) (cells : List Cell) → new ≡ given_back cells s → new.kinds ≡ s.kinds
 back_kinds s new cells back = ap (λ z. z.kinds) back

@@ -1,4 +1,3 @@
-pub mod Fitting
 pub mod Gathering
 pub mod Handing
 pub mod Kinds

@@ -1,18 +1,15 @@
 // Assignment (ISO/IEC 1539-1:2004, 7.4.1.3).
-ghost use Rattle.std.specs.Prelude.{◌≡◌, ◌≢◌, ◌++◌, take, replicate, Err, OnOk, IfOk};
+ghost use Rattle.std.specs.Prelude.{◌≡◌, ◌++◌, take, replicate, OnOk, IfOk};
 ghost use Rattle.std.specs.Option.{option_map_or};
 ghost use Rattle.std.specs.List.{slice_get};
 ghost use Rattle.fj_plain.specs.Items.{kind_of, operand_places, places_of, value_of};
 ghost use Rattle.fj_plain.specs.State.{elements};
 ghost use Rattle.fj_plain.specs.Statement.{converted, assigned};
-ghost use Rattle.fj_statement.specs.Sound.{IsAssignment};
+ghost use Rattle.fj_store.specs.Kinds.{of_kind};
 ghost use Rattle.fj_store.specs.Storage.{values_of};
 ghost use Rattle.fj_store.specs.Variables.{with_value};
-ghost use Rattle.fj_items.specs.Fitting.{HaveKinds, AreKept};
-ghost use Rattle.fj_items.specs.Kinds.{kinds_of, Fits};
+ghost use Rattle.fj_items.specs.Kinds.{kinds_of};
 
-use crate::giving::fits;
-use crate::lost::Lost;
 use crate::number::kind_of;
 use fj_statement::{Operand, Variable, Variables};
 use fj_store::Store;
@@ -62,9 +59,9 @@ fn cut(alloc: Global, length: u32, chars: &[u8]) -> Result<Value, AllocError>
     Value::of_text(text)
 }
 
-/// A value as a variable of a kind gets it.
+/// A value that is to become that of a variable of a kind: characters have its length.
 fn converted(alloc: Global, kind: Kind, value: &Value) -> Result<Value, AllocError>
-    ensures { IfOk result (λ new. new ≡ converted kind value.now) }
+    ensures { IfOk result (λ new. of_kind kind new ≡ converted kind value.now) }
 {
     match (kind, value) {
         (Kind::Chars(length), Value::Chars(text)) => cut(alloc, length, text.bytes()),
@@ -79,19 +76,13 @@ fn assign_place(
     store: &mut Store,
     place: Place,
     value: &Value,
-) -> Result<(), Lost>
+) -> Result<(), AllocError>
     requires { store.old.kinds ≡ kinds_of variables.now }
     ensures vars { OnOk result (values_of store.new ≡ with_value (values_of store.old) place (converted (kind_of variables.now place.var) value.now)) }
     ensures kinds { store.new.kinds ≡ store.old.kinds }
-    ensures keeps { AreKept variables.now (values_of store.old) → OnOk result (AreKept variables.now (values_of store.new)) }
-    ensures fits { Fits (kind_of variables.now place.var) (converted (kind_of variables.now place.var) value.now) → result ≢ Err Lost.Unfit }
-    ensures causes { (result ≢ Err Lost.Disk) × (result ≢ Err Lost.Sink) }
 {
     let kind = kind_of(variables, place.var);
     let new = converted(alloc, kind, value)?;
-    if !fits(kind, &new) {
-        return Err(Lost::Unfit);
-    }
     store.set(place, new);
     Ok(())
 }
@@ -103,13 +94,10 @@ fn assign_array(
     store: &mut Store,
     var: u32,
     value: &Value,
-) -> Result<(), Lost>
+) -> Result<(), AllocError>
     requires { store.old.kinds ≡ kinds_of variables.now }
     ensures vars { OnOk result (values_of store.new ≡ assigned variables.now (places_of variables.now var) value.now (values_of store.old)) }
     ensures kinds { store.new.kinds ≡ store.old.kinds }
-    ensures keeps { AreKept variables.now (values_of store.old) → OnOk result (AreKept variables.now (values_of store.new)) }
-    ensures fits { Fits (kind_of variables.now var) (converted (kind_of variables.now var) value.now) → result ≢ Err Lost.Unfit }
-    ensures causes { (result ≢ Err Lost.Disk) × (result ≢ Err Lost.Sink) }
 {
     for at in 0..elements_of(variables, var) {
         let place = Place { var, index: at + 1 };
@@ -118,23 +106,20 @@ fn assign_array(
     Ok(())
 }
 
-/// A place, or each place of an array, gets the value of a literal or a place. Characters are cut, or filled up with blanks.
-/// `Unfit`: the value is not of the kind of the place. After an `Err` the variables have their kinds, and nothing is said of
-/// their values.
+/// A place, or each place of an array, gets the value of a literal or a place, as its variable has it. Characters are cut, or filled
+/// up with blanks; a value of another kind leaves the place undefined. After an `Err` the variables have their kinds, and nothing
+/// is said of their values.
 pub fn assign(
     alloc: Global,
     variables: &Variables,
     store: &mut Store,
     to: &Operand,
     from: &Operand,
-) -> Result<(), Lost>
+) -> Result<(), AllocError>
     requires { store.old.kinds ≡ kinds_of variables.now }
     ensures vars { OnOk result (values_of store.new
         ≡ assigned variables.now (operand_places variables.now to.now) (value_of (values_of store.old) from.now) (values_of store.old)) }
     ensures kinds { store.new.kinds ≡ store.old.kinds }
-    ensures keeps { AreKept variables.now (values_of store.old) → OnOk result (AreKept variables.now (values_of store.new)) }
-    ensures fits { IsAssignment variables.now to.now from.now → HaveKinds variables.now (values_of store.old) → result ≢ Err Lost.Unfit }
-    ensures causes { (result ≢ Err Lost.Disk) × (result ≢ Err Lost.Sink) }
 {
     let value = value_of(store, from)?;
     match to {

@@ -1,41 +1,39 @@
 // The items of a WRITE, and SIZE=, copied out of the variables.
-ghost use Rattle.std.specs.Prelude.{◌≡◌, ◌≢◌, ◌↔◌, ◌∷◌, [], Err, option_map, IsTrue, IfOk};
+ghost use Rattle.std.specs.Prelude.{◌≡◌, ◌≢◌, ◌∷◌, [], Err, option_map, IfOk};
 ghost use Rattle.fj_plain.specs.Items.{cell_at as plain_cell};
 ghost use Rattle.fj_store.specs.Variables.{moved_of};
 ghost use Rattle.fj_plain.specs.Transfers.{moved_in};
 ghost use Rattle.fj_statement.specs.Sound.{IsTransfer};
 ghost use Rattle.fj_store.specs.Storage.{values_of};
-ghost use Rattle.fj_transfer.specs.Moving.{HasValues};
 ghost use Rattle.fj_items.specs.Gathering.{IsNumbered};
 ghost use Rattle.fj_items.specs.Kinds.{kinds_of};
 
 use crate::gathering::gather;
 use crate::lost::Lost;
-use fj_list::Moved;
+use fj_list::{Load, Moved};
 use fj_statement::{Transfer, Variables};
-use fj_store::{Copied, Piece, Run, Store};
+use fj_store::{Piece, Run, Store};
 use fj_value::Place;
 use std::alloc::{AllocError, Global};
 use std::collections::VecDeque;
 
-/// The values of the items, copied, and whether each is a defined one of its kind. `Unfit`: they are too many. It changes nothing.
+/// The values of the items, copied. `Unfit`: they are too many. It changes nothing.
 pub(crate) fn copied(
     alloc: Global,
     variables: &Variables,
     store: &mut Store,
     t: &Transfer,
-) -> Result<Copied, Lost>
+) -> Result<Load, Lost>
     requires { store.old.kinds ≡ kinds_of variables.now }
-    ensures moved { IfOk result (λ copied. copied.moved ≡ moved_in variables.now (values_of store.old) t.now) }
-    ensures numbered { IfOk result (λ copied. IsNumbered copied.moved) }
-    ensures defined { IfOk result (λ copied. IsTrue copied.defined ↔ HasValues copied.moved) }
+    ensures moved { IfOk result (λ moved. moved ≡ moved_in variables.now (values_of store.old) t.now) }
+    ensures numbered { IfOk result IsNumbered }
     ensures same { store.new ≡ store.old }
     ensures fits { IsTransfer variables.now t.now → result ≢ Err Lost.Unfit }
     ensures causes { (result ≢ Err Lost.Disk) × (result ≢ Err Lost.Sink) }
 {
     let gathered = gather(alloc, variables, t)?;
-    let copied = store.copy_of(alloc, gathered.pieces, gathered.size)?;
-    Ok(copied)
+    let moved = store.copy_of(alloc, gathered.pieces, gathered.size)?;
+    Ok(moved)
 }
 
 /// SIZE=, copied as one cell. It changes nothing.
@@ -56,8 +54,7 @@ pub(crate) fn size_copied(
     let run = Run::of_place(place);
     let mut pieces = VecDeque::new(alloc);
     pieces.push_back(Piece::Places(run))?;
-    let copied = store.copy_of(alloc, pieces, 1)?;
-    let mut load = copied.moved;
+    let mut load = store.copy_of(alloc, pieces, 1)?;
     let moved = load.take(alloc)?;
     Ok(Some(moved))
 }

@@ -15,7 +15,7 @@ mod taking;
 mod undefining;
 
 pub use assigning::assign;
-pub use giving::give_cells;
+pub use giving::{give_back, give_cells};
 pub use lost::Lost;
 pub use number::{number_given, set_number};
 pub use refusing::refusal;

@@ -219,8 +219,7 @@ pub fn write_star<W: Sink>(
     if !is_formatted(&t.control) {
         return Ok(Condition::Error(16));
     }
-    let copy = copied(alloc, variables, store, t)?;
-    let moved = copy.moved;
+    let moved = copied(alloc, variables, store, t)?;
     let layout = layout_for(alloc, variables, &moved, &t.control)?;
     if !is_grouped(moved.len(), &layout) {
         return Err(Lost::Unfit);

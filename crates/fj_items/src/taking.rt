@@ -1,5 +1,5 @@
 // A READ or WRITE as a job: its items are moved or copied out of the variables.
-ghost use Rattle.std.specs.Prelude.{◌≡◌, ◌≢◌, ◌↔◌, length, map, true, false, None, unwrap_or, List, All, Err, IsTrue, IfOk, OnOk};
+ghost use Rattle.std.specs.Prelude.{◌≡◌, ◌≢◌, length, map, true, None, unwrap_or, List, All, Err, IfOk, OnOk};
 ghost use Rattle.std.specs.Option.{option_map_or};
 ghost use Rattle.fj_list.specs.declared.moved.Moved.{Moved as MovedCells};
 ghost use Rattle.fj_bay.specs.Jobs.{items_for};
@@ -13,8 +13,7 @@ ghost use Rattle.fj_statement.specs.declared.statement.Statement.TheVariants as 
 ghost use Rattle.fj_store.specs.Storage.{values_of};
 ghost use Rattle.fj_store.specs.Variables.{undefined_at};
 ghost use Rattle.fj_store.specs.declared.piece.Piece.TheVariants.{Places};
-ghost use Rattle.fj_transfer.specs.Moving.{HasValues, members_of};
-ghost use Rattle.fj_items.specs.Fitting.{AreKept, Finds};
+ghost use Rattle.fj_transfer.specs.Moving.{members_of};
 ghost use Rattle.fj_items.specs.Gathering.{IsNumbered};
 ghost use Rattle.fj_items.specs.Kinds.{kinds_of};
 
@@ -77,12 +76,9 @@ struct Parts {
     size: Option<Moved>,
     rec: Option<i64>,
     pos: Option<i64>,
-    /// Each item has a defined value of its kind.
-    defined: bool,
 }
 
-/// The job of these parts. `Unfit`: a variable of its group has no cells of its own, or an output has a value that is not of its
-/// kind.
+/// The job of these parts. `Unfit`: a variable of its group has no cells of its own.
 fn job_with(
     alloc: Global,
     variables: &Variables,
@@ -93,7 +89,6 @@ fn job_with(
 ) -> Result<Moving, Lost>
     requires numbered { IsNumbered parts.moved }
     requires single { option_map_or (λ (size : MovedCells). length size.cells) parts.size 1 ≡ 1 }
-    requires defined { t.now.input ≡ false → IsTrue parts.defined ↔ HasValues parts.moved }
     ensures job { IfOk result (λ job. job_of job ≡ record {
       stmt = line;
       tag = tag.0;
@@ -110,15 +105,11 @@ fn job_with(
       size = parts.size;
       count = None;
     }) }
-    ensures fits { All (IsWithin (length parts.moved.cells)) (members_of (layout_of variables.now parts.moved.cells t.now.control)) → (t.now.input ≡ false → HasValues parts.moved)
-        → result ≢ Err Lost.Unfit }
+    ensures fits { All (IsWithin (length parts.moved.cells)) (members_of (layout_of variables.now parts.moved.cells t.now.control)) → result ≢ Err Lost.Unfit }
     ensures causes { (result ≢ Err Lost.Disk) × (result ≢ Err Lost.Sink) }
 {
     let layout = layout_for(alloc, variables, &parts.moved, &t.control)?;
     if !is_grouped(parts.moved.len(), &layout) {
-        return Err(Lost::Unfit);
-    }
-    if !t.input && !parts.defined {
         return Err(Lost::Unfit);
     }
     let spec = TransferSpec {
@@ -140,8 +131,9 @@ fn job_with(
 }
 
 /// The job of a READ or WRITE of a line, under an identifier, which is 0 where it is not pending. The items of an input are moved
-/// out of the variables, and SIZE= is undefined; the values of an output are copied. `Unfit`: items are too many, or a value of an
-/// output is not of its kind. After an `Err` the variables have their kinds, and nothing is said of their values.
+/// out of the variables, and SIZE= is undefined; the values of an output are copied. `Unfit`: the items are too many, one of an
+/// input is a literal, or a variable of the group has no cells of its own. After an `Err` the variables have their kinds, and
+/// nothing is said of their values.
 pub fn moving(
     alloc: Global,
     variables: &Variables,
@@ -156,8 +148,7 @@ pub fn moving(
     ensures vars { OnOk result (values_of store.new
         ≡ without_values variables.now t.now (moved_in variables.now (values_of store.old) t.now) (values_of store.old)) }
     ensures kinds { store.new.kinds ≡ store.old.kinds }
-    ensures keeps { AreKept variables.now (values_of store.old) → OnOk result (AreKept variables.now (values_of store.new)) }
-    ensures fits { IsTransfer variables.now t.now → Finds variables.now (values_of store.old) t.now → result ≢ Err Lost.Unfit }
+    ensures fits { IsTransfer variables.now t.now → result ≢ Err Lost.Unfit }
     ensures causes { (result ≢ Err Lost.Disk) × (result ≢ Err Lost.Sink) }
 {
     let rec = number_given(store, t.rec.as_ref());
@@ -171,17 +162,15 @@ pub fn moving(
             size,
             rec,
             pos,
-            defined: false,
         };
         return job_with(alloc, variables, line, tag, t, parts);
     }
     let copy = copied(alloc, variables, store, t)?;
     let parts = Parts {
-        moved: copy.moved,
+        moved: copy,
         size,
         rec,
         pos,
-        defined: copy.defined,
     };
     job_with(alloc, variables, line, tag, t, parts)
 }

@@ -11,7 +11,6 @@ ghost use Rattle.fj_store.specs.Storage.{values_of};
 ghost use Rattle.fj_store.specs.Variables.{Variables as Values, with_value, undefined_at};
 ghost use Rattle.fj_value.specs.declared.value.Cell.{Cell};
 ghost use Rattle.fj_value.specs.declared.value.Value.TheVariants.{Undefined};
-ghost use Rattle.fj_items.specs.Fitting.{AreKept};
 ghost use Rattle.fj_items.specs.Kinds.{kinds_of};
 
 use crate::assigning::elements_of;
@@ -115,7 +114,6 @@ pub fn undefine(variables: &Variables, store: &mut Store, t: &Transfer) -> Resul
     ensures vars { OnOk result (values_of store.new
         ≡ without_values variables.now t.now (moved_in variables.now (values_of store.old) t.now) (values_of store.old)) }
     ensures kinds { store.new.kinds ≡ store.old.kinds }
-    ensures keeps { AreKept variables.now (values_of store.old) → OnOk result (AreKept variables.now (values_of store.new)) }
     ensures fits { IsAllowed t.now → IsOk result }
 {
     if !t.input {

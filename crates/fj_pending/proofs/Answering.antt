@@ -6,7 +6,7 @@ use Rattle.std.proofs.lemmas.Bool.{eq-eqb, eqb-true, cases_lt}
 use Rattle.std.proofs.lemmas.Bool.Decides.{eqb_tells}
 use Rattle.std.proofs.lemmas.List.{get_or-set_same, get_or-set_other, length-set}
 use Rattle.std.proofs.lemmas.List.Elements.{All-head, All-tail, All-weaker, All-set}
-use Rattle.fj_desk.specs.Desks.{Outcome}
+use Rattle.fj_desk.specs.Desks.{Brought}
 use Rattle.fj_turns.specs.Run.{Held as PlainHeld}
 use Rattle.fj_turns.specs.Turns.{with_answer}
 use Rattle.fj_turns.specs.Turns as turns
@@ -16,7 +16,7 @@ use Rattle.fj_pending.specs.declared.busy.Busy.{Busy}
 use Rattle.fj_pending.specs.declared.held.Held.{Held}
 use Rattle.fj_pending.specs.declared.held.Told.{Told}
 use Rattle.fj_pending.specs.declared.mark.Mark.{Mark}
-use Rattle.fj_pending.specs.Plain.{held, held_of, outcome_of}
+use Rattle.fj_pending.specs.Plain.{held, held_of, brought_of}
 use Rattle.fj_pending.specs.Answers.{is_at, waits_at, with_told, NoneWaits}
 use Rattle.fj_pending.specs.Busy.{may_have}
 use Rattle.fj_pending.specs.Tied.{IsAscending, IsRising, IsMarked, IsSame, AreSame, IsTied, mark_at, answered_marks}
@@ -42,7 +42,7 @@ not_at slot number h apart = by (h.slot == slot) (h.number == number) refl refl
     by true false e f = refl
     by false c e f = refl
 
-pub none_answered : (slot number : ℕ) (it : Outcome) (hs : List Held) → All (λ h. is_at slot number h ≡ false) hs → with_answer slot number it (held hs) ≡ held hs
+pub none_answered : (slot number : ℕ) (it : Brought) (hs : List Held) → All (λ h. is_at slot number h ≡ false) hs → with_answer slot number it (held hs) ≡ held hs
 none_answered slot number it [] none = refl
 none_answered slot number it (h ∷ hs) none =
     ap (λ b. (if b then record { pending = (held_of h).pending; answer = Some it } else held_of h) ∷ with_answer slot number it (held hs)) (All-head (λ x. is_at slot number x ≡ false) h hs none)
@@ -53,16 +53,16 @@ rises a b = a.slot ≡ b.slot → a.number < b.number
 
 -- the answer of the one transfer with the number at the slot
 pub one_answered : (slot number : ℕ) (told : Told) (hs : List Held) (at : ℕ) (y : Held) → IsRising hs → at < length hs → get_or hs at y ≡ y → is_at slot number y ≡ true
-    → with_answer slot number (outcome_of told) (held hs) ≡ held (set hs at (with_told told y))
+    → with_answer slot number (brought_of told) (held hs) ≡ held (set hs at (with_told told y))
 one_answered slot number told [] at y up low is here = absurd (omega arith)
 one_answered slot number told (h ∷ hs) zero y up low is here =
-    ap (λ b. (if b then record { pending = (held_of h).pending; answer = Some (outcome_of told) } else held_of h) ∷ with_answer slot number (outcome_of told) (held hs)) (ap (is_at slot number) is ∙ here)
-    ∙ ap (λ l. held_of (with_told told h) ∷ l) (none_answered slot number (outcome_of told) hs
+    ap (λ b. (if b then record { pending = (held_of h).pending; answer = Some (brought_of told) } else held_of h) ∷ with_answer slot number (brought_of told) (held hs)) (ap (is_at slot number) is ∙ here)
+    ∙ ap (λ l. held_of (with_told told h) ∷ l) (none_answered slot number (brought_of told) hs
     (All-weaker (rises h) (λ x. is_at slot number x ≡ false) (λ x above. not_at slot number x (λ s n. absurd (omega (arith, above (slot_is slot number h (ap (is_at slot number) is ∙ here) ∙ sym s), number_is slot number h (ap (is_at slot number) is ∙ here), n)))) hs (pairs_head rises h hs up)))
     ∙ ap (λ x. held_of (with_told told x) ∷ held hs) is
 one_answered slot number told (h ∷ hs) (suc at) y up low is here =
     let above : rises h y = subst (rises h) is (pairs_head rises h hs up at y (omega arith)) in
-    ap (λ b. (if b then record { pending = (held_of h).pending; answer = Some (outcome_of told) } else held_of h) ∷ with_answer slot number (outcome_of told) (held hs))
+    ap (λ b. (if b then record { pending = (held_of h).pending; answer = Some (brought_of told) } else held_of h) ∷ with_answer slot number (brought_of told) (held hs))
     (not_at slot number h (λ s n. absurd (omega (arith, above (s ∙ sym (slot_is slot number y here)), number_is slot number y here, n))))
     ∙ ap (λ l. held_of h ∷ l) (one_answered slot number told hs at y (pairs_tail rises h hs up) (omega arith) is here)
 
@@ -152,7 +152,7 @@ answered_is told hs hs' es marks units slot number at low here put t =
     subst (λ l. IsTied l es (answered_marks marks slot number) units) (sym (put d)) (answered_at told (get_or hs at d) hs es marks units slot number at is low (here d) t))
 
 pub answer_is : (told : Told) (hs hs' : List Held) (slot number at : ℕ) → IsRising hs → at < length hs → ((h : Held) → is_at slot number (get_or hs at h) ≡ true)
-    → ((h : Held) → hs' ≡ set hs at (with_told told (get_or hs at h))) → held hs' ≡ with_answer slot number (outcome_of told) (held hs)
+    → ((h : Held) → hs' ≡ set hs at (with_told told (get_or hs at h))) → held hs' ≡ with_answer slot number (brought_of told) (held hs)
 answer_is told hs hs' slot number at up low here put =
     any_of hs at low (λ d.
     let is : get_or hs at (get_or hs at d) ≡ get_or hs at d = same_read hs at (get_or hs at d) d low in

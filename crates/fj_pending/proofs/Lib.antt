@@ -7,4 +7,3 @@ pub mod Idle
 pub mod Tying
 pub mod Answering
 pub mod Giving
-pub mod Fitting

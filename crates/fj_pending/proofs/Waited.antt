@@ -15,11 +15,11 @@ use Rattle.fj_plain.specs.State.{Entry, halts}
 use Rattle.fj_plain.specs.Telling.{of_unit, of_id, graver, condition_of, waited_by, tells_id, tells_cause}
 use Rattle.fj_plain.proofs.Lists.{pairs_head, pairs_tail, all_both, filter_where, filter_false, filter_true}
 use Rattle.fj_desk.specs.Core.{Pending}
-use Rattle.fj_desk.specs.Desks.{Outcome, entry_with}
+use Rattle.fj_desk.specs.Desks.{Brought, entry_with}
 use Rattle.fj_turns.specs.Run.{Held as PlainHeld, known}
 use Rattle.fj_turns.specs.Turns.{is_at, unsettled, with_answer}
 use Rattle.fj_pending.specs.declared.held.Held.{Held}
-use Rattle.fj_pending.specs.Plain.{held_of, held, pending_of, outcome_of, entry_of, entries}
+use Rattle.fj_pending.specs.Plain.{held_of, held, pending_of, brought_of, entry_of, entries}
 use Rattle.fj_pending.specs.Tied.{IsAscending}
 use Rattle.fj_pending.specs.declared.pick.Pick.{Pick}
 use Rattle.fj_pending.specs.declared.pick.Pick.TheVariants.{One}
@@ -30,26 +30,26 @@ use Rattle.fj_pending.proofs.Ids.{filter_absent, filter_one}
 
 -- ---- what is known of a transfer
 
-with_unit : (p : Pending) (o : Option Outcome) → (entry_with p o).unit ≡ p.unit
+with_unit : (p : Pending) (o : Option Brought) → (entry_with p o).unit ≡ p.unit
 with_unit p None = refl
 with_unit p (Some o) = refl
 
-with_size : (p : Pending) (o : Option Outcome) → (entry_with p o).size ≡ p.size
+with_size : (p : Pending) (o : Option Brought) → (entry_with p o).size ≡ p.size
 with_size p None = refl
 with_size p (Some o) = refl
 
-with_id : (p : Pending) (o : Option Outcome) → (entry_with p o).id ≡ p.id
+with_id : (p : Pending) (o : Option Brought) → (entry_with p o).id ≡ p.id
 with_id p None = refl
 with_id p (Some o) = refl
 
 pub entry_unit : (h : Held) → (entry_of h).unit ≡ h.unit
-entry_unit h = with_unit (pending_of h) (option_map outcome_of h.answer)
+entry_unit h = with_unit (pending_of h) (option_map brought_of h.answer)
 
 pub entry_id : (h : Held) → (entry_of h).id ≡ h.tag.0
-entry_id h = with_id (pending_of h) (option_map outcome_of h.answer)
+entry_id h = with_id (pending_of h) (option_map brought_of h.answer)
 
 pub entry_size : (h : Held) → (entry_of h).size ≡ h.size
-entry_size h = with_size (pending_of h) (option_map outcome_of h.answer)
+entry_size h = with_size (pending_of h) (option_map brought_of h.answer)
 
 -- ---- filters and tests of entries
 
@@ -219,8 +219,8 @@ pub unsettled_is : (q : Held → Bool) (es : List Entry) (hs : List Held) → Al
     → unsettled es (held hs) ≡ option_map (λ (h : Held). h.slot) (find (λ h. q h && is_none h.answer) hs)
 unsettled_is q es [] all = refl
 unsettled_is q es (h ∷ hs) all =
-    ap (λ b. if b && is_none (option_map outcome_of h.answer) then Some h.slot else unsettled es (held hs)) (All-head (λ (x : Held). tells_id es x.tag.0 ≡ q x) h hs all)
-    ∙ ap (λ b. if q h && b then Some h.slot else unsettled es (held hs)) (none_mapped outcome_of h.answer)
+    ap (λ b. if b && is_none (option_map brought_of h.answer) then Some h.slot else unsettled es (held hs)) (All-head (λ (x : Held). tells_id es x.tag.0 ≡ q x) h hs all)
+    ∙ ap (λ b. if q h && b then Some h.slot else unsettled es (held hs)) (none_mapped brought_of h.answer)
     ∙ ap (λ o. if q h && is_none h.answer then Some h.slot else o) (unsettled_is q es hs (All-tail (λ (x : Held). tells_id es x.tag.0 ≡ q x) h hs all))
     ∙ by (q h && is_none h.answer)
   where
@@ -302,7 +302,7 @@ waiting_due t hs i y up low is same has = ap (λ n. find (is_due (One n)) hs) (s
 
 -- ---- what is passed stays passed when one more has its answer
 
-module _ (slot number : ℕ) (it : Outcome) where
+module _ (slot number : ℕ) (it : Brought) where
   abbrev given : PlainHeld → PlainHeld
   given h = if is_at slot number h.pending then record { pending = h.pending; answer = Some it } else h
 

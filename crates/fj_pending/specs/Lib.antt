@@ -6,5 +6,4 @@ pub mod Tied
 pub mod Parts
 pub mod Answers
 pub mod Taking
-pub mod Fits
 pub mod Fitting

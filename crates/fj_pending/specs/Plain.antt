@@ -1,27 +1,31 @@
 -- What the pending transfers of a run are as plain data.
-use Rattle.std.specs.Prelude.{List, map}
-use Rattle.std.specs.Option.{option_map}
+use Rattle.std.specs.Prelude.{List, [], map, Option}
+use Rattle.std.specs.Option.{option_map, option_map_or}
+use Rattle.fj_value.specs.declared.value.Cell.{Cell}
+use Rattle.fj_list.specs.declared.moved.Moved.{Moved}
 use Rattle.fj_book.specs.Prohibitions.{Holder}
 use Rattle.fj_store.specs.Places.{places_in}
-use Rattle.fj_bay.specs.Jobs.{move}
-use Rattle.fj_bay.specs.Plain.{moving_of, reply_of}
 use Rattle.fj_plain.specs.State.{Entry, Tell as PlainTell}
 use Rattle.fj_desk.specs.Core.{Pending, pending_holders}
-use Rattle.fj_desk.specs.Desks.{Outcome}
+use Rattle.fj_desk.specs.Desks.{Brought}
 use Rattle.fj_turns.specs.Run.{Held as PlainHeld, known}
 use Rattle.fj_pending.specs.declared.held.Held.{Held}
 use Rattle.fj_pending.specs.declared.held.Told.{Told}
 use Rattle.fj_pending.specs.declared.tell.Tell.{Tell}
 
--- what became of the job of a transfer
-abbrev pub outcome_of : Told → Outcome
-outcome_of it = (move (moving_of it.transfer), reply_of it.answer)
+-- the items of a job, where it was a transfer
+abbrev pub cells_of : Option Moved → List Cell
+cells_of moved = option_map_or (λ (m : Moved). m.cells) moved []
+
+-- what the job of a transfer brought
+abbrev pub brought_of : Told → Brought
+brought_of it = record { cells = cells_of it.moved; count = it.count; condition = it.condition }
 
 abbrev pub pending_of : Held → Pending
 pending_of h = record { id = h.tag.0; unit = h.unit; input = h.input; places = places_in h.runs; size = h.size; slot = h.slot; number = h.number }
 
 abbrev pub held_of : Held → PlainHeld
-held_of h = record { pending = pending_of h; answer = option_map outcome_of h.answer }
+held_of h = record { pending = pending_of h; answer = option_map brought_of h.answer }
 
 abbrev pub held : List Held → List PlainHeld
 held hs = map held_of hs

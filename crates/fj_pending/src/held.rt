@@ -1,15 +1,16 @@
-// A pending transfer, with what became of its job once that was told.
+// A pending transfer, with what its job brought once that was told.
 
-use fj_bay::Answer;
+use fj_list::Load;
 use fj_store::Run;
-use fj_transfer::Transfer;
-use fj_value::{Items, Place, Tag};
+use fj_value::{Condition, Items, Place, Tag};
 
-/// What became of the job of a transfer.
+/// What the job of a transfer brought: its items with their values, none where the job was no transfer, a count of characters, and
+/// its condition.
 #[derive(Drop)]
 pub struct Told {
-    pub transfer: Transfer,
-    pub answer: Answer,
+    pub moved: Option<Load>,
+    pub count: Option<u64>,
+    pub condition: Condition,
 }
 
 /// A transfer that is pending on a unit.

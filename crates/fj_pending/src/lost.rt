@@ -1,4 +1,4 @@
-// Why a run cannot go on.
+// Why a transfer is not entered.
 ghost use Rattle.std.specs.Prelude.{◌≡◌};
 ghost use Rattle.fj_pending.specs.declared.lost.Lost.TheVariants.{Memory};
 
@@ -7,7 +7,7 @@ use std::alloc::AllocError;
 #[derive(Debug, Drop)]
 pub enum Lost {
     Memory(AllocError),
-    /// A transfer that is entered does not come behind the others, or what came back is not what is due.
+    /// It does not come behind the others.
     Unfit,
 }
 

@@ -1,8 +1,9 @@
 // The pending transfers of a run, in ascending order of their identifiers.
-ghost use Rattle.std.specs.Prelude.{◌≡◌, ◌≢◌, ◌<◌, false, ◌++◌, [], ◌∷◌, not, All, length, map, filter, take, Err, IsTrue, is_ok, IfOk, IfSome, IfErr, OnOk, OnErr};
+ghost use Rattle.std.specs.Prelude.{◌≡◌, ◌≢◌, ◌<◌, false, ◌++◌, List, [], ◌∷◌, not, All, length, map, filter, take, Err, IsTrue, is_ok, IfOk, IfSome, IfErr, OnOk, OnErr};
 ghost use Rattle.std.specs.Option.{option_map};
 ghost use Rattle.std.specs.List.{find, list_any};
 ghost use Rattle.fj_value.specs.declared.place.Place.{Place};
+ghost use Rattle.fj_statement.specs.declared.deck.Variable.{Variable};
 ghost use Rattle.fj_store.specs.Places.{is_among, places_in};
 ghost use Rattle.fj_store.specs.Storage.{values_of};
 ghost use Rattle.fj_book.specs.Needs.{need_of};
@@ -11,9 +12,9 @@ ghost use Rattle.fj_plain.specs.Telling.{condition_of, tells_id, tells_cause, wi
 ghost use Rattle.fj_plain.specs.Telling as telling;
 ghost use Rattle.fj_desk.specs.Desks.{most_slots};
 ghost use Rattle.fj_turns.specs.Turns.{is_at, unsettled, with_answer};
-ghost use Rattle.fj_pending.specs.Plain.{held, entries, holders, outcome_of, tells_of};
+ghost use Rattle.fj_pending.specs.Plain.{held, entries, holders, brought_of, tells_of};
 ghost use Rattle.fj_pending.specs.Busy.{AreBusy};
-ghost use Rattle.fj_pending.specs.Fitting.{GaveFitting, IsNext, IsTellable};
+ghost use Rattle.fj_pending.specs.Fitting.{IsNext};
 ghost use Rattle.fj_pending.specs.Taking.{LeavesSome};
 ghost use Rattle.fj_pending.specs.Tied.{IsAscending, IsMarked, entered_marks, answered_marks};
 ghost use Rattle.fj_pending.specs.Waits.{waited_of, IsPassed, is_due, is_cause};
@@ -29,7 +30,6 @@ use crate::taking::{leave, take_picked};
 use crate::tell::Tell;
 use crate::whose::Whose;
 use fj_book::{Book, Need, Pending, Places};
-use fj_statement::Variable;
 use fj_store::Store;
 use fj_value::{Condition, Items, Kind, Rule};
 use std::alloc::{AllocError, Global};
@@ -53,13 +53,9 @@ pub struct Pendings {
 
 impl Model for Pendings {
     ghost use Rattle.std.specs.Prelude.{List};
-    ghost use Rattle.std.specs.Coded.{codes};
-    ghost use Rattle.fj_format.specs.contracts.item.FormatItem as item;
     ghost use Rattle.fj_pending.specs.declared.held.Held.{Held};
 
     ghost Value = { List Held };
-
-    ghost coded = { Prim.hlevel (codes, item.the_row.coded) };
 
     ghost use Rattle.fj_pending.specs.Tied.{IsTied};
 
@@ -313,7 +309,7 @@ impl Pendings {
     /// Gives the transfer whose job has the number at the slot its answer. Where no transfer has it, what was told comes back. It
     /// takes no memory.
     pub fn answer(&mut self, slot: u32, number: u64, told: Told) -> Result<(), Told>
-        ensures answered { held self.new ≡ with_answer slot number (outcome_of told) (held self.old) }
+        ensures answered { held self.new ≡ with_answer slot number (brought_of told) (held self.old) }
         ensures found { is_ok result ≡ list_any (λ h. is_at slot number h.pending) (held self.old) }
         ensures none { OnErr result (self.new ≡ self.old) }
         ensures back { IfErr result (λ it. it ≡ told) }
@@ -352,32 +348,28 @@ impl Pendings {
     }
 
     /// Tells the transfers that are waited for, at a line: items and SIZE= of inputs become defined, the transfers are pending no
-    /// more, and the condition that they have together is answered. Where it is not done, nothing is said of the variables, and of
-    /// the transfers that some are left.
+    /// more, and the condition that they have together is answered. A value that its variable's kind has not leaves that undefined.
+    /// Where memory is wanted, nothing is said of the variables, and of the transfers that some are left.
     pub fn tell(
         &mut self,
         alloc: Global,
         whose: Whose,
         line: u32,
-        variables: &[Variable],
         store: &mut Store,
         tells: &mut Items<Tell>,
-    ) -> Result<Condition, Lost>
-        requires { store.old.kinds ≡ map (λ v. v.kind) variables.now }
+    ) -> Result<Condition, AllocError>
         ensures condition { IfOk result (λ condition. condition ≡ condition_of (waited_of whose (entries self.old))) }
-        ensures values { OnOk result (values_of store.new ≡ with_inputs variables.now (waited_of whose (entries self.old)) (values_of store.old)) }
+        ensures values { (variables : List Variable) → store.old.kinds ≡ map (λ v. v.kind) variables → OnOk result (values_of store.new ≡ with_inputs variables (waited_of whose (entries self.old)) (values_of store.old)) }
         ensures kinds { store.new.kinds ≡ store.old.kinds }
         ensures left { OnOk result (held self.new ≡ filter (λ h. not (tells_id (waited_of whose (entries self.old)) h.pending.id)) (held self.old)) }
         ensures tells { OnOk result (tells_of tells.new ≡ tells_of tells.old ++ map (telling.tell_of line) (waited_of whose (entries self.old))) }
         ensures some { LeavesSome self.old self.new }
-        ensures fits { All (IsTellable variables.now) (waited_of whose (entries self.old)) → result ≢ Err Lost.Unfit }
-        ensures fitted { OnOk result (All (GaveFitting variables.now) (waited_of whose (entries self.old))) }
     {
         let pick = picked(&self.helds, whose);
         let told = take_picked(alloc, &mut self.helds, &self.busy, pick)?;
         leave(&mut self.book, &self.busy, pick);
         forget(&mut self.busy, pick);
-        deliver(told, line, variables, store, tells)
+        deliver(told, line, store, tells)
     }
 
     /// The lowest rule that a statement breaks. It takes no memory.

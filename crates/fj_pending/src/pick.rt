@@ -7,7 +7,6 @@ ghost use Rattle.fj_pending.specs.Waits.{waited_of, widest, picks, is_due, is_ca
 
 use crate::held::Held;
 use crate::whose::Whose;
-use fj_bay::Answer;
 use fj_value::Condition;
 use std::collections::VecDeque;
 
@@ -56,10 +55,7 @@ pub(crate) fn condition_of(held: &Held) -> Condition
 {
     match &held.answer {
         None => Condition::Fine,
-        Some(told) => match told.answer {
-            Answer::Done(condition) => condition,
-            Answer::Skipped(cause) => cause,
-        },
+        Some(told) => told.condition,
     }
 }
 

@@ -8,7 +8,6 @@ ghost use Rattle.fj_list.specs.declared.moved.Moved.{Moved as MovedValues};
 ghost use Rattle.fj_list.specs.Moved.{IsOrdered};
 ghost use Rattle.fj_connect.specs.Linked.{connection_of};
 ghost use Rattle.fj_transfer.specs.Change.{changed};
-ghost use Rattle.fj_transfer.specs.Moving.{HasValues};
 ghost use Rattle.fj_transfer.specs.Printing.{control_of, IsRecords};
 ghost use Rattle.fj_transfer.specs.Transfer.{told_with, body_of, unfit, unformatted_written, written_by};
 ghost use Rattle.fj_perform.specs.Front.{started, IsStart, IsNamed};
@@ -33,7 +32,6 @@ fn write_here<F: FileStore>(
 ) -> Result<Condition, Stop>
     requires access { same_access connection.old.modes.access Access.Direct ≡ false }
     requires ordered { IsOrdered moved.now }
-    requires defined { HasValues moved.now }
     ensures telling { F.tells connection.old.file ↔ F.tells connection.new.file }
     ensures written { F.tells connection.old.file → let old = connection_of F.bytes connection.old in
         IfOk result (λ condition. told_with (connection_of F.bytes connection.new) moved.now.cells condition
@@ -73,7 +71,6 @@ fn write_unformatted<F: FileStore>(
 ) -> Result<Condition, Stop>
     requires start { IsStart connection.old.modes.access (F.size connection.old.file) start }
     requires ordered { IsOrdered moved.now }
-    requires defined { HasValues moved.now }
     ensures telling { F.tells connection.old.file ↔ F.tells connection.new.file }
     ensures written { F.tells connection.old.file → let old = connection_of F.bytes connection.old in
         IfOk result (λ condition. told_with (connection_of F.bytes connection.new) moved.now.cells condition
@@ -159,7 +156,6 @@ pub fn write_from<F: FileStore>(
 ) -> Result<Condition, Stop>
     requires start { IsStart connection.old.modes.access (F.size connection.old.file) start }
     requires named { IsNamed start (is_some job.now.spec.pos) }
-    requires output { job.now.spec.input ≡ false }
     requires fit { unfit connection.old.modes job.now.spec ≡ Fine }
     ensures telling { F.tells connection.old.file ↔ F.tells connection.new.file }
     ensures written { F.tells connection.old.file → let old = connection_of F.bytes connection.old in

@@ -1,18 +1,19 @@
 -- The places and values that a statement names.
-use Rattle.std.specs.Prelude.{ℕ, ℤ, ◌+◌, List, [], ◌∷◌, ◌++◌, map, slice_get, Option, Some, None, if◌then◌else◌}
+use Rattle.std.specs.Prelude.{ℕ, ℤ, ◌+◌, List, [], ◌∷◌, ◌++◌, map, slice_get, Option, Some, None}
 use Rattle.std.specs.Option.{option_map_or}
 use Rattle.fj_value.specs.declared.kind.Kind.{Kind}
-use Rattle.fj_value.specs.declared.kind.Kind.TheVariants.{Int8, Logical}
+use Rattle.fj_value.specs.declared.kind.Kind.TheVariants.{Logical}
 use Rattle.fj_value.specs.declared.place.Place.{Place}
 use Rattle.fj_value.specs.declared.value.Cell.{Cell}
 use Rattle.fj_value.specs.declared.value.Value.{Value}
 use Rattle.fj_value.specs.declared.value.Value.TheVariants as value
-use Rattle.fj_value.specs.Kind.{fits_bits}
 use Rattle.fj_statement.specs.declared.deck.Variable.{Variable}
 use Rattle.fj_statement.specs.declared.statement.Operand.{Operand}
 use Rattle.fj_statement.specs.declared.statement.Operand.TheVariants as operand
 use Rattle.fj_plain.specs.State.{elements}
+use Rattle.fj_store.specs.Kinds.{of_kind}
 use Rattle.fj_store.specs.Places.{counted_from}
+use Rattle.fj_store.specs.Tables.{with_cells}
 use Rattle.fj_store.specs.Variables.{Variables, value_at}
 
 -- the kind of a variable
@@ -56,10 +57,14 @@ abbrev pub integer_of : Value → Option ℤ
 integer_of (value.Int n) = Some n
 integer_of _ = None
 
-abbrev pub bits_of : Kind → ℕ
-bits_of Int8 = 64
-bits_of _ = 32
-
--- a number for an integer place; one that its kind does not have makes it undefined
+-- a number as a variable of the kind has it; one that its kind does not have makes it undefined
 abbrev pub number_for : Kind → ℤ → Value
-number_for kind n = if fits_bits (bits_of kind) n then value.Int n else value.Undefined
+number_for kind n = of_kind kind (value.Int n)
+
+-- the value of a cell as its variable has it
+abbrev pub value_for : List Variable → Cell → Value
+value_for variables cell = of_kind (kind_of variables cell.place.var) cell.value
+
+-- the places of cells get their values
+abbrev pub given_back : List Variable → List Cell → Variables → Variables
+given_back variables cells vars = with_cells (value_for variables) cells vars

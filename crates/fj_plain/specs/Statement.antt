@@ -24,8 +24,9 @@ use Rattle.fj_control.specs.Steps.{Given, steps}
 use Rattle.fj_statement.specs.declared.statement.Statement.{Statement}
 use Rattle.fj_statement.specs.declared.statement.Statement.TheVariants as statement
 use Rattle.fj_bay.specs.Jobs.{Looked, looked_at}
-use Rattle.fj_store.specs.Variables.{Variables, with_value, given_back}
-use Rattle.fj_plain.specs.Items.{kind_of, operand_places, value_of}
+use Rattle.fj_store.specs.Kinds.{of_kind}
+use Rattle.fj_store.specs.Variables.{Variables, with_value}
+use Rattle.fj_plain.specs.Items.{given_back, kind_of, operand_places, value_of}
 use Rattle.fj_book.specs.Prohibitions.{prohibited, Holder, has_id}
 use Rattle.fj_plain.specs.Needs.{number_of, need, holders, given_number, unit_asked}
 use Rattle.fj_plain.specs.Telling.{waited, condition_of, after_tells}
@@ -38,7 +39,7 @@ use Rattle.fj_plain.specs.State.{State, Files, Unit, Entry, Tell, Output, found,
 
 abbrev pub converted : Kind → Value → Value
 converted (Chars n) (value.Chars cs) = value.Chars (take n (cs ++ replicate n 32))
-converted kind v = v
+converted kind v = of_kind kind v
 
 abbrev pub assigned : List Variable → List Place → Value → Variables → Variables
 assigned variables [] v vars = vars
@@ -82,9 +83,9 @@ abbrev pub file_asked : Subject → Option (List ℕ)
 file_asked (subjects.Unit u) = None
 file_asked (subjects.File name) = Some name
 
-abbrev pub inquires : State → Option ℕ → Option (List ℕ) → List Wanted → Option Operand → State × Condition
-inquires s number file asked id =
-    (record s { vars = given_back (inquired (about s number file (given_number s id) (option_and_then (found s.units) number)) asked) s.vars }, Fine)
+abbrev pub inquires : List Variable → State → Option ℕ → Option (List ℕ) → List Wanted → Option Operand → State × Condition
+inquires variables s number file asked id =
+    (record s { vars = given_back variables (inquired (about s number file (given_number s id) (option_and_then (found s.units) number)) asked) s.vars }, Fine)
 
 -- ---- the statement's own action, and what is done in its place where a condition of a transfer was told
 
@@ -102,7 +103,7 @@ own control variables s (statement.OpenUnit u spec iostat) = if_numbered s (numb
 own control variables s (statement.CloseUnit u keep iostat) = closes s keep (unit_at s (number_of u))
 own control variables s (statement.WaitFor u id iostat) = (s, Fine)
 own control variables s (statement.Move how u iostat) = moves s how (unit_at s (number_of u))
-own control variables s (statement.Inquire subject asked id iostat) = inquires s (unit_asked s subject) (file_asked subject) asked id
+own control variables s (statement.Inquire subject asked id iostat) = inquires variables s (unit_asked s subject) (file_asked subject) asked id
 own control variables s (statement.Transfer t) = reads_or_writes control variables s t
 own control variables s statement.End = (all_closed s, Fine)
 

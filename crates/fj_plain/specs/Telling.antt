@@ -11,8 +11,8 @@ use Rattle.fj_statement.specs.declared.deck.Variable.{Variable}
 use Rattle.fj_statement.specs.declared.statement.Transfer.{Transfer}
 use Rattle.fj_statement.specs.declared.statement.Statement.{Statement}
 use Rattle.fj_statement.specs.declared.statement.Statement.TheVariants as statement
-use Rattle.fj_store.specs.Variables.{Variables, given_back, with_value}
-use Rattle.fj_plain.specs.Items.{kind_of, number_for}
+use Rattle.fj_store.specs.Variables.{Variables, with_value}
+use Rattle.fj_plain.specs.Items.{given_back, kind_of, number_for}
 use Rattle.fj_plain.specs.Needs.{number_of, number_given}
 use Rattle.fj_plain.specs.State.{State, Unit, Entry, Tell, halts}
 
@@ -71,7 +71,7 @@ with_size variables (Some place) count vars = with_value vars place (count_for v
 
 -- the items and SIZE= of an input become defined or undefined
 abbrev pub with_input : List Variable → Entry → Variables → Variables
-with_input variables e vars = if e.input then with_size variables e.size e.count (given_back e.cells vars) else vars
+with_input variables e vars = if e.input then with_size variables e.size e.count (given_back variables e.cells vars) else vars
 
 abbrev pub with_inputs : List Variable → List Entry → Variables → Variables
 with_inputs variables [] vars = vars

@@ -20,8 +20,8 @@ use Rattle.fj_statement.specs.declared.statement.Control.TheVariants as control
 use Rattle.fj_modes.specs.declared.unit.UnitRef.{UnitRef}
 use Rattle.fj_modes.specs.declared.unit.UnitRef.TheVariants as unit
 use Rattle.fj_statement.specs.declared.statement.Transfer.{Transfer}
-use Rattle.fj_store.specs.Variables.{Variables, with_value, given_back, undefined_at, moved_of, is_at}
-use Rattle.fj_plain.specs.Items.{kind_of, cell_at, cells_of, number_for}
+use Rattle.fj_store.specs.Variables.{Variables, with_value, undefined_at, moved_of, is_at}
+use Rattle.fj_plain.specs.Items.{given_back, kind_of, cell_at, cells_of, number_for}
 use Rattle.fj_plain.specs.Needs.{transfer_places, group_places, if_given, number_given}
 use Rattle.fj_plain.specs.Telling.{is_asynchronous, with_size}
 use Rattle.fj_transfer.specs.Printing.{Printed, printed}
@@ -92,7 +92,7 @@ with_number variables (Some place) n vars = with_value vars place (number_for (k
 
 -- the items and SIZE= of an input have their values
 abbrev pub with_cells : List Variable → Transfer → List Cell → Option ℕ → Variables → Variables
-with_cells variables t cells count vars = if t.input then with_size variables t.size count (given_back cells vars) else vars
+with_cells variables t cells count vars = if t.input then with_size variables t.size count (given_back variables cells vars) else vars
 
 -- until it ends they have no value
 abbrev pub with_values : List Variable → Transfer → Moved → Done → Variables → Variables

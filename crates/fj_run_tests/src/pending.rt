@@ -1,10 +1,7 @@
 // Transfers that are entered, answered and told.
-use fj_bay::Answer;
 use fj_book::Places;
-use fj_list::{Load, Moved};
 use fj_pending::{Held, Lost, Pendings, Tell, Told, Whose};
 use fj_store::Store;
-use fj_transfer::{EditChange, Layout, Transfer, TransferSpec};
 use fj_value::{Condition, Items, Tag};
 use std::alloc::Global;
 use std::test::Fail;
@@ -31,35 +28,11 @@ fn enter(
     pendings.enter(held, Places::of_runs(Items::new(alloc)))
 }
 
-fn told(alloc: Global, id: u32, condition: Condition) -> Told {
-    let spec = TransferSpec {
-        input: true,
-        layout: Layout::Unformatted,
-        advance: true,
-        rec: None,
-        pos: None,
-        edit: EditChange {
-            blank_zero: None,
-            comma: None,
-            delim: None,
-            pad: None,
-            plus: None,
-        },
-    };
-    let moved = Moved {
-        cells: Items::new(alloc),
-        order: Items::new(alloc),
-    };
+fn told(condition: Condition) -> Told {
     Told {
-        transfer: Transfer {
-            stmt: 1,
-            tag: Tag(id),
-            spec,
-            moved: Load::of_cells(moved),
-            size: None,
-            count: None,
-        },
-        answer: Answer::Done(condition),
+        moved: None,
+        count: None,
+        condition,
     }
 }
 
@@ -83,23 +56,23 @@ fn tells_what_was_answered(rt: HostRuntime) -> Result<(), Fail> {
     // the answers of two slots in any order; no transfer has this number
     assert!(rt;
         pendings
-            .answer(1, 1, told(alloc, 2, Condition::Fine))
+            .answer(1, 1, told(Condition::Fine))
             .is_ok()
     );
     assert!(rt;
         pendings
-            .answer(0, 0, told(alloc, 9, Condition::Fine))
+            .answer(0, 0, told(Condition::Fine))
             .is_err()
     );
     assert!(rt;
         pendings
-            .answer(0, 1, told(alloc, 1, Condition::Fine))
+            .answer(0, 1, told(Condition::Fine))
             .is_ok()
     );
     assert!(rt; pendings.next_unsettled(Whose::OfUnit(10), 0) == Some((2, 0)));
     assert!(rt;
         pendings
-            .answer(0, 2, told(alloc, 3, Condition::EndOfFile))
+            .answer(0, 2, told(Condition::EndOfFile))
             .is_ok()
     );
     assert!(rt; pendings.next_unsettled(Whose::All, 0).is_none());
@@ -107,7 +80,7 @@ fn tells_what_was_answered(rt: HostRuntime) -> Result<(), Fail> {
     // a wait by an identifier that tells the end of the file is one for all of the unit
     assert!(rt; pendings.ends_halt(Whose::OfId(10, 3), 10));
     assert!(rt; !pendings.ends_halt(Whose::OfId(10, 1), 10));
-    let condition = pendings.tell(alloc, Whose::OfId(10, 3), 7, &[], &mut store, &mut tells);
+    let condition = pendings.tell(alloc, Whose::OfId(10, 3), 7, &mut store, &mut tells);
     assert!(rt; matches!(&condition, Ok(Condition::EndOfFile)));
     assert!(rt; tells.len() == 2);
     assert!(rt; !pendings.has(0, 1) && pendings.has(1, 1));
@@ -120,7 +93,7 @@ fn tells_what_was_answered(rt: HostRuntime) -> Result<(), Fail> {
                 condition: Condition::Fine
             })
     );
-    let condition = pendings.tell(alloc, Whose::All, 8, &[], &mut store, &mut tells);
+    let condition = pendings.tell(alloc, Whose::All, 8, &mut store, &mut tells);
     assert!(rt; matches!(&condition, Ok(Condition::Fine)));
     assert!(rt; tells.len() == 3);
     assert!(rt; pendings.entries().is_empty());
@@ -136,12 +109,12 @@ fn a_unit_with_none_is_not_waited_for(rt: HostRuntime) -> Result<(), Fail> {
     assert!(rt; enter(&mut pendings, alloc, (1, 10, 0, 0)).is_ok());
     assert!(rt; pendings.next_unsettled(Whose::OfUnit(20), 0).is_none());
     assert!(rt; !pendings.ends_halt(Whose::All, 20));
-    let condition = pendings.tell(alloc, Whose::OfUnit(20), 7, &[], &mut store, &mut tells);
+    let condition = pendings.tell(alloc, Whose::OfUnit(20), 7, &mut store, &mut tells);
     assert!(rt; matches!(&condition, Ok(Condition::Fine)));
     assert!(rt; tells.len() == 0);
     assert!(rt; pendings.next_unsettled(Whose::OfUnit(10), 0) == Some((0, 0)));
     // all of the unit are told, and then it has one again
-    let condition = pendings.tell(alloc, Whose::OfUnit(10), 8, &[], &mut store, &mut tells);
+    let condition = pendings.tell(alloc, Whose::OfUnit(10), 8, &mut store, &mut tells);
     assert!(rt; matches!(&condition, Ok(Condition::Fine)));
     assert!(rt; tells.len() == 1);
     assert!(rt; pendings.next_unsettled(Whose::OfUnit(10), 0).is_none());

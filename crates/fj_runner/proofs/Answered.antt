@@ -1,5 +1,5 @@
 -- A run that was told an answer.
-use Rattle.std.proofs.Common.{◌≡◌, ℕ, ◌==◌, ◌&&◌, Bool, true, false, cond, List, [], ◌∷◌, map, get_or, Option, Some, Result, Ok, Err, OnOk, OnErr, refl, sym, ap, ◌∙◌, subst}
+use Rattle.std.proofs.Common.{◌≡◌, ℕ, ◌==◌, ◌&&◌, Bool, true, false, cond, List, [], ◌∷◌, map, get_or, Option, Some, refl, sym, ap, ◌∙◌, subst}
 use Rattle.std.specs.Option.{option_map}
 use Rattle.fj_outside.specs.declared.outside.FileStore.{Ghosts}
 use Rattle.fj_statement.specs.declared.deck.Variable.{Variable}
@@ -10,7 +10,7 @@ use Rattle.fj_bay.specs.declared.job.Answer.{Answer}
 use Rattle.fj_plain.specs.State.{Files}
 use Rattle.fj_plain.specs.Statement.{Stated, Ending as PlainEnding}
 use Rattle.fj_desk.specs.Core.{Core, Pending}
-use Rattle.fj_desk.specs.Desks.{Outcome}
+use Rattle.fj_desk.specs.Desks.{Brought, Outcome, brought_by}
 use Rattle.fj_turns.specs.Run.{Run, Held, Start, Waiting, Acting, Awaiting}
 use Rattle.fj_turns.specs.Run.{Stage as PlainStage}
 use Rattle.fj_turns.specs.Turns.{told_of, stage_told, with_answer, bump}
@@ -20,7 +20,7 @@ use Rattle.fj_acts.specs.Doing.{then_of}
 use Rattle.fj_acts.specs.State.{core_of}
 use Rattle.fj_acts.specs.declared.doing.Then.{Then}
 use Rattle.fj_acts.specs.declared.state.Core as code_core
-use Rattle.fj_runner.specs.Answering.{IsAnswered, with_own}
+use Rattle.fj_runner.specs.Answering.{with_own}
 use Rattle.fj_runner.specs.Machine.{stage_of, run_in, ending_of}
 use Rattle.fj_runner.specs.Passing.{awaits, is_passed}
 use Rattle.fj_runner.specs.Turned.{Stands}
@@ -87,7 +87,7 @@ made variables rest core book sent told_counts plain due ending =
 module _ {F : Type 0} {ghosts : Ghosts F} (told : F → Bool) (bytes : F → List ℕ) (variables : List Variable) (rest : List Stated) (files : Files) where
   pub answered_stands : (s s' : State F ghosts) (plain : PlainStage) (it : Outcome) (number : ℕ) → number ≡ get_or s.told.items s.due 0
       → stage_of told bytes variables rest (core_of files s.core) s'.stage ≡ Some (stage_told plain s.due number it)
-      → core_of files s'.core ≡ core_of files s.core → held s'.core.pending ≡ with_answer s.due number it (held s.core.pending)
+      → core_of files s'.core ≡ core_of files s.core → held s'.core.pending ≡ with_answer s.due number (brought_by it) (held s.core.pending)
       → s'.sent.items ≡ s.sent.items → s'.told.items ≡ bump s.told.items s.due → s'.due ≡ s.due → s'.ending ≡ s.ending
       → Stands told bytes variables rest files s' (told_of (run_in variables rest files s plain) it)
   answered_stands s s' plain it number n stage core book sent told_counts due ending = record {
@@ -95,15 +95,15 @@ module _ {F : Type 0} {ghosts : Ghosts F} (told : F → Bool) (bytes : F → Lis
     run =
         let new : PlainStage = stage_told plain s.due (get_or s.told.items s.due 0) it in
         ap (λ c. made variables rest c (held s'.core.pending) s'.sent.items s'.told.items new s'.due (option_map ending_of s'.ending)) core
-        ∙ ap (λ b. made variables rest (core_of files s.core) b s'.sent.items s'.told.items new s'.due (option_map ending_of s'.ending)) (book ∙ ap (λ k. with_answer s.due k it (held s.core.pending)) n)
-        ∙ ap (λ x. made variables rest (core_of files s.core) (with_answer s.due (get_or s.told.items s.due 0) it (held s.core.pending)) x s'.told.items new s'.due (option_map ending_of s'.ending)) sent
-        ∙ ap (λ x. made variables rest (core_of files s.core) (with_answer s.due (get_or s.told.items s.due 0) it (held s.core.pending)) s.sent.items x new s'.due (option_map ending_of s'.ending)) told_counts
-        ∙ ap (λ d. made variables rest (core_of files s.core) (with_answer s.due (get_or s.told.items s.due 0) it (held s.core.pending)) s.sent.items (bump s.told.items s.due) new d (option_map ending_of s'.ending)) due
-        ∙ ap (λ e. made variables rest (core_of files s.core) (with_answer s.due (get_or s.told.items s.due 0) it (held s.core.pending)) s.sent.items (bump s.told.items s.due) new s.due (option_map ending_of e)) ending;
+        ∙ ap (λ b. made variables rest (core_of files s.core) b s'.sent.items s'.told.items new s'.due (option_map ending_of s'.ending)) (book ∙ ap (λ k. with_answer s.due k (brought_by it) (held s.core.pending)) n)
+        ∙ ap (λ x. made variables rest (core_of files s.core) (with_answer s.due (get_or s.told.items s.due 0) (brought_by it) (held s.core.pending)) x s'.told.items new s'.due (option_map ending_of s'.ending)) sent
+        ∙ ap (λ x. made variables rest (core_of files s.core) (with_answer s.due (get_or s.told.items s.due 0) (brought_by it) (held s.core.pending)) s.sent.items x new s'.due (option_map ending_of s'.ending)) told_counts
+        ∙ ap (λ d. made variables rest (core_of files s.core) (with_answer s.due (get_or s.told.items s.due 0) (brought_by it) (held s.core.pending)) s.sent.items (bump s.told.items s.due) new d (option_map ending_of s'.ending)) due
+        ∙ ap (λ e. made variables rest (core_of files s.core) (with_answer s.due (get_or s.told.items s.due 0) (brought_by it) (held s.core.pending)) s.sent.items (bump s.told.items s.due) new s.due (option_map ending_of e)) ending;
   }
 
 -- the core holds the same, but for what is known of answers
-pub core_answered : (files : Files) (old new : code_core.Core) (slot number : ℕ) (it : Outcome) → new ≡ record old { pending = new.pending }
+pub core_answered : (files : Files) (old new : code_core.Core) (slot number : ℕ) (it : Brought) → new ≡ record old { pending = new.pending }
     → held new.pending ≡ with_answer slot number it (held old.pending) → core_of files new ≡ core_of files old
 core_answered files old new slot number it e h =
     ap (core_of files) e
@@ -111,25 +111,13 @@ core_answered files old new slot number it e h =
 
 -- ---- those before a place have answers still
 
-pub passed_still : {F : Type 0} → (slot number : ℕ) (it : Outcome) (hs hs' : List code_held.Held) (s : Stage F) → held hs' ≡ with_answer slot number it (held hs) → is_passed hs s ≡ true → is_passed hs' s ≡ true
+pub pub passed_still : {F : Type 0} → (slot number : ℕ) (it : Brought) (hs hs' : List code_held.Held) (s : Stage F) → held hs' ≡ with_answer slot number it (held hs) → is_passed hs s ≡ true → is_passed hs' s ≡ true
 passed_still slot number it hs hs' (stage.Waiting whose from) e p = passed_kept slot number it hs hs' whose from e p
 passed_still slot number it hs hs' stage.Start e p = refl
 passed_still slot number it hs hs' (stage.Resuming slots next condition) e p = refl
 passed_still slot number it hs hs' (stage.Going next n) e p = refl
 passed_still slot number it hs hs' (stage.Awaiting own last then_) e p = refl
 passed_still slot number it hs hs' (stage.Answered then_ job answer) e p = refl
-
--- where it is kept, or nothing changes
-pub kept_passed : {F X E : Type 0} → (told : F → Bool) (bytes : F → List ℕ) (r : Result X E) (slot number : ℕ) (job : Job F) (answer : Answer) (hs hs' : List code_held.Held) (s : Stage F)
-    → OnOk r (IsAnswered told bytes slot number job answer hs hs') → OnErr r (hs' ≡ hs) → is_passed hs s ≡ true → is_passed hs' s ≡ true
-kept_passed told bytes (Ok x) slot number job answer hs hs' s a none p = passed_still slot number (a.task, reply_of answer) hs hs' s a.answered p
-kept_passed told bytes (Err e) slot number job answer hs hs' s a none p = subst (λ ks. is_passed ks s ≡ true) (sym none) p
-
--- with the task of the job
-pub answered_by : {F : Type 0} → (told : F → Bool) (bytes : F → List ℕ) (slot number : ℕ) (job : Job F) (answer : Answer) (hs hs' : List code_held.Held) (task : Task) → task_of told bytes job ≡ Some task
-    → IsAnswered told bytes slot number job answer hs hs' → held hs' ≡ with_answer slot number (task, reply_of answer) (held hs)
-answered_by told bytes slot number job answer hs hs' task t a =
-    a.answered ∙ ap (λ (k : Task). with_answer slot number (k, reply_of answer) (held hs)) (some_same a.task task (sym a.is ∙ t))
 
 own_passed_by : {F : Type 0} → (hs : List code_held.Held) (b : Bool) (job : Job F) (answer : Answer) (own last : ℕ) (then_ : Then)
     → is_passed hs (cond b (stage.Answered then_ job answer) (stage.Awaiting own last then_)) ≡ true

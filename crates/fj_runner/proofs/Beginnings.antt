@@ -1,5 +1,5 @@
 -- How a statement begins, as plain data.
-use Rattle.std.proofs.Common.{◌≡◌, ℕ, true, false, not, List, ◌++◌, map, filter, Option, Some, None, Result, Ok, IfOk, is_none, refl, sym, ap, ◌∙◌, subst}
+use Rattle.std.proofs.Common.{◌≡◌, ℕ, true, false, not, List, ◌++◌, map, filter, Option, Some, None, Result, Ok, Err, IfOk, OnOk, is_none, refl, sym, ap, ◌∙◌, subst}
 use Rattle.fj_value.specs.declared.condition.Condition.{Condition}
 use Rattle.fj_value.specs.declared.condition.Rule.{Rule}
 use Rattle.fj_statement.specs.declared.deck.Variable.{Variable}
@@ -46,7 +46,7 @@ tells_doing st told r slots condition core e s c =
     ∙ ap (λ xs. ends_halts xs new (doing st.1 r.variables st.0.line new st.0.what condition)) s
     ∙ ap (λ x. ends_halts (halted_slots told r.core.units) new (doing st.1 r.variables st.0.line new st.0.what x)) c
 
-pub told_core_is : (files : Files) (variables : List Variable) (line : ℕ) (told : List Entry) (old : code.Core) (store : Storage) (pending : List code_held.Held) (tells : List code_tell.Tell)
+told_core_is : (files : Files) (variables : List Variable) (line : ℕ) (told : List Entry) (old : code.Core) (store : Storage) (pending : List code_held.Held) (tells : List code_tell.Tell)
     → values_of store ≡ with_inputs variables told (values_of old.store) → held pending ≡ filter (λ (h : Held). not (tells_id told h.pending.id)) (held old.pending)
     → tells_of tells ≡ tells_of old.tells ++ map (tell_of line) told
     → core_of files (record old { store = store; pending = pending; tells = tells }) ≡ told_core variables line told (core_of files old)
@@ -54,6 +54,14 @@ told_core_is files variables line told old store pending tells v b t =
     ap (λ vs. record (core_of files old) { vars = vs; book = map (λ (h : Held). h.pending) (held pending); tells = tells_of tells }) v
     ∙ ap (λ es. record (core_of files old) { vars = with_inputs variables told (values_of old.store); book = es; tells = tells_of tells }) (ap (map (λ (h : Held). h.pending)) b ∙ told_book told (held old.pending))
     ∙ ap (λ ts. record (told_core variables line told (core_of files old)) { tells = ts }) t
+
+-- where it is done
+pub told_core_of : {X E : Type 0} → (r : Result X E) (files : Files) (variables : List Variable) (line : ℕ) (told : List Entry) (old : code.Core) (store : Storage) (pending : List code_held.Held) (tells : List code_tell.Tell)
+    → OnOk r (values_of store ≡ with_inputs variables told (values_of old.store)) → OnOk r (held pending ≡ filter (λ (h : Held). not (tells_id told h.pending.id)) (held old.pending))
+    → OnOk r (tells_of tells ≡ tells_of old.tells ++ map (tell_of line) told)
+    → OnOk r (core_of files (record old { store = store; pending = pending; tells = tells }) ≡ told_core variables line told (core_of files old))
+told_core_of (Ok x) files variables line told old store pending tells v b t = told_core_is files variables line told old store pending tells v b t
+told_core_of (Err e) files variables line told old store pending tells v b t = tt
 
 -- ---- it waits
 

@@ -17,6 +17,7 @@ use Rattle.fj_world.specs.Conduct.{IsDueAsk, IsSettling, IsSubmitting, owed_afte
 use Rattle.fj_world.specs.declared.ask.Ask.{Ask}
 use Rattle.fj_world.specs.declared.ask.Ask.TheVariants as ask
 use Rattle.fj_units.specs.Having.{HaveFiles}
+use Rattle.fj_plain.specs.Transfers.{star_limit}
 use Rattle.fj_acts.specs.Fitting.{IsKept}
 use Rattle.fj_acts.specs.Having.{HaveThen}
 use Rattle.fj_acts.specs.Doing.{Ends}
@@ -45,7 +46,6 @@ use Rattle.fj_acts.specs.declared.doing.Given.{Given}
 use Rattle.fj_acts.specs.declared.doing.Given.TheVariants as given
 use Rattle.fj_acts.specs.declared.state.Core.{Core}
 use Rattle.fj_items.specs.declared.lost.Lost.{Lost}
-use Rattle.fj_runner.proofs.Keeping.{kept_as}
 use Rattle.fj_runner.proofs.Numbering.{equal_by}
 use Rattle.fj_runner.proofs.Spending.{none_ended, settle_asks, settle_left, submit_asks, submit_left, told_asks, took_asks}
 
@@ -88,16 +88,15 @@ have_start s names us what is have = subst (λ x. HaveAt x names us what) (sym i
 pub files_at : {F : Type 0} → (s : Stage F) (names : List (List ℕ)) (us : List Connected) (what : Statement) → s ≡ stage.Start → HaveAt s names us what → HaveFiles names us
 files_at s names us what is have = subst (λ x. HaveAt x names us what) is have
 
--- ---- variables are as they are declared
+-- ---- the record of `*` is within its limit
 
-kept_in : {F : Type 0} {ghosts : Ghosts F} → (m m' : Machine F ghosts) → m'.deck ≡ m.deck → m'.state ≡ m.state → IsKept m.deck.variables m.state.core → IsKept m'.deck.variables m'.state.core
-kept_in {F = F} {ghosts = ghosts} m m' deck same kept =
-    subst (λ d. IsKept d.variables m'.state.core) (sym deck) (subst (λ (x : State F ghosts). IsKept m.deck.variables x.core) (sym same) kept)
+kept_in : {F : Type 0} {ghosts : Ghosts F} → (m m' : Machine F ghosts) → m'.state ≡ m.state → IsKept m.state.core → IsKept m'.state.core
+kept_in {F = F} {ghosts = ghosts} m m' same kept = subst (λ (x : State F ghosts). IsKept x.core) (sym same) kept
 
 -- ---- a turn was taken
 
 module _ {F : Type 0} {ghosts : Ghosts F} (m : Machine F ghosts) (s : State F ghosts) (st : Stated) (more : List Stated) (few : s.ending ≡ None → s.core.next ≤ m.at + 1)
-    (units : s.ending ≡ None → length s.core.units ≤ m.at) (kept : IsKept m.deck.variables m.state.core) where
+    (units : s.ending ≡ None → length s.core.units ≤ m.at) (kept : IsKept m.state.core) where
   at_hand : (st' : Stated) (more' : List Stated) → rest_of m ≡ st ∷ more → rest_of m ≡ st' ∷ more' → st ≡ st'
   at_hand st' more' here e = let both : st ∷ more ≡ st' ∷ more' = sym here ∙ e in cc
 
@@ -129,7 +128,7 @@ module _ {F : Type 0} {ghosts : Ghosts F} (m : Machine F ghosts) (s : State F gh
         let u = units (sym ending ∙ ap (λ (x : State F ghosts). x.ending) (sym same) ∙ none) in
         let n : length m'.state.core.units ≡ length m.state.core.units = ap (λ (x : State F ghosts). length x.core.units) same in
         omega (arith, u, more, n, at);
-    kept = kept_in m m' deck same kept;
+    kept = kept_in m m' same kept;
   }
 
 -- one that does not pause gives no job
@@ -194,7 +193,7 @@ on_same {F = F} {ghosts = ghosts} m m' deck at same on =
           let u = on.units (ap (λ (x : State F ghosts). x.ending) (sym same) ∙ none) in
           let n : length m'.state.core.units ≡ length m.state.core.units = ap (λ (x : State F ghosts). length x.core.units) same in
           omega (arith, u, n, at);
-      kept = kept_in m m' deck same on.kept;
+      kept = kept_in m m' same on.kept;
     }
 
 -- ---- counts
@@ -438,7 +437,7 @@ module _ {F : Type 0} {ghosts : Ghosts F} (m m' : Machine F ghosts) (g : IsGoing
               let u = g.at.units (sym h.ending ∙ none) in
               let n : length m'.state.core.units ≡ length m.state.core.units = ap length h.units in
               omega (arith, u, n, at);
-          kept = subst (λ d. IsKept d.variables m'.state.core) (sym deck) (kept_as m.deck.variables m.state.core m'.state.core h.store h.output g.at.kept);
+          kept = subst (λ o. o.begun ≤ star_limit) (sym h.output) g.at.kept;
         };
         sent = subst (CanCount m'.state.sent.items m'.tally.left) (sym (none_idle m'.tally.hand idle))
             (subst (λ l. CanCount l.items m'.tally.left 0) (sym h.sent) (can_less m.state.sent.items m.tally.left m'.tally.left m.tally.hand less g.sent));

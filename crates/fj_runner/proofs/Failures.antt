@@ -1,13 +1,12 @@
 -- Turns that are given up.
 use Rattle.std.proofs.Common.{◌≡◌, ◌≢◌, ℕ, Bool, true, List, [], ◌++◌, Option, Some, None, Result, Ok, Err, OnErr, inl, inr, refl, sym, ap, ◌∙◌, subst}
 use Rattle.std.specs.Prelude.{◌⊎◌}
-use Rattle.std.proofs.lemmas.List.{append-nil}
 use Rattle.fj_outside.specs.Faults.{Rose}
 use Rattle.fj_outside.specs.Holdings.{Holdings}
 use Rattle.fj_statement.specs.declared.deck.Variable.{Variable}
 use Rattle.fj_statement.specs.declared.statement.Statement.{Statement}
 use Rattle.fj_statement.specs.declared.statement.Statement.TheVariants as statement
-use Rattle.fj_items.specs.Handing.{HandsOver, HandsFront, HandsPart, whole_records}
+use Rattle.fj_items.specs.Handing.{HandsFront, HandsPart}
 use Rattle.fj_items.specs.declared.lost.Lost.{Lost}
 use Rattle.fj_items.specs.declared.lost.Lost.TheVariants.{Disk, Sink, Unfit}
 use Rattle.fj_plain.specs.State.{Output, Tell}
@@ -20,17 +19,9 @@ use Rattle.fj_turns.specs.Passing.{output_of}
 use Rattle.fj_pending.specs.Plain.{tells_of}
 use Rattle.fj_acts.specs.Calling.{may_close, calls_disk}
 use Rattle.fj_acts.specs.State.{core_at}
-use Rattle.fj_acts.specs.Doing.{IsDoing}
-use Rattle.fj_acts.specs.declared.doing.Doing.{Doing}
-use Rattle.fj_acts.specs.declared.doing.Doing.TheVariants as doing
 use Rattle.fj_acts.specs.declared.state.Core.{Core}
 use Rattle.fj_runner.specs.Failing.{AllFits, FailsTurn, FailsStage, StandsDoing, OfOutside}
-
--- ---- what a sink took
-
--- all of it is a front
-pub hands_front : (a b : List ℕ) (x due : Output) → HandsOver a b x due → HandsFront a b x due
-hands_front a b x due h = (h.0, [], h.1 ∙ ap (λ w. whole_records x ++ w) (sym (append-nil h.0)), h.2)
+use Rattle.fj_runner.proofs.Stepping.{went}
 
 on_err : {X : Type 0} → (r : Result X Lost) (P : Type 0) → P → OnErr r P
 on_err (Ok it) P p = tt
@@ -46,12 +37,6 @@ pub act_output : (st : Stated) (does : PlainDoing) (r : Run) → output_of (turn
 act_output st (finishes core condition) r = finish_output (ends st.0.line st.0.what condition) (with_core (with_iostat st condition r core) r)
 act_output st (gives slot job core next) r = refl
 act_output st (awaits slot job core next) r = refl
-
-pub doing_output : {F : Type 0} → (told : F → Bool) (bytes : F → List ℕ) (variables : List Variable) (st : Stated) (core : PlainCore) (does : Doing F) (plain : PlainDoing)
-    → IsDoing told bytes variables st core does plain → (core_at plain).output ≡ core.output
-doing_output told bytes variables st core (doing.Finishes condition) plain d = ap (λ p. (core_at p).output) d
-doing_output told bytes variables st core (doing.Gives slot job next) plain d = ap (λ p. (core_at p).output) d.gives
-doing_output told bytes variables st core (doing.Awaits slot job next) plain d = ap (λ p. (core_at p).output) d.gives
 
 -- ---- what is done with the disk
 
@@ -70,11 +55,6 @@ closing_calls statement.End e = e
 neither : {X : Type 0} → {r : Result X Lost} {P : Type 0} → r ≢ Err Disk → r ≢ Err Sink → OfOutside (λ lost. r ≡ Err lost) → P
 neither n s (inl e) = absurd (n e)
 neither n s (inr e) = absurd (s e)
-
--- it went, where it can be given up only because something does not fit
-pub only_unfit : {X : Type 0} → (r : Result X Lost) (P : Type 0) → OnErr r (r ≡ Err Unfit) → AllFits (λ lost. r ≡ Err lost) → OnErr r P
-only_unfit (Ok it) P u fits = tt
-only_unfit (Err lost) P u fits = absurd (fits u)
 
 -- what the outside fails in fits
 outside_fits : {X : Type 0} → (r : Result X Lost) → OfOutside (λ lost. r ≡ Err lost) → AllFits (λ lost. r ≡ Err lost)
@@ -106,19 +86,19 @@ module _ {W : Type 0} {tells_out : W → Type 0} {taken : W → List ℕ} {held 
     begun = λ t e. absurd (s e);
   }
 
-  -- it is not for the outside, and all is written
-  pub fails_acting : {X : Type 0} → (out out' : W) (core core' : Core) (r : Result X Lost) (due : Output) (Known : Type 0) (told : List Tell) {Still : Type 0} {does : Option PlainDoing} {Called : Type 0} → r ≢ Err Disk → r ≢ Err Sink
-      → OnErr r (r ≡ Err Unfit) → (tells_out out → HandsOver (taken out) (taken out') core.output due) → FailsTurn tells_out taken out core r out' core' held before now due Still Known told does Called
-  fails_acting out out' core core' r due Known told {Still = Still} {does = does} n s u h = record {
-    fits = only_unfit r (Still ⊎ (Known × StandsDoing does core' held before now)) u;
-    front = λ t. on_err r (HandsFront (taken out) (taken out') core.output due ⊎ (taken out' ≡ taken out)) (inl (hands_front (taken out) (taken out') core.output due (h t)));
-    known = λ e. neither n s e;
-    stands = λ e. neither n s e;
-    output = λ e. absurd (n e);
-    tells = λ e. absurd (n e);
-    rose = λ e. absurd (n e);
-    called = λ e. absurd (n e);
-    begun = λ t e. absurd (s e);
+  -- it goes on
+  pub fails_went : {X : Type 0} → (out out' : W) (core core' : Core) (x : X) (due : Output) (Known : Type 0) (told : List Tell) {Still : Type 0} {does : Option PlainDoing} {Called : Type 0}
+      → FailsTurn tells_out taken out core (went x) out' core' held before now due Still Known told does Called
+  fails_went out out' core core' x due Known told = record {
+    fits = λ fits. tt;
+    front = λ t. tt;
+    known = λ e. neither (λ q. cc) (λ q. cc) e;
+    stands = λ e. neither (λ q. cc) (λ q. cc) e;
+    output = λ e. cc;
+    tells = λ e. cc;
+    rose = λ e. cc;
+    called = λ e. cc;
+    begun = λ t e. cc;
   }
 
   -- its own action is given up

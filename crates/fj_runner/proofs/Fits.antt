@@ -1,11 +1,6 @@
 -- A statement that goes on with the number of its job fits.
-use Rattle.std.proofs.Common.{◌≡◌, ℕ, ◌+◌, ◌<◌, ◌^◌, true, List, length, IfSome, sym, ◌∙◌, subst, arith}
+use Rattle.std.proofs.Common.{◌≡◌, ℕ, ◌+◌, ◌<◌, ◌^◌, true, List, length, sym, ◌∙◌, subst, arith}
 use Rattle.std.proofs.lemmas.List.Elements.{All-weaker}
-use Rattle.fj_statement.specs.Sound.{IsIntegerPlace, IsSoundStatement}
-use Rattle.fj_statement.specs.declared.deck.Variable.{Variable}
-use Rattle.fj_statement.specs.declared.statement.Statement.{Statement}
-use Rattle.fj_statement.specs.declared.statement.Statement.TheVariants as statement
-use Rattle.fj_plain.specs.Statement.{iostat_of}
 use Rattle.fj_desk.specs.Desks.{most_slots}
 use Rattle.fj_pending.specs.declared.held.Held.{Held}
 use Rattle.fj_acts.specs.Fitting.{MayGoOn}
@@ -14,17 +9,6 @@ use Rattle.fj_acts.specs.declared.doing.Given.TheVariants as given
 use Rattle.fj_acts.specs.declared.state.Core.{Core}
 use Rattle.fj_runner.specs.Numbering.{AreNamed, IsLast, pends_by}
 use Rattle.fj_runner.proofs.Numbering.{at_itself, slot_given}
-
--- IOSTAT= of a sound statement is an integer
-pub iostat_fits : (vs : List Variable) (what : Statement) → IsSoundStatement vs what → IfSome (iostat_of what) (IsIntegerPlace vs)
-iostat_fits vs (statement.Assign to from) s = tt
-iostat_fits vs (statement.OpenUnit u spec iostat) s = s
-iostat_fits vs (statement.CloseUnit u keep iostat) s = s
-iostat_fits vs (statement.WaitFor u id iostat) s = s.1
-iostat_fits vs (statement.Move how u iostat) s = s
-iostat_fits vs (statement.Inquire subject asked id iostat) s = s.iostat_is
-iostat_fits vs (statement.Transfer t) s = s.iostat
-iostat_fits vs statement.End s = tt
 
 -- the transfer comes behind the pending ones
 pub may_go_on : (sent : List ℕ) (next : Given) (number : ℕ) (core : Core) → length sent ≡ most_slots → AreNamed core.next core.pending

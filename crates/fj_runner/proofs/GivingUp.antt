@@ -229,10 +229,10 @@ lost_is e = cc
 pub only_first : (o : Option Lost) (b : Bool) (lost first : Lost) → (IsSome o → b ≡ true) → b ≡ false → first_lost o lost ≡ Some first → lost ≡ first
 only_first o b lost first h f e = let n = first_some o b h f in some_same lost first (sym (ap (λ k. first_lost k lost) n) ∙ e)
 
--- and it fits not, where no stop was told
-pub only_stop : (stopped : Bool) (lost : Option Lost) → stopped ≡ false → (stopped ≡ true) ⊎ (lost ≡ Some Unfit) → AllFits (λ x. lost ≡ Some x) → ⊥
-only_stop stopped lost n (inl stop) fits = not_both stopped stop n
-only_stop stopped lost n (inr unfit) fits = fits unfit
+-- it gives up at a stop alone
+pub only_stop : (done over over' stopped : Bool) → (done ≡ true → over' ≡ over) → (done ≡ false → (over' ≡ true) × (stopped ≡ true)) → over ≡ false → over' ≡ true → stopped ≡ false → ⊥
+only_stop true over over' stopped goes halts going up none = not_both over' up (goes refl ∙ going)
+only_stop false over over' stopped goes halts going up none = not_both stopped (halts refl).1 none
 
 none_outside : (o : Option Lost) → o ≡ None → OfOutside (λ lost. o ≡ Some lost) → ⊥
 none_outside o n (inl d) = let no : None ≡ Some Disk = sym n ∙ d in cc
@@ -251,7 +251,7 @@ module _ {F : Type 0} {ghosts : Ghosts F} where
       fails_none (λ lost. m'.tally.lost ≡ Some lost) TellsOut a r m m' (rest ∙ ap (λ (x : Run). x.rest) k.2) (sym (ap (λ (x : Run). x.core.output) k.2)) (none_rests m m' s going) asks
 
   pub rests_ask : {D : Type 0} (disk : D) (m m' : Machine F ghosts) → Rests m m'
-      → (m.tally.over ≡ false → m'.tally.over ≡ true → m'.tally.stopped ≡ false → AllFits (λ lost. m'.tally.lost ≡ Some lost) → IsSubmitting (due_of m.tally.hand)) → FailsAsking disk disk m m'
+      → (m.tally.over ≡ false → m'.tally.over ≡ true → m'.tally.stopped ≡ false → IsSubmitting (due_of m.tally.hand)) → FailsAsking disk disk m m'
   rests_ask disk m m' s submits = record {
     outside = λ going o. absurd (none_rests m m' s going o);
     same_disk = λ asks. refl;

@@ -12,7 +12,7 @@ use Rattle.fj_runner.specs.Stepping.{Steps}
 use Rattle.fj_runner.specs.declared.stage.Stage.TheVariants as stage
 use Rattle.fj_runner.specs.declared.machine.Machine.{Machine}
 use Rattle.fj_runner.proofs.GivingUp.{passes_both, passes_one}
-use Rattle.fj_runner.proofs.Stepping.{went, kept_steps, ok_keeps, then_steps, ok_steps}
+use Rattle.fj_runner.proofs.Stepping.{went, kept_steps, ok_steps, same_keeps, then_steps}
 
 module _ {W D F : Type 0} {ghosts : Ghosts F} (tells_out : W → Type 0) (taken : W → List ℕ) (count_out : W → ℕ) (tells : D → Type 0) (held : D → Holdings) (count refusals : D → ℕ) where
   -- what is asked from here on is what was to be asked
@@ -32,7 +32,7 @@ module _ {W D F : Type 0} {ghosts : Ghosts F} (tells_out : W → Type 0) (taken 
 
   pub goes_none : (out : W) (disk : D) (m : Machine F ghosts) → GoesOn out disk m out disk m
   goes_none out disk m = record {
-    steps = kept_steps out disk m.state.core m.state.core (went (tt {0})) (ok_keeps m.state.core m.state.core (tt {0}) refl);
+    steps = kept_steps out disk m.state.core m.state.core (tt {0}) (same_keeps m.state.core m.state.core refl);
     goes = λ t h. (h, refl);
     passed = λ t. (0, refl);
     deck = refl;

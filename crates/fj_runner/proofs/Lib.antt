@@ -15,5 +15,4 @@ pub mod GivingUp
 pub mod Numbering
 pub mod Fits
 pub mod Counting
-pub mod Keeping
 pub mod Spending

@@ -1,19 +1,12 @@
 -- What a run begins with.
-use Rattle.std.proofs.Common.{◌≡◌, ℕ, zero, suc, ◌≤◌, false, List, [], ◌∷◌, length, map, replicate, slice_get, unwrap_or, Option, Some, None, refl, sym, ap, subst, ◌∙◌, arith}
-use Rattle.std.specs.Prelude.{option_and_then}
-use Rattle.std.proofs.lemmas.List.{length-replicate}
+use Rattle.std.proofs.Common.{◌≡◌, ℕ, zero, suc, ◌≤◌, false, List, [], ◌∷◌, map, replicate, unwrap_or, Option, Some, None, refl, sym, ap, subst, ◌∙◌, arith}
 use Rattle.fj_value.specs.declared.kind.Kind.{Kind}
-use Rattle.fj_value.specs.declared.place.Place.{Place}
 use Rattle.fj_value.specs.declared.value.Value.{Value}
 use Rattle.fj_value.specs.declared.value.Value.TheVariants.{Undefined}
 use Rattle.fj_statement.specs.declared.deck.Variable.{Variable}
 use Rattle.fj_store.specs.Storage.{Storage, all_undefined, values_of}
-use Rattle.fj_store.specs.Tables.{element_at, element_in}
-use Rattle.fj_store.specs.Variables.{Variables, value_at}
-use Rattle.fj_items.specs.Fitting.{AreKept}
-use Rattle.fj_items.specs.Kinds.{Fits, kinds_of}
-use Rattle.fj_items.proofs.Values.{undefined_fits}
-use Rattle.fj_plain.specs.Items.{kind_of}
+use Rattle.fj_store.specs.Variables.{Variables}
+use Rattle.fj_items.specs.Kinds.{kinds_of}
 use Rattle.fj_plain.specs.Transfers.{star_limit}
 use Rattle.fj_plain.specs.State.{Files, Output, Tell, elements}
 use Rattle.fj_plain.specs.Statement.{Stated}
@@ -74,42 +67,8 @@ run_made variables deck files core pending sent told c p s t =
     ∙ ap (λ x. begun variables deck (fresh variables files).core [] x told) s
     ∙ ap (λ x. begun variables deck (fresh variables files).core [] (replicate 16 0) x) t
 
--- ---- no place has a value
-
-abbrev none_defined : List Variable → Variables
-none_defined variables = map (λ (v : Variable). replicate (elements v) Undefined) variables
-
-abbrev IsNone : Option Value → Type 0
-IsNone o = unwrap_or o Undefined ≡ Undefined
-
-none_at : (n at : ℕ) → IsNone (slice_get (replicate n Undefined) at)
-none_at zero at = refl
-none_at (suc n) zero = refl
-none_at (suc n) (suc at) = none_at n at
-
-none_in : (n index : ℕ) → IsNone (element_in index (replicate n Undefined))
-none_in n zero = refl
-none_in n (suc at) = none_at n at
-
-none_there : (variables : List Variable) (var index : ℕ) → IsNone (option_and_then (element_in index) (slice_get (none_defined variables) var))
-none_there [] var index = refl
-none_there (v ∷ vs) zero index = none_in (elements v) index
-none_there (v ∷ vs) (suc var) index = none_there vs var index
-
-lengths_are : (variables : List Variable) → map length (none_defined variables) ≡ map elements variables
-lengths_are [] = refl
-lengths_are (v ∷ vs) = ap (λ n. n ∷ map length (none_defined vs)) (length-replicate (elements v) Undefined) ∙ ap (λ ns. elements v ∷ ns) (lengths_are vs)
-
-first_kept : (variables : List Variable) → AreKept variables (none_defined variables)
-first_kept variables = record {
-  places = lengths_are variables;
-  kinds = λ place. subst (Fits (kind_of variables place.var)) (sym (none_there variables place.var place.index)) (undefined_fits (kind_of variables place.var));
-}
-
-pub core_kept : (variables : List Variable) (core : code.Core) (files : Files) → core_of files core ≡ (fresh variables files).core → IsKept variables core
+-- no record of `*` is begun
+pub core_kept : (variables : List Variable) (core : code.Core) (files : Files) → core_of files core ≡ (fresh variables files).core → IsKept core
 core_kept variables core files is =
     let none : core.output.begun ≡ 0 = ap (λ (k : Core). k.output.begun) is in
-    record {
-      values = subst (AreKept variables) (sym (ap (λ (k : Core). k.vars) is)) (first_kept variables);
-      begun = subst (λ n. n ≤ star_limit) (sym none) (omega arith);
-    }
+    subst (λ n. n ≤ star_limit) (sym none) (omega arith)

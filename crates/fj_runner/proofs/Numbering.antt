@@ -9,7 +9,7 @@ use Rattle.std.proofs.lemmas.List.Elements.{All-nil, All-cons, All-head, All-tai
 use Rattle.fj_bay.specs.declared.job.Job.{Job}
 use Rattle.fj_bay.specs.declared.job.Answer.{Answer}
 use Rattle.fj_desk.specs.Core.{Pending}
-use Rattle.fj_desk.specs.Desks.{Outcome, most_slots}
+use Rattle.fj_desk.specs.Desks.{Brought, most_slots}
 use Rattle.fj_plain.specs.State.{Entry}
 use Rattle.fj_plain.specs.Telling.{tells_id}
 use Rattle.fj_turns.specs.Run.{Held as PlainHeld}
@@ -24,7 +24,7 @@ use Rattle.fj_acts.specs.declared.doing.Given.{Given}
 use Rattle.fj_acts.specs.declared.doing.Given.TheVariants as given
 use Rattle.fj_acts.specs.declared.doing.Then.{Then}
 use Rattle.fj_acts.specs.declared.state.Core.{Core}
-use Rattle.fj_runner.specs.Answering.{IsAnswered, with_own}
+use Rattle.fj_runner.specs.Answering.{with_own}
 use Rattle.fj_runner.specs.Numbering.{AreGiven, AreNamed, AreSlots, AreUntold, AreWithin, IsLast, IsUntold, OwnIsLast, OwnIsUntold, gave, pends_by, slots_behind}
 use Rattle.fj_runner.specs.Passing.{awaits, is_waiting}
 use Rattle.fj_runner.specs.declared.stage.Stage.{Stage}
@@ -198,17 +198,12 @@ unmapped : {X : Type 0} → (f : Held → X) (P : X → Type 0) (hs : List Held)
 unmapped f P [] all = All-nil (λ (h : Held). P (f h))
 unmapped f P (h ∷ hs) all = All-cons (λ (h : Held). P (f h)) h hs (All-head P (f h) (map f hs) all) (unmapped f P hs (All-tail P (f h) (map f hs) all))
 
-transfers_same : (slot number : ℕ) (it : Outcome) (hs hs' : List Held) → held hs' ≡ with_answer slot number it (held hs) → map pending_of hs' ≡ map pending_of hs
+pub transfers_same : (slot number : ℕ) (it : Brought) (hs hs' : List Held) → held hs' ≡ with_answer slot number it (held hs) → map pending_of hs' ≡ map pending_of hs
 transfers_same slot number it hs hs' e =
     sym (pendings_are hs') ∙ ap (map (λ (h : PlainHeld). h.pending)) e ∙ answered_pendings slot number it (held hs) ∙ pendings_are hs
 
 all_answered : (P : Pending → Type 0) (hs hs' : List Held) → map pending_of hs' ≡ map pending_of hs → All (λ (h : Held). P (pending_of h)) hs → All (λ (h : Held). P (pending_of h)) hs'
 all_answered P hs hs' e all = unmapped pending_of P hs' (subst (All P) (sym e) (All-map P pending_of hs all))
-
-pub transfers_kept : {F X E : Type 0} → (told : F → Bool) (bytes : F → List ℕ) (r : Result X E) (slot number : ℕ) (job : Job F) (answer : Answer) (hs hs' : List Held)
-    → OnOk r (IsAnswered told bytes slot number job answer hs hs') → OnErr r (hs' ≡ hs) → map pending_of hs' ≡ map pending_of hs
-transfers_kept told bytes (Ok x) slot number job answer hs hs' a none = transfers_same slot number _ hs hs' a.answered
-transfers_kept told bytes (Err e) slot number job answer hs hs' a none = ap (map pending_of) none
 
 pub given_answered : (sent : List ℕ) (hs hs' : List Held) → map pending_of hs' ≡ map pending_of hs → AreGiven sent hs → AreGiven sent hs'
 given_answered sent hs hs' e all = all_answered (λ (p : Pending). p.number < get_or sent p.slot 0) hs hs' e all
@@ -306,14 +301,14 @@ module _ (told : List ℕ) (slot more : ℕ) (inside : slot < length told) (is :
   within_told sent low owed = λ at.
       below at (get_or sent at 0) (low at) (λ e f. let z : get_or sent at 0 ≡ get_or sent slot 0 = ap (λ k. get_or sent k 0) e in let bad : ⊥ = omega (arith, z, f, owed) in bad)
 
-  answer_by : (number : ℕ) (it : Outcome) (h : PlainHeld) → number ≡ get_or told slot 0 → (b : Bool) → is_at slot number h.pending ≡ b → IsUntold told h
+  answer_by : (number : ℕ) (it : Brought) (h : PlainHeld) → number ≡ get_or told slot 0 → (b : Bool) → is_at slot number h.pending ≡ b → IsUntold told h
       → IsUntold (slice_set told slot more) (cond b (record { pending = h.pending; answer = Some it }) h)
   answer_by number it h n true e low = λ none. let z : false ≡ true = none in cc
   answer_by number it h n false e low = λ none.
       below h.pending.slot h.pending.number (low none)
       (λ a b. let z : true ≡ false = sym (ap (λ t. t && (h.pending.number == number)) (eq-eqb h.pending.slot slot a) ∙ eq-eqb h.pending.number number (b ∙ sym n)) ∙ e in let bad : ⊥ = cc in bad)
 
-  untold_with : (number : ℕ) (it : Outcome) (hs : List Held) → number ≡ get_or told slot 0 → AreUntold told hs → All (IsUntold (slice_set told slot more)) (with_answer slot number it (held hs))
+  untold_with : (number : ℕ) (it : Brought) (hs : List Held) → number ≡ get_or told slot 0 → AreUntold told hs → All (IsUntold (slice_set told slot more)) (with_answer slot number it (held hs))
   untold_with number it hs n all =
       let given : PlainHeld → PlainHeld = λ (h : PlainHeld). if is_at slot number h.pending then record { pending = h.pending; answer = Some it } else h in
       let P : PlainHeld → Type 0 = IsUntold (slice_set told slot more) in
@@ -321,7 +316,7 @@ module _ (told : List ℕ) (slot more : ℕ) (inside : slot < length told) (is :
       (All-map (λ h. P (given h)) held_of hs (All-weaker (λ (h : Held). IsUntold told (held_of h)) (λ (h : Held). P (given (held_of h))) (λ h low. answer_by number it (held_of h) n (is_at slot number (held_of h).pending) refl low) hs all))
 
   -- the transfer whose job it is has its answer
-  pub untold_answered : (number : ℕ) (it : Outcome) (hs hs' : List Held) → number ≡ get_or told slot 0 → held hs' ≡ with_answer slot number it (held hs) → AreUntold told hs → AreUntold (slice_set told slot more) hs'
+  pub untold_answered : (number : ℕ) (it : Brought) (hs hs' : List Held) → number ≡ get_or told slot 0 → held hs' ≡ with_answer slot number it (held hs) → AreUntold told hs → AreUntold (slice_set told slot more) hs'
   untold_answered number it hs hs' n e all = unmapped held_of (IsUntold (slice_set told slot more)) hs' (subst (All (IsUntold (slice_set told slot more))) (sym e) (untold_with number it hs n all))
 
   waiting_gave : {F : Type 0} → (at number : ℕ) (s : Stage F) → is_waiting s ≡ true → gave at number s ≡ true → awaits at number s ≡ true

@@ -45,10 +45,6 @@ pub on_ok : {X : Type 0} → (r : Result X Lost) (P Q : Type 0) → (P → Q) �
 on_ok (Ok it) P Q go p = go p
 on_ok (Err lost) P Q go p = tt
 
-pub on_any : {X : Type 0} → (r : Result X Lost) (P : Type 0) → P → OnOk r P
-on_any (Ok it) P p = p
-on_any (Err lost) P p = tt
-
 -- ---- faults
 
 pub rose_before : (a b c : ℕ) → a ≤ b → Rose b c → Rose a c
@@ -64,33 +60,28 @@ in_use_still names names' in_use e h = subst (λ ns. AreInUse ns in_use) (sym e)
 
 -- ---- steps
 
-pub same_keeps : {X : Type 0} → (core core' : Core) (r : Result X Lost) → core' ≡ core → r ≢ Err Disk → r ≢ Err Sink → Keeps core r core'
-same_keeps core core' r e d s = record {
+pub same_keeps : (core core' : Core) → core' ≡ core → Keeps core core'
+same_keeps core core' e = record {
   kinds = ap (λ (c : Core). c.store.kinds) e;
   names = ap (λ (c : Core). c.names) e;
   output = ap (λ (c : Core). c.output) e;
-  disk = d;
-  sink = s;
 }
-
-pub ok_keeps : {X : Type 0} → (core core' : Core) (x : X) → core' ≡ core → Keeps core (went x) core'
-ok_keeps core core' x e = same_keeps core core' (went x) e (λ q. cc) (λ q. cc)
 
 module _ {W D : Type 0} {tells_out : W → Type 0} {taken : W → List ℕ} {count_out : W → ℕ} {tells : D → Type 0} {held : D → Holdings} {count refusals : D → ℕ} where
   -- it calls nothing of the outside
-  pub kept_steps : {X : Type 0} → (out : W) (disk : D) (core core' : Core) (r : Result X Lost) → Keeps core r core' → Steps tells_out taken count_out tells held count refusals out disk core r out disk core'
-  kept_steps out disk core core' r k = record {
+  pub kept_steps : {X : Type 0} → (out : W) (disk : D) (core core' : Core) (x : X) → Keeps core core' → Steps tells_out taken count_out tells held count refusals out disk core (went x) out disk core'
+  kept_steps out disk core core' x k = record {
     kinds = k.kinds;
     names = λ t. in_use_still core.names core'.names (held disk).in_use k.names;
     telling = (λ t. t, λ t. t);
     later = omega arith;
     own = λ t. omega arith;
-    failed = λ e. absurd (k.disk e);
+    failed = λ e. cc;
     telling_out = (λ t. t, λ t. t);
     later_out = omega arith;
-    failed_out = λ e. absurd (k.sink e);
-    still = λ t e. hands_none (taken out) (taken out) core.output core'.output refl k.output;
-    output = λ t. on_any r (HandsOver (taken out) (taken out) core.output core'.output) (hands_none (taken out) (taken out) core.output core'.output refl k.output);
+    failed_out = λ e. cc;
+    still = λ t e. cc;
+    output = λ t. hands_none (taken out) (taken out) core.output core'.output refl k.output;
     front = λ t. takes_none (taken out) (taken out) refl;
   }
 

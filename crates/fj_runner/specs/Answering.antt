@@ -1,20 +1,9 @@
--- What becomes of an answer.
-use Rattle.std.specs.Prelude.{◌≡◌, ℕ, ◌==◌, ◌&&◌, Bool, List, Some, if◌then◌else◌}
-use Rattle.fj_bay.specs.Jobs.{Job as Task}
-use Rattle.fj_bay.specs.Plain.{task_of, reply_of}
+-- What becomes of the answer of a job that is no pending transfer.
+use Rattle.std.specs.Prelude.{ℕ, ◌==◌, ◌&&◌, if◌then◌else◌}
 use Rattle.fj_bay.specs.declared.job.Job.{Job}
 use Rattle.fj_bay.specs.declared.job.Answer.{Answer}
-use Rattle.fj_turns.specs.Turns.{with_answer}
-use Rattle.fj_pending.specs.Plain.{held}
-use Rattle.fj_pending.specs.declared.held.Held.{Held}
 use Rattle.fj_runner.specs.declared.stage.Stage.{Stage}
 use Rattle.fj_runner.specs.declared.stage.Stage.TheVariants as stage
-
--- the transfer whose job has that number at that slot has its answer
-pub record IsAnswered {F : Type 0} (told : F → Bool) (bytes : F → List ℕ) (slot number : ℕ) (job : Job F) (answer : Answer) (old new : List Held) : Type 0 where
-  pub task : Task
-  pub is : task_of told bytes job ≡ Some task
-  pub answered : held new ≡ with_answer slot number (task, reply_of answer) (held old)
 
 -- the statement's own job came back, where it has that number at that slot
 abbrev pub with_own : {F : Type 0} → ℕ → ℕ → Job F → Answer → Stage F → Stage F

@@ -119,13 +119,13 @@ IsGivenUp TellsOut taken taken' held before now state m m' =
     (r : Run) → state ≡ Some r → m.tally.over ≡ false → m'.tally.over ≡ true → m'.tally.stopped ≡ false → GivesUp TellsOut taken taken' held before now r m m'
 
 -- Until it is over, the outside fails in an ask alone. A call that hears what became of an ask leaves disk, units and the place of the
--- statement at hand; if it gives up, and no stop was told, something does not fit, or there was no memory to submit a job.
+-- statement at hand; if it gives up, and no stop was told, it was of a job that was submitted and refused.
 pub record FailsAsking {D F : Type 0} {ghosts : Ghosts F} (disk disk' : D) (m m' : Machine F ghosts) : Type 0 where
   pub outside : m.tally.over ≡ false → OfOutside (λ lost. m'.tally.lost ≡ Some lost) → m.tally.hand ≡ Idle
   pub same_disk : m.tally.hand ≢ Idle → disk' ≡ disk
   pub units : m.tally.hand ≢ Idle → m'.state.core.units ≡ m.state.core.units
   pub at : m.tally.hand ≢ Idle → m'.at ≡ m.at
-  pub submits : m.tally.hand ≢ Idle → m.tally.over ≡ false → m'.tally.over ≡ true → m'.tally.stopped ≡ false → AllFits (λ lost. m'.tally.lost ≡ Some lost) → IsSubmitting (due_of m.tally.hand)
+  pub submits : m.tally.hand ≢ Idle → m.tally.over ≡ false → m'.tally.over ≡ true → m'.tally.stopped ≡ false → IsSubmitting (due_of m.tally.hand)
 
 -- ---- once it is over
 

@@ -94,7 +94,6 @@ pub record Hears {F : Type 0} {ghosts : Ghosts F} (s s' : State F ghosts) : Type
   pub next : s'.core.next ≡ s.core.next
   pub ending : s'.ending ≡ s.ending
   pub sent : s'.sent ≡ s.sent
-  pub store : s'.core.store ≡ s.core.store
   pub output : s'.core.output ≡ s.core.output
   pub units : s'.core.units ≡ s.core.units
   pub jobs : (most units : ℕ) → jobs_at most s'.stage units ≡ jobs_at most s.stage units
@@ -118,17 +117,17 @@ AwaitsAtHand _ s = Unit {0}
 -- ---- a run
 
 -- At a statement: the units have the files that are out, each statement behind had one identifier at most and connected one unit at
--- most, variables are as they are declared, and the record of `*` is within its limit.
+-- most, and the record of `*` is within its limit.
 pub record IsAt {F : Type 0} {ghosts : Ghosts F} (m : Machine F ghosts) : Type 0 where
   pub files : (st : Stated) (more : List Stated) → rest_of m ≡ st ∷ more → HaveAt m.state.stage m.state.core.names m.state.core.units st.0.what
   pub few : m.state.ending ≡ None → m.state.core.next ≤ m.at + 1
   pub units : m.state.ending ≡ None → length m.state.core.units ≤ m.at
-  pub kept : IsKept m.deck.variables m.state.core
+  pub kept : IsKept m.state.core
 
 -- what follows from a turn of the statement at hand that brought the state here, and from where it began
 abbrev pub FromStart : {F : Type 0} {ghosts : Ghosts F} → Machine F ghosts → Turned F → (State F ghosts → Type 0) → Type 0
 FromStart {F} {ghosts} m t P = (s : State F ghosts) (st : Stated) (more : List Stated) → rest_of m ≡ st ∷ more → HaveTurned t m.state st.0.what → Counts t s m.state → Connects t s m.state
-    → (s.ending ≡ None → s.core.next ≤ m.at + 1) → (s.ending ≡ None → length s.core.units ≤ m.at) → IsKept m.deck.variables m.state.core → P s
+    → (s.ending ≡ None → s.core.next ≤ m.at + 1) → (s.ending ≡ None → length s.core.units ≤ m.at) → IsKept m.state.core → P s
 
 -- from the turn alone
 abbrev pub FromTurn : {F : Type 0} {ghosts : Ghosts F} → Machine F ghosts → Turned F → Type 0 → Type 0

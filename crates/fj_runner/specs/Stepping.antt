@@ -1,5 +1,5 @@
 -- What a step of a statement leaves of its disk, its sink and the core of its run, whatever it comes to.
-use Rattle.std.specs.Prelude.{◌≡◌, ◌≢◌, ◌↔◌, ℕ, ◌≤◌, List, Result, Err, OnOk}
+use Rattle.std.specs.Prelude.{◌≡◌, ◌↔◌, ℕ, ◌≤◌, List, Result, Err, OnOk}
 use Rattle.fj_outside.specs.Faults.{Rose}
 use Rattle.fj_outside.specs.Holdings.{Holdings}
 use Rattle.fj_items.specs.Handing.{HandsOver}
@@ -10,12 +10,10 @@ use Rattle.fj_acts.specs.declared.state.Core.{Core}
 use Rattle.fj_runner.specs.Taking.{TakesMore}
 
 -- it calls nothing of the outside
-pub record Keeps {X : Type 0} (core : Core) (result : Result X Lost) (core' : Core) : Type 0 where
+pub record Keeps (core core' : Core) : Type 0 where
   pub kinds : core'.store.kinds ≡ core.store.kinds
   pub names : core'.names ≡ core.names
   pub output : core'.output ≡ core.output
-  pub disk : result ≢ Err Disk
-  pub sink : result ≢ Err Sink
 
 pub record Steps {W D X : Type 0} (tells_out : W → Type 0) (taken : W → List ℕ) (count_out : W → ℕ) (tells : D → Type 0) (held : D → Holdings) (count refusals : D → ℕ)
     (out : W) (disk : D) (core : Core) (result : Result X Lost) (out' : W) (disk' : D) (core' : Core) : Type 0 where

@@ -30,8 +30,7 @@ ghost use Rattle.fj_runner.specs.Failing.{FailsTurn, FailsStage, StandsStill};
 ghost use Rattle.fj_runner.specs.Closing.{may_be_at};
 ghost use Rattle.fj_units.specs.Having.{HaveFiles};
 ghost use Rattle.fj_statement.specs.Sound.{IsSoundStatement};
-ghost use Rattle.fj_pending.specs.Fitting.{IsTellable};
-ghost use Rattle.fj_runner.specs.Fitting.{FitsTelling, HasRoom};
+ghost use Rattle.fj_runner.specs.Fitting.{HasRoom};
 ghost use Rattle.fj_runner.specs.Spending.{Spends, jobs_at, most_jobs};
 ghost use Rattle.fj_runner.specs.Going.{Counts, HaveAt, HaveTurned};
 
@@ -49,7 +48,7 @@ use fj_statement::{Lined, Statement, Variables};
 use fj_units::Units;
 use fj_value::Condition;
 use fj_world::Ask;
-use std::alloc::Global;
+use std::alloc::{AllocError, Global};
 
 /// The unit that the file of an INQUIRE is connected to.
 fn unit_asked(units: &Units, statement: &Statement) -> Option<u32>
@@ -69,35 +68,22 @@ fn unit_asked(units: &Units, statement: &Statement) -> Option<u32>
 /// Tells transfers at a line: their inputs are defined, and they are pending no more.
 fn tell_all(
     alloc: Global,
-    variables: &Variables,
     line: u32,
     whose: Whose,
     core: &mut Core,
-) -> Result<Condition, Lost>
-    requires { core.old.store.kinds ≡ kinds_of variables.now }
+) -> Result<Condition, AllocError>
     ensures condition { IfOk result (λ condition. condition ≡ condition_of (waited_of whose (entries core.old.pending))) }
-    ensures core { (files : Files) → OnOk result (core_of files core.new ≡ told_core variables.now line (waited_of whose (entries core.old.pending)) (core_of files core.old)) }
+    ensures core { (variables : List Variable) (files : Files) → core.old.store.kinds ≡ kinds_of variables
+        → OnOk result (core_of files core.new ≡ told_core variables line (waited_of whose (entries core.old.pending)) (core_of files core.old)) }
     ensures left { OnOk result (held core.new.pending ≡ filter (λ h. not (tells_id (waited_of whose (entries core.old.pending)) h.pending.id)) (held core.old.pending)) }
     ensures some { LeavesSome core.old.pending core.new.pending }
     ensures next { core.new.next ≡ core.old.next }
     ensures units { core.new.units ≡ core.old.units }
-    ensures keeps { Keeps core.old result core.new }
-    ensures holds { IsKept variables.now core.old → OnOk result (IsKept variables.now core.new) }
-    ensures fits { All (IsTellable variables.now) (waited_of whose (entries core.old.pending)) → result ≢ Err Lost.Unfit }
+    ensures keeps { Keeps core.old core.new }
 {
-    let told = core.pending.tell(
-        alloc,
-        whose,
-        line,
-        variables.as_slice(),
-        &mut core.store,
-        &mut core.tells,
-    );
-    match told {
-        Ok(condition) => Ok(condition),
-        Err(fj_pending::Lost::Memory(error)) => Err(Lost::Memory(error)),
-        Err(fj_pending::Lost::Unfit) => Err(Lost::Unfit),
-    }
+    let store = &mut core.store;
+    let tells = &mut core.tells;
+    core.pending.tell(alloc, whose, line, store, tells)
 }
 
 impl<F: FileStore> State<F> {
@@ -122,9 +108,8 @@ impl<F: FileStore> State<F> {
         ensures files { HaveFiles self.old.core.names self.old.core.units → IfOk result (λ t. HaveTurned t self.new lined.now.what) }
         ensures counts { IfOk result (λ t. Counts t self.old self.new) }
         ensures units { self.new.core.units ≡ self.old.core.units }
-        ensures holds { IsKept variables.now self.old.core → OnOk result (IsKept variables.now self.new.core) }
-        ensures fits { IsSoundStatement variables.now lined.now.what → HaveFiles self.old.core.names self.old.core.units → IsKept variables.now self.old.core
-            → FitsTelling variables.now lined.now.what (waited_of whose (entries self.old.core.pending)) (values_of self.old.core.store) → result ≢ Err Lost.Unfit }
+        ensures holds { IsKept self.old.core → OnOk result (IsKept self.new.core) }
+        ensures fits { IsSoundStatement variables.now lined.now.what → HaveFiles self.old.core.names self.old.core.units → IsKept self.old.core → result ≢ Err Lost.Unfit }
         ensures spends { (most : ℕ) → length self.old.core.units ≤ most → IfOk result (λ t. Spends most (most_jobs most) t self.new) }
         ensures heard { self.new.told ≡ self.old.told }
         ensures fails { D.tells disk.old → (more : List Stated) (stage : PlainStage)
@@ -143,11 +128,11 @@ impl<F: FileStore> State<F> {
             Ok(slots) => slots,
             Err(error) => return Err(Lost::Memory(error)),
         };
-        match tell_all(alloc, variables, lined.line, whose, &mut self.core) {
+        match tell_all(alloc, lined.line, whose, &mut self.core) {
             Ok(condition) => {
                 self.resume(alloc, variables, lined, slots, 0, condition, disk, out)
             }
-            Err(lost) => Err(lost),
+            Err(error) => Err(Lost::Memory(error)),
         }
     }
 
@@ -200,9 +185,8 @@ impl<F: FileStore> State<F> {
         ensures files { HaveFiles self.old.core.names self.old.core.units → IfOk result (λ t. HaveTurned t self.new lined.now.what) }
         ensures counts { IfOk result (λ t. Counts t self.old self.new) }
         ensures units { self.new.core.units ≡ self.old.core.units }
-        ensures holds { IsKept variables.now self.old.core → OnOk result (IsKept variables.now self.new.core) }
-        ensures fits { IsSoundStatement variables.now lined.now.what → HaveFiles self.old.core.names self.old.core.units → IsKept variables.now self.old.core
-            → FitsTelling variables.now lined.now.what (waited_of whose (entries self.old.core.pending)) (values_of self.old.core.store) → result ≢ Err Lost.Unfit }
+        ensures holds { IsKept self.old.core → OnOk result (IsKept self.new.core) }
+        ensures fits { IsSoundStatement variables.now lined.now.what → HaveFiles self.old.core.names self.old.core.units → IsKept self.old.core → result ≢ Err Lost.Unfit }
         ensures spends { (most : ℕ) → length self.old.core.units ≤ most → IfOk result (λ t. Spends most (most_jobs most) t self.new) }
         ensures heard { self.new.told ≡ self.old.told }
         ensures fails { D.tells disk.old → (more : List Stated) (stage : PlainStage)
@@ -240,9 +224,8 @@ impl<F: FileStore> State<F> {
         ensures files { HaveFiles self.old.core.names self.old.core.units → IfOk result (λ t. HaveTurned t self.new lined.now.what) }
         ensures counts { IfOk result (λ t. Counts t self.old self.new) }
         ensures units { self.new.core.units ≡ self.old.core.units }
-        ensures holds { IsKept variables.now self.old.core → OnOk result (IsKept variables.now self.new.core) }
-        ensures fits { IsSoundStatement variables.now lined.now.what → HaveFiles self.old.core.names self.old.core.units → IsKept variables.now self.old.core
-            → FitsTelling variables.now lined.now.what (waited_in (entries self.old.core.pending) (values_of self.old.core.store) lined.now.what) (values_of self.old.core.store) → result ≢ Err Lost.Unfit }
+        ensures holds { IsKept self.old.core → OnOk result (IsKept self.new.core) }
+        ensures fits { IsSoundStatement variables.now lined.now.what → HaveFiles self.old.core.names self.old.core.units → IsKept self.old.core → result ≢ Err Lost.Unfit }
         ensures spends { (most : ℕ) → length self.old.core.units ≤ most → IfOk result (λ t. Spends most (most_jobs most) t self.new) }
         ensures heard { self.new.told ≡ self.old.told }
         ensures fails { D.tells disk.old → (more : List Stated) (stage : PlainStage)
@@ -277,9 +260,8 @@ impl<F: FileStore> State<F> {
         ensures files { HaveFiles self.old.core.names self.old.core.units → IfOk result (λ t. HaveTurned t self.new lined.now.what) }
         ensures counts { IfOk result (λ t. Counts t self.old self.new) }
         ensures units { self.new.core.units ≡ self.old.core.units }
-        ensures holds { IsKept variables.now self.old.core → OnOk result (IsKept variables.now self.new.core) }
-        ensures fits { IsSoundStatement variables.now lined.now.what → HaveFiles self.old.core.names self.old.core.units → IsKept variables.now self.old.core
-            → FitsTelling variables.now lined.now.what (waited_in (entries self.old.core.pending) (values_of self.old.core.store) lined.now.what) (values_of self.old.core.store) → result ≢ Err Lost.Unfit }
+        ensures holds { IsKept self.old.core → OnOk result (IsKept self.new.core) }
+        ensures fits { IsSoundStatement variables.now lined.now.what → HaveFiles self.old.core.names self.old.core.units → IsKept self.old.core → result ≢ Err Lost.Unfit }
         ensures spends { (most : ℕ) → length self.old.core.units ≤ most → IfOk result (λ t. Spends most (most_jobs most) t self.new) }
         ensures heard { self.new.told ≡ self.old.told }
         ensures fails { D.tells disk.old → (more : List Stated) (stage : PlainStage)

@@ -126,28 +126,18 @@ impl<F: FileStore> Machine<F> {
         }
     }
 
-    /// Takes the answer that it waited for; where it is not due, it is given up.
+    /// Takes the answer that it waited for.
     fn take_answer(&mut self, job: Job<F>, answer: Answer)
-        requires idle { self.old.tally.hand ≡ Idle }
         requires room { HasRoom self.old.state.told.items }
         requires owed { get_or self.old.state.told.items self.old.state.due 0 < get_or self.old.state.sent.items self.old.state.due 0 }
         requires waits { is_waiting self.old.state.stage ≡ true }
         ensures told { (files : Files) (r : Run) (task : Task) → run_of F.told F.bytes files self.old ≡ Some r → task_of F.told F.bytes job ≡ Some task
-            → self.new.tally.over ≡ false → run_of F.told F.bytes files self.new ≡ Some (told_of r (task, reply_of answer)) }
-        ensures hand { self.new.tally.hand ≡ Idle }
-        ensures left { self.new.tally.left ≡ self.old.tally.left }
-        ensures owed { self.new.tally.owed ≡ self.old.tally.owed }
-        ensures over { self.old.tally.over ≡ true → self.new.tally.over ≡ true }
-        ensures reason { self.old.tally.over ≡ false → self.new.tally.over ≡ true → IsSome self.new.tally.lost }
-        ensures unfit { self.old.tally.over ≡ false → self.new.tally.over ≡ true → self.new.tally.lost ≡ Some Lost.Unfit }
-        ensures stopped { self.new.tally.stopped ≡ self.old.tally.stopped }
-        ensures hears { self.new.tally.over ≡ false → Hears self.old.state self.new.state }
+            → run_of F.told F.bytes files self.new ≡ Some (told_of r (task, reply_of answer)) }
+        ensures tally { self.new.tally ≡ self.old.tally }
+        ensures hears { Hears self.old.state self.new.state }
         ensures rests { Rests self.old self.new }
     {
-        match self.state.answer(job, answer) {
-            Ok(()) => {}
-            Err(_) => self.tally.lose(Lost::Unfit),
-        }
+        self.state.answer(job, answer);
     }
 
     /// Hears what became of the job that it waited for.
@@ -161,7 +151,7 @@ impl<F: FileStore> Machine<F> {
         ensures owed { (slot : ℕ) → owed_at self.new.tally.owed.items slot ≡ owed_after_settle (due_of self.old.tally.hand) (owed_at self.old.tally.owed.items) slot }
         ensures over { self.old.tally.over ≡ true → self.new.tally.over ≡ true }
         ensures reason { HasReason self.old self.new }
-        ensures unfit { self.old.tally.over ≡ false → self.new.tally.over ≡ true → (self.new.tally.stopped ≡ true) ⊎ (self.new.tally.lost ≡ Some Lost.Unfit) }
+        ensures goes { is_done told ≡ true → self.new.tally.over ≡ self.old.tally.over }
         ensures halts { is_done told ≡ false → (self.new.tally.over ≡ true) × (self.new.tally.stopped ≡ true) }
         ensures stops { self.new.tally.stopped ≡ true → (is_done told ≡ false) × (self.new.state ≡ self.old.state) × (self.new.at ≡ self.old.at) }
         ensures told { (files : Files) (r : Run) (reply : Outcome) → run_of F.told F.bytes files self.old ≡ Some r → self.new.tally.over ≡ false

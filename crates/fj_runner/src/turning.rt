@@ -14,7 +14,7 @@ ghost use Rattle.fj_runner.specs.Turned.{IsTurn};
 ghost use Rattle.fj_runner.specs.Stepping.{Steps};
 ghost use Rattle.fj_runner.specs.Failing.{FailsStage};
 ghost use Rattle.fj_runner.specs.Closing.{may_be_at};
-ghost use Rattle.fj_runner.specs.Fitting.{FitsStage, HasRoom};
+ghost use Rattle.fj_runner.specs.Fitting.{HasRoom};
 ghost use Rattle.fj_runner.specs.Spending.{Spends, jobs_at};
 ghost use Rattle.fj_runner.specs.Going.{Connects, Counts, HaveAt, HaveTurned};
 
@@ -49,8 +49,8 @@ impl<F: FileStore> State<F> {
             (run_in variables.now ((lined.now, control_by lined.now.what) ∷ more) (files_of (D.held disk.old)) self.old stage))) }
         ensures steps { Steps W.tells W.taken W.count D.tells D.held D.count D.refusals out.old disk.old self.old.core result out.new disk.new self.new.core }
         ensures fits { IsSoundStatement variables.now lined.now.what → HaveAt self.old.stage self.old.core.names self.old.core.units lined.now.what → self.old.core.next + 1 < 2 ^ 32
-            → IsKept variables.now self.old.core → FitsStage variables.now lined.now.what self.old.core self.old.stage → result ≢ Err Lost.Unfit }
-        ensures holds { IsKept variables.now self.old.core → OnOk result (IsKept variables.now self.new.core) }
+            → IsKept self.old.core → result ≢ Err Lost.Unfit }
+        ensures holds { IsKept self.old.core → OnOk result (IsKept self.new.core) }
         ensures files { HaveAt self.old.stage self.old.core.names self.old.core.units lined.now.what → IfOk result (λ t. HaveTurned t self.new lined.now.what) }
         ensures counts { IfOk result (λ t. Counts t self.old self.new) }
         ensures connects { HaveAt self.old.stage self.old.core.names self.old.core.units lined.now.what → IfOk result (λ t. Connects t self.old self.new) }
@@ -75,7 +75,7 @@ impl<F: FileStore> State<F> {
             } => self.resume(alloc, variables, lined, slots, next, condition, disk, out),
             Stage::Going { next, number } => {
                 match given(alloc, variables, lined, next, number, &mut self.core) {
-                    Ok(doing) => self.act(variables, lined, doing),
+                    Ok(doing) => Ok(self.act(variables, lined, doing)),
                     Err(lost) => Err(lost),
                 }
             }
@@ -94,7 +94,7 @@ impl<F: FileStore> State<F> {
                     disk,
                 );
                 match doing {
-                    Ok(doing) => self.act(variables, lined, doing),
+                    Ok(doing) => Ok(self.act(variables, lined, doing)),
                     Err(lost) => Err(lost),
                 }
             }

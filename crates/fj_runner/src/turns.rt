@@ -2,7 +2,6 @@
 ghost use Rattle.std.specs.Prelude.{◌≡◌, ◌≢◌, ◌<◌, ◌+◌, ◌^◌, ℕ, List, ◌∷◌, true, Some, Err, IfOk, OnErr, OnOk, drop, map, get_or, ◌≤◌, ◌-◌, length};
 ghost use Rattle.fj_statement.specs.declared.deck.Variable.{Variable};
 ghost use Rattle.fj_statement.specs.Sound.{IsSoundStatement};
-ghost use Rattle.fj_value.specs.declared.condition.Condition.TheVariants.{Fine};
 ghost use Rattle.fj_items.specs.Kinds.{kinds_of};
 ghost use Rattle.fj_bay.specs.Jobs.{Job as Task};
 ghost use Rattle.fj_bay.specs.Plain.{task_of};
@@ -18,7 +17,7 @@ ghost use Rattle.fj_turns.specs.Turns.{submits, turn_finish, turn_act, matched, 
 ghost use Rattle.fj_pending.specs.Plain.{held, tells_of};
 ghost use Rattle.fj_acts.specs.Calling.{calls_disk, may_do};
 ghost use Rattle.fj_acts.specs.Doing.{IsDoing};
-ghost use Rattle.fj_acts.specs.Fitting.{IsKept, Meets};
+ghost use Rattle.fj_acts.specs.Fitting.{IsKept};
 ghost use Rattle.fj_acts.specs.Placing.{IsPlaced};
 ghost use Rattle.fj_units.specs.Names.{AreInUse};
 ghost use Rattle.fj_acts.specs.State.{core_of};
@@ -94,37 +93,32 @@ impl<F: FileStore> State<F> {
         variables: &Variables,
         lined: &Lined,
         condition: Condition,
-    ) -> Result<Turned<F>, Lost>
+    ) -> Turned<F>
         requires { self.old.core.store.kinds ≡ kinds_of variables.now }
         ensures turn { (more : List Stated) (files : Files) (core : PlainCore) (book : List Held) (stage : PlainStage)
             → held self.old.core.pending ≡ matched (map (λ (h : Held). h.pending) (held self.old.core.pending)) book
-            → IfOk result (λ t. IsTurn F.told F.bytes variables.now ((lined.now, control_by lined.now.what) ∷ more) files self.new t
+            → IsTurn F.told F.bytes variables.now ((lined.now, control_by lined.now.what) ∷ more) files self.new result
             (turn_finish (lined.now, control_by lined.now.what) (core_of files self.old.core) condition
-            (record (run_in variables.now ((lined.now, control_by lined.now.what) ∷ more) files self.old stage) { core = core; book = book }))) }
-        ensures keeps { Keeps self.old.core result self.new.core }
-        ensures lost { OnErr result (result ≡ Err Lost.Unfit) }
-        ensures fits { IsSoundStatement variables.now lined.now.what → result ≢ Err Lost.Unfit }
-        ensures holds { IsKept variables.now self.old.core → OnOk result (IsKept variables.now self.new.core) }
+            (record (run_in variables.now ((lined.now, control_by lined.now.what) ∷ more) files self.old stage) { core = core; book = book })) }
+        ensures keeps { Keeps self.old.core self.new.core }
         ensures start { self.new.stage ≡ Stage.Start }
-        ensures files { HaveFiles self.old.core.names self.old.core.units → IfOk result (λ t. HaveTurned t self.new lined.now.what) }
-        ensures counts { IfOk result (λ t. Counts t self.old self.new) }
-        ensures ends { IfOk result DoesNotPause }
+        ensures files { HaveFiles self.old.core.names self.old.core.units → HaveTurned result self.new lined.now.what }
+        ensures counts { Counts result self.old self.new }
+        ensures ends { DoesNotPause result }
         ensures next { self.new.core.next ≡ self.old.core.next }
         ensures units { self.new.core.units ≡ self.old.core.units }
-        ensures spends { (most jobs : ℕ) → IfOk result (λ t. Spends most jobs t self.new) }
+        ensures spends { (most jobs : ℕ) → Spends most jobs result self.new }
         ensures heard { self.new.told ≡ self.old.told }
     {
         put_stage(&mut self.stage, Stage::Start);
         let iostat = iostat_of(&lined.what);
         let code = i64::from(condition.code());
-        if set_number(variables, &mut self.core.store, iostat, code).is_err() {
-            return Err(Lost::Unfit);
-        }
+        set_number(variables, &mut self.core.store, iostat, code);
         match ended_by(lined.line, &lined.what, condition) {
-            None => Ok(Turned::Passes),
+            None => Turned::Passes,
             Some(ending) => {
                 self.ending = Some(ending);
-                Ok(Turned::Stops)
+                Turned::Stops
             }
         }
     }
@@ -135,7 +129,7 @@ impl<F: FileStore> State<F> {
         variables: &Variables,
         lined: &Lined,
         doing: Doing<F>,
-    ) -> Result<Turned<F>, Lost>
+    ) -> Turned<F>
         requires kinds { self.old.core.store.kinds ≡ kinds_of variables.now }
         requires placed { IsPlaced doing }
         requires hand { may_be_at lined.now.what self.old.stage ≡ true }
@@ -144,32 +138,29 @@ impl<F: FileStore> State<F> {
         ensures turn { (more : List Stated) (files : Files) (core : PlainCore) (book : List Held) (stage : PlainStage) (plain : PlainDoing)
             → held self.old.core.pending ≡ matched (map (λ (h : Held). h.pending) (held self.old.core.pending)) book
             → IsDoing F.told F.bytes variables.now (lined.now, control_by lined.now.what) (core_of files self.old.core) doing plain
-            → IfOk result (λ t. IsTurn F.told F.bytes variables.now ((lined.now, control_by lined.now.what) ∷ more) files self.new t
+            → IsTurn F.told F.bytes variables.now ((lined.now, control_by lined.now.what) ∷ more) files self.new result
             (turn_act (lined.now, control_by lined.now.what) plain
-            (record (run_in variables.now ((lined.now, control_by lined.now.what) ∷ more) files self.old stage) { core = core; book = book }))) }
-        ensures keeps { Keeps self.old.core result self.new.core }
+            (record (run_in variables.now ((lined.now, control_by lined.now.what) ∷ more) files self.old stage) { core = core; book = book })) }
+        ensures keeps { Keeps self.old.core self.new.core }
         ensures may { may_be_at lined.now.what self.new.stage ≡ true }
-        ensures starts { IfOk result (λ t. t ≡ Turned.Passes → self.new.stage ≡ Stage.Start) }
-        ensures lost { OnErr result (result ≡ Err Lost.Unfit) }
-        ensures fits { IsSoundStatement variables.now lined.now.what → result ≢ Err Lost.Unfit }
-        ensures files { HaveNext doing self.old.core.names self.old.core.units lined.now.what → IfOk result (λ t. HaveTurned t self.new lined.now.what) }
-        ensures counts { IfOk result (λ t. Counts t self.old self.new) }
-        ensures holds { IsKept variables.now self.old.core → OnOk result (IsKept variables.now self.new.core) }
-        ensures ends { Ends doing → IfOk result DoesNotPause }
+        ensures starts { result ≡ Turned.Passes → self.new.stage ≡ Stage.Start }
+        ensures files { HaveNext doing self.old.core.names self.old.core.units lined.now.what → HaveTurned result self.new lined.now.what }
+        ensures counts { Counts result self.old self.new }
+        ensures ends { Ends doing → DoesNotPause result }
         ensures next { self.new.core.next ≡ self.old.core.next }
         ensures units { self.new.core.units ≡ self.old.core.units }
-        ensures spends { (most : ℕ) → IfOk result (λ t. Spends most (jobs_of doing (length self.old.core.units)) t self.new) }
+        ensures spends { (most : ℕ) → Spends most (jobs_of doing (length self.old.core.units)) result self.new }
         ensures heard { self.new.told ≡ self.old.told }
     {
         match doing {
             Doing::Finishes(condition) => self.finish(variables, lined, condition),
             Doing::Gives { slot, job, next } => {
                 let number = self.number_at(slot);
-                Ok(self.submit(slot, job, Stage::Going { next, number }))
+                self.submit(slot, job, Stage::Going { next, number })
             }
             Doing::Awaits { slot, job, then } => {
                 let number = self.number_at(slot);
-                Ok(self.submit(slot, job, Stage::Awaiting { slot, number, then }))
+                self.submit(slot, job, Stage::Awaiting { slot, number, then })
             }
         }
     }
@@ -198,9 +189,8 @@ impl<F: FileStore> State<F> {
             (doing (control_by lined.now.what) variables.now lined.now.line (core_of (files_of (D.held disk.old)) self.old.core) lined.now.what condition))
             (run_in variables.now ((lined.now, control_by lined.now.what) ∷ more) (files_of (D.held disk.old)) self.old stage))) }
         ensures steps { Steps W.tells W.taken W.count D.tells D.held D.count D.refusals out.old disk.old self.old.core result out.new disk.new self.new.core }
-        ensures fits { IsSoundStatement variables.now lined.now.what → HaveFiles self.old.core.names self.old.core.units
-            → (condition ≡ Fine → Meets variables.now self.old.core lined.now.what) → result ≢ Err Lost.Unfit }
-        ensures holds { IsKept variables.now self.old.core → OnOk result (IsKept variables.now self.new.core) }
+        ensures fits { IsSoundStatement variables.now lined.now.what → HaveFiles self.old.core.names self.old.core.units → IsKept self.old.core → result ≢ Err Lost.Unfit }
+        ensures holds { IsKept self.old.core → OnOk result (IsKept self.new.core) }
         ensures files { HaveFiles self.old.core.names self.old.core.units → IfOk result (λ t. HaveTurned t self.new lined.now.what) }
         ensures counts { IfOk result (λ t. Counts t self.old self.new) }
         ensures units { self.new.core.units ≡ self.old.core.units }
@@ -236,7 +226,7 @@ impl<F: FileStore> State<F> {
             disk,
             out,
         ) {
-            Ok(doing) => self.act(variables, lined, doing),
+            Ok(doing) => Ok(self.act(variables, lined, doing)),
             Err(lost) => Err(lost),
         }
     }

@@ -1,15 +1,12 @@
 -- Copying pieces gives the cells of the items.
-use Rattle.std.proofs.Common.{◌≡◌, ◌↔◌, ◌&&◌, ◌||◌, ℕ, zero, suc, ◌+◌, ◌-◌, ◌<◌, ◌≤◌, eqb, cond, Bool, IsTrue, true, false, List, [], ◌∷◌, ◌++◌, length, map, take, drop, get_or, Option, Some, None, All, refl, sym, ap, subst, ◌∙◌, inl, inr, arith, rules}
+use Rattle.std.proofs.Common.{◌≡◌, ◌||◌, ℕ, zero, suc, ◌+◌, ◌-◌, ◌<◌, ◌≤◌, eqb, cond, Bool, true, false, List, [], ◌∷◌, ◌++◌, length, map, take, drop, get_or, Option, Some, None, refl, sym, ap, subst, ◌∙◌, inl, inr, arith}
 use Rattle.std.proofs.lemmas.Bool.{false≢true}
 use Rattle.std.specs.List.{range_with_len}
 use Rattle.std.specs.Option.{option_map, option_flatten}
-use Rattle.fj_value.specs.Kind.{IsOfKind}
 use Rattle.std.proofs.lemmas.Bool.Decides.{eqb_tells, nat_tests}
 use Rattle.std.proofs.lemmas.List.Folds.{position_or_len_push}
-use Rattle.std.proofs.lemmas.List.Elements.{All-head, All-tail, All-push}
 use Rattle.std.proofs.Common.{length-append}
 use Rattle.std.proofs.lemmas.List.{length-map, map-append, append-nil, append_assoc, take_more}
-use Rattle.std.proofs.lemmas.List.{get_or_append_left}
 use Rattle.std.specs.List.{position_or_len}
 use Rattle.fj_value.specs.declared.kind.Kind.{Kind}
 use Rattle.fj_value.specs.declared.place.Place.{Place}
@@ -25,13 +22,13 @@ use Rattle.fj_store.specs.declared.run.Run.{Run}
 use Rattle.fj_store.specs.declared.slot.Slot.{Slot}
 use Rattle.fj_store.specs.declared.slot.Slot.TheVariants.{Home, Out}
 use Rattle.fj_store.specs.Kinds.{kind_at, of_kind}
-use Rattle.fj_store.specs.Pieces.{no_variable, own_cell, cells_from, size_of, sizes, AreDefined}
+use Rattle.fj_store.specs.Pieces.{no_variable, own_cell, cells_from, size_of, sizes}
 use Rattle.fj_store.specs.Places.{same_place, counted_from, places_of}
 use Rattle.fj_store.specs.Tables.{element_at, with_element, with_cells}
 use Rattle.fj_store.specs.Variables.{is_at, with_item, moved_from, moved_of}
 use Rattle.fj_store.specs.Storage.{Storage, storage, value_in, value_at, cell_at}
 use Rattle.fj_store.specs.Taking.{AreUnused, IsMarkedAt, cell_read, value_read, values_in, home}
-use Rattle.fj_list.proofs.LoadLemmas.{row_all, row_more}
+use Rattle.fj_list.proofs.LoadLemmas.{row_more}
 use Rattle.fj_store.proofs.TableLemmas.{places_tell, mapped_at, mapped_with, with_itself, with_missing, with_twice, same_fields}
 use Rattle.fj_store.proofs.StoreLemmas.{cells_more, stored_read}
 use Rattle.fj_store.proofs.RunLemmas.{run_long}
@@ -269,34 +266,12 @@ row_moved kinds slots s row kind var first n values view same read is =
     ∙ ap (λ k. both (map (cell_at s) (counted_from var first n)) (range_with_len 0 k)) (row_count slots row var first n values read is)
     ∙ sym (run_alone s var first n (both [] []) (none_is_taken var first))
 
-pub row_defined : (var : ℕ) (kind : Kind) (index : ℕ) (values : List Value) → All (IsOfKind kind) values ↔ AreDefined (row_cells (record { var = var; index = index }) kind values)
-row_defined var kind index values = row_all (λ (cell : Cell). IsOfKind cell.kind cell.value) (IsOfKind kind) var kind (λ k v. (λ h. h, λ h. h)) index values
-
 -- one value more
 pub slot_copied : (slots : List Slot) (i : ℕ) (x : Slot) (v : Value) (values values' : List Value) → i < length slots → x ≡ get_or slots i x → v ≡ value_read x → values' ≡ values ++ v ∷ []
     → values ≡ map value_read (take i slots) → values' ≡ map value_read (take (i + 1) slots)
 slot_copied slots i x v values values' low there is step so_far =
     step ∙ ap (λ l. l ++ v ∷ []) so_far ∙ ap (λ w. map value_read (take i slots) ++ w ∷ []) (is ∙ ap value_read there)
     ∙ sym (ap (map value_read) (take_more slots i x low) ∙ map-append value_read (take i slots) (get_or slots i x ∷ []))
-
-all_front : {A : Type 0} → (P : A → Type 0) (xs ys : List A) → All P (xs ++ ys) → All P xs
-all_front P xs ys h = λ k d low.
-    let long : k < length (xs ++ ys) = omega (arith, length-append xs ys) in
-    subst P (get_or_append_left xs ys d k low) (h k d long)
-
-all_behind : {A : Type 0} → (P : A → Type 0) (xs ys : List A) → All P (xs ++ ys) → All P ys
-all_behind P [] ys h = h
-all_behind P (x ∷ xs) ys h = all_behind P xs ys (All-tail P x (xs ++ ys) h)
-
--- one more that is as it should be, or is not
-pub defined_more : {A : Type 0} → (P : A → Type 0) (xs xs' : List A) (x : A) (so_far this all : Bool) → xs' ≡ xs ++ x ∷ [] → all ≡ (so_far && this) → (IsTrue this ↔ P x) → (IsTrue so_far ↔ All P xs)
-    → IsTrue all ↔ All P xs'
-defined_more P xs xs' x so_far this all step both one before =
-    let there : (a b : Bool) → IsTrue (a && b) → IsTrue a × IsTrue b = λ a b h. elim a as (λ z. IsTrue (z && b) → IsTrue z × IsTrue b) [ true ↦ λ e. (search rules, e) | false ↦ λ e. absurd (false≢true e) ] h in
-    let back : (a b : Bool) → IsTrue a → IsTrue b → IsTrue (a && b) = λ a b h k. elim a as (λ z. IsTrue z → IsTrue (z && b)) [ true ↦ λ e. k | false ↦ λ e. absurd (false≢true e) ] h in (
-      λ h. subst (All P) (sym step) (let parts = there so_far this (subst IsTrue both h) in All-push P xs x (before.0 parts.0) (one.0 parts.1)),
-      λ h. subst IsTrue (sym both) (let all_are = subst (All P) step h in back so_far this (before.1 (all_front P xs (x ∷ []) all_are)) (one.1 (All-head P x [] (all_behind P xs (x ∷ []) all_are)))),
-    )
 
 -- ---- a row that comes back
 

@@ -10,10 +10,10 @@ use Rattle.fj_value.specs.declared.value.Value.TheVariants as value
 abbrev pub kind_at : List Kind → ℕ → Kind
 kind_at kinds var = unwrap_or (slice_get kinds var) Logical
 
--- whether a value is of a kind; INTEGER(8) has every number of a value
+-- whether a value is of a kind
 abbrev pub is_of_kind : Kind → Value → Bool
 is_of_kind Int4 (value.Int n) = fits_bits 32 n
-is_of_kind Int8 (value.Int n) = true
+is_of_kind Int8 (value.Int n) = fits_bits 64 n
 is_of_kind Logical (value.Log b) = true
 is_of_kind (Chars n) (value.Chars text) = length text == n
 is_of_kind _ _ = false

@@ -1,6 +1,5 @@
 -- The items of an output: places, and values of their own.
-use Rattle.std.specs.Prelude.{ℕ, ◌+◌, List, [], ◌∷◌, ◌++◌, map, All}
-use Rattle.fj_value.specs.Kind.{IsOfKind}
+use Rattle.std.specs.Prelude.{ℕ, ◌+◌, List, [], ◌∷◌, ◌++◌, map}
 use Rattle.fj_value.specs.declared.kind.Kind.{Kind}
 use Rattle.fj_value.specs.declared.value.Cell.{Cell}
 use Rattle.fj_value.specs.declared.value.Value.{Value}
@@ -34,7 +33,3 @@ size_of (Own kind value) = 1
 abbrev pub sizes : List Piece → ℕ
 sizes [] = 0
 sizes (piece ∷ pieces) = size_of piece + sizes pieces
-
--- each cell has a defined value of its kind
-abbrev pub AreDefined : List Cell → Type 0
-AreDefined cells = All (λ (cell : Cell). IsOfKind cell.kind cell.value) cells

@@ -25,11 +25,7 @@ abbrev pub is_undefined : Value → Bool
 is_undefined value.Undefined = true
 is_undefined _ = false
 
--- the places get the values of cells
-abbrev pub given_back : List Cell → Variables → Variables
-given_back cells vars = with_cells (λ (cell : Cell). cell.value) cells vars
-
--- the same places, with no value
+-- the places of cells, with no value
 abbrev pub undefined_at : List Cell → Variables → Variables
 undefined_at cells vars = with_cells (λ (cell : Cell). value.Undefined) cells vars
 

@@ -1,50 +1,24 @@
 // Values that are copied out of the variables.
-ghost use Rattle.std.specs.Prelude.{◌≡◌, ◌↔◌, ◌+◌, ◌<◌, ◌&&◌, ◌||◌, ◌==◌, ℕ, false, All, length, map, unwrap_or, IsTrue, IfOk, OnOk};
+ghost use Rattle.std.specs.Prelude.{◌≡◌, ◌+◌, ◌<◌, ◌||◌, ◌==◌, ℕ, false, length, map, unwrap_or, IfOk, OnOk};
 ghost use Rattle.std.specs.Option.{option_flatten};
-ghost use Rattle.fj_value.specs.Kind.{IsOfKind};
 ghost use Rattle.fj_value.specs.declared.value.Value.TheVariants.{Undefined};
-ghost use Rattle.fj_store.specs.Pieces.{AreDefined, cells_from, no_variable, own_cell, sizes};
+ghost use Rattle.fj_store.specs.Pieces.{cells_from, no_variable, own_cell, sizes};
 ghost use Rattle.fj_store.specs.Places.{places_of};
 ghost use Rattle.fj_store.specs.Storage.{storage};
 ghost use Rattle.fj_store.specs.Tables.{element_at};
 ghost use Rattle.fj_store.specs.Taking.{AreUnused, HasRoom, IsMarked, IsMarkedAt, cell_read, items_in, value_read, values_in};
 ghost use Rattle.fj_store.specs.Variables.{moved_from, with_item};
 
-use crate::kinds::{integers_of, is_defined, is_defined_by, kind_in};
+use crate::kinds::kind_in;
 use crate::piece::Piece;
 use crate::run::Run;
 use crate::slot::Slot;
 use crate::table::Table;
 use crate::taken::{NO_VARIABLE, Taken, add_item, cell_of, position};
-use fj_list::{Load, Moved};
+use fj_list::Moved;
 use fj_value::{Cell, Items, Kind, Place, Value};
 use std::alloc::{AllocError, Global};
 use std::collections::VecDeque;
-
-/// Copied values, and whether each is a defined one of its kind.
-#[derive(Debug, Drop)]
-pub struct Copied {
-    pub moved: Load,
-    pub defined: bool,
-}
-
-pub(crate) fn both(a: bool, b: bool) -> bool
-    ensures { result ≡ (a && b) }
-{
-    a & b
-}
-
-/// Whether each cell has a defined value of its kind.
-pub(crate) fn are_defined(cells: &[Cell]) -> bool
-    ensures { IsTrue result ↔ AreDefined cells.now }
-{
-    for cell in cells {
-        if !is_defined(cell.kind, &cell.value) {
-            return false;
-        }
-    }
-    true
-}
 
 /// The same value once more, where it may be no integer.
 #[inline(never)]
@@ -76,30 +50,17 @@ fn copied_slot(slot: &Slot) -> Result<Value, AllocError>
     }
 }
 
-/// The values of a variable's places once more.
-#[derive(Drop)]
-pub(crate) struct CopiedRow {
-    pub values: Items<Value>,
-    /// Each is a defined one of the kind of the variable.
-    pub defined: bool,
-}
-
-/// Copies the values of places of a variable of a kind. One that is moved out is undefined.
-pub(crate) fn copy_row(alloc: Global, kind: Kind, slots: &[Slot]) -> Result<CopiedRow, AllocError>
-    ensures values { IfOk result (λ row. row.values ≡ map value_read slots.now) }
-    ensures defined { IfOk result (λ row. IsTrue row.defined ↔ All (IsOfKind kind) row.values) }
+/// Copies the values of places. One that is moved out is undefined.
+pub(crate) fn copy_row(alloc: Global, slots: &[Slot]) -> Result<Items<Value>, AllocError>
+    ensures { IfOk result (λ values. values ≡ map value_read slots.now) }
 {
     let mut values = Vec::new(alloc);
     values.reserve(slots.len())?;
-    let integers = integers_of(kind);
-    let mut defined = true;
     for slot in slots {
         let copy = copied_slot(slot)?;
-        defined = both(defined, is_defined_by(integers, kind, &copy));
         values.push_reserved(copy);
     }
-    let values = Items::from_vec(values);
-    Ok(CopiedRow { values, defined })
+    Ok(Items::from_vec(values))
 }
 
 /// The value of a place once more. The place is marked with the number of its cell, and keeps its value.

@@ -12,8 +12,6 @@ mod store;
 mod table;
 mod taken;
 
-pub use copied::Copied;
-pub use kinds::is_of_kind;
 pub use laws::{
     all_comes_back, cells_are_distinct, cells_come_back, items_have_cells, just_these_are_out,
     outputs_have_cells, places_come_back, reads_come_back,

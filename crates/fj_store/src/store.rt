@@ -1,5 +1,5 @@
 // The variables of a deck: what their places hold, and taking values out and giving them back.
-ghost use Rattle.std.specs.Prelude.{◌≡◌, ◌↔◌, ◌<◌, ◌≤◌, ◌∷◌, [], length, map, replicate, IsTrue, IfSome, IfOk, OnOk, OnErr};
+ghost use Rattle.std.specs.Prelude.{◌≡◌, ◌<◌, ◌≤◌, ◌∷◌, [], length, map, replicate, IfSome, IfOk, OnOk, OnErr};
 ghost use Rattle.std.specs.List.{list_any};
 ghost use Rattle.std.specs.Option.{option_copied};
 ghost use Rattle.fj_list.specs.Load.{moved_row};
@@ -8,13 +8,13 @@ ghost use Rattle.fj_store.specs.Tables.{with_element, with_cells};
 ghost use Rattle.fj_store.specs.Kinds.{kind_at, of_kind};
 ghost use Rattle.fj_store.specs.Storage.{all_undefined, value_at, cell_at, with_value, without, given_back, values_of};
 ghost use Rattle.fj_store.specs.Variables.{moved_of, is_undefined, value_at as plain_value};
-ghost use Rattle.fj_store.specs.Pieces.{cells_in, sizes, AreDefined};
+ghost use Rattle.fj_store.specs.Pieces.{cells_in, sizes};
 ghost use Rattle.fj_store.specs.Taking.{home};
 ghost use Rattle.fj_store.specs.declared.piece.Piece.TheVariants.{Places};
 ghost use Rattle.fj_store.specs.declared.slot.Slot.TheVariants.{Home};
 ghost use Rattle.fj_value.specs.declared.value.Value.TheVariants.{Undefined};
 
-use crate::copied::{Copied, CopiedRow, are_defined, copy_pieces, copy_row};
+use crate::copied::{copy_pieces, copy_row};
 use crate::kinds::{kind_in, of_kind};
 use crate::piece::Piece;
 use crate::run::Run;
@@ -163,25 +163,23 @@ impl Store {
     }
 
     /// Copies the values of a run, whose places are distinct, in their order; none where the variable has not all of them.
-    fn copy_of_run(&self, alloc: Global, run: Run) -> Result<Option<Copied>, AllocError>
-        ensures moved { IfOk result (λ o. IfSome o (λ copied. copied.moved ≡ moved_of (map (cell_at self.now) (places_of run)))) }
-        ensures defined { IfOk result (λ o. IfSome o (λ copied. IsTrue copied.defined ↔ AreDefined copied.moved.cells)) }
+    fn copy_of_run(&self, alloc: Global, run: Run) -> Result<Option<Load>, AllocError>
+        ensures { IfOk result (λ o. IfSome o (λ load. load ≡ moved_of (map (cell_at self.now) (places_of run)))) }
     {
         let Some(slots) = self.slots.at_run(run) else {
             return Ok(None);
         };
         let kind = kind_in(&self.kinds, run.var);
-        let CopiedRow { values, defined } = copy_row(alloc, kind, slots)?;
+        let values = copy_row(alloc, slots)?;
         let first = Place {
             var: run.var,
             index: run.first,
         };
-        let moved = Load::of_row(Row {
+        Ok(Some(Load::of_row(Row {
             first,
             kind,
             values,
-        });
-        Ok(Some(Copied { moved, defined }))
+        })))
     }
 
     /// Copies the values of so many items, each place once, in the order of the items. It changes nothing.
@@ -207,21 +205,17 @@ impl Store {
         alloc: Global,
         pieces: VecDeque<Piece>,
         size: u32,
-    ) -> Result<Copied, AllocError>
+    ) -> Result<Load, AllocError>
         requires { sizes pieces.items ≤ size }
-        ensures moved { IfOk result (λ copied. copied.moved ≡ moved_of (cells_in self.old pieces.items)) }
-        ensures defined { IfOk result (λ copied. IsTrue copied.defined ↔ AreDefined copied.moved.cells) }
+        ensures moved { IfOk result (λ load. load ≡ moved_of (cells_in self.old pieces.items)) }
         ensures same { self.new ≡ self.old }
     {
         if let Some(run) = only_run(&pieces) {
-            if let Some(copied) = self.copy_of_run(alloc, run)? {
-                return Ok(copied);
+            if let Some(load) = self.copy_of_run(alloc, run)? {
+                return Ok(load);
             }
         }
-        let moved = self.copy_of_pieces(alloc, pieces, size)?;
-        let defined = are_defined(moved.cells.as_slice());
-        let moved = Load::of_cells(moved);
-        Ok(Copied { moved, defined })
+        Ok(Load::of_cells(self.copy_of_pieces(alloc, pieces, size)?))
     }
 
     /// Puts the values of cells back to their places. One of another kind than its place leaves that undefined.

@@ -3,7 +3,7 @@ ghost use Rattle.std.specs.Prelude.{◌≡◌, IfOk};
 ghost use Rattle.fj_store.specs.Pieces.{sizes};
 
 use fj_list::{Load, Moved};
-use fj_store::{Copied, Piece, Run, Store};
+use fj_store::{Piece, Run, Store};
 use fj_value::{Cell, Kind, Place, Value};
 use std::alloc::{AllocError, Global};
 use std::collections::VecDeque;
@@ -73,11 +73,11 @@ fn pieces_of(alloc: Global) -> Result<VecDeque<Piece>, AllocError>
 }
 
 /// Copies these, once more where memory was refused.
-fn copy(store: &mut Store, alloc: Global) -> Option<Copied> {
+fn copy(store: &mut Store, alloc: Global) -> Option<Load> {
     for _ in 0..2u8 {
         if let Ok(pieces) = pieces_of(alloc) {
-            if let Ok(copied) = store.copy_of(alloc, pieces, 4) {
-                return Some(copied);
+            if let Ok(load) = store.copy_of(alloc, pieces, 4) {
+                return Some(load);
             }
         }
     }
@@ -111,14 +111,19 @@ fn put(moved: &mut Moved, at: usize, place: Place, value: Value) {
 
 /// What is taken out once more, or copied, has undefined values, and each place has one cell.
 fn out_is_undefined(store: &mut Store, alloc: Global) -> bool {
-    let Some(copied) = copy(store, alloc) else {
+    let Some(mut load) = copy(store, alloc) else {
+        return false;
+    };
+    let Ok(copied) = load.take(alloc) else {
         return false;
     };
     let Some(moved) = take(store, alloc) else {
         return false;
     };
-    !copied.defined
-        && has_cells(&moved, &[(0, 1, 0), (1, 1, 0), (1, 2, 0)])
+    has_cells(
+        &copied,
+        &[(0, 1, 0), (4294967295, 1, 4), (4294967295, 2, 0)],
+    ) && has_cells(&moved, &[(0, 1, 0), (1, 1, 0), (1, 2, 0)])
         && moved.order.as_slice() == [0, 1, 2, 2, 0].as_slice()
 }
 
@@ -155,12 +160,10 @@ fn items_are_copied(rt: HostRuntime) -> Result<(), Fail> {
     let alloc = rt.alloc();
     let mut store = new_store(alloc)?;
     store.set(A, Value::Int(7));
-    let Some(copied) = copy(&mut store, alloc) else {
+    let Some(mut load) = copy(&mut store, alloc) else {
         assert!(rt; false, "nothing is copied");
         return Ok(());
     };
-    assert!(rt; copied.defined);
-    let mut load = copied.moved;
     let moved = load.take(alloc)?;
     assert!(rt; has_cells(&moved, &[(0, 1, 7), (4294967295, 1, 4), (4294967295, 2, 0)]));
     assert!(rt; moved.order.as_slice() == [0, 1, 2, 0].as_slice());

@@ -6,7 +6,6 @@ use Rattle.std.specs.Option.{option_map_or}
 use Rattle.std.proofs.Math.Seq.{drop-cons}
 use Rattle.std.proofs.lemmas.List.{drop_all, take_all, drop-drop}
 use Rattle.std.proofs.lemmas.List.Sums.{sum_by-cons}
-use Rattle.fj_value.specs.Kind.{IsOfKind}
 use Rattle.fj_value.specs.declared.kind.Kind.{Kind}
 use Rattle.fj_value.specs.declared.kind.Kind.TheVariants.{Logical}
 use Rattle.fj_value.specs.declared.place.Place.{Place}
@@ -17,7 +16,7 @@ use Rattle.fj_unfrec.specs.Stored.{stored, stored_width, value_of}
 use Rattle.fj_list.specs.ListInput.{kind_at, with_value}
 use Rattle.fj_list.specs.Moved.{value_at}
 use Rattle.fj_list.specs.Load.{row_cells}
-use Rattle.fj_list.proofs.LoadLemmas.{by_number, row_all}
+use Rattle.fj_list.proofs.LoadLemmas.{by_number}
 use Rattle.fj_transfer.specs.Transfer.{widths, bytes_of, values_from}
 
 -- ---- cells
@@ -101,6 +100,3 @@ row_bytes place kind (v ∷ vs) = ap (λ l. stored kind v ++ l) (row_bytes (reco
 pub row_stored : (place : Place) (kind : Kind) (values : List Value) → bytes_of (row_cells place kind values) (range_with_len 0 (length values)) ≡ flat_map (stored kind) values
 row_stored place kind values =
     by_number (λ o. stored (option_map_or (λ (cell : Cell). cell.kind) o Logical) (option_map_or (λ (cell : Cell). cell.value) o Undefined)) [] place kind values ∙ row_bytes place kind values
-
-pub row_defined : (place : Place) (kind : Kind) (values : List Value) → All (λ (cell : Cell). IsOfKind cell.kind cell.value) (row_cells place kind values) → All (IsOfKind kind) values
-row_defined place kind values = (row_all (λ (cell : Cell). IsOfKind cell.kind cell.value) (IsOfKind kind) place.var kind (λ k v. (λ h. h, λ h. h)) place.index values).1

@@ -1,13 +1,10 @@
 // The values of items as the bytes of unformatted records (ISO/IEC 1539-1:2004, 9.5.4.4.1).
 ghost use Rattle.std.specs.List.{flat_map};
 ghost use Rattle.std.specs.Prelude.{◌≡◌, ◌<◌, ◌≤◌, ◌++◌, [], ◌∷◌, length, take, nat_le, if◌then◌else◌, Some, None, OnOk, IfOk, All};
-ghost use Rattle.fj_value.specs.Kind.{IsOfKind};
-ghost use Rattle.fj_value.specs.declared.value.Cell.{Cell};
 ghost use Rattle.fj_unfrec.specs.Frames.{framed};
 ghost use Rattle.fj_unfrec.specs.Stored.{stored, stored_width, value_of};
 ghost use Rattle.fj_list.specs.ListInput.{kind_at, places_of, with_value};
 ghost use Rattle.fj_list.specs.Moved.{IsOrdered};
-ghost use Rattle.fj_transfer.specs.Moving.{HasValues};
 ghost use Rattle.fj_transfer.specs.Transfer.{widths, bytes_of, body_of, values_from};
 
 use fj_list::{Cells, Load, Shape, define};
@@ -52,8 +49,7 @@ pub fn needed(cells: &[Cell], order: &[u32], most: u64) -> Option<u64>
 
 /// Adds the bytes of a cell's value.
 fn put_item(cells: &[Cell], at: u32, out: &mut Text) -> Result<(), AllocError>
-    requires there { at < length cells.now }
-    requires defined { All (λ (cell : Cell). IsOfKind cell.kind cell.value) cells.now }
+    requires { at < length cells.now }
     ensures { OnOk result (out.new ≡ out.old ++ bytes_of cells.now (at ∷ [])) }
 {
     let cell = &cells[at as usize];
@@ -62,8 +58,7 @@ fn put_item(cells: &[Cell], at: u32, out: &mut Text) -> Result<(), AllocError>
 
 /// Adds the bytes of the items' values, in their order.
 fn put_items(cells: &[Cell], order: &[u32], out: &mut Text) -> Result<(), AllocError>
-    requires ordered { All (λ at. at < length cells.now) order.now }
-    requires defined { All (λ (cell : Cell). IsOfKind cell.kind cell.value) cells.now }
+    requires { All (λ at. at < length cells.now) order.now }
     ensures { OnOk result (out.new ≡ out.old ++ bytes_of cells.now order.now) }
 {
     for at in order {
@@ -74,7 +69,6 @@ fn put_items(cells: &[Cell], order: &[u32], out: &mut Text) -> Result<(), AllocE
 
 /// Adds the bytes of the values of a row.
 fn put_row(kind: Kind, values: &[Value], out: &mut Text) -> Result<(), AllocError>
-    requires { All (IsOfKind kind) values.now }
     ensures { OnOk result (out.new ≡ out.old ++ flat_map (stored kind) values.now) }
 {
     for value in values {
@@ -85,8 +79,7 @@ fn put_row(kind: Kind, values: &[Value], out: &mut Text) -> Result<(), AllocErro
 
 /// Adds the bytes of an output's values.
 fn put_load(moved: &Load, out: &mut Text) -> Result<(), AllocError>
-    requires ordered { IsOrdered moved.now }
-    requires defined { HasValues moved.now }
+    requires { IsOrdered moved.now }
     ensures { OnOk result (out.new ≡ out.old ++ body_of moved.now) }
 {
     match moved.shape() {
@@ -97,8 +90,7 @@ fn put_load(moved: &Load, out: &mut Text) -> Result<(), AllocError>
 
 /// The bytes of an output's values, which are the body of its record.
 pub fn body_of(alloc: Global, moved: &Load) -> Result<Text, AllocError>
-    requires ordered { IsOrdered moved.now }
-    requires defined { HasValues moved.now }
+    requires { IsOrdered moved.now }
     ensures { IfOk result (λ body. body ≡ body_of moved.now) }
 {
     let mut body = Text::new(alloc);
@@ -108,8 +100,7 @@ pub fn body_of(alloc: Global, moved: &Load) -> Result<Text, AllocError>
 
 /// The same as a whole record of sequential access, with its length before and behind it.
 pub fn frame_of(alloc: Global, moved: &Load) -> Result<Text, AllocError>
-    requires ordered { IsOrdered moved.now }
-    requires defined { HasValues moved.now }
+    requires { IsOrdered moved.now }
     ensures { IfOk result (λ frame. frame ≡ framed (body_of moved.now)) }
 {
     let mut frame = Text::from_bytes(alloc, &[0; 4])?;

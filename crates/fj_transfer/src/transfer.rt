@@ -1,11 +1,11 @@
 // What a READ or WRITE transfers.
-ghost use Rattle.std.specs.Prelude.{◌≡◌, ◌<◌, ◌^◌, false, length, All};
+ghost use Rattle.std.specs.Prelude.{◌≡◌, ◌<◌, ◌^◌, length, All};
 ghost use Rattle.std.specs.Option.{option_map_or};
 ghost use Rattle.std.proofs.Props.{props};
 ghost use Rattle.fj_list.specs.Moved.{AreDistinct, IsOrdered};
 ghost use Rattle.fj_list.specs.declared.moved.Moved.{Moved as MovedCells};
 ghost use Rattle.fj_namelist.specs.GroupText.{IsWithin};
-ghost use Rattle.fj_transfer.specs.Moving.{HasValues, members_of};
+ghost use Rattle.fj_transfer.specs.Moving.{members_of};
 
 use crate::change::EditChange;
 use fj_format::Format;
@@ -61,6 +61,4 @@ pub struct Transfer {
     ghost few: { length moved.order < 2 ^ 32 },
     /// The variables of a namelist group have cells.
     ghost grouped: { All (IsWithin (length moved.cells)) (members_of spec.layout) } by { Prim.hlevel props },
-    /// The cells of an output have values of their kinds.
-    ghost defined: { ∥ (spec.input ≡ false → HasValues moved) ∥₁ },
 }

@@ -1,11 +1,10 @@
 // Statements on files in memory, with the files, the positions and the values written out by hand.
 ghost use Rattle.std.specs.Prelude.{◌≡◌, ◌≤◌, ◌<◌, ◌^◌, ◌↔◌, [], length, All, IfOk};
 ghost use Rattle.std.specs.FinSet as set;
-ghost use Rattle.fj_value.specs.Kind.{IsOfKind};
 ghost use Rattle.fj_list.specs.Moved.{AreDistinct, IsOrdered};
 ghost use Rattle.fj_namelist.specs.GroupText.{IsWithin};
 ghost use Rattle.fj_outside.specs.Holdings.{IsInUse};
-ghost use Rattle.fj_transfer.specs.Moving.{HasValues, members_of};
+ghost use Rattle.fj_transfer.specs.Moving.{members_of};
 
 mod faults;
 mod sizes;
@@ -96,7 +95,6 @@ fn moved(alloc: Global, bytes: &[u8]) -> Result<Moved, AllocError>
     ensures distinct { IfOk result (λ moved. AreDistinct moved.cells) }
     ensures ordered { IfOk result (λ moved. IsOrdered moved) }
     ensures few { IfOk result (λ moved. length moved.order ≤ 1) }
-    ensures defined { IfOk result (λ moved. HasValues moved) }
 {
     let bytes = &bytes[..bytes.len().min(9_999)];
     let text = Text::from_bytes(alloc, bytes)?;

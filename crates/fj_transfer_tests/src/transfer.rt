@@ -1,9 +1,8 @@
 // Outputs under explicit formats, with their records written out by hand.
 ghost use Rattle.std.specs.Prelude.{◌≡◌, ◌<◌, ◌^◌, [], length, All, IfOk};
-ghost use Rattle.fj_value.specs.Kind.{IsOfKind};
 ghost use Rattle.fj_list.specs.Moved.{AreDistinct, IsOrdered};
 ghost use Rattle.fj_namelist.specs.GroupText.{IsWithin};
-ghost use Rattle.fj_transfer.specs.Moving.{HasValues, members_of};
+ghost use Rattle.fj_transfer.specs.Moving.{members_of};
 ghost use Rattle.fj_transfer.specs.Printing.{IsRecords};
 
 mod files;
@@ -45,8 +44,7 @@ const NO_CHANGE: EditChange = EditChange {
 };
 
 fn text_cell(alloc: Global, place: Place, bytes: &[u8]) -> Result<Cell, AllocError>
-    ensures of_kind { IfOk result (λ cell. IsOfKind cell.kind cell.value) }
-    ensures place { IfOk result (λ cell. cell.place ≡ place) }
+    ensures { IfOk result (λ cell. cell.place ≡ place) }
 {
     let bytes = &bytes[..bytes.len().min(100)];
     let text = Text::from_bytes(alloc, bytes)?;
@@ -58,8 +56,7 @@ fn text_cell(alloc: Global, place: Place, bytes: &[u8]) -> Result<Cell, AllocErr
 }
 
 fn cell_of(alloc: Global, place: Place, item: Item) -> Result<Cell, AllocError>
-    ensures of_kind { IfOk result (λ cell. IsOfKind cell.kind cell.value) }
-    ensures place { IfOk result (λ cell. cell.place ≡ place) }
+    ensures { IfOk result (λ cell. cell.place ≡ place) }
 {
     match item {
         I4(n) => Ok(Cell {
@@ -87,7 +84,6 @@ pub fn moved(alloc: Global, items: &[Item], times: u32) -> Result<Moved, AllocEr
     ensures cells { IfOk result (λ moved. length moved.cells ≡ length items.now) }
     ensures distinct { IfOk result (λ moved. AreDistinct moved.cells) }
     ensures ordered { IfOk result (λ moved. IsOrdered moved) }
-    ensures defined { IfOk result (λ moved. HasValues moved) }
 {
     let mut cells = Items::new(alloc);
     let mut order = Items::new(alloc);
@@ -122,7 +118,6 @@ fn transfer(layout: Layout, moved: Moved, advance: bool, edit: EditChange) -> Tr
     requires distinct { AreDistinct moved.cells }
     requires ordered { IsOrdered moved }
     requires few { length moved.order < 2 ^ 32 }
-    requires defined { HasValues moved }
     ensures { IsRecords result.spec.layout }
 {
     Transfer {

@@ -1,6 +1,6 @@
 -- Each job that a statement waits for is told before the statement ends.
 use Rattle.std.proofs.Common.{◌≡◌, ◌⊎◌, inl, inr, ℕ, zero, suc, ◌+◌, ◌<◌, ◌≤◌, Bool, true, false, List, [], ◌∷◌, map, Option, Some, None, is_some, is_none, slice_get, set, get_or, refl, sym, ap, ◌∙◌, subst, arith}
-use Rattle.std.specs.Prelude.{nat_lt, if◌then◌else◌}
+use Rattle.std.specs.Prelude.{nat_lt, option_map, if◌then◌else◌}
 use Rattle.std.proofs.lemmas.Bool.{ltb-true}
 use Rattle.fj_value.specs.declared.condition.Condition.{Condition}
 use Rattle.fj_value.specs.declared.condition.Rule.{Rule}
@@ -15,7 +15,7 @@ use Rattle.fj_plain.specs.State.{Entry}
 use Rattle.fj_plain.specs.Statement.{Stated, Ending, ends}
 use Rattle.fj_plain.specs.Telling.{tells_id}
 use Rattle.fj_desk.specs.Core.{Core, Pending}
-use Rattle.fj_desk.specs.Desks.{Desk, Outcome, log_at, log_length}
+use Rattle.fj_desk.specs.Desks.{Desk, Outcome, brought_by, log_at, log_length}
 use Rattle.fj_desk.specs.Doing.{Doing, finishes, gives, awaits, Desked}
 use Rattle.fj_turns.specs.Run.{Held, Run, Stage, Start, Waiting, Acting, Awaiting}
 use Rattle.fj_turns.specs.Turns.{Turn, Pauses, Passes, Stops, unsettled, bump, waited_now, finish_by, with_core, with_iostat, turn_act, with_tells, doing_told, wait_by, start_by, rule_of, turn_start, turn, Asked, goes, by_turn, asked_on, asked}
@@ -180,7 +180,7 @@ module _ (variables : List Variable) (st : Stated) (p : Desked) where
 some_answer : (told : List ℕ) (desks : List Desk) (e : Pending) → is_none (answer_at desks told e) ≡ false → e.number < get_or told e.slot 0
 some_answer told desks e h = by (nat_lt e.number (get_or told e.slot 0)) refl h
   where
-    by : (b : Bool) → nat_lt e.number (get_or told e.slot 0) ≡ b → is_none (if b then log_at (slice_get desks e.slot) e.number else None) ≡ false → e.number < get_or told e.slot 0
+    by : (b : Bool) → nat_lt e.number (get_or told e.slot 0) ≡ b → is_none (if b then option_map brought_by (log_at (slice_get desks e.slot) e.number) else None) ≡ false → e.number < get_or told e.slot 0
     by true is z = ltb-true e.number (get_or told e.slot 0) is
     by false is z = cc
 

@@ -181,10 +181,10 @@ moves_keeps : (core : Core) (how : Motion) (o : Option Connected) → Housed cor
 moves_keeps core how None h s = (refl, refl, h)
 moves_keeps core how (Some u) h s = (s u refl, (refl, refl, h), (λ o. (refl, refl, h)))
 
-inquires_keeps : (core : Core) (number : Option ℕ) (file : Option (List ℕ)) (asked : List Wanted) (id : Option ℤ) (o : Option Connected) → Housed core.units → ((u : Connected) → o ≡ Some u → u.slot < most_slots)
-    → Keeps core (inquires core number file asked id o)
-inquires_keeps core number file asked id None h s = (refl, refl, h)
-inquires_keeps core number file asked id (Some u) h s =
+inquires_keeps : (variables : List Variable) (core : Core) (number : Option ℕ) (file : Option (List ℕ)) (asked : List Wanted) (id : Option ℤ) (o : Option Connected) → Housed core.units → ((u : Connected) → o ≡ Some u → u.slot < most_slots)
+    → Keeps core (inquires variables core number file asked id o)
+inquires_keeps variables core number file asked id None h s = (refl, refl, h)
+inquires_keeps variables core number file asked id (Some u) h s =
     keeps_if core (list_any (λ (w : Wanted). asks_connection w.what) asked) _ _ (s u refl, (refl, refl, h), (λ o. (refl, refl, h))) (refl, refl, h)
 
 -- ---- each kind of statement
@@ -197,7 +197,7 @@ own_keeps control variables line core (statement.WaitFor u id iostat) h = (refl,
 own_keeps control variables line core (statement.Move how u iostat) h = moves_keeps core how (unit_at core (number_of u)) h (λ v e. unit_housed core (number_of u) v h e)
 own_keeps control variables line core (statement.Inquire subject asked id iostat) h =
     let number = unit_about (unit_named core.units) subject in
-    inquires_keeps core number (file_asked subject) asked (number_given core.vars id) (unit_at core number) h (λ v e. unit_housed core number v h e)
+    inquires_keeps variables core number (file_asked subject) asked (number_given core.vars id) (unit_at core number) h (λ v e. unit_housed core number v h e)
 own_keeps control variables line core (statement.Transfer t) h = transfer_keeps control variables line core t (moved_in variables core.vars t) t.unit h
 own_keeps control variables line core statement.End h = all_keeps core core.units core Fine h (refl, refl, h)
 

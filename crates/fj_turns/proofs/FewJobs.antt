@@ -141,9 +141,9 @@ moves_fair : (k : ℕ) (core : Core) (how : Motion) (o : Option Connected) → S
 moves_fair k core how None h = h
 moves_fair k core how (Some u) h = (h, (λ o. h))
 
-inquires_fair : (k : ℕ) (core : Core) (number : Option ℕ) (file : Option (List ℕ)) (asked : List Wanted) (id : Option ℤ) (o : Option Connected) → Seated core.units → Fair (suc k) (inquires core number file asked id o)
-inquires_fair k core number file asked id None h = h
-inquires_fair k core number file asked id (Some u) h = fair_if (suc k) (list_any (λ (w : Wanted). asks_connection w.what) asked) _ _ (h, (λ o. h)) h
+inquires_fair : (k : ℕ) (variables : List Variable) (core : Core) (number : Option ℕ) (file : Option (List ℕ)) (asked : List Wanted) (id : Option ℤ) (o : Option Connected) → Seated core.units → Fair (suc k) (inquires variables core number file asked id o)
+inquires_fair k variables core number file asked id None h = h
+inquires_fair k variables core number file asked id (Some u) h = fair_if (suc k) (list_any (λ (w : Wanted). asks_connection w.what) asked) _ _ (h, (λ o. h)) h
 
 -- ---- each kind of statement
 
@@ -155,7 +155,7 @@ own_fair k control variables line core (statement.WaitFor u id iostat) h l = h
 own_fair k control variables line core (statement.Move how u iostat) h l = moves_fair (suc k) core how (unit_at core (number_of u)) h
 own_fair k control variables line core (statement.Inquire subject asked id iostat) h l =
     let number = unit_about (unit_named core.units) subject in
-    inquires_fair (suc k) core number (file_asked subject) asked (number_given core.vars id) (unit_at core number) h
+    inquires_fair (suc k) variables core number (file_asked subject) asked (number_given core.vars id) (unit_at core number) h
 own_fair k control variables line core (statement.Transfer t) h l = transfer_fair k control variables line core t (moved_in variables core.vars t) t.unit h
 own_fair k control variables line core statement.End h l = all_fair (suc (suc k)) core.units core Fine l h
 

@@ -143,9 +143,9 @@ moves_silent : (core : Core) (how : Motion) (at : Option Connected) → Silent c
 moves_silent core how None = refl
 moves_silent core how (Some u) = (refl, λ x. refl)
 
-inquires_silent : (core : Core) (number : Option ℕ) (file : Option (List ℕ)) (asked : List Wanted) (id : Option ℤ) (at : Option Connected) → Silent core.output (inquires core number file asked id at)
-inquires_silent core number file asked id None = refl
-inquires_silent core number file asked id (Some u) = silent_if core.output (list_any (λ (w : Wanted). asks_connection w.what) asked) _ _ (refl, λ x. refl) refl
+inquires_silent : (variables : List Variable) (core : Core) (number : Option ℕ) (file : Option (List ℕ)) (asked : List Wanted) (id : Option ℤ) (at : Option Connected) → Silent core.output (inquires variables core number file asked id at)
+inquires_silent variables core number file asked id None = refl
+inquires_silent variables core number file asked id (Some u) = silent_if core.output (list_any (λ (w : Wanted). asks_connection w.what) asked) _ _ (refl, λ x. refl) refl
 
 -- ---- each kind of statement
 
@@ -203,7 +203,7 @@ alone_or_silent (statement.WaitFor u id iostat) = inr (doing_silent (statement.W
 alone_or_silent (statement.Move how u iostat) = inr (doing_silent (statement.Move how u iostat) (λ control variables line core. moves_silent core how (unit_at core (number_of u))))
 alone_or_silent (statement.Inquire subject asked id iostat) =
     inr (doing_silent (statement.Inquire subject asked id iostat) (λ control variables line core.
-    let number = unit_about (unit_named core.units) subject in inquires_silent core number (file_asked subject) asked (number_given core.vars id) (unit_at core number)))
+    let number = unit_about (unit_named core.units) subject in inquires_silent variables core number (file_asked subject) asked (number_given core.vars id) (unit_at core number)))
 alone_or_silent (statement.Transfer t) = transfer_silent t t.unit refl
 alone_or_silent statement.End = inr (doing_silent statement.End (λ control variables line core. all_silent core.output core.units core Fine refl))
 

@@ -1,6 +1,6 @@
 -- The runner served alone, until the transfers that a statement waits for are told.
 use Rattle.std.proofs.Common.{◌≡◌, ℕ, zero, suc, ◌+◌, ◌<◌, ◌≤◌, Bool, true, false, List, [], ◌∷◌, map, length, Option, Some, None, is_some, is_none, slice_get, set, get_or, refl, sym, ap, ◌∙◌, subst, inl, inr, arith}
-use Rattle.std.specs.Prelude.{if◌then◌else◌, nat_lt}
+use Rattle.std.specs.Prelude.{if◌then◌else◌, nat_lt, option_map}
 use Rattle.std.proofs.lemmas.Bool.{cases_Bool, ltb-false}
 use Rattle.fj_statement.specs.declared.deck.Variable.{Variable}
 use Rattle.fj_slot.specs.Serving.{Meaning}
@@ -16,7 +16,7 @@ use Rattle.fj_plain.specs.State.{Entry}
 use Rattle.fj_plain.specs.Statement.{Stated}
 use Rattle.fj_plain.specs.Telling.{tells_id, waited_in}
 use Rattle.fj_desk.specs.Core.{Pending}
-use Rattle.fj_desk.specs.Desks.{Desk, Outcome, entry_with, entry_of, log_at, log_length}
+use Rattle.fj_desk.specs.Desks.{Desk, Outcome, Brought, brought_by, entry_with, entry_of, log_at, log_length}
 use Rattle.fj_desk.specs.Doing.{Desked}
 use Rattle.fj_desk.proofs.Apart.{each_both, each_imp}
 use Rattle.fj_turns.specs.Run.{Held, known, Stage, Waiting, Run}
@@ -30,11 +30,11 @@ use Rattle.fj_turns.proofs.Waits.{AreKnown, waited_same, none_unsettled, unsettl
 
 -- ---- what is known
 
--- an answer that stands in a transfer is what became of it
+-- an answer that stands in a transfer is what its job brought
 known_is : (desks : List Desk) (told : List ℕ) (h : Held) → IsKept desks told h → is_none h.answer ≡ false → known h ≡ entry_of desks h.pending
 known_is desks told h k some = by (nat_lt h.pending.number (get_or told h.pending.slot 0)) k.answer
   where
-    by : (b : Bool) → h.answer ≡ (if b then log_at (slice_get desks h.pending.slot) h.pending.number else None) → known h ≡ entry_of desks h.pending
+    by : (b : Bool) → h.answer ≡ (if b then option_map brought_by (log_at (slice_get desks h.pending.slot) h.pending.number) else None) → known h ≡ entry_of desks h.pending
     by true e = ap (entry_with h.pending) e
     by false e = absurd (let z : true ≡ false = sym (ap is_none e) ∙ some in cc)
 
@@ -43,10 +43,10 @@ not_told : (desks : List Desk) (told : List ℕ) (h : Held) → IsKept desks tol
 not_told desks told h k none =
     elim (cases_Bool (nat_lt h.pending.number (get_or told h.pending.slot 0))) [
       | inl a ↦
-          let logged : None ≡ log_at (slice_get desks h.pending.slot) h.pending.number =
-          sym none ∙ k.answer ∙ ap (λ b. if b then log_at (slice_get desks h.pending.slot) h.pending.number else None) a in
+          let logged : None ≡ option_map brought_by (log_at (slice_get desks h.pending.slot) h.pending.number) =
+          sym none ∙ k.answer ∙ ap (λ b. if b then option_map brought_by (log_at (slice_get desks h.pending.slot) h.pending.number) else None) a in
           let there = logged_in (slice_get desks h.pending.slot) h.pending.number k.placed in
-          absurd (let z : None ≡ Some there.0 = logged ∙ there.1 in cc)
+          absurd (let z : None ≡ Some (brought_by there.0) = logged ∙ ap (option_map brought_by) there.1 in cc)
       | inr a ↦ ltb-false h.pending.number (get_or told h.pending.slot 0) a
     ]
   where
@@ -59,16 +59,16 @@ entries_book desks [] = refl
 entries_book desks (h ∷ hs) = ap (λ l. entry_of desks h.pending ∷ l) (entries_book desks hs)
 
 entry_id : (desks : List Desk) (h : Held) → (entry_of desks h.pending).id ≡ h.pending.id
-entry_id desks h = by (log_at (slice_get desks h.pending.slot) h.pending.number)
+entry_id desks h = by (option_map brought_by (log_at (slice_get desks h.pending.slot) h.pending.number))
   where
-    by : (o : Option Outcome) → (entry_with h.pending o).id ≡ h.pending.id
+    by : (o : Option Brought) → (entry_with h.pending o).id ≡ h.pending.id
     by None = refl
     by (Some o) = refl
 
 entry_unit : (desks : List Desk) (h : Held) → (entry_of desks h.pending).unit ≡ h.pending.unit
-entry_unit desks h = by (log_at (slice_get desks h.pending.slot) h.pending.number)
+entry_unit desks h = by (option_map brought_by (log_at (slice_get desks h.pending.slot) h.pending.number))
   where
-    by : (o : Option Outcome) → (entry_with h.pending o).unit ≡ h.pending.unit
+    by : (o : Option Brought) → (entry_with h.pending o).unit ≡ h.pending.unit
     by None = refl
     by (Some o) = refl
 
@@ -117,7 +117,7 @@ module _ {E J A : Type 0} (m : Meaning E J A Bay Job Answer) where
   known_or : (desks : List Desk) (told : List ℕ) (h : Held) → IsKept desks told h → IsKnownOr (λ x. entry_of desks x.pending) h
   known_or desks told h k = by h.answer refl
     where
-      by : (o : Option Outcome) → h.answer ≡ o → IsKnownOr (λ x. entry_of desks x.pending) h
+      by : (o : Option Brought) → h.answer ≡ o → IsKnownOr (λ x. entry_of desks x.pending) h
       by None e = inl e
       by (Some o) e = inr (known_is desks told h k (ap is_none e))
 

@@ -11,7 +11,7 @@ use Rattle.fj_plain.specs.State.{Entry}
 use Rattle.fj_plain.specs.Statement.{Stated, Ending}
 use Rattle.fj_plain.specs.Telling.{tells_id}
 use Rattle.fj_desk.specs.Core.{Core, Pending}
-use Rattle.fj_desk.specs.Desks.{Outcome, most_slots}
+use Rattle.fj_desk.specs.Desks.{Outcome, brought_by, most_slots}
 use Rattle.fj_desk.specs.Doing.{Doing, finishes, gives, awaits}
 use Rattle.fj_desk.specs.Desking.{told_core}
 use Rattle.fj_desk.proofs.Apart.{Each, each_filter, each_append, each_imp, each_map, filter_map}
@@ -180,9 +180,9 @@ settle_sound r slot stage o t inside owed = record {
   sent = t.sent;
   told = length_set r.told slot (get_or r.told slot 0 + 1) ∙ t.told;
   within = λ s. one_told r.told slot s (get_or r.sent s 0) here (t.within s) (λ e f. below s e f);
-  same = answers_pending slot (get_or r.told slot 0) o r.book ∙ t.same;
-  open_ones = each_map (IsOpen (bump r.told slot) r.sent) (λ (h : Held). if is_at slot (get_or r.told slot 0) h.pending then record { pending = h.pending; answer = Some o } else h) r.book
-      (each_imp (IsOpen r.told r.sent) (λ h. IsOpen (bump r.told slot) r.sent (if is_at slot (get_or r.told slot 0) h.pending then record { pending = h.pending; answer = Some o } else h)) r.book
+  same = answers_pending slot (get_or r.told slot 0) (brought_by o) r.book ∙ t.same;
+  open_ones = each_map (IsOpen (bump r.told slot) r.sent) (λ (h : Held). if is_at slot (get_or r.told slot 0) h.pending then record { pending = h.pending; answer = Some (brought_by o) } else h) r.book
+      (each_imp (IsOpen r.told r.sent) (λ h. IsOpen (bump r.told slot) r.sent (if is_at slot (get_or r.told slot 0) h.pending then record { pending = h.pending; answer = Some (brought_by o) } else h)) r.book
       (λ h k. by h k (is_at slot (get_or r.told slot 0) h.pending) refl) t.open_ones);
   ending = t.ending;
 }
@@ -193,8 +193,8 @@ settle_sound r slot stage o t inside owed = record {
     below : (s : ℕ) → s ≡ slot → get_or r.sent s 0 ≡ get_or r.told slot 0 → ⊥
     below s e f = absurd (let z : get_or r.sent s 0 ≡ get_or r.sent slot 0 = ap (λ k. get_or r.sent k 0) e in omega (arith, z, f, owed))
 
-    by : (h : Held) → IsOpen r.told r.sent h → (b : Bool) → is_at slot (get_or r.told slot 0) h.pending ≡ b → IsOpen (bump r.told slot) r.sent (if b then record { pending = h.pending; answer = Some o } else h)
-    by h k true is = record { given = k.given; untold = λ e. absurd (let z : Some o ≡ None = e in cc) }
+    by : (h : Held) → IsOpen r.told r.sent h → (b : Bool) → is_at slot (get_or r.told slot 0) h.pending ≡ b → IsOpen (bump r.told slot) r.sent (if b then record { pending = h.pending; answer = Some (brought_by o) } else h)
+    by h k true is = record { given = k.given; untold = λ e. absurd (let z : Some (brought_by o) ≡ None = e in cc) }
     by h k false is = record { given = k.given; untold = λ e. one_told r.told slot h.pending.slot h.pending.number here (k.untold e) (λ a b. other a b) }
       where
         other : h.pending.slot ≡ slot → h.pending.number ≡ get_or r.told slot 0 → ⊥

@@ -1,6 +1,6 @@
 -- How the runner and its slots hold what the execution over desks holds.
 use Rattle.std.proofs.Common.{◌≡◌, ℕ, zero, suc, ◌+◌, ◌-◌, ◌<◌, ◌≤◌, ◌&&◌, Bool, true, false, List, [], ◌∷◌, ◌++◌, map, length, Option, Some, None, slice_get, set, get_or, refl, sym, ap, ◌∙◌, subst, inl, inr, arith}
-use Rattle.std.specs.Prelude.{nat_lt, if◌then◌else◌, ◌==◌}
+use Rattle.std.specs.Prelude.{nat_lt, option_map, if◌then◌else◌, ◌==◌}
 use Rattle.std.proofs.lemmas.Bool.{eqb-true, eq-eqb}
 use Rattle.std.proofs.lemmas.Bool.Decides.{eqb_tells}
 use Rattle.fj_bay.specs.Bay.{Bay}
@@ -12,7 +12,7 @@ use Rattle.fj_slot.proofs.Serving.{served_by-append, outcomes-append, length-out
 use Rattle.fj_world.specs.Plain.{PlainSlot}
 use Rattle.fj_world.proofs.Places.{set_itself}
 use Rattle.fj_desk.specs.Core.{Pending, Connected}
-use Rattle.fj_desk.specs.Desks.{Desk, Outcome, carried, log_at, log_length, most_slots}
+use Rattle.fj_desk.specs.Desks.{Desk, Outcome, Brought, brought_by, carried, log_at, log_length, most_slots}
 use Rattle.fj_desk.specs.Doing.{Desked}
 use Rattle.fj_desk.proofs.Apart.{Each, each_imp, each_map}
 use Rattle.fj_turns.specs.Run.{Held, Stage, Run}
@@ -20,9 +20,9 @@ use Rattle.fj_turns.specs.Turns.{matched, bump, is_at, with_answer, told_of}
 use Rattle.fj_turns.specs.Serving.{over_bays, desk_of, desks_of}
 use Rattle.fj_turns.proofs.Slots.{same_some, and_true, get_mapped, each_set, map_set, map_get, get_set_here, get_set_other, length_set, length_mapped, found_inside, is_below, below_more}
 
--- what is known of a pending transfer: what became of it, once so many jobs of its slot were told
-abbrev pub answer_at : List Desk → List ℕ → Pending → Option Outcome
-answer_at desks told e = if nat_lt e.number (get_or told e.slot 0) then log_at (slice_get desks e.slot) e.number else None
+-- what is known of a pending transfer: what its job brought, once so many jobs of its slot were told
+abbrev pub answer_at : List Desk → List ℕ → Pending → Option Brought
+answer_at desks told e = if nat_lt e.number (get_or told e.slot 0) then option_map brought_by (log_at (slice_get desks e.slot) e.number) else None
 
 -- its job was submitted, and its answer stands in it once it was told
 pub record IsKept (desks : List Desk) (told : List ℕ) (h : Held) : Type 0 where
@@ -72,7 +72,7 @@ pub pending_more : (hs : List Held) (e : Pending) → map (λ (h : Held). h.pend
 pending_more [] e = refl
 pending_more (h ∷ hs) e = ap (λ l. h.pending ∷ l) (pending_more hs e)
 
-pub answers_pending : (slot number : ℕ) (o : Outcome) (hs : List Held) → map (λ (h : Held). h.pending) (with_answer slot number o hs) ≡ map (λ (h : Held). h.pending) hs
+pub answers_pending : (slot number : ℕ) (o : Brought) (hs : List Held) → map (λ (h : Held). h.pending) (with_answer slot number o hs) ≡ map (λ (h : Held). h.pending) hs
 answers_pending slot number o [] = refl
 answers_pending slot number o (h ∷ hs) = by (is_at slot number h.pending) (answers_pending slot number o hs)
   where
@@ -110,7 +110,7 @@ module _ {E J A : Type 0} (m : Meaning E J A Bay Job Answer) where
   -- ---- a job is told
 
   kept_told : (desks : List Desk) (told : List ℕ) (slot : ℕ) (o : Outcome) (h : Held) → slot < length told → log_at (slice_get desks slot) (get_or told slot 0) ≡ Some o
-      → IsKept desks told h → (b : Bool) → is_at slot (get_or told slot 0) h.pending ≡ b → IsKept desks (bump told slot) (if b then record { pending = h.pending; answer = Some o } else h)
+      → IsKept desks told h → (b : Bool) → is_at slot (get_or told slot 0) h.pending ≡ b → IsKept desks (bump told slot) (if b then record { pending = h.pending; answer = Some (brought_by o) } else h)
   kept_told desks told slot o h inside here k true is =
       let both = and_true (h.pending.slot == slot) (h.pending.number == get_or told slot 0) is in
       let at_slot : h.pending.slot ≡ slot = eqb-true h.pending.slot slot both.0 in
@@ -119,13 +119,13 @@ module _ {E J A : Type 0} (m : Meaning E J A Bay Job Answer) where
       let below : nat_lt (get_or told slot 0) (get_or (bump told slot) slot 0) ≡ true = is_below (get_or told slot 0) (get_or (bump told slot) slot 0) (omega (arith, now)) in
       record {
         answer = sym (
-            ap (λ s. if nat_lt h.pending.number (get_or (bump told slot) s 0) then log_at (slice_get desks s) h.pending.number else None) at_slot
-            ∙ ap (λ n. if nat_lt n (get_or (bump told slot) slot 0) then log_at (slice_get desks slot) n else None) at_number
-            ∙ ap (λ b. if b then log_at (slice_get desks slot) (get_or told slot 0) else None) below ∙ here);
+            ap (λ s. if nat_lt h.pending.number (get_or (bump told slot) s 0) then option_map brought_by (log_at (slice_get desks s) h.pending.number) else None) at_slot
+            ∙ ap (λ n. if nat_lt n (get_or (bump told slot) slot 0) then option_map brought_by (log_at (slice_get desks slot) n) else None) at_number
+            ∙ ap (λ b. if b then option_map brought_by (log_at (slice_get desks slot) (get_or told slot 0)) else None) below ∙ ap (option_map brought_by) here);
         placed = k.placed;
       }
   kept_told desks told slot o h inside here k false is = record {
-    answer = k.answer ∙ sym (ap (λ b. if b then log_at (slice_get desks h.pending.slot) h.pending.number else None) unchanged);
+    answer = k.answer ∙ sym (ap (λ b. if b then option_map brought_by (log_at (slice_get desks h.pending.slot) h.pending.number) else None) unchanged);
     placed = k.placed;
   }
     where
@@ -160,8 +160,8 @@ module _ {E J A : Type 0} (m : Meaning E J A Bay Job Answer) where
         within = each_set (λ x. x.told ≤ length x.jobs) qs slot (more q) t.within (omega (arith, below));
         slots = length_set qs slot (more q) ∙ t.slots;
         housed = t.housed;
-        same = answers_pending slot (get_or r.told slot 0) o r.book ∙ t.same;
-        kept = each_map (IsKept p.desks (bump r.told slot)) (λ (h : Held). if is_at slot (get_or r.told slot 0) h.pending then record { pending = h.pending; answer = Some o } else h) r.book
-            (each_imp (IsKept p.desks r.told) (λ h. IsKept p.desks (bump r.told slot) (if is_at slot (get_or r.told slot 0) h.pending then record { pending = h.pending; answer = Some o } else h)) r.book
+        same = answers_pending slot (get_or r.told slot 0) (brought_by o) r.book ∙ t.same;
+        kept = each_map (IsKept p.desks (bump r.told slot)) (λ (h : Held). if is_at slot (get_or r.told slot 0) h.pending then record { pending = h.pending; answer = Some (brought_by o) } else h) r.book
+            (each_imp (IsKept p.desks r.told) (λ h. IsKept p.desks (bump r.told slot) (if is_at slot (get_or r.told slot 0) h.pending then record { pending = h.pending; answer = Some (brought_by o) } else h)) r.book
             (λ h k. kept_told p.desks r.told slot o h inside here k (is_at slot (get_or r.told slot 0) h.pending) refl) t.kept);
       }

@@ -1,6 +1,6 @@
 -- Tells, a Submit and a change of the core keep the ties.
 use Rattle.std.proofs.Common.{◌≡◌, ℕ, ◌+◌, ◌<◌, ◌≤◌, not, List, [], ◌∷◌, ◌++◌, map, length, Some, None, slice_get, set, get_or, refl, sym, ap, ◌∙◌, subst, arith}
-use Rattle.std.specs.Prelude.{nat_lt, if◌then◌else◌, filter}
+use Rattle.std.specs.Prelude.{nat_lt, option_map, if◌then◌else◌, filter}
 use Rattle.std.proofs.lemmas.List.{length-append}
 use Rattle.fj_bay.specs.Bay.{Bay}
 use Rattle.fj_bay.specs.Jobs.{Job, Answer}
@@ -11,7 +11,7 @@ use Rattle.fj_plain.specs.State.{Entry}
 use Rattle.fj_plain.specs.Statement.{Stated}
 use Rattle.fj_plain.specs.Telling.{tells_id}
 use Rattle.fj_desk.specs.Core.{Core, Pending, Connected}
-use Rattle.fj_desk.specs.Desks.{Desk, carry_at, carry, log_at, log_length, most_slots}
+use Rattle.fj_desk.specs.Desks.{Desk, brought_by, carry_at, carry, log_at, log_length, most_slots}
 use Rattle.fj_desk.specs.Doing.{Desked}
 use Rattle.fj_desk.specs.Desking.{told_core}
 use Rattle.fj_desk.proofs.Apart.{Each, each_filter, each_append, each_imp, filter_map}
@@ -26,7 +26,7 @@ pub kept_carried : (desks : List Desk) (told : List ℕ) (slot : ℕ) (job : Job
 kept_carried desks told slot job h k =
     let later = carry_later desks slot job in
     record {
-      answer = k.answer ∙ ap (λ l. if nat_lt h.pending.number (get_or told h.pending.slot 0) then l else None) (sym (later.keeps h.pending.slot h.pending.number k.placed));
+      answer = k.answer ∙ ap (λ l. if nat_lt h.pending.number (get_or told h.pending.slot 0) then option_map brought_by l else None) (sym (later.keeps h.pending.slot h.pending.number k.placed));
       placed = later.grows h.pending.slot h.pending.number k.placed;
     }
 

@@ -11,7 +11,7 @@ use Rattle.fj_store.specs.Variables.{Variables}
 use Rattle.fj_plain.specs.Needs.{number_of, number_given}
 use Rattle.fj_plain.specs.State.{Entry, halts}
 use Rattle.fj_plain.specs.Telling.{of_unit, of_id, graver, condition_of, waited_by, waited_in, is_asynchronous, tells_id}
-use Rattle.fj_desk.specs.Desks.{Outcome, entry_with}
+use Rattle.fj_desk.specs.Desks.{Brought, entry_with}
 use Rattle.fj_desk.proofs.Apart.{Each, each_imp, each_both}
 use Rattle.fj_turns.specs.Run.{Held, known}
 use Rattle.fj_turns.specs.Turns.{unsettled}
@@ -68,14 +68,14 @@ AreKnown g es hs = Each (λ (h : Held). tells_id es h.pending.id ≡ true → kn
 pub known_id : (h : Held) → (known h).id ≡ h.pending.id
 known_id h = by h.answer
   where
-    by : (o : Option Outcome) → (entry_with h.pending o).id ≡ h.pending.id
+    by : (o : Option Brought) → (entry_with h.pending o).id ≡ h.pending.id
     by None = refl
     by (Some o) = refl
 
 known_unit : (h : Held) → (known h).unit ≡ h.pending.unit
 known_unit h = by h.answer
   where
-    by : (o : Option Outcome) → (entry_with h.pending o).unit ≡ h.pending.unit
+    by : (o : Option Brought) → (entry_with h.pending o).unit ≡ h.pending.unit
     by None = refl
     by (Some o) = refl
 
@@ -162,7 +162,7 @@ unsettled_found P es (h ∷ hs) slot k e = by (tells_id es h.pending.id) (h.answ
     further : (x : Held) × IsUnsettled P es hs slot x → (x : Held) × IsUnsettled P es (h ∷ hs) slot x
     further f = (f.0, (suc f.1.0, f.1.1, f.1.2, f.1.3, f.1.4, f.1.5))
 
-    by : (a : Bool) (o : Option Outcome) → tells_id es h.pending.id ≡ a → h.answer ≡ o → (unsettled es hs ≡ Some slot → (x : Held) × IsUnsettled P es hs slot x)
+    by : (a : Bool) (o : Option Brought) → tells_id es h.pending.id ≡ a → h.answer ≡ o → (unsettled es hs ≡ Some slot → (x : Held) × IsUnsettled P es hs slot x)
         → (if a && is_none o then Some h.pending.slot else unsettled es hs) ≡ Some slot → (x : Held) × IsUnsettled P es (h ∷ hs) slot x
     by true None a o f e = (h, (0, refl, k.0, o, cc, a))
     by true (Some x) a o f e = further (f e)

@@ -4,13 +4,13 @@ use Rattle.fj_statement.specs.declared.deck.Variable.{Variable}
 use Rattle.fj_plain.specs.State.{Entry}
 use Rattle.fj_plain.specs.Statement.{Stated, Ending}
 use Rattle.fj_desk.specs.Core.{Core, Pending}
-use Rattle.fj_desk.specs.Desks.{Outcome, entry_with}
+use Rattle.fj_desk.specs.Desks.{Outcome, Brought, entry_with}
 use Rattle.fj_desk.specs.Doing.{Doing}
 
--- a pending transfer with what became of its job, once that was told
+-- a pending transfer with what its job brought, once that was told
 pub record Held : Type 0 where
   pub pending : Pending
-  pub answer : Option Outcome
+  pub answer : Option Brought
 
 -- where the statement at hand is
 pub data Stage : Type 0 where

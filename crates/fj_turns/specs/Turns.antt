@@ -14,7 +14,7 @@ use Rattle.fj_plain.specs.Telling.{waited_in, condition_of, tells_id, tells_caus
 use Rattle.fj_plain.specs.Transfers.{with_number}
 use Rattle.fj_plain.specs.Statement.{Stated, Ending, prohibition, iostat_of, ends}
 use Rattle.fj_desk.specs.Core.{Core, Pending, Connected, pending_holders, unit_named}
-use Rattle.fj_desk.specs.Desks.{Outcome}
+use Rattle.fj_desk.specs.Desks.{Outcome, Brought, brought_by}
 use Rattle.fj_desk.specs.Doing.{Doing, finishes, gives, awaits}
 use Rattle.fj_desk.specs.Acting.{doing}
 use Rattle.fj_desk.specs.Desking.{told_core}
@@ -148,12 +148,12 @@ asked r = if is_some r.ending then record { ask = Finished; run = r } else asked
 
 -- ---- the answer of the next job of the slot that it waits for
 
--- the transfer whose job has that number at that slot has its answer
+-- the transfer whose job has that number at that slot has its answer: what the job brought
 abbrev pub is_at : ℕ → ℕ → Pending → Bool
 is_at slot number e = (e.slot == slot) && (e.number == number)
 
-abbrev pub with_answer : ℕ → ℕ → Outcome → List Held → List Held
-with_answer slot number it hs = map (λ (h : Held). if is_at slot number h.pending then record { pending = h.pending; answer = Some it } else h) hs
+abbrev pub with_answer : ℕ → ℕ → Brought → List Held → List Held
+with_answer slot number brought hs = map (λ (h : Held). if is_at slot number h.pending then record { pending = h.pending; answer = Some brought } else h) hs
 
 -- or it is the statement's own job
 abbrev pub stage_told : Stage → ℕ → ℕ → Outcome → Stage
@@ -163,4 +163,4 @@ stage_told (Acting does) slot number it = Acting does
 stage_told (Awaiting own last next) slot number it = if (own == slot) && (last == number) then Acting (next it) else Awaiting own last next
 
 abbrev pub told_of : Run → Outcome → Run
-told_of r it = record r { told = bump r.told r.due; book = with_answer r.due (get_or r.told r.due 0) it r.book; stage = stage_told r.stage r.due (get_or r.told r.due 0) it }
+told_of r it = record r { told = bump r.told r.due; book = with_answer r.due (get_or r.told r.due 0) (brought_by it) r.book; stage = stage_told r.stage r.due (get_or r.told r.due 0) it }

@@ -2,7 +2,7 @@
 -- is its bytes in two's complement, the least first, a LOGICAL a word of four bytes, a CHARACTER its characters.
 use Rattle.std.specs.Prelude.{◌≡◌, ℕ, ◌==◌, List, [], length, not, if◌then◌else◌}
 use Rattle.std.specs.Int.{w32, w64, to_le_bytes, from_le_bytes, cast_signed, cast_unsigned}
-use Rattle.fj_value.specs.Kind.{IsOfKind}
+use Rattle.fj_value.specs.Kind.{IsOfKind, fits_bits}
 use Rattle.fj_value.specs.declared.kind.Kind.{Kind}
 use Rattle.fj_value.specs.declared.kind.Kind.TheVariants.{Int4, Int8, Logical, Chars}
 use Rattle.fj_value.specs.declared.value.Value.{Value}
@@ -15,9 +15,9 @@ stored_width Int8 = 8
 stored_width Logical = 4
 stored_width (Chars n) = n
 
--- the bytes of a value of a kind
+-- the bytes of a value of a kind; one of another kind has none
 abbrev pub stored : Kind → Value → List ℕ
-stored Int4 (value.Int n) = to_le_bytes w32 (cast_unsigned w32 n)
+stored Int4 (value.Int n) = if fits_bits 32 n then to_le_bytes w32 (cast_unsigned w32 n) else []
 stored Int8 (value.Int n) = to_le_bytes w64 (cast_unsigned w64 n)
 stored Logical (value.Log b) = to_le_bytes w32 (if b then 1 else 0)
 stored (Chars n) (value.Chars text) = text

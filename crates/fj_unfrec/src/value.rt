@@ -1,23 +1,24 @@
 // Values as the bytes of unformatted records.
 ghost use Rattle.std.specs.Prelude.{◌≡◌, ◌++◌, length, OnOk, OnErr};
-ghost use Rattle.fj_value.specs.Kind.{IsOfKind};
 ghost use Rattle.fj_unfrec.specs.Stored.{stored, stored_width, value_of};
 
 use fj_value::{Kind, Text, Value};
 use std::alloc::{AllocError, Global};
 
-/// Adds the bytes of a value, which is a defined one of its kind. Want of memory changes nothing.
+/// Adds the bytes of a value of a kind; one that is not of this kind has none. Want of memory changes nothing.
 pub fn put_value(kind: Kind, value: &Value, out: &mut Text) -> Result<(), AllocError>
-    requires { IsOfKind kind value.now }
     ensures ok { OnOk result (out.new ≡ out.old ++ stored kind value.now) }
     ensures err { OnErr result (out.new ≡ out.old) }
 {
     match (kind, value) {
-        (Kind::Int4, Value::Int(number)) => out.push_all(&(*number as i32).to_le_bytes()),
+        (Kind::Int4, Value::Int(number)) => match i32::try_from(*number) {
+            Ok(number) => out.push_all(&number.to_le_bytes()),
+            Err(_) => Ok(()),
+        },
         (Kind::Int8, Value::Int(number)) => out.push_all(&number.to_le_bytes()),
         (Kind::Logical, Value::Log(truth)) => out.push_all(&u32::from(*truth).to_le_bytes()),
         (Kind::Chars(_), Value::Chars(text)) => out.push_all(text.bytes()),
-        _ => unreachable!(),
+        _ => Ok(()),
     }
 }
 

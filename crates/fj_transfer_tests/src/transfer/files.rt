@@ -4,7 +4,7 @@ ghost use Rattle.std.specs.FinSet as set;
 ghost use Rattle.fj_list.specs.Moved.{IsOrdered};
 ghost use Rattle.fj_outside.specs.Holdings.{IsInUse};
 ghost use Rattle.fj_namelist.specs.GroupText.{IsWithin};
-ghost use Rattle.fj_transfer.specs.Moving.{HasValues, members_of};
+ghost use Rattle.fj_transfer.specs.Moving.{members_of};
 ghost use Rattle.fj_transfer.specs.Printing.{IsRecords};
 
 use crate::transfer::{A, I4, I8, Item, L, MODES, moved};
@@ -74,7 +74,6 @@ fn write<F: FileStore>(
     items: &Load,
 ) -> Result<Condition, Stop>
     requires ordered { IsOrdered items.now }
-    requires defined { HasValues items.now }
     ensures { c.new.name ≡ c.old.name }
 {
     let size = c.file_len();
@@ -130,7 +129,6 @@ fn written<D: Disk>(
 ) -> Result<(Condition, u64, u64), OpenFault>
     requires home { D.tells disk.old → (D.held disk.old).in_use ≡ set.empty }
     requires ordered { IsOrdered items.now }
-    requires defined { HasValues items.now }
 {
     let mut c = connect(alloc, disk, &statement(access, false))?;
     let condition = write(alloc, &mut c, at, items);

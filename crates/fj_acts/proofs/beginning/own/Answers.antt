@@ -17,16 +17,16 @@ use Rattle.fj_acts.proofs.StateLemmas.{keeps_answers}
 use Rattle.fj_acts.proofs.StepLemmas.{asks_to_open}
 use Rattle.fj_acts.proofs.beginning.own.Goals as goal
 
-pub returns-in_err-map_err-in-Assign-clause-front : goal.returns-in_err-map_err-in-Assign-clause-front
-returns-in_err-map_err-in-Assign-clause-front g c = λ tells.
+pub returns-in_err-assign-in-Assign-clause-front : goal.returns-in_err-assign-in-Assign-clause-front
+returns-in_err-assign-in-Assign-clause-front g c = λ tells.
     assign_front c.from_residual.result (g.W.Sink.taken c.args.out.now) c.args.variables.now c.args.lined.now.line (core_of (files_of (g.D.Disk.held c.args.disk.now)) c.args.core.now) c.args.lined.now.what
     c.in-Assign.to c.in-Assign.from c.in-Assign.is
 
-pub returns-in_err-map_err-in-Assign-clause-pending : goal.returns-in_err-map_err-in-Assign-clause-pending
-returns-in_err-map_err-in-Assign-clause-pending g c = keeps_answers c.args.core.now (record c.args.core.now { store = c.assign.new.store }) refl
+pub returns-in_err-assign-in-Assign-clause-pending : goal.returns-in_err-assign-in-Assign-clause-pending
+returns-in_err-assign-in-Assign-clause-pending g c = keeps_answers c.args.core.now (record c.args.core.now { store = c.assign.new.store }) refl
 
-pub returns-in_ok-map_err-in-Assign-clause-pending : goal.returns-in_ok-map_err-in-Assign-clause-pending
-returns-in_ok-map_err-in-Assign-clause-pending g c = keeps_answers c.args.core.now (record c.args.core.now { store = c.assign.new.store }) refl
+pub returns-in_ok-assign-in-Assign-clause-pending : goal.returns-in_ok-assign-in-Assign-clause-pending
+returns-in_ok-assign-in-Assign-clause-pending g c = keeps_answers c.args.core.now (record c.args.core.now { store = c.assign.new.store }) refl
 
 pub returns-in-OpenUnit-clause-doing : goal.returns-in-OpenUnit-clause-doing
 returns-in-OpenUnit-clause-doing g c = λ tells.

@@ -8,17 +8,15 @@ use Rattle.fj_plain.specs.Inquiring.{About}
 use Rattle.fj_plain.specs.Needs.{unit_about, number_given}
 use Rattle.fj_plain.specs.Statement.{file_asked, has_pending}
 use Rattle.fj_desk.specs.Core.{Connected as PlainConnected, unit_named}
-use Rattle.fj_desk.specs.Acting.{answers, about_unit, unit_at}
+use Rattle.fj_desk.specs.Acting.{about_unit}
 use Rattle.fj_inquire.specs.Inquiring as told
 use Rattle.fj_inquire.specs.declared.connected.Connected.{Connected}
 use Rattle.fj_pending.specs.Plain.{holders}
 use Rattle.fj_units.specs.Units.{connected_of}
 use Rattle.fj_acts.specs.Answers.{AnswersAlike}
-use Rattle.fj_acts.specs.Doing.{looks_at}
 use Rattle.fj_acts.specs.State.{core_of}
 use Rattle.fj_acts.proofs.ClosingLemmas.{found_number}
-use Rattle.fj_acts.proofs.TransferLemmas.{ok_same}
-use Rattle.fj_acts.proofs.InquiryLemmas.{unit_answers_alike, look_known}
+use Rattle.fj_acts.proofs.InquiryLemmas.{answers_is, look_known, unit_answers_alike}
 use Rattle.fj_acts.proofs.inquiring.answer_look.Goals as goal
 
 pub returns-clause-doing : goal.returns-clause-doing
@@ -39,6 +37,5 @@ returns-clause-doing g c = λ st files.
     let alike : AnswersAlike about plain =
     unit_answers_alike files old o n u file id c.args.look connected pending c.in-Some.ensures (found_number old.units n u (sym c.in-Some-find.ensures)) refl refl
     (c.has_pending-pending.ensures ∙ ap (has_pending (holders old.pending) (Some n)) c.number_given-id.ensures) in
-    ok_same g.F.FileStore.told g.F.FileStore.bytes c.args.variables.now st (core_of files c.answer.new.core) c.answer.result (answers (core_of files old) plain asked)
-    (looks_at (core_of files old) o file asked id (unit_at (core_of files old) o) seen)
-    (look_known (core_of files old) o n u file asked id seen c.in-Some.ensures c.in-Some-find.ensures) (c.answer.ensures.doing about plain st files cells alike)
+    look_known c.args.variables.now (core_of files old) o n u file asked id seen c.in-Some.ensures c.in-Some-find.ensures
+    ∙ answers_is c.args.variables.now files old c.give_back.new.store c.in_ok-cells.cells asked about plain cells alike c.give_back.ensures.vars

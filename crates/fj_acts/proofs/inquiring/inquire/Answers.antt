@@ -26,8 +26,8 @@ returns-in_default-clause-doing g c = λ tells st asks.
     let file : Option (List ℕ) = file_asked c.args.subject.now in
     let id : Option ℤ = number_given (values_of old.store) (option_copied c.args.id) in
     ok_same g.D.File.FileStore.told g.D.File.FileStore.bytes c.args.variables.now st (core_of (files_of (g.D.Disk.held c.answer_other.new.disk)) c.answer_other.new.core) c.answer_other.result
-    (answers (core_of files old) (about_other files file) asked) (inquires (core_of files old) o file asked id (unit_at (core_of files old) o))
-    (inquires_none (core_of files old) o file asked id c.in_default.ensures) (c.answer_other.ensures.doing tells st)
+    (answers c.args.variables.now (core_of files old) (about_other files file) asked) (inquires c.args.variables.now (core_of files old) o file asked id (unit_at (core_of files old) o))
+    (inquires_none c.args.variables.now (core_of files old) o file asked id c.in_default.ensures) (c.answer_other.ensures.doing tells st)
 
 pub returns-in_default-find-clause-doing : goal.returns-in_default-find-clause-doing
 returns-in_default-find-clause-doing g c = λ tells st asks.
@@ -38,20 +38,20 @@ returns-in_default-find-clause-doing g c = λ tells st asks.
     let file : Option (List ℕ) = file_asked c.args.subject.now in
     let id : Option ℤ = number_given (values_of old.store) (option_copied c.args.id) in
     ok_same g.D.File.FileStore.told g.D.File.FileStore.bytes c.args.variables.now st (core_of (files_of (g.D.Disk.held c.answer_other-in_default-find.new.disk)) c.answer_other-in_default-find.new.core)
-    c.answer_other-in_default-find.result (answers (core_of files old) (about_other files file) asked) (inquires (core_of files old) o file asked id (unit_at (core_of files old) o))
-    (inquires_unknown (core_of files old) o c.in-Some.number file asked id c.in-Some.ensures c.in_default-find.ensures) (c.answer_other-in_default-find.ensures.doing tells st)
+    c.answer_other-in_default-find.result (answers c.args.variables.now (core_of files old) (about_other files file) asked) (inquires c.args.variables.now (core_of files old) o file asked id (unit_at (core_of files old) o))
+    (inquires_unknown c.args.variables.now (core_of files old) o c.in-Some.number file asked id c.in-Some.ensures c.in_default-find.ensures) (c.answer_other-in_default-find.ensures.doing tells st)
 
 pub returns-in_default-clause-fault : goal.returns-in_default-clause-fault
 returns-in_default-clause-fault g c = λ tells lost.
     fails_as _ _ c.answer_other.new.core (g.D.Disk.held c.answer_other.new.disk) (g.D.Disk.refusals c.args.disk.now) (g.D.Disk.refusals c.answer_other.new.disk)
-    (sym (inquires_none (core_of (files_of (g.D.Disk.held c.args.disk.now)) c.args.core.now) (unit_about (unit_named c.args.core.now.units) c.args.subject.now) (file_asked c.args.subject.now) c.args.asked.now
+    (sym (inquires_none c.args.variables.now (core_of (files_of (g.D.Disk.held c.args.disk.now)) c.args.core.now) (unit_about (unit_named c.args.core.now.units) c.args.subject.now) (file_asked c.args.subject.now) c.args.asked.now
     (number_given (values_of c.args.core.now.store) (option_copied c.args.id)) c.in_default.ensures))
     (c.answer_other.ensures.fault tells lost)
 
 pub returns-in_default-find-clause-fault : goal.returns-in_default-find-clause-fault
 returns-in_default-find-clause-fault g c = λ tells lost.
     fails_as _ _ c.answer_other-in_default-find.new.core (g.D.Disk.held c.answer_other-in_default-find.new.disk) (g.D.Disk.refusals c.args.disk.now) (g.D.Disk.refusals c.answer_other-in_default-find.new.disk)
-    (sym (inquires_unknown (core_of (files_of (g.D.Disk.held c.args.disk.now)) c.args.core.now) (unit_about (unit_named c.args.core.now.units) c.args.subject.now) c.in-Some.number (file_asked c.args.subject.now) c.args.asked.now
+    (sym (inquires_unknown c.args.variables.now (core_of (files_of (g.D.Disk.held c.args.disk.now)) c.args.core.now) (unit_about (unit_named c.args.core.now.units) c.args.subject.now) c.in-Some.number (file_asked c.args.subject.now) c.args.asked.now
     (number_given (values_of c.args.core.now.store) (option_copied c.args.id)) c.in-Some.ensures c.in_default-find.ensures))
     (c.answer_other-in_default-find.ensures.fault tells lost)
 
@@ -72,13 +72,13 @@ returns-clause-doing g c = λ tells st asks.
     let id : Option ℤ = number_given (values_of old.store) (option_copied c.args.id) in
     let u : PlainConnected = connected_of c.in-Some-find.unit.now in
     ok_same g.D.File.FileStore.told g.D.File.FileStore.bytes c.args.variables.now st (core_of files c.answer_look.new.core) c.answer_look.result
-    (looks_at (core_of files old) o file asked id (unit_at (core_of files old) o) None) (inquires (core_of files old) o file asked id (unit_at (core_of files old) o))
-    (inquires_at_once (core_of files old) o c.in-Some.number u file asked id c.in-Some.ensures c.in-Some-find.ensures c.if-needs_look.ensures) (c.answer_look.ensures.doing st files)
+    (looks_at c.args.variables.now (core_of files old) o file asked id (unit_at (core_of files old) o) None) (inquires c.args.variables.now (core_of files old) o file asked id (unit_at (core_of files old) o))
+    (inquires_at_once c.args.variables.now (core_of files old) o c.in-Some.number u file asked id c.in-Some.ensures c.in-Some-find.ensures c.if-needs_look.ensures) (c.answer_look.ensures.doing st files)
 
 pub returns-in_default-find-clause-fits : goal.returns-in_default-find-clause-fits
-returns-in_default-find-clause-fits g c = λ asks have.
-    c.answer_other-in_default-find.ensures.fits asks (unknown_home c.args.core.now.names c.args.core.now.units c.args.subject.now c.in-Some.number (sym c.in-Some.ensures) (sym c.in_default-find.ensures))
+returns-in_default-find-clause-fits g c = λ have.
+    c.answer_other-in_default-find.ensures.fits (unknown_home c.args.core.now.names c.args.core.now.units c.args.subject.now c.in-Some.number (sym c.in-Some.ensures) (sym c.in_default-find.ensures))
 
 pub returns-in_default-clause-fits : goal.returns-in_default-clause-fits
-returns-in_default-clause-fits g c = λ asks have.
-    c.answer_other.ensures.fits asks (nobody_home c.args.core.now.names c.args.core.now.units c.args.subject.now have (sym c.in_default.ensures))
+returns-in_default-clause-fits g c = λ have.
+    c.answer_other.ensures.fits (nobody_home c.args.core.now.names c.args.core.now.units c.args.subject.now have (sym c.in_default.ensures))

@@ -1,32 +1,29 @@
-use Rattle.std.proofs.Common.{refl, sym, ap, ◌∙◌}
-use Rattle.fj_value.specs.declared.condition.Condition.{Condition}
+use Rattle.std.proofs.Common.{refl, sym, ap, subst, ◌∙◌}
 use Rattle.fj_statement.specs.declared.statement.Statement.{Statement}
 use Rattle.fj_store.specs.Storage.{values_of}
-use Rattle.fj_bay.specs.Jobs.{move}
-use Rattle.fj_bay.specs.Plain.{moving_of}
 use Rattle.fj_plain.specs.Statement.{Stated, control_by}
 use Rattle.fj_plain.specs.Transfers.{with_cells}
 use Rattle.fj_desk.specs.Core.{Core}
-use Rattle.fj_acts.specs.Doing.{carries, ends_behind}
+use Rattle.fj_desk.specs.Desks.{Brought}
+use Rattle.fj_desk.specs.Doing.{Doing as PlainDoing}
+use Rattle.fj_acts.specs.Doing.{IsDoing, carries, ends_behind}
 use Rattle.fj_acts.specs.State.{core_of}
-use Rattle.fj_acts.proofs.OpeningLemmas.{meant}
 use Rattle.fj_acts.proofs.StateLemmas.{keeps_answers}
 use Rattle.fj_acts.proofs.StepLemmas.{carries_nothing}
 use Rattle.fj_acts.proofs.steps.carried.Goals as goal
 
 pub returns-in-Transfer-clause-doing : goal.returns-in-Transfer-clause-doing
-returns-in-Transfer-clause-doing g c = λ files answer is.
+returns-in-Transfer-clause-doing g c = λ files o is.
     let core : Core = core_of files c.args.core.now in
     let what : Statement = c.args.lined.now.what in
     let st : Stated = (c.args.lined.now, control_by what) in
-    let back : Core = record core { vars = with_cells c.args.variables.now c.in-Transfer.t c.args.moved.moved.cells c.args.moved.count (values_of c.args.core.now.store) } in
-    meant g.F.FileStore.told g.F.FileStore.bytes c.args.variables.now st _ c.carry.result _ _
-    (ap (λ (k : Condition). ends_behind c.args.slot back k) (sym is) ∙ ap (λ (w : Statement). carries c.args.variables.now core w c.args.slot (move (moving_of c.args.moved), answer)) (sym c.in-Transfer.is))
+    let with_brought : Brought → Core = λ b. record core { vars = with_cells c.args.variables.now c.in-Transfer.t b.cells b.count (values_of c.args.core.now.store) } in
+    subst (λ (d : PlainDoing). IsDoing g.F.FileStore.told g.F.FileStore.bytes c.args.variables.now st (core_of files c.carry.new.core) c.carry.result d)
+    (ap (λ (b : Brought). ends_behind c.args.slot (with_brought b) b.condition) is ∙ ap (λ (w : Statement). carries c.args.variables.now core w c.args.slot o) (sym c.in-Transfer.is))
     (c.carry.ensures.doing st files)
 
 pub returns-in_default-clause-doing : goal.returns-in_default-clause-doing
-returns-in_default-clause-doing g c = λ files answer is.
-    carries_nothing c.args.variables.now (core_of files c.args.core.now) c.args.lined.now.what c.args.slot (move (moving_of c.args.moved), answer) c.in_default.not-Transfer
+returns-in_default-clause-doing g c = λ files o is. carries_nothing c.args.variables.now (core_of files c.args.core.now) c.args.lined.now.what c.args.slot o c.in_default.not-Transfer
 
 pub returns-in_default-clause-pending : goal.returns-in_default-clause-pending
 returns-in_default-clause-pending g c = keeps_answers c.args.core.now c.args.core.now refl

@@ -11,17 +11,16 @@ use Rattle.fj_acts.specs.Doing.{goes_on}
 use Rattle.fj_acts.specs.State.{core_of}
 use Rattle.fj_acts.proofs.FailingLemmas.{fails_as, fails_since, fails_closing, goes_on_there, stands_as, stands_since, stands_still}
 use Rattle.fj_acts.proofs.OpeningLemmas.{meant}
-use Rattle.fj_acts.proofs.StepLemmas.{closed_goes_on, due_stands}
+use Rattle.fj_acts.proofs.StepLemmas.{closes_goes_on, closes_nothing}
 use Rattle.fj_acts.specs.Having.{IsFreeNext}
 use Rattle.std.proofs.Common.{length, ◌+◌, ◌≤◌}
-use Rattle.fj_acts.proofs.HavingLemmas.{closed_has, comes_due}
-use Rattle.fj_acts.proofs.JobLemmas.{closed_less, less_jobs, on_ok}
+use Rattle.fj_acts.proofs.HavingLemmas.{closed_has, unit_out}
+use Rattle.fj_acts.proofs.JobLemmas.{closed_less, fewer_units, less_jobs}
 use Rattle.fj_acts.proofs.steps.closed.Goals as goal
 
 pub close_file-requires : goal.close_file-requires
 close_file-requires g c = λ tells.
-    used_name c.args.core.now.names (g.D.Disk.held c.args.disk.now) c.args.connection.name
-    (due_stands (connected_at c.args.core.now.units c.args.number) c.args.core.now.names c.args.connection.name (sym c.if-not-is_due.ensures)) (c.requires.names tells)
+    used_name c.args.core.now.names (g.D.Disk.held c.args.disk.now) c.args.connection.name (sym c.if-not-holds.ensures) (c.requires.names tells)
 
 pub go_on-requires : goal.go_on-requires
 go_on-requires g c = record {
@@ -36,7 +35,7 @@ returns-in-Ok-clause-doing g c = λ tells conn answer is.
     let held : Holdings = g.D.Disk.held c.args.disk.now in
     let what : Statement = c.args.lined.now.what in
     meant g.D.File.FileStore.told g.D.File.FileStore.bytes c.args.variables.now (c.args.lined.now, control_by what) _ c.go_on.result _ _
-    (closed_goes_on g.D.File.FileStore.told g.D.File.FileStore.bytes (core_of (files_of held) c.args.core.now) held (g.D.Disk.held c.close_file.new.disk) c.args.number c.args.core.now.names c.args.connection conn _ c.args.keep answer
+    (closes_goes_on g.D.File.FileStore.told g.D.File.FileStore.bytes (core_of (files_of held) c.args.core.now) held (g.D.Disk.held c.close_file.new.disk) c.args.number c.args.connection conn _ c.args.keep answer
     what c.args.after _ (sym c.if-not-is_due.ensures) is refl (c.in-Ok.ensures.back tells) c.remove-2.ensures.left)
     (c.go_on.ensures.doing (c.in-Ok.ensures.telling.0 tells))
 
@@ -51,7 +50,7 @@ returns-in-Ok-clause-fault g c = λ tells conn answer is lost.
     let what : Statement = c.args.lined.now.what in
     fails_since _ c.go_on.new.core (g.D.Disk.held c.go_on.new.disk) (g.D.Disk.refusals c.args.disk.now) (g.D.Disk.refusals c.close_file.new.disk) (g.D.Disk.refusals c.go_on.new.disk) (c.in-Ok.ensures.own tells)
     (fails_as _ _ c.go_on.new.core (g.D.Disk.held c.go_on.new.disk) (g.D.Disk.refusals c.close_file.new.disk) (g.D.Disk.refusals c.go_on.new.disk)
-    (closed_goes_on g.D.File.FileStore.told g.D.File.FileStore.bytes (core_of (files_of held) c.args.core.now) held (g.D.Disk.held c.close_file.new.disk) c.args.number c.args.core.now.names c.args.connection conn _ c.args.keep answer
+    (closes_goes_on g.D.File.FileStore.told g.D.File.FileStore.bytes (core_of (files_of held) c.args.core.now) held (g.D.Disk.held c.close_file.new.disk) c.args.number c.args.connection conn _ c.args.keep answer
     what c.args.after _ (sym c.if-not-is_due.ensures) is refl (c.in-Ok.ensures.back tells) c.remove-2.ensures.left)
     (c.go_on.ensures.fault (c.in-Ok.ensures.telling.0 tells) lost))
 
@@ -59,7 +58,7 @@ pub returns-in-Err-clause-fault : goal.returns-in-Err-clause-fault
 returns-in-Err-clause-fault g c = λ tells conn answer is lost.
     let held : Holdings = g.D.Disk.held c.args.disk.now in
     let left : Holdings = g.D.Disk.held c.close_file.new.disk in
-    fails_closing g.D.File.FileStore.told g.D.File.FileStore.bytes (core_of (files_of held) c.args.core.now) held left c.args.number c.args.core.now.names c.args.connection conn c.args.keep answer
+    fails_closing g.D.File.FileStore.told g.D.File.FileStore.bytes (core_of (files_of held) c.args.core.now) held left c.args.number c.args.connection conn c.args.keep answer
     c.args.lined.now.what c.args.after _ (g.D.Disk.refusals c.args.disk.now) (g.D.Disk.refusals c.close_file.new.disk)
     (sym c.if-not-is_due.ensures) is refl c.remove-2.ensures.left (c.in-Err.ensures.own tells).1
     (due_back held left c.args.connection.name (g.D.File.FileStore.bytes c.args.connection.file) _ c.args.keep c.close_file.result (g.D.Disk.refusals c.args.disk.now) (g.D.Disk.refusals c.close_file.new.disk)
@@ -69,7 +68,7 @@ pub returns-in-Err-clause-stands : goal.returns-in-Err-clause-stands
 returns-in-Err-clause-stands g c = λ tells conn answer is fits.
     let held : Holdings = g.D.Disk.held c.args.disk.now in
     let left : Holdings = g.D.Disk.held c.close_file.new.disk in
-    (fails_closing g.D.File.FileStore.told g.D.File.FileStore.bytes (core_of (files_of held) c.args.core.now) held left c.args.number c.args.core.now.names c.args.connection conn c.args.keep answer
+    (fails_closing g.D.File.FileStore.told g.D.File.FileStore.bytes (core_of (files_of held) c.args.core.now) held left c.args.number c.args.connection conn c.args.keep answer
     c.args.lined.now.what c.args.after _ (g.D.Disk.refusals c.args.disk.now) (g.D.Disk.refusals c.close_file.new.disk)
     (sym c.if-not-is_due.ensures) is refl c.remove-2.ensures.left (c.in-Err.ensures.own tells).1
     (due_back held left c.args.connection.name (g.D.File.FileStore.bytes c.args.connection.file) _ c.args.keep c.close_file.result (g.D.Disk.refusals c.args.disk.now) (g.D.Disk.refusals c.close_file.new.disk)
@@ -84,13 +83,18 @@ returns-in-Ok-clause-stands g c = λ tells conn answer is fits.
     let left : Holdings = g.D.Disk.held c.go_on.new.disk in
     stands_since c.go_on.result _ c.go_on.new.core left (g.D.Disk.refusals c.args.disk.now) (g.D.Disk.refusals c.close_file.new.disk) (g.D.Disk.refusals c.go_on.new.disk) (c.in-Ok.ensures.own tells)
     (stands_as c.go_on.result (goes_on what core c.args.after) _ c.go_on.new.core left (g.D.Disk.refusals c.close_file.new.disk) (g.D.Disk.refusals c.go_on.new.disk)
-    (closed_goes_on g.D.File.FileStore.told g.D.File.FileStore.bytes (core_of (files_of held) c.args.core.now) held mid c.args.number c.args.core.now.names c.args.connection conn _ c.args.keep answer
+    (closes_goes_on g.D.File.FileStore.told g.D.File.FileStore.bytes (core_of (files_of held) c.args.core.now) held mid c.args.number c.args.connection conn _ c.args.keep answer
     what c.args.after _ (sym c.if-not-is_due.ensures) is refl (c.in-Ok.ensures.back tells) c.remove-2.ensures.left)
     (stands_still c.go_on.result core (goes_on what core c.args.after) c.go_on.new.core mid left (g.D.Disk.refusals c.close_file.new.disk) (g.D.Disk.refusals c.go_on.new.disk)
     (goes_on_there what core c.args.after) refl c.go_on.ensures.units (c.go_on.ensures.stays (c.in-Ok.ensures.telling.0 tells))))
 
-pub returns-then-not-is_due-clause-stands : goal.returns-then-not-is_due-clause-stands
-returns-then-not-is_due-clause-stands g c = λ tells conn answer is fits. absurd (fits refl)
+pub returns-then-not-is_due-clause-doing : goal.returns-then-not-is_due-clause-doing
+returns-then-not-is_due-clause-doing g c = λ tells conn answer is.
+    let core = core_of (files_of (g.D.Disk.held c.args.disk.now)) c.args.core.now in
+    closes_nothing g.D.File.FileStore.told g.D.File.FileStore.bytes core c.args.lined.now.what (connected_at core.units c.args.number) c.args.connection conn c.args.keep c.args.after answer (sym c.if-not-is_due.ensures) is
+
+pub returns-then-not-holds-clause-stands : goal.returns-then-not-holds-clause-stands
+returns-then-not-holds-clause-stands g c = λ tells conn answer is fits. absurd (fits refl)
 
 pub returns-in-Ok-clause-files : goal.returns-in-Ok-clause-files
 returns-in-Ok-clause-files g c = λ have.
@@ -99,26 +103,25 @@ returns-in-Ok-clause-files g c = λ have.
     (closed_has core.units c.remove-2.new.self c.args.number core.names c.remove.new.self c.args.connection.name (sym c.if-not-is_due.ensures) (c.remove.ensures ∙ ap (left_of core.names) c.name.ensures) have.0 c.remove-2.ensures.files)
 
 pub returns-in-Ok-clause-fits : goal.returns-in-Ok-clause-fits
-returns-in-Ok-clause-fits g c = λ have comes.
+returns-in-Ok-clause-fits g c = λ have.
     let core = c.args.core.now in
     c.go_on.ensures.fits (subst (IsFreeNext c.args.after c.args.lined.now.what) (sym c.remove-2.ensures.left) have.2)
     (closed_has core.units c.remove-2.new.self c.args.number core.names c.remove.new.self c.args.connection.name (sym c.if-not-is_due.ensures) (c.remove.ensures ∙ ap (left_of core.names) c.name.ensures) have.0 c.remove-2.ensures.files)
 
-pub returns-then-not-is_due-clause-fits : goal.returns-then-not-is_due-clause-fits
-returns-then-not-is_due-clause-fits g c = λ have comes e.
+pub returns-then-not-holds-clause-fits : goal.returns-then-not-holds-clause-fits
+returns-then-not-holds-clause-fits g c = λ have e.
     let core = c.args.core.now in
-    let due = comes_due core.units c.args.number core.names c.args.connection.name c.args.lined.now.what c.args.keep c.args.after have comes in
-    let z : false ≡ true = c.if-not-is_due.ensures ∙ due in
+    let z : false ≡ true = c.if-not-holds.ensures ∙ unit_out core.units c.args.number core.names c.args.connection.name have.0 (sym c.if-not-is_due.ensures) in
     absurd (let bad : ⊥ = cc in bad)
 
 pub returns-in-Ok-clause-units : goal.returns-in-Ok-clause-units
 returns-in-Ok-clause-units g c =
     let core = c.args.core.now in
-    let less = closed_less core.units c.remove-2.new.self c.args.number core.names c.args.connection.name (sym c.if-not-is_due.ensures) c.remove-2.ensures.left in
-    on_ok c.go_on.result _ (subst (λ us. length us + 1 ≤ length core.units) (sym c.go_on.ensures.units) less)
+    let less = closed_less core.units c.remove-2.new.self c.args.number c.args.connection.name (sym c.if-not-is_due.ensures) c.remove-2.ensures.left in
+    fewer_units c.go_on.result core.units c.go_on.new.core.units (subst (λ us. length us + 1 ≤ length core.units) (sym c.go_on.ensures.units) less)
 
 pub returns-in-Ok-clause-jobs : goal.returns-in-Ok-clause-jobs
 returns-in-Ok-clause-jobs g c =
     let core = c.args.core.now in
-    let less = closed_less core.units c.remove-2.new.self c.args.number core.names c.args.connection.name (sym c.if-not-is_due.ensures) c.remove-2.ensures.left in
+    let less = closed_less core.units c.remove-2.new.self c.args.number c.args.connection.name (sym c.if-not-is_due.ensures) c.remove-2.ensures.left in
     less_jobs c.go_on.result c.args.after (length c.remove-2.new.self) (length core.units) c.go_on.new.core.units less c.go_on.ensures.jobs

@@ -10,5 +10,4 @@ loop-at-preserved c = record {
   left = array_step c.args.variables.now c.args.var c.loop-at.at c.elements_of-at-end.result c.args.value.now c.loop-at.store c.assign_place.new.store
       (assigned c.args.variables.now (places_of c.args.variables.now c.args.var) c.args.value.now (values_of c.args.store.now)) c.loop-at-test.true c.in_ok-assign_place.ensures.vars c.loop-at.invariant.left;
   kinds = c.in_ok-assign_place.ensures.kinds ∙ c.loop-at.invariant.kinds;
-  kept = λ kept. c.in_ok-assign_place.ensures.keeps (c.loop-at.invariant.kept kept);
 }

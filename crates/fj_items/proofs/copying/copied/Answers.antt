@@ -5,10 +5,10 @@ use Rattle.fj_items.proofs.Gathers.{moved_is}
 use Rattle.fj_items.proofs.copying.copied.Goals as goal
 
 pub returns-clause-moved : goal.returns-clause-moved
-returns-clause-moved c = moved_is c.args.variables.now c.args.store.now c.args.t.now c.in_ok-gathered.gathered c.in_ok-copied.copied.moved c.requires c.in_ok-gathered.ensures.gathered c.in_ok-copied.ensures.moved
+returns-clause-moved c = moved_is c.args.variables.now c.args.store.now c.args.t.now c.in_ok-gathered.gathered c.in_ok-moved.moved c.requires c.in_ok-gathered.ensures.gathered c.in_ok-moved.ensures.moved
 
 pub returns-clause-numbered : goal.returns-clause-numbered
 returns-clause-numbered c =
     let size = c.in_ok-gathered.ensures.gathered.size in
     let cells = length-cells c.args.store.now 1 c.in_ok-gathered.gathered.pieces.items in
-    numbered (cells_in c.args.store.now c.in_ok-gathered.gathered.pieces.items) c.in_ok-copied.copied.moved c.in_ok-copied.ensures.moved (omega (arith, size, cells))
+    numbered (cells_in c.args.store.now c.in_ok-gathered.gathered.pieces.items) c.in_ok-moved.moved c.in_ok-moved.ensures.moved (omega (arith, size, cells))

@@ -9,6 +9,6 @@ returns-clause-job c =
     c.in_ok-layout.ensures c.edit_of.ensures c.unwrap_or.ensures
 
 pub returns-then-not-is_grouped-clause-fits : goal.returns-then-not-is_grouped-clause-fits
-returns-then-not-is_grouped-clause-fits c = λ within _ _.
+returns-then-not-is_grouped-clause-fits c = λ within _.
     let same = layout_grouped c.args.variables.now c.args.t.now.control c.args.parts.moved.cells c.in_ok-layout.layout c.len.result c.len.ensures c.in_ok-layout.ensures within in
     absurd (false≢true (c.if-not-is_grouped.ensures.1 same))

@@ -1,22 +1,16 @@
-use Rattle.std.proofs.Common.{◌≡◌, ◌∙◌, true, None, sym, ap, arith}
-use Rattle.std.proofs.lemmas.Bool.{false≢true}
+use Rattle.std.proofs.Common.{◌≡◌, ◌∙◌, ap}
 use Rattle.std.specs.Prelude.{unwrap_or}
 use Rattle.fj_bay.specs.Plain.{moving_of as job_of}
 use Rattle.fj_bay.specs.Jobs.{Moving}
 use Rattle.fj_desk.specs.Acting.{moving_of}
 use Rattle.fj_plain.specs.Needs.{number_given}
-use Rattle.fj_list.specs.declared.moved.Moved.{Moved}
-use Rattle.fj_store.specs.Variables.{undefined_at}
 use Rattle.fj_plain.specs.Statement.{control_by}
-use Rattle.fj_plain.specs.Telling.{with_size}
 use Rattle.fj_plain.specs.Transfers.{layout_of, moved_in}
 use Rattle.fj_statement.specs.declared.statement.Transfer.{Transfer as Stated}
 use Rattle.fj_statement.specs.declared.statement.Statement.TheVariants.{Transfer}
 use Rattle.fj_store.specs.Storage.{Storage, values_of}
 use Rattle.fj_transfer.specs.declared.transfer.Transfer.{Transfer as Job}
-use Rattle.fj_items.proofs.Finds.{grouped, has_values}
-use Rattle.fj_items.specs.Fitting.{AreKept}
-use Rattle.fj_items.proofs.Keeps.{kept_same, kept_undefined, kept_no_size, on_ok}
+use Rattle.fj_items.proofs.Finds.{grouped}
 use Rattle.fj_items.proofs.Takes.{if_more, job_parts, moving_is, one_cell}
 use Rattle.fj_items.proofs.taking.moving.Goals as goal
 
@@ -40,21 +34,9 @@ returns-then-t-clause-job c =
     if_more c.job_with.result (λ (job : Job). job_of job ≡ parts) (λ (job : Job). job_of job ≡ due) (λ job e. e ∙ same) c.job_with.ensures.job
 
 pub returns-then-t-clause-fits : goal.returns-then-t-clause-fits
-returns-then-t-clause-fits c = λ is finds.
-    let reads : c.args.t.now.input ≡ true = grind arith in
-    c.job_with.ensures.fits (grouped c.args.variables.now (values_of c.args.store.now) c.args.t.now c.of_cells.result is (c.of_cells.ensures ∙ c.in_ok-moved.ensures.moved ∙ ap (λ (x : Storage). moved_in c.args.variables.now (values_of x) c.args.t.now) c.in_ok-size.ensures.same)) (λ writes. absurd (false≢true (sym writes ∙ reads)))
+returns-then-t-clause-fits c = λ is.
+    c.job_with.ensures.fits (grouped c.args.variables.now (values_of c.args.store.now) c.args.t.now c.of_cells.result is (c.of_cells.ensures ∙ c.in_ok-moved.ensures.moved ∙ ap (λ (x : Storage). moved_in c.args.variables.now (values_of x) c.args.t.now) c.in_ok-size.ensures.same))
 
 pub returns-clause-fits : goal.returns-clause-fits
-returns-clause-fits c = λ is finds.
-    let made : c.in_ok-copy.copy.moved ≡ moved_in c.args.variables.now (values_of c.args.store.now) c.args.t.now = c.in_ok-copy.ensures.moved ∙ ap (λ (x : Storage). moved_in c.args.variables.now (values_of x) c.args.t.now) c.in_ok-size.ensures.same in
-    c.job_with-2.ensures.fits (grouped c.args.variables.now (values_of c.args.store.now) c.args.t.now c.in_ok-copy.copy.moved is made)
-    (has_values c.args.variables.now (values_of c.args.store.now) c.args.t.now c.in_ok-copy.copy.moved is finds made)
-
-pub returns-then-t-clause-keeps : goal.returns-then-t-clause-keeps
-returns-then-t-clause-keeps c = λ kept.
-    let moved : Moved = moved_in c.args.variables.now (values_of c.args.store.now) c.args.t.now in
-    let mid = kept_same c.args.variables.now (undefined_at moved.cells (values_of c.args.store.now)) (values_of c.taken.new.store)
-    (c.in_ok-moved.ensures.vars ∙ ap (λ (x : Storage). undefined_at (moved_in c.args.variables.now (values_of x) c.args.t.now).cells (values_of x)) c.in_ok-size.ensures.same) (kept_undefined c.args.variables.now moved.cells (values_of c.args.store.now) kept) in
-    on_ok c.job_with.result (AreKept c.args.variables.now (values_of c.undefine_size.new.store))
-    (kept_same c.args.variables.now (with_size c.args.variables.now c.args.t.now.size None (values_of c.taken.new.store)) (values_of c.undefine_size.new.store) c.undefine_size.ensures.vars
-    (kept_no_size c.args.variables.now c.args.t.now.size (values_of c.taken.new.store) mid))
+returns-clause-fits c = λ is.
+    c.job_with-2.ensures.fits (grouped c.args.variables.now (values_of c.args.store.now) c.args.t.now c.in_ok-copy.copy is (c.in_ok-copy.ensures.moved ∙ ap (λ (x : Storage). moved_in c.args.variables.now (values_of x) c.args.t.now) c.in_ok-size.ensures.same))

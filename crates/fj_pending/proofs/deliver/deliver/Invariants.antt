@@ -1,7 +1,7 @@
-use Rattle.std.proofs.Common.{◌≡◌, ◌++◌, map, length, All}
+use Rattle.std.proofs.Common.{◌≡◌, ◌++◌, List, map, length}
+use Rattle.fj_statement.specs.declared.deck.Variable.{Variable}
 use Rattle.fj_store.specs.Storage.{values_of}
 use Rattle.fj_plain.specs.Telling.{with_inputs, condition_of, graver, tell_of}
-use Rattle.fj_pending.specs.Fitting.{GaveFitting, IsTellable}
 use Rattle.fj_pending.specs.Plain.{entries, tells_of}
 use Rattle.fj_pending.proofs.deliver.deliver.Given as goal
 
@@ -9,9 +9,8 @@ use Rattle.fj_pending.proofs.deliver.deliver.Given as goal
 abbrev pub invariant-loop-held : goal.invariant-loop-held
 invariant-loop-held l = record {
   kinds : l.store.kinds ≡ l.initial.store.kinds;
-  values : with_inputs l.variables (entries l.left.items) (values_of l.store) ≡ with_inputs l.variables (entries l.initial.left.items) (values_of l.initial.store);
-  fits : All (IsTellable l.variables) (entries l.initial.left.items) → All (IsTellable l.variables) (entries l.left.items);
-  fitted : All (GaveFitting l.variables) (entries l.left.items) → All (GaveFitting l.variables) (entries l.initial.left.items);
+  values : (variables : List Variable) → l.initial.store.kinds ≡ map (λ v. v.kind) variables
+      → with_inputs variables (entries l.left.items) (values_of l.store) ≡ with_inputs variables (entries l.initial.left.items) (values_of l.initial.store);
   condition : graver l.condition (condition_of (entries l.left.items)) ≡ condition_of (entries l.initial.left.items);
   tells : tells_of l.tells ++ map (tell_of l.line) (entries l.left.items) ≡ tells_of l.initial.tells ++ map (tell_of l.line) (entries l.initial.left.items);
 }

@@ -1,4 +1,3 @@
-use Rattle.std.proofs.Common.{◌≡◌, true, false, sym, ◌∙◌}
 use Rattle.fj_transfer.proofs.Kept.{kept}
 use Rattle.fj_perform.proofs.whole.read_job.Goals as goal
 
@@ -12,7 +11,6 @@ invariant_of-job g c =
       ordered = is.ordered;
       few = is.few;
       grouped = is.grouped;
-      defined = ∣ (λ output. let h : true ≡ false = sym c.requires.input ∙ output in absurd (cc)) ∣₁;
     }
 
 pub invariant_of-job-2 : goal.invariant_of-job-2
@@ -25,5 +23,4 @@ invariant_of-job-2 g c =
       ordered = is.ordered;
       few = is.few;
       grouped = is.grouped;
-      defined = ∣ (λ output. let h : true ≡ false = sym c.requires.input ∙ output in absurd (cc)) ∣₁;
     }

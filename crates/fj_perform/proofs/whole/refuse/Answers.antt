@@ -1,4 +1,4 @@
-use Rattle.std.proofs.Common.{◌≡◌, true, false, ap, sym, ◌∙◌}
+use Rattle.std.proofs.Common.{ap}
 use Rattle.fj_transfer.proofs.Kept.{kept}
 use Rattle.fj_perform.proofs.whole.refuse.Goals as goal
 
@@ -12,5 +12,4 @@ invariant_of-job c =
       ordered = is.ordered;
       few = is.few;
       grouped = is.grouped;
-      defined = ∣ (λ output. let h : true ≡ false = sym c.if-job.true ∙ output in absurd (cc)) ∣₁;
     }

@@ -1,5 +1,4 @@
-use Rattle.std.proofs.Common.{◌≡◌, ◌↔◌, ◌≤◌, All, IsTrue, length, map, take, vec_capacity}
-use Rattle.fj_value.specs.Kind.{IsOfKind}
+use Rattle.std.proofs.Common.{◌≡◌, ◌≤◌, length, map, take, vec_capacity}
 use Rattle.fj_store.specs.Taking.{value_read}
 use Rattle.fj_store.proofs.copied.copy_row.Given as goal
 
@@ -7,5 +6,4 @@ abbrev pub invariant-loop-slot : goal.invariant-loop-slot
 invariant-loop-slot l = record {
   values : l.values.items ≡ map value_read (take l.slot-index l.slots);
   room : length l.slots ≤ vec_capacity l.values;
-  defined : IsTrue l.defined ↔ All (IsOfKind l.kind) l.values.items;
 }

@@ -1,21 +1,10 @@
-use Rattle.std.proofs.Common.{◌≡◌, ◌++◌, List, All, OnOk, ℕ, ap, sym, subst, ◌∙◌}
+use Rattle.std.proofs.Common.{◌≡◌, ◌++◌, OnOk, ap, sym, subst, ◌∙◌}
 use Rattle.std.specs.List.{flat_map}
-use Rattle.fj_value.specs.Kind.{IsOfKind}
-use Rattle.fj_value.specs.declared.value.Value.{Value}
-use Rattle.fj_list.specs.declared.moved.Moved.{Moved}
 use Rattle.fj_list.specs.Load.{moved_by, moved_row}
 use Rattle.fj_unfrec.specs.Stored.{stored}
-use Rattle.fj_transfer.specs.Moving.{HasValues}
 use Rattle.fj_transfer.specs.Transfer.{body_of}
-use Rattle.fj_transfer.proofs.StoredLemmas.{row_defined, row_stored}
+use Rattle.fj_transfer.proofs.StoredLemmas.{row_stored}
 use Rattle.fj_transfer.proofs.stored.put_load.Goals as goal
-
-pub put_row-requires : goal.put_row-requires
-put_row-requires c =
-    let row = c.in-Row.row in
-    let same : moved_row row ≡ c.args.moved.now = ap moved_by (sym c.in-Row.is) ∙ c.shape.ensures in
-    let P : List Value → Type 0 = λ values. All (IsOfKind row.kind) values in
-    subst P (sym c.as_slice-in-Row.ensures) (row_defined row.first row.kind row.values (subst HasValues (sym same) c.requires.defined))
 
 pub returns-in-Row : goal.returns-in-Row
 returns-in-Row c =

@@ -3,15 +3,15 @@ use Rattle.std.specs.Prelude.{is_some}
 use Rattle.std.specs.List.{list_any}
 use Rattle.fj_turns.specs.Run as run
 use Rattle.fj_turns.specs.Turns.{is_at, with_answer}
-use Rattle.fj_pending.specs.Plain.{held, outcome_of}
+use Rattle.fj_pending.specs.Plain.{held, brought_of}
 use Rattle.fj_pending.specs.Tied.{IsTied}
 use Rattle.fj_pending.proofs.Answering.{has_is, none_answered, answered_is, answer_is}
 use Rattle.fj_pending.proofs.pendings.Pendings.answer.Goals as goal
 
 pub returns-in_default-clause-answered : goal.returns-in_default-clause-answered
 returns-in_default-clause-answered c =
-    subst (λ hs. held hs ≡ with_answer c.args.slot c.args.number (outcome_of c.args.told) (held hs)) c.self.view_is
-    (sym (none_answered c.args.slot c.args.number (outcome_of c.args.told) c.self.inside.helds.items c.in_default.ensures.none))
+    subst (λ hs. held hs ≡ with_answer c.args.slot c.args.number (brought_of c.args.told) (held hs)) c.self.view_is
+    (sym (none_answered c.args.slot c.args.number (brought_of c.args.told) c.self.inside.helds.items c.in_default.ensures.none))
 
 pub invariant_of-self : goal.invariant_of-self
 invariant_of-self c =
@@ -22,7 +22,7 @@ invariant_of-self c =
 pub returns-clause-answered : goal.returns-clause-answered
 returns-clause-answered c =
     answer_is c.args.told c.self.inside.helds.items c.put_answer.new.helds.items c.args.slot c.args.number c.in-Some.at c.self.invariant.rising c.in-Some.ensures.some.0 c.in-Some.ensures.some.1 c.put_answer.ensures
-    ∙ ap (λ hs. with_answer c.args.slot c.args.number (outcome_of c.args.told) (held hs)) c.self.view_is
+    ∙ ap (λ hs. with_answer c.args.slot c.args.number (brought_of c.args.told) (held hs)) c.self.view_is
 
 pub returns-in_default-clause-found : goal.returns-in_default-clause-found
 returns-in_default-clause-found c =

@@ -2,7 +2,6 @@ use Rattle.std.proofs.Common.{◌≡◌, Some, length, replicate, ap, ◌∙◌,
 use Rattle.fj_desk.specs.Core.{Core as PlainCore}
 use Rattle.fj_desk.specs.Desking.{fresh}
 use Rattle.fj_plain.specs.Statement.{stated}
-use Rattle.fj_acts.specs.Fitting.{IsKept}
 use Rattle.fj_runner.proofs.Made.{core_kept, run_made}
 use Rattle.std.specs.List.{sum}
 use Rattle.fj_runner.specs.Going.{CanCount, asked_for}
@@ -23,7 +22,6 @@ returns-clause-on g c = λ sound.
     let sent : c.in_ok-vec.field-0.items ≡ replicate 16 0 = search rules in
     let told : c.in_ok-vec-2.field-0.items ≡ replicate 16 0 = search rules in
     let core = c.in_ok-core.ensures.core (λ name. None) in
-    let variables : c.as_slice.result.now ≡ c.args.deck.variables = c.as_slice.ensures in
     let next : c.in_ok-core.core.next ≡ 1 = ap (λ (k : PlainCore). k.next) core in
     let t = c.in_ok-tally.ensures in
     let tally = c.in_ok-tally.tally in
@@ -34,7 +32,7 @@ returns-clause-on g c = λ sound.
         files = λ st more e. files;
         few = λ none. omega (arith, next);
         units = λ none. let no : length c.in_ok-core.core.units ≡ 0 = ap (λ (k : PlainCore). length k.units) core in omega (arith, no);
-        kept = subst (λ vs. IsKept vs c.in_ok-core.core) variables (core_kept c.as_slice.result.now c.in_ok-core.core (λ name. None) core);
+        kept = core_kept c.as_slice.result.now c.in_ok-core.core (λ name. None) core;
       };
       sent = subst (CanCount c.in_ok-vec.field-0.items tally.left) (sym (ap asked_for t.0)) (first_can tally c.in_ok-vec.field-0.items t.5 sent);
       told = first_can tally c.in_ok-vec-2.field-0.items t.5 told;

@@ -7,11 +7,11 @@ use Rattle.fj_runner.specs.Machine.{rest_of, run_at, stage_at}
 use Rattle.fj_runner.proofs.NextAsks.{run_known, stands_run}
 use Rattle.fj_runner.proofs.machine.Machine.take_answer.Goals as goal
 
-pub returns-in-Ok-clause-told : goal.returns-in-Ok-clause-told
-returns-in-Ok-clause-told g c = λ files r task known t over.
+pub returns-clause-told : goal.returns-clause-told
+returns-clause-told g c = λ files r task known t.
     let told = g.F.FileStore.told in
     let bytes = g.F.FileStore.bytes in
     let m = c.args.self.now in
     let it : Outcome = (task, reply_of c.args.answer) in
     let k = run_known (run_at files m) (stage_at told bytes files m) r known in
-    stands_run told bytes m.deck.variables (rest_of m) files c.answer.new.self (told_of (run_at files m k.0) it) (c.in-Ok.ensures.told m.deck.variables (rest_of m) files task k.0 t k.1) ∙ ap (λ (x : Run). Some (told_of x it)) k.2
+    stands_run told bytes m.deck.variables (rest_of m) files c.answer.new.self (told_of (run_at files m k.0) it) (c.answer.ensures.told m.deck.variables (rest_of m) files task k.0 t k.1) ∙ ap (λ (x : Run). Some (told_of x it)) k.2

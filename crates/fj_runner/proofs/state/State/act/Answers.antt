@@ -1,9 +1,8 @@
-use Rattle.std.proofs.Common.{◌∷◌, length, IfOk, refl, sym, subst}
+use Rattle.std.proofs.Common.{◌∷◌, length, refl, sym, subst}
 use Rattle.fj_plain.specs.Statement.{Stated, control_by}
 use Rattle.fj_turns.specs.Run.{Run, Acting, Awaiting}
 use Rattle.fj_turns.specs.Turns.{turn_act}
 use Rattle.fj_acts.specs.Doing.{IsDoing, next_of, then_of}
-use Rattle.fj_acts.specs.Fitting.{IsKept}
 use Rattle.fj_acts.specs.State.{core_of}
 use Rattle.fj_acts.specs.Jobs.{jobs_of}
 use Rattle.fj_runner.specs.Spending.{Spends}
@@ -42,13 +41,7 @@ returns-in-Finishes-clause-turn g c = λ more files core book stage plain e d.
     let st : Stated = (c.args.lined.now, control_by c.args.lined.now.what) in
     let run : Run = record (run_in c.args.variables.now (st ∷ more) files s stage) { core = core; book = book } in
     let it = subst (λ x. IsDoing told bytes c.args.variables.now st (core_of files s.core) x plain) c.in-Finishes.is d in
-    subst (λ p. IfOk c.finish.result (λ t. IsTurn told bytes c.args.variables.now (st ∷ more) files c.finish.new.self t (turn_act st p run))) (sym it) (c.finish.ensures.turn more files core book stage e)
-
-pub returns-in-Gives-clause-holds : goal.returns-in-Gives-clause-holds
-returns-in-Gives-clause-holds g c = λ kept. subst (IsKept c.args.variables.now) (sym c.submit.ensures.core) kept
-
-pub returns-in-Awaits-clause-holds : goal.returns-in-Awaits-clause-holds
-returns-in-Awaits-clause-holds g c = λ kept. subst (IsKept c.args.variables.now) (sym c.submit-in-Awaits.ensures.core) kept
+    subst (λ p. IsTurn told bytes c.args.variables.now (st ∷ more) files c.finish.new.self c.finish.result (turn_act st p run)) (sym it) (c.finish.ensures.turn more files core book stage e)
 
 pub returns-in-Finishes-clause-spends : goal.returns-in-Finishes-clause-spends
 returns-in-Finishes-clause-spends g c = λ most. c.finish.ensures.spends most (jobs_of c.args.doing (length c.args.self.now.core.units))

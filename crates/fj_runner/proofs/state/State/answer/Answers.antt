@@ -3,53 +3,23 @@ use Rattle.std.proofs.lemmas.List.{get_or_read, length-set}
 use Rattle.fj_bay.specs.Jobs.{resume}
 use Rattle.fj_bay.specs.Plain.{reply_of}
 use Rattle.fj_acts.specs.State.{core_of}
-use Rattle.fj_desk.specs.Desks.{Outcome}
-use Rattle.fj_pending.specs.Plain.{held}
-use Rattle.fj_turns.specs.Run.{Held}
-use Rattle.fj_turns.specs.Turns.{is_at, stage_told}
-use Rattle.std.specs.List.{list_any}
+use Rattle.fj_desk.specs.Desks.{Brought, Outcome, brought_by}
+use Rattle.fj_pending.specs.Plain.{brought_of, held}
+use Rattle.fj_pending.specs.declared.held.Told.{Told}
+use Rattle.fj_acts.proofs.StepLemmas.{brought_is}
+use Rattle.fj_turns.specs.Turns.{stage_told, with_answer}
 use Rattle.fj_runner.specs.Answering.{with_own}
 use Rattle.fj_runner.specs.Machine.{stage_of}
-use Rattle.fj_runner.specs.Numbering.{AreGiven, AreNamed, AreSlots, AreUntold, OwnIsLast, OwnIsUntold, slots_behind}
+use Rattle.fj_runner.specs.Numbering.{AreSlots, OwnIsLast, OwnIsUntold, slots_behind}
 use Rattle.fj_runner.specs.Passing.{is_passed}
 use Rattle.fj_runner.proofs.Passed.{none_answered}
-use Rattle.fj_runner.proofs.Answered.{answered_stands, core_answered, own_stage, kept_stage, kept_passed, answered_by, own_passed}
-use Rattle.fj_runner.proofs.Numbering.{transfers_kept, given_answered, named_answered, own_answered, own_with, behind_with, not_awaited, within_told, untold_answered, own_untold_kept, own_untold_with}
+use Rattle.fj_runner.proofs.Answered.{answered_stands, core_answered, own_stage, kept_stage, own_passed, passed_still}
+use Rattle.fj_runner.proofs.Numbering.{transfers_same, given_answered, named_answered, own_answered, own_with, behind_with, not_awaited, within_told, untold_answered, own_untold_kept, own_untold_with}
 use Rattle.fj_runner.specs.Going.{HaveAt}
 use Rattle.fj_runner.proofs.Counting.{have_with, is_more}
 use Rattle.fj_runner.specs.Spending.{jobs_at}
 use Rattle.fj_runner.proofs.Spending.{own_jobs}
 use Rattle.fj_runner.proofs.state.State.answer.Goals as goal
-
-pub invariant_of-self : goal.invariant_of-self
-invariant_of-self g c =
-    let s = c.args.self.now in
-    let none : c.keep.new.pending ≡ s.core.pending = c.in-Err.ensures.none in
-    record {
-      passed = subst (λ hs. is_passed hs s.stage ≡ true) (sym none) s.passed;
-      sent_slots = s.sent_slots;
-      told_slots = s.told_slots;
-      due_slot = s.due_slot;
-      given = subst (AreGiven s.sent.items) (sym none) s.given;
-      named = subst (AreNamed s.core.next) (sym none) s.named;
-      own = subst (λ hs. OwnIsLast s.sent.items hs s.stage) (sym none) s.own;
-      within = s.within;
-      untold = subst (AreUntold s.told.items) (sym none) s.untold;
-      own_untold = s.own_untold;
-      later = s.later;
-    }
-
-pub returns-in-Err-clause-none : goal.returns-in-Err-clause-none
-returns-in-Err-clause-none g c =
-    let core = c.args.self.now.core in
-    (ap (λ p. record core { pending = p }) c.in-Err.ensures.none, refl, refl)
-
-pub returns-in-Err-clause-fits : goal.returns-in-Err-clause-fits
-returns-in-Err-clause-fits g c = λ moves.
-    let s = c.args.self.now in
-    let number = c.index-number.result.now in
-    let n : number ≡ get_or s.told.items s.due 0 = get_or_read s.told.items s.due number (omega (arith, s.told_slots, s.due_slot)) c.index-number.ensures 0 in
-    λ e. c.keep.ensures.fits (moves (subst (λ k. list_any (λ (h : Held). is_at s.due k h.pending) (held s.core.pending) ≡ true) n (sym c.has.ensures ∙ c.if-has.true))) (c.in-Err.is ∙ e)
 
 pub invariant_of-self-then-has : goal.invariant_of-self-then-has
 invariant_of-self-then-has g c =
@@ -58,9 +28,9 @@ invariant_of-self-then-has g c =
     let inside : s.due < length s.told.items = omega (arith, s.told_slots, s.due_slot) in
     let n : number ≡ get_or s.told.items s.due 0 = get_or_read s.told.items s.due number (omega (arith, s.told_slots, s.due_slot)) c.index-number.ensures 0 in
     let more : number + 1 ≡ get_or s.told.items s.due 0 + 1 = ap (λ k. k + 1) n in
-    let same = transfers_kept g.F.FileStore.told g.F.FileStore.bytes c.keep.result s.due number c.args.job c.args.answer s.core.pending c.keep.new.pending c.keep.ensures.told c.keep.ensures.none in
+    let same = transfers_same s.due number (brought_of c.told_by-told.result) s.core.pending c.keep.new.pending c.keep.ensures in
     record {
-      passed = kept_passed g.F.FileStore.told g.F.FileStore.bytes c.keep.result s.due number c.args.job c.args.answer s.core.pending c.keep.new.pending s.stage c.keep.ensures.told c.keep.ensures.none s.passed;
+      passed = passed_still s.due number (brought_of c.told_by-told.result) s.core.pending c.keep.new.pending s.stage c.keep.ensures s.passed;
       sent_slots = s.sent_slots;
       told_slots = length-set s.told.items s.due (number + 1) ∙ s.told_slots;
       due_slot = s.due_slot;
@@ -68,7 +38,7 @@ invariant_of-self-then-has g c =
       named = named_answered s.core.next s.core.pending c.keep.new.pending same s.named;
       own = own_answered s.sent.items s.core.pending c.keep.new.pending s.stage same s.own;
       within = within_told s.told.items s.due (number + 1) inside more s.sent.items s.within c.requires.owed;
-      untold = untold_answered s.told.items s.due (number + 1) inside more number _ s.core.pending c.keep.new.pending n c.in-Ok.ensures.told.answered s.untold;
+      untold = untold_answered s.told.items s.due (number + 1) inside more number _ s.core.pending c.keep.new.pending n c.keep.ensures s.untold;
       own_untold =
           own_untold_kept s.told.items s.due (number + 1) inside more number s.stage n c.requires.waits (not_awaited s.sent.items s.core.pending s.due number s.stage s.own (sym c.has.ensures ∙ c.if-has.true)) s.own_untold;
       later = s.later;
@@ -83,11 +53,11 @@ returns-then-has-clause-told g c = λ variables rest files task stage t e.
     let it : Outcome = (task, reply_of c.args.answer) in
     let n : number ≡ get_or s.told.items s.due 0 = get_or_read s.told.items s.due number (omega (arith, s.told_slots, s.due_slot)) c.index-number.ensures 0 in
     let more : number + 1 ≡ get_or s.told.items s.due 0 + 1 = ap (λ k. k + 1) n in
-    let a = c.in-Ok.ensures.told in
+    let brings = ap (λ (t : Told). brought_of t) c.told_by-told.ensures ∙ brought_is told bytes c.args.job task (reply_of c.args.answer) t in
+    let kept : held c.keep.new.pending ≡ with_answer s.due number (brought_by it) (held s.core.pending) = c.keep.ensures ∙ ap (λ b. with_answer s.due number b (held s.core.pending)) brings in
     answered_stands told bytes variables rest files s _ stage it number n
     (kept_stage told bytes variables (core_of files s.core) s.due number it rest s.stage stage (not_awaited s.sent.items s.core.pending s.due number s.stage s.own (sym c.has.ensures ∙ c.if-has.true)) e)
-    (core_answered files s.core _ s.due number it refl (answered_by told bytes s.due number c.args.job c.args.answer s.core.pending c.keep.new.pending task t a))
-    (answered_by told bytes s.due number c.args.job c.args.answer s.core.pending c.keep.new.pending task t a) refl (ap (slice_set s.told.items s.due) more) refl refl
+    (core_answered files s.core _ s.due number (brought_by it) refl kept) kept refl (ap (slice_set s.told.items s.due) more) refl refl
 
 pub invariant_of-self-2 : goal.invariant_of-self-2
 invariant_of-self-2 g c =
@@ -96,7 +66,7 @@ invariant_of-self-2 g c =
     let inside : s.due < length s.told.items = omega (arith, s.told_slots, s.due_slot) in
     let n : number ≡ get_or s.told.items s.due 0 = get_or_read s.told.items s.due number (omega (arith, s.told_slots, s.due_slot)) c.index-number.ensures 0 in
     let more : number + 1 ≡ get_or s.told.items s.due 0 + 1 = ap (λ k. k + 1) n in
-    let it : Outcome = (resume, reply_of c.args.answer) in
+    let it : Brought = brought_by (resume, reply_of c.args.answer) in
     let stage : c.own.result ≡ with_own s.due number c.args.job c.args.answer s.stage = c.own.ensures ∙ ap (with_own s.due number c.args.job c.args.answer) c.replace-stage.ensures.value in
     record {
       passed = subst (λ x. is_passed s.core.pending x ≡ true)
@@ -129,7 +99,7 @@ returns-clause-told g c = λ variables rest files task stage t e.
     (subst (λ x. stage_of told bytes variables rest (core_of files s.core) x ≡ Some (stage_told stage s.due number it))
     (sym (c.own.ensures ∙ ap (with_own s.due number c.args.job c.args.answer) c.replace-stage.ensures.value))
     (own_stage told bytes variables (core_of files s.core) s.due number c.args.job c.args.answer task t rest s.stage stage e))
-    refl (sym (none_answered s.due number it (held s.core.pending) (sym c.has.ensures ∙ c.if-has.false))) refl (ap (slice_set s.told.items s.due) more) refl refl
+    refl (sym (none_answered s.due number (brought_by it) (held s.core.pending) (sym c.has.ensures ∙ c.if-has.false))) refl (ap (slice_set s.told.items s.due) more) refl refl
 
 pub returns-then-has-clause-hears : goal.returns-then-has-clause-hears
 returns-then-has-clause-hears g c =

@@ -1,8 +1,9 @@
-use Rattle.std.proofs.Common.{◌≡◌, ◌+◌, ◌∷◌, drop, Some, IfOk, refl, sym, subst, ap, ◌∙◌, ◌-◌, ◌<◌, ◌≤◌, length, arith}
+use Rattle.std.proofs.Common.{◌≡◌, ◌+◌, ◌∷◌, drop, Some, refl, sym, subst, ap, ◌∙◌, ◌-◌, ◌<◌, ◌≤◌, length, arith}
 use Rattle.std.proofs.lemmas.Option.{slice_get_within}
 use Rattle.fj_bay.specs.Jobs.{resume}
 use Rattle.fj_plain.specs.State.{Files}
 use Rattle.fj_plain.specs.Statement.{Stated, control_by}
+use Rattle.fj_plain.specs.Transfers.{star_limit}
 use Rattle.fj_desk.specs.Acting.{doing}
 use Rattle.fj_desk.specs.Core.{Core}
 use Rattle.fj_desk.specs.Doing.{Doing}
@@ -19,12 +20,11 @@ use Rattle.fj_runner.proofs.Pauses.{ends_next}
 use Rattle.fj_acts.specs.Jobs.{jobs_of}
 use Rattle.fj_runner.proofs.Spending.{doing_few, ok_spends}
 use Rattle.fj_runner.proofs.Runs.{matched_same}
-use Rattle.fj_items.specs.Handing.{HandsOver, HandsFront, HandsPart}
+use Rattle.fj_items.specs.Handing.{HandsFront, HandsPart}
 use Rattle.fj_turns.specs.Passing.{output_of}
 use Rattle.fj_acts.specs.State.{core_at}
-use Rattle.fj_runner.proofs.Failures.{act_output, doing_output, fails_still, fails_acting, fails_begun}
-use Rattle.fj_runner.proofs.Stepping.{begun_steps, went}
-use Rattle.fj_runner.proofs.Stepping.{kept_steps, ok_keeps}
+use Rattle.fj_runner.proofs.Failures.{act_output, fails_begun, fails_went}
+use Rattle.fj_runner.proofs.Stepping.{begun_steps, kept_steps, same_keeps, went}
 use Rattle.fj_runner.proofs.state.State.resume.Goals as goal
 
 pub returns-in-Some-clause-turn : goal.returns-in-Some-clause-turn
@@ -54,30 +54,14 @@ returns-in-Ok-clause-turn g c = λ tells more stage.
     let core : Core = core_of files s.core in
     let does : Doing = doing st.1 variables st.0.line core st.0.what c.args.condition in
     let e = drop_none c.args.slots c.args.next (sym c.in_default.ensures) in
-    subst (λ xs. IfOk c.act.result (λ t. IsTurn told bytes variables (st ∷ more) after c.act.new.self t (turn_act st (ends_halts xs core does) (run_in variables (st ∷ more) files s stage)))) (sym e)
+    subst (λ xs. IsTurn told bytes variables (st ∷ more) after c.act.new.self c.act.result (turn_act st (ends_halts xs core does) (run_in variables (st ∷ more) files s stage))) (sym e)
     (c.act.ensures.turn more after core (held s.core.pending) stage does c.begin.ensures.pending (c.in-Ok.ensures.doing tells))
 
 pub returns-in-Some-clause-fails : goal.returns-in-Some-clause-fails
-returns-in-Some-clause-fails g c = λ tells more stage. fails_still c.args.out.now c.args.self.now.core c.submit.new.self.core (went c.submit.result) _ _ _ (λ e. cc) (λ e. cc) (λ fits. tt)
+returns-in-Some-clause-fails g c = λ tells more stage. fails_went c.args.out.now c.args.out.now c.args.self.now.core c.submit.new.self.core c.submit.result _ _ _
 
 pub returns-in-Ok-clause-fails : goal.returns-in-Ok-clause-fails
-returns-in-Ok-clause-fails g c = λ tells more stage.
-    let told = g.F.FileStore.told in
-    let bytes = g.F.FileStore.bytes in
-    let s = c.args.self.now in
-    let variables = c.args.variables.now in
-    let st : Stated = (c.args.lined.now, control_by c.args.lined.now.what) in
-    let files : Files = files_of (g.D.Disk.held c.args.disk.now) in
-    let after : Files = files_of (g.D.Disk.held c.begin.new.disk) in
-    let core : Core = core_of files s.core in
-    let does : Doing = doing st.1 variables st.0.line core st.0.what c.args.condition in
-    let run : Run = run_in variables (st ∷ more) files s stage in
-    let e = drop_none c.args.slots c.args.next (sym c.in_default.ensures) in
-    let due : output_of (turn_act st (ends_halts (drop c.args.next c.args.slots) core does) run) ≡ c.begin.new.core.output =
-    ap (λ xs. output_of (turn_act st (ends_halts xs core does) run)) e ∙ act_output st does run ∙ doing_output told bytes variables st (core_of after c.begin.new.core) c.in-Ok.doing does (c.in-Ok.ensures.doing tells) in
-    let taken = g.W.Sink.taken in
-    fails_acting c.args.out.now c.begin.new.out s.core c.act.new.self.core c.act.result _ _ _ c.act.ensures.keeps.disk c.act.ensures.keeps.sink c.act.ensures.lost
-    (λ t. subst (λ o. HandsOver (taken c.args.out.now) (taken c.begin.new.out) s.core.output o) (sym due) (c.in-Ok.ensures.output t))
+returns-in-Ok-clause-fails g c = λ tells more stage. fails_went c.args.out.now c.begin.new.out c.args.self.now.core c.act.new.self.core c.act.result _ _ _
 
 pub returns-clause-fails : goal.returns-clause-fails
 returns-clause-fails g c = λ tells more stage.
@@ -112,13 +96,13 @@ returns-clause-steps g c =
 
 pub returns-in-Some-clause-steps : goal.returns-in-Some-clause-steps
 returns-in-Some-clause-steps g c =
-    kept_steps c.args.out.now c.args.disk.now c.args.self.now.core c.submit.new.self.core (went c.submit.result) (ok_keeps c.args.self.now.core c.submit.new.self.core c.submit.result c.submit.ensures.core)
+    kept_steps c.args.out.now c.args.disk.now c.args.self.now.core c.submit.new.self.core c.submit.result (same_keeps c.args.self.now.core c.submit.new.self.core c.submit.ensures.core)
 
 pub returns-in-Some-clause-holds : goal.returns-in-Some-clause-holds
-returns-in-Some-clause-holds g c = λ kept. subst (IsKept c.args.variables.now) (sym c.submit.ensures.core) kept
+returns-in-Some-clause-holds g c = λ kept. subst IsKept (sym c.submit.ensures.core) kept
 
 pub returns-in-Ok-clause-holds : goal.returns-in-Ok-clause-holds
-returns-in-Ok-clause-holds g c = λ kept. c.act.ensures.holds (c.in-Ok.ensures.keeps kept)
+returns-in-Ok-clause-holds g c = λ kept. subst (λ o. o.begun ≤ star_limit) (sym c.act.ensures.keeps.output) (c.in-Ok.ensures.keeps kept)
 
 pub returns-in-Some-clause-spends : goal.returns-in-Some-clause-spends
 returns-in-Some-clause-spends g c = λ most low.
@@ -134,4 +118,4 @@ returns-in-Ok-clause-spends g c = λ most low.
     let fits : units ≤ most = subst (λ us. length us ≤ most) (sym c.begin.ensures.units) low in
     let does = doing_few c.in-Ok.doing units most fits in
     let few : jobs_of c.in-Ok.doing units ≤ (length c.args.slots - c.args.next) + (most + 2) = omega (arith, does) in
-    ok_spends c.act.result most (jobs_of c.in-Ok.doing units) ((length c.args.slots - c.args.next) + (most + 2)) c.act.new.self few (c.act.ensures.spends most)
+    ok_spends (went c.act.result) most (jobs_of c.in-Ok.doing units) ((length c.args.slots - c.args.next) + (most + 2)) c.act.new.self few (c.act.ensures.spends most)

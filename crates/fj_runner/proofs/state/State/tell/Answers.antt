@@ -1,4 +1,4 @@
-use Rattle.std.proofs.Common.{◌≡◌, List, ◌∷◌, Some, None, IfOk, inl, refl, sym, ap, ◌∙◌, subst, ◌+◌, ◌-◌, ◌≤◌, length, arith}
+use Rattle.std.proofs.Common.{◌≡◌, List, ◌∷◌, Some, IfOk, inl, refl, sym, ap, ◌∙◌, subst, ◌+◌, ◌-◌, ◌≤◌, length, arith}
 use Rattle.fj_plain.specs.State.{Files, Entry}
 use Rattle.fj_plain.specs.Statement.{Stated, control_by}
 use Rattle.fj_desk.specs.Core.{Core, Connected}
@@ -12,9 +12,7 @@ use Rattle.fj_runner.specs.Machine.{run_in}
 use Rattle.fj_runner.specs.Turned.{IsTurn}
 use Rattle.fj_runner.proofs.Beginnings.{told_run, tells_turn, tells_doing}
 use Rattle.fj_turns.specs.Passing.{output_of}
-use Rattle.fj_store.specs.Storage.{values_of}
-use Rattle.fj_plain.specs.Telling.{with_inputs}
-use Rattle.fj_acts.specs.Fitting.{FindsItems}
+use Rattle.fj_plain.specs.Transfers.{star_limit}
 use Rattle.fj_units.specs.Having.{HaveFiles}
 use Rattle.fj_runner.proofs.Failures.{fails_from, fails_still}
 use Rattle.fj_runner.specs.Spending.{most_jobs}
@@ -38,7 +36,7 @@ returns-in-Ok-tell_all-clause-turn g c = λ tells more stage.
     let left : Run = record run { core = core_of files new; book = held new.pending } in
     subst (λ t'. IfOk c.resume.result (λ t. IsTurn told bytes variables (st ∷ more) (files_of (g.D.Disk.held c.resume.new.disk)) c.resume.new.self t t'))
     (tells_turn st es run left c.in-Ok.slots c.in-Ok-tell_all.condition
-    (told_run st es run (core_of files new) (held new.pending) (c.in-Ok-tell_all.ensures.core files) c.in-Ok-tell_all.ensures.left)
+    (told_run st es run (core_of files new) (held new.pending) (c.in-Ok-tell_all.ensures.core c.args.variables.now files c.requires.kinds) c.in-Ok-tell_all.ensures.left)
     (c.in-Ok.ensures.halted ∙ ap (λ (us : List Connected). halted_slots es us) c.as_slice-units.ensures) c.in-Ok-tell_all.ensures.condition)
     (c.resume.ensures.turn tells more stage)
 
@@ -55,11 +53,11 @@ returns-in-Ok-tell_all-clause-fails g c = λ tells more stage.
     let new = c.tell_all.new.core in
     let left : Run = record run { core = core_of files new; book = held new.pending } in
     let due = tells_turn st es run left c.in-Ok.slots c.in-Ok-tell_all.condition
-    (told_run st es run (core_of files new) (held new.pending) (c.in-Ok-tell_all.ensures.core files) c.in-Ok-tell_all.ensures.left)
+    (told_run st es run (core_of files new) (held new.pending) (c.in-Ok-tell_all.ensures.core c.args.variables.now files c.requires.kinds) c.in-Ok-tell_all.ensures.left)
     (c.in-Ok.ensures.halted ∙ ap (λ (us : List Connected). halted_slots es us) c.as_slice-units.ensures) c.in-Ok-tell_all.ensures.condition in
     fails_from c.args.out.now c.resume.new.out s.core new c.resume.new.self.core c.resume.result _ _ _ _ _ _ c.tell_all.ensures.keeps.output (ap output_of due) (λ s. absurd s) (λ k. k)
-    (ap (λ (k : Core). k.tells) (c.in-Ok-tell_all.ensures.core files))
-    (ap Some (tells_doing st es run c.in-Ok.slots c.in-Ok-tell_all.condition (core_of files new) (c.in-Ok-tell_all.ensures.core files)
+    (ap (λ (k : Core). k.tells) (c.in-Ok-tell_all.ensures.core c.args.variables.now files c.requires.kinds))
+    (ap Some (tells_doing st es run c.in-Ok.slots c.in-Ok-tell_all.condition (core_of files new) (c.in-Ok-tell_all.ensures.core c.args.variables.now files c.requires.kinds)
     (c.in-Ok.ensures.halted ∙ ap (λ (us : List Connected). halted_slots es us) c.as_slice-units.ensures) c.in-Ok-tell_all.ensures.condition)) (c.resume.ensures.fails tells more stage)
 
 pub invariant_of-self-2-clause-given : goal.invariant_of-self-2-clause-given
@@ -78,20 +76,14 @@ invariant_of-self-2-clause-untold g c =
     untold_left s.told.items s.core.pending c.tell_all.new.core.pending c.tell_all.ensures.some s.untold
 
 pub returns-in-Ok-tell_all-clause-holds : goal.returns-in-Ok-tell_all-clause-holds
-returns-in-Ok-tell_all-clause-holds g c = λ kept. c.resume.ensures.holds (c.in-Ok-tell_all.ensures.holds kept)
+returns-in-Ok-tell_all-clause-holds g c = λ kept. c.resume.ensures.holds (subst (λ o. o.begun ≤ star_limit) (sym c.tell_all.ensures.keeps.output) kept)
 
 pub returns-in-Ok-tell_all-clause-fits : goal.returns-in-Ok-tell_all-clause-fits
-returns-in-Ok-tell_all-clause-fits g c = λ sound have kept fits.
+returns-in-Ok-tell_all-clause-fits g c = λ sound have kept.
     let s = c.args.self.now in
     let new = c.tell_all.new.core in
-    let told : List Entry = waited_of c.args.whose (entries s.core.pending) in
-    let files : Files = λ name. None in
-    let values : values_of new.store ≡ with_inputs c.args.variables.now told (values_of s.core.store) = ap (λ (k : Core). k.vars) (c.in-Ok-tell_all.ensures.core files) in
     let names = subst (λ ns. HaveFiles ns s.core.units) (sym c.tell_all.ensures.keeps.names) have in
-    c.resume.ensures.fits sound (subst (HaveFiles new.names) (sym c.tell_all.ensures.units) names) (λ fine. record {
-      kept = c.in-Ok-tell_all.ensures.holds kept;
-      finds = subst (λ vs. FindsItems c.args.variables.now vs c.args.lined.now.what) (sym values) (fits.finds (sym c.in-Ok-tell_all.ensures.condition ∙ fine));
-    })
+    c.resume.ensures.fits sound (subst (HaveFiles new.names) (sym c.tell_all.ensures.units) names) (subst (λ o. o.begun ≤ star_limit) (sym c.tell_all.ensures.keeps.output) kept)
 
 pub returns-in-Err-clause-fails : goal.returns-in-Err-clause-fails
 returns-in-Err-clause-fails g c = λ tells more stage.
@@ -99,9 +91,7 @@ returns-in-Err-clause-fails g c = λ tells more stage.
 
 pub returns-in-Err-tell_all-clause-fails : goal.returns-in-Err-tell_all-clause-fails
 returns-in-Err-tell_all-clause-fails g c = λ tells more stage.
-    let keeps = c.tell_all.ensures.keeps in
-    fails_still c.args.out.now c.args.self.now.core c.tell_all.new.core (given_up c.in-Err-tell_all.lost) _ _ _ (λ e. keeps.disk (cc (c.in-Err-tell_all.is, e))) (λ e. keeps.sink (cc (c.in-Err-tell_all.is, e)))
-    (λ fits. inl (record { may = tt; units = c.tell_all.ensures.units; files = refl }))
+    fails_still c.args.out.now c.args.self.now.core c.tell_all.new.core (given_up (Memory c.in-Err-tell_all.error)) _ _ _ (λ e. cc) (λ e. cc) (λ fits. inl (record { may = tt; units = c.tell_all.ensures.units; files = refl }))
 
 pub returns-in-Ok-tell_all-clause-spends : goal.returns-in-Ok-tell_all-clause-spends
 returns-in-Ok-tell_all-clause-spends g c = λ most low.

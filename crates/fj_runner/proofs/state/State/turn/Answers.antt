@@ -2,6 +2,7 @@ use Rattle.std.proofs.Common.{◌≡◌, ◌∷◌, true, Ok, Some, IfOk, inr, r
 use Rattle.fj_bay.specs.Plain.{task_of, reply_of}
 use Rattle.fj_plain.specs.State.{Files}
 use Rattle.fj_plain.specs.Statement.{Stated, control_by}
+use Rattle.fj_plain.specs.Transfers.{star_limit}
 use Rattle.fj_desk.specs.Core.{Core}
 use Rattle.fj_desk.specs.Doing.{Doing}
 use Rattle.fj_turns.specs.Run.{Run, Start, Waiting, Acting, Awaiting}
@@ -14,12 +15,11 @@ use Rattle.fj_units.specs.Files.{files_of}
 use Rattle.fj_runner.specs.Machine.{run_in, stage_of}
 use Rattle.fj_runner.specs.Turned.{IsTurn}
 use Rattle.fj_runner.proofs.NextAsks.{some_same, run_known}
-use Rattle.fj_runner.proofs.Stepping.{kept_steps, ok_keeps, disk_steps, then_steps}
+use Rattle.fj_runner.proofs.Stepping.{disk_steps, kept_steps, same_keeps, then_steps}
 use Rattle.fj_turns.specs.Passing.{output_of}
 use Rattle.fj_runner.specs.Failing.{FailsStage}
-use Rattle.fj_runner.proofs.Failures.{closing_calls, fails_from, fails_still, fails_quiet, fails_at, only_unfit}
+use Rattle.fj_runner.proofs.Failures.{closing_calls, fails_at, fails_from, fails_quiet, fails_still, fails_went}
 use Rattle.fj_runner.proofs.Stepping.{went, given_up}
-use Rattle.fj_runner.specs.Fitting.{FitsStage}
 use Rattle.fj_runner.specs.Closing.{may_be_at}
 use Rattle.fj_runner.specs.Numbering.{gave}
 use Rattle.fj_runner.proofs.Fits.{may_go_on}
@@ -86,7 +86,7 @@ returns-in-Ok-clause-turn g c = λ tells more stage e.
     let core : Core = core_of files s.core in
     let known = subst (λ x. stage_of told bytes variables (st ∷ more) core x ≡ Some stage) (sym c.replace.ensures.value ∙ c.in-Going.is) e in
     let does : Doing = next_of variables st core c.in-Going.next c.in-Going.number in
-    subst (λ x. IfOk c.act.result (λ t. IsTurn told bytes variables (st ∷ more) files c.act.new.self t (turn st x run))) (some_same (Acting does) stage known)
+    subst (λ x. IsTurn told bytes variables (st ∷ more) files c.act.new.self c.act.result (turn st x run)) (some_same (Acting does) stage known)
     (c.act.ensures.turn more files core (held s.core.pending) stage does c.given.ensures.pending (c.in-Ok.ensures.doing files))
 
 pub returns-in-Ok-clause-steps : goal.returns-in-Ok-clause-steps
@@ -95,8 +95,6 @@ returns-in-Ok-clause-steps g c =
       kinds = c.act.ensures.keeps.kinds ∙ c.given.ensures.kinds;
       names = c.act.ensures.keeps.names ∙ c.given.ensures.names;
       output = c.act.ensures.keeps.output ∙ c.given.ensures.output;
-      disk = c.act.ensures.keeps.disk;
-      sink = c.act.ensures.keeps.sink;
     })
 
 pub returns-in-Awaiting-clause-turn : goal.returns-in-Awaiting-clause-turn
@@ -116,7 +114,7 @@ returns-in-Awaiting-clause-turn g c = λ tells more stage e.
 
 pub returns-in-Awaiting-clause-steps : goal.returns-in-Awaiting-clause-steps
 returns-in-Awaiting-clause-steps g c =
-    kept_steps c.args.out.now c.args.disk.now c.args.self.now.core c.settle.new.self.core (Ok c.settle.result) (ok_keeps c.args.self.now.core c.settle.new.self.core c.settle.result c.settle.ensures.core)
+    kept_steps c.args.out.now c.args.disk.now c.args.self.now.core c.settle.new.self.core c.settle.result (same_keeps c.args.self.now.core c.settle.new.self.core c.settle.ensures.core)
 
 pub returns-in-Ok-doing-clause-turn : goal.returns-in-Ok-doing-clause-turn
 returns-in-Ok-doing-clause-turn g c = λ tells more stage e.
@@ -132,7 +130,7 @@ returns-in-Ok-doing-clause-turn g c = λ tells more stage e.
     let after : Files = files_of (g.D.Disk.held c.answered-doing.new.disk) in
     let k = run_known (λ task. Acting (then_of variables st core c.in-Answered.then (task, reply_of c.in-Answered.answer))) (task_of told bytes c.in-Answered.job) stage known in
     let does : Doing = then_of variables st core c.in-Answered.then (k.0, reply_of c.in-Answered.answer) in
-    subst (λ x. IfOk c.act-in-Ok-doing.result (λ t. IsTurn told bytes variables (st ∷ more) after c.act-in-Ok-doing.new.self t (turn st x run))) k.2
+    subst (λ x. IsTurn told bytes variables (st ∷ more) after c.act-in-Ok-doing.new.self c.act-in-Ok-doing.result (turn st x run)) k.2
     (c.act-in-Ok-doing.ensures.turn more after core (held s.core.pending) stage does c.answered-doing.ensures.pending (c.in-Ok-doing.ensures.doing tells k.0 k.1))
 
 pub returns-in-Ok-doing-clause-steps : goal.returns-in-Ok-doing-clause-steps
@@ -144,7 +142,7 @@ returns-in-Ok-doing-clause-steps g c =
     let after = c.answered-doing.new.disk in
     let new = c.act-in-Ok-doing.new.self.core in
     let told = c.answered-doing.ensures in
-    then_steps out out out disk after after s.core half new c.in-Ok-doing.doing c.act-in-Ok-doing.result
+    then_steps out out out disk after after s.core half new c.in-Ok-doing.doing (went c.act-in-Ok-doing.result)
     (disk_steps out disk after s.core half c.in-Ok-doing.doing told.kinds told.names told.output told.telling told.later told.own)
     (kept_steps out after half new c.act-in-Ok-doing.result c.act-in-Ok-doing.ensures.keeps)
 
@@ -191,8 +189,7 @@ returns-in-Resuming-clause-fails g c = λ tells more stage e.
     (fails_from c.args.out.now c.resume.new.out s.core s.core c.resume.new.self.core c.resume.result _ _ _ _ _ _ refl refl (λ z. absurd z) (λ k. k) refl refl (c.resume.ensures.fails tells more stage))
 
 pub returns-in-Ok-clause-fails : goal.returns-in-Ok-clause-fails
-returns-in-Ok-clause-fails g c = λ tells more stage e. fails_still c.args.out.now c.args.self.now.core c.act.new.self.core c.act.result _ _ _ c.act.ensures.keeps.disk c.act.ensures.keeps.sink
-    (only_unfit c.act.result _ c.act.ensures.lost)
+returns-in-Ok-clause-fails g c = λ tells more stage e. fails_went c.args.out.now c.args.out.now c.args.self.now.core c.act.new.self.core c.act.result _ _ _
 
 pub returns-in-Err-clause-fails : goal.returns-in-Err-clause-fails
 returns-in-Err-clause-fails g c = λ tells more stage e.
@@ -212,12 +209,10 @@ returns-in-Err-clause-fails g c = λ tells more stage e.
     (λ fits. inr (tt, record { does = does; is = refl; stands = c.in-Err.ensures.stands held own own })))
 
 pub returns-in-Awaiting-clause-fails : goal.returns-in-Awaiting-clause-fails
-returns-in-Awaiting-clause-fails g c = λ tells more stage e. fails_still c.args.out.now c.args.self.now.core c.settle.new.self.core (went c.settle.result) _ _ _ (λ e. cc) (λ e. cc) (λ fits. tt)
+returns-in-Awaiting-clause-fails g c = λ tells more stage e. fails_went c.args.out.now c.args.out.now c.args.self.now.core c.settle.new.self.core c.settle.result _ _ _
 
 pub returns-in-Ok-doing-clause-fails : goal.returns-in-Ok-doing-clause-fails
-returns-in-Ok-doing-clause-fails g c = λ tells more stage e.
-    fails_still c.args.out.now c.args.self.now.core c.act-in-Ok-doing.new.self.core c.act-in-Ok-doing.result _ _ _ c.act-in-Ok-doing.ensures.keeps.disk c.act-in-Ok-doing.ensures.keeps.sink
-    (only_unfit c.act-in-Ok-doing.result _ c.act-in-Ok-doing.ensures.lost)
+returns-in-Ok-doing-clause-fails g c = λ tells more stage e. fails_went c.args.out.now c.args.out.now c.args.self.now.core c.act-in-Ok-doing.new.self.core c.act-in-Ok-doing.result _ _ _
 
 pub returns-in-Err-doing-clause-fails : goal.returns-in-Err-doing-clause-fails
 returns-in-Err-doing-clause-fails g c = λ tells more stage e.
@@ -282,45 +277,32 @@ settle-requires-clause-own g c = λ slot number e.
     c.args.self.now.own slot number (subst (λ x. gave slot number x ≡ true) (sym (sym c.replace.ensures.value ∙ c.in-Awaiting.is)) e)
 
 pub returns-in-Start-clause-fits : goal.returns-in-Start-clause-fits
-returns-in-Start-clause-fits g c = λ sound have more kept f.
-    let fits = subst (FitsStage c.args.variables.now c.args.lined.now.what c.args.self.now.core) (sym c.replace.ensures.value ∙ c.in-Start.is) f in
+returns-in-Start-clause-fits g c = λ sound have more kept.
     let s = c.args.self.now in
-    let files = subst (λ x. HaveAt x s.core.names s.core.units c.args.lined.now.what) (sym c.replace.ensures.value ∙ c.in-Start.is) have in
-    c.start.ensures.fits sound files kept fits
+    c.start.ensures.fits sound (subst (λ x. HaveAt x s.core.names s.core.units c.args.lined.now.what) (sym c.replace.ensures.value ∙ c.in-Start.is) have) kept
 
 pub returns-in-Waiting-clause-fits : goal.returns-in-Waiting-clause-fits
-returns-in-Waiting-clause-fits g c = λ sound have more kept f.
-    let fits = subst (FitsStage c.args.variables.now c.args.lined.now.what c.args.self.now.core) (sym c.replace.ensures.value ∙ c.in-Waiting.is) f in
+returns-in-Waiting-clause-fits g c = λ sound have more kept.
     let s = c.args.self.now in
-    let files = subst (λ x. HaveAt x s.core.names s.core.units c.args.lined.now.what) (sym c.replace.ensures.value ∙ c.in-Waiting.is) have in
-    c.wait.ensures.fits sound files kept fits
+    c.wait.ensures.fits sound (subst (λ x. HaveAt x s.core.names s.core.units c.args.lined.now.what) (sym c.replace.ensures.value ∙ c.in-Waiting.is) have) kept
 
 pub returns-in-Resuming-clause-fits : goal.returns-in-Resuming-clause-fits
-returns-in-Resuming-clause-fits g c = λ sound have more kept f.
-    let fits = subst (FitsStage c.args.variables.now c.args.lined.now.what c.args.self.now.core) (sym c.replace.ensures.value ∙ c.in-Resuming.is) f in
+returns-in-Resuming-clause-fits g c = λ sound have more kept.
     let s = c.args.self.now in
-    let files = subst (λ x. HaveAt x s.core.names s.core.units c.args.lined.now.what) (sym c.replace.ensures.value ∙ c.in-Resuming.is) have in
-    c.resume.ensures.fits sound files (λ fine. record { kept = kept; finds = fits fine })
-
-pub returns-in-Ok-clause-fits : goal.returns-in-Ok-clause-fits
-returns-in-Ok-clause-fits g c = λ sound have more kept f. c.act.ensures.fits sound
+    c.resume.ensures.fits sound (subst (λ x. HaveAt x s.core.names s.core.units c.args.lined.now.what) (sym c.replace.ensures.value ∙ c.in-Resuming.is) have) kept
 
 pub returns-in-Err-clause-fits : goal.returns-in-Err-clause-fits
-returns-in-Err-clause-fits g c = λ sound have more kept f.
+returns-in-Err-clause-fits g c = λ sound have more kept.
     let s = c.args.self.now in
-    λ e. c.given.ensures.fits sound
+    λ e. c.given.ensures.fits
     (may_go_on s.sent.items c.in-Going.next c.in-Going.number s.core s.sent_slots s.named
     (λ slot e. s.own slot c.in-Going.number (subst (λ x. gave slot c.in-Going.number x ≡ true) (sym (sym c.replace.ensures.value ∙ c.in-Going.is)) e)) more) (cc (c.in-Err.is, e))
 
-pub returns-in-Ok-doing-clause-fits : goal.returns-in-Ok-doing-clause-fits
-returns-in-Ok-doing-clause-fits g c = λ sound have more kept f. c.act-in-Ok-doing.ensures.fits sound
-
 pub returns-in-Err-doing-clause-fits : goal.returns-in-Err-doing-clause-fits
-returns-in-Err-doing-clause-fits g c = λ sound have more kept f.
-    let fits = subst (FitsStage c.args.variables.now c.args.lined.now.what c.args.self.now.core) (sym c.replace.ensures.value ∙ c.in-Answered.is) f in
+returns-in-Err-doing-clause-fits g c = λ sound have more kept.
     let s = c.args.self.now in
     let files = subst (λ x. HaveAt x s.core.names s.core.units c.args.lined.now.what) (sym c.replace.ensures.value ∙ c.in-Answered.is) have in
-    λ e. c.answered-doing.ensures.fits sound files fits (cc (c.in-Err-doing.is, e))
+    λ e. c.answered-doing.ensures.fits files (cc (c.in-Err-doing.is, e))
 
 pub returns-in-Start-clause-files : goal.returns-in-Start-clause-files
 returns-in-Start-clause-files g c = λ have.
@@ -361,16 +343,16 @@ returns-in-Ok-doing-clause-files g c = λ have.
 pub returns-in-Ok-clause-counts : goal.returns-in-Ok-clause-counts
 returns-in-Ok-clause-counts g c =
     let s = c.args.self.now in
-    count_entered c.act.result s _ c.act.new.self (entered_next c.in-Going.next c.in-Going.number s.core c.given.new.core c.given.ensures.enters) refl refl c.act.ensures.next c.act.ensures.counts (c.act.ensures.ends c.in-Ok.ensures.ends)
+    count_entered (went c.act.result) s _ c.act.new.self (entered_next c.in-Going.next c.in-Going.number s.core c.given.new.core c.given.ensures.enters) refl refl c.act.ensures.next c.act.ensures.counts (c.act.ensures.ends c.in-Ok.ensures.ends)
 
 pub returns-in-Ok-clause-holds : goal.returns-in-Ok-clause-holds
-returns-in-Ok-clause-holds g c = λ kept. c.act.ensures.holds (c.in-Ok.ensures.keeps kept)
+returns-in-Ok-clause-holds g c = λ kept. subst (λ o. o.begun ≤ star_limit) (sym (c.act.ensures.keeps.output ∙ c.given.ensures.output)) kept
 
 pub returns-in-Awaiting-clause-holds : goal.returns-in-Awaiting-clause-holds
-returns-in-Awaiting-clause-holds g c = λ kept. subst (IsKept c.args.variables.now) (sym c.settle.ensures.core) kept
+returns-in-Awaiting-clause-holds g c = λ kept. subst IsKept (sym c.settle.ensures.core) kept
 
 pub returns-in-Ok-doing-clause-holds : goal.returns-in-Ok-doing-clause-holds
-returns-in-Ok-doing-clause-holds g c = λ kept. c.act-in-Ok-doing.ensures.holds (c.in-Ok-doing.ensures.keeps kept)
+returns-in-Ok-doing-clause-holds g c = λ kept. subst (λ o. o.begun ≤ star_limit) (sym (c.act-in-Ok-doing.ensures.keeps.output ∙ c.answered-doing.ensures.output)) kept
 
 pub returns-in-Start-clause-connects : goal.returns-in-Start-clause-connects
 returns-in-Start-clause-connects g c = λ have. connects_none c.start.result c.args.self.now.core.units c.start.new.self.core.units c.start.ensures.units
@@ -382,7 +364,7 @@ pub returns-in-Resuming-clause-connects : goal.returns-in-Resuming-clause-connec
 returns-in-Resuming-clause-connects g c = λ have. connects_none c.resume.result c.args.self.now.core.units c.resume.new.self.core.units c.resume.ensures.units
 
 pub returns-in-Ok-clause-connects : goal.returns-in-Ok-clause-connects
-returns-in-Ok-clause-connects g c = λ have. connects_none c.act.result c.args.self.now.core.units c.act.new.self.core.units (c.act.ensures.units ∙ c.given.ensures.units)
+returns-in-Ok-clause-connects g c = λ have. connects_none (went c.act.result) c.args.self.now.core.units c.act.new.self.core.units (c.act.ensures.units ∙ c.given.ensures.units)
 
 pub returns-in-Awaiting-clause-connects : goal.returns-in-Awaiting-clause-connects
 returns-in-Awaiting-clause-connects g c = λ have. connects_none (Ok c.settle.result) c.args.self.now.core.units c.settle.new.self.core.units (ap (λ x. x.units) c.settle.ensures.core)
@@ -391,7 +373,7 @@ pub returns-in-Ok-doing-clause-connects : goal.returns-in-Ok-doing-clause-connec
 returns-in-Ok-doing-clause-connects g c = λ have.
     let s = c.args.self.now in
     let files = subst (λ x. HaveAt x s.core.names s.core.units c.args.lined.now.what) (sym c.replace.ensures.value ∙ c.in-Answered.is) have in
-    connects_answered c.act-in-Ok-doing.result c.in-Ok-doing.doing s.core.units c.answered-doing.new.core.units c.act-in-Ok-doing.new.self.core.units (c.in-Ok-doing.ensures.units files) c.act-in-Ok-doing.ensures.units
+    connects_answered (went c.act-in-Ok-doing.result) c.in-Ok-doing.doing s.core.units c.answered-doing.new.core.units c.act-in-Ok-doing.new.self.core.units (c.in-Ok-doing.ensures.units files) c.act-in-Ok-doing.ensures.units
     c.act-in-Ok-doing.ensures.ends
 
 pub returns-in-Start-clause-spends : goal.returns-in-Start-clause-spends
@@ -413,7 +395,7 @@ pub returns-in-Ok-clause-spends : goal.returns-in-Ok-clause-spends
 returns-in-Ok-clause-spends g c = λ most low.
     let units = length c.given.new.core.units in
     let few = none_when_ended c.in-Ok.doing units (jobs_at most c.args.self.now.stage (length c.args.self.now.core.units)) c.in-Ok.ensures.ends in
-    ok_spends c.act.result most (jobs_of c.in-Ok.doing units) (jobs_at most c.args.self.now.stage (length c.args.self.now.core.units)) c.act.new.self few (c.act.ensures.spends most)
+    ok_spends (went c.act.result) most (jobs_of c.in-Ok.doing units) (jobs_at most c.args.self.now.stage (length c.args.self.now.core.units)) c.act.new.self few (c.act.ensures.spends most)
 
 pub returns-in-Awaiting-clause-spends : goal.returns-in-Awaiting-clause-spends
 returns-in-Awaiting-clause-spends g c = λ most low.
@@ -425,4 +407,4 @@ returns-in-Ok-doing-clause-spends g c = λ most low.
     let units = length c.args.self.now.core.units in
     let left = length c.answered-doing.new.core.units in
     let few = subst (λ x. jobs_of c.in-Ok-doing.doing left ≤ jobs_at most x units) (sym (sym c.replace.ensures.value ∙ c.in-Answered.is)) c.in-Ok-doing.ensures.jobs in
-    ok_spends c.act-in-Ok-doing.result most (jobs_of c.in-Ok-doing.doing left) (jobs_at most c.args.self.now.stage units) c.act-in-Ok-doing.new.self few (c.act-in-Ok-doing.ensures.spends most)
+    ok_spends (went c.act-in-Ok-doing.result) most (jobs_of c.in-Ok-doing.doing left) (jobs_at most c.args.self.now.stage units) c.act-in-Ok-doing.new.self few (c.act-in-Ok-doing.ensures.spends most)

@@ -10,12 +10,12 @@ use Rattle.fj_runner.specs.Machine.{run_in}
 use Rattle.fj_runner.specs.Turned.{IsTurn}
 use Rattle.fj_runner.proofs.Beginnings.{none_of, waits_more, waits_none}
 use Rattle.fj_runner.proofs.Numbering.{unsettled_slot}
-use Rattle.fj_runner.proofs.Stepping.{kept_steps, ok_keeps, went}
+use Rattle.fj_runner.proofs.Stepping.{kept_steps, same_keeps}
 use Rattle.fj_plain.specs.Telling.{tell_of}
 use Rattle.fj_turns.specs.Passing.{output_of}
 use Rattle.fj_turns.specs.Turns.{doing_told, unsettled, waited_now}
 use Rattle.fj_pending.specs.Plain.{tells_of}
-use Rattle.fj_runner.proofs.Failures.{fails_from, fails_still}
+use Rattle.fj_runner.proofs.Failures.{fails_from, fails_went}
 use Rattle.fj_runner.proofs.state.State.wait_for.Goals as goal
 
 pub returns-in-Some-clause-turn : goal.returns-in-Some-clause-turn
@@ -34,7 +34,7 @@ returns-in-Some-clause-turn g c = λ tells more stage.
 
 pub returns-in-Some-clause-steps : goal.returns-in-Some-clause-steps
 returns-in-Some-clause-steps g c =
-    kept_steps c.args.out.now c.args.disk.now c.args.self.now.core c.settle.new.self.core (Ok c.settle.result) (ok_keeps c.args.self.now.core c.settle.new.self.core c.settle.result c.settle.ensures.core)
+    kept_steps c.args.out.now c.args.disk.now c.args.self.now.core c.settle.new.self.core c.settle.result (same_keeps c.args.self.now.core c.settle.new.self.core c.settle.ensures.core)
 
 pub returns-in-None-clause-turn : goal.returns-in-None-clause-turn
 returns-in-None-clause-turn g c = λ tells more stage.
@@ -77,7 +77,7 @@ settle-requires-clause-owed g c =
     (unsettled_slot s.sent.items s.told.items (waited_of c.args.whose (entries s.core.pending)) s.core.pending c.in-Some.slot s.sent_slots s.given s.untold (sym (c.in-Some.ensures.slot (none_of _ c.requires.from)))).1
 
 pub returns-in-Some-clause-fails : goal.returns-in-Some-clause-fails
-returns-in-Some-clause-fails g c = λ tells more stage. fails_still c.args.out.now c.args.self.now.core c.settle.new.self.core (went c.settle.result) _ _ _ (λ e. cc) (λ e. cc) (λ fits. tt)
+returns-in-Some-clause-fails g c = λ tells more stage. fails_went c.args.out.now c.args.out.now c.args.self.now.core c.settle.new.self.core c.settle.result _ _ _
 
 pub returns-in-Some-clause-holds : goal.returns-in-Some-clause-holds
-returns-in-Some-clause-holds g c = λ kept. subst (IsKept c.args.variables.now) (sym c.settle.ensures.core) kept
+returns-in-Some-clause-holds g c = λ kept. subst IsKept (sym c.settle.ensures.core) kept
