@@ -96,7 +96,7 @@ module _ {E J A : Type 0} (m : Meaning E J A Bay Job Answer) where
         same = ap (λ hs. map (λ (h : Held). h.pending) hs) whole ∙ pending_more r.book e ∙ ap (λ l. l ++ e ∷ []) t.same ∙ sym book;
         kept = subst (λ hs. Each (IsKept p.desks r.told) hs) (sym whole)
             (each_append (IsKept p.desks r.told) r.book (held ∷ []) t.kept
-            (record { answer = sym (ap (λ b. if b then log_at (slice_get p.desks e.slot) e.number else None) (not_below e.number (get_or r.told e.slot 0) untold)); placed = placed }, tt));
+            (record { answer = sym (ap (λ b. if b then option_map brought_by (log_at (slice_get p.desks e.slot) e.number) else None) (not_below e.number (get_or r.told e.slot 0) untold)); placed = placed }, tt));
       }
 
   -- the tells
