@@ -15,7 +15,7 @@ use Rattle.fj_bay.specs.declared.job.Job.TheVariants as job
 use Rattle.fj_plain.specs.Statement.{Stated}
 use Rattle.fj_desk.specs.Core.{Core, Connected, connected_at, without_connected}
 use Rattle.fj_desk.specs.Doing.{Doing, finishes, awaits}
-use Rattle.fj_desk.specs.Acting.{detaches, all_closed, closes, closes_anyway, unit_at, keeps, connects}
+use Rattle.fj_desk.specs.Acting.{came_out, detaches, disconnected, once_out, all_closed, closes, closes_anyway, unit_at, keeps, connects}
 use Rattle.fj_units.specs.Units.{AreApart, AreOthers}
 use Rattle.fj_acts.specs.Doing.{IsDoing, AsksToOpen, closes_then, connects_in, connects_by}
 use Rattle.fj_acts.specs.declared.doing.After.TheVariants as after
@@ -44,7 +44,7 @@ pub closes_is : {F : Type 0} (told : F → Bool) (bytes : F → List ℕ) (varia
 closes_is told bytes variables st core u keep condition found = record {
   task = detach None;
   is = refl;
-  gives = ap (λ (x : Option Connected). awaits u.slot (detach None) core (λ o. closes_then st.0.what core x keep (after.Finishes condition) o)) (sym found);
+  gives = ap (λ (x : Option Connected). awaits u.slot (detach None) core (closed core x keep (λ new. finishes new condition))) (sym found);
 }
 
 -- ---- all are closed
@@ -69,9 +69,9 @@ closes_all_is told bytes variables st core u us condition e apart = record {
   is = refl;
   gives =
       ap (λ l. all_closed l core condition) e
-      ∙ ap (λ (l : List Connected). detaches core u (keeps u) (λ new. all_closed l new condition))
+      ∙ ap (λ (l : List Connected). awaits u.slot (detach None) core (λ o. if came_out u o then all_closed l (disconnected core u (keeps u) o) condition else finishes core (Error 1)))
       (sym (ap (without_connected u.number) e ∙ first_left u us (subst AreApart e apart)))
-      ∙ ap (λ (x : Option Connected). awaits u.slot (detach None) core (λ o. closes_then st.0.what core x (keeps u) (after.ClosesAll condition) o))
+      ∙ ap (λ (x : Option Connected). awaits u.slot (detach None) core (closed core x (keeps u) (λ new. all_closed new.units new condition)))
       (sym (ap (λ l. connected_at l u.number) e ∙ first_found u us));
 }
 
@@ -95,8 +95,8 @@ closes_first_is told bytes variables st core u keep spec modes found asks e = re
   task = detach None;
   is = refl;
   gives =
-      ap (detaches core u keep) (fun_ext (λ new. sym (connects_is st.0.what u.number spec modes new asks e)))
-      ∙ ap (λ (x : Option Connected). awaits u.slot (detach None) core (λ o. closes_then st.0.what core x keep (after.Connects u.number) o)) (sym found);
+      ap (λ (next : Core → Doing). awaits u.slot (detach None) core (once_out core u keep next)) (fun_ext (λ new. sym (connects_is st.0.what u.number spec modes new asks e)))
+      ∙ ap (λ (x : Option Connected). awaits u.slot (detach None) core (closed core x keep (connects_in st.0.what u.number))) (sym found);
 }
 
 -- ---- CLOSE and END

@@ -337,14 +337,11 @@ pub fails_closing : {F : Type 0} (told : F → Bool) (bytes : F → List ℕ) (c
     (what : Statement) (next : After) (new : Core) (before now : ℕ)
     → is_due (connected_at core.units number) conn.name ≡ true → told_of told bytes conn ≡ Some c → core.files ≡ files_of h → new.units ≡ without_connected number core.units → Rose before now
     → ((name : List ℕ) → IsAsDue before now (files_of left name) (returned conn.name (bytes conn.file) keep (files_of h) name))
-    → FailsWhere (closes_then what core (connected_at core.units number) keep next (detach (Some c), answer)) new left before now
+    → FailsWhere (closed core (connected_at core.units number) keep (λ (k : PlainCore). goes_on what k next) (detach (Some c), answer)) new left before now
 fails_closing told bytes core h left number conn c keep answer what next new before now due is_told home units rose back =
-    let u = due_unit (connected_at core.units number) conn.name due in
-    let there : PlainCore = disconnected core u.0 keep (detach (Some c), answer) in
-    let is : (let it : PlainCore = record core { units = without_connected number core.units; files = files_of (given_back keep h conn.name (bytes conn.file) true) } in it) ≡ there =
-    disconnects_is told bytes core h (given_back keep h conn.name (bytes conn.file) true) number u.0 conn c true keep answer u.1 u.2 is_told home refl in
-    fails_as (goes_on what there next) (closes_then what core (connected_at core.units number) keep next (detach (Some c), answer)) new left before now
-    (closes_on told bytes core what (connected_at core.units number) u.0 conn c keep next answer u.1 u.2 is_told)
-    (fails there (goes_on what there next) new left before now (goes_on_there what there next) rose (units ∙ ap (λ (x : PlainCore). x.units) is)
-    (λ name other. subst (IsAsDue before now (files_of left name))
-    (ap (λ (f : Files). f name) (sym (given_files keep h conn.name (bytes conn.file) true)) ∙ ap (λ (x : PlainCore). x.files name) is) (back name)))
+    let home_again : Holdings = given_back keep h conn.name (bytes conn.file) true in
+    let there : PlainCore = record core { units = without_connected number core.units; files = files_of home_again } in
+    fails_as (goes_on what there next) _ new left before now
+    (disconnects_is told bytes core h home_again number conn c true keep answer (λ (k : PlainCore). goes_on what k next) (connected_at core.units number) refl due is_told home refl)
+    (fails there (goes_on what there next) new left before now (goes_on_there what there next) rose units
+    (λ name other. subst (IsAsDue before now (files_of left name)) (ap (λ (f : Files). f name) (sym (given_files keep h conn.name (bytes conn.file) true))) (back name)))

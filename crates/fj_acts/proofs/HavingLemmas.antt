@@ -90,9 +90,11 @@ free_of next n what spec us is asks free = by what asks (subst (λ a. IsFreeNext
 
 -- ---- a job came back
 
--- the file of a connected unit is out
-pub unit_out : (us : List Connected) (number : ℕ) (names : List (List ℕ)) (name : List ℕ) → HaveFiles names us → is_due (connected_at us number) name ≡ true → stands names name ≡ true
-unit_out us number names name have due = let u = due_unit (connected_at us number) name due in have.0 name ∙ ap (has_name us) (sym u.2) ∙ found_has us number u.0 u.1
+-- the connection of the unit came out, so its file is out
+pub comes_due : (us : List Connected) (number : ℕ) (names : List (List ℕ)) (name : List ℕ) → HaveFiles names us → is_due (connected_at us number) name ≡ true → stands names name ≡ true
+comes_due us number names name have due =
+    let u = due_unit (connected_at us number) name due in
+    have.0 name ∙ ap (has_name us) (sym u.2) ∙ found_has us number u.0 u.1
 
 -- the unit is taken off
 pub closed_has : (us us' : List Connected) (number : ℕ) (names names' : List (List ℕ)) (name : List ℕ)

@@ -95,7 +95,7 @@ pub as_many : {F E : Type 0} → (r : Result (Doing F) E) (us us' : List Connect
 as_many (Ok does) us us' same = let e : length us' ≡ length us = ap length same in omega (arith, e)
 as_many (Err e) us us' same = tt
 
-pub fewer_units : {F E : Type 0} → (r : Result (Doing F) E) (us us' : List Connected) → length us' + 1 ≤ length us → IfOk r (λ does. length us' ≤ length us + units_more does)
+pub fewer_units : {F E : Type 0} → (r : Result (Doing F) E) (us us' : List Connected) → OnOk r (length us' ≤ length us) → IfOk r (λ does. length us' ≤ length us + units_more does)
 fewer_units (Ok does) us us' low = omega (arith, low)
 fewer_units (Err e) us us' low = tt
 

@@ -1,7 +1,8 @@
 -- How a statement goes on, and what a connection leaves that is closed.
-use Rattle.std.proofs.Common.{◌≡◌, ℕ, Bool, true, false, ◌&&◌, List, Option, Some, None, refl, sym, ap, subst, ◌∙◌}
+use Rattle.std.proofs.Common.{◌≡◌, ℕ, Bool, true, false, List, Option, Some, None, refl, sym, ap, subst, ◌∙◌}
 use Rattle.std.specs.Prelude.{if◌then◌else◌, option_map, unwrap_or}
 use Rattle.std.specs.Str.{bytes_eq}
+use Rattle.std.proofs.lemmas.Slice.Eq.{bytes_eq-Decides}
 use Rattle.fj_value.specs.declared.condition.Condition.TheVariants.{Fine, Error}
 use Rattle.fj_modes.specs.declared.specifiers.OpenSpec.{OpenSpec}
 use Rattle.fj_modes.specs.declared.unit.UnitRef.{UnitRef}
@@ -20,11 +21,10 @@ use Rattle.fj_bay.specs.declared.job.Job.TheVariants as job
 use Rattle.fj_plain.specs.State.{Files, with_file, without_file}
 use Rattle.fj_plain.specs.Statement.{Stated}
 use Rattle.fj_desk.specs.Core.{Core, Connected, connected_at, without_connected}
-use Rattle.fj_desk.specs.Desks.{connection_in, Outcome, brought_by, condition_in, look_in}
+use Rattle.fj_desk.specs.Desks.{Outcome, brought_by, condition_in, connection_in, look_in}
 use Rattle.fj_pending.specs.Plain.{brought_of}
-use Rattle.fj_desk.specs.Doing.{finishes}
-use Rattle.fj_desk.specs.Acting.{left, disconnected}
-use Rattle.fj_desk.proofs.Closing.{comes_out}
+use Rattle.fj_desk.specs.Doing.{Doing, finishes}
+use Rattle.fj_desk.specs.Acting.{came_out, disconnected, left}
 use Rattle.fj_units.specs.Files.{files_of}
 use Rattle.fj_units.proofs.Returning.{given_back, given_files}
 use Rattle.fj_acts.specs.Doing.{AsksToOpen, carries, closes_then, entered, goes_on, next_of, pends}
@@ -41,69 +41,49 @@ told_is : {F : Type 0} (told : F → Bool) (bytes : F → List ℕ) (conn : Link
 told_is told bytes conn c true t e = let same : Some (connection_of bytes conn) ≡ Some c = sym (ap (λ b. if b then Some (connection_of bytes conn) else None) t) ∙ e in cc
 told_is told bytes conn c false t e = absurd (let none : None ≡ Some c = sym (ap (λ b. if b then Some (connection_of bytes conn) else None) t) ∙ e in let bad : ⊥ = cc in bad)
 
-pub disconnects_is : {F : Type 0} (told : F → Bool) (bytes : F → List ℕ) (core : Core) (h new : Holdings) (number : ℕ) (u : Connected) (conn : Linked F) (c : Connection) (sound keep : Bool) (answer : Answer)
-    → connected_at core.units number ≡ Some u → u.name ≡ conn.name → told_of told bytes conn ≡ Some c → core.files ≡ files_of h → new ≡ given_back keep h conn.name (bytes conn.file) sound
-    → record core { units = without_connected number core.units; files = files_of new } ≡ disconnected core u keep (detach (Some c), answer)
-disconnects_is told bytes core h new number u conn c sound keep answer found name is_told home is_new =
+pub disconnects_is : {F : Type 0} (told : F → Bool) (bytes : F → List ℕ) (core : Core) (h new : Holdings) (number : ℕ) (conn : Linked F) (c : Connection) (sound keep : Bool) (answer : Answer) (next : Core → Doing) (found : Option Connected)
+    → connected_at core.units number ≡ found → is_due found conn.name ≡ true → told_of told bytes conn ≡ Some c → core.files ≡ files_of h → new ≡ given_back keep h conn.name (bytes conn.file) sound
+    → next (record core { units = without_connected number core.units; files = files_of new }) ≡ closed core (connected_at core.units number) keep next (detach (Some c), answer)
+disconnects_is told bytes core h new number conn c sound keep answer next None found due is_told home is_new = absurd (let bad : ⊥ = cc in bad)
+disconnects_is told bytes core h new number conn c sound keep answer next (Some u) found due is_told home is_new =
+    let name : u.name ≡ conn.name = sym ((bytes_eq-Decides conn.name u.name).0 due) in
     let same : connection_of bytes conn ≡ c = told_is told bytes conn c (told conn.file) refl is_told in
+    let o : Outcome = (detach (Some c), answer) in
     let files : files_of new ≡ left u.name (Some c) keep core.files =
     ap (λ (x : Holdings). files_of x) is_new
     ∙ given_files keep h conn.name (bytes conn.file) sound
     ∙ ap (λ (f : Files). if keep then with_file conn.name (bytes conn.file) f else without_file conn.name f) (sym home)
     ∙ ap (λ n. if keep then with_file n (bytes conn.file) core.files else without_file n core.files) (sym name)
     ∙ ap (λ (x : Connection). left u.name (Some x) keep core.files) same in
-    ap (λ (f : Files). let new : Core = record core { units = without_connected number core.units; files = f } in new) files
-    ∙ ap (λ n. let new : Core = record core { units = without_connected n core.units; files = left u.name (Some c) keep core.files } in new) (sym (found_number core.units number u found))
-
--- the statement goes on, where the connection is the unit's
-pub closes_on : {F : Type 0} (told : F → Bool) (bytes : F → List ℕ) (core : Core) (what : Statement) (found : Option Connected) (u : Connected) (conn : Linked F) (c : Connection) (keep : Bool) (next : After) (answer : Answer)
-    → found ≡ Some u → u.name ≡ conn.name → told_of told bytes conn ≡ Some c
-    → goes_on what (disconnected core u keep (detach (Some c), answer)) next ≡ closes_then what core found keep next (detach (Some c), answer)
-closes_on told bytes core what found u conn c keep next answer is name is_told =
-    let same : c.name ≡ u.name = ap (λ (x : Connection). x.name) (sym (told_is told bytes conn c (told conn.file) refl is_told)) ∙ sym name in
-    ap (λ b. if b then goes_on what (disconnected core u keep (detach (Some c), answer)) next else finishes core (Error 1)) (sym (comes_out u (detach (Some c), answer) c refl same))
-    ∙ ap (λ x. closes_then what core x keep next (detach (Some c), answer)) (sym is)
-
--- and where it is another one, its unit counts as not connected
-pub closes_nothing : {F : Type 0} (told : F → Bool) (bytes : F → List ℕ) (core : Core) (what : Statement) (found : Option Connected) (conn : Linked F) (c : Connection) (keep : Bool) (next : After) (answer : Answer)
-    → is_due found conn.name ≡ false → told_of told bytes conn ≡ Some c → closes_then what core found keep next (detach (Some c), answer) ≡ finishes core (Error 1)
-closes_nothing told bytes core what None conn c keep next answer due is_told = refl
-closes_nothing told bytes core what (Some u) conn c keep next answer due is_told =
-    ap (λ b. if b then goes_on what (disconnected core u keep (detach (Some c), answer)) next else finishes core (Error 1))
-    (ap (λ (x : Connection). bytes_eq x.name u.name) (sym (told_is told bytes conn c (told conn.file) refl is_told)) ∙ due)
-
--- so it does where the job has none
-pub closes_without : (core : Core) (what : Statement) (found : Option Connected) (keep : Bool) (next : After) (o : Outcome) → connection_in o.0 ≡ None → closes_then what core found keep next o ≡ finishes core (Error 1)
-closes_without core what None keep next o none = refl
-closes_without core what (Some u) keep next o none =
-    ap (λ place. if unwrap_or (option_map (λ (c : Connection). bytes_eq c.name u.name) place) false then goes_on what (disconnected core u keep o) next else finishes core (Error 1)) none
-
-pub none_out : {F : Type 0} (told : F → Bool) (bytes : F → List ℕ) (it : Job F) (task : Task) → ((conn : Linked F) → it ≡ job.Detach (Some conn) → ⊥) → task_of told bytes it ≡ Some task → connection_in task ≡ None
-none_out told bytes (job.Attach brought) task never is = by (place_of told bytes brought) is
-  where
-    by : (o : Option (Option Connection)) → option_map attach o ≡ Some task → connection_in task ≡ None
-    by None e = absurd (let bad : ⊥ = cc in bad)
-    by (Some place) e = let same : attach place ≡ task = cc in ap connection_in (sym same)
-none_out told bytes (job.Detach None) task never is = let same : detach None ≡ task = cc in ap connection_in (sym same)
-none_out told bytes (job.Detach (Some conn)) task never is = absurd (never conn refl)
-none_out told bytes (job.Move t) task never is = let same : move (moving_of t) ≡ task = cc in ap connection_in (sym same)
-none_out told bytes (job.Go how) task never is = let same : go how ≡ task = cc in ap connection_in (sym same)
-none_out told bytes (job.Change edit) task never is = let same : change edit ≡ task = cc in ap connection_in (sym same)
-none_out told bytes job.Flush task never is = let same : flush ≡ task = cc in ap connection_in (sym same)
-none_out told bytes (job.Look place) task never is = let same : look (option_map looked_of place) ≡ task = cc in ap connection_in (sym same)
-none_out told bytes job.Resume task never is = let same : resume ≡ task = cc in ap connection_in (sym same)
+    let out : came_out u o ≡ true = ap (λ (x : Connection). bytes_eq x.name u.name) (sym same) ∙ due in
+    ap (λ (f : Files). next (record core { units = without_connected number core.units; files = f })) files
+    ∙ ap (λ n. next (record core { units = without_connected n core.units; files = left u.name (Some c) keep core.files })) (sym (found_number core.units number u found))
+    ∙ sym (ap (λ b. if b then next (disconnected core u keep o) else finishes core (Error 1)) out)
+    ∙ ap (λ x. closed core x keep next o) (sym found)
 
 -- how the statement goes on from there
-pub closes_goes_on : {F : Type 0} (told : F → Bool) (bytes : F → List ℕ) (core : Core) (h new : Holdings) (number : ℕ) (conn : Linked F) (c : Connection) (sound keep : Bool) (answer : Answer)
+pub closed_goes_on : {F : Type 0} (told : F → Bool) (bytes : F → List ℕ) (core : Core) (h new : Holdings) (number : ℕ) (conn : Linked F) (c : Connection) (sound keep : Bool) (answer : Answer)
     (what : Statement) (next : After) (units : List Connected)
     → is_due (connected_at core.units number) conn.name ≡ true → told_of told bytes conn ≡ Some c → core.files ≡ files_of h → new ≡ given_back keep h conn.name (bytes conn.file) sound
     → units ≡ without_connected number core.units
-    → goes_on what (record core { units = units; files = files_of new }) next ≡ closes_then what core (connected_at core.units number) keep next (detach (Some c), answer)
-closes_goes_on told bytes core h new number conn c sound keep answer what next units due is_told home is_new is_units =
-    let u = due_unit (connected_at core.units number) conn.name due in
+    → goes_on what (record core { units = units; files = files_of new }) next ≡ closed core (connected_at core.units number) keep (λ (k : Core). goes_on what k next) (detach (Some c), answer)
+closed_goes_on told bytes core h new number conn c sound keep answer what next units due is_told home is_new is_units =
     ap (λ (us : List Connected). goes_on what (record core { units = us; files = files_of new }) next) is_units
-    ∙ ap (λ (x : Core). goes_on what x next) (disconnects_is told bytes core h new number u.0 conn c sound keep answer u.1 u.2 is_told home is_new)
-    ∙ closes_on told bytes core what (connected_at core.units number) u.0 conn c keep next answer u.1 u.2 is_told
+    ∙ disconnects_is told bytes core h new number conn c sound keep answer (λ (k : Core). goes_on what k next) (connected_at core.units number) refl due is_told home is_new
+
+-- another connection came out
+pub other_closed : {F : Type 0} (told : F → Bool) (bytes : F → List ℕ) (core : Core) (conn : Linked F) (c : Connection) (keep : Bool) (next : Core → Doing) (answer : Answer) (found : Option Connected)
+    → is_due found conn.name ≡ false → told_of told bytes conn ≡ Some c → closed core found keep next (detach (Some c), answer) ≡ finishes core (Error 1)
+other_closed told bytes core conn c keep next answer None due is_told = refl
+other_closed told bytes core conn c keep next answer (Some u) due is_told =
+    ap (λ b. if b then next (disconnected core u keep (detach (Some c), answer)) else finishes core (Error 1))
+    (ap (λ (x : Connection). bytes_eq x.name u.name) (sym (told_is told bytes conn c (told conn.file) refl is_told)) ∙ due)
+
+-- none came out
+pub none_closed : (core : Core) (keep : Bool) (next : Core → Doing) (o : Outcome) (found : Option Connected) → connection_in o.0 ≡ None → closed core found keep next o ≡ finishes core (Error 1)
+none_closed core keep next o None none = refl
+none_closed core keep next o (Some u) none =
+    ap (λ (x : Option Connection). if unwrap_or (option_map (λ (c : Connection). bytes_eq c.name u.name) x) false then next (disconnected core u keep o) else finishes core (Error 1)) none
 
 -- ---- kinds of statements
 
@@ -147,6 +127,18 @@ pends_is variables st core new next unit slot number t is what is_new =
 same_task : {A X : Type 0} → (f : Task → X) (o : Option A) (make : A → Task) (task : Task) (x : X) → option_map make o ≡ Some task → ((a : A) → x ≡ f (make a)) → x ≡ f task
 same_task f None make task x is each = absurd (let bad : ⊥ = cc in bad)
 same_task f (Some a) make task x is each = each a ∙ ap f (let same : make a ≡ task = cc in same)
+
+-- no connection, where it brings none out
+pub none_out : {F : Type 0} (told : F → Bool) (bytes : F → List ℕ) (it : Job F) (task : Task) → task_of told bytes it ≡ Some task → ((conn : Linked F) → it ≡ job.Detach (Some conn) → ⊥) → connection_in task ≡ None
+none_out told bytes (job.Attach brought) task is never = sym (same_task connection_in (place_of told bytes brought) attach task _ is (λ c. refl))
+none_out told bytes (job.Detach None) task is never = ap connection_in (sym (let same : detach None ≡ task = cc in same))
+none_out told bytes (job.Detach (Some conn)) task is never = absurd (never conn refl)
+none_out told bytes (job.Move m) task is never = ap connection_in (sym (let same : move (moving_of m) ≡ task = cc in same))
+none_out told bytes (job.Go how) task is never = ap connection_in (sym (let same : go how ≡ task = cc in same))
+none_out told bytes (job.Change edit) task is never = ap connection_in (sym (let same : change edit ≡ task = cc in same))
+none_out told bytes job.Flush task is never = ap connection_in (sym (let same : flush ≡ task = cc in same))
+none_out told bytes (job.Look l) task is never = ap connection_in (sym (let same : look (option_map looked_of l) ≡ task = cc in same))
+none_out told bytes job.Resume task is never = ap connection_in (sym (let same : resume ≡ task = cc in same))
 
 -- what it brought
 pub brought_is : {F : Type 0} (told : F → Bool) (bytes : F → List ℕ) (it : Job F) (task : Task) (answer : Answer) → task_of told bytes it ≡ Some task

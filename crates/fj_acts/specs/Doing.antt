@@ -22,7 +22,7 @@ use Rattle.fj_plain.specs.Transfers.{with_cells, with_number, held_places}
 use Rattle.fj_desk.specs.Core.{Core, Connected, connected_at, unit_named}
 use Rattle.fj_desk.specs.Desks.{Outcome, cells_in, count_in, look_in, condition_in}
 use Rattle.fj_desk.specs.Doing.{Doing as PlainDoing, finishes, gives, awaits}
-use Rattle.fj_desk.specs.Acting.{once_out, all_closed, connects, about_unit, answers, unit_at}
+use Rattle.fj_desk.specs.Acting.{all_closed, connects, once_out, about_unit, answers, unit_at}
 use Rattle.fj_units.specs.Units.{with_modes}
 use Rattle.fj_acts.specs.declared.doing.Given.{Given}
 use Rattle.fj_acts.specs.declared.doing.Given.TheVariants as given
@@ -63,6 +63,11 @@ carries variables core (statement.Transfer t) slot o =
     ends_behind slot (record core { vars = with_cells variables t (cells_in o.0) (count_in o.0) core.vars }) (condition_in o.1)
 carries variables core _ slot o = finishes core Fine
 
+-- the connection of a unit came out and is closed; where it did not, the unit counts as not connected (1)
+abbrev pub closed : Core → Option Connected → Bool → (Core → PlainDoing) → Outcome → PlainDoing
+closed core None keep next o = finishes core (Error 1)
+closed core (Some u) keep next o = once_out core u keep next o
+
 abbrev pub connects_by : ℕ → OpenSpec → Core → Result Modes Condition → PlainDoing
 connects_by number spec core (Err condition) = finishes core condition
 connects_by number spec core (Ok modes) = connects number spec modes core
@@ -93,7 +98,7 @@ looks variables core _ o = finishes core Fine
 abbrev pub then_of : List Variable → Stated → Core → Then → Outcome → PlainDoing
 then_of variables st core then.Finishes o = finishes core (condition_in o.1)
 then_of variables st core (then.Carries slot) o = carries variables core st.0.what slot o
-then_of variables st core (then.Closes number keep next) o = closes_then st.0.what core (connected_at core.units number) keep next o
+then_of variables st core (then.Closes number keep next) o = closed core (connected_at core.units number) keep (λ new. goes_on st.0.what new next) o
 then_of variables st core (then.Changes number modes) o = finishes (record core { units = with_modes core.units (connected_at core.units number) modes }) (condition_in o.1)
 then_of variables st core (then.Attaches us) o = finishes (record core { units = us }) (condition_in o.1)
 then_of variables st core then.Looks o = looks variables core st.0.what o

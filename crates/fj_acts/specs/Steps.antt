@@ -1,4 +1,4 @@
--- What a job that came back has: whether its connection is due; what it saw; and what it brought.
+-- What a job that came back has: the connection of its unit, what it saw, and what it brought.
 use Rattle.std.specs.Prelude.{ℕ, Bool, false, List, Option, Some, None}
 use Rattle.std.specs.Str.{bytes_eq}
 use Rattle.fj_value.specs.declared.condition.Condition.{Condition}
@@ -13,7 +13,7 @@ abbrev pub is_due : Option Connected → List ℕ → Bool
 is_due None name = false
 is_due (Some u) name = bytes_eq name u.name
 
--- its look at a connection, if it has one
+-- the look of a job at a connection, if it has one
 abbrev pub looked_in : {F : Type 0} → Job F → Option Look
 looked_in (job.Look look) = look
 looked_in _ = None

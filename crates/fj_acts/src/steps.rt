@@ -25,7 +25,7 @@ ghost use Rattle.fj_acts.specs.State.{KeepsAnswers, KeepsPending, core_of};
 ghost use Rattle.fj_acts.specs.Failing.{AreStill, FailsWhere, StandsWhere};
 ghost use Rattle.fj_units.specs.Files.{files_of};
 ghost use Rattle.fj_acts.specs.Steps.{is_due, looked_in};
-ghost use Rattle.fj_acts.specs.Doing.{Ends, IsDoing, next_of, then_of, goes_on, closes_then, carries, looks};
+ghost use Rattle.fj_acts.specs.Doing.{Ends, IsDoing, next_of, then_of, goes_on, closed, carries, looks};
 ghost use Rattle.fj_units.specs.Having.{HaveFiles};
 ghost use Rattle.fj_acts.specs.Having.{HaveNext, HaveThen, IsFreeNext};
 
@@ -148,7 +148,8 @@ fn is_due<F: FileStore>(connection: &Connection<F>, number: u32, core: &Core) ->
     }
 }
 
-/// The connection of a unit is closed, and the statement goes on. Another one is dropped; its unit counts as not connected.
+/// The connection of a unit is closed, and the statement goes on. Another one is let go, and the unit counts as not connected (1).
+/// `Unfit`: the name of the unit's file is not kept as one that is out.
 fn closed<D: Disk>(
     alloc: Global,
     variables: &Variables,
@@ -164,14 +165,14 @@ fn closed<D: Disk>(
     ensures doing { D.tells disk.old → (c : PlainConnection) (answer : PlainAnswer) → told_of D.File.told D.File.bytes connection ≡ Some c →
         IfOk result (λ goes. IsDoing D.File.told D.File.bytes variables.now (lined.now, control_by lined.now.what)
         (core_of (files_of (D.held disk.new)) core.new) goes
-        (closes_then lined.now.what (core_of (files_of (D.held disk.old)) core.old) (connected_at core.old.units number) keep after (job.detach (Some c), answer))) }
+        (closed (core_of (files_of (D.held disk.old)) core.old) (connected_at core.old.units number) keep (λ new. goes_on lined.now.what new after) (job.detach (Some c), answer))) }
     ensures fault { D.tells disk.old → (c : PlainConnection) (answer : PlainAnswer) → told_of D.File.told D.File.bytes connection ≡ Some c →
         result ≡ Err Lost.Disk → FailsWhere
-        (closes_then lined.now.what (core_of (files_of (D.held disk.old)) core.old) (connected_at core.old.units number) keep after (job.detach (Some c), answer))
+        (closed (core_of (files_of (D.held disk.old)) core.old) (connected_at core.old.units number) keep (λ new. goes_on lined.now.what new after) (job.detach (Some c), answer))
         core.new (D.held disk.new) (D.refusals disk.old) (D.refusals disk.new) }
     ensures stands { D.tells disk.old → (c : PlainConnection) (answer : PlainAnswer) → told_of D.File.told D.File.bytes connection ≡ Some c →
         result ≢ Err Lost.Unfit → OnErr result (StandsWhere
-        (closes_then lined.now.what (core_of (files_of (D.held disk.old)) core.old) (connected_at core.old.units number) keep after (job.detach (Some c), answer))
+        (closed (core_of (files_of (D.held disk.old)) core.old) (connected_at core.old.units number) keep (λ new. goes_on lined.now.what new after) (job.detach (Some c), answer))
         core.new (D.held disk.new) (D.refusals disk.old) (D.refusals disk.new)) }
     ensures own { D.tells disk.old → D.refusals disk.old ≤ D.refusals disk.new }
     ensures names { D.tells disk.old → AreInUse core.new.names (D.held disk.new).in_use }
@@ -186,7 +187,7 @@ fn closed<D: Disk>(
     ensures next { core.new.next ≡ core.old.next }
     ensures fits { HaveThen (Then.Closes number keep after) core.old.names core.old.units lined.now.what → result ≢ Err Lost.Unfit }
     ensures placed { IfOk result IsPlaced }
-    ensures units { IfOk result (λ goes. length core.new.units ≤ length core.old.units + units_more goes) }
+    ensures units { OnOk result (length core.new.units ≤ length core.old.units) }
     ensures jobs { IfOk result (λ goes. jobs_of goes (length core.new.units) ≤ jobs_after after (length core.old.units - 1)) }
     ensures files { HaveThen (Then.Closes number keep after) core.old.names core.old.units lined.now.what → IfOk result (λ goes. HaveNext goes core.new.names core.new.units lined.now.what) }
 {

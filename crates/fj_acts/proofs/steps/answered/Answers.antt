@@ -20,7 +20,7 @@ use Rattle.fj_acts.proofs.FailingLemmas.{fails_as, looks_there, stands_as, stand
 use Rattle.fj_acts.proofs.JobLemmas.{modes_as_many, none_when_ended}
 use Rattle.fj_acts.proofs.OpeningLemmas.{meant}
 use Rattle.fj_acts.proofs.StateLemmas.{keeps_answers}
-use Rattle.fj_acts.proofs.StepLemmas.{brought_is, closes_without, detached_is, looked_is, none_out}
+use Rattle.fj_acts.proofs.StepLemmas.{brought_is, detached_is, looked_is, none_closed, none_out}
 use Rattle.fj_acts.proofs.steps.answered.Goals as goal
 
 pub returns-in-Carries-clause-doing : goal.returns-in-Carries-clause-doing
@@ -46,7 +46,7 @@ returns-in-Detach-Some-clause-doing g c = λ tells task is.
     let has : c.args.job ≡ job.Detach (Some c.in-Detach-Some.connection) = cc in
     let out = detached_is g.D.File.FileStore.told g.D.File.FileStore.bytes c.args.job c.in-Detach-Some.connection task has is in
     meant g.D.File.FileStore.told g.D.File.FileStore.bytes c.args.variables.now st _ c.closed.result _ _
-    (ap (λ (t : Task). closes_then what core (connected_at core.units number) c.in-Closes.keep c.in-Closes.after (t, reply)) out.2
+    (ap (λ (t : Task). closed core (connected_at core.units number) c.in-Closes.keep (λ (new : Core). goes_on what new c.in-Closes.after) (t, reply)) out.2
     ∙ ap (λ (t : Then). then_of c.args.variables.now st core t (task, reply)) (sym c.in-Closes.is))
     (c.closed.ensures.doing tells out.0 reply out.1)
 
@@ -60,7 +60,7 @@ returns-in-Detach-Some-clause-fault g c = λ tells task is lost.
     let has : c.args.job ≡ job.Detach (Some c.in-Detach-Some.connection) = cc in
     let out = detached_is g.D.File.FileStore.told g.D.File.FileStore.bytes c.args.job c.in-Detach-Some.connection task has is in
     fails_as _ _ c.closed.new.core (g.D.Disk.held c.closed.new.disk) (g.D.Disk.refusals c.args.disk.now) (g.D.Disk.refusals c.closed.new.disk)
-    (ap (λ (t : Task). closes_then what core (connected_at core.units number) c.in-Closes.keep c.in-Closes.after (t, reply)) out.2
+    (ap (λ (t : Task). closed core (connected_at core.units number) c.in-Closes.keep (λ (new : Core). goes_on what new c.in-Closes.after) (t, reply)) out.2
     ∙ ap (λ (t : Then). then_of c.args.variables.now st core t (task, reply)) (sym c.in-Closes.is))
     (c.closed.ensures.fault tells out.0 reply out.1 lost)
 
@@ -87,8 +87,24 @@ returns-in-Changes-clause-pending g c = keeps_answers c.args.core.now (record c.
 pub returns-in-Finishes-clause-pending : goal.returns-in-Finishes-clause-pending
 returns-in-Finishes-clause-pending g c = keeps_answers c.args.core.now c.args.core.now refl
 
+pub returns-in_default-clause-doing : goal.returns-in_default-clause-doing
+returns-in_default-clause-doing g c = λ tells task is.
+    let core : Core = core_of (files_of (g.D.Disk.held c.args.disk.now)) c.args.core.now in
+    let what : Statement = c.args.lined.now.what in
+    let st : Stated = (c.args.lined.now, control_by what) in
+    let reply : Answer = reply_of c.args.answer in
+    ap (λ (t : Then). then_of c.args.variables.now st core t (task, reply)) c.in-Closes.is
+    ∙ none_closed core c.in-Closes.keep _ (task, reply) (connected_at core.units c.in-Closes.number)
+    (none_out g.D.File.FileStore.told g.D.File.FileStore.bytes c.args.job task is c.in_default.not-Detach-Some)
+
 pub returns-in_default-clause-pending : goal.returns-in_default-clause-pending
 returns-in_default-clause-pending g c = keeps_answers c.args.core.now c.args.core.now refl
+
+pub returns-in_default-clause-files : goal.returns-in_default-clause-files
+returns-in_default-clause-files g c = λ have.
+    let core = c.args.core.now in
+    let it = subst (λ (t : Then). HaveThen t core.names core.units c.args.lined.now.what) c.in-Closes.is have in
+    it.0
 
 pub returns-in_err-looked-in-Looks-clause-stands : goal.returns-in_err-looked-in-Looks-clause-stands
 returns-in_err-looked-in-Looks-clause-stands g c = λ tells task is fits.
@@ -112,23 +128,9 @@ returns-in-Detach-Some-clause-stands g c = λ tells task is fits.
     let has : c.args.job ≡ job.Detach (Some c.in-Detach-Some.connection) = cc in
     let out = detached_is g.D.File.FileStore.told g.D.File.FileStore.bytes c.args.job c.in-Detach-Some.connection task has is in
     stands_as c.closed.result _ _ c.closed.new.core (g.D.Disk.held c.closed.new.disk) (g.D.Disk.refusals c.args.disk.now) (g.D.Disk.refusals c.closed.new.disk)
-    (ap (λ (t : Task). closes_then what core (connected_at core.units number) c.in-Closes.keep c.in-Closes.after (t, reply)) out.2
+    (ap (λ (t : Task). closed core (connected_at core.units number) c.in-Closes.keep (λ (new : Core). goes_on what new c.in-Closes.after) (t, reply)) out.2
     ∙ ap (λ (t : Then). then_of c.args.variables.now st core t (task, reply)) (sym c.in-Closes.is))
     (c.closed.ensures.stands tells out.0 reply out.1 fits)
-
-pub returns-in_default-clause-doing : goal.returns-in_default-clause-doing
-returns-in_default-clause-doing g c = λ tells task is.
-    let core : Core = core_of (files_of (g.D.Disk.held c.args.disk.now)) c.args.core.now in
-    let what : Statement = c.args.lined.now.what in
-    let st : Stated = (c.args.lined.now, control_by what) in
-    let o = (task, reply_of c.args.answer) in
-    ap (λ (t : Then). then_of c.args.variables.now st core t o) c.in-Closes.is
-    ∙ closes_without core what (connected_at core.units c.in-Closes.number) c.in-Closes.keep c.in-Closes.after o (none_out g.D.File.FileStore.told g.D.File.FileStore.bytes c.args.job task c.in_default.not-Detach-Some is)
-
-pub returns-in_default-clause-files : goal.returns-in_default-clause-files
-returns-in_default-clause-files g c = λ have.
-    let core = c.args.core.now in
-    (subst (λ (t : Then). HaveThen t core.names core.units c.args.lined.now.what) c.in-Closes.is have).0
 
 pub returns-in-Carries-clause-files : goal.returns-in-Carries-clause-files
 returns-in-Carries-clause-files g c = λ have.

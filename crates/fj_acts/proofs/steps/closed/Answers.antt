@@ -4,23 +4,23 @@ use Rattle.fj_statement.specs.declared.statement.Statement.{Statement}
 use Rattle.fj_plain.specs.Statement.{control_by}
 use Rattle.fj_desk.specs.Core.{connected_at}
 use Rattle.fj_units.specs.Files.{files_of}
-use Rattle.fj_units.specs.Names.{left_of}
+use Rattle.fj_units.specs.Names.{left_of, stands}
 use Rattle.fj_units.proofs.Files.{used_name}
 use Rattle.fj_units.proofs.Returning.{due_back, names_back}
 use Rattle.fj_acts.specs.Doing.{goes_on}
 use Rattle.fj_acts.specs.State.{core_of}
 use Rattle.fj_acts.proofs.FailingLemmas.{fails_as, fails_since, fails_closing, goes_on_there, stands_as, stands_since, stands_still}
 use Rattle.fj_acts.proofs.OpeningLemmas.{meant}
-use Rattle.fj_acts.proofs.StepLemmas.{closes_goes_on, closes_nothing}
+use Rattle.fj_acts.proofs.StepLemmas.{closed_goes_on, other_closed}
 use Rattle.fj_acts.specs.Having.{IsFreeNext}
-use Rattle.std.proofs.Common.{length, ◌+◌, ◌≤◌}
-use Rattle.fj_acts.proofs.HavingLemmas.{closed_has, unit_out}
-use Rattle.fj_acts.proofs.JobLemmas.{closed_less, fewer_units, less_jobs}
+use Rattle.std.proofs.Common.{length, arith}
+use Rattle.fj_acts.proofs.HavingLemmas.{closed_has, comes_due}
+use Rattle.fj_acts.proofs.JobLemmas.{closed_less, less_jobs, on_ok}
 use Rattle.fj_acts.proofs.steps.closed.Goals as goal
 
 pub close_file-requires : goal.close_file-requires
 close_file-requires g c = λ tells.
-    used_name c.args.core.now.names (g.D.Disk.held c.args.disk.now) c.args.connection.name (sym c.if-not-holds.ensures) (c.requires.names tells)
+    used_name c.args.core.now.names (g.D.Disk.held c.args.disk.now) c.args.connection.name (ap (stands c.args.core.now.names) (sym c.name.ensures) ∙ sym c.if-not-holds.ensures) (c.requires.names tells)
 
 pub go_on-requires : goal.go_on-requires
 go_on-requires g c = record {
@@ -35,7 +35,7 @@ returns-in-Ok-clause-doing g c = λ tells conn answer is.
     let held : Holdings = g.D.Disk.held c.args.disk.now in
     let what : Statement = c.args.lined.now.what in
     meant g.D.File.FileStore.told g.D.File.FileStore.bytes c.args.variables.now (c.args.lined.now, control_by what) _ c.go_on.result _ _
-    (closes_goes_on g.D.File.FileStore.told g.D.File.FileStore.bytes (core_of (files_of held) c.args.core.now) held (g.D.Disk.held c.close_file.new.disk) c.args.number c.args.connection conn _ c.args.keep answer
+    (closed_goes_on g.D.File.FileStore.told g.D.File.FileStore.bytes (core_of (files_of held) c.args.core.now) held (g.D.Disk.held c.close_file.new.disk) c.args.number c.args.connection conn _ c.args.keep answer
     what c.args.after _ (sym c.if-not-is_due.ensures) is refl (c.in-Ok.ensures.back tells) c.remove-2.ensures.left)
     (c.go_on.ensures.doing (c.in-Ok.ensures.telling.0 tells))
 
@@ -50,7 +50,7 @@ returns-in-Ok-clause-fault g c = λ tells conn answer is lost.
     let what : Statement = c.args.lined.now.what in
     fails_since _ c.go_on.new.core (g.D.Disk.held c.go_on.new.disk) (g.D.Disk.refusals c.args.disk.now) (g.D.Disk.refusals c.close_file.new.disk) (g.D.Disk.refusals c.go_on.new.disk) (c.in-Ok.ensures.own tells)
     (fails_as _ _ c.go_on.new.core (g.D.Disk.held c.go_on.new.disk) (g.D.Disk.refusals c.close_file.new.disk) (g.D.Disk.refusals c.go_on.new.disk)
-    (closes_goes_on g.D.File.FileStore.told g.D.File.FileStore.bytes (core_of (files_of held) c.args.core.now) held (g.D.Disk.held c.close_file.new.disk) c.args.number c.args.connection conn _ c.args.keep answer
+    (closed_goes_on g.D.File.FileStore.told g.D.File.FileStore.bytes (core_of (files_of held) c.args.core.now) held (g.D.Disk.held c.close_file.new.disk) c.args.number c.args.connection conn _ c.args.keep answer
     what c.args.after _ (sym c.if-not-is_due.ensures) is refl (c.in-Ok.ensures.back tells) c.remove-2.ensures.left)
     (c.go_on.ensures.fault (c.in-Ok.ensures.telling.0 tells) lost))
 
@@ -83,18 +83,18 @@ returns-in-Ok-clause-stands g c = λ tells conn answer is fits.
     let left : Holdings = g.D.Disk.held c.go_on.new.disk in
     stands_since c.go_on.result _ c.go_on.new.core left (g.D.Disk.refusals c.args.disk.now) (g.D.Disk.refusals c.close_file.new.disk) (g.D.Disk.refusals c.go_on.new.disk) (c.in-Ok.ensures.own tells)
     (stands_as c.go_on.result (goes_on what core c.args.after) _ c.go_on.new.core left (g.D.Disk.refusals c.close_file.new.disk) (g.D.Disk.refusals c.go_on.new.disk)
-    (closes_goes_on g.D.File.FileStore.told g.D.File.FileStore.bytes (core_of (files_of held) c.args.core.now) held mid c.args.number c.args.connection conn _ c.args.keep answer
+    (closed_goes_on g.D.File.FileStore.told g.D.File.FileStore.bytes (core_of (files_of held) c.args.core.now) held mid c.args.number c.args.connection conn _ c.args.keep answer
     what c.args.after _ (sym c.if-not-is_due.ensures) is refl (c.in-Ok.ensures.back tells) c.remove-2.ensures.left)
     (stands_still c.go_on.result core (goes_on what core c.args.after) c.go_on.new.core mid left (g.D.Disk.refusals c.close_file.new.disk) (g.D.Disk.refusals c.go_on.new.disk)
     (goes_on_there what core c.args.after) refl c.go_on.ensures.units (c.go_on.ensures.stays (c.in-Ok.ensures.telling.0 tells))))
 
-pub returns-then-not-is_due-clause-doing : goal.returns-then-not-is_due-clause-doing
-returns-then-not-is_due-clause-doing g c = λ tells conn answer is.
-    let core = core_of (files_of (g.D.Disk.held c.args.disk.now)) c.args.core.now in
-    closes_nothing g.D.File.FileStore.told g.D.File.FileStore.bytes core c.args.lined.now.what (connected_at core.units c.args.number) c.args.connection conn c.args.keep c.args.after answer (sym c.if-not-is_due.ensures) is
-
 pub returns-then-not-holds-clause-stands : goal.returns-then-not-holds-clause-stands
 returns-then-not-holds-clause-stands g c = λ tells conn answer is fits. absurd (fits refl)
+
+pub returns-then-not-is_due-clause-doing : goal.returns-then-not-is_due-clause-doing
+returns-then-not-is_due-clause-doing g c = λ tells conn answer is.
+    other_closed g.D.File.FileStore.told g.D.File.FileStore.bytes (core_of (files_of (g.D.Disk.held c.args.disk.now)) c.args.core.now) c.args.connection conn c.args.keep _ answer
+    (connected_at c.args.core.now.units c.args.number) (sym c.if-not-is_due.ensures) is
 
 pub returns-in-Ok-clause-files : goal.returns-in-Ok-clause-files
 returns-in-Ok-clause-files g c = λ have.
@@ -111,14 +111,15 @@ returns-in-Ok-clause-fits g c = λ have.
 pub returns-then-not-holds-clause-fits : goal.returns-then-not-holds-clause-fits
 returns-then-not-holds-clause-fits g c = λ have e.
     let core = c.args.core.now in
-    let z : false ≡ true = c.if-not-holds.ensures ∙ unit_out core.units c.args.number core.names c.args.connection.name have.0 (sym c.if-not-is_due.ensures) in
+    let there = comes_due core.units c.args.number core.names c.args.connection.name have.0 (sym c.if-not-is_due.ensures) in
+    let z : false ≡ true = c.if-not-holds.ensures ∙ ap (stands core.names) c.name.ensures ∙ there in
     absurd (let bad : ⊥ = cc in bad)
 
 pub returns-in-Ok-clause-units : goal.returns-in-Ok-clause-units
 returns-in-Ok-clause-units g c =
     let core = c.args.core.now in
     let less = closed_less core.units c.remove-2.new.self c.args.number c.args.connection.name (sym c.if-not-is_due.ensures) c.remove-2.ensures.left in
-    fewer_units c.go_on.result core.units c.go_on.new.core.units (subst (λ us. length us + 1 ≤ length core.units) (sym c.go_on.ensures.units) less)
+    on_ok c.go_on.result _ (let same : length c.go_on.new.core.units ≡ length c.remove-2.new.self = ap length c.go_on.ensures.units in omega (arith, less, same))
 
 pub returns-in-Ok-clause-jobs : goal.returns-in-Ok-clause-jobs
 returns-in-Ok-clause-jobs g c =
