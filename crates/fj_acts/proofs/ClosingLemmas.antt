@@ -17,7 +17,7 @@ use Rattle.fj_desk.specs.Core.{Core, Connected, connected_at, without_connected}
 use Rattle.fj_desk.specs.Doing.{Doing, finishes, awaits}
 use Rattle.fj_desk.specs.Acting.{came_out, detaches, disconnected, once_out, all_closed, closes, closes_anyway, unit_at, keeps, connects}
 use Rattle.fj_units.specs.Units.{AreApart, AreOthers}
-use Rattle.fj_acts.specs.Doing.{IsDoing, AsksToOpen, closes_then, connects_in, connects_by}
+use Rattle.fj_acts.specs.Doing.{IsDoing, AsksToOpen, closed, connects_in, connects_by}
 use Rattle.fj_acts.specs.declared.doing.After.TheVariants as after
 use Rattle.fj_acts.specs.declared.doing.Then.TheVariants as then
 use Rattle.fj_acts.specs.declared.doing.Doing.{Doing as Does}

@@ -42,7 +42,7 @@ use Rattle.fj_plain.specs.Telling.{is_asynchronous}
 use Rattle.fj_plain.specs.Transfers.{moved_in}
 use Rattle.fj_plain.specs.State.{Files}
 use Rattle.fj_plain.proofs.Units.{bytes_differ}
-use Rattle.fj_desk.specs.Acting.{all_closed, disconnected, attaches, connects, connects_at, free_from, changes, closes, closes_first, closes_anyway, opens, opens_with, is_taken, moves, inquires, asks_connection, transferred, unless_refused, on_unit, transfer_at, if_numbered, unit_at, own, instead, doing}
+use Rattle.fj_desk.specs.Acting.{all_closed, attaches, connects, connects_at, free_from, changes, closes, closes_first, closes_anyway, opens, opens_with, is_taken, moves, inquires, asks_connection, transferred, unless_refused, on_unit, transfer_at, if_numbered, unit_at, own, instead, doing}
 use Rattle.fj_desk.specs.Core.{Core as PlainCore, Connected, connected_at, unit_named, without_connected}
 use Rattle.fj_desk.specs.Desks.{Outcome, condition_in, look_in, most_slots}
 use Rattle.fj_desk.specs.Doing.{Doing, finishes}
@@ -51,7 +51,7 @@ use Rattle.fj_items.specs.declared.lost.Lost.TheVariants.{Disk}
 use Rattle.fj_units.specs.Files.{files_of}
 use Rattle.fj_units.specs.Returning.{IsAsDue, returned}
 use Rattle.fj_units.proofs.Returning.{given_back, given_files}
-use Rattle.fj_acts.specs.Doing.{carries, closes_then, connects_by, connects_in, goes_on, looks, looks_at, next_of, pends}
+use Rattle.fj_acts.specs.Doing.{carries, closed, connects_by, connects_in, goes_on, looks, looks_at, next_of, pends}
 use Rattle.fj_acts.specs.Failing.{FailsWhere, StandsWhere, AreStill, connected_next}
 use Rattle.fj_acts.specs.State.{core_at}
 use Rattle.fj_acts.specs.Steps.{is_due}
@@ -60,8 +60,7 @@ use Rattle.fj_acts.specs.declared.doing.Given.TheVariants as given
 use Rattle.fj_acts.specs.declared.doing.After.{After}
 use Rattle.fj_acts.specs.declared.doing.After.TheVariants as after
 use Rattle.fj_acts.specs.declared.state.Core.{Core}
-use Rattle.fj_acts.proofs.HavingLemmas.{due_unit}
-use Rattle.fj_acts.proofs.StepLemmas.{closes_on, disconnects_is}
+use Rattle.fj_acts.proofs.StepLemmas.{disconnects_is}
 
 -- ---- the units and files of what is due are these, but for the file that is to be connected
 

@@ -105,6 +105,10 @@ closed_less us us' number name due is =
     let u = due_unit (connected_at us number) name due in
     subst (λ l. length l + 1 ≤ length us) (sym is) (without_less us number u.0 u.1)
 
+pub on_ok : {A E : Type 0} → (r : Result A E) (X : Type 0) → X → OnOk r X
+on_ok (Ok a) X x = x
+on_ok (Err e) X x = tt
+
 -- of one unit less
 pub less_jobs : {F E : Type 0} → (r : Result (Doing F) E) (next : After) (left us : ℕ) (us' : List Connected) → left + 1 ≤ us → IfOk r (λ does. jobs_of does (length us') ≤ jobs_after next left)
     → IfOk r (λ does. jobs_of does (length us') ≤ jobs_after next (us - 1))

@@ -27,13 +27,12 @@ use Rattle.fj_desk.specs.Doing.{Doing, finishes}
 use Rattle.fj_desk.specs.Acting.{came_out, disconnected, left}
 use Rattle.fj_units.specs.Files.{files_of}
 use Rattle.fj_units.proofs.Returning.{given_back, given_files}
-use Rattle.fj_acts.specs.Doing.{AsksToOpen, carries, closes_then, entered, goes_on, next_of, pends}
+use Rattle.fj_acts.specs.Doing.{AsksToOpen, carries, closed, entered, goes_on, next_of, pends}
 use Rattle.fj_acts.specs.declared.doing.After.{After}
 use Rattle.fj_acts.specs.declared.doing.Given.{Given}
 use Rattle.fj_acts.specs.declared.doing.Given.TheVariants as given
 use Rattle.fj_acts.specs.Steps.{is_due, looked_in, told_in}
 use Rattle.fj_acts.proofs.ClosingLemmas.{found_number}
-use Rattle.fj_acts.proofs.HavingLemmas.{due_unit}
 
 -- ---- the connection of a unit is closed
 

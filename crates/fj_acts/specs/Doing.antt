@@ -81,11 +81,6 @@ goes_on st core (after.Finishes condition) = finishes core condition
 goes_on st core (after.ClosesAll condition) = all_closed core.units core condition
 goes_on st core (after.Connects number) = connects_in st number core
 
--- the connection of the unit went out, or there is none (1)
-abbrev pub closes_then : Statement → Core → Option Connected → Bool → After → Outcome → PlainDoing
-closes_then st core None keep next o = finishes core (Error 1)
-closes_then st core (Some u) keep next o = once_out core u keep (λ new. goes_on st new next) o
-
 abbrev pub looks_at : List Variable → Core → Option ℕ → Option (List ℕ) → List Wanted → Option ℤ → Option Connected → Option Looked → PlainDoing
 looks_at variables core number file asked id None look = finishes core Fine
 looks_at variables core number file asked id (Some u) look = answers variables core (about_unit core number file id u look) asked

@@ -1,4 +1,4 @@
--- When one more job fits.
+-- When the turn of a statement fits.
 use Rattle.std.specs.Prelude.{ℕ, ◌+◌, ◌<◌, ◌^◌, List, get_or}
 
 -- one more job of each slot can be counted

@@ -11,13 +11,13 @@ use Rattle.fj_desk.specs.Desks.{brought_by}
 use Rattle.fj_pending.specs.Plain.{brought_of}
 use Rattle.fj_pending.specs.declared.held.Told.{Told}
 use Rattle.fj_units.specs.Files.{files_of}
-use Rattle.fj_acts.specs.Doing.{IsDoing, closes_then, looks, then_of}
+use Rattle.fj_acts.specs.Doing.{IsDoing, closed, goes_on, looks, then_of}
 use Rattle.fj_acts.specs.Having.{HaveThen}
 use Rattle.fj_acts.specs.Jobs.{jobs_behind, jobs_of}
 use Rattle.fj_acts.specs.State.{core_of}
 use Rattle.fj_acts.specs.declared.doing.Then.{Then}
 use Rattle.fj_acts.proofs.FailingLemmas.{fails_as, looks_there, stands_as, stands_here}
-use Rattle.fj_acts.proofs.JobLemmas.{modes_as_many, none_when_ended}
+use Rattle.fj_acts.proofs.JobLemmas.{fewer_units, modes_as_many, none_when_ended}
 use Rattle.fj_acts.proofs.OpeningLemmas.{meant}
 use Rattle.fj_acts.proofs.StateLemmas.{keeps_answers}
 use Rattle.fj_acts.proofs.StepLemmas.{brought_is, detached_is, looked_is, none_closed, none_out}
@@ -174,7 +174,7 @@ returns-in-Carries-clause-jobs g c =
     subst (λ (t : Then). jobs_of c.carried.result (length c.carried.new.core.units) ≤ jobs_behind t most) (sym c.in-Carries.is) (c.carried.ensures.jobs (length c.carried.new.core.units))
 
 pub returns-in-Detach-Some-clause-units : goal.returns-in-Detach-Some-clause-units
-returns-in-Detach-Some-clause-units g c = λ have. c.closed.ensures.units
+returns-in-Detach-Some-clause-units g c = λ have. fewer_units c.closed.result c.args.core.now.units c.closed.new.core.units c.closed.ensures.units
 
 pub returns-in-Detach-Some-clause-jobs : goal.returns-in-Detach-Some-clause-jobs
 returns-in-Detach-Some-clause-jobs g c =
