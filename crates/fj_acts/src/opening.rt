@@ -22,7 +22,7 @@ ghost use Rattle.fj_acts.specs.Jobs.{GivesOne};
 ghost use Rattle.fj_acts.specs.State.{core_of};
 ghost use Rattle.fj_acts.specs.Failing.{FailsWhere, AreStill};
 ghost use Rattle.fj_units.specs.Files.{files_of};
-ghost use Rattle.fj_units.specs.Units.{connected_of};
+ghost use Rattle.fj_units.specs.Units.{connected_of, has_slot};
 ghost use Rattle.fj_acts.specs.Doing.{IsDoing, AsksToOpen};
 ghost use Rattle.fj_acts.specs.declared.state.Core.{Core};
 ghost use Rattle.fj_statement.specs.declared.statement.Statement.{Statement};
@@ -73,6 +73,7 @@ fn attach<D: Disk>(
     disk: &mut D,
 ) -> Result<Doing<D::File>, Lost>
     requires slot { slot < most_slots }
+    requires free { has_slot core.old.units slot ≡ false }
     requires names { D.tells disk.old → AreInUse core.old.names (D.held disk.old).in_use }
     requires modes { settled spec.now ≡ Ok modes }
     ensures doing { D.tells disk.old → (variables : List Variable) (st : Stated) → IfOk result (λ next. IsDoing D.File.told D.File.bytes variables st

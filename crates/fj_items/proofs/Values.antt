@@ -41,16 +41,6 @@ same_both false v = refl
 pub stays_undefined : (kind : Kind) → of_kind kind Undefined ≡ Undefined
 stays_undefined kind = same_both (is_of_kind kind Undefined) Undefined
 
-pub stays : (kind : Kind) (v : Value) → is_of_kind kind v ≡ true → of_kind kind v ≡ v
-stays kind v e = ap (λ b. cond b v Undefined) e
-
--- a value of a kind is one
-pub stays_of_kind : (kind : Kind) (v : Value) → of_kind kind (of_kind kind v) ≡ of_kind kind v
-stays_of_kind kind v =
-    let go : (b : Bool) → is_of_kind kind v ≡ b → of_kind kind (cond b v Undefined) ≡ cond b v Undefined =
-    λ b. elim b as (λ z. is_of_kind kind v ≡ z → of_kind kind (cond z v Undefined) ≡ cond z v Undefined) [ true ↦ λ e. stays kind v e | false ↦ λ e. stays_undefined kind ] in
-    go (is_of_kind kind v) refl
-
 -- ---- a place gets a value
 
 abbrev pub shown : Option Value → Value
@@ -97,9 +87,6 @@ cells_in moved = option_map_or (λ (m : Moved). m.cells) moved []
 pub load_back : (variables : List Variable) (s new : Storage) (o : Option Moved) (moved : Moved) → o ≡ Some moved → s.kinds ≡ kinds_of variables → new ≡ given_back moved.cells s
     → values_of new ≡ items.given_back variables (cells_in o) (values_of s)
 load_back variables s new o moved e kinds back = back_is variables s new moved.cells kinds back ∙ sym (ap (λ x. items.given_back variables (cells_in x) (values_of s)) e)
-
-pub none_back : (variables : List Variable) (vars : plain.Variables) (o : Option Moved) → o ≡ None → vars ≡ items.given_back variables (cells_in o) vars
-none_back variables vars o e = sym (ap (λ x. items.given_back variables (cells_in x) vars) e)
 
 pub back_kinds : (s new : Storage) (cells : List Cell) → new ≡ given_back cells s → new.kinds ≡ s.kinds
 back_kinds s new cells back = ap (λ z. z.kinds) back

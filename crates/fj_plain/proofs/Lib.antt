@@ -12,3 +12,4 @@ pub mod Closing
 pub mod AtOnce
 pub mod Skipping
 pub mod Numerals
+pub mod Declared

@@ -11,6 +11,7 @@ pub mod PendingLaws
 pub mod TellingLaws
 pub mod HaltLaws
 pub mod UnitLaws
+pub mod VariableLaws
 pub mod CutLaws
 pub mod DeckWords
 pub mod Cases

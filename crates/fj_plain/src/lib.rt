@@ -13,6 +13,7 @@ mod statement_cases;
 mod telling_laws;
 mod transfer_cases;
 mod unit_laws;
+mod variable_laws;
 mod wait_cases;
 
 pub use cases::{
@@ -55,6 +56,7 @@ pub use unit_laws::{
     assignment_changes_variables, closing_leaves_each, files_are_apart, later_is_as_at_once,
     pending_are_connected, telling_changes_no_file, units_ascend,
 };
+pub use variable_laws::variables_are_as_declared;
 pub use wait_cases::{
     close_that_errs, closes_all_the_same, deleted_is_gone, end_of_record_halts_nothing,
     end_tells_and_stops, end_tells_in_order, first_file_is_closed, lowest_rule_stops,

@@ -107,7 +107,7 @@ fn insert(
     name: FileName,
     connection: &Connection<MemoryFile>,
 ) -> Option<()> {
-    if slot >= 16 {
+    if slot >= 16 || units.has_slot(slot) {
         return None;
     }
     let modes = *connection.modes();

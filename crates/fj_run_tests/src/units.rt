@@ -20,7 +20,7 @@ static ROWS: [Row; 6] = [
     (Insert(30, 0, "c"), &[30], 1),
     (Insert(10, 2, "a"), &[10, 30], 1),
     (Insert(20, 1, "b"), &[10, 20, 30], 3),
-    (Insert(20, 1, "d"), &[10, 20, 30], 3),
+    (Insert(20, 3, "d"), &[10, 20, 30], 1),
     (Remove(30), &[10, 20], 0),
     (Remove(40), &[10, 20], 0),
 ];
@@ -48,7 +48,7 @@ fn modes_of(recl: u32) -> Modes {
 fn take_step(alloc: Global, units: &mut Units, step: Step) -> Result<(), AllocError> {
     match step {
         Insert(number, slot, name) => {
-            if slot >= 16 {
+            if slot >= 16 || units.has_slot(slot) {
                 return Err(AllocError);
             }
             units.insert(Connected {

@@ -20,15 +20,11 @@ use Rattle.fj_units.specs.Having.{HaveFiles}
 use Rattle.fj_plain.specs.Transfers.{star_limit}
 use Rattle.fj_acts.specs.Fitting.{IsKept}
 use Rattle.fj_acts.specs.Having.{HaveThen}
-use Rattle.fj_acts.specs.Doing.{Ends}
-use Rattle.fj_acts.specs.Jobs.{units_more}
-use Rattle.fj_acts.specs.declared.doing.Doing.{Doing}
-use Rattle.fj_acts.specs.declared.doing.Doing.TheVariants as doing
 use Rattle.fj_acts.specs.declared.doing.Then.{Then}
 use Rattle.fj_runner.specs.Admitting.{MayAsk}
 use Rattle.fj_runner.specs.Answering.{with_own}
 use Rattle.fj_runner.specs.Fitting.{HasRoom}
-use Rattle.fj_runner.specs.Going.{Awaits, CanCount, Connects, Counts, DoesNotPause, HaveAt, HaveTurned, Hears, IsAt, AwaitsAtHand, IsGoing, IsMore, KeepsToSlots, OwesAsGiven, SentFor, asked_for, given_ahead, most_more}
+use Rattle.fj_runner.specs.Going.{Awaits, CanCount, Counts, DoesNotPause, HaveAt, HaveTurned, Hears, IsAt, AwaitsAtHand, IsGoing, IsMore, KeepsToSlots, OwesAsGiven, SentFor, asked_for, given_ahead}
 use Rattle.fj_runner.specs.Machine.{rest_of}
 use Rattle.fj_runner.specs.Spending.{HasAsks, Lives, Spent, asks_for, jobs_at, jobs_from, jobs_left}
 use Rattle.fj_runner.specs.Tallying.{MaySettle, due_of, owed_at}
@@ -96,15 +92,14 @@ kept_in {F = F} {ghosts = ghosts} m m' same kept = subst (λ (x : State F ghosts
 -- ---- a turn was taken
 
 module _ {F : Type 0} {ghosts : Ghosts F} (m : Machine F ghosts) (s : State F ghosts) (st : Stated) (more : List Stated) (few : s.ending ≡ None → s.core.next ≤ m.at + 1)
-    (units : s.ending ≡ None → length s.core.units ≤ m.at) (kept : IsKept m.state.core) where
+    (kept : IsKept m.state.core) where
   at_hand : (st' : Stated) (more' : List Stated) → rest_of m ≡ st ∷ more → rest_of m ≡ st' ∷ more' → st ≡ st'
   at_hand st' more' here e = let both : st ∷ more ≡ st' ∷ more' = sym here ∙ e in cc
 
-  pub on_paused : (a : Ask (Job F)) → rest_of m ≡ st ∷ more → HaveTurned (turned.Pauses a) m.state st.0.what → Counts (turned.Pauses a) s m.state → Connects (turned.Pauses a) s m.state → IsAt m
-  on_paused a here have counts connects = record {
+  pub on_paused : (a : Ask (Job F)) → rest_of m ≡ st ∷ more → HaveTurned (turned.Pauses a) m.state st.0.what → Counts (turned.Pauses a) s m.state → IsAt m
+  on_paused a here have counts = record {
     files = λ st' more' e. subst (λ (x : Stated). HaveAt m.state.stage m.state.core.names m.state.core.units x.0.what) (at_hand st' more' here e) have;
     few = λ none. let f = few (sym counts.2 ∙ none) in omega (arith, f, counts.0);
-    units = λ none. let u = units (sym counts.2 ∙ none) in omega (arith, u, connects);
     kept = kept;
   }
 
@@ -112,22 +107,17 @@ module _ {F : Type 0} {ghosts : Ghosts F} (m : Machine F ghosts) (s : State F gh
   on_stopped have ended = record {
     files = λ st' more' e. have_start m.state.stage m.state.core.names m.state.core.units st'.0.what have.0 have.1;
     few = λ none. none_ended m.state.ending ended none;
-    units = λ none. none_ended m.state.ending ended none;
     kept = kept;
   }
 
   pub on_passed : (m' : Machine F ghosts) → m'.state ≡ m.state → m'.deck ≡ m.deck → m'.at ≡ m.at + 1 → (m.state.stage ≡ stage.Start) × HaveFiles m.state.core.names m.state.core.units
-      → m.state.core.next ≤ s.core.next + 1 → m.state.ending ≡ s.ending → length m.state.core.units ≤ length s.core.units + 1 → IsAt m'
-  on_passed m' same deck at have next ending more = record {
+      → m.state.core.next ≤ s.core.next + 1 → m.state.ending ≡ s.ending → IsAt m'
+  on_passed m' same deck at have next ending = record {
     files = λ st' more' e. subst (λ (x : State F ghosts). HaveAt x.stage x.core.names x.core.units st'.0.what) (sym same) (have_start m.state.stage m.state.core.names m.state.core.units st'.0.what have.0 have.1);
     few = λ none.
         let f = few (sym ending ∙ ap (λ (x : State F ghosts). x.ending) (sym same) ∙ none) in
         let n : m'.state.core.next ≡ m.state.core.next = ap (λ (x : State F ghosts). x.core.next) same in
         omega (arith, f, next, n, at);
-    units = λ none.
-        let u = units (sym ending ∙ ap (λ (x : State F ghosts). x.ending) (sym same) ∙ none) in
-        let n : length m'.state.core.units ≡ length m.state.core.units = ap (λ (x : State F ghosts). length x.core.units) same in
-        omega (arith, u, more, n, at);
     kept = kept_in m m' same kept;
   }
 
@@ -150,35 +140,6 @@ count_entered (Ok turned.Passes) s mid s' few sent ending next counts still = (o
 count_entered (Ok turned.Stops) s mid s' few sent ending next counts still = (counts.0 ∙ sent, counts.1)
 count_entered (Err lost) s mid s' few sent ending next counts still = tt
 
--- ---- units that a turn connects
-
--- none
-pub connects_by : {F : Type 0} → (t : Turned F) (us us' : List Connected) → us' ≡ us → length us' ≤ length us + most_more t
-connects_by t us us' same = let e : length us' ≡ length us = ap length same in omega (arith, e)
-
-pub connects_none : {F : Type 0} → (r : Result (Turned F) Lost) (us us' : List Connected) → us' ≡ us → IfOk r (λ t. length us' ≤ length us + most_more t)
-connects_none (Ok t) us us' same = connects_by t us us' same
-connects_none (Err lost) us us' same = tt
-
--- as many as there were, or one more where it ends
-paused_units : {F : Type 0} → (does : Doing F) (a b : ℕ) → (Ends does → ⊥) → a ≤ b + units_more does → a ≤ b + 0
-paused_units (doing.Finishes condition) a b goes low = absurd (goes tt)
-paused_units (doing.Gives slot job next) a b goes low = omega (arith, low)
-paused_units (doing.Awaits slot job next) a b goes low = omega (arith, low)
-
-passed_units : {F : Type 0} → (does : Doing F) (a b : ℕ) → a ≤ b + units_more does → a ≤ b + 1
-passed_units (doing.Finishes condition) a b low = low
-passed_units (doing.Gives slot job next) a b low = omega (arith, low)
-passed_units (doing.Awaits slot job next) a b low = omega (arith, low)
-
--- behind an answer
-pub connects_answered : {F : Type 0} → (r : Result (Turned F) Lost) (does : Doing F) (us mid us' : List Connected) → length mid ≤ length us + units_more does → us' ≡ mid → (Ends does → IfOk r DoesNotPause)
-    → IfOk r (λ t. length us' ≤ length us + most_more t)
-connects_answered (Ok (turned.Pauses a)) does us mid us' low same ends = paused_units does (length us') (length us) ends (subst (λ l. length l ≤ length us + units_more does) (sym same) low)
-connects_answered (Ok turned.Passes) does us mid us' low same ends = passed_units does (length us') (length us) (subst (λ l. length l ≤ length us + units_more does) (sym same) low)
-connects_answered (Ok turned.Stops) does us mid us' low same ends = passed_units does (length us') (length us) (subst (λ l. length l ≤ length us + units_more does) (sym same) low)
-connects_answered (Err lost) does us mid us' low same ends = tt
-
 -- the same statement
 pub on_same : {F : Type 0} {ghosts : Ghosts F} → (m m' : Machine F ghosts) → m'.deck ≡ m.deck → m'.at ≡ m.at → m'.state ≡ m.state → IsAt m → IsAt m'
 on_same {F = F} {ghosts = ghosts} m m' deck at same on =
@@ -189,10 +150,6 @@ on_same {F = F} {ghosts = ghosts} m m' deck at same on =
           let f = on.few (ap (λ (x : State F ghosts). x.ending) (sym same) ∙ none) in
           let n : m'.state.core.next ≡ m.state.core.next = ap (λ (x : State F ghosts). x.core.next) same in
           omega (arith, f, n, at);
-      units = λ none.
-          let u = on.units (ap (λ (x : State F ghosts). x.ending) (sym same) ∙ none) in
-          let n : length m'.state.core.units ≡ length m.state.core.units = ap (λ (x : State F ghosts). length x.core.units) same in
-          omega (arith, u, n, at);
       kept = kept_in m m' same on.kept;
     }
 
@@ -338,17 +295,17 @@ module _ {F : Type 0} {ghosts : Ghosts F} (m m' : Machine F ghosts) where
 
   jobs_same : m'.deck ≡ m.deck → m'.at ≡ m.at → m'.state.stage ≡ m.state.stage → m'.state.core.units ≡ m.state.core.units → jobs_left m' ≡ jobs_left m
   jobs_same deck at stage units =
-      ap (λ d. jobs_at (length d.statements) m'.state.stage (length m'.state.core.units) + jobs_from (length d.statements) (m'.at + 1)) deck
-      ∙ ap (λ n. jobs_at (length m.deck.statements) m'.state.stage (length m'.state.core.units) + jobs_from (length m.deck.statements) (n + 1)) at
-      ∙ ap (λ s. jobs_at (length m.deck.statements) s (length m'.state.core.units) + jobs_from (length m.deck.statements) (m.at + 1)) stage
-      ∙ ap (λ us. jobs_at (length m.deck.statements) m.state.stage (length us) + jobs_from (length m.deck.statements) (m.at + 1)) units
+      ap (λ d. jobs_at m'.state.stage (length m'.state.core.units) + jobs_from (length d.statements) (m'.at + 1)) deck
+      ∙ ap (λ n. jobs_at m'.state.stage (length m'.state.core.units) + jobs_from (length m.deck.statements) (n + 1)) at
+      ∙ ap (λ s. jobs_at s (length m'.state.core.units) + jobs_from (length m.deck.statements) (m.at + 1)) stage
+      ∙ ap (λ us. jobs_at m.state.stage (length us) + jobs_from (length m.deck.statements) (m.at + 1)) units
 
   jobs_heard : m'.deck ≡ m.deck → m'.at ≡ m.at → Hears m.state m'.state → jobs_left m' ≡ jobs_left m
   jobs_heard deck at h =
-      ap (λ d. jobs_at (length d.statements) m'.state.stage (length m'.state.core.units) + jobs_from (length d.statements) (m'.at + 1)) deck
-      ∙ ap (λ n. jobs_at (length m.deck.statements) m'.state.stage (length m'.state.core.units) + jobs_from (length m.deck.statements) (n + 1)) at
-      ∙ ap (λ n. n + jobs_from (length m.deck.statements) (m.at + 1)) (h.jobs (length m.deck.statements) (length m'.state.core.units))
-      ∙ ap (λ us. jobs_at (length m.deck.statements) m.state.stage (length us) + jobs_from (length m.deck.statements) (m.at + 1)) h.units
+      ap (λ d. jobs_at m'.state.stage (length m'.state.core.units) + jobs_from (length d.statements) (m'.at + 1)) deck
+      ∙ ap (λ n. jobs_at m'.state.stage (length m'.state.core.units) + jobs_from (length m.deck.statements) (n + 1)) at
+      ∙ ap (λ n. n + jobs_from (length m.deck.statements) (m.at + 1)) (h.jobs (length m'.state.core.units))
+      ∙ ap (λ us. jobs_at m.state.stage (length us) + jobs_from (length m.deck.statements) (m.at + 1)) h.units
 
   has_asks : (mid : Machine F ghosts) (a : Ask (Job F)) → m.tally.hand ≡ Idle → m'.deck ≡ mid.deck → m'.at ≡ mid.at → m'.state ≡ mid.state → m'.tally.left ≡ m.tally.left → m'.tally.owed ≡ m.tally.owed
       → IsDueAsk (due_of m'.tally.hand) a → HasAsks m → Spent a (jobs_left m) mid → Lives a m → HasAsks m'
@@ -363,9 +320,9 @@ module _ {F : Type 0} {ghosts : Ghosts F} (m m' : Machine F ghosts) where
     where
       jobs_between : (mid : Machine F ghosts) → m'.deck ≡ mid.deck → m'.at ≡ mid.at → m'.state ≡ mid.state → jobs_left m' ≡ jobs_left mid
       jobs_between mid deck at state =
-          ap (λ d. jobs_at (length d.statements) m'.state.stage (length m'.state.core.units) + jobs_from (length d.statements) (m'.at + 1)) deck
-          ∙ ap (λ n. jobs_at (length mid.deck.statements) m'.state.stage (length m'.state.core.units) + jobs_from (length mid.deck.statements) (n + 1)) at
-          ∙ ap (λ (x : State F ghosts). jobs_at (length mid.deck.statements) x.stage (length x.core.units) + jobs_from (length mid.deck.statements) (mid.at + 1)) state
+          ap (λ d. jobs_at m'.state.stage (length m'.state.core.units) + jobs_from (length d.statements) (m'.at + 1)) deck
+          ∙ ap (λ n. jobs_at m'.state.stage (length m'.state.core.units) + jobs_from (length mid.deck.statements) (n + 1)) at
+          ∙ ap (λ (x : State F ghosts). jobs_at x.stage (length x.core.units) + jobs_from (length mid.deck.statements) (mid.at + 1)) state
 
       by : (b : Ask (Job F)) (hand : Hand) → IsDueAsk (due_of hand) b → Spent b (jobs_left m) mid → Lives b m → mid.state.ending ≡ None → mid.at < length mid.deck.statements
           → sum m.tally.owed.items + 2 * jobs_left mid + asks_for hand ≤ m.tally.left
@@ -433,10 +390,6 @@ module _ {F : Type 0} {ghosts : Ghosts F} (m m' : Machine F ghosts) (g : IsGoing
         at = record {
           files = λ st more e. h.files st.0.what (g.at.files st more (sym rest ∙ e));
           few = λ none. let f = g.at.few (sym h.ending ∙ none) in omega (arith, f, h.next, at);
-          units = λ none.
-              let u = g.at.units (sym h.ending ∙ none) in
-              let n : length m'.state.core.units ≡ length m.state.core.units = ap length h.units in
-              omega (arith, u, n, at);
           kept = subst (λ o. o.begun ≤ star_limit) (sym h.output) g.at.kept;
         };
         sent = subst (CanCount m'.state.sent.items m'.tally.left) (sym (none_idle m'.tally.hand idle))

@@ -27,7 +27,6 @@ module _ {W D F : Type 0} {ghosts : Ghosts F} (tells_out : W → Type 0) (taken 
     pub on : m.state.stage ≡ stage.Start → IsAt m → (m'.state.stage ≡ stage.Start) × IsAt m'
     pub sent : m'.state.sent ≡ m.state.sent
     pub heard : m'.state.told ≡ m.state.told
-    pub ending : m'.state.ending ≡ m.state.ending
     pub at : m.at ≤ m'.at
 
   pub goes_none : (out : W) (disk : D) (m : Machine F ghosts) → GoesOn out disk m out disk m
@@ -41,7 +40,6 @@ module _ {W D F : Type 0} {ghosts : Ghosts F} (tells_out : W → Type 0) (taken 
     on = λ h i. (h, i);
     sent = refl;
     heard = refl;
-    ending = refl;
     at = omega arith;
   }
 
@@ -50,9 +48,9 @@ module _ {W D F : Type 0} {ghosts : Ghosts F} (tells_out : W → Type 0) (taken 
       → (tells between → (m'.state.stage ≡ stage.Start) × (goes (rest_of half) (run_at (files_of (held between)) half Start) ≡ goes (rest_of m') (run_at (files_of (held disk')) m' Start)))
       → (tells between → passed_on (rest_of half) (run_at (files_of (held between)) half Start) ≡ Some (run_at (files_of (held disk')) m' Start))
       → m'.deck ≡ half.deck → m'.tally ≡ half.tally → m'.kept ≡ half.kept
-      → (half.state.stage ≡ stage.Start → IsAt half → (m'.state.stage ≡ stage.Start) × IsAt m') → m'.state.sent ≡ half.state.sent → m'.state.told ≡ half.state.told → m'.state.ending ≡ half.state.ending
+      → (half.state.stage ≡ stage.Start → IsAt half → (m'.state.stage ≡ stage.Start) × IsAt m') → m'.state.sent ≡ half.state.sent → m'.state.told ≡ half.state.told
       → half.at ≤ m'.at → GoesOn out disk m out' disk' m'
-  goes_more out mid out' disk between disk' m half m' x a b next passed deck tally kept on sent heard ending at = record {
+  goes_more out mid out' disk between disk' m half m' x a b next passed deck tally kept on sent heard at = record {
     steps = then_steps out mid out' disk between disk' m.state.core half.state.core m'.state.core (tt {0}) (went (tt {0})) a.steps
         (ok_steps mid out' between disk' half.state.core m'.state.core (went x) x (tt {0}) refl b);
     goes = λ t h. let k = next (a.steps.telling.0 t) in (k.0, (a.goes t h).1 ∙ k.1);
@@ -68,7 +66,6 @@ module _ {W D F : Type 0} {ghosts : Ghosts F} (tells_out : W → Type 0) (taken 
     on = λ h i. let k = a.on h i in on k.0 k.1;
     sent = sent ∙ a.sent;
     heard = heard ∙ a.heard;
-    ending = ending ∙ a.ending;
     at = omega (arith, at, a.at);
   }
 

@@ -1,10 +1,9 @@
 -- How many jobs statements give, and how many asks are left for them.
-use Rattle.std.proofs.Common.{◌≡◌, ℕ, suc, ◌+◌, ◌-◌, ◌*◌, ◌<◌, ◌≤◌, Bool, true, false, cond, List, length, get_or, slice_set, replicate, Option, Some, None, IsSome, Result, Ok, Err, IfOk, refl, sym, ap, ◌∙◌, subst, not, arith}
+use Rattle.std.proofs.Common.{◌≡◌, ℕ, ◌+◌, ◌-◌, ◌*◌, ◌^◌, ◌<◌, ◌≤◌, min, max, Bool, true, false, cond, List, length, get_or, slice_set, replicate, Option, Some, None, IsSome, Result, Ok, Err, IfOk, refl, sym, ap, ◌∙◌, subst, not, arith}
 use Rattle.std.proofs.lemmas.List.{length-map}
 use Rattle.std.proofs.lemmas.List.Filters.{length-filter_both}
 use Rattle.std.specs.Prelude.{◌==◌, ◌&&◌, filter, is_some}
 use Rattle.std.specs.List.{sum}
-use Rattle.std.proofs.Math.Nat.{mul-le-mul_left, mul-le-mul_right, suc-mul}
 use Rattle.std.proofs.Props.{props}
 use Rattle.std.proofs.lemmas.List.Folds.{sum_by-replicate}
 use Rattle.std.proofs.lemmas.List.Sums.{sum_by-set}
@@ -15,6 +14,7 @@ use Rattle.fj_items.specs.declared.lost.Lost.{Lost}
 use Rattle.fj_plain.specs.State.{Entry}
 use Rattle.fj_plain.specs.Telling.{tells_cause}
 use Rattle.fj_desk.specs.Core.{Connected}
+use Rattle.fj_turns.specs.Few.{most_jobs}
 use Rattle.fj_turns.specs.Turns.{halted_slots}
 use Rattle.fj_world.specs.declared.ask.Ask.{Ask}
 use Rattle.fj_world.specs.declared.ask.Ask.TheVariants as ask
@@ -27,8 +27,7 @@ use Rattle.fj_acts.specs.declared.doing.Doing.{Doing}
 use Rattle.fj_acts.specs.declared.doing.Doing.TheVariants as doing
 use Rattle.fj_runner.specs.Admitting.{MayAsk}
 use Rattle.fj_runner.specs.Answering.{with_own}
-use Rattle.fj_runner.specs.Spending.{Gives, Lives, Spends, Spent, jobs_at, jobs_from, jobs_left, most_jobs}
-use Rattle.fj_runner.specs.Making.{most_asks}
+use Rattle.fj_runner.specs.Spending.{Gives, Lives, Spends, Spent, jobs_at, jobs_from, jobs_left}
 use Rattle.fj_runner.specs.declared.machine.Machine.{Machine}
 use Rattle.fj_runner.specs.declared.stage.Stage.{Stage}
 use Rattle.fj_runner.specs.declared.stage.Stage.TheVariants as stage
@@ -38,12 +37,12 @@ use Rattle.fj_runner.specs.declared.turned.Turned.TheVariants as turned
 
 -- ---- what a statement does next
 
-after_few : (next : After) (units : ℕ) → jobs_after next (units - 1) ≤ units + 1
+after_few : (next : After) (units : ℕ) → jobs_after next (units - 1) + 1 ≤ max units 2
 after_few (after.Finishes condition) units = omega arith
 after_few (after.ClosesAll condition) units = omega arith
 after_few (after.Connects number) units = omega arith
 
-then_few : (next : Then) (units : ℕ) → jobs_behind next units ≤ units + 1
+then_few : (next : Then) (units : ℕ) → jobs_behind next units + 1 ≤ max units 2
 then_few then.Finishes units = omega arith
 then_few (then.Carries slot) units = omega arith
 then_few (then.Closes number keep next) units = after_few next units
@@ -51,10 +50,10 @@ then_few (then.Changes number modes) units = omega arith
 then_few (then.Attaches u) units = omega arith
 then_few then.Looks units = omega arith
 
-pub doing_few : {F : Type 0} → (does : Doing F) (units most : ℕ) → units ≤ most → jobs_of does units ≤ most + 2
-doing_few (doing.Finishes condition) units most low = omega arith
-doing_few (doing.Gives slot job next) units most low = omega arith
-doing_few (doing.Awaits slot job next) units most low = let few = then_few next units in omega (arith, low, few)
+pub doing_few : {F : Type 0} → (does : Doing F) (units : ℕ) → jobs_of does units ≤ max units 2
+doing_few (doing.Finishes condition) units = omega arith
+doing_few (doing.Gives slot job next) units = omega arith
+doing_few (doing.Awaits slot job next) units = then_few next units
 
 -- ---- of so many jobs
 
@@ -68,14 +67,14 @@ gives_more (ask.Submit slot job) left jobs more g = omega (arith, g)
 gives_more (ask.Settle slot) left jobs more g = omega (arith, g)
 gives_more ask.Finished left jobs more g = absurd g
 
-spends_le : {F : Type 0} {ghosts : Ghosts F} → (most jobs jobs' : ℕ) (t : Turned F) (s : State F ghosts) → jobs ≤ jobs' → Spends most jobs t s → Spends most jobs' t s
-spends_le most jobs jobs' (turned.Pauses a) s low g = gives_le a (jobs_at most s.stage (length s.core.units)) jobs jobs' low g
-spends_le most jobs jobs' turned.Passes s low g = tt
-spends_le most jobs jobs' turned.Stops s low g = tt
+spends_le : {F : Type 0} {ghosts : Ghosts F} → (jobs jobs' : ℕ) (t : Turned F) (s : State F ghosts) → jobs ≤ jobs' → Spends jobs t s → Spends jobs' t s
+spends_le jobs jobs' (turned.Pauses a) s low g = gives_le a (jobs_at s.stage (length s.core.units)) jobs jobs' low g
+spends_le jobs jobs' turned.Passes s low g = tt
+spends_le jobs jobs' turned.Stops s low g = tt
 
-pub ok_spends : {F : Type 0} {ghosts : Ghosts F} → (r : Result (Turned F) Lost) (most jobs jobs' : ℕ) (s : State F ghosts) → jobs ≤ jobs' → IfOk r (λ t. Spends most jobs t s) → IfOk r (λ t. Spends most jobs' t s)
-ok_spends (Ok t) most jobs jobs' s low g = spends_le most jobs jobs' t s low g
-ok_spends (Err e) most jobs jobs' s low g = tt
+pub ok_spends : {F : Type 0} {ghosts : Ghosts F} → (r : Result (Turned F) Lost) (jobs jobs' : ℕ) (s : State F ghosts) → jobs ≤ jobs' → IfOk r (λ t. Spends jobs t s) → IfOk r (λ t. Spends jobs' t s)
+ok_spends (Ok t) jobs jobs' s low g = spends_le jobs jobs' t s low g
+ok_spends (Err e) jobs jobs' s low g = tt
 
 -- ---- halts that end
 
@@ -87,38 +86,30 @@ halted_few es us =
 
 -- ---- the statement's own job comes back
 
-own_by : {F : Type 0} → (b : Bool) (own last : ℕ) (next : Then) (job : Job F) (answer : Answer) (most units : ℕ) → jobs_at most (cond b (stage.Answered next job answer) (stage.Awaiting own last next)) units ≡ jobs_behind next units
-own_by true own last next job answer most units = refl
-own_by false own last next job answer most units = refl
+own_by : {F : Type 0} → (b : Bool) (own last : ℕ) (next : Then) (job : Job F) (answer : Answer) (units : ℕ) → jobs_at (cond b (stage.Answered next job answer) (stage.Awaiting own last next)) units ≡ jobs_behind next units
+own_by true own last next job answer units = refl
+own_by false own last next job answer units = refl
 
-pub own_jobs : {F : Type 0} → (slot number : ℕ) (job : Job F) (answer : Answer) (s : Stage F) (most units : ℕ) → jobs_at most (with_own slot number job answer s) units ≡ jobs_at most s units
-own_jobs slot number job answer stage.Start most units = refl
-own_jobs slot number job answer (stage.Waiting whose from) most units = refl
-own_jobs slot number job answer (stage.Resuming slots next condition) most units = refl
-own_jobs slot number job answer (stage.Going next n) most units = refl
-own_jobs slot number job answer (stage.Awaiting own last next) most units = own_by ((own == slot) && (last == number)) own last next job answer most units
-own_jobs slot number job answer (stage.Answered next other reply) most units = refl
+pub own_jobs : {F : Type 0} → (slot number : ℕ) (job : Job F) (answer : Answer) (s : Stage F) (units : ℕ) → jobs_at (with_own slot number job answer s) units ≡ jobs_at s units
+own_jobs slot number job answer stage.Start units = refl
+own_jobs slot number job answer (stage.Waiting whose from) units = refl
+own_jobs slot number job answer (stage.Resuming slots next condition) units = refl
+own_jobs slot number job answer (stage.Going next n) units = refl
+own_jobs slot number job answer (stage.Awaiting own last next) units = own_by ((own == slot) && (last == number)) own last next job answer units
+own_jobs slot number job answer (stage.Answered next other reply) units = refl
 
 -- ---- statements behind one another
 
-pub from_next : (most at : ℕ) → at < most → most_jobs most + jobs_from most (at + 1) ≡ jobs_from most at
-from_next most at low =
-    let one : most - at ≡ suc (most - (at + 1)) = omega arith in
-    let more : (most - at) * most_jobs most ≡ (most - (at + 1)) * most_jobs most + most_jobs most = ap (λ k. k * most_jobs most) one ∙ suc-mul (most - (at + 1)) (most_jobs most) in
-    swapped (most_jobs most) ((most - (at + 1)) * most_jobs most) ((most - at) * most_jobs most) more
-  where
-    swapped : (a b c : ℕ) → c ≡ b + a → a + b ≡ c
-    swapped a b c e = omega (arith, e)
+pub from_next : (statements at : ℕ) → at < statements → most_jobs + jobs_from statements (at + 1) ≡ jobs_from statements at
+from_next statements at low = omega (arith, low)
 
-pub from_later : (most at at' : ℕ) → at ≤ at' → jobs_from most at' ≤ jobs_from most at
-from_later most at at' low =
-    let fewer : most - at' ≤ most - at = omega arith in
-    mul-le-mul_right (most_jobs most) fewer
+pub from_later : (statements at at' : ℕ) → at ≤ at' → jobs_from statements at' ≤ jobs_from statements at
+from_later statements at at' low = omega (arith, low)
 
 module _ {F J : Type 0} {ghosts : Ghosts F} where
-  pub spent_paused : (a : Ask J) (m : Machine F ghosts) (jobs : ℕ) → Gives a (jobs_at (length m.deck.statements) m.state.stage (length m.state.core.units)) jobs → Spent a (jobs + jobs_from (length m.deck.statements) (m.at + 1)) m
-  spent_paused (ask.Submit slot job) m jobs g = gives_more (ask.Submit slot job) (jobs_at (length m.deck.statements) m.state.stage (length m.state.core.units)) jobs (jobs_from (length m.deck.statements) (m.at + 1)) g
-  spent_paused (ask.Settle slot) m jobs g = gives_more {J = J} (ask.Settle slot) (jobs_at (length m.deck.statements) m.state.stage (length m.state.core.units)) jobs (jobs_from (length m.deck.statements) (m.at + 1)) g
+  pub spent_paused : (a : Ask J) (m : Machine F ghosts) (jobs : ℕ) → Gives a (jobs_at m.state.stage (length m.state.core.units)) jobs → Spent a (jobs + jobs_from (length m.deck.statements) (m.at + 1)) m
+  spent_paused (ask.Submit slot job) m jobs g = gives_more (ask.Submit slot job) (jobs_at m.state.stage (length m.state.core.units)) jobs (jobs_from (length m.deck.statements) (m.at + 1)) g
+  spent_paused (ask.Settle slot) m jobs g = gives_more {J = J} (ask.Settle slot) (jobs_at m.state.stage (length m.state.core.units)) jobs (jobs_from (length m.deck.statements) (m.at + 1)) g
   spent_paused ask.Finished m jobs g = absurd g
 
   pub spent_le : (a : Ask J) (m : Machine F ghosts) (jobs jobs' : ℕ) → jobs ≤ jobs' → Spent a jobs m → Spent a jobs' m
@@ -176,25 +167,9 @@ pub settle_left : (owed one jobs hand left : ℕ) → owed + 2 * jobs + hand ≤
 settle_left owed one jobs hand left few some within = omega (arith, few, some, within)
 
 -- a sound deck has so few statements
-most_few : (most : ℕ) → most ≤ 100000 → most * most_jobs most ≤ 100000 * 200002
-most_few most few =
-    let jobs : most_jobs most ≤ 200002 = omega (arith, few) in
-    let one = mul-le-mul_left most jobs in
-    let two : most * 200002 ≤ 100000 * 200002 = mul-le-mul_right 200002 few in
-    trans (most * most_jobs most) (most * 200002) (100000 * 200002) one two
-  where
-    trans : (a b c : ℕ) → a ≤ b → b ≤ c → a ≤ c
-    trans a b c x y = omega (arith, x, y)
-
-pub first_asks : (most owed hand left : ℕ) → most ≤ 100000 → 0 < most → owed ≡ 0 → hand ≡ 0 → left ≡ most_asks → owed + 2 * (most_jobs most + jobs_from most 1) + hand ≤ left
-first_asks most owed hand left few some none idle is =
-    let all : most_jobs most + jobs_from most 1 ≡ jobs_from most 0 = from_next most 0 some in
-    let here : most - 0 ≡ most = omega arith in
-    let from : jobs_from most 0 ≤ 100000 * 200002 = subst (λ k. k * most_jobs most ≤ 100000 * 200002) (sym here) (most_few most few) in
-    bounded owed (most_jobs most + jobs_from most 1) (jobs_from most 0) hand left none idle is all from
-  where
-    bounded : (owed jobs all hand left : ℕ) → owed ≡ 0 → hand ≡ 0 → left ≡ most_asks → jobs ≡ all → all ≤ 100000 * 200002 → owed + 2 * jobs + hand ≤ left
-    bounded owed jobs all hand left none idle is same low = omega (arith, none, idle, is, same, low)
+pub first_asks : (statements owed hand left : ℕ) → statements ≤ 100000 → 0 < statements → owed ≡ 0 → hand ≡ 0 → left ≡ min (64 * statements) (2 ^ 62 - 1)
+    → owed + 2 * (most_jobs + jobs_from statements 1) + hand ≤ left
+first_asks statements owed hand left few some none idle is = omega (arith, few, some, none, idle, is)
 
 pub none_owed : (owed : List ℕ) → owed ≡ replicate 16 0 → sum owed ≡ 0
 none_owed owed is = ap sum is ∙ sum_by-replicate (λ (n : ℕ). n) 16 0

@@ -66,15 +66,6 @@ Counts (turned.Pauses ask) s s' = (s'.core.next ≡ s.core.next) × SentFor ask 
 Counts turned.Passes s s' = (s'.core.next ≤ s.core.next + 1) × (s'.sent ≡ s.sent) × (s'.ending ≡ s.ending)
 Counts turned.Stops s s' = (s'.sent ≡ s.sent) × IsSome s'.ending
 
--- one unit more at most, and none where it pauses
-abbrev pub most_more : {F : Type 0} → Turned F → ℕ
-most_more (turned.Pauses ask) = 0
-most_more _ = 1
-
--- units that a turn connects
-abbrev pub Connects : {F : Type 0} {ghosts : Ghosts F} → Turned F → State F ghosts → State F ghosts → Type 0
-Connects t s s' = length s'.core.units ≤ length s.core.units + most_more t
-
 abbrev pub DoesNotPause : {F : Type 0} → Turned F → Type 0
 DoesNotPause (turned.Pauses ask) = ⊥
 DoesNotPause _ = Unit {0}
@@ -96,7 +87,7 @@ pub record Hears {F : Type 0} {ghosts : Ghosts F} (s s' : State F ghosts) : Type
   pub sent : s'.sent ≡ s.sent
   pub output : s'.core.output ≡ s.core.output
   pub units : s'.core.units ≡ s.core.units
-  pub jobs : (most units : ℕ) → jobs_at most s'.stage units ≡ jobs_at most s.stage units
+  pub jobs : (units : ℕ) → jobs_at s'.stage units ≡ jobs_at s.stage units
   -- one more was told
   pub told : IsMore s.due s.told.items s'.told.items
 
@@ -116,22 +107,17 @@ AwaitsAtHand _ s = Unit {0}
 
 -- ---- a run
 
--- At a statement: the units have the files that are out, each statement behind had one identifier at most and connected one unit at
--- most, and the record of `*` is within its limit.
+-- At a statement: the units have the files that are out, each statement behind had one identifier at most, and the record of
+-- `*` is within its limit.
 pub record IsAt {F : Type 0} {ghosts : Ghosts F} (m : Machine F ghosts) : Type 0 where
   pub files : (st : Stated) (more : List Stated) → rest_of m ≡ st ∷ more → HaveAt m.state.stage m.state.core.names m.state.core.units st.0.what
   pub few : m.state.ending ≡ None → m.state.core.next ≤ m.at + 1
-  pub units : m.state.ending ≡ None → length m.state.core.units ≤ m.at
   pub kept : IsKept m.state.core
 
--- what follows from a turn of the statement at hand that brought the state here, and from where it began
-abbrev pub FromStart : {F : Type 0} {ghosts : Ghosts F} → Machine F ghosts → Turned F → (State F ghosts → Type 0) → Type 0
-FromStart {F} {ghosts} m t P = (s : State F ghosts) (st : Stated) (more : List Stated) → rest_of m ≡ st ∷ more → HaveTurned t m.state st.0.what → Counts t s m.state → Connects t s m.state
-    → (s.ending ≡ None → s.core.next ≤ m.at + 1) → (s.ending ≡ None → length s.core.units ≤ m.at) → IsKept m.state.core → P s
-
--- from the turn alone
+-- what follows from a turn of the statement at hand that brought the state here
 abbrev pub FromTurn : {F : Type 0} {ghosts : Ghosts F} → Machine F ghosts → Turned F → Type 0 → Type 0
-FromTurn m t P = FromStart m t (λ s. P)
+FromTurn {F} {ghosts} m t P = (s : State F ghosts) (st : Stated) (more : List Stated) → rest_of m ≡ st ∷ more → HaveTurned t m.state st.0.what → Counts t s m.state
+    → (s.ending ≡ None → s.core.next ≤ m.at + 1) → IsKept m.state.core → P
 
 -- from where it began, and what it counts
 abbrev pub SinceTurn : {F : Type 0} {ghosts : Ghosts F} → Machine F ghosts → Turned F → (State F ghosts → Type 0) → Type 0

@@ -1,5 +1,5 @@
--- The shapes of variables, and how many asks are left at first.
-use Rattle.std.specs.Prelude.{ℕ, ◌-◌, ◌^◌}
+-- The shapes of variables.
+use Rattle.std.specs.Prelude.{ℕ}
 use Rattle.fj_value.specs.declared.kind.Kind.{Kind}
 use Rattle.fj_statement.specs.declared.deck.Variable.{Variable}
 use Rattle.fj_plain.specs.State.{elements}
@@ -7,7 +7,3 @@ use Rattle.fj_plain.specs.State.{elements}
 -- the kind with the number of elements
 abbrev pub shape_of : Variable → Kind × ℕ
 shape_of v = (v.kind, elements v)
-
--- a number that no sound deck reaches
-abbrev pub most_asks : ℕ
-most_asks = 2 ^ 62 - 1

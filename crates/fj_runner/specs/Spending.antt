@@ -1,9 +1,10 @@
 -- How many asks a deck may still make: one for each job that is owed, and two for each job that its statements may still give.
-use Rattle.std.specs.Prelude.{◌≡◌, ℕ, ◌+◌, ◌-◌, ◌*◌, ◌<◌, ◌≤◌, length, None}
+use Rattle.std.specs.Prelude.{◌≡◌, ℕ, ◌+◌, ◌-◌, ◌*◌, ◌<◌, ◌≤◌, length, max, None}
 use Rattle.std.specs.List.{sum}
 use Rattle.fj_outside.specs.declared.outside.FileStore.{Ghosts}
 use Rattle.fj_world.specs.declared.ask.Ask.{Ask}
 use Rattle.fj_world.specs.declared.ask.Ask.TheVariants as ask
+use Rattle.fj_turns.specs.Few.{most_jobs}
 use Rattle.fj_acts.specs.Jobs.{jobs_behind}
 use Rattle.fj_runner.specs.declared.hand.Hand.{Hand}
 use Rattle.fj_runner.specs.declared.hand.Hand.TheVariants.{Submitting}
@@ -16,26 +17,22 @@ use Rattle.fj_runner.specs.declared.turned.Turned.TheVariants as turned
 
 -- ---- jobs
 
--- one statement gives no more, where so many units are connected: END closes each; and each may have a halt that ends first
-abbrev pub most_jobs : ℕ → ℕ
-most_jobs units = units + (units + 2)
+-- by a statement's stage, where so many units are connected: once halts have ended END closes each, and any other gives two at most
+abbrev pub jobs_at : {F : Type 0} → Stage F → ℕ → ℕ
+jobs_at stage.Start units = most_jobs
+jobs_at (stage.Waiting whose from) units = most_jobs
+jobs_at (stage.Resuming slots next condition) units = (length slots - next) + max units 2
+jobs_at (stage.Going next number) units = 0
+jobs_at (stage.Awaiting slot number next) units = jobs_behind next units
+jobs_at (stage.Answered next job answer) units = jobs_behind next units
 
--- by its stage, where no more than `most` units were connected when it began
-abbrev pub jobs_at : {F : Type 0} → ℕ → Stage F → ℕ → ℕ
-jobs_at most stage.Start units = most_jobs most
-jobs_at most (stage.Waiting whose from) units = most_jobs most
-jobs_at most (stage.Resuming slots next condition) units = (length slots - next) + (most + 2)
-jobs_at most (stage.Going next number) units = 0
-jobs_at most (stage.Awaiting slot number next) units = jobs_behind next units
-jobs_at most (stage.Answered next job answer) units = jobs_behind next units
-
--- by the statements from one on: a deck connects no more units than it has statements
+-- by the statements from one on
 abbrev pub jobs_from : ℕ → ℕ → ℕ
-jobs_from statements at = (statements - at) * most_jobs statements
+jobs_from statements at = (statements - at) * most_jobs
 
 -- by the statement at hand and those behind it
 abbrev pub jobs_left : {F : Type 0} {ghosts : Ghosts F} → Machine F ghosts → ℕ
-jobs_left m = let most = length m.deck.statements in jobs_at most m.state.stage (length m.state.core.units) + jobs_from most (m.at + 1)
+jobs_left m = jobs_at m.state.stage (length m.state.core.units) + jobs_from (length m.deck.statements) (m.at + 1)
 
 -- ---- what is given of so many jobs
 
@@ -46,9 +43,9 @@ Gives (ask.Settle slot) left jobs = left ≤ jobs
 Gives ask.Finished left jobs = ⊥
 
 -- by a turn
-abbrev pub Spends : {F : Type 0} {ghosts : Ghosts F} → ℕ → ℕ → Turned F → State F ghosts → Type 0
-Spends most jobs (turned.Pauses a) s = Gives a (jobs_at most s.stage (length s.core.units)) jobs
-Spends most jobs _ s = Unit {0}
+abbrev pub Spends : {F : Type 0} {ghosts : Ghosts F} → ℕ → Turned F → State F ghosts → Type 0
+Spends jobs (turned.Pauses a) s = Gives a (jobs_at s.stage (length s.core.units)) jobs
+Spends jobs _ s = Unit {0}
 
 -- by a call; nothing is asked where the deck ended
 abbrev pub Spent : {F J : Type 0} {ghosts : Ghosts F} → Ask J → ℕ → Machine F ghosts → Type 0

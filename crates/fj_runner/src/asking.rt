@@ -1,5 +1,5 @@
 // What a deck asks next.
-ghost use Rattle.std.specs.Prelude.{◌≡◌, ℕ, ◌+◌, ◌<◌, length, Some, None, Err, IfOk, OnErr, IfSome, IfNone, drop};
+ghost use Rattle.std.specs.Prelude.{◌≡◌, ℕ, ◌+◌, ◌<◌, length, Some, Err, IfOk, OnErr, IfSome, IfNone, drop};
 ghost use Rattle.fj_plain.specs.State.{Files};
 ghost use Rattle.fj_plain.specs.Statement.{stated};
 ghost use Rattle.fj_turns.specs.Run.{Run, Start};
@@ -13,7 +13,7 @@ ghost use Rattle.fj_runner.specs.Stepping.{Steps};
 ghost use Rattle.fj_runner.specs.Failing.{FailsCall};
 ghost use Rattle.fj_runner.specs.Fitting.{HasRoom};
 ghost use Rattle.fj_runner.specs.Spending.{Lives, Spends, Spent, jobs_from, jobs_left};
-ghost use Rattle.fj_runner.specs.Going.{DoesNotPause, FromStart, FromTurn, IsAt, KeepsToSlots, SentFor, SinceTurn};
+ghost use Rattle.fj_runner.specs.Going.{DoesNotPause, FromTurn, IsAt, KeepsToSlots, SentFor, SinceTurn};
 
 use crate::machine::Machine;
 use crate::stage::Stage;
@@ -44,9 +44,8 @@ impl<F: FileStore> Machine<F> {
         ensures still { SinceTurn self.old turned (λ s. IfNone result (self.new.state.sent ≡ s.sent)) }
         ensures sent { SinceTurn self.old turned (λ s. IfSome result (λ ask. SentFor ask s.sent.items self.new.state.sent.items)) }
         ensures slots { SinceTurn self.old turned (λ s. IfSome result (λ ask. KeepsToSlots ask self.new.state)) }
-        ensures spends { (jobs : ℕ) → Spends (length self.old.deck.statements) jobs turned self.old.state
+        ensures spends { (jobs : ℕ) → Spends jobs turned self.old.state
             → SinceTurn self.old turned (λ s. IfSome result (λ ask. Spent ask (jobs + jobs_from (length self.old.deck.statements) (self.old.at + 1)) self.new)) }
-        ensures ending { SinceTurn self.old turned (λ s. IfNone result (self.new.state.ending ≡ s.ending)) }
         ensures state { self.new.state ≡ self.old.state }
         ensures tally { self.new.tally ≡ self.old.tally }
         ensures kept { self.new.kept ≡ self.old.kept }
@@ -87,8 +86,7 @@ impl<F: FileStore> Machine<F> {
         ensures sent { IfOk result (λ o. IfSome o (λ ask. SentFor ask self.old.state.sent.items self.new.state.sent.items)) }
         ensures slots { IfOk result (λ o. IfSome o (λ ask. KeepsToSlots ask self.new.state)) }
         ensures still { IfOk result (λ o. IfNone o (self.new.state.sent ≡ self.old.state.sent)) }
-        ensures spends { IsAt self.old → self.old.state.ending ≡ None → IfOk result (λ o. IfSome o (λ ask. Spent ask (jobs_from (length self.old.deck.statements) self.old.at) self.new)) }
-        ensures ending { IfOk result (λ o. IfNone o (self.new.state.ending ≡ self.old.state.ending)) }
+        ensures spends { IfOk result (λ o. IfSome o (λ ask. Spent ask (jobs_from (length self.old.deck.statements) self.old.at) self.new)) }
         ensures heard { self.new.state.told ≡ self.old.state.told }
         ensures steps { Steps W.tells W.taken W.count D.tells D.held D.count D.refusals out.old disk.old self.old.state.core result out.new disk.new self.new.state.core }
         ensures deck { self.new.deck ≡ self.old.deck }
@@ -117,7 +115,7 @@ impl<F: FileStore> Machine<F> {
         ensures asks { D.tells disk.old → self.old.state.stage ≡ Stage.Start → IfOk result (λ ask. IsAsked F.told F.bytes (files_of (D.held disk.new)) self.new ask
             (goes (rest_of self.old) (run_at (files_of (D.held disk.old)) self.old Start))) }
         ensures on { self.old.state.stage ≡ Stage.Start → IsAt self.old → IfOk result (λ ask. IsAt self.new) }
-        ensures spends { self.old.state.stage ≡ Stage.Start → IsAt self.old → self.old.state.ending ≡ None → IfOk result (λ ask. Spent ask (jobs_from (length self.old.deck.statements) self.old.at) self.new) }
+        ensures spends { IfOk result (λ ask. Spent ask (jobs_from (length self.old.deck.statements) self.old.at) self.new) }
         ensures sent { IfOk result (λ ask. SentFor ask self.old.state.sent.items self.new.state.sent.items) }
         ensures slots { IfOk result (λ ask. KeepsToSlots ask self.new.state) }
         ensures heard { self.new.state.told ≡ self.old.state.told }
@@ -156,8 +154,8 @@ impl<F: FileStore> Machine<F> {
         ensures asks { D.tells disk.old → (t : Turn) → IsTurn F.told F.bytes self.old.deck.variables (rest_of self.old) (files_of (D.held disk.old)) self.old.state turned t
             → IfOk result (λ ask. IsAsked F.told F.bytes (files_of (D.held disk.new)) self.new ask (by_turn (drop (self.old.at + 1) (stated self.old.deck.statements)) t)) }
         ensures on { FromTurn self.old turned (IfOk result (λ ask. IsAt self.new)) }
-        ensures spends { (jobs : ℕ) → Spends (length self.old.deck.statements) jobs turned self.old.state
-            → FromStart self.old turned (λ s. s.ending ≡ None → IfOk result (λ ask. Spent ask (jobs + jobs_from (length self.old.deck.statements) (self.old.at + 1)) self.new)) }
+        ensures spends { (jobs : ℕ) → Spends jobs turned self.old.state
+            → SinceTurn self.old turned (λ s. IfOk result (λ ask. Spent ask (jobs + jobs_from (length self.old.deck.statements) (self.old.at + 1)) self.new)) }
         ensures sent { SinceTurn self.old turned (λ s. IfOk result (λ ask. SentFor ask s.sent.items self.new.state.sent.items)) }
         ensures slots { SinceTurn self.old turned (λ s. IfOk result (λ ask. KeepsToSlots ask self.new.state)) }
         ensures heard { self.new.state.told ≡ self.old.state.told }
@@ -187,7 +185,7 @@ impl<F: FileStore> Machine<F> {
         ensures asks { D.tells disk.old → (r : Run) → run_of F.told F.bytes (files_of (D.held disk.old)) self.old ≡ Some r
             → IfOk result (λ ask. IsAsked F.told F.bytes (files_of (D.held disk.new)) self.new ask (asked r)) }
         ensures on { IsAt self.old → IfOk result (λ ask. IsAt self.new) }
-        ensures spends { IsAt self.old → IfOk result (λ ask. Spent ask (jobs_left self.old) self.new × Lives ask self.old) }
+        ensures spends { IfOk result (λ ask. Spent ask (jobs_left self.old) self.new × Lives ask self.old) }
         ensures sent { IfOk result (λ ask. SentFor ask self.old.state.sent.items self.new.state.sent.items) }
         ensures slots { IfOk result (λ ask. KeepsToSlots ask self.new.state) }
         ensures heard { self.new.state.told ≡ self.old.state.told }

@@ -1,5 +1,5 @@
 // How a statement begins: prohibitions, then the transfers that it waits for are settled and told.
-ghost use Rattle.std.specs.Prelude.{◌≡◌, ◌≢◌, ◌<◌, ◌≤◌, ℕ, List, length, ◌∷◌, ◌++◌, not, map, filter, get_or, true, Some, IfOk, OnOk, All, Err};
+ghost use Rattle.std.specs.Prelude.{◌≡◌, ◌≢◌, ◌<◌, ℕ, List, length, ◌∷◌, ◌++◌, not, map, filter, get_or, true, Some, IfOk, OnOk, All, Err};
 ghost use Rattle.fj_items.specs.Kinds.{kinds_of};
 ghost use Rattle.fj_store.specs.Storage.{values_of};
 ghost use Rattle.fj_plain.specs.State.{Entry, Files};
@@ -9,6 +9,7 @@ ghost use Rattle.fj_plain.specs.Telling.{waited_in, condition_of, tells_id, tell
 ghost use Rattle.fj_desk.specs.Core.{unit_named};
 ghost use Rattle.fj_desk.specs.Desks.{most_slots};
 ghost use Rattle.fj_desk.specs.Desking.{told_core};
+ghost use Rattle.fj_turns.specs.Few.{most_jobs};
 ghost use Rattle.fj_turns.specs.Run.{Stage as PlainStage, Start, Waiting};
 ghost use Rattle.fj_turns.specs.Passing.{output_of};
 ghost use Rattle.fj_turns.specs.Turns.{settles, doing_told, turn_tell, turn_wait, turn_start};
@@ -31,7 +32,7 @@ ghost use Rattle.fj_runner.specs.Closing.{may_be_at};
 ghost use Rattle.fj_units.specs.Having.{HaveFiles};
 ghost use Rattle.fj_statement.specs.Sound.{IsSoundStatement};
 ghost use Rattle.fj_runner.specs.Fitting.{HasRoom};
-ghost use Rattle.fj_runner.specs.Spending.{Spends, jobs_at, most_jobs};
+ghost use Rattle.fj_runner.specs.Spending.{Spends, jobs_at};
 ghost use Rattle.fj_runner.specs.Going.{Counts, HaveAt, HaveTurned};
 
 use crate::ending::Ending;
@@ -110,7 +111,7 @@ impl<F: FileStore> State<F> {
         ensures units { self.new.core.units ≡ self.old.core.units }
         ensures holds { IsKept self.old.core → OnOk result (IsKept self.new.core) }
         ensures fits { IsSoundStatement variables.now lined.now.what → HaveFiles self.old.core.names self.old.core.units → IsKept self.old.core → result ≢ Err Lost.Unfit }
-        ensures spends { (most : ℕ) → length self.old.core.units ≤ most → IfOk result (λ t. Spends most (most_jobs most) t self.new) }
+        ensures spends { IfOk result (λ t. Spends most_jobs t self.new) }
         ensures heard { self.new.told ≡ self.old.told }
         ensures fails { D.tells disk.old → (more : List Stated) (stage : PlainStage)
             → FailsTurn W.tells W.taken out.old self.old.core result out.new self.new.core (D.held disk.new) (D.refusals disk.old) (D.refusals disk.new)
@@ -153,7 +154,7 @@ impl<F: FileStore> State<F> {
         ensures pauses { result ≢ Turned.Passes }
         ensures files { (what : Statement) → HaveAt stage self.old.core.names self.old.core.units what → HaveTurned result self.new what }
         ensures counts { Counts result self.old self.new }
-        ensures spends { (most : ℕ) → Spends most (jobs_at most stage (length self.old.core.units)) result self.new }
+        ensures spends { Spends (jobs_at stage (length self.old.core.units)) result self.new }
         ensures heard { self.new.told ≡ self.old.told }
     {
         put_stage(&mut self.stage, stage);
@@ -187,7 +188,7 @@ impl<F: FileStore> State<F> {
         ensures units { self.new.core.units ≡ self.old.core.units }
         ensures holds { IsKept self.old.core → OnOk result (IsKept self.new.core) }
         ensures fits { IsSoundStatement variables.now lined.now.what → HaveFiles self.old.core.names self.old.core.units → IsKept self.old.core → result ≢ Err Lost.Unfit }
-        ensures spends { (most : ℕ) → length self.old.core.units ≤ most → IfOk result (λ t. Spends most (most_jobs most) t self.new) }
+        ensures spends { IfOk result (λ t. Spends most_jobs t self.new) }
         ensures heard { self.new.told ≡ self.old.told }
         ensures fails { D.tells disk.old → (more : List Stated) (stage : PlainStage)
             → FailsStage W.tells W.taken out.old self.old.core result out.new self.new.core (D.held disk.new) (D.refusals disk.old) (D.refusals disk.new) (lined.now, control_by lined.now.what) Waiting
@@ -226,7 +227,7 @@ impl<F: FileStore> State<F> {
         ensures units { self.new.core.units ≡ self.old.core.units }
         ensures holds { IsKept self.old.core → OnOk result (IsKept self.new.core) }
         ensures fits { IsSoundStatement variables.now lined.now.what → HaveFiles self.old.core.names self.old.core.units → IsKept self.old.core → result ≢ Err Lost.Unfit }
-        ensures spends { (most : ℕ) → length self.old.core.units ≤ most → IfOk result (λ t. Spends most (most_jobs most) t self.new) }
+        ensures spends { IfOk result (λ t. Spends most_jobs t self.new) }
         ensures heard { self.new.told ≡ self.old.told }
         ensures fails { D.tells disk.old → (more : List Stated) (stage : PlainStage)
             → FailsStage W.tells W.taken out.old self.old.core result out.new self.new.core (D.held disk.new) (D.refusals disk.old) (D.refusals disk.new) (lined.now, control_by lined.now.what) Waiting
@@ -262,7 +263,7 @@ impl<F: FileStore> State<F> {
         ensures units { self.new.core.units ≡ self.old.core.units }
         ensures holds { IsKept self.old.core → OnOk result (IsKept self.new.core) }
         ensures fits { IsSoundStatement variables.now lined.now.what → HaveFiles self.old.core.names self.old.core.units → IsKept self.old.core → result ≢ Err Lost.Unfit }
-        ensures spends { (most : ℕ) → length self.old.core.units ≤ most → IfOk result (λ t. Spends most (most_jobs most) t self.new) }
+        ensures spends { IfOk result (λ t. Spends most_jobs t self.new) }
         ensures heard { self.new.told ≡ self.old.told }
         ensures fails { D.tells disk.old → (more : List Stated) (stage : PlainStage)
             → FailsStage W.tells W.taken out.old self.old.core result out.new self.new.core (D.held disk.new) (D.refusals disk.old) (D.refusals disk.new) (lined.now, control_by lined.now.what) Start

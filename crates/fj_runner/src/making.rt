@@ -1,5 +1,5 @@
 // A runner that has not begun.
-ghost use Rattle.std.specs.Prelude.{◌≡◌, [], map, replicate, false, Some, None, IfOk};
+ghost use Rattle.std.specs.Prelude.{◌≡◌, ◌*◌, ◌-◌, ◌^◌, [], length, min, map, replicate, false, Some, None, IfOk};
 ghost use Rattle.fj_items.specs.Kinds.{kinds_of};
 ghost use Rattle.fj_desk.specs.Desking.{fresh};
 ghost use Rattle.fj_acts.specs.State.{core_of};
@@ -7,7 +7,7 @@ ghost use Rattle.fj_plain.specs.State.{Files};
 ghost use Rattle.fj_plain.specs.Statement.{stated};
 ghost use Rattle.fj_turns.specs.Serving.{first_run};
 ghost use Rattle.fj_runner.specs.Machine.{run_of};
-ghost use Rattle.fj_runner.specs.Making.{most_asks, shape_of};
+ghost use Rattle.fj_runner.specs.Making.{shape_of};
 ghost use Rattle.fj_runner.specs.declared.hand.Hand.TheVariants.{Idle};
 ghost use Rattle.fj_statement.specs.Sound.{IsSound};
 ghost use Rattle.fj_runner.specs.Going.{IsGoing};
@@ -29,9 +29,6 @@ use std::alloc::{AllocError, Global};
 
 /// How many slots there are.
 const MOST_SLOTS: usize = 16;
-
-/// How many asks may come at most.
-const MOST_ASKS: u64 = (1 << 62) - 1;
 
 /// The shapes of variables.
 fn shapes(alloc: Global, variables: &[Variable]) -> Result<Vec<(Kind, u32)>, AllocError>
@@ -69,14 +66,21 @@ fn first_core(alloc: Global, variables: &[Variable]) -> Result<Core, AllocError>
     })
 }
 
-/// Nothing was asked. No sound deck makes as many asks as are left.
-fn first_tally(alloc: Global) -> Result<Tally, AllocError>
+/// So many asks may come at most of so many statements: 64 of each; a number that no run reaches, where there are very many.
+fn most_asks(statements: usize) -> u64
+    ensures { result ≡ min (64 * statements) (2 ^ 62 - 1) }
+{
+    (statements as u64).saturating_mul(64).min((1 << 62) - 1)
+}
+
+/// Nothing was asked.
+fn first_tally(alloc: Global, statements: usize) -> Result<Tally, AllocError>
     ensures { IfOk result (λ tally. (tally.hand ≡ Idle) × (tally.over ≡ false) × (tally.stopped ≡ false) × (tally.lost ≡ None)
-        × (tally.left ≡ most_asks) × (tally.owed.items ≡ replicate 16 0)) }
+        × (tally.left ≡ min (64 * statements) (2 ^ 62 - 1)) × (tally.owed.items ≡ replicate 16 0)) }
 {
     Ok(Tally {
         hand: Hand::Idle,
-        left: MOST_ASKS,
+        left: most_asks(statements),
         owed: vec![in alloc; 0; MOST_SLOTS]?,
         over: false,
         stopped: false,
@@ -89,14 +93,14 @@ impl<F: FileStore> Machine<F> {
     pub fn new(alloc: Global, deck: Deck) -> Result<Machine<F>, AllocError>
         ensures run { IfOk result (λ m. (files : Files) → run_of F.told F.bytes files m ≡ Some (first_run deck.variables (stated deck.statements) files)) }
         ensures tally { IfOk result (λ m. (m.tally.hand ≡ Idle) × (m.tally.over ≡ false) × (m.tally.stopped ≡ false) × (m.tally.lost ≡ None)
-            × (m.tally.left ≡ most_asks) × (m.tally.owed.items ≡ replicate 16 0)) }
+            × (m.tally.left ≡ min (64 * length deck.statements) (2 ^ 62 - 1)) × (m.tally.owed.items ≡ replicate 16 0)) }
         ensures names { IfOk result (λ m. m.state.core.names ≡ []) }
         ensures deck { IfOk result (λ m. m.deck ≡ deck) }
         ensures kept { IfOk result (λ m. m.kept ≡ None) }
         ensures on { IsSound deck → IfOk result IsGoing }
     {
         let core = first_core(alloc, deck.variables.as_slice())?;
-        let tally = first_tally(alloc)?;
+        let tally = first_tally(alloc, deck.statements.len())?;
         Ok(Machine {
             deck,
             state: State {

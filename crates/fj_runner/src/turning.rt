@@ -1,5 +1,5 @@
 // A statement goes on from its stage.
-ghost use Rattle.std.specs.Prelude.{◌≡◌, ◌≢◌, ◌+◌, ◌<◌, ◌≤◌, ◌^◌, ℕ, List, length, ◌∷◌, true, Some, IfOk, OnOk, Err};
+ghost use Rattle.std.specs.Prelude.{◌≡◌, ◌≢◌, ◌+◌, ◌<◌, ◌^◌, List, length, ◌∷◌, true, Some, IfOk, OnOk, Err};
 ghost use Rattle.fj_statement.specs.Sound.{IsSoundStatement};
 ghost use Rattle.fj_items.specs.Kinds.{kinds_of};
 ghost use Rattle.fj_plain.specs.Statement.{Stated, control_by};
@@ -16,7 +16,7 @@ ghost use Rattle.fj_runner.specs.Failing.{FailsStage};
 ghost use Rattle.fj_runner.specs.Closing.{may_be_at};
 ghost use Rattle.fj_runner.specs.Fitting.{HasRoom};
 ghost use Rattle.fj_runner.specs.Spending.{Spends, jobs_at};
-ghost use Rattle.fj_runner.specs.Going.{Connects, Counts, HaveAt, HaveTurned};
+ghost use Rattle.fj_runner.specs.Going.{Counts, HaveAt, HaveTurned};
 
 use crate::stage::Stage;
 use crate::state::State;
@@ -53,8 +53,7 @@ impl<F: FileStore> State<F> {
         ensures holds { IsKept self.old.core → OnOk result (IsKept self.new.core) }
         ensures files { HaveAt self.old.stage self.old.core.names self.old.core.units lined.now.what → IfOk result (λ t. HaveTurned t self.new lined.now.what) }
         ensures counts { IfOk result (λ t. Counts t self.old self.new) }
-        ensures connects { HaveAt self.old.stage self.old.core.names self.old.core.units lined.now.what → IfOk result (λ t. Connects t self.old self.new) }
-        ensures spends { (most : ℕ) → length self.old.core.units ≤ most → IfOk result (λ t. Spends most (jobs_at most self.old.stage (length self.old.core.units)) t self.new) }
+        ensures spends { IfOk result (λ t. Spends (jobs_at self.old.stage (length self.old.core.units)) t self.new) }
         ensures heard { self.new.told ≡ self.old.told }
         ensures fails { D.tells disk.old → (more : List Stated) (stage : PlainStage)
             → stage_of F.told F.bytes variables.now ((lined.now, control_by lined.now.what) ∷ more) (core_of (files_of (D.held disk.old)) self.old.core) self.old.stage ≡ Some stage

@@ -1,5 +1,5 @@
 // The turns of a statement once its transfers are told: each comes to an ask, passes on to the next statement, or stops at an ending.
-ghost use Rattle.std.specs.Prelude.{◌≡◌, ◌≢◌, ◌<◌, ◌+◌, ◌^◌, ℕ, List, ◌∷◌, true, Some, Err, IfOk, OnErr, OnOk, drop, map, get_or, ◌≤◌, ◌-◌, length};
+ghost use Rattle.std.specs.Prelude.{◌≡◌, ◌≢◌, ◌<◌, ◌+◌, ◌^◌, ℕ, List, ◌∷◌, true, Some, Err, IfOk, OnErr, OnOk, drop, map, get_or, max, ◌-◌, length};
 ghost use Rattle.fj_statement.specs.declared.deck.Variable.{Variable};
 ghost use Rattle.fj_statement.specs.Sound.{IsSoundStatement};
 ghost use Rattle.fj_items.specs.Kinds.{kinds_of};
@@ -68,7 +68,7 @@ impl<F: FileStore> State<F> {
         ensures pauses { result ≢ Turned.Passes }
         ensures files { (what : Statement) → HaveAt stage self.old.core.names self.old.core.units what → HaveTurned result self.new what }
         ensures counts { Counts result self.old self.new }
-        ensures spends { (most : ℕ) → Spends most (jobs_at most stage (length self.old.core.units) + 1) result self.new }
+        ensures spends { Spends (jobs_at stage (length self.old.core.units) + 1) result self.new }
         ensures heard { self.new.told ≡ self.old.told }
     {
         let at = slot as usize;
@@ -107,7 +107,7 @@ impl<F: FileStore> State<F> {
         ensures ends { DoesNotPause result }
         ensures next { self.new.core.next ≡ self.old.core.next }
         ensures units { self.new.core.units ≡ self.old.core.units }
-        ensures spends { (most jobs : ℕ) → Spends most jobs result self.new }
+        ensures spends { (jobs : ℕ) → Spends jobs result self.new }
         ensures heard { self.new.told ≡ self.old.told }
     {
         put_stage(&mut self.stage, Stage::Start);
@@ -149,7 +149,7 @@ impl<F: FileStore> State<F> {
         ensures ends { Ends doing → DoesNotPause result }
         ensures next { self.new.core.next ≡ self.old.core.next }
         ensures units { self.new.core.units ≡ self.old.core.units }
-        ensures spends { (most : ℕ) → Spends most (jobs_of doing (length self.old.core.units)) result self.new }
+        ensures spends { Spends (jobs_of doing (length self.old.core.units)) result self.new }
         ensures heard { self.new.told ≡ self.old.told }
     {
         match doing {
@@ -194,7 +194,7 @@ impl<F: FileStore> State<F> {
         ensures files { HaveFiles self.old.core.names self.old.core.units → IfOk result (λ t. HaveTurned t self.new lined.now.what) }
         ensures counts { IfOk result (λ t. Counts t self.old self.new) }
         ensures units { self.new.core.units ≡ self.old.core.units }
-        ensures spends { (most : ℕ) → length self.old.core.units ≤ most → IfOk result (λ t. Spends most ((length slots - next) + (most + 2)) t self.new) }
+        ensures spends { IfOk result (λ t. Spends ((length slots - next) + max (length self.old.core.units) 2) t self.new) }
         ensures heard { self.new.told ≡ self.old.told }
         ensures fails { D.tells disk.old → (more : List Stated) (stage : PlainStage)
             → FailsTurn W.tells W.taken out.old self.old.core result out.new self.new.core (D.held disk.new) (D.refusals disk.old) (D.refusals disk.new)

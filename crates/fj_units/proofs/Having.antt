@@ -7,7 +7,7 @@ use Rattle.std.proofs.lemmas.Bool.{ne_eqb}
 use Rattle.std.proofs.lemmas.Bool.Decides.{eqb_tells, nat_tests}
 use Rattle.fj_modes.specs.declared.modes.Modes.{Modes}
 use Rattle.fj_desk.specs.Core.{Connected, connected_at, has_name, inserted, with_connected, without_connected}
-use Rattle.fj_units.specs.Having.{DifferInFile, HaveFiles}
+use Rattle.fj_units.specs.Having.{Differ, DifferInFile, HaveFiles, same_file}
 use Rattle.fj_units.specs.Names.{stands, left_of}
 use Rattle.fj_units.specs.Units.{AreApart, AreOthers, is_taken, with_modes}
 use Rattle.fj_units.proofs.Files.{agree, any_append, bytes_same, is_same, stands-left_of, stands-vain}
@@ -67,25 +67,26 @@ gone_from n (v ∷ us) = by (v.number == n) refl (gone_from n us)
 
 -- ---- some of the units
 
-less_if : (b : Bool) (v : Connected) (us : List Connected) (q : List ℕ) → (bytes_eq q v.name ≡ false) → has_name us q ≡ false → has_name (if b then v ∷ us else us) q ≡ false
-less_if true v us q first rest = ap (λ c. c || has_name us q) first ∙ rest
-less_if false v us q first rest = rest
+less_if : (p : Connected → Bool) (b : Bool) (v : Connected) (us : List Connected) → p v ≡ false → list_any p us ≡ false → list_any p (if b then v ∷ us else us) ≡ false
+less_if p true v us first rest = ap (λ c. c || list_any p us) first ∙ rest
+less_if p false v us first rest = rest
 
 neither : (a b : Bool) → (a || b) ≡ false → (a ≡ false) × (b ≡ false)
 neither true b e = absurd (not_both e)
 neither false b e = (refl, e)
 
-less_has : (p : Connected → Bool) (us : List Connected) (q : List ℕ) → has_name us q ≡ false → has_name (filter p us) q ≡ false
-less_has p [] q e = e
-less_has p (v ∷ us) q e = let n = neither (bytes_eq q v.name) (has_name us q) e in less_if (p v) v (filter p us) q n.0 (less_has p us q n.1)
+less_any : (p r : Connected → Bool) (us : List Connected) → list_any p us ≡ false → list_any p (filter r us) ≡ false
+less_any p r [] e = e
+less_any p r (v ∷ us) e = let n = neither (p v) (list_any p us) e in less_if p (r v) v (filter r us) n.0 (less_any p r us n.1)
 
-differ_if : (b : Bool) (v : Connected) (us : List Connected) → has_name us v.name ≡ false → DifferInFile us → DifferInFile (if b then v ∷ us else us)
-differ_if true v us e d = (e, d)
-differ_if false v us e d = d
+module _ (alike : Connected → Connected → Bool) where
+  differ_if : (b : Bool) (v : Connected) (us : List Connected) → list_any (alike v) us ≡ false → Differ alike us → Differ alike (if b then v ∷ us else us)
+  differ_if true v us e d = (e, d)
+  differ_if false v us e d = d
 
-differ_filter : (p : Connected → Bool) (us : List Connected) → DifferInFile us → DifferInFile (filter p us)
-differ_filter p [] d = tt
-differ_filter p (v ∷ us) d = differ_if (p v) v (filter p us) (less_has p us v.name d.0) (differ_filter p us d.1)
+  pub differ_filter : (p : Connected → Bool) (us : List Connected) → Differ alike us → Differ alike (filter p us)
+  differ_filter p [] d = tt
+  differ_filter p (v ∷ us) d = differ_if (p v) v (filter p us) (less_any (alike v) p us d.0) (differ_filter p us d.1)
 
 -- ---- one is closed
 
@@ -122,7 +123,7 @@ pub have_left : (names : List (List ℕ)) (us : List Connected) (n : ℕ) (u : C
 have_left names us n u apart found have = (
   λ q. stands-left_of names u.name q ∙ ap (λ b. not (bytes_eq u.name q) && b) (have.0 q) ∙ ap (λ b. not b && has_name us q) (bytes_back u.name q)
       ∙ sym (left_has us n u q apart have.1 found),
-  differ_filter (λ (v : Connected). not (v.number == n)) us have.1,
+  differ_filter same_file (λ (v : Connected). not (v.number == n)) us have.1,
 )
 
 -- ---- one is connected
@@ -177,53 +178,49 @@ inserted_has u us q none =
         plain true = refl
         plain false = refl
 
--- the units of two lists, none of the first with a file of the second
-abbrev AreClear : List Connected → List Connected → Type 0
-AreClear [] ys = Unit {0}
-AreClear (x ∷ xs) ys = (has_name ys x.name ≡ false) × AreClear xs ys
-
-differ_join : (xs ys : List Connected) → DifferInFile xs → DifferInFile ys → AreClear xs ys → DifferInFile (xs ++ ys)
-differ_join [] ys dx dy clear = dy
-differ_join (x ∷ xs) ys dx dy clear =
-    (any_append (λ (v : Connected). bytes_eq x.name v.name) xs ys ∙ ap (λ b. b || has_name ys x.name) dx.0 ∙ clear.0, differ_join xs ys dx.1 dy clear.1)
-
-clear_if : (b : Bool) (x : Connected) (xs ys : List Connected) → has_name ys x.name ≡ false → AreClear xs ys → AreClear (if b then x ∷ xs else xs) ys
-clear_if true x xs ys e c = (e, c)
-clear_if false x xs ys e c = c
-
--- one more in the second
-clear_more : (y : Connected) (xs ys : List Connected) → has_name xs y.name ≡ false → AreClear xs ys → AreClear xs (y ∷ ys)
-clear_more y [] ys e c = tt
-clear_more y (x ∷ xs) ys e c =
-    let n = neither (bytes_eq y.name x.name) (has_name xs y.name) e in
-    (ap (λ b. b || has_name ys x.name) (bytes_back x.name y.name ∙ n.0) ∙ c.0, clear_more y xs ys n.1 c.1)
-
-clear_filters : (p r : Connected → Bool) (us : List Connected) → ((v : Connected) → p v ≡ true → r v ≡ false) → DifferInFile us → AreClear (filter p us) (filter r us)
-clear_filters p r [] apart d = tt
-clear_filters p r (v ∷ us) apart d = by (p v) (r v) (apart v) (clear_filters p r us apart d.1)
-  where
-    by : (b c : Bool) → (b ≡ true → c ≡ false) → AreClear (filter p us) (filter r us) → AreClear (if b then v ∷ filter p us else filter p us) (if c then v ∷ filter r us else filter r us)
-    by true true f rest = absurd (not_both (f refl))
-    by true false f rest = (less_has r us v.name d.0, rest)
-    by false true f rest = clear_more v (filter p us) (filter r us) (less_has p us v.name d.0) rest
-    by false false f rest = rest
-
 one_way : (a n : ℕ) → nat_lt a n ≡ true → nat_lt n a ≡ false
 one_way a n e = grind (arith, nat_tests)
 
-inserted_differ : (u : Connected) (us : List Connected) → DifferInFile us → has_name us u.name ≡ false → DifferInFile (inserted u us)
-inserted_differ u us d free =
-    let low : Connected → Bool = λ (v : Connected). nat_lt v.number u.number in
-    let high : Connected → Bool = λ (v : Connected). nat_lt u.number v.number in
-    differ_join (filter low us) (u ∷ filter high us) (differ_filter low us d) (less_has high us u.name free, differ_filter high us d)
-    (clear_more u (filter low us) (filter high us) (less_has low us u.name free) (clear_filters low high us (λ v e. one_way v.number u.number e) d))
+module _ (alike : Connected → Connected → Bool) (back : (u v : Connected) → alike u v ≡ alike v u) where
+  -- the units of two lists, none of the first alike to one of the second
+  abbrev AreClear : List Connected → List Connected → Type 0
+  AreClear [] ys = Unit {0}
+  AreClear (x ∷ xs) ys = (list_any (alike x) ys ≡ false) × AreClear xs ys
+
+  differ_join : (xs ys : List Connected) → Differ alike xs → Differ alike ys → AreClear xs ys → Differ alike (xs ++ ys)
+  differ_join [] ys dx dy clear = dy
+  differ_join (x ∷ xs) ys dx dy clear = (any_append (alike x) xs ys ∙ ap (λ b. b || list_any (alike x) ys) dx.0 ∙ clear.0, differ_join xs ys dx.1 dy clear.1)
+
+  -- one more in the second
+  clear_more : (y : Connected) (xs ys : List Connected) → list_any (alike y) xs ≡ false → AreClear xs ys → AreClear xs (y ∷ ys)
+  clear_more y [] ys e c = tt
+  clear_more y (x ∷ xs) ys e c =
+      let n = neither (alike y x) (list_any (alike y) xs) e in
+      (ap (λ b. b || list_any (alike x) ys) (back x y ∙ n.0) ∙ c.0, clear_more y xs ys n.1 c.1)
+
+  clear_filters : (p r : Connected → Bool) (us : List Connected) → ((v : Connected) → p v ≡ true → r v ≡ false) → Differ alike us → AreClear (filter p us) (filter r us)
+  clear_filters p r [] apart d = tt
+  clear_filters p r (v ∷ us) apart d = by (p v) (r v) (apart v) (clear_filters p r us apart d.1)
+    where
+      by : (b c : Bool) → (b ≡ true → c ≡ false) → AreClear (filter p us) (filter r us) → AreClear (if b then v ∷ filter p us else filter p us) (if c then v ∷ filter r us else filter r us)
+      by true true f rest = absurd (not_both (f refl))
+      by true false f rest = (less_any (alike v) r us d.0, rest)
+      by false true f rest = clear_more v (filter p us) (filter r us) (less_any (alike v) p us d.0) rest
+      by false false f rest = rest
+
+  pub inserted_differ : (u : Connected) (us : List Connected) → Differ alike us → list_any (alike u) us ≡ false → Differ alike (inserted u us)
+  inserted_differ u us d free =
+      let low : Connected → Bool = λ (v : Connected). nat_lt v.number u.number in
+      let high : Connected → Bool = λ (v : Connected). nat_lt u.number v.number in
+      differ_join (filter low us) (u ∷ filter high us) (differ_filter alike low us d) (less_any (alike u) high us free, differ_filter alike high us d)
+      (clear_more u (filter low us) (filter high us) (less_any (alike u) low us free) (clear_filters low high us (λ v e. one_way v.number u.number e) d))
 
 pub have_more : (names : List (List ℕ)) (us : List Connected) (u : Connected) → connected_at us u.number ≡ None → has_name us u.name ≡ false → HaveFiles names us
     → HaveFiles (names ++ u.name ∷ []) (inserted u us)
 have_more names us u none free have = (
   λ q. any_append (λ (other : List ℕ). bytes_eq other q) names (u.name ∷ []) ∙ ap (λ b. b || (bytes_eq u.name q || false)) (have.0 q)
       ∙ ap (λ b. has_name us q || b) (plain (bytes_eq u.name q) ∙ bytes_back u.name q) ∙ sym (inserted_has u us q none),
-  inserted_differ u us have.1 free,
+  inserted_differ same_file (λ v w. bytes_back v.name w.name) u us have.1 free,
 )
   where
     plain : (b : Bool) → (b || false) ≡ b

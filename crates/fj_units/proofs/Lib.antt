@@ -2,3 +2,4 @@ pub mod UnitLemmas
 pub mod Files
 pub mod Returning
 pub mod Having
+pub mod Slots

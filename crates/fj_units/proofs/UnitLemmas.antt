@@ -7,8 +7,10 @@ use Rattle.std.proofs.lemmas.Bool.Decides.{nat_tests}
 use Rattle.std.specs.Prelude.{◌==◌, if◌then◌else◌, filter, nat_lt, HoldsAt}
 use Rattle.fj_modes.specs.declared.modes.Modes.{Modes}
 use Rattle.fj_desk.specs.Core.{Connected as PlainConnected, connected_at, inserted, with_connected, without_connected}
-use Rattle.fj_units.specs.Units.{AreApart, AreOthers, connected_of, with_modes}
+use Rattle.fj_units.specs.Units.{AreApart, AreOthers, StandApart, connected_of, has_slot, same_slot, with_modes}
 use Rattle.fj_units.specs.declared.connected.Connected.{Connected}
+use Rattle.fj_units.proofs.Having.{differ_filter, inserted_differ}
+use Rattle.fj_units.proofs.Slots.{slots_kept}
 
 filter_map : {X Y : Type 0} → (g : X → Y) (q : Y → Bool) (xs : List X) → filter q (map g xs) ≡ map g (filter (λ x. q (g x)) xs)
 filter_map g q [] = refl
@@ -30,7 +32,7 @@ apart_if : (b : Bool) (u : PlainConnected) (us : List PlainConnected) → AreOth
 apart_if true u us d h = (d, h)
 apart_if false u us d h = h
 
-pub apart_filter : (p : PlainConnected → Bool) (us : List PlainConnected) → AreApart us → AreApart (filter p us)
+apart_filter : (p : PlainConnected → Bool) (us : List PlainConnected) → AreApart us → AreApart (filter p us)
 apart_filter p [] h = tt
 apart_filter p (u ∷ us) h = apart_if (p u) u (filter p us) (others_filter u.number p us h.0) (apart_filter p us h.1)
 
@@ -38,10 +40,10 @@ apart_filter p (u ∷ us) h = apart_if (p u) u (filter p us) (others_filter u.nu
 pub left_is : (n : ℕ) (xs ys : List Connected) → ys ≡ filter (λ (u : Connected). not (u.number == n)) xs → map connected_of ys ≡ without_connected n (map connected_of xs)
 left_is n xs ys e = ap (map connected_of) e ∙ sym (filter_map connected_of (λ (u : PlainConnected). not (u.number == n)) xs)
 
-pub left_apart : (n : ℕ) (xs ys : List Connected) → ys ≡ filter (λ (u : Connected). not (u.number == n)) xs → AreApart (map connected_of xs) → AreApart (map connected_of ys)
+pub left_apart : (n : ℕ) (xs ys : List Connected) → ys ≡ filter (λ (u : Connected). not (u.number == n)) xs → StandApart (map connected_of xs) → StandApart (map connected_of ys)
 left_apart n xs ys e h =
-    let P : List PlainConnected → Type 0 = λ us. AreApart us in
-    subst P (sym (left_is n xs ys e)) (apart_filter (λ (u : PlainConnected). not (u.number == n)) (map connected_of xs) h)
+    let kept : PlainConnected → Bool = λ (u : PlainConnected). not (u.number == n) in
+    subst StandApart (sym (left_is n xs ys e)) (record { numbers = apart_filter kept (map connected_of xs) h.numbers; slots = differ_filter same_slot kept (map connected_of xs) h.slots })
 
 pub filter_push : {X : Type 0} (p : X → Bool) (xs : List X) (x : X) → filter p (xs ++ x ∷ []) ≡ filter p xs ++ filter p (x ∷ [])
 filter_push p [] x = refl
@@ -92,11 +94,16 @@ apart_join : (ls : List PlainConnected) (n : PlainConnected) (bs : List PlainCon
 apart_join [] n bs ha hb below above = (others_above n.number n.number bs (omega arith) above, hb)
 apart_join (a ∷ ls) n bs ha hb below above = (others_join a.number ls n bs below.0 ha.0 above, apart_join ls n bs ha.1 hb below.1 above)
 
-pub inserted_apart : (n : PlainConnected) (us : List PlainConnected) → AreApart us → AreApart (inserted n us)
-inserted_apart n us h =
-    apart_join (filter (λ (u : PlainConnected). nat_lt u.number n.number) us) n (filter (λ (u : PlainConnected). nat_lt n.number u.number) us)
-    (apart_filter (λ (u : PlainConnected). nat_lt u.number n.number) us h) (apart_filter (λ (u : PlainConnected). nat_lt n.number u.number) us h)
-    (below_filter n.number us) (above_filter n.number us)
+pub inserted_apart : (n : PlainConnected) (us : List PlainConnected) → has_slot us n.slot ≡ false → StandApart us → StandApart (inserted n us)
+inserted_apart n us free h = record {
+  numbers = apart_join (filter (λ (u : PlainConnected). nat_lt u.number n.number) us) n (filter (λ (u : PlainConnected). nat_lt n.number u.number) us)
+      (apart_filter (λ (u : PlainConnected). nat_lt u.number n.number) us h.numbers) (apart_filter (λ (u : PlainConnected). nat_lt n.number u.number) us h.numbers)
+      (below_filter n.number us) (above_filter n.number us);
+  slots = inserted_differ same_slot (λ u v. back v.slot u.slot) n us h.slots free;
+}
+  where
+    back : (a b : ℕ) → (a == b) ≡ (b == a)
+    back a b = grind (arith, nat_tests)
 
 map_append : {X Y : Type 0} (f : X → Y) (xs ys : List X) → map f (xs ++ ys) ≡ map f xs ++ map f ys
 map_append f [] ys = refl
@@ -166,9 +173,9 @@ apart_placed (suc at) (u ∷ us) d new h lt e = (others_placed u.number at us d 
 
 -- the unit at a place has other modes
 pub modes_set : (xs : List Connected) (at n : ℕ) (m : Modes) (x y : Connected) → connected_of y ≡ (let u : PlainConnected = connected_of x in record u { modes = m }) → at < length xs → x ≡ get_or xs at x
-    → HoldsAt (λ (u : Connected). u.number ≡ n) xs at → AreApart (map connected_of xs)
-    → (map connected_of (set xs at y) ≡ with_modes (map connected_of xs) (connected_at (map connected_of xs) n) m) × AreApart (map connected_of (set xs at y))
-modes_set xs at n m x y becomes low is holds apart =
+    → HoldsAt (λ (u : Connected). u.number ≡ n) xs at → StandApart (map connected_of xs)
+    → (map connected_of (set xs at y) ≡ with_modes (map connected_of xs) (connected_at (map connected_of xs) n) m) × StandApart (map connected_of (set xs at y))
+modes_set xs at n m x y becomes low is holds h =
     let us : List PlainConnected = map connected_of xs in
     let u : PlainConnected = connected_of x in
     let new : PlainConnected = record u { modes = m } in
@@ -178,7 +185,10 @@ modes_set xs at n m x y becomes low is holds apart =
     let same : new.number ≡ (get_or us at u).number = ap (λ (y : PlainConnected). y.number) (sym here) in
     let written : map connected_of (set xs at y) ≡ set us at new = map-set connected_of xs at y ∙ ap (set us at) becomes in
     let found : connected_at us n ≡ Some u =
-    ap (connected_at us) (sym number ∙ same) ∙ found_at at us u apart within ∙ ap Some here in (
-      written ∙ placed_at at us u new apart within same ∙ ap (λ o. with_modes us o m) (sym found),
-      subst AreApart (sym written) (apart_placed at us u new apart within same),
+    ap (connected_at us) (sym number ∙ same) ∙ found_at at us u h.numbers within ∙ ap Some here in (
+      written ∙ placed_at at us u new h.numbers within same ∙ ap (λ o. with_modes us o m) (sym found),
+      subst StandApart (sym written) (record {
+        numbers = apart_placed at us u new h.numbers within same;
+        slots = slots_kept at us u new (ap (λ (y : PlainConnected). y.slot) (sym here)) h.slots;
+      }),
     )

@@ -4,6 +4,7 @@ use Rattle.std.specs.List.{list_any}
 use Rattle.std.specs.Str.{bytes_eq}
 use Rattle.fj_modes.specs.declared.modes.Modes.{Modes}
 use Rattle.fj_desk.specs.Core.{Connected as PlainConnected, with_connected}
+use Rattle.fj_units.specs.Having.{Differ}
 use Rattle.fj_units.specs.declared.connected.Connected.{Connected}
 
 abbrev pub connected_of : Connected → PlainConnected
@@ -31,3 +32,12 @@ AreOthers number (u ∷ us) = (u.number ≡ number → ⊥) × AreOthers number 
 abbrev pub AreApart : List PlainConnected → Type 0
 AreApart [] = Unit {0}
 AreApart (u ∷ us) = AreOthers u.number us × AreApart us
+
+-- they have the same slot
+abbrev pub same_slot : PlainConnected → PlainConnected → Bool
+same_slot u v = v.slot == u.slot
+
+-- each has a number and a slot of its own
+pub record StandApart (us : List PlainConnected) : Type 0 where
+  pub numbers : AreApart us
+  pub slots : Differ same_slot us

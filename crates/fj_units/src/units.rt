@@ -1,5 +1,5 @@
 // The connected units.
-ghost use Rattle.std.specs.Prelude.{◌≡◌, ◌+◌, ◌≤◌, ◌<◌, ◌++◌, ℕ, List, [], None, Some, length, map, filter, nat_lt, slice_get, HoldsAt, IfOk, IfSome, IfNone, OnOk};
+ghost use Rattle.std.specs.Prelude.{◌≡◌, false, ◌+◌, ◌≤◌, ◌<◌, ◌++◌, ℕ, List, [], None, Some, length, map, filter, nat_lt, slice_get, HoldsAt, IfOk, IfSome, IfNone, OnOk};
 ghost use Rattle.std.specs.Option.{option_copied, option_map, option_and_then};
 ghost use Rattle.fj_desk.specs.Core.{Connected as PlainConnected, connected_at, unit_named, inserted, without_connected};
 ghost use Rattle.fj_desk.specs.Desks.{most_slots};
@@ -17,7 +17,7 @@ use std::marker::Model;
 /// How many slots there are.
 const MOST_SLOTS: u32 = 16;
 
-/// The connected units, in ascending order of their numbers.
+/// The connected units, in ascending order of their numbers, each at a slot of its own.
 #[derive(Debug, Drop)]
 pub struct Units {
     list: Vec<Connected>,
@@ -26,13 +26,13 @@ pub struct Units {
 impl Model for Units {
     ghost use Rattle.std.specs.Prelude.{List, map};
     ghost use Rattle.fj_desk.specs.Core.{Connected};
-    ghost use Rattle.fj_units.specs.Units.{AreApart, connected_of};
+    ghost use Rattle.fj_units.specs.Units.{StandApart, connected_of};
 
     ghost Value = { List Connected };
 
     ghost view = { λ units. map connected_of units.list.items };
 
-    ghost invariant = { λ units. AreApart (map connected_of units.list.items) };
+    ghost invariant = { λ units. StandApart (map connected_of units.list.items) };
 }
 
 /// The unit of a number.
@@ -89,7 +89,9 @@ fn has_slot_in(list: &[Connected], slot: u32) -> bool
 /// The lowest of so many slots from this one on that no unit has.
 fn free_from(list: &[Connected], slot: u32, count: u32) -> Option<u32>
     requires { slot + count ≤ 16 }
-    ensures { result ≡ acting.free_from (map connected_of list.now) slot count }
+    ensures free { result ≡ acting.free_from (map connected_of list.now) slot count }
+    ensures place { IfSome result (λ free. free < slot + count) }
+    ensures own { IfSome result (λ free. has_slot (map connected_of list.now) free ≡ false) }
 {
     if count == 0 {
         return None;
@@ -210,9 +212,10 @@ impl Units {
         self.list.first()
     }
 
-    /// The units, in ascending order of their numbers.
+    /// The units, in ascending order of their numbers; there are no more than slots.
     pub fn as_slice(&self) -> &[Connected]
-        ensures { map connected_of result.now ≡ self.now }
+        ensures units { map connected_of result.now ≡ self.now }
+        ensures few { length self.now ≤ most_slots }
     {
         &self.list
     }
@@ -228,12 +231,21 @@ impl Units {
     pub fn free_slot(&self) -> Option<u32>
         ensures free { result ≡ acting.free_from self.now 0 most_slots }
         ensures place { IfSome result (λ slot. slot < most_slots) }
+        ensures own { IfSome result (λ slot. has_slot self.now slot ≡ false) }
     {
         free_from(&self.list, 0, MOST_SLOTS)
     }
 
-    /// Adds a unit, in place of one of its number. After want of memory the units are of no account.
+    /// Whether a unit has a slot.
+    pub fn has_slot(&self, slot: u32) -> bool
+        ensures { result ≡ has_slot self.now slot }
+    {
+        has_slot_in(&self.list, slot)
+    }
+
+    /// Adds a unit at a free slot, in place of one of its number. After want of memory the units are of no account.
     pub fn insert(&mut self, new: Connected) -> Result<(), AllocError>
+        requires { has_slot self.old new.slot ≡ false }
         ensures { OnOk result (self.new ≡ inserted (connected_of new) self.old) }
     {
         let alloc = *self.list.allocator();
@@ -247,8 +259,9 @@ impl Units {
         Ok(())
     }
 
-    /// These units and one more, in place of one of its number.
+    /// These units and one more at a free slot, in place of one of its number.
     pub fn with(&self, new: Connected) -> Result<Units, AllocError>
+        requires { has_slot self.now new.slot ≡ false }
         ensures { IfOk result (λ units. units ≡ inserted (connected_of new) self.now) }
     {
         let mut list = Vec::new(*self.list.allocator());

@@ -1,5 +1,4 @@
-use Rattle.fj_store.specs.Storage.{values_of}
-use Rattle.fj_items.proofs.Values.{load_back, none_back}
+use Rattle.fj_items.proofs.Values.{load_back}
 use Rattle.fj_items.proofs.giving.give_load.Goals as goal
 
 pub returns-in-Some-clause-vars : goal.returns-in-Some-clause-vars

@@ -1,4 +1,4 @@
-use Rattle.std.proofs.Common.{◌≡◌, ◌∙◌, ap}
+use Rattle.std.proofs.Common.{◌≡◌, ◌∙◌, true, ap}
 use Rattle.std.specs.Prelude.{unwrap_or}
 use Rattle.fj_bay.specs.Plain.{moving_of as job_of}
 use Rattle.fj_bay.specs.Jobs.{Moving}

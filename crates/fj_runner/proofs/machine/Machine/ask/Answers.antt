@@ -36,7 +36,7 @@ returns-in-Ok-clause-on g c = λ going over.
     let mid = c.next_ask.new.self in
     let new = c.admit.new.self in
     let a = c.admit.ensures.admitted in
-    let spent = c.in-Ok.ensures.spends going.at in
+    let spent = c.in-Ok.ensures.spends in
     going_asked m new going mid c.in-Ok.ask c.requires.idle (c.in-Ok.ensures.on going.at) c.next_ask.ensures.deck c.next_ask.ensures.tally c.in-Ok.ensures.sent c.in-Ok.ensures.slots c.next_ask.ensures.heard
     c.admit.ensures.deck c.admit.ensures.at c.admit.ensures.state c.admit.ensures.due.left c.admit.ensures.due.owed (subst (IsDueAsk (due_of new.tally.hand)) a.asked c.admit.ensures.due.due) spent.0 spent.1
 
@@ -50,6 +50,6 @@ admit-requires-clause-may g c =
     subst (λ (t : Tally). MayAsk c.in-Ok.ask t.owed.items t.left) (sym c.next_ask.ensures.tally)
     (∥∥₁_elim c.requires.going (may_prop c.in-Ok.ask m.tally.owed.items m.tally.left) (λ f.
     let on = f c.if-self.false in
-    let spent = c.in-Ok.ensures.spends on.at in
+    let spent = c.in-Ok.ensures.spends in
     may_ask c.in-Ok.ask m mid c.requires.idle
     (subst (λ l. OwesAsGiven m.tally.hand m.tally.owed.items m.state.sent.items l.items) (sym c.next_ask.ensures.heard) (c.requires.owes c.if-self.false)) c.in-Ok.ensures.sent c.in-Ok.ensures.slots on.asks spent.0 spent.1))

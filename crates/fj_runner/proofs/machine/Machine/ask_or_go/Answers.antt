@@ -24,29 +24,26 @@ returns-in-None-clause-fails g c = λ tells t i.
     (c.go.ensures.fails tells)
 
 pub returns-in-Some-clause-on : goal.returns-in-Some-clause-on
-returns-in-Some-clause-on g c = λ s st more here have counts connects few units kept. c.asked_by.ensures.on s st more here have counts connects few units kept
+returns-in-Some-clause-on g c = λ s st more here have counts few kept. c.asked_by.ensures.on s st more here have counts few kept
 
 pub returns-in-None-clause-on : goal.returns-in-None-clause-on
-returns-in-None-clause-on g c = λ s st more here have counts connects few units kept.
-    c.go.ensures.on (c.in-None.ensures.start s st more here have counts connects few units kept) (c.asked_by.ensures.on s st more here have counts connects few units kept)
+returns-in-None-clause-on g c = λ s st more here have counts few kept.
+    c.go.ensures.on (c.in-None.ensures.start s st more here have counts few kept) (c.asked_by.ensures.on s st more here have counts few kept)
 
 pub go-requires-clause-room : goal.go-requires-clause-room
 go-requires-clause-room g c = subst (λ s. HasRoom s.sent.items) (sym c.asked_by.ensures.state) (c.requires.room c.in-None.ensures.behind)
 
 pub returns-in-Some-clause-spends : goal.returns-in-Some-clause-spends
-returns-in-Some-clause-spends g c = λ jobs spends s st more here have counts connects few units kept none.
+returns-in-Some-clause-spends g c = λ jobs spends s counts.
     let m = c.args.self.now in
     subst (λ o. IfSome o (λ ask. Spent ask (jobs + jobs_from (length m.deck.statements) (m.at + 1)) c.asked_by.new.self)) c.in-Some.is (c.asked_by.ensures.spends jobs spends s counts)
 
 pub returns-in-None-clause-spends : goal.returns-in-None-clause-spends
-returns-in-None-clause-spends g c = λ jobs spends s st more here have counts connects few units kept none.
+returns-in-None-clause-spends g c = λ jobs spends s counts.
     let m = c.args.self.now in
     let mid = c.asked_by.new.self in
-    let most = length m.deck.statements in
-    let start = c.in-None.ensures.start s st more here have counts connects few units kept in
-    let on = c.asked_by.ensures.on s st more here have counts connects few units kept in
-    let ending = none_has c.asked_by.result _ c.in-None.is (c.asked_by.ensures.ending s counts) ∙ none in
+    let statements = length m.deck.statements in
     let past : m.at + 1 ≤ mid.at = omega (arith, c.in-None.ensures.at) in
-    let spent = subst (λ d. IfOk c.go.result (λ ask. Spent ask (jobs_from (length d.statements) mid.at) c.go.new.self)) c.asked_by.ensures.deck (c.go.ensures.spends start on ending) in
-    let few_jobs = from_later most (m.at + 1) mid.at past in
-    ok_spent c.go.result c.go.new.self (jobs_from most mid.at) (jobs + jobs_from most (m.at + 1)) (omega (arith, few_jobs)) spent
+    let spent = subst (λ d. IfOk c.go.result (λ ask. Spent ask (jobs_from (length d.statements) mid.at) c.go.new.self)) c.asked_by.ensures.deck c.go.ensures.spends in
+    let few_jobs = from_later statements (m.at + 1) mid.at past in
+    ok_spent c.go.result c.go.new.self (jobs_from statements mid.at) (jobs + jobs_from statements (m.at + 1)) (omega (arith, few_jobs)) spent

@@ -4,7 +4,7 @@ use Rattle.fj_turns.specs.Passing.{passed_by}
 use Rattle.fj_runner.specs.Machine.{rest_of}
 use Rattle.fj_runner.specs.Turned.{IsTurn}
 use Rattle.fj_runner.proofs.NextAsks.{passes_goes}
-use Rattle.fj_runner.specs.Going.{Connects, Counts, HaveTurned}
+use Rattle.fj_runner.specs.Going.{Counts, HaveTurned}
 use Rattle.fj_runner.proofs.Counting.{on_paused, on_passed, on_stopped}
 use Rattle.fj_runner.specs.Going.{DoesNotPause}
 use Rattle.fj_runner.specs.Spending.{Spends}
@@ -28,9 +28,9 @@ returns-in-Passes-clause-passed g c = λ files t i.
     ap (passed_by more) it.1
 
 pub returns-in-Pauses-clause-on : goal.returns-in-Pauses-clause-on
-returns-in-Pauses-clause-on g c = λ s st more here have counts connects few units kept.
+returns-in-Pauses-clause-on g c = λ s st more here have counts few kept.
     let m = c.args.self.now in
-    on_paused m s st more few units kept c.in-Pauses.ask here (subst (λ t. HaveTurned t m.state st.0.what) c.in-Pauses.is have) (subst (λ t. Counts t s m.state) c.in-Pauses.is counts) (subst (λ t. Connects t s m.state) c.in-Pauses.is connects)
+    on_paused m s st more few kept c.in-Pauses.ask here (subst (λ t. HaveTurned t m.state st.0.what) c.in-Pauses.is have) (subst (λ t. Counts t s m.state) c.in-Pauses.is counts)
 
 pub returns-in-Pauses-clause-sent : goal.returns-in-Pauses-clause-sent
 returns-in-Pauses-clause-sent g c = λ s counts.
@@ -43,14 +43,14 @@ returns-in-Pauses-clause-slots g c = λ s counts.
     (subst (λ t. Counts t s m.state) c.in-Pauses.is counts).3
 
 pub returns-in-Passes-clause-on : goal.returns-in-Passes-clause-on
-returns-in-Passes-clause-on g c = λ s st more here have counts connects few units kept.
+returns-in-Passes-clause-on g c = λ s st more here have counts few kept.
     let m = c.args.self.now in
     let at = subst (λ t. HaveTurned t m.state st.0.what) c.in-Passes.is have in
     let more_is = subst (λ t. Counts t s m.state) c.in-Passes.is counts in
-    on_passed m s st more few units kept _ refl refl refl at more_is.0 more_is.2 (subst (λ t. Connects t s m.state) c.in-Passes.is connects)
+    on_passed m s st more few kept _ refl refl refl at more_is.0 more_is.2
 
 pub returns-in-Passes-clause-start : goal.returns-in-Passes-clause-start
-returns-in-Passes-clause-start g c = λ s st more here have counts connects few units kept.
+returns-in-Passes-clause-start g c = λ s st more here have counts few kept.
     let m = c.args.self.now in
     (subst (λ t. HaveTurned t m.state st.0.what) c.in-Passes.is have).0
 
@@ -60,9 +60,9 @@ returns-in-Passes-clause-still g c = λ s counts.
     (subst (λ t. Counts t s m.state) c.in-Passes.is counts).1
 
 pub returns-in-Stops-clause-on : goal.returns-in-Stops-clause-on
-returns-in-Stops-clause-on g c = λ s st more here have counts connects few units kept.
+returns-in-Stops-clause-on g c = λ s st more here have counts few kept.
     let m = c.args.self.now in
-    on_stopped m s st more few units kept (subst (λ t. HaveTurned t m.state st.0.what) c.in-Stops.is have) (subst (λ t. Counts t s m.state) c.in-Stops.is counts).1
+    on_stopped m s st more few kept (subst (λ t. HaveTurned t m.state st.0.what) c.in-Stops.is have) (subst (λ t. Counts t s m.state) c.in-Stops.is counts).1
 
 pub returns-in-Stops-clause-sent : goal.returns-in-Stops-clause-sent
 returns-in-Stops-clause-sent g c = λ s counts.
@@ -75,14 +75,9 @@ returns-in-Passes-clause-behind g c = subst DoesNotPause (sym c.in-Passes.is) tt
 pub returns-in-Pauses-clause-spends : goal.returns-in-Pauses-clause-spends
 returns-in-Pauses-clause-spends g c = λ jobs spends s counts.
     let m = c.args.self.now in
-    spent_paused c.in-Pauses.ask m jobs (subst (λ t. Spends (length m.deck.statements) jobs t m.state) c.in-Pauses.is spends)
+    spent_paused c.in-Pauses.ask m jobs (subst (λ t. Spends jobs t m.state) c.in-Pauses.is spends)
 
 pub returns-in-Stops-clause-spends : goal.returns-in-Stops-clause-spends
 returns-in-Stops-clause-spends g c = λ jobs spends s counts none.
     let m = c.args.self.now in
     none_ended m.state.ending (subst (λ t. Counts t s m.state) c.in-Stops.is counts).1 none
-
-pub returns-in-Passes-clause-ending : goal.returns-in-Passes-clause-ending
-returns-in-Passes-clause-ending g c = λ s counts.
-    let m = c.args.self.now in
-    (subst (λ t. Counts t s m.state) c.in-Passes.is counts).2

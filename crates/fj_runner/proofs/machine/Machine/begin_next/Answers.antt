@@ -2,6 +2,7 @@ use Rattle.std.proofs.Common.{◌≡◌, ◌+◌, ◌≤◌, List, ◌∷◌, dr
 use Rattle.fj_plain.specs.State.{Files}
 use Rattle.fj_plain.specs.Statement.{Stated, stated, control_by}
 use Rattle.fj_units.specs.Files.{files_of}
+use Rattle.fj_turns.specs.Few.{most_jobs}
 use Rattle.fj_turns.specs.Run.{Start}
 use Rattle.fj_turns.specs.Turns.{Turn, turn_start, goes, Asked}
 use Rattle.fj_runner.specs.Failing.{FailsStage}
@@ -10,8 +11,8 @@ use Rattle.fj_runner.specs.Turned.{IsTurn, IsAsked}
 use Rattle.fj_runner.specs.declared.stage.Stage.TheVariants as stage
 use Rattle.fj_runner.proofs.GivingUp.{fails_for, fails_turn, passed_at}
 use Rattle.fj_runner.proofs.NextAsks.{read_at_hand, goes_at}
-use Rattle.fj_runner.proofs.Counting.{connects_by, files_at}
-use Rattle.fj_runner.specs.Spending.{Spent, most_jobs}
+use Rattle.fj_runner.proofs.Counting.{files_at}
+use Rattle.fj_runner.specs.Spending.{Spent}
 use Rattle.fj_runner.proofs.Spending.{from_next}
 use Rattle.fj_runner.proofs.machine.Machine.begin_next.Goals as goal
 
@@ -84,8 +85,7 @@ returns-in-Ok-clause-on g c = λ start i.
     let st : Stated = (lined, control_by lined.what) in
     let more : List Stated = drop (m.at + 1) (stated m.deck.statements) in
     let h = read_at_hand m.deck.statements c.as_slice.result.now m.at lined c.as_slice.ensures c.requires.at c.index-as_slice-self.is in
-    let connects = connects_by c.in-Ok.turned m.state.core.units c.start.new.self.core.units c.start.ensures.units in
-    c.asked_by.ensures.on m.state st more h (c.in-Ok.ensures.files (files_at m.state.stage m.state.core.names m.state.core.units lined.what start (i.files st more h))) c.in-Ok.ensures.counts connects i.few i.units (c.in-Ok.ensures.holds i.kept)
+    c.asked_by.ensures.on m.state st more h (c.in-Ok.ensures.files (files_at m.state.stage m.state.core.names m.state.core.units lined.what start (i.files st more h))) c.in-Ok.ensures.counts i.few (c.in-Ok.ensures.holds i.kept)
 
 pub returns-in-Ok-clause-start : goal.returns-in-Ok-clause-start
 returns-in-Ok-clause-start g c = λ start i.
@@ -94,8 +94,7 @@ returns-in-Ok-clause-start g c = λ start i.
     let st : Stated = (lined, control_by lined.what) in
     let more : List Stated = drop (m.at + 1) (stated m.deck.statements) in
     let h = read_at_hand m.deck.statements c.as_slice.result.now m.at lined c.as_slice.ensures c.requires.at c.index-as_slice-self.is in
-    let connects = connects_by c.in-Ok.turned m.state.core.units c.start.new.self.core.units c.start.ensures.units in
-    c.asked_by.ensures.start m.state st more h (c.in-Ok.ensures.files (files_at m.state.stage m.state.core.names m.state.core.units lined.what start (i.files st more h))) c.in-Ok.ensures.counts connects i.few i.units (c.in-Ok.ensures.holds i.kept)
+    c.asked_by.ensures.start m.state st more h (c.in-Ok.ensures.files (files_at m.state.stage m.state.core.names m.state.core.units lined.what start (i.files st more h))) c.in-Ok.ensures.counts i.few (c.in-Ok.ensures.holds i.kept)
 
 pub returns-in-Ok-clause-sent : goal.returns-in-Ok-clause-sent
 returns-in-Ok-clause-sent g c = c.asked_by.ensures.sent c.args.self.now.state c.in-Ok.ensures.counts
@@ -107,13 +106,7 @@ pub returns-in-Ok-clause-slots : goal.returns-in-Ok-clause-slots
 returns-in-Ok-clause-slots g c = c.asked_by.ensures.slots c.args.self.now.state c.in-Ok.ensures.counts
 
 pub returns-in-Ok-clause-spends : goal.returns-in-Ok-clause-spends
-returns-in-Ok-clause-spends g c = λ i none.
+returns-in-Ok-clause-spends g c =
     let m = c.args.self.now in
-    let most = length m.deck.statements in
-    let units = i.units none in
-    let low : length m.state.core.units ≤ most = omega (arith, units, c.requires.at) in
-    subst (λ jobs. IfSome c.asked_by.result (λ ask. Spent ask jobs c.asked_by.new.self)) (from_next most m.at c.requires.at)
-    (c.asked_by.ensures.spends (most_jobs most) (c.in-Ok.ensures.spends most low) m.state c.in-Ok.ensures.counts)
-
-pub returns-in-Ok-clause-ending : goal.returns-in-Ok-clause-ending
-returns-in-Ok-clause-ending g c = c.asked_by.ensures.ending c.args.self.now.state c.in-Ok.ensures.counts
+    subst (λ jobs. IfSome c.asked_by.result (λ ask. Spent ask jobs c.asked_by.new.self)) (from_next (length m.deck.statements) m.at c.requires.at)
+    (c.asked_by.ensures.spends most_jobs c.in-Ok.ensures.spends m.state c.in-Ok.ensures.counts)

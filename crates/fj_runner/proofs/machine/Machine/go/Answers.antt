@@ -17,7 +17,7 @@ loop-self-preserved g c =
     c.args.self.now c.loop-self.self c.begin_next.new.self c.in-Ok.asked c.loop-self.invariant c.in-Ok.ensures.steps (λ t. none_has c.in-Ok.asked _ c.in_default.is (c.in-Ok.ensures.passes t))
     (λ t. none_has c.in-Ok.asked _ c.in_default.is (c.in-Ok.ensures.passed t)) c.begin_next.ensures.deck c.begin_next.ensures.tally c.begin_next.ensures.kept
     (λ h i. (none_has c.in-Ok.asked _ c.in_default.is (c.in-Ok.ensures.start h i), c.in-Ok.ensures.on h i)) (none_has c.in-Ok.asked _ c.in_default.is c.in-Ok.ensures.still) c.begin_next.ensures.heard
-    (none_has c.in-Ok.asked _ c.in_default.is c.in-Ok.ensures.ending) (let e = none_has c.in-Ok.asked _ c.in_default.is c.in-Ok.ensures.at in omega (arith, e))
+    (let e = none_has c.in-Ok.asked _ c.in_default.is c.in-Ok.ensures.at in omega (arith, e))
 
 pub returns-in-Err-clause-fails : goal.returns-in-Err-clause-fails
 returns-in-Err-clause-fails g c = λ tells.
@@ -70,13 +70,12 @@ pub returns-in-Some-clause-slots : goal.returns-in-Some-clause-slots
 returns-in-Some-clause-slots g c = subst (λ o. IfSome o (λ ask. KeepsToSlots ask c.begin_next.new.self.state)) c.in-Some.is c.in-Ok.ensures.slots
 
 pub returns-in-Some-clause-spends : goal.returns-in-Some-clause-spends
-returns-in-Some-clause-spends g c = λ start i none.
+returns-in-Some-clause-spends g c =
     let m = c.args.self.now in
     let half = c.loop-self.self in
     let new = c.begin_next.new.self in
     let it = c.loop-self.invariant in
-    let most = length m.deck.statements in
-    let k = it.on start i in
-    let spent = subst (λ o. IfSome o (λ ask. Spent ask (jobs_from (length half.deck.statements) half.at) new)) c.in-Some.is (c.in-Ok.ensures.spends k.1 (it.ending ∙ none)) in
-    spent_le c.in-Some.ask new (jobs_from most half.at) (jobs_from most m.at) (from_later most m.at half.at it.at)
+    let statements = length m.deck.statements in
+    let spent = subst (λ o. IfSome o (λ ask. Spent ask (jobs_from (length half.deck.statements) half.at) new)) c.in-Some.is c.in-Ok.ensures.spends in
+    spent_le c.in-Some.ask new (jobs_from statements half.at) (jobs_from statements m.at) (from_later statements m.at half.at it.at)
     (subst (λ d. Spent c.in-Some.ask (jobs_from (length d.statements) half.at) new) it.deck spent)

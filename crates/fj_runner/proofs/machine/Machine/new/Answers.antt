@@ -31,7 +31,6 @@ returns-clause-on g c = λ sound.
       at = record {
         files = λ st more e. files;
         few = λ none. omega (arith, next);
-        units = λ none. let no : length c.in_ok-core.core.units ≡ 0 = ap (λ (k : PlainCore). length k.units) core in omega (arith, no);
         kept = core_kept c.as_slice.result.now c.in_ok-core.core (λ name. None) core;
       };
       sent = subst (CanCount c.in_ok-vec.field-0.items tally.left) (sym (ap asked_for t.0)) (first_can tally c.in_ok-vec.field-0.items t.5 sent);

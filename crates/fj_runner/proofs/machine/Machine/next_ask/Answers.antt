@@ -116,7 +116,7 @@ returns-in-Ok-clause-on g c = λ i.
     let more : List Stated = drop (m.at + 1) (stated m.deck.statements) in
     let low : m.at < length m.deck.statements = omega arith in
     let h = read_at_hand m.deck.statements c.as_slice.result.now m.at lined c.as_slice.ensures low c.index-as_slice-self.is in
-    c.ask_or_go.ensures.on m.state st more h (c.in-Ok.ensures.files (i.files st more h)) c.in-Ok.ensures.counts (c.in-Ok.ensures.connects (i.files st more h)) i.few i.units (c.in-Ok.ensures.holds i.kept)
+    c.ask_or_go.ensures.on m.state st more h (c.in-Ok.ensures.files (i.files st more h)) c.in-Ok.ensures.counts i.few (c.in-Ok.ensures.holds i.kept)
 
 pub returns-in-Ok-clause-sent : goal.returns-in-Ok-clause-sent
 returns-in-Ok-clause-sent g c = c.ask_or_go.ensures.sent c.args.self.now.state c.in-Ok.ensures.counts
@@ -128,23 +128,17 @@ pub ask_or_go-requires-clause-room : goal.ask_or_go-requires-clause-room
 ask_or_go-requires-clause-room g c = λ no. room_kept c.in-Ok.turned c.args.self.now.state c.turn.new.self c.in-Ok.ensures.counts no c.requires.room
 
 pub returns-in-Ok-clause-spends : goal.returns-in-Ok-clause-spends
-returns-in-Ok-clause-spends g c = λ i.
+returns-in-Ok-clause-spends g c =
     let m = c.args.self.now in
-    let most = length m.deck.statements in
-    let lined = c.index-as_slice-self.result in
-    let st : Stated = (lined, control_by lined.what) in
-    let more : List Stated = drop (m.at + 1) (stated m.deck.statements) in
-    let low : m.at < most = omega arith in
+    let statements = length m.deck.statements in
+    let low : m.at < statements = omega arith in
     let none : m.state.ending ≡ None = is_none_by m.state.ending (sym c.is_some.ensures ∙ c.if-is_some.false) in
-    let h = read_at_hand m.deck.statements c.as_slice.result.now m.at lined c.as_slice.ensures low c.index-as_slice-self.is in
-    let units = i.units none in
-    let within : length m.state.core.units ≤ most = omega (arith, units, low) in
-    let jobs = jobs_at most m.state.stage (length m.state.core.units) in
-    ok_lives c.ask_or_go.result m c.ask_or_go.new.self (jobs + jobs_from most (m.at + 1)) none low
-    (c.ask_or_go.ensures.spends jobs (c.in-Ok.ensures.spends most within) m.state st more h (c.in-Ok.ensures.files (i.files st more h)) c.in-Ok.ensures.counts (c.in-Ok.ensures.connects (i.files st more h)) i.few i.units (c.in-Ok.ensures.holds i.kept) none)
+    let jobs = jobs_at m.state.stage (length m.state.core.units) in
+    ok_lives c.ask_or_go.result m c.ask_or_go.new.self (jobs + jobs_from statements (m.at + 1)) none low
+    (c.ask_or_go.ensures.spends jobs c.in-Ok.ensures.spends m.state c.in-Ok.ensures.counts)
 
 pub returns-then-is_some-clause-spends : goal.returns-then-is_some-clause-spends
-returns-then-is_some-clause-spends g c = λ i.
+returns-then-is_some-clause-spends g c =
     let m = c.args.self.now in
     let Past = λ (x : Machine g.row.F.Denot g.F.FileStore). x.state.ending ≡ None → length x.deck.statements ≤ x.at in
     elim c.then-is_some.branch [

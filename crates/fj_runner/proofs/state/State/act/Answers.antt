@@ -44,14 +44,14 @@ returns-in-Finishes-clause-turn g c = λ more files core book stage plain e d.
     subst (λ p. IsTurn told bytes c.args.variables.now (st ∷ more) files c.finish.new.self c.finish.result (turn_act st p run)) (sym it) (c.finish.ensures.turn more files core book stage e)
 
 pub returns-in-Finishes-clause-spends : goal.returns-in-Finishes-clause-spends
-returns-in-Finishes-clause-spends g c = λ most. c.finish.ensures.spends most (jobs_of c.args.doing (length c.args.self.now.core.units))
+returns-in-Finishes-clause-spends g c = c.finish.ensures.spends (jobs_of c.args.doing (length c.args.self.now.core.units))
 
 pub returns-in-Gives-clause-spends : goal.returns-in-Gives-clause-spends
-returns-in-Gives-clause-spends g c = λ most.
+returns-in-Gives-clause-spends g c =
     let units = length c.args.self.now.core.units in
-    subst (λ d. Spends most (jobs_of d units) c.submit.result c.submit.new.self) (sym c.in-Gives.is) (c.submit.ensures.spends most)
+    subst (λ d. Spends (jobs_of d units) c.submit.result c.submit.new.self) (sym c.in-Gives.is) c.submit.ensures.spends
 
 pub returns-in-Awaits-clause-spends : goal.returns-in-Awaits-clause-spends
-returns-in-Awaits-clause-spends g c = λ most.
+returns-in-Awaits-clause-spends g c =
     let units = length c.args.self.now.core.units in
-    subst (λ d. Spends most (jobs_of d units) c.submit-in-Awaits.result c.submit-in-Awaits.new.self) (sym c.in-Awaits.is) (c.submit-in-Awaits.ensures.spends most)
+    subst (λ d. Spends (jobs_of d units) c.submit-in-Awaits.result c.submit-in-Awaits.new.self) (sym c.in-Awaits.is) c.submit-in-Awaits.ensures.spends

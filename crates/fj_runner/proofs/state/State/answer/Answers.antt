@@ -114,7 +114,7 @@ returns-then-has-clause-hears g c =
       store = refl;
       output = refl;
       units = refl;
-      jobs = λ most units. refl;
+      jobs = λ units. refl;
       told = is_more s.told.items s.due (number + 1) (omega (arith, s.told_slots, s.due_slot)) (ap (λ k. k + 1) n);
     }
 
@@ -132,6 +132,6 @@ returns-clause-hears g c =
       store = refl;
       output = refl;
       units = refl;
-      jobs = λ most units. ap (λ x. jobs_at most x units) (c.own.ensures ∙ ap (with_own s.due number c.args.job c.args.answer) c.replace-stage.ensures.value) ∙ own_jobs s.due number c.args.job c.args.answer s.stage most units;
+      jobs = λ units. ap (λ x. jobs_at x units) (c.own.ensures ∙ ap (with_own s.due number c.args.job c.args.answer) c.replace-stage.ensures.value) ∙ own_jobs s.due number c.args.job c.args.answer s.stage units;
       told = is_more s.told.items s.due (number + 1) (omega (arith, s.told_slots, s.due_slot)) (ap (λ k. k + 1) n);
     }

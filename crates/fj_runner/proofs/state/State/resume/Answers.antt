@@ -1,4 +1,4 @@
-use Rattle.std.proofs.Common.{◌≡◌, ◌+◌, ◌∷◌, drop, Some, refl, sym, subst, ap, ◌∙◌, ◌-◌, ◌<◌, ◌≤◌, length, arith}
+use Rattle.std.proofs.Common.{◌≡◌, ◌+◌, ◌∷◌, drop, Some, refl, sym, subst, ap, ◌∙◌, ◌-◌, ◌<◌, ◌≤◌, length, max, arith}
 use Rattle.std.proofs.lemmas.Option.{slice_get_within}
 use Rattle.fj_bay.specs.Jobs.{resume}
 use Rattle.fj_plain.specs.State.{Files}
@@ -105,17 +105,18 @@ pub returns-in-Ok-clause-holds : goal.returns-in-Ok-clause-holds
 returns-in-Ok-clause-holds g c = λ kept. subst (λ o. o.begun ≤ star_limit) (sym c.act.ensures.keeps.output) (c.in-Ok.ensures.keeps kept)
 
 pub returns-in-Some-clause-spends : goal.returns-in-Some-clause-spends
-returns-in-Some-clause-spends g c = λ most low.
+returns-in-Some-clause-spends g c =
     let slots = length c.args.slots in
     let next = c.args.next in
+    let most = max (length c.args.self.now.core.units) 2 in
     let within : next < slots = slice_get_within c.args.slots next c.in-Some.slot.now (sym c.in-Some.ensures) in
-    let few : ((slots - (next + 1)) + (most + 2)) + 1 ≤ (slots - next) + (most + 2) = omega (arith, within) in
-    ok_spends (went c.submit.result) most (((slots - (next + 1)) + (most + 2)) + 1) ((slots - next) + (most + 2)) c.submit.new.self few (c.submit.ensures.spends most)
+    let few : ((slots - (next + 1)) + most) + 1 ≤ (slots - next) + most = omega (arith, within) in
+    ok_spends (went c.submit.result) (((slots - (next + 1)) + most) + 1) ((slots - next) + most) c.submit.new.self few c.submit.ensures.spends
 
 pub returns-in-Ok-clause-spends : goal.returns-in-Ok-clause-spends
-returns-in-Ok-clause-spends g c = λ most low.
+returns-in-Ok-clause-spends g c =
     let units = length c.begin.new.core.units in
-    let fits : units ≤ most = subst (λ us. length us ≤ most) (sym c.begin.ensures.units) low in
-    let does = doing_few c.in-Ok.doing units most fits in
-    let few : jobs_of c.in-Ok.doing units ≤ (length c.args.slots - c.args.next) + (most + 2) = omega (arith, does) in
-    ok_spends (went c.act.result) most (jobs_of c.in-Ok.doing units) ((length c.args.slots - c.args.next) + (most + 2)) c.act.new.self few (c.act.ensures.spends most)
+    let most = max (length c.args.self.now.core.units) 2 in
+    let does : jobs_of c.in-Ok.doing units ≤ most = subst (λ us. jobs_of c.in-Ok.doing units ≤ max (length us) 2) c.begin.ensures.units (doing_few c.in-Ok.doing units) in
+    let few : jobs_of c.in-Ok.doing units ≤ (length c.args.slots - c.args.next) + most = omega (arith, does) in
+    ok_spends (went c.act.result) (jobs_of c.in-Ok.doing units) ((length c.args.slots - c.args.next) + most) c.act.new.self few c.act.ensures.spends

@@ -17,7 +17,7 @@ returns-clause-counts g c =
     (refl, refl, refl, record { inside = c.requires.slot; due = refl; owed = c.requires.owed; waits = subst (λ x. is_waiting x ≡ true) (sym c.put_stage.ensures) c.requires.waits })
 
 pub returns-clause-spends : goal.returns-clause-spends
-returns-clause-spends g c = λ most.
+returns-clause-spends g c =
     let units = length c.args.self.now.core.units in
-    let n = jobs_at most c.args.stage units in
-    subst (λ x. jobs_at most x units ≤ n) (sym c.put_stage.ensures) (omega arith)
+    let n = jobs_at c.args.stage units in
+    subst (λ x. jobs_at x units ≤ n) (sym c.put_stage.ensures) (omega arith)

@@ -57,7 +57,7 @@ invariant_of-self-clause-own_untold g c =
     subst (OwnIsUntold old.told.items) (sym c.put_stage.ensures) (own_not_told old.told.items old.sent.items c.args.slot c.args.stage old.within c.requires.own)
 
 pub returns-clause-spends : goal.returns-clause-spends
-returns-clause-spends g c = λ most.
+returns-clause-spends g c =
     let units = length c.args.self.now.core.units in
-    let n = jobs_at most c.args.stage units in
-    subst (λ x. jobs_at most x units + 1 ≤ n + 1) (sym c.put_stage.ensures) (omega arith)
+    let n = jobs_at c.args.stage units in
+    subst (λ x. jobs_at x units + 1 ≤ n + 1) (sym c.put_stage.ensures) (omega arith)

@@ -1,8 +1,9 @@
-use Rattle.std.proofs.Common.{◌≡◌, List, ◌∷◌, Some, IfOk, inl, refl, sym, ap, ◌∙◌, subst, ◌+◌, ◌-◌, ◌≤◌, length, arith}
+use Rattle.std.proofs.Common.{◌≡◌, List, ◌∷◌, Some, IfOk, inl, refl, sym, ap, ◌∙◌, subst, ◌+◌, ◌-◌, ◌≤◌, length, max, arith}
 use Rattle.fj_plain.specs.State.{Files, Entry}
 use Rattle.fj_plain.specs.Statement.{Stated, control_by}
 use Rattle.fj_desk.specs.Core.{Core, Connected}
 use Rattle.fj_turns.specs.Run.{Run}
+use Rattle.fj_turns.specs.Few.{most_jobs}
 use Rattle.fj_turns.specs.Turns.{halted_slots}
 use Rattle.fj_pending.specs.Plain.{held, entries}
 use Rattle.fj_pending.specs.Waits.{waited_of}
@@ -15,7 +16,7 @@ use Rattle.fj_turns.specs.Passing.{output_of}
 use Rattle.fj_plain.specs.Transfers.{star_limit}
 use Rattle.fj_units.specs.Having.{HaveFiles}
 use Rattle.fj_runner.proofs.Failures.{fails_from, fails_still}
-use Rattle.fj_runner.specs.Spending.{most_jobs}
+use Rattle.fj_runner.specs.Spending.{Spends}
 use Rattle.fj_runner.proofs.Spending.{halted_few, ok_spends}
 use Rattle.fj_runner.proofs.Numbering.{given_left, named_left, untold_left}
 use Rattle.fj_runner.proofs.Stepping.{given_up}
@@ -37,7 +38,7 @@ returns-in-Ok-tell_all-clause-turn g c = λ tells more stage.
     subst (λ t'. IfOk c.resume.result (λ t. IsTurn told bytes variables (st ∷ more) (files_of (g.D.Disk.held c.resume.new.disk)) c.resume.new.self t t'))
     (tells_turn st es run left c.in-Ok.slots c.in-Ok-tell_all.condition
     (told_run st es run (core_of files new) (held new.pending) (c.in-Ok-tell_all.ensures.core c.args.variables.now files c.requires.kinds) c.in-Ok-tell_all.ensures.left)
-    (c.in-Ok.ensures.halted ∙ ap (λ (us : List Connected). halted_slots es us) c.as_slice-units.ensures) c.in-Ok-tell_all.ensures.condition)
+    (c.in-Ok.ensures.halted ∙ ap (λ (us : List Connected). halted_slots es us) c.as_slice-units.ensures.units) c.in-Ok-tell_all.ensures.condition)
     (c.resume.ensures.turn tells more stage)
 
 pub returns-in-Ok-tell_all-clause-fails : goal.returns-in-Ok-tell_all-clause-fails
@@ -54,11 +55,11 @@ returns-in-Ok-tell_all-clause-fails g c = λ tells more stage.
     let left : Run = record run { core = core_of files new; book = held new.pending } in
     let due = tells_turn st es run left c.in-Ok.slots c.in-Ok-tell_all.condition
     (told_run st es run (core_of files new) (held new.pending) (c.in-Ok-tell_all.ensures.core c.args.variables.now files c.requires.kinds) c.in-Ok-tell_all.ensures.left)
-    (c.in-Ok.ensures.halted ∙ ap (λ (us : List Connected). halted_slots es us) c.as_slice-units.ensures) c.in-Ok-tell_all.ensures.condition in
+    (c.in-Ok.ensures.halted ∙ ap (λ (us : List Connected). halted_slots es us) c.as_slice-units.ensures.units) c.in-Ok-tell_all.ensures.condition in
     fails_from c.args.out.now c.resume.new.out s.core new c.resume.new.self.core c.resume.result _ _ _ _ _ _ c.tell_all.ensures.keeps.output (ap output_of due) (λ s. absurd s) (λ k. k)
     (ap (λ (k : Core). k.tells) (c.in-Ok-tell_all.ensures.core c.args.variables.now files c.requires.kinds))
     (ap Some (tells_doing st es run c.in-Ok.slots c.in-Ok-tell_all.condition (core_of files new) (c.in-Ok-tell_all.ensures.core c.args.variables.now files c.requires.kinds)
-    (c.in-Ok.ensures.halted ∙ ap (λ (us : List Connected). halted_slots es us) c.as_slice-units.ensures) c.in-Ok-tell_all.ensures.condition)) (c.resume.ensures.fails tells more stage)
+    (c.in-Ok.ensures.halted ∙ ap (λ (us : List Connected). halted_slots es us) c.as_slice-units.ensures.units) c.in-Ok-tell_all.ensures.condition)) (c.resume.ensures.fails tells more stage)
 
 pub invariant_of-self-2-clause-given : goal.invariant_of-self-2-clause-given
 invariant_of-self-2-clause-given g c =
@@ -94,11 +95,11 @@ returns-in-Err-tell_all-clause-fails g c = λ tells more stage.
     fails_still c.args.out.now c.args.self.now.core c.tell_all.new.core (given_up (Memory c.in-Err-tell_all.error)) _ _ _ (λ e. cc) (λ e. cc) (λ fits. inl (record { may = tt; units = c.tell_all.ensures.units; files = refl }))
 
 pub returns-in-Ok-tell_all-clause-spends : goal.returns-in-Ok-tell_all-clause-spends
-returns-in-Ok-tell_all-clause-spends g c = λ most low.
+returns-in-Ok-tell_all-clause-spends g c =
     let s = c.args.self.now in
     let es : List Entry = waited_of c.args.whose (entries s.core.pending) in
-    let are : c.in-Ok.slots ≡ halted_slots es s.core.units = c.in-Ok.ensures.halted ∙ ap (λ (us : List Connected). halted_slots es us) c.as_slice-units.ensures in
+    let are : c.in-Ok.slots ≡ halted_slots es s.core.units = c.in-Ok.ensures.halted ∙ ap (λ (us : List Connected). halted_slots es us) c.as_slice-units.ensures.units in
     let slots : length c.in-Ok.slots ≤ length s.core.units = subst (λ l. length l ≤ length s.core.units) (sym are) (halted_few es s.core.units) in
-    let few : (length c.in-Ok.slots - 0) + (most + 2) ≤ most_jobs most = omega (arith, slots, low) in
-    ok_spends c.resume.result most ((length c.in-Ok.slots - 0) + (most + 2)) (most_jobs most) c.resume.new.self few
-    (c.resume.ensures.spends most (subst (λ us. length us ≤ most) (sym c.tell_all.ensures.units) low))
+    let few : (length c.in-Ok.slots - 0) + max (length s.core.units) 2 ≤ most_jobs = omega (arith, slots, c.as_slice-units.ensures.few) in
+    ok_spends c.resume.result ((length c.in-Ok.slots - 0) + max (length s.core.units) 2) most_jobs c.resume.new.self few
+    (subst (λ us. IfOk c.resume.result (λ t. Spends ((length c.in-Ok.slots - 0) + max (length us) 2) t c.resume.new.self)) c.tell_all.ensures.units c.resume.ensures.spends)

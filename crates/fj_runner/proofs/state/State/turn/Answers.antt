@@ -29,7 +29,7 @@ use Rattle.fj_acts.specs.Jobs.{jobs_of}
 use Rattle.fj_acts.proofs.JobLemmas.{none_when_ended}
 use Rattle.fj_runner.specs.Spending.{Spends, jobs_at}
 use Rattle.fj_runner.proofs.Spending.{ok_spends}
-use Rattle.fj_runner.proofs.Counting.{connects_answered, connects_none, count_entered, entered_next}
+use Rattle.fj_runner.proofs.Counting.{count_entered, entered_next}
 use Rattle.fj_runner.proofs.state.State.turn.Goals as goal
 
 pub returns-in-Start-clause-turn : goal.returns-in-Start-clause-turn
@@ -354,57 +354,35 @@ returns-in-Awaiting-clause-holds g c = λ kept. subst IsKept (sym c.settle.ensur
 pub returns-in-Ok-doing-clause-holds : goal.returns-in-Ok-doing-clause-holds
 returns-in-Ok-doing-clause-holds g c = λ kept. subst (λ o. o.begun ≤ star_limit) (sym (c.act-in-Ok-doing.ensures.keeps.output ∙ c.answered-doing.ensures.output)) kept
 
-pub returns-in-Start-clause-connects : goal.returns-in-Start-clause-connects
-returns-in-Start-clause-connects g c = λ have. connects_none c.start.result c.args.self.now.core.units c.start.new.self.core.units c.start.ensures.units
-
-pub returns-in-Waiting-clause-connects : goal.returns-in-Waiting-clause-connects
-returns-in-Waiting-clause-connects g c = λ have. connects_none c.wait.result c.args.self.now.core.units c.wait.new.self.core.units c.wait.ensures.units
-
-pub returns-in-Resuming-clause-connects : goal.returns-in-Resuming-clause-connects
-returns-in-Resuming-clause-connects g c = λ have. connects_none c.resume.result c.args.self.now.core.units c.resume.new.self.core.units c.resume.ensures.units
-
-pub returns-in-Ok-clause-connects : goal.returns-in-Ok-clause-connects
-returns-in-Ok-clause-connects g c = λ have. connects_none (went c.act.result) c.args.self.now.core.units c.act.new.self.core.units (c.act.ensures.units ∙ c.given.ensures.units)
-
-pub returns-in-Awaiting-clause-connects : goal.returns-in-Awaiting-clause-connects
-returns-in-Awaiting-clause-connects g c = λ have. connects_none (Ok c.settle.result) c.args.self.now.core.units c.settle.new.self.core.units (ap (λ x. x.units) c.settle.ensures.core)
-
-pub returns-in-Ok-doing-clause-connects : goal.returns-in-Ok-doing-clause-connects
-returns-in-Ok-doing-clause-connects g c = λ have.
-    let s = c.args.self.now in
-    let files = subst (λ x. HaveAt x s.core.names s.core.units c.args.lined.now.what) (sym c.replace.ensures.value ∙ c.in-Answered.is) have in
-    connects_answered (went c.act-in-Ok-doing.result) c.in-Ok-doing.doing s.core.units c.answered-doing.new.core.units c.act-in-Ok-doing.new.self.core.units (c.in-Ok-doing.ensures.units files) c.act-in-Ok-doing.ensures.units
-    c.act-in-Ok-doing.ensures.ends
-
 pub returns-in-Start-clause-spends : goal.returns-in-Start-clause-spends
-returns-in-Start-clause-spends g c = λ most low.
+returns-in-Start-clause-spends g c =
     let units = length c.args.self.now.core.units in
-    subst (λ x. IfOk c.start.result (λ t. Spends most (jobs_at most x units) t c.start.new.self)) (sym (sym c.replace.ensures.value ∙ c.in-Start.is)) (c.start.ensures.spends most low)
+    subst (λ x. IfOk c.start.result (λ t. Spends (jobs_at x units) t c.start.new.self)) (sym (sym c.replace.ensures.value ∙ c.in-Start.is)) c.start.ensures.spends
 
 pub returns-in-Waiting-clause-spends : goal.returns-in-Waiting-clause-spends
-returns-in-Waiting-clause-spends g c = λ most low.
+returns-in-Waiting-clause-spends g c =
     let units = length c.args.self.now.core.units in
-    subst (λ x. IfOk c.wait.result (λ t. Spends most (jobs_at most x units) t c.wait.new.self)) (sym (sym c.replace.ensures.value ∙ c.in-Waiting.is)) (c.wait.ensures.spends most low)
+    subst (λ x. IfOk c.wait.result (λ t. Spends (jobs_at x units) t c.wait.new.self)) (sym (sym c.replace.ensures.value ∙ c.in-Waiting.is)) c.wait.ensures.spends
 
 pub returns-in-Resuming-clause-spends : goal.returns-in-Resuming-clause-spends
-returns-in-Resuming-clause-spends g c = λ most low.
+returns-in-Resuming-clause-spends g c =
     let units = length c.args.self.now.core.units in
-    subst (λ x. IfOk c.resume.result (λ t. Spends most (jobs_at most x units) t c.resume.new.self)) (sym (sym c.replace.ensures.value ∙ c.in-Resuming.is)) (c.resume.ensures.spends most low)
+    subst (λ x. IfOk c.resume.result (λ t. Spends (jobs_at x units) t c.resume.new.self)) (sym (sym c.replace.ensures.value ∙ c.in-Resuming.is)) c.resume.ensures.spends
 
 pub returns-in-Ok-clause-spends : goal.returns-in-Ok-clause-spends
-returns-in-Ok-clause-spends g c = λ most low.
+returns-in-Ok-clause-spends g c =
     let units = length c.given.new.core.units in
-    let few = none_when_ended c.in-Ok.doing units (jobs_at most c.args.self.now.stage (length c.args.self.now.core.units)) c.in-Ok.ensures.ends in
-    ok_spends (went c.act.result) most (jobs_of c.in-Ok.doing units) (jobs_at most c.args.self.now.stage (length c.args.self.now.core.units)) c.act.new.self few (c.act.ensures.spends most)
+    let few = none_when_ended c.in-Ok.doing units (jobs_at c.args.self.now.stage (length c.args.self.now.core.units)) c.in-Ok.ensures.ends in
+    ok_spends (went c.act.result) (jobs_of c.in-Ok.doing units) (jobs_at c.args.self.now.stage (length c.args.self.now.core.units)) c.act.new.self few c.act.ensures.spends
 
 pub returns-in-Awaiting-clause-spends : goal.returns-in-Awaiting-clause-spends
-returns-in-Awaiting-clause-spends g c = λ most low.
+returns-in-Awaiting-clause-spends g c =
     let units = length c.args.self.now.core.units in
-    subst (λ x. Spends most (jobs_at most x units) c.settle.result c.settle.new.self) (sym (sym c.replace.ensures.value ∙ c.in-Awaiting.is)) (c.settle.ensures.spends most)
+    subst (λ x. Spends (jobs_at x units) c.settle.result c.settle.new.self) (sym (sym c.replace.ensures.value ∙ c.in-Awaiting.is)) c.settle.ensures.spends
 
 pub returns-in-Ok-doing-clause-spends : goal.returns-in-Ok-doing-clause-spends
-returns-in-Ok-doing-clause-spends g c = λ most low.
+returns-in-Ok-doing-clause-spends g c =
     let units = length c.args.self.now.core.units in
     let left = length c.answered-doing.new.core.units in
-    let few = subst (λ x. jobs_of c.in-Ok-doing.doing left ≤ jobs_at most x units) (sym (sym c.replace.ensures.value ∙ c.in-Answered.is)) c.in-Ok-doing.ensures.jobs in
-    ok_spends (went c.act-in-Ok-doing.result) most (jobs_of c.in-Ok-doing.doing left) (jobs_at most c.args.self.now.stage units) c.act-in-Ok-doing.new.self few (c.act-in-Ok-doing.ensures.spends most)
+    let few = subst (λ x. jobs_of c.in-Ok-doing.doing left ≤ jobs_at x units) (sym (sym c.replace.ensures.value ∙ c.in-Answered.is)) c.in-Ok-doing.ensures.jobs in
+    ok_spends (went c.act-in-Ok-doing.result) (jobs_of c.in-Ok-doing.doing left) (jobs_at c.args.self.now.stage units) c.act-in-Ok-doing.new.self few c.act-in-Ok-doing.ensures.spends

@@ -24,4 +24,4 @@ returns-clause-files c = λ names u found have.
     let left : map connected_of c.retain.new.self.items ≡ without_connected c.args.number us =
     left_is c.args.number c.self.inside.list.items c.retain.new.self.items (filter_same _ (λ u. not (u.number == c.args.number)) _ (λ x b f' k. search rules) _ _ c.retain.ensures.filtered) in
     let P : List PlainConnected → Type 0 = λ vs. HaveFiles (left_of names u.name) vs in
-    subst P (sym left) (have_left names us c.args.number u c.self.invariant (subst (λ vs. connected_at vs c.args.number ≡ Some u) (sym c.self.view_is) found) (subst (HaveFiles names) (sym c.self.view_is) have))
+    subst P (sym left) (have_left names us c.args.number u c.self.invariant.numbers (subst (λ vs. connected_at vs c.args.number ≡ Some u) (sym c.self.view_is) found) (subst (HaveFiles names) (sym c.self.view_is) have))

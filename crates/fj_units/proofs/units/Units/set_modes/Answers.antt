@@ -27,4 +27,4 @@ returns-in-Some-clause-files c = λ names have.
     let us : List PlainConnected = map connected_of xs in
     let at_place : (c.in-Some.at < length xs) × HoldsAt (λ (u : Connected). u.number ≡ c.args.number) xs c.in-Some.at = rw (sym c.deref.ensures.value) c.in-Some.ensures.some in
     subst (HaveFiles names) (sym (modes_set xs c.in-Some.at c.args.number c.args.modes c.index_mut.result.now _ refl at_place.0 c.index_mut.ensures.value at_place.1 c.self.invariant).0)
-    (have_changed names us c.args.number c.args.modes c.self.invariant (subst (HaveFiles names) (sym c.self.view_is) have))
+    (have_changed names us c.args.number c.args.modes c.self.invariant.numbers (subst (HaveFiles names) (sym c.self.view_is) have))
