@@ -15,7 +15,7 @@ stored_width Int8 = 8
 stored_width Logical = 4
 stored_width (Chars n) = n
 
--- the bytes of a value of a kind; one of another kind has none
+-- the bytes of a value of a kind; a value of another type has none, nor has a number that 32 bits do not have for INTEGER(4)
 abbrev pub stored : Kind → Value → List ℕ
 stored Int4 (value.Int n) = if fits_bits 32 n then to_le_bytes w32 (cast_unsigned w32 n) else []
 stored Int8 (value.Int n) = to_le_bytes w64 (cast_unsigned w64 n)

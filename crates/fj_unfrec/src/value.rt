@@ -5,7 +5,8 @@ ghost use Rattle.fj_unfrec.specs.Stored.{stored, stored_width, value_of};
 use fj_value::{Kind, Text, Value};
 use std::alloc::{AllocError, Global};
 
-/// Adds the bytes of a value of a kind; one that is not of this kind has none. Want of memory changes nothing.
+/// Adds the bytes of a value of a kind. A value of another type has none, nor has a number that does not fit INTEGER(4). Want of memory
+/// changes nothing.
 pub fn put_value(kind: Kind, value: &Value, out: &mut Text) -> Result<(), AllocError>
     ensures ok { OnOk result (out.new ≡ out.old ++ stored kind value.now) }
     ensures err { OnErr result (out.new ≡ out.old) }
