@@ -1,11 +1,11 @@
 -- Where the disk fails in a statement's own call.
 use Rattle.std.proofs.Common.{◌≡◌, ◌⊎◌, ℕ, Bool, true, List, [], ◌∷◌, Option, Some, None, Result, Ok, Err, inl, inr, refl, sym, ap, subst, ◌∙◌}
-use Rattle.std.specs.Prelude.{◌≢◌, ◌↔◌, ◌&&◌, ℤ, false, OnErr, if◌then◌else◌, unwrap_or}
+use Rattle.std.specs.Prelude.{◌≢◌, ◌↔◌, ℤ, OnErr, if◌then◌else◌, unwrap_or}
 use Rattle.std.specs.List.{list_any}
 use Rattle.std.specs.FinMap as map
 use Rattle.fj_value.specs.declared.condition.Condition.{Condition}
-use Rattle.fj_value.specs.declared.condition.Condition.TheVariants.{Fine, EndOfFile, EndOfRecord, Error}
-use Rattle.fj_modes.specs.Modes.{settled, changed}
+use Rattle.fj_value.specs.declared.condition.Condition.TheVariants.{Fine}
+use Rattle.fj_modes.specs.Modes.{settled}
 use Rattle.fj_modes.specs.declared.asked.Wanted.{Wanted}
 use Rattle.fj_modes.specs.declared.unit.Motion.{Motion}
 use Rattle.fj_modes.specs.declared.unit.UnitRef.{UnitRef}
@@ -35,16 +35,16 @@ use Rattle.fj_statement.specs.declared.statement.Statement.TheVariants as statem
 use Rattle.fj_bay.specs.Halt.{halts}
 use Rattle.fj_bay.specs.Jobs.{Answer, Looked, detach}
 use Rattle.fj_bay.specs.Plain.{told_of}
-use Rattle.fj_plain.specs.Connecting.{file_due, keeps_name}
 use Rattle.fj_plain.specs.Needs.{number_of, number_given, unit_about}
 use Rattle.fj_plain.specs.Statement.{Stated, file_asked}
 use Rattle.fj_plain.specs.Telling.{is_asynchronous}
 use Rattle.fj_plain.specs.Transfers.{moved_in}
 use Rattle.fj_plain.specs.State.{Files}
 use Rattle.fj_plain.proofs.Units.{bytes_differ}
-use Rattle.fj_desk.specs.Acting.{all_closed, attaches, connects, connects_at, free_from, changes, closes, closes_first, closes_anyway, opens, opens_with, is_taken, moves, inquires, asks_connection, transferred, unless_refused, on_unit, transfer_at, if_numbered, unit_at, own, instead, doing}
+use Rattle.fj_desk.specs.Acting.{all_closed, attaches, connects, changes, opens, moves, inquires, asks_connection, transferred, transfer_at, if_numbered, unit_at, own, doing}
+use Rattle.fj_desk.proofs.Walking.{either, unit_by, closes_by, anyway_by, connects_by as new_by, open_by, doing_by}
 use Rattle.fj_desk.specs.Core.{Core as PlainCore, Connected, connected_at, unit_named, without_connected}
-use Rattle.fj_desk.specs.Desks.{Outcome, condition_in, look_in, most_slots}
+use Rattle.fj_desk.specs.Desks.{Outcome, condition_in, look_in}
 use Rattle.fj_desk.specs.Doing.{Doing, finishes}
 use Rattle.fj_items.specs.declared.lost.Lost.{Lost}
 use Rattle.fj_items.specs.declared.lost.Lost.TheVariants.{Disk}
@@ -78,13 +78,12 @@ attaches_there core number slot (Ok c) = record {
   files = λ name other. ap (λ b. if b then None else core.files name) (bytes_differ name c.name (λ same. other (ap Some (sym same))));
 }
 
-connects_there : (number : ℕ) (spec : OpenSpec) (modes : Modes) (core : PlainCore) (slot : Option ℕ) → Leaves core (connects_at number spec modes core slot)
-connects_there number spec modes core None = ends_there core _
-connects_there number spec modes core (Some slot) = attaches_there core number slot (opened_file (core.files (file_due spec number)) (file_due spec number) spec modes)
+connects_there : (number : ℕ) (spec : OpenSpec) (modes : Modes) (core : PlainCore) → Leaves core (connects number spec modes core)
+connects_there number spec modes core = new_by (Leaves core) core number spec modes (ends_there core) (λ slot c free e. attaches_there core number slot (Ok c))
 
 settled_there : (number : ℕ) (spec : OpenSpec) (core : PlainCore) (r : Result Modes Condition) → Leaves core (connects_by number spec core r)
 settled_there number spec core (Err condition) = ends_there core condition
-settled_there number spec core (Ok modes) = connects_there number spec modes core (free_from core.units 0 most_slots)
+settled_there number spec core (Ok modes) = connects_there number spec modes core
 
 opens_there : (what : Statement) (number : ℕ) (core : PlainCore) → Leaves core (connects_in what number core)
 opens_there (statement.OpenUnit unit spec iostat) number core = settled_there number spec core (settled spec)
@@ -105,39 +104,12 @@ goes_on_there what core (after.Finishes condition) = ends_there core condition
 goes_on_there what core (after.ClosesAll condition) = closes_there core.units core condition
 goes_on_there what core (after.Connects number) = opens_there what number core
 
-either_there : (core : PlainCore) (b : Bool) (x y : Doing) → Leaves core x → Leaves core y → Leaves core (if b then x else y)
-either_there core true x y l k = l
-either_there core false x y l k = k
-
 -- ---- so are those of what a statement does first
 
-changes_there : (core : PlainCore) (u : Connected) (r : Result Modes Condition) → Leaves core (changes core u r)
-changes_there core u (Err condition) = ends_there core condition
-changes_there core u (Ok modes) = record { units = refl; files = λ name other. refl }
-
-first_there : (core : PlainCore) (number : ℕ) (spec : OpenSpec) (modes : Modes) (old : Option Connected) → Leaves core (closes_first core old (connects number spec modes))
-first_there core number spec modes None = connects_there number spec modes core (free_from core.units 0 most_slots)
-first_there core number spec modes (Some u) = record { units = refl; files = λ name other. refl }
-
-another_there : (core : PlainCore) (number : ℕ) (spec : OpenSpec) (old : Option Connected) (r : Result Modes Condition) → Leaves core (opens_with core number spec old r)
-another_there core number spec old (Err condition) = ends_there core condition
-another_there core number spec old (Ok modes) = either_there core (is_taken core number (file_due spec number)) _ _ (ends_there core _) (first_there core number spec modes old)
-
-opened_there : (core : PlainCore) (number : ℕ) (spec : OpenSpec) (old : Option Connected) → Leaves core (opens core number spec old)
-opened_there core number spec None = another_there core number spec None (settled spec)
-opened_there core number spec (Some u) = either_there core (keeps_name u.name spec spec.file) _ _ (changes_there core u (changed u.modes spec)) (another_there core number spec (Some u) (settled spec))
-
-numbered_there : (core : PlainCore) (number : Option ℕ) (spec : OpenSpec) → Leaves core (if_numbered core number (λ n. opens core n spec (connected_at core.units n)))
-numbered_there core None spec = ends_there core _
-numbered_there core (Some n) spec = opened_there core n spec (connected_at core.units n)
-
-closed_there : (core : PlainCore) (keep : Option Bool) (old : Option Connected) → Leaves core (closes core keep old)
-closed_there core keep None = ends_there core Fine
-closed_there core keep (Some u) = either_there core (unwrap_or keep false && u.modes.scratch) _ _ (ends_there core _) (record { units = refl; files = λ name other. refl })
-
-anyway_there : (core : PlainCore) (keep : Option Bool) (condition : Condition) (old : Option Connected) → Leaves core (closes_anyway core keep condition old)
-anyway_there core keep condition None = ends_there core condition
-anyway_there core keep condition (Some u) = record { units = refl; files = λ name other. refl }
+open_there : (core : PlainCore) (number : Option ℕ) (spec : OpenSpec) → Leaves core (if_numbered core number (λ n. opens core n spec (connected_at core.units n)))
+open_there core number spec =
+    open_by (Leaves core) core spec number (ends_there core) (λ n u modes is e. record { units = refl; files = λ name other. refl }) (λ n modes is e. connects_there n spec modes core)
+    (λ n u modes is e other. record { units = refl; files = λ name other. refl })
 
 moved_there : (core : PlainCore) (how : Motion) (old : Option Connected) → Leaves core (moves core how old)
 moved_there core how None = ends_there core _
@@ -146,30 +118,21 @@ moved_there core how (Some u) = record { units = refl; files = λ name other. re
 asked_there : (variables : List Variable) (core : PlainCore) (number : Option ℕ) (file : Option (List ℕ)) (asked : List Wanted) (id : Option ℤ) (old : Option Connected) → Leaves core (inquires variables core number file asked id old)
 asked_there variables core number file asked id None = record { units = refl; files = λ name other. refl }
 asked_there variables core number file asked id (Some u) =
-    either_there core (list_any (λ (w : Wanted). asks_connection w.what) asked) _ _ (record { units = refl; files = λ name other. refl }) (record { units = refl; files = λ name other. refl })
+    either (Leaves core) (list_any (λ (w : Wanted). asks_connection w.what) asked) _ _ (record { units = refl; files = λ name other. refl }) (record { units = refl; files = λ name other. refl })
 
 module _ (control : ℕ → List Given) (variables : List Variable) (line : ℕ) (core : PlainCore) where
   carried_there : (t : Transfer) (moved : Moved) (u : Connected) → Leaves core (transferred control variables line core t moved u)
-  carried_there t moved u = either_there core (is_asynchronous t) _ _ (record { units = refl; files = λ name other. refl }) (record { units = refl; files = λ name other. refl })
-
-  unless_there : (t : Transfer) (moved : Moved) (u : Connected) (condition : Condition) → Leaves core (unless_refused control variables line core t moved u condition)
-  unless_there t moved u Fine = carried_there t moved u
-  unless_there t moved u EndOfFile = record { units = refl; files = λ name other. refl }
-  unless_there t moved u EndOfRecord = record { units = refl; files = λ name other. refl }
-  unless_there t moved u (Error n) = record { units = refl; files = λ name other. refl }
-
-  unit_there : (t : Transfer) (moved : Moved) (old : Option Connected) → Leaves core (on_unit control variables line core t moved old)
-  unit_there t moved None = record { units = refl; files = λ name other. refl }
-  unit_there t moved (Some u) = unless_there t moved u _
+  carried_there t moved u = either (Leaves core) (is_asynchronous t) _ _ (record { units = refl; files = λ name other. refl }) (record { units = refl; files = λ name other. refl })
 
   at_there : (t : Transfer) (moved : Moved) (ref : UnitRef) → Leaves core (transfer_at control variables line core t moved ref)
   at_there t moved unit.Star = record { units = refl; files = λ name other. refl }
-  at_there t moved (unit.Number n) = unit_there t moved (connected_at core.units n)
+  at_there t moved (unit.Number n) =
+      unit_by (Leaves core) control variables line core t moved (connected_at core.units n) (λ condition. record { units = refl; files = λ name other. refl }) (λ u e. carried_there t moved u)
 
   own_there : (what : Statement) → Leaves core (own control variables line core what)
   own_there (statement.Assign to from) = record { units = refl; files = λ name other. refl }
-  own_there (statement.OpenUnit u spec iostat) = numbered_there core (number_of u) spec
-  own_there (statement.CloseUnit u keep iostat) = closed_there core keep (unit_at core (number_of u))
+  own_there (statement.OpenUnit u spec iostat) = open_there core (number_of u) spec
+  own_there (statement.CloseUnit u keep iostat) = closes_by (Leaves core) core keep (unit_at core (number_of u)) (ends_there core) (λ u e. record { units = refl; files = λ name other. refl })
   own_there (statement.WaitFor u id iostat) = ends_there core Fine
   own_there (statement.Move how u iostat) = moved_there core how (unit_at core (number_of u))
   own_there (statement.Inquire subject asked id iostat) =
@@ -177,21 +140,11 @@ module _ (control : ℕ → List Given) (variables : List Variable) (line : ℕ)
   own_there (statement.Transfer t) = at_there t (moved_in variables core.vars t) t.unit
   own_there statement.End = closes_there core.units core Fine
 
-  instead_there : (what : Statement) (condition : Condition) → Leaves core (instead variables core what condition)
-  instead_there (statement.Assign to from) condition = ends_there core condition
-  instead_there (statement.OpenUnit u spec iostat) condition = ends_there core condition
-  instead_there (statement.CloseUnit u keep iostat) condition = anyway_there core keep condition (unit_at core (number_of u))
-  instead_there (statement.WaitFor u id iostat) condition = ends_there core condition
-  instead_there (statement.Move how u iostat) condition = ends_there core condition
-  instead_there (statement.Inquire subject asked id iostat) condition = ends_there core condition
-  instead_there (statement.Transfer t) condition = record { units = refl; files = λ name other. refl }
-  instead_there statement.End condition = closes_there core.units core condition
-
   pub doing_there : (what : Statement) (condition : Condition) → Leaves core (doing control variables line core what condition)
-  doing_there what Fine = own_there what
-  doing_there what EndOfFile = instead_there what EndOfFile
-  doing_there what EndOfRecord = instead_there what EndOfRecord
-  doing_there what (Error n) = instead_there what (Error n)
+  doing_there what =
+      doing_by (Leaves core) control variables line core what (own_there what) (λ vars condition. record { units = refl; files = λ name other. refl })
+      (λ u keep iostat condition is. anyway_by (Leaves core) core keep condition (unit_at core (number_of u)) (ends_there core condition) (λ u e. record { units = refl; files = λ name other. refl }))
+      (λ condition is. closes_there core.units core condition)
 
 -- ---- and of what it does once it has the number of its job, or the job came back
 
@@ -217,7 +170,7 @@ carries_there variables core (statement.WaitFor u id iostat) slot o = ends_there
 carries_there variables core (statement.Move how u iostat) slot o = ends_there core Fine
 carries_there variables core (statement.Inquire subject asked id iostat) slot o = ends_there core Fine
 carries_there variables core (statement.Transfer t) slot o =
-    either_there core (halts (condition_in o.1)) _ _ (record { units = refl; files = λ name other. refl }) (record { units = refl; files = λ name other. refl })
+    either (Leaves core) (halts (condition_in o.1)) _ _ (record { units = refl; files = λ name other. refl }) (record { units = refl; files = λ name other. refl })
 carries_there variables core statement.End slot o = ends_there core Fine
 
 seen_there : (variables : List Variable) (core : PlainCore) (number : Option ℕ) (file : Option (List ℕ)) (asked : List Wanted) (id : Option ℤ) (u : Option Connected) (look : Option Looked) → Leaves core (looks_at variables core number file asked id u look)

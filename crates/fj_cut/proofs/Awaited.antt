@@ -1,6 +1,6 @@
 -- A job that a statement waits for is at a unit of it, or is a connection's at a slot that no unit has.
 use Rattle.std.proofs.Common.{◌≡◌, ◌⊎◌, ℕ, ℤ, zero, suc, ◌<◌, arith, Bool, true, false, List, [], ◌∷◌, map, Option, Some, None, slice_get, refl, sym, ap, ◌∙◌, subst, inl, inr, ◌||◌, ◌&&◌}
-use Rattle.std.specs.Prelude.{◌==◌, if◌then◌else◌, filter, unwrap_or, option_map, Result, Ok, Err}
+use Rattle.std.specs.Prelude.{◌==◌, if◌then◌else◌, filter, option_map}
 use Rattle.std.specs.List.{All, AllPairs, list_any}
 use Rattle.std.specs.Str.{bytes_eq}
 use Rattle.std.proofs.lemmas.Bool.{eq-eqb, ne_eqb, eqb-true}
@@ -8,10 +8,8 @@ use Rattle.std.proofs.lemmas.Bool.Decides.{eqb_tells}
 use Rattle.std.proofs.lemmas.List.Elements.{All-head, All-tail}
 use Rattle.std.proofs.lemmas.Slice.Eq.{bytes_eq-Decides}
 use Rattle.fj_value.specs.declared.condition.Condition.{Condition}
-use Rattle.fj_value.specs.declared.condition.Condition.TheVariants.{Fine, EndOfFile, EndOfRecord, Error}
+use Rattle.fj_value.specs.declared.condition.Condition.TheVariants.{Fine}
 use Rattle.fj_modes.specs.declared.modes.Modes.{Modes}
-use Rattle.fj_modes.specs.Modes.{settled}
-use Rattle.fj_modes.specs.Modes as mode
 use Rattle.fj_modes.specs.declared.specifiers.OpenSpec.{OpenSpec}
 use Rattle.fj_modes.specs.declared.asked.Subject.TheVariants as subject
 use Rattle.fj_modes.specs.declared.asked.Wanted.{Wanted}
@@ -20,8 +18,6 @@ use Rattle.fj_modes.specs.declared.unit.UnitRef.{UnitRef}
 use Rattle.fj_modes.specs.declared.unit.UnitRef.TheVariants as unit
 use Rattle.fj_list.specs.declared.moved.Moved.{Moved}
 use Rattle.fj_control.specs.Steps.{Given}
-use Rattle.fj_connect.specs.Connection.{Connection}
-use Rattle.fj_connect.specs.Opening.{opened_file}
 use Rattle.fj_statement.specs.declared.deck.Variable.{Variable}
 use Rattle.fj_statement.specs.declared.statement.Statement.{Statement}
 use Rattle.fj_statement.specs.declared.statement.Statement.TheVariants as statement
@@ -31,20 +27,19 @@ use Rattle.fj_plain.specs.Needs.{number_of, number_given, unit_about, unit_of_fi
 use Rattle.fj_plain.specs.State.{Files, Entry, start}
 use Rattle.fj_plain.specs.Statement.{Stated, file_asked}
 use Rattle.fj_plain.specs.Telling.{of_unit, of_id, waited_by, is_asynchronous, condition_of, tells_id, waited_in}
-use Rattle.fj_plain.specs.Transfers.{moved_in, layout_of, refusal}
-use Rattle.fj_plain.specs.Connecting.{file_due, keeps_name}
+use Rattle.fj_plain.specs.Transfers.{moved_in}
 use Rattle.fj_plain.proofs.Lists.{pairs_head, pairs_tail}
 use Rattle.fj_plain.proofs.Sound.{Sound}
 use Rattle.fj_plain.proofs.Tells.{rising}
 use Rattle.fj_desk.specs.Core.{Core, Pending, Connected, connected_at, unit_named, without_connected}
-use Rattle.fj_desk.specs.Desks.{Desk, Outcome, carry, log_length, most_slots, entry_of}
+use Rattle.fj_desk.specs.Desks.{Desk, Outcome, carry, log_length, entry_of}
 use Rattle.fj_desk.specs.Desks as desks
 use Rattle.fj_desk.specs.Doing.{Doing, finishes, gives, awaits, Desked}
 use Rattle.fj_desk.specs.Desking.{entries, told_core, fresh}
-use Rattle.fj_desk.specs.Acting.{finishes_behind, transferred, unless_refused, on_unit, transfer_at, keeps, disconnected, came_out, closes, closes_anyway, all_closed, free_from, changes, is_taken, attaches, connects_at, connects, closes_first, opens_with, opens, moves, asks_connection, inquires, if_numbered, unit_at, own, instead, doing}
+use Rattle.fj_desk.specs.Acting.{finishes_behind, transferred, transfer_at, keeps, disconnected, came_out, closes, closes_anyway, all_closed, connects, opens, moves, asks_connection, inquires, if_numbered, unit_at, own, doing}
 use Rattle.fj_desk.proofs.Apart.{Each, each_imp, each_both, Differs, Apart}
-use Rattle.fj_desk.proofs.Opening.{free_found}
 use Rattle.fj_desk.proofs.Seen.{numbers_apart, named_same}
+use Rattle.fj_desk.proofs.Walking.{unit_by, closes_by, anyway_by, connects_by, open_by, doing_by}
 use Rattle.fj_turns.specs.Turns.{halted_slots, ends_halts, doing_told}
 use Rattle.fj_turns.specs.Inside.{waited_at, does, walked}
 use Rattle.fj_turns.specs.Run.{Run}
@@ -122,31 +117,19 @@ module _ (what : Statement) (names : Names) (unit_named_by : List ℕ → Option
       → Places (transferred control variables line core t moved u)
   transferred_places control variables line core t moved u at = either (is_asynchronous t) _ _ (λ e number. tt) (λ e. (at e, λ o. behind_places u _ _))
 
-  unless_places : (control : ℕ → List Given) (variables : List Variable) (line : ℕ) (core : Core) (t : Transfer) (moved : Moved) (u : Connected) (condition : Condition) → (is_asynchronous t ≡ false → IsPlace core.units u.slot)
-      → Places (unless_refused control variables line core t moved u condition)
-  unless_places control variables line core t moved u Fine at = transferred_places control variables line core t moved u at
-  unless_places control variables line core t moved u EndOfFile at = tt
-  unless_places control variables line core t moved u EndOfRecord at = tt
-  unless_places control variables line core t moved u (Error n) at = tt
-
-  on_unit_places : (control : ℕ → List Given) (variables : List Variable) (line : ℕ) (core : Core) (t : Transfer) (moved : Moved) (o : Option Connected)
-      → ((u : Connected) → o ≡ Some u → is_asynchronous t ≡ false → IsPlace core.units u.slot) → Places (on_unit control variables line core t moved o)
-  on_unit_places control variables line core t moved None at = tt
-  on_unit_places control variables line core t moved (Some u) at = unless_places control variables line core t moved u (refusal u.modes t (layout_of variables moved.cells t.control)) (at u refl)
-
   transfer_places : (control : ℕ → List Given) (variables : List Variable) (line : ℕ) (core : Core) (t : Transfer) (moved : Moved) (ref : UnitRef) → IsNamed core
       → (is_asynchronous t ≡ false → MayWait (number_of ref)) → Places (transfer_at control variables line core t moved ref)
   transfer_places control variables line core t moved unit.Star named w = tt
   transfer_places control variables line core t moved (unit.Number n) named w =
-      on_unit_places control variables line core t moved (connected_at core.units n) (λ u e k. place_of core (Some n) u named (w k) e)
+      unit_by Places control variables line core t moved (connected_at core.units n) (λ condition. tt) (λ u e. transferred_places control variables line core t moved u (λ k. place_of core (Some n) u named (w k) e))
 
-  closes_places : (core : Core) (keep : Option Bool) (number : Option ℕ) (o : Option Connected) → IsNamed core → MayWait number → unit_at core number ≡ o → Places (closes core keep o)
-  closes_places core keep number None named w e = tt
-  closes_places core keep number (Some u) named w e = either (unwrap_or keep false && u.modes.scratch) _ _ (λ k. tt) (λ k. (place_of core number u named w e, λ o. either (came_out u o) _ _ (λ i. tt) (λ i. tt)))
+  closes_places : (core : Core) (keep : Option Bool) (number : Option ℕ) → IsNamed core → MayWait number → Places (closes core keep (unit_at core number))
+  closes_places core keep number named w =
+      closes_by Places core keep (unit_at core number) (λ condition. tt) (λ u e. (place_of core number u named w e, λ o. either (came_out u o) _ _ (λ i. tt) (λ i. tt)))
 
-  anyway_places : (core : Core) (keep : Option Bool) (condition : Condition) (number : Option ℕ) (o : Option Connected) → IsNamed core → MayWait number → unit_at core number ≡ o → Places (closes_anyway core keep condition o)
-  anyway_places core keep condition number None named w e = tt
-  anyway_places core keep condition number (Some u) named w e = (place_of core number u named w e, λ o. either (came_out u o) _ _ (λ i. tt) (λ i. tt))
+  anyway_places : (core : Core) (keep : Option Bool) (condition : Condition) (number : Option ℕ) → IsNamed core → MayWait number → Places (closes_anyway core keep condition (unit_at core number))
+  anyway_places core keep condition number named w =
+      anyway_by Places core keep condition (unit_at core number) tt (λ u e. (place_of core number u named w e, λ o. either (came_out u o) _ _ (λ i. tt) (λ i. tt)))
 
   -- END, unit after unit
   end_places : (us : List Connected) (core : Core) (condition : Condition) → ((n : ℕ) → WaitsBy unit_named_by what n) → Apart (λ (u : Connected). u.number) us
@@ -162,38 +145,13 @@ module _ (what : Statement) (names : Names) (unit_named_by : List ℕ → Option
         (λ i. tt),
   )
 
-  changes_places : (core : Core) (u : Connected) (result : Result Modes Condition) → IsPlace core.units u.slot → Places (changes core u result)
-  changes_places core u (Err condition) at = tt
-  changes_places core u (Ok modes) at = (at, λ o. tt)
-
   connects_places : (core : Core) (number : ℕ) (spec : OpenSpec) (modes : Modes) → Places (connects number spec modes core)
-  connects_places core number spec modes = by (free_from core.units 0 most_slots) refl
-    where
-      attached : (slot : ℕ) → IsFree core.units slot → (result : Result Connection Condition) → Places (attaches core number slot result)
-      attached slot free (Err condition) = tt
-      attached slot free (Ok c) = (inr free, λ o. tt)
-
-      by : (o : Option ℕ) → free_from core.units 0 most_slots ≡ o → Places (connects_at number spec modes core o)
-      by None e = tt
-      by (Some slot) e =
-          attached slot (none_there core.units slot (free_found core.units 0 most_slots slot e).differs) (opened_file (core.files (file_due spec number)) (file_due spec number) spec modes)
-
-  first_places : (core : Core) (number : ℕ) (spec : OpenSpec) (modes : Modes) (o : Option Connected) → ((u : Connected) → o ≡ Some u → IsPlace core.units u.slot) → Places (closes_first core o (connects number spec modes))
-  first_places core number spec modes None at = connects_places core number spec modes
-  first_places core number spec modes (Some u) at = (at u refl, λ o. either (came_out u o) _ _ (λ i. connects_places (disconnected core u (keeps u) o) number spec modes) (λ i. tt))
-
-  with_places : (core : Core) (number : ℕ) (spec : OpenSpec) (o : Option Connected) (result : Result Modes Condition) → ((u : Connected) → o ≡ Some u → IsPlace core.units u.slot) → Places (opens_with core number spec o result)
-  with_places core number spec o (Err condition) at = tt
-  with_places core number spec o (Ok modes) at = either (is_taken core number (file_due spec number)) _ _ (λ e. tt) (λ e. first_places core number spec modes o at)
-
-  opens_places : (core : Core) (number : ℕ) (spec : OpenSpec) (o : Option Connected) → ((u : Connected) → o ≡ Some u → IsPlace core.units u.slot) → Places (opens core number spec o)
-  opens_places core number spec None at = with_places core number spec None (settled spec) at
-  opens_places core number spec (Some u) at =
-      either (keeps_name u.name spec spec.file) _ _ (λ e. changes_places core u (mode.changed u.modes spec) (at u refl)) (λ e. with_places core number spec (Some u) (settled spec) at)
+  connects_places core number spec modes = connects_by Places core number spec modes (λ condition. tt) (λ slot c free e. (inr (none_there core.units slot free.differs), λ o. tt))
 
   open_places : (core : Core) (number : Option ℕ) (spec : OpenSpec) → IsNamed core → MayWait number → Places (if_numbered core number (λ n. opens core n spec (connected_at core.units n)))
-  open_places core None spec named w = tt
-  open_places core (Some n) spec named w = opens_places core n spec (connected_at core.units n) (λ u e. place_of core (Some n) u named w e)
+  open_places core number spec named w =
+      open_by Places core spec number (λ condition. tt) (λ n u modes is e. (place_of core number u named w (ap (unit_at core) is ∙ e), λ o. tt)) (λ n modes is e. connects_places core n spec modes)
+      (λ n u modes is e other. (place_of core number u named w (ap (unit_at core) is ∙ e), λ o. either (came_out u o) _ _ (λ i. connects_places (disconnected core u (keeps u) o) n spec modes) (λ i. tt)))
 
   moves_places : (core : Core) (how : Motion) (number : Option ℕ) (o : Option Connected) → IsNamed core → MayWait number → unit_at core number ≡ o → Places (moves core how o)
   moves_places core how number None named w e = tt
@@ -221,7 +179,7 @@ module _ (control : ℕ → List Given) (variables : List Variable) (line : ℕ)
   own_places (statement.OpenUnit u spec iostat) =
       open_places (statement.OpenUnit u spec iostat) (names_of core.units) (unit_named core.units) core (number_of u) spec (λ n. refl) (λ n e. e)
   own_places (statement.CloseUnit u keep iostat) =
-      closes_places (statement.CloseUnit u keep iostat) (names_of core.units) (unit_named core.units) core keep (number_of u) (unit_at core (number_of u)) (λ n. refl) (λ n e. e) refl
+      closes_places (statement.CloseUnit u keep iostat) (names_of core.units) (unit_named core.units) core keep (number_of u) (λ n. refl) (λ n e. e)
   own_places (statement.WaitFor u id iostat) = tt
   own_places (statement.Move how u iostat) =
       moves_places (statement.Move how u iostat) (names_of core.units) (unit_named core.units) core how (number_of u) (unit_at core (number_of u)) (λ n. refl) (λ n e. e) refl
@@ -232,22 +190,12 @@ module _ (control : ℕ → List Given) (variables : List Variable) (line : ℕ)
       transfer_places (statement.Transfer t) (names_of core.units) (unit_named core.units) control variables line core t (moved_in variables core.vars t) t.unit (λ n. refl) (λ k n e. (k, e))
   own_places statement.End = ended Fine
 
-  instead_places : (st : Statement) (condition : Condition) → In st (instead variables core st condition)
-  instead_places (statement.Assign to from) condition = tt
-  instead_places (statement.OpenUnit u spec iostat) condition = tt
-  instead_places (statement.CloseUnit u keep iostat) condition =
-      anyway_places (statement.CloseUnit u keep iostat) (names_of core.units) (unit_named core.units) core keep condition (number_of u) (unit_at core (number_of u)) (λ n. refl) (λ n e. e) refl
-  instead_places (statement.WaitFor u id iostat) condition = tt
-  instead_places (statement.Move how u iostat) condition = tt
-  instead_places (statement.Inquire subject asked id iostat) condition = tt
-  instead_places (statement.Transfer t) condition = tt
-  instead_places statement.End condition = ended condition
-
   doing_places : (st : Statement) (condition : Condition) → In st (doing control variables line core st condition)
-  doing_places st Fine = own_places st
-  doing_places st EndOfFile = instead_places st EndOfFile
-  doing_places st EndOfRecord = instead_places st EndOfRecord
-  doing_places st (Error n) = instead_places st (Error n)
+  doing_places st condition =
+      doing_by (In st) control variables line core st (own_places st) (λ vars condition. tt)
+      (λ u keep iostat condition is. subst (λ s. In s (closes_anyway core keep condition (unit_at core (number_of u)))) (sym is)
+      (anyway_places (statement.CloseUnit u keep iostat) (names_of core.units) (unit_named core.units) core keep condition (number_of u) (λ n. refl) (λ n e. e)))
+      (λ condition is. subst (λ s. In s (all_closed core.units core condition)) (sym is) (ended condition)) condition
 
 module _ (what : Statement) (names : Names) (unit_named_by : List ℕ → Option ℕ) where
   halts_places : (slots : List ℕ) (core : Core) (next : Doing) → Places what names unit_named_by next → Places what names unit_named_by (ends_halts slots core next)

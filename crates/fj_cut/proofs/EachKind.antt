@@ -1,14 +1,12 @@
 -- Each kind of statement: a file that it is not about is as before after each of its jobs.
 use Rattle.std.proofs.Common.{◌≡◌, ◌⊎◌, ℕ, ℤ, ◌<◌, arith, Bool, true, false, not, List, [], ◌∷◌, Option, Some, None, slice_get, refl, sym, ap, ◌∙◌, subst, inl, inr, ◌&&◌}
-use Rattle.std.specs.Prelude.{◌==◌, ◌≢◌, if◌then◌else◌, filter, nat_lt, unwrap_or, option_map, option_and_then, Result, Ok, Err}
+use Rattle.std.specs.Prelude.{◌==◌, ◌≢◌, if◌then◌else◌, filter, nat_lt, unwrap_or, option_map, option_and_then, Ok}
 use Rattle.std.specs.List.{list_any}
 use Rattle.std.proofs.lemmas.Bool.Decides.{eqb_tells}
 use Rattle.fj_value.specs.declared.place.Place.{Place}
 use Rattle.fj_value.specs.declared.condition.Condition.{Condition}
-use Rattle.fj_value.specs.declared.condition.Condition.TheVariants.{Fine, EndOfFile, EndOfRecord, Error}
+use Rattle.fj_value.specs.declared.condition.Condition.TheVariants.{Fine, Error}
 use Rattle.fj_modes.specs.declared.modes.Modes.{Modes}
-use Rattle.fj_modes.specs.Modes.{settled}
-use Rattle.fj_modes.specs.Modes as mode
 use Rattle.fj_modes.specs.declared.specifiers.OpenSpec.{OpenSpec}
 use Rattle.fj_modes.specs.declared.specifiers.FileStatus.TheVariants.{Unknown}
 use Rattle.fj_modes.specs.declared.asked.Wanted.{Wanted}
@@ -20,7 +18,7 @@ use Rattle.fj_list.specs.declared.moved.Moved.{Moved}
 use Rattle.fj_control.specs.Steps.{Given}
 use Rattle.fj_connect.specs.Connection.{Connection}
 use Rattle.fj_connect.specs.declared.spot.Positioning.TheVariants as positioning
-use Rattle.fj_connect.specs.Opening.{bytes_opened, connected, connected_to}
+use Rattle.fj_connect.specs.Opening.{bytes_opened}
 use Rattle.fj_statement.specs.declared.deck.Variable.{Variable}
 use Rattle.fj_statement.specs.declared.statement.Statement.{Statement}
 use Rattle.fj_statement.specs.declared.statement.Statement.TheVariants as statement
@@ -30,8 +28,8 @@ use Rattle.fj_bay.specs.Jobs.{Job, attach, detach, go, change, flush, look, resu
 use Rattle.fj_plain.specs.Needs.{number_of, number_given, unit_about}
 use Rattle.fj_plain.specs.State.{Files, Entry, without_file}
 use Rattle.fj_plain.specs.Telling.{is_asynchronous, condition_of}
-use Rattle.fj_plain.specs.Transfers.{moved_in, layout_of, refusal}
-use Rattle.fj_plain.specs.Connecting.{file_due, keeps_name}
+use Rattle.fj_plain.specs.Transfers.{moved_in}
+use Rattle.fj_plain.specs.Connecting.{file_due}
 use Rattle.fj_plain.specs.Statement.{Stated, file_asked}
 use Rattle.fj_plain.proofs.Units.{bytes_differ}
 use Rattle.fj_desk.specs.Core.{Core, Connected, connected_at, unit_named, with_connected, inserted, without_connected}
@@ -39,10 +37,11 @@ use Rattle.fj_desk.specs.Desks.{Desk, carry, log_length, most_slots}
 use Rattle.fj_desk.specs.Desks as desks
 use Rattle.fj_desk.specs.Desking.{connection_at, all_left, told_core}
 use Rattle.fj_desk.specs.Doing.{Doing, finishes, gives, awaits}
-use Rattle.fj_desk.specs.Acting.{finishes_behind, transferred, unless_refused, on_unit, transfer_at, keeps, disconnected, detaches, closes, closes_anyway, all_closed, free_from, changes, is_taken, attaches, connects_at, connects, closes_first, opens_with, opens, job_of, moves, asks_connection, inquires, if_numbered, unit_at, own, instead, doing}
+use Rattle.fj_desk.specs.Acting.{finishes_behind, transferred, transfer_at, keeps, disconnected, detaches, closes, closes_anyway, all_closed, changes, attaches, connects, opens, job_of, moves, asks_connection, inquires, if_numbered, unit_at, own, doing}
 use Rattle.fj_desk.proofs.Apart.{Each, each_append, each_both, each_filter, each_imp, each_map, Differs, Apart}
 use Rattle.fj_desk.proofs.Carrying.{carry_other, carry_later}
-use Rattle.fj_desk.proofs.Opening.{free_found, gone_differs}
+use Rattle.fj_desk.proofs.Opening.{gone_differs}
+use Rattle.fj_desk.proofs.Walking.{either, unit_by, connects_by, open_by, doing_by}
 use Rattle.fj_turns.specs.Turns.{halted_slots, ends_halts, doing_told}
 use Rattle.fj_turns.proofs.Seated.{found_number}
 use Rattle.fj_cut.specs.Others.{IsHoused, names_of, opens_on, file_opened, file_about}
@@ -52,6 +51,7 @@ use Rattle.fj_cut.proofs.Carried.{Idles, resume_idles, flush_idles, look_idles, 
 use Rattle.fj_cut.proofs.Touching.{IsHome, touch, at, Other, all_is, still, at_slot, same_left, idle_at, change_idles, backspace_idles, rewind_idles, brought, Stand, stand_same}
 use Rattle.fj_cut.proofs.Housed.{home_housed, each_behind, each_idle, brought_housed, seat_in}
 use Rattle.fj_cut.proofs.Detached.{gone_out, gone_stand, gone_left}
+use Rattle.fj_cut.proofs.Connecting.{named_due, opens_new, opens_other}
 
 -- A file, and what it is to be; a fact by which the statement does not open it, and one by which the statement is not about it.
 module _ (name : List ℕ) (due : Option (List ℕ)) (NotOpened NotAbout : Type 0) where
@@ -84,10 +84,6 @@ module _ (name : List ℕ) (due : Option (List ℕ)) (NotOpened NotAbout : Type 
   ready_point : (ds : List Desk) (core : Core) → Ready ds core → Point ds core.units core.files
   ready_point ds core r = record { housed = each_imp (IsHome ds) (IsHoused ds) core.units (home_housed ds) r.stand.homes; is_due = λ b. r.is_due }
 
-  stays_if : (ds : List Desk) (b : Bool) (x y : Doing) → Stays ds x → Stays ds y → Stays ds (if b then x else y)
-  stays_if ds true x y h k = h
-  stays_if ds false x y h k = k
-
   -- a job at the slot of a unit leaves each other file
   job_point : (ds : List Desk) (core : Core) (slot : ℕ) (job : Job) → Ready ds core → (NotAbout → Each (λ x. at name (carry ds slot job) x ≡ at name ds x) core.units) → Point (carry ds slot job) core.units core.files
   job_point ds core slot job r same = record { housed = each_behind ds slot job core.units r.stand.homes; is_due = λ b. same_left name ds (carry ds slot job) core.units core.files (same b) ∙ r.is_due }
@@ -105,7 +101,7 @@ module _ (name : List ℕ) (due : Option (List ℕ)) (NotOpened NotAbout : Type 
 
   behind_stays : (ds : List Desk) (u : Connected) (core : Core) (condition : Condition) → Point ds core.units core.files → Stays ds (finishes_behind u core condition)
   behind_stays ds u core condition h =
-      stays_if ds (halts condition) _ _ (
+      either (Stays ds) (halts condition) _ _ (
         h,
         record {
           housed = each_idle ds u.slot resume core.units (idle_there (λ o. o) ds u.slot resume (resume_idles (λ o. o))) h.housed;
@@ -116,16 +112,9 @@ module _ (name : List ℕ) (due : Option (List ℕ)) (NotOpened NotAbout : Type 
   transferred_stays : (control : ℕ → List Given) (variables : List Variable) (line : ℕ) (ds : List Desk) (core : Core) (t : Transfer) (moved : Moved) (u : Connected) → Ready ds core
       → connected_at core.units u.number ≡ Some u → (NotAbout → Other name u.name) → Stays ds (transferred control variables line core t moved u)
   transferred_stays control variables line ds core t moved u r found other =
-      stays_if ds (is_asynchronous t) _ _
+      either (Stays ds) (is_asynchronous t) _ _
       (ready_point ds core r, other_point ds core u _ r found other)
       (record { homes = r.stand.homes; is_due = λ a. r.is_due }, behind_stays (carry ds u.slot _) u _ _ (other_point ds core u _ r found other))
-
-  unless_stays : (control : ℕ → List Given) (variables : List Variable) (line : ℕ) (ds : List Desk) (core : Core) (t : Transfer) (moved : Moved) (u : Connected) (condition : Condition) → Ready ds core
-      → connected_at core.units u.number ≡ Some u → (NotAbout → Other name u.name) → Stays ds (unless_refused control variables line core t moved u condition)
-  unless_stays control variables line ds core t moved u Fine r found other = transferred_stays control variables line ds core t moved u r found other
-  unless_stays control variables line ds core t moved u EndOfFile r found other = ready_point ds core r
-  unless_stays control variables line ds core t moved u EndOfRecord r found other = ready_point ds core r
-  unless_stays control variables line ds core t moved u (Error n) r found other = ready_point ds core r
 
   -- the unit of a number, whose file the statement is about
   own_number : (us : List Connected) (n : ℕ) (u : Connected) → connected_at us n ≡ Some u → connected_at us u.number ≡ Some u
@@ -134,16 +123,12 @@ module _ (name : List ℕ) (due : Option (List ℕ)) (NotOpened NotAbout : Type 
   other_file : (us : List Connected) (n : ℕ) (u : Connected) → connected_at us n ≡ Some u → (NotAbout → names_of us n ≢ Some name) → NotAbout → Other name u.name
   other_file us n u e h b = bytes_differ name u.name (λ q. h b (ap (option_map (λ (x : Connected). x.name)) e ∙ ap Some (sym q)))
 
-  unit_stays : (control : ℕ → List Given) (variables : List Variable) (line : ℕ) (ds : List Desk) (core : Core) (t : Transfer) (moved : Moved) (n : ℕ) (o : Option Connected) → Ready ds core
-      → connected_at core.units n ≡ o → (NotAbout → names_of core.units n ≢ Some name) → Stays ds (on_unit control variables line core t moved o)
-  unit_stays control variables line ds core t moved n None r e h = ready_point ds core r
-  unit_stays control variables line ds core t moved n (Some u) r e h =
-      unless_stays control variables line ds core t moved u (refusal u.modes t (layout_of variables moved.cells t.control)) r (own_number core.units n u e) (other_file core.units n u e h)
-
   transfer_stays : (control : ℕ → List Given) (variables : List Variable) (line : ℕ) (ds : List Desk) (core : Core) (t : Transfer) (moved : Moved) (to : UnitRef) → Ready ds core
       → (NotAbout → option_and_then (names_of core.units) (number_of to) ≢ Some name) → Stays ds (transfer_at control variables line core t moved to)
   transfer_stays control variables line ds core t moved unit.Star r h = ready_point ds core r
-  transfer_stays control variables line ds core t moved (unit.Number n) r h = unit_stays control variables line ds core t moved n (connected_at core.units n) r refl h
+  transfer_stays control variables line ds core t moved (unit.Number n) r h =
+      unit_by (Stays ds) control variables line core t moved (connected_at core.units n) (λ condition. ready_point ds core r)
+      (λ u e. transferred_stays control variables line ds core t moved u r (own_number core.units n u e) (other_file core.units n u e h))
 
   -- ---- CLOSE
 
@@ -217,9 +202,8 @@ module _ (name : List ℕ) (due : Option (List ℕ)) (NotOpened NotAbout : Type 
   -- ---- OPEN
 
   -- other modes: the unit keeps its slot
-  changes_stay : (ds : List Desk) (core : Core) (u : Connected) (result : Result Modes Condition) → Ready ds core → connected_at core.units u.number ≡ Some u → Stays ds (changes core u result)
-  changes_stay ds core u (Err condition) r found = ready_point ds core r
-  changes_stay ds core u (Ok modes) r found = (ready_wait ds core r, record { housed = each_map (IsHoused behind) g core.units housed; is_due = left })
+  changes_stay : (ds : List Desk) (core : Core) (u : Connected) (modes : Modes) → Ready ds core → connected_at core.units u.number ≡ Some u → Stays ds (changes core u (Ok modes))
+  changes_stay ds core u modes r found = (ready_wait ds core r, record { housed = each_map (IsHoused behind) g core.units housed; is_due = left })
     where
       new : Connected
       new = record u { modes = modes }
@@ -301,49 +285,29 @@ module _ (name : List ℕ) (due : Option (List ℕ)) (NotOpened NotAbout : Type 
 
   connects_stay : (ds : List Desk) (core : Core) (number : ℕ) (spec : OpenSpec) (modes : Modes) → Ready ds core → Differs (λ (x : Connected). x.number) number core.units
       → (NotOpened → Other name (file_due spec number)) → (NotAbout → Other name (file_due spec number)) → Stays ds (connects number spec modes core)
-  connects_stay ds core number spec modes r lacks opened about = by (free_from core.units 0 most_slots) refl
-    where
-      with_bytes : (slot : ℕ) → slot < most_slots → Differs (λ (x : Connected). x.slot) slot core.units → (result : Result (List ℕ) Condition) → Stays ds (attaches core number slot (connected_to modes (file_due spec number) result))
-      with_bytes slot inside free (Err condition) = ready_point ds core r
-      with_bytes slot inside free (Ok bytes) = attach_stays ds core number slot (connected modes (file_due spec number) bytes) r inside free lacks opened about
-
-      by : (o : Option ℕ) → free_from core.units 0 most_slots ≡ o → Stays ds (connects_at number spec modes core o)
-      by None e = ready_point ds core r
-      by (Some slot) e = let it = free_found core.units 0 most_slots slot e in with_bytes slot (omega (arith, it.inside)) it.differs (bytes_opened (unwrap_or spec.status Unknown) (core.files (file_due spec number)))
-
-  with_stays : (ds : List Desk) (core : Core) (number : ℕ) (spec : OpenSpec) (o : Option Connected) (result : Result Modes Condition) → Ready ds core → connected_at core.units number ≡ o
-      → (NotOpened → Other name (file_due spec number)) → (NotAbout → Other name (file_due spec number)) → Stays ds (opens_with core number spec o result)
-  with_stays ds core number spec o (Err condition) r e opened about = ready_point ds core r
-  with_stays ds core number spec o (Ok modes) r e opened about = stays_if ds (is_taken core number (file_due spec number)) _ _ (ready_point ds core r) (first o e)
-    where
-      first : (o : Option Connected) → connected_at core.units number ≡ o → Stays ds (closes_first core o (connects number spec modes))
-      first None e = connects_stay ds core number spec modes r (none_at core.units number e) opened about
-      first (Some u) e =
-          detaches_stay ds core u (connects number spec modes) r (own_number core.units number u e)
-          (λ later. connects_stay (carry ds u.slot (detach None)) (disconnected core u (keeps u) (desks.outcome ds u.slot (detach None))) number spec modes later
-          (subst (λ k. Differs (λ (x : Connected). x.number) k (without_connected u.number core.units)) (found_number core.units number u e) (gone_differs (λ (x : Connected). x.number) u.number core.units))
-          opened about)
-
-  opens_stay : (ds : List Desk) (core : Core) (number : ℕ) (spec : OpenSpec) (o : Option Connected) → Ready ds core → connected_at core.units number ≡ o
-      → (NotOpened → opens_on (option_map (λ (x : Connected). x.name) o) spec number ≢ Some name) → (NotAbout → opens_on (option_map (λ (x : Connected). x.name) o) spec number ≢ Some name)
-      → Stays ds (opens core number spec o)
-  opens_stay ds core number spec None r e opened about =
-      with_stays ds core number spec None (settled spec) r e
-      (λ a. bytes_differ name (file_due spec number) (λ q. opened a (ap Some (sym q)))) (λ b. bytes_differ name (file_due spec number) (λ q. about b (ap Some (sym q))))
-  opens_stay ds core number spec (Some u) r e opened about = by (keeps_name u.name spec spec.file) opened about
-    where
-      by : (k : Bool) → (NotOpened → (if k then None else Some (file_due spec number)) ≢ Some name) → (NotAbout → (if k then None else Some (file_due spec number)) ≢ Some name)
-          → Stays ds (if k then changes core u (mode.changed u.modes spec) else opens_with core number spec (Some u) (settled spec))
-      by true opened about = changes_stay ds core u (mode.changed u.modes spec) r (own_number core.units number u e)
-      by false opened about =
-          with_stays ds core number spec (Some u) (settled spec) r e
-          (λ a. bytes_differ name (file_due spec number) (λ q. opened a (ap Some (sym q)))) (λ b. bytes_differ name (file_due spec number) (λ q. about b (ap Some (sym q))))
+  connects_stay ds core number spec modes r lacks opened about =
+      connects_by (Stays ds) core number spec modes (λ condition. ready_point ds core r)
+      (λ slot c free e.
+      let named : c.name ≡ file_due spec number = named_due modes (file_due spec number) (bytes_opened (unwrap_or spec.status Unknown) (core.files (file_due spec number))) c e in
+      let inside : slot < most_slots = omega (arith, free.inside) in
+      attach_stays ds core number slot c r inside free.differs lacks (λ a. subst (Other name) (sym named) (opened a)) (λ b. subst (Other name) (sym named) (about b)))
 
   open_stays : (ds : List Desk) (core : Core) (number : Option ℕ) (spec : OpenSpec) → Ready ds core
       → (NotOpened → option_and_then (λ n. opens_on (names_of core.units n) spec n) number ≢ Some name) → (NotAbout → option_and_then (λ n. opens_on (names_of core.units n) spec n) number ≢ Some name)
       → Stays ds (if_numbered core number (λ n. opens core n spec (connected_at core.units n)))
-  open_stays ds core None spec r opened about = ready_point ds core r
-  open_stays ds core (Some n) spec r opened about = opens_stay ds core n spec (connected_at core.units n) r refl opened about
+  open_stays ds core number spec r opened about =
+      open_by (Stays ds) core spec number (λ condition. ready_point ds core r)
+      (λ n u modes is e. changes_stay ds core u modes r (own_number core.units n u e))
+      (λ n modes is e. let due = opens_new core.units number spec n is e in
+      connects_stay ds core n spec modes r (none_at core.units n e) (λ a. not_due n (opened a) due) (λ b. not_due n (about b) due))
+      (λ n u modes is e other. let due = opens_other core.units number spec n u is e other in
+      detaches_stay ds core u (connects n spec modes) r (own_number core.units n u e)
+      (λ later. connects_stay (carry ds u.slot (detach None)) (disconnected core u (keeps u) (desks.outcome ds u.slot (detach None))) n spec modes later
+      (subst (λ k. Differs (λ (x : Connected). x.number) k (without_connected u.number core.units)) (found_number core.units n u e) (gone_differs (λ (x : Connected). x.number) u.number core.units))
+      (λ a. not_due n (opened a) due) (λ b. not_due n (about b) due)))
+    where
+      not_due : (n : ℕ) → option_and_then (λ m. opens_on (names_of core.units m) spec m) number ≢ Some name → option_and_then (λ m. opens_on (names_of core.units m) spec m) number ≡ Some (file_due spec n) → Other name (file_due spec n)
+      not_due n other is = bytes_differ name (file_due spec n) (λ q. other (is ∙ ap Some (sym q)))
 
   -- ---- the motions, INQUIRE
 
@@ -362,7 +326,7 @@ module _ (name : List ℕ) (due : Option (List ℕ)) (NotOpened NotAbout : Type 
   inquires_stay : (variables : List Variable) (ds : List Desk) (core : Core) (number : Option ℕ) (file : Option (List ℕ)) (asked : List Wanted) (id : Option ℤ) (o : Option Connected) → Ready ds core → Stays ds (inquires variables core number file asked id o)
   inquires_stay variables ds core number file asked id None r = ready_point ds core r
   inquires_stay variables ds core number file asked id (Some u) r =
-      stays_if ds (list_any (λ (w : Wanted). asks_connection w.what) asked) _ _
+      either (Stays ds) (list_any (λ (w : Wanted). asks_connection w.what) asked) _ _
       (ready_wait ds core r, idle_point ds core u.slot (look None) r (look_idles (touch name) None)) (ready_point ds core r)
 
   -- ---- each kind of statement
@@ -408,22 +372,13 @@ module _ (name : List ℕ) (due : Option (List ℕ)) (NotOpened NotAbout : Type 
     own_stays (statement.Transfer t) opened about = transfer_stays control variables line ds core t (moved_in variables core.vars t) t.unit r about
     own_stays statement.End opened about = end_stays ds core Fine r
 
-    instead_stays : (st : Statement) (condition : Condition) → (NotAbout → file_about (names_of core.units) st ≢ Some name) → Stays ds (instead variables core st condition)
-    instead_stays (statement.Assign to from) condition about = ready_point ds core r
-    instead_stays (statement.OpenUnit u spec iostat) condition about = ready_point ds core r
-    instead_stays (statement.CloseUnit u keep iostat) condition about = anyway_at ds core keep condition (number_of u) r (deletes_about (names_of core.units) u keep iostat about)
-    instead_stays (statement.WaitFor u id iostat) condition about = ready_point ds core r
-    instead_stays (statement.Move how u iostat) condition about = ready_point ds core r
-    instead_stays (statement.Inquire subject asked id iostat) condition about = ready_point ds core r
-    instead_stays (statement.Transfer t) condition about = ready_point ds core r
-    instead_stays statement.End condition about = end_stays ds core condition r
-
     doing_stays : (st : Statement) (condition : Condition) → (NotOpened → file_opened (names_of core.units) st ≢ Some name) → (NotAbout → file_about (names_of core.units) st ≢ Some name)
         → Stays ds (doing control variables line core st condition)
-    doing_stays st Fine opened about = own_stays st opened about
-    doing_stays st EndOfFile opened about = instead_stays st EndOfFile about
-    doing_stays st EndOfRecord opened about = instead_stays st EndOfRecord about
-    doing_stays st (Error n) opened about = instead_stays st (Error n) about
+    doing_stays st condition opened about =
+        doing_by (Stays ds) control variables line core st (own_stays st opened about) (λ vars condition. ready_point ds core r)
+        (λ u keep iostat condition is. anyway_at ds core keep condition (number_of u) r
+        (deletes_about (names_of core.units) u keep iostat (subst (λ s. NotAbout → file_about (names_of core.units) s ≢ Some name) is about)))
+        (λ condition is. end_stays ds core condition r) condition
 
   -- ---- all that a statement does once its transfers are told
 

@@ -19,14 +19,15 @@ use Rattle.fj_bay.specs.Halt.{halts}
 use Rattle.fj_plain.specs.Needs.{number_of}
 use Rattle.fj_plain.specs.State.{Entry}
 use Rattle.fj_plain.specs.Telling.{is_asynchronous, condition_of}
-use Rattle.fj_plain.specs.Transfers.{moved_in, layout_of, refusal}
+use Rattle.fj_plain.specs.Transfers.{moved_in}
 use Rattle.fj_plain.specs.Statement.{Stated}
 use Rattle.fj_desk.specs.Core.{Core, Connected, connected_at, has_name}
 use Rattle.fj_desk.specs.Desks.{Desk, Outcome, carry, log_length}
 use Rattle.fj_desk.specs.Desks as desks
 use Rattle.fj_desk.specs.Desking.{told_core}
 use Rattle.fj_desk.specs.Doing.{Doing, finishes, gives, awaits, Desked}
-use Rattle.fj_desk.specs.Acting.{finishes_behind, unless_refused, on_unit, transfer_at, moves, unit_at, doing}
+use Rattle.fj_desk.specs.Acting.{finishes_behind, transferred, transfer_at, moves, unit_at, doing}
+use Rattle.fj_desk.proofs.Walking.{either, unit_by}
 use Rattle.fj_turns.specs.Turns.{halted_slots, ends_halts, doing_told}
 use Rattle.fj_turns.specs.Inside.{waited_at, does, walked}
 use Rattle.fj_cut.specs.Others.{names_of, file_about, file_renewed, core_now}
@@ -49,27 +50,16 @@ module _ (us : List Connected) where
   point_stays (suc k) ds (gives slot job core next) h = point_stays k (carry ds slot job) (next (log_length (slice_get ds slot))) (h.1 (log_length (slice_get ds slot)))
   point_stays (suc k) ds (awaits slot job core next) h = point_stays k (carry ds slot job) (next (desks.outcome ds slot job)) (h.1 (desks.outcome ds slot job))
 
-  either : (b : Bool) (x y : Doing) → Stays us x → Stays us y → Stays us (if b then x else y)
-  either true x y h k = h
-  either false x y h k = k
-
   behind_stays : (u : Connected) (core : Core) (condition : Condition) → core.units ≡ us → Stays us (finishes_behind u core condition)
-  behind_stays u core condition e = either (halts condition) _ _ (e, λ number. e) e
+  behind_stays u core condition e = either (Stays us) (halts condition) _ _ (e, λ number. e) e
 
   module _ (control : ℕ → List Given) (variables : List Variable) (line : ℕ) (core : Core) (e : core.units ≡ us) where
-    unless_stays : (t : Transfer) (moved : Moved) (u : Connected) (condition : Condition) → Stays us (unless_refused control variables line core t moved u condition)
-    unless_stays t moved u Fine = either (is_asynchronous t) _ _ (e, λ number. e) (e, λ o. behind_stays u _ _ e)
-    unless_stays t moved u EndOfFile = e
-    unless_stays t moved u EndOfRecord = e
-    unless_stays t moved u (Error n) = e
-
-    on_unit_stays : (t : Transfer) (moved : Moved) (o : Option Connected) → Stays us (on_unit control variables line core t moved o)
-    on_unit_stays t moved None = e
-    on_unit_stays t moved (Some u) = unless_stays t moved u (refusal u.modes t (layout_of variables moved.cells t.control))
+    transferred_stays : (t : Transfer) (moved : Moved) (u : Connected) → Stays us (transferred control variables line core t moved u)
+    transferred_stays t moved u = either (Stays us) (is_asynchronous t) _ _ (e, λ number. e) (e, λ o. behind_stays u _ _ e)
 
     transfer_stays : (t : Transfer) (moved : Moved) (ref : UnitRef) → Stays us (transfer_at control variables line core t moved ref)
     transfer_stays t moved unit.Star = e
-    transfer_stays t moved (unit.Number n) = on_unit_stays t moved (connected_at core.units n)
+    transfer_stays t moved (unit.Number n) = unit_by (Stays us) control variables line core t moved (connected_at core.units n) (λ condition. e) (λ u is. transferred_stays t moved u)
 
     moves_stays : (how : Motion) (o : Option Connected) → Stays us (moves core how o)
     moves_stays how None = e

@@ -1,15 +1,13 @@
 -- Each pending transfer has its job at the slot of its unit.
 use Rattle.std.proofs.Common.{◌≡◌, ℕ, ℤ, zero, suc, Bool, true, false, not, List, [], ◌∷◌, ◌++◌, map, Option, Some, None, slice_get, refl, sym, ap, ◌∙◌, subst, inl, inr, ◌||◌, ◌&&◌}
-use Rattle.std.specs.Prelude.{◌==◌, if◌then◌else◌, filter, nat_lt, option_map, unwrap_or, Result, Ok, Err}
+use Rattle.std.specs.Prelude.{◌==◌, if◌then◌else◌, filter, nat_lt, option_map, unwrap_or}
 use Rattle.std.specs.List.{list_any}
 use Rattle.std.proofs.lemmas.Bool.{eq-eqb, ne_eqb}
 use Rattle.std.proofs.lemmas.Bool.Decides.{eqb_tells}
 use Rattle.fj_value.specs.declared.condition.Condition.{Condition}
-use Rattle.fj_value.specs.declared.condition.Condition.TheVariants.{Fine, EndOfFile, EndOfRecord, Error}
+use Rattle.fj_value.specs.declared.condition.Condition.TheVariants.{Fine}
 use Rattle.fj_value.specs.declared.condition.Rule.{Rule}
 use Rattle.fj_modes.specs.declared.modes.Modes.{Modes}
-use Rattle.fj_modes.specs.Modes.{settled}
-use Rattle.fj_modes.specs.Modes as mode
 use Rattle.fj_modes.specs.declared.specifiers.OpenSpec.{OpenSpec}
 use Rattle.fj_modes.specs.declared.asked.Wanted.{Wanted}
 use Rattle.fj_modes.specs.declared.unit.Motion.{Motion}
@@ -17,8 +15,6 @@ use Rattle.fj_modes.specs.declared.unit.UnitRef.{UnitRef}
 use Rattle.fj_modes.specs.declared.unit.UnitRef.TheVariants as unit
 use Rattle.fj_list.specs.declared.moved.Moved.{Moved}
 use Rattle.fj_control.specs.Steps.{Given}
-use Rattle.fj_connect.specs.Connection.{Connection}
-use Rattle.fj_connect.specs.Opening.{opened_file}
 use Rattle.fj_statement.specs.declared.deck.Variable.{Variable}
 use Rattle.fj_statement.specs.declared.statement.Statement.{Statement}
 use Rattle.fj_statement.specs.declared.statement.Statement.TheVariants as statement
@@ -28,15 +24,15 @@ use Rattle.fj_plain.specs.Needs.{number_of, number_given, unit_about}
 use Rattle.fj_plain.specs.State.{Files, Entry}
 use Rattle.fj_plain.specs.Statement.{Stated, Ending, file_asked}
 use Rattle.fj_plain.specs.Telling.{of_unit, is_asynchronous, condition_of, tells_id, waited_in}
-use Rattle.fj_plain.specs.Transfers.{moved_in, layout_of, refusal}
-use Rattle.fj_plain.specs.Connecting.{file_due, keeps_name}
+use Rattle.fj_plain.specs.Transfers.{moved_in}
 use Rattle.fj_desk.specs.Core.{Core, Pending, Connected, connected_at, unit_named, with_connected, inserted, without_connected}
-use Rattle.fj_desk.specs.Desks.{Desk, Outcome, Brought, brought_by, carry, log_at, log_length, most_slots, entry_with, entry_of}
+use Rattle.fj_desk.specs.Desks.{Desk, Outcome, Brought, brought_by, carry, log_at, log_length, entry_with, entry_of}
 use Rattle.fj_desk.specs.Desks as desks
 use Rattle.fj_desk.specs.Doing.{Doing, finishes, gives, awaits, Desked, acted}
 use Rattle.fj_desk.specs.Desking.{entries, told_core, completed, goes_on, desk_step, fresh}
-use Rattle.fj_desk.specs.Acting.{pending_of, finishes_behind, transferred, unless_refused, on_unit, transfer_at, keeps, disconnected, came_out, closes, closes_anyway, all_closed, free_from, changes, is_taken, attaches, connects_at, connects, closes_first, opens_with, opens, moves, asks_connection, inquires, if_numbered, unit_at, own, instead, doing}
+use Rattle.fj_desk.specs.Acting.{pending_of, finishes_behind, transferred, transfer_at, keeps, disconnected, came_out, closes, closes_anyway, all_closed, connects, opens, moves, asks_connection, inquires, if_numbered, unit_at, own, doing}
 use Rattle.fj_desk.proofs.Apart.{Each, each_imp, each_filter, each_append}
+use Rattle.fj_desk.proofs.Walking.{either, unit_by, closes_by, anyway_by, connects_by, open_by, doing_by}
 use Rattle.fj_turns.specs.Turns.{halted_slots, ends_halts, rule_of}
 use Rattle.fj_turns.specs.Inside.{waited_at, does, cut_desks}
 use Rattle.fj_turns.proofs.Seated.{found_number}
@@ -141,34 +137,19 @@ Ends (finishes core condition) = AreSeated core
 Ends (gives slot job core next) = (number : ℕ) → Ends (next number)
 Ends (awaits slot job core next) = (o : Outcome) → Ends (next o)
 
-ends_if : (b : Bool) (x y : Doing) → Ends x → Ends y → Ends (if b then x else y)
-ends_if true x y h k = h
-ends_if false x y h k = k
-
 behind_ends : (u : Connected) (core : Core) (condition : Condition) → AreSeated core → Ends (finishes_behind u core condition)
-behind_ends u core condition h = ends_if (halts condition) _ _ (λ number. h) h
+behind_ends u core condition h = either Ends (halts condition) _ _ (λ number. h) h
 
 transferred_ends : (control : ℕ → List Given) (variables : List Variable) (line : ℕ) (core : Core) (t : Transfer) (moved : Moved) (u : Connected) → AreSeated core → connected_at core.units u.number ≡ Some u
     → Ends (transferred control variables line core t moved u)
 transferred_ends control variables line core t moved u h at =
-    ends_if (is_asynchronous t) _ _ (λ number. each_append (HasSeat core.units) core.book (pending_of variables core t u number ∷ []) h ((u, at, refl), tt)) (λ o. behind_ends u _ _ h)
-
-unless_ends : (control : ℕ → List Given) (variables : List Variable) (line : ℕ) (core : Core) (t : Transfer) (moved : Moved) (u : Connected) (condition : Condition) → AreSeated core
-    → connected_at core.units u.number ≡ Some u → Ends (unless_refused control variables line core t moved u condition)
-unless_ends control variables line core t moved u Fine h at = transferred_ends control variables line core t moved u h at
-unless_ends control variables line core t moved u EndOfFile h at = h
-unless_ends control variables line core t moved u EndOfRecord h at = h
-unless_ends control variables line core t moved u (Error n) h at = h
-
-on_unit_ends : (control : ℕ → List Given) (variables : List Variable) (line : ℕ) (core : Core) (t : Transfer) (moved : Moved) (n : ℕ) (o : Option Connected) → AreSeated core → connected_at core.units n ≡ o
-    → Ends (on_unit control variables line core t moved o)
-on_unit_ends control variables line core t moved n None h e = h
-on_unit_ends control variables line core t moved n (Some u) h e =
-    unless_ends control variables line core t moved u (refusal u.modes t (layout_of variables moved.cells t.control)) h (ap (connected_at core.units) (found_number core.units n u e) ∙ e)
+    either Ends (is_asynchronous t) _ _ (λ number. each_append (HasSeat core.units) core.book (pending_of variables core t u number ∷ []) h ((u, at, refl), tt)) (λ o. behind_ends u _ _ h)
 
 transfer_ends : (control : ℕ → List Given) (variables : List Variable) (line : ℕ) (core : Core) (t : Transfer) (moved : Moved) (ref : UnitRef) → AreSeated core → Ends (transfer_at control variables line core t moved ref)
 transfer_ends control variables line core t moved unit.Star h = h
-transfer_ends control variables line core t moved (unit.Number n) h = on_unit_ends control variables line core t moved n (connected_at core.units n) h refl
+transfer_ends control variables line core t moved (unit.Number n) h =
+    unit_by Ends control variables line core t moved (connected_at core.units n) (λ condition. h)
+    (λ u e. transferred_ends control variables line core t moved u h (ap (connected_at core.units) (found_number core.units n u e) ∙ e))
 
 -- a unit that goes, of which none is pending
 without_seated : (core : Core) (u : Connected) (n : ℕ) (keep : Bool) (o : Outcome) → AreSeated core → Gone n core → u.number ≡ n → AreSeated (disconnected core u keep o)
@@ -183,56 +164,33 @@ by_number : (us : List Connected) (number : Option ℕ) (u : Connected) (core : 
 by_number us None u core same e = cc
 by_number us (Some n) u core same e = (n, refl, found_number core.units n u e)
 
-closes_ends : (core : Core) (keep : Option Bool) (number : Option ℕ) (o : Option Connected) → AreSeated core → GoneAt number core → unit_at core number ≡ o → Ends (closes core keep o)
-closes_ends core keep number None h gone e = h
-closes_ends core keep number (Some u) h gone e =
-    let at = by_number core.units number u core refl e in
-    ends_if (unwrap_or keep false && u.modes.scratch) _ _ h (λ o. ends_if (came_out u o) _ _ (without_seated core u at.0 (unwrap_or keep (keeps u)) o h (gone at.0 at.1) at.2) h)
+closes_ends : (core : Core) (keep : Option Bool) (number : Option ℕ) → AreSeated core → GoneAt number core → Ends (closes core keep (unit_at core number))
+closes_ends core keep number h gone =
+    closes_by Ends core keep (unit_at core number) (λ condition. h)
+    (λ u e. let at = by_number core.units number u core refl e in (λ o. either Ends (came_out u o) _ _ (without_seated core u at.0 (unwrap_or keep (keeps u)) o h (gone at.0 at.1) at.2) h))
 
-anyway_ends : (core : Core) (keep : Option Bool) (condition : Condition) (number : Option ℕ) (o : Option Connected) → AreSeated core → GoneAt number core → unit_at core number ≡ o → Ends (closes_anyway core keep condition o)
-anyway_ends core keep condition number None h gone e = h
-anyway_ends core keep condition number (Some u) h gone e = let at = by_number core.units number u core refl e in (λ o. ends_if (came_out u o) _ _ (without_seated core u at.0 (keeps u && unwrap_or keep true) o h (gone at.0 at.1) at.2) h)
+anyway_ends : (core : Core) (keep : Option Bool) (condition : Condition) (number : Option ℕ) → AreSeated core → GoneAt number core → Ends (closes_anyway core keep condition (unit_at core number))
+anyway_ends core keep condition number h gone =
+    anyway_by Ends core keep condition (unit_at core number) h
+    (λ u e. let at = by_number core.units number u core refl e in (λ o. either Ends (came_out u o) _ _ (without_seated core u at.0 (keeps u && unwrap_or keep true) o h (gone at.0 at.1) at.2) h))
 
 end_ends : (us : List Connected) (core : Core) (condition : Condition) → core.book ≡ [] → Ends (all_closed us core condition)
 end_ends [] core condition e = none_seated core e
-end_ends (u ∷ us) core condition e = λ o. ends_if (came_out u o) _ _ (end_ends us (disconnected core u (keeps u) o) condition e) (none_seated core e)
-
-changes_ends : (core : Core) (u : Connected) (n : ℕ) (result : Result Modes Condition) → AreSeated core → Gone n core → u.number ≡ n → Ends (changes core u result)
-changes_ends core u n (Err condition) h gone e = h
-changes_ends core u n (Ok modes) h gone e =
-    let new : Connected = record u { modes = modes } in
-    λ o. kept u.number core.units (with_connected new core.units) core.book (found_with new core.units) (subst (λ k. Gone k core) (sym e) gone) h
+end_ends (u ∷ us) core condition e = λ o. either Ends (came_out u o) _ _ (end_ends us (disconnected core u (keeps u) o) condition e) (none_seated core e)
 
 connects_ends : (core : Core) (number : ℕ) (spec : OpenSpec) (modes : Modes) → AreSeated core → Gone number core → Ends (connects number spec modes core)
-connects_ends core number spec modes h gone = by (free_from core.units 0 most_slots)
-  where
-    attached : (slot : ℕ) (result : Result Connection Condition) → Ends (attaches core number slot result)
-    attached slot (Err condition) = h
-    attached slot (Ok c) =
-        let new : Connected = record { number = number; slot = slot; name = c.name; modes = c.modes } in
-        λ o. kept number core.units (inserted new core.units) core.book (found_inserted new core.units) gone h
-
-    by : (o : Option ℕ) → Ends (connects_at number spec modes core o)
-    by None = h
-    by (Some slot) = attached slot (opened_file (core.files (file_due spec number)) (file_due spec number) spec modes)
-
-first_ends : (core : Core) (number : ℕ) (spec : OpenSpec) (modes : Modes) (o : Option Connected) → AreSeated core → Gone number core → connected_at core.units number ≡ o → Ends (closes_first core o (connects number spec modes))
-first_ends core number spec modes None h gone e = connects_ends core number spec modes h gone
-first_ends core number spec modes (Some u) h gone e =
-    λ o. ends_if (came_out u o) _ _ (connects_ends (disconnected core u (keeps u) o) number spec modes (without_seated core u number (keeps u) o h gone (found_number core.units number u e)) gone) h
-
-with_ends : (core : Core) (number : ℕ) (spec : OpenSpec) (o : Option Connected) (result : Result Modes Condition) → AreSeated core → Gone number core → connected_at core.units number ≡ o → Ends (opens_with core number spec o result)
-with_ends core number spec o (Err condition) h gone e = h
-with_ends core number spec o (Ok modes) h gone e = ends_if (is_taken core number (file_due spec number)) _ _ h (first_ends core number spec modes o h gone e)
-
-opens_ends : (core : Core) (number : ℕ) (spec : OpenSpec) (o : Option Connected) → AreSeated core → Gone number core → connected_at core.units number ≡ o → Ends (opens core number spec o)
-opens_ends core number spec None h gone e = with_ends core number spec None (settled spec) h gone e
-opens_ends core number spec (Some u) h gone e =
-    ends_if (keeps_name u.name spec spec.file) _ _ (changes_ends core u number (mode.changed u.modes spec) h gone (found_number core.units number u e)) (with_ends core number spec (Some u) (settled spec) h gone e)
+connects_ends core number spec modes h gone =
+    connects_by Ends core number spec modes (λ condition. h)
+    (λ slot c free e. let new : Connected = record { number = number; slot = slot; name = c.name; modes = c.modes } in λ o. kept number core.units (inserted new core.units) core.book (found_inserted new core.units) gone h)
 
 open_ends : (core : Core) (number : Option ℕ) (spec : OpenSpec) → AreSeated core → GoneAt number core → Ends (if_numbered core number (λ n. opens core n spec (connected_at core.units n)))
-open_ends core None spec h gone = h
-open_ends core (Some n) spec h gone = opens_ends core n spec (connected_at core.units n) h (gone n refl) refl
+open_ends core number spec h gone =
+    open_by Ends core spec number (λ condition. h)
+    (λ n u modes is e. let new : Connected = record u { modes = modes } in
+    λ o. kept u.number core.units (with_connected new core.units) core.book (found_with new core.units) (subst (λ k. Gone k core) (sym (found_number core.units n u e)) (gone n is)) h)
+    (λ n modes is e. connects_ends core n spec modes h (gone n is))
+    (λ n u modes is e other. λ o. either Ends (came_out u o) _ _
+    (connects_ends (disconnected core u (keeps u) o) n spec modes (without_seated core u n (keeps u) o h (gone n is) (found_number core.units n u e)) (gone n is)) h)
 
 moves_ends : (core : Core) (how : Motion) (o : Option Connected) → AreSeated core → Ends (moves core how o)
 moves_ends core how None h = h
@@ -240,7 +198,7 @@ moves_ends core how (Some u) h = λ o. h
 
 inquires_ends : (variables : List Variable) (core : Core) (number : Option ℕ) (file : Option (List ℕ)) (asked : List Wanted) (id : Option ℤ) (o : Option Connected) → AreSeated core → Ends (inquires variables core number file asked id o)
 inquires_ends variables core number file asked id None h = h
-inquires_ends variables core number file asked id (Some u) h = ends_if (list_any (λ (w : Wanted). asks_connection w.what) asked) _ _ (λ o. h) h
+inquires_ends variables core number file asked id (Some u) h = either Ends (list_any (λ (w : Wanted). asks_connection w.what) asked) _ _ (λ o. h) h
 
 -- ---- each kind of statement, once the transfers that it waits for are told
 
@@ -254,7 +212,7 @@ module _ (control : ℕ → List Given) (variables : List Variable) (line : ℕ)
   own_ends : (st : Statement) → AreSeated core → Left st core → Ends (own control variables line core st)
   own_ends (statement.Assign to from) h l = h
   own_ends (statement.OpenUnit u spec iostat) h l = open_ends core (number_of u) spec h l
-  own_ends (statement.CloseUnit u keep iostat) h l = closes_ends core keep (number_of u) (unit_at core (number_of u)) h l refl
+  own_ends (statement.CloseUnit u keep iostat) h l = closes_ends core keep (number_of u) h l
   own_ends (statement.WaitFor u id iostat) h l = h
   own_ends (statement.Move how u iostat) h l = moves_ends core how (unit_at core (number_of u)) h
   own_ends (statement.Inquire subject asked id iostat) h l =
@@ -262,21 +220,11 @@ module _ (control : ℕ → List Given) (variables : List Variable) (line : ℕ)
   own_ends (statement.Transfer t) h l = transfer_ends control variables line core t (moved_in variables core.vars t) t.unit h
   own_ends statement.End h l = end_ends core.units core Fine l
 
-  instead_ends : (st : Statement) (condition : Condition) → AreSeated core → Left st core → Ends (instead variables core st condition)
-  instead_ends (statement.Assign to from) condition h l = h
-  instead_ends (statement.OpenUnit u spec iostat) condition h l = h
-  instead_ends (statement.CloseUnit u keep iostat) condition h l = anyway_ends core keep condition (number_of u) (unit_at core (number_of u)) h l refl
-  instead_ends (statement.WaitFor u id iostat) condition h l = h
-  instead_ends (statement.Move how u iostat) condition h l = h
-  instead_ends (statement.Inquire subject asked id iostat) condition h l = h
-  instead_ends (statement.Transfer t) condition h l = h
-  instead_ends statement.End condition h l = end_ends core.units core condition l
-
   doing_ends : (st : Statement) (condition : Condition) → AreSeated core → Left st core → Ends (doing control variables line core st condition)
-  doing_ends st Fine h l = own_ends st h l
-  doing_ends st EndOfFile h l = instead_ends st EndOfFile h l
-  doing_ends st EndOfRecord h l = instead_ends st EndOfRecord h l
-  doing_ends st (Error n) h l = instead_ends st (Error n) h l
+  doing_ends st condition h l =
+      doing_by Ends control variables line core st (own_ends st h l) (λ vars condition. h)
+      (λ u keep iostat condition is. anyway_ends core keep condition (number_of u) h (subst (λ s. Left s core) is l))
+      (λ condition is. end_ends core.units core condition (subst (λ s. Left s core) is l)) condition
 
 halts_end : (slots : List ℕ) (core : Core) (next : Doing) → Ends next → Ends (ends_halts slots core next)
 halts_end [] core next h = h

@@ -9,6 +9,7 @@ pub mod Positioning
 pub mod Changing
 pub mod Closing
 pub mod Opening
+pub mod Walking
 pub mod Steps
 pub mod Forgetting
 pub mod Given

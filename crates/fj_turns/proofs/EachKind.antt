@@ -1,13 +1,11 @@
 -- What each kind of statement does keeps to slots, and leaves pending transfers alone, but for one that it starts.
 use Rattle.std.proofs.Common.{◌≡◌, ◌⊎◌, ℕ, ℤ, ◌+◌, ◌<◌, Bool, true, false, not, List, [], ◌∷◌, ◌++◌, Option, Some, None, refl, sym, ap, ◌∙◌, subst, inl, inr, ◌&&◌, arith}
-use Rattle.std.specs.Prelude.{nat_lt, if◌then◌else◌, filter, ◌==◌, unwrap_or, Result, Ok, Err}
+use Rattle.std.specs.Prelude.{nat_lt, if◌then◌else◌, filter, ◌==◌, unwrap_or}
 use Rattle.std.specs.List.{list_any}
 use Rattle.std.proofs.lemmas.Bool.{cases_Bool}
 use Rattle.fj_value.specs.declared.condition.Condition.{Condition}
-use Rattle.fj_value.specs.declared.condition.Condition.TheVariants.{Fine, EndOfFile, EndOfRecord, Error}
+use Rattle.fj_value.specs.declared.condition.Condition.TheVariants.{Fine}
 use Rattle.fj_modes.specs.declared.modes.Modes.{Modes}
-use Rattle.fj_modes.specs.Modes.{settled}
-use Rattle.fj_modes.specs.Modes as mode
 use Rattle.fj_modes.specs.declared.specifiers.OpenSpec.{OpenSpec}
 use Rattle.fj_modes.specs.declared.asked.Wanted.{Wanted}
 use Rattle.fj_modes.specs.declared.unit.Motion.{Motion}
@@ -15,8 +13,6 @@ use Rattle.fj_modes.specs.declared.unit.UnitRef.{UnitRef}
 use Rattle.fj_modes.specs.declared.unit.UnitRef.TheVariants as unit
 use Rattle.fj_list.specs.declared.moved.Moved.{Moved}
 use Rattle.fj_control.specs.Steps.{Given}
-use Rattle.fj_connect.specs.Connection.{Connection}
-use Rattle.fj_connect.specs.Opening.{opened_file}
 use Rattle.fj_statement.specs.declared.deck.Variable.{Variable}
 use Rattle.fj_statement.specs.declared.statement.Statement.{Statement}
 use Rattle.fj_statement.specs.declared.statement.Statement.TheVariants as statement
@@ -24,15 +20,14 @@ use Rattle.fj_statement.specs.declared.statement.Transfer.{Transfer}
 use Rattle.fj_bay.specs.Halt.{halts}
 use Rattle.fj_plain.specs.Needs.{number_of, number_given, unit_about}
 use Rattle.fj_plain.specs.Telling.{is_asynchronous}
-use Rattle.fj_plain.specs.Transfers.{moved_in, layout_of, refusal, without_values, with_cells}
-use Rattle.fj_plain.specs.Connecting.{file_due, keeps_name}
+use Rattle.fj_plain.specs.Transfers.{moved_in, without_values, with_cells}
 use Rattle.fj_plain.specs.Statement.{file_asked}
 use Rattle.fj_desk.specs.Core.{Core, Pending, Connected, connected_at, unit_named, with_connected, inserted, without_connected}
 use Rattle.fj_desk.specs.Desks.{Outcome, most_slots, cells_in, count_in, condition_in}
 use Rattle.fj_desk.specs.Doing.{Doing, finishes, gives, awaits}
-use Rattle.fj_desk.specs.Acting.{pending_of, finishes_behind, transferred, unless_refused, on_unit, transfer_at, keeps, disconnected, came_out, detaches, closes, closes_anyway, all_closed, free_from, changes, is_taken, attaches, connects_at, connects, closes_first, opens_with, opens, moves, asks_connection, inquires, if_numbered, unit_at, own, instead, doing}
+use Rattle.fj_desk.specs.Acting.{pending_of, finishes_behind, transferred, transfer_at, keeps, disconnected, came_out, detaches, closes, closes_anyway, all_closed, connects, opens, moves, asks_connection, inquires, if_numbered, unit_at, own, doing}
 use Rattle.fj_desk.proofs.Apart.{Each, each_filter, each_append}
-use Rattle.fj_desk.proofs.Opening.{free_found}
+use Rattle.fj_desk.proofs.Walking.{either, unit_by, closes_by, anyway_by, connects_by, open_by, doing_by}
 use Rattle.fj_turns.specs.Turns.{ends_halts}
 
 -- each unit has a slot
@@ -55,10 +50,6 @@ Keeps from (finishes core condition) = KeepsBook from core
 Keeps from (gives slot job core next) =
     (slot < most_slots) × KeepsBook from core × (((number : ℕ) → Keeps from (next number)) ⊎ ((number : ℕ) → Starts from slot number (next number)))
 Keeps from (awaits slot job core next) = (slot < most_slots) × KeepsBook from core × ((o : Outcome) → Keeps from (next o))
-
-keeps_if : (from : Core) (b : Bool) (x y : Doing) → Keeps from x → Keeps from y → Keeps from (if b then x else y)
-keeps_if from true x y h k = h
-keeps_if from false x y h k = k
 
 -- ---- units
 
@@ -94,47 +85,35 @@ without_housed number us h = each_filter (λ (u : Connected). u.slot < most_slot
 -- ---- READ and WRITE
 
 behind_keeps : (from : Core) (u : Connected) (core : Core) (condition : Condition) → u.slot < most_slots → KeepsBook from core → Keeps from (finishes_behind u core condition)
-behind_keeps from u core condition s k = keeps_if from (halts condition) _ _ (s, k, inl (λ number. k)) k
+behind_keeps from u core condition s k = either (Keeps from) (halts condition) _ _ (s, k, inl (λ number. k)) k
 
 transferred_keeps : (control : ℕ → List Given) (variables : List Variable) (line : ℕ) (core : Core) (t : Transfer) (moved : Moved) (u : Connected) → Housed core.units → u.slot < most_slots
     → Keeps core (transferred control variables line core t moved u)
 transferred_keeps control variables line core t moved u h s =
-    keeps_if core (is_asynchronous t) _ _
+    either (Keeps core) (is_asynchronous t) _ _
     (s, (refl, refl, h), inr (λ number. (pending_of variables core t u number, refl, refl, refl, h)))
     (s, (refl, refl, h), (λ o. behind_keeps core u (record core { vars = with_cells variables t (cells_in o.0) (count_in o.0) (without_values variables t moved core.vars) }) (condition_in o.1) s (refl, refl, h)))
 
-unless_keeps : (control : ℕ → List Given) (variables : List Variable) (line : ℕ) (core : Core) (t : Transfer) (moved : Moved) (u : Connected) (condition : Condition) → Housed core.units → u.slot < most_slots
-    → Keeps core (unless_refused control variables line core t moved u condition)
-unless_keeps control variables line core t moved u Fine h s = transferred_keeps control variables line core t moved u h s
-unless_keeps control variables line core t moved u EndOfFile h s = (refl, refl, h)
-unless_keeps control variables line core t moved u EndOfRecord h s = (refl, refl, h)
-unless_keeps control variables line core t moved u (Error n) h s = (refl, refl, h)
-
-on_unit_keeps : (control : ℕ → List Given) (variables : List Variable) (line : ℕ) (core : Core) (t : Transfer) (moved : Moved) (o : Option Connected) → Housed core.units → ((u : Connected) → o ≡ Some u → u.slot < most_slots)
-    → Keeps core (on_unit control variables line core t moved o)
-on_unit_keeps control variables line core t moved None h s = (refl, refl, h)
-on_unit_keeps control variables line core t moved (Some u) h s = unless_keeps control variables line core t moved u (refusal u.modes t (layout_of variables moved.cells t.control)) h (s u refl)
-
 transfer_keeps : (control : ℕ → List Given) (variables : List Variable) (line : ℕ) (core : Core) (t : Transfer) (moved : Moved) (to : UnitRef) → Housed core.units → Keeps core (transfer_at control variables line core t moved to)
 transfer_keeps control variables line core t moved unit.Star h = (refl, refl, h)
-transfer_keeps control variables line core t moved (unit.Number n) h = on_unit_keeps control variables line core t moved (connected_at core.units n) h (λ u e. found_housed core.units n u h e)
+transfer_keeps control variables line core t moved (unit.Number n) h =
+    unit_by (Keeps core) control variables line core t moved (connected_at core.units n) (λ condition. (refl, refl, h)) (λ u e. transferred_keeps control variables line core t moved u h (found_housed core.units n u h e))
 
 -- ---- CLOSE
 
 detaches_keeps : (from core : Core) (u : Connected) (keep : Bool) (next : Core → Doing) → u.slot < most_slots → KeepsBook from core → ((new : Core) → KeepsBook from new → Keeps from (next new)) → Keeps from (detaches core u keep next)
 detaches_keeps from core u keep next s k f =
-    (s, k, (λ o. keeps_if from (came_out u o) _ _ (f (disconnected core u keep o) (k.0, k.1, without_housed u.number core.units k.2)) k))
+    (s, k, (λ o. either (Keeps from) (came_out u o) _ _ (f (disconnected core u keep o) (k.0, k.1, without_housed u.number core.units k.2)) k))
 
-closes_keeps : (core : Core) (keep : Option Bool) (o : Option Connected) → Housed core.units → ((u : Connected) → o ≡ Some u → u.slot < most_slots) → Keeps core (closes core keep o)
-closes_keeps core keep None h s = (refl, refl, h)
-closes_keeps core keep (Some u) h s =
-    keeps_if core (unwrap_or keep false && u.modes.scratch) _ _ (refl, refl, h)
-    (detaches_keeps core core u (unwrap_or keep (keeps u)) (λ new. finishes new Fine) (s u refl) (refl, refl, h) (λ new k. k))
+closes_keeps : (core : Core) (keep : Option Bool) (number : Option ℕ) → Housed core.units → Keeps core (closes core keep (unit_at core number))
+closes_keeps core keep number h =
+    closes_by (Keeps core) core keep (unit_at core number) (λ condition. (refl, refl, h))
+    (λ u e. detaches_keeps core core u (unwrap_or keep (keeps u)) (λ new. finishes new Fine) (unit_housed core number u h e) (refl, refl, h) (λ new k. k))
 
-anyway_keeps : (core : Core) (keep : Option Bool) (condition : Condition) (o : Option Connected) → Housed core.units → ((u : Connected) → o ≡ Some u → u.slot < most_slots) → Keeps core (closes_anyway core keep condition o)
-anyway_keeps core keep condition None h s = (refl, refl, h)
-anyway_keeps core keep condition (Some u) h s =
-    detaches_keeps core core u (keeps u && unwrap_or keep true) (λ new. finishes new condition) (s u refl) (refl, refl, h) (λ new k. k)
+anyway_keeps : (core : Core) (keep : Option Bool) (condition : Condition) (number : Option ℕ) → Housed core.units → Keeps core (closes_anyway core keep condition (unit_at core number))
+anyway_keeps core keep condition number h =
+    anyway_by (Keeps core) core keep condition (unit_at core number) (refl, refl, h)
+    (λ u e. detaches_keeps core core u (keeps u && unwrap_or keep true) (λ new. finishes new condition) (unit_housed core number u h e) (refl, refl, h) (λ new k. k))
 
 all_keeps : (from : Core) (us : List Connected) (core : Core) (condition : Condition) → Housed us → KeepsBook from core → Keeps from (all_closed us core condition)
 all_keeps from [] core condition h k = k
@@ -142,38 +121,18 @@ all_keeps from (u ∷ us) core condition h k = detaches_keeps from core u (keeps
 
 -- ---- OPEN
 
-changes_keeps : (core : Core) (u : Connected) (r : Result Modes Condition) → Housed core.units → u.slot < most_slots → Keeps core (changes core u r)
-changes_keeps core u (Err condition) h s = (refl, refl, h)
-changes_keeps core u (Ok modes) h s = (s, (refl, refl, h), (λ o. (refl, refl, with_housed (record u { modes = modes }) core.units s h)))
-
-attaches_keeps : (from core : Core) (number slot : ℕ) (r : Result Connection Condition) → slot < most_slots → KeepsBook from core → Keeps from (attaches core number slot r)
-attaches_keeps from core number slot (Err condition) s k = k
-attaches_keeps from core number slot (Ok c) s k =
-    (s, k, (λ o. (k.0, k.1, inserted_housed (record { number = number; slot = slot; name = c.name; modes = c.modes }) core.units s k.2)))
-
 connects_keeps : (from core : Core) (number : ℕ) (spec : OpenSpec) (modes : Modes) → KeepsBook from core → Keeps from (connects number spec modes core)
-connects_keeps from core number spec modes k = by (free_from core.units 0 most_slots) (λ slot e. (free_found core.units 0 most_slots slot e).inside)
-  where
-    by : (o : Option ℕ) → ((slot : ℕ) → o ≡ Some slot → slot < 0 + most_slots) → Keeps from (connects_at number spec modes core o)
-    by None f = k
-    by (Some slot) f = attaches_keeps from core number slot (opened_file (core.files (file_due spec number)) (file_due spec number) spec modes) (omega (arith, f slot refl)) k
-
-with_keeps : (core : Core) (number : ℕ) (spec : OpenSpec) (old : Option Connected) (r : Result Modes Condition) → Housed core.units → ((u : Connected) → old ≡ Some u → u.slot < most_slots) → Keeps core (opens_with core number spec old r)
-with_keeps core number spec old (Err condition) h s = (refl, refl, h)
-with_keeps core number spec old (Ok modes) h s = keeps_if core (is_taken core number (file_due spec number)) _ _ (refl, refl, h) (first old s)
-  where
-    first : (o : Option Connected) → ((u : Connected) → o ≡ Some u → u.slot < most_slots) → Keeps core (closes_first core o (connects number spec modes))
-    first None s = connects_keeps core core number spec modes (refl, refl, h)
-    first (Some u) s = detaches_keeps core core u (keeps u) (connects number spec modes) (s u refl) (refl, refl, h) (λ new k. connects_keeps core new number spec modes k)
-
-opens_keeps : (core : Core) (number : ℕ) (spec : OpenSpec) (o : Option Connected) → Housed core.units → ((u : Connected) → o ≡ Some u → u.slot < most_slots) → Keeps core (opens core number spec o)
-opens_keeps core number spec None h s = with_keeps core number spec None (settled spec) h s
-opens_keeps core number spec (Some u) h s =
-    keeps_if core (keeps_name u.name spec spec.file) _ _ (changes_keeps core u (mode.changed u.modes spec) h (s u refl)) (with_keeps core number spec (Some u) (settled spec) h s)
+connects_keeps from core number spec modes k =
+    connects_by (Keeps from) core number spec modes (λ condition. k)
+    (λ slot c free e. let inside : slot < most_slots = omega (arith, free.inside) in
+    (inside, k, (λ o. (k.0, k.1, inserted_housed (record { number = number; slot = slot; name = c.name; modes = c.modes }) core.units inside k.2))))
 
 open_keeps : (core : Core) (spec : OpenSpec) (number : Option ℕ) → Housed core.units → Keeps core (if_numbered core number (λ n. opens core n spec (connected_at core.units n)))
-open_keeps core spec None h = (refl, refl, h)
-open_keeps core spec (Some n) h = opens_keeps core n spec (connected_at core.units n) h (λ u e. found_housed core.units n u h e)
+open_keeps core spec number h =
+    open_by (Keeps core) core spec number (λ condition. (refl, refl, h))
+    (λ n u modes is e. let s = found_housed core.units n u h e in (s, (refl, refl, h), (λ o. (refl, refl, with_housed (record u { modes = modes }) core.units s h))))
+    (λ n modes is e. connects_keeps core core n spec modes (refl, refl, h))
+    (λ n u modes is e other. detaches_keeps core core u (keeps u) (connects n spec modes) (found_housed core.units n u h e) (refl, refl, h) (λ new k. connects_keeps core new n spec modes k))
 
 -- ---- the motions, INQUIRE
 
@@ -185,14 +144,14 @@ inquires_keeps : (variables : List Variable) (core : Core) (number : Option ℕ)
     → Keeps core (inquires variables core number file asked id o)
 inquires_keeps variables core number file asked id None h s = (refl, refl, h)
 inquires_keeps variables core number file asked id (Some u) h s =
-    keeps_if core (list_any (λ (w : Wanted). asks_connection w.what) asked) _ _ (s u refl, (refl, refl, h), (λ o. (refl, refl, h))) (refl, refl, h)
+    either (Keeps core) (list_any (λ (w : Wanted). asks_connection w.what) asked) _ _ (s u refl, (refl, refl, h), (λ o. (refl, refl, h))) (refl, refl, h)
 
 -- ---- each kind of statement
 
 own_keeps : (control : ℕ → List Given) (variables : List Variable) (line : ℕ) (core : Core) (st : Statement) → Housed core.units → Keeps core (own control variables line core st)
 own_keeps control variables line core (statement.Assign to from) h = (refl, refl, h)
 own_keeps control variables line core (statement.OpenUnit u spec iostat) h = open_keeps core spec (number_of u) h
-own_keeps control variables line core (statement.CloseUnit u keep iostat) h = closes_keeps core keep (unit_at core (number_of u)) h (λ v e. unit_housed core (number_of u) v h e)
+own_keeps control variables line core (statement.CloseUnit u keep iostat) h = closes_keeps core keep (number_of u) h
 own_keeps control variables line core (statement.WaitFor u id iostat) h = (refl, refl, h)
 own_keeps control variables line core (statement.Move how u iostat) h = moves_keeps core how (unit_at core (number_of u)) h (λ v e. unit_housed core (number_of u) v h e)
 own_keeps control variables line core (statement.Inquire subject asked id iostat) h =
@@ -201,21 +160,10 @@ own_keeps control variables line core (statement.Inquire subject asked id iostat
 own_keeps control variables line core (statement.Transfer t) h = transfer_keeps control variables line core t (moved_in variables core.vars t) t.unit h
 own_keeps control variables line core statement.End h = all_keeps core core.units core Fine h (refl, refl, h)
 
-instead_keeps : (variables : List Variable) (core : Core) (st : Statement) (condition : Condition) → Housed core.units → Keeps core (instead variables core st condition)
-instead_keeps variables core (statement.Assign to from) condition h = (refl, refl, h)
-instead_keeps variables core (statement.OpenUnit u spec iostat) condition h = (refl, refl, h)
-instead_keeps variables core (statement.CloseUnit u keep iostat) condition h = anyway_keeps core keep condition (unit_at core (number_of u)) h (λ v e. unit_housed core (number_of u) v h e)
-instead_keeps variables core (statement.WaitFor u id iostat) condition h = (refl, refl, h)
-instead_keeps variables core (statement.Move how u iostat) condition h = (refl, refl, h)
-instead_keeps variables core (statement.Inquire subject asked id iostat) condition h = (refl, refl, h)
-instead_keeps variables core (statement.Transfer t) condition h = (refl, refl, h)
-instead_keeps variables core statement.End condition h = all_keeps core core.units core condition h (refl, refl, h)
-
 pub doing_keeps : (control : ℕ → List Given) (variables : List Variable) (line : ℕ) (core : Core) (st : Statement) (condition : Condition) → Housed core.units → Keeps core (doing control variables line core st condition)
-doing_keeps control variables line core st Fine h = own_keeps control variables line core st h
-doing_keeps control variables line core st EndOfFile h = instead_keeps variables core st EndOfFile h
-doing_keeps control variables line core st EndOfRecord h = instead_keeps variables core st EndOfRecord h
-doing_keeps control variables line core st (Error n) h = instead_keeps variables core st (Error n) h
+doing_keeps control variables line core st condition h =
+    doing_by (Keeps core) control variables line core st (own_keeps control variables line core st h) (λ vars condition. (refl, refl, h))
+    (λ u keep iostat condition is. anyway_keeps core keep condition (number_of u) h) (λ condition is. all_keeps core core.units core condition h (refl, refl, h)) condition
 
 -- the ends of halts before it
 pub halts_keep : (slots : List ℕ) (core : Core) (next : Doing) → Housed core.units → Each (λ slot. slot < most_slots) slots → Keeps core next → Keeps core (ends_halts slots core next)

@@ -1,13 +1,11 @@
 -- How many jobs each kind of statement gives, whatever becomes of them; and units have slots of their own all the while.
 use Rattle.std.proofs.Common.{◌≡◌, ℕ, ℤ, zero, suc, ◌+◌, ◌-◌, ◌<◌, ◌≤◌, Bool, true, false, not, List, [], ◌∷◌, map, length, Option, Some, None, slice_get, refl, sym, ap, ◌∙◌, subst, ◌&&◌, arith}
-use Rattle.std.specs.Prelude.{if◌then◌else◌, filter, ◌==◌, unwrap_or, Result, Ok, Err}
+use Rattle.std.specs.Prelude.{if◌then◌else◌, filter, ◌==◌, unwrap_or}
 use Rattle.std.specs.List.{list_any}
 use Rattle.fj_value.specs.declared.condition.Condition.{Condition}
-use Rattle.fj_value.specs.declared.condition.Condition.TheVariants.{Fine, EndOfFile, EndOfRecord, Error}
+use Rattle.fj_value.specs.declared.condition.Condition.TheVariants.{Fine}
 use Rattle.fj_value.specs.declared.condition.Rule.{Rule}
 use Rattle.fj_modes.specs.declared.modes.Modes.{Modes}
-use Rattle.fj_modes.specs.Modes.{settled}
-use Rattle.fj_modes.specs.Modes as mode
 use Rattle.fj_modes.specs.declared.specifiers.OpenSpec.{OpenSpec}
 use Rattle.fj_modes.specs.declared.asked.Wanted.{Wanted}
 use Rattle.fj_modes.specs.declared.unit.Motion.{Motion}
@@ -15,8 +13,6 @@ use Rattle.fj_modes.specs.declared.unit.UnitRef.{UnitRef}
 use Rattle.fj_modes.specs.declared.unit.UnitRef.TheVariants as unit
 use Rattle.fj_list.specs.declared.moved.Moved.{Moved}
 use Rattle.fj_control.specs.Steps.{Given}
-use Rattle.fj_connect.specs.Connection.{Connection}
-use Rattle.fj_connect.specs.Opening.{opened_file}
 use Rattle.fj_statement.specs.declared.deck.Variable.{Variable}
 use Rattle.fj_statement.specs.declared.statement.Statement.{Statement}
 use Rattle.fj_statement.specs.declared.statement.Statement.TheVariants as statement
@@ -26,20 +22,18 @@ use Rattle.fj_plain.specs.Needs.{number_of, number_given, unit_about}
 use Rattle.fj_plain.specs.State.{Entry}
 use Rattle.fj_plain.specs.Statement.{Stated, Ending, file_asked}
 use Rattle.fj_plain.specs.Telling.{is_asynchronous, condition_of, tells_cause}
-use Rattle.fj_plain.specs.Transfers.{moved_in, layout_of, refusal}
-use Rattle.fj_plain.specs.Connecting.{file_due, keeps_name}
+use Rattle.fj_plain.specs.Transfers.{moved_in}
 use Rattle.fj_desk.specs.Core.{Core, Connected, connected_at, unit_named}
 use Rattle.fj_desk.specs.Desks.{Desk, Outcome, most_slots, carry, log_length}
 use Rattle.fj_desk.specs.Desks as desks
 use Rattle.fj_desk.specs.Doing.{Doing, finishes, gives, awaits, Desked, acted}
-use Rattle.fj_desk.specs.Acting.{finishes_behind, transferred, unless_refused, on_unit, transfer_at, keeps, came_out, detaches, closes, closes_anyway, all_closed, free_from, changes, is_taken, attaches, connects_at, connects, closes_first, opens_with, opens, moves, asks_connection, inquires, if_numbered, unit_at, own, instead, doing}
+use Rattle.fj_desk.specs.Acting.{finishes_behind, transferred, transfer_at, keeps, came_out, detaches, closes, closes_anyway, all_closed, connects, opens, moves, asks_connection, inquires, if_numbered, unit_at, own, doing}
 use Rattle.fj_desk.specs.Desking.{told_core, desk_step, goes_on, completed, fresh}
-use Rattle.fj_desk.proofs.Apart.{Differs}
-use Rattle.fj_desk.proofs.Opening.{free_found}
+use Rattle.fj_desk.proofs.Walking.{either, unit_by, closes_by, anyway_by, connects_by, open_by, doing_by}
 use Rattle.fj_turns.specs.Turns.{halted_slots, ends_halts, doing_told, rule_of}
 use Rattle.fj_turns.specs.Inside.{waited_at, does, cut_desks}
 use Rattle.fj_turns.specs.Few.{AtMost, most_jobs, GivesFewJobs}
-use Rattle.fj_turns.proofs.Seated.{Seated, slot_of, few_seated, filter_seated, with_seated, found_number, inserted_seated}
+use Rattle.fj_turns.proofs.Seated.{Seated, few_seated, filter_seated, with_seated, found_number, inserted_seated}
 use Rattle.fj_turns.proofs.Statements.{acts_are, step_is}
 use Rattle.fj_turns.proofs.Decks.{cut_on}
 
@@ -51,48 +45,31 @@ Fair (suc k) (gives slot job core next) = Seated core.units × ((number : ℕ) �
 Fair zero (awaits slot job core next) = ⊥
 Fair (suc k) (awaits slot job core next) = Seated core.units × ((o : Outcome) → Fair k (next o))
 
-fair_if : (k : ℕ) (b : Bool) (x y : Doing) → Fair k x → Fair k y → Fair k (if b then x else y)
-fair_if k true x y h g = h
-fair_if k false x y h g = g
-
 -- ---- READ and WRITE
 
 behind_fair : (k : ℕ) (u : Connected) (core : Core) (condition : Condition) → Seated core.units → Fair (suc k) (finishes_behind u core condition)
-behind_fair k u core condition h = fair_if (suc k) (halts condition) _ _ (h, (λ number. h)) h
+behind_fair k u core condition h = either (Fair (suc k)) (halts condition) _ _ (h, (λ number. h)) h
 
 transferred_fair : (k : ℕ) (control : ℕ → List Given) (variables : List Variable) (line : ℕ) (core : Core) (t : Transfer) (moved : Moved) (u : Connected) → Seated core.units → Fair (suc (suc k)) (transferred control variables line core t moved u)
-transferred_fair k control variables line core t moved u h = fair_if (suc (suc k)) (is_asynchronous t) _ _ (h, (λ number. h)) (h, (λ o. behind_fair k u _ _ h))
-
-unless_fair : (k : ℕ) (control : ℕ → List Given) (variables : List Variable) (line : ℕ) (core : Core) (t : Transfer) (moved : Moved) (u : Connected) (condition : Condition) → Seated core.units
-    → Fair (suc (suc k)) (unless_refused control variables line core t moved u condition)
-unless_fair k control variables line core t moved u Fine h = transferred_fair k control variables line core t moved u h
-unless_fair k control variables line core t moved u EndOfFile h = h
-unless_fair k control variables line core t moved u EndOfRecord h = h
-unless_fair k control variables line core t moved u (Error n) h = h
-
-on_unit_fair : (k : ℕ) (control : ℕ → List Given) (variables : List Variable) (line : ℕ) (core : Core) (t : Transfer) (moved : Moved) (o : Option Connected) → Seated core.units
-    → Fair (suc (suc k)) (on_unit control variables line core t moved o)
-on_unit_fair k control variables line core t moved None h = h
-on_unit_fair k control variables line core t moved (Some u) h = unless_fair k control variables line core t moved u (refusal u.modes t (layout_of variables moved.cells t.control)) h
+transferred_fair k control variables line core t moved u h = either (Fair (suc (suc k))) (is_asynchronous t) _ _ (h, (λ number. h)) (h, (λ o. behind_fair k u _ _ h))
 
 transfer_fair : (k : ℕ) (control : ℕ → List Given) (variables : List Variable) (line : ℕ) (core : Core) (t : Transfer) (moved : Moved) (to : UnitRef) → Seated core.units
     → Fair (suc (suc k)) (transfer_at control variables line core t moved to)
 transfer_fair k control variables line core t moved unit.Star h = h
-transfer_fair k control variables line core t moved (unit.Number n) h = on_unit_fair k control variables line core t moved (connected_at core.units n) h
+transfer_fair k control variables line core t moved (unit.Number n) h =
+    unit_by (Fair (suc (suc k))) control variables line core t moved (connected_at core.units n) (λ condition. h) (λ u e. transferred_fair k control variables line core t moved u h)
 
 -- ---- CLOSE
 
 detaches_fair : (k : ℕ) (core : Core) (u : Connected) (keep : Bool) (next : Core → Doing) → Seated core.units → ((new : Core) → Seated new.units → Fair k (next new)) → Fair (suc k) (detaches core u keep next)
-detaches_fair k core u keep next h f = (h, (λ o. fair_if k (came_out u o) _ _ (f _ (filter_seated (λ (v : Connected). not (v.number == u.number)) core.units h)) h))
+detaches_fair k core u keep next h f = (h, (λ o. either (Fair k) (came_out u o) _ _ (f _ (filter_seated (λ (v : Connected). not (v.number == u.number)) core.units h)) h))
 
 closes_fair : (k : ℕ) (core : Core) (keep : Option Bool) (o : Option Connected) → Seated core.units → Fair (suc k) (closes core keep o)
-closes_fair k core keep None h = h
-closes_fair k core keep (Some u) h =
-    fair_if (suc k) (unwrap_or keep false && u.modes.scratch) _ _ h (detaches_fair k core u (unwrap_or keep (keeps u)) (λ new. finishes new Fine) h (λ new s. s))
+closes_fair k core keep o h = closes_by (Fair (suc k)) core keep o (λ condition. h) (λ u e. detaches_fair k core u (unwrap_or keep (keeps u)) (λ new. finishes new Fine) h (λ new s. s))
 
 anyway_fair : (k : ℕ) (core : Core) (keep : Option Bool) (condition : Condition) (o : Option Connected) → Seated core.units → Fair (suc k) (closes_anyway core keep condition o)
-anyway_fair k core keep condition None h = h
-anyway_fair k core keep condition (Some u) h = detaches_fair k core u (keeps u && unwrap_or keep true) (λ new. finishes new condition) h (λ new s. s)
+anyway_fair k core keep condition o h =
+    anyway_by (Fair (suc k)) core keep condition o h (λ u e. detaches_fair k core u (keeps u && unwrap_or keep true) (λ new. finishes new condition) h (λ new s. s))
 
 all_fair : (k : ℕ) (us : List Connected) (core : Core) (condition : Condition) → length us ≤ k → Seated core.units → Fair k (all_closed us core condition)
 all_fair k [] core condition l h = h
@@ -101,39 +78,15 @@ all_fair (suc k) (u ∷ us) core condition l h = detaches_fair k core u (keeps u
 
 -- ---- OPEN
 
-changes_fair : (k : ℕ) (core : Core) (u : Connected) (n : ℕ) (r : Result Modes Condition) → Seated core.units → connected_at core.units n ≡ Some u → Fair (suc k) (changes core u r)
-changes_fair k core u n (Err condition) h e = h
-changes_fair k core u n (Ok modes) h e = (h, (λ o. with_seated (record u { modes = modes }) u n core.units h e (found_number core.units n u e) refl))
-
-attaches_fair : (k : ℕ) (core : Core) (number slot : ℕ) (r : Result Connection Condition) → slot < most_slots → Differs slot_of slot core.units → Seated core.units → Fair (suc k) (attaches core number slot r)
-attaches_fair k core number slot (Err condition) inside free h = h
-attaches_fair k core number slot (Ok c) inside free h = (h, (λ o. inserted_seated (record { number = number; slot = slot; name = c.name; modes = c.modes }) core.units h inside free))
-
 connects_fair : (k : ℕ) (core : Core) (number : ℕ) (spec : OpenSpec) (modes : Modes) → Seated core.units → Fair (suc k) (connects number spec modes core)
-connects_fair k core number spec modes h = by (free_from core.units 0 most_slots) refl
-  where
-    by : (o : Option ℕ) → free_from core.units 0 most_slots ≡ o → Fair (suc k) (connects_at number spec modes core o)
-    by None e = h
-    by (Some slot) e =
-        let free = free_found core.units 0 most_slots slot e in
-        attaches_fair k core number slot (opened_file (core.files (file_due spec number)) (file_due spec number) spec modes) (omega (arith, free.inside)) free.differs h
-
-with_fair : (k : ℕ) (core : Core) (number : ℕ) (spec : OpenSpec) (old : Option Connected) (r : Result Modes Condition) → Seated core.units → Fair (suc (suc k)) (opens_with core number spec old r)
-with_fair k core number spec old (Err condition) h = h
-with_fair k core number spec old (Ok modes) h = fair_if (suc (suc k)) (is_taken core number (file_due spec number)) _ _ h (first old)
-  where
-    first : (o : Option Connected) → Fair (suc (suc k)) (closes_first core o (connects number spec modes))
-    first None = connects_fair (suc k) core number spec modes h
-    first (Some u) = detaches_fair (suc k) core u (keeps u) (connects number spec modes) h (λ new s. connects_fair k new number spec modes s)
-
-opens_fair : (k : ℕ) (core : Core) (number : ℕ) (spec : OpenSpec) (o : Option Connected) → Seated core.units → connected_at core.units number ≡ o → Fair (suc (suc k)) (opens core number spec o)
-opens_fair k core number spec None h e = with_fair k core number spec None (settled spec) h
-opens_fair k core number spec (Some u) h e =
-    fair_if (suc (suc k)) (keeps_name u.name spec spec.file) _ _ (changes_fair (suc k) core u number (mode.changed u.modes spec) h e) (with_fair k core number spec (Some u) (settled spec) h)
+connects_fair k core number spec modes h =
+    connects_by (Fair (suc k)) core number spec modes (λ condition. h)
+    (λ slot c free e. (h, (λ o. inserted_seated (record { number = number; slot = slot; name = c.name; modes = c.modes }) core.units h (let inside : slot < most_slots = omega (arith, free.inside) in inside) free.differs)))
 
 open_fair : (k : ℕ) (core : Core) (spec : OpenSpec) (number : Option ℕ) → Seated core.units → Fair (suc (suc k)) (if_numbered core number (λ n. opens core n spec (connected_at core.units n)))
-open_fair k core spec None h = h
-open_fair k core spec (Some n) h = opens_fair k core n spec (connected_at core.units n) h refl
+open_fair k core spec number h =
+    open_by (Fair (suc (suc k))) core spec number (λ condition. h) (λ n u modes is e. (h, (λ o. with_seated (record u { modes = modes }) u n core.units h e (found_number core.units n u e) refl)))
+    (λ n modes is e. connects_fair (suc k) core n spec modes h) (λ n u modes is e other. detaches_fair (suc k) core u (keeps u) (connects n spec modes) h (λ new s. connects_fair k new n spec modes s))
 
 -- ---- the motions, INQUIRE
 
@@ -143,7 +96,7 @@ moves_fair k core how (Some u) h = (h, (λ o. h))
 
 inquires_fair : (k : ℕ) (variables : List Variable) (core : Core) (number : Option ℕ) (file : Option (List ℕ)) (asked : List Wanted) (id : Option ℤ) (o : Option Connected) → Seated core.units → Fair (suc k) (inquires variables core number file asked id o)
 inquires_fair k variables core number file asked id None h = h
-inquires_fair k variables core number file asked id (Some u) h = fair_if (suc k) (list_any (λ (w : Wanted). asks_connection w.what) asked) _ _ (h, (λ o. h)) h
+inquires_fair k variables core number file asked id (Some u) h = either (Fair (suc k)) (list_any (λ (w : Wanted). asks_connection w.what) asked) _ _ (h, (λ o. h)) h
 
 -- ---- each kind of statement
 
@@ -159,22 +112,11 @@ own_fair k control variables line core (statement.Inquire subject asked id iosta
 own_fair k control variables line core (statement.Transfer t) h l = transfer_fair k control variables line core t (moved_in variables core.vars t) t.unit h
 own_fair k control variables line core statement.End h l = all_fair (suc (suc k)) core.units core Fine l h
 
-instead_fair : (k : ℕ) (variables : List Variable) (core : Core) (st : Statement) (condition : Condition) → Seated core.units → length core.units ≤ suc (suc k) → Fair (suc (suc k)) (instead variables core st condition)
-instead_fair k variables core (statement.Assign to from) condition h l = h
-instead_fair k variables core (statement.OpenUnit u spec iostat) condition h l = h
-instead_fair k variables core (statement.CloseUnit u keep iostat) condition h l = anyway_fair (suc k) core keep condition (unit_at core (number_of u)) h
-instead_fair k variables core (statement.WaitFor u id iostat) condition h l = h
-instead_fair k variables core (statement.Move how u iostat) condition h l = h
-instead_fair k variables core (statement.Inquire subject asked id iostat) condition h l = h
-instead_fair k variables core (statement.Transfer t) condition h l = h
-instead_fair k variables core statement.End condition h l = all_fair (suc (suc k)) core.units core condition l h
-
 pub doing_fair : (k : ℕ) (control : ℕ → List Given) (variables : List Variable) (line : ℕ) (core : Core) (st : Statement) (condition : Condition) → Seated core.units → length core.units ≤ suc (suc k)
     → Fair (suc (suc k)) (doing control variables line core st condition)
-doing_fair k control variables line core st Fine h l = own_fair k control variables line core st h l
-doing_fair k control variables line core st EndOfFile h l = instead_fair k variables core st EndOfFile h l
-doing_fair k control variables line core st EndOfRecord h l = instead_fair k variables core st EndOfRecord h l
-doing_fair k control variables line core st (Error n) h l = instead_fair k variables core st (Error n) h l
+doing_fair k control variables line core st condition h l =
+    doing_by (Fair (suc (suc k))) control variables line core st (own_fair k control variables line core st h l) (λ vars condition. h)
+    (λ u keep iostat condition is. anyway_fair (suc k) core keep condition (unit_at core (number_of u)) h) (λ condition is. all_fair (suc (suc k)) core.units core condition l h) condition
 
 -- the ends of halts before it
 halts_fair : (slots : List ℕ) (core : Core) (next : Doing) (k j : ℕ) → length slots + k ≡ j → Seated core.units → Fair k next → Fair j (ends_halts slots core next)

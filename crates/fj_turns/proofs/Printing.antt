@@ -1,12 +1,10 @@
 -- The output: only a WRITE on `*` prints, and that gives no job and waits for nothing.
 use Rattle.std.proofs.Common.{◌≡◌, ◌⊎◌, ℕ, ℤ, Bool, true, false, List, [], ◌∷◌, Option, Some, None, slice_get, refl, sym, ap, ◌∙◌, subst, inl, inr, ◌&&◌}
-use Rattle.std.specs.Prelude.{if◌then◌else◌, unwrap_or, Result, Ok, Err}
+use Rattle.std.specs.Prelude.{if◌then◌else◌, unwrap_or}
 use Rattle.std.specs.List.{list_any}
 use Rattle.fj_value.specs.declared.condition.Condition.{Condition}
-use Rattle.fj_value.specs.declared.condition.Condition.TheVariants.{Fine, EndOfFile, EndOfRecord, Error}
+use Rattle.fj_value.specs.declared.condition.Condition.TheVariants.{Fine}
 use Rattle.fj_modes.specs.declared.modes.Modes.{Modes}
-use Rattle.fj_modes.specs.Modes.{settled}
-use Rattle.fj_modes.specs.Modes as mode
 use Rattle.fj_modes.specs.declared.specifiers.OpenSpec.{OpenSpec}
 use Rattle.fj_modes.specs.declared.asked.Wanted.{Wanted}
 use Rattle.fj_modes.specs.declared.unit.Motion.{Motion}
@@ -14,8 +12,6 @@ use Rattle.fj_modes.specs.declared.unit.UnitRef.{UnitRef}
 use Rattle.fj_modes.specs.declared.unit.UnitRef.TheVariants as unit
 use Rattle.fj_list.specs.declared.moved.Moved.{Moved}
 use Rattle.fj_control.specs.Steps.{Given}
-use Rattle.fj_connect.specs.Connection.{Connection}
-use Rattle.fj_connect.specs.Opening.{opened_file}
 use Rattle.fj_statement.specs.declared.deck.Variable.{Variable}
 use Rattle.fj_statement.specs.declared.statement.Statement.{Statement}
 use Rattle.fj_statement.specs.declared.statement.Statement.TheVariants as statement
@@ -25,15 +21,15 @@ use Rattle.fj_store.specs.Variables.{Variables}
 use Rattle.fj_plain.specs.Needs.{number_of, number_given, unit_about}
 use Rattle.fj_plain.specs.State.{Entry, Output}
 use Rattle.fj_plain.specs.Telling.{of_unit, is_asynchronous, waited_in, condition_of}
-use Rattle.fj_plain.specs.Transfers.{moved_in, layout_of, refusal}
-use Rattle.fj_plain.specs.Connecting.{file_due, keeps_name}
+use Rattle.fj_plain.specs.Transfers.{moved_in}
 use Rattle.fj_plain.specs.Statement.{Stated, file_asked}
 use Rattle.fj_desk.specs.Core.{Core, Connected, connected_at, unit_named}
-use Rattle.fj_desk.specs.Desks.{Desk, Outcome, carry, log_length, most_slots}
+use Rattle.fj_desk.specs.Desks.{Desk, Outcome, carry, log_length}
 use Rattle.fj_desk.specs.Desks as desks
 use Rattle.fj_desk.specs.Doing.{Doing, finishes, gives, awaits, Desked, acted}
-use Rattle.fj_desk.specs.Acting.{finishes_behind, transferred, unless_refused, on_unit, transfer_at, keeps, disconnected, came_out, detaches, closes, closes_anyway, all_closed, free_from, changes, is_taken, attaches, connects_at, connects, closes_first, opens_with, opens, moves, asks_connection, inquires, if_numbered, unit_at, own, instead, doing}
+use Rattle.fj_desk.specs.Acting.{finishes_behind, transferred, on_unit, transfer_at, keeps, disconnected, came_out, detaches, closes, closes_anyway, all_closed, connects, opens, moves, asks_connection, inquires, if_numbered, unit_at, own, doing}
 use Rattle.fj_desk.specs.Desking.{told_core}
+use Rattle.fj_desk.proofs.Walking.{either, unit_by, closes_by, anyway_by, connects_by, open_by, doing_by}
 use Rattle.fj_turns.specs.Run.{Held}
 use Rattle.fj_turns.specs.Turns.{unsettled, halted_slots, ends_halts, doing_told}
 use Rattle.fj_turns.specs.Inside.{waited_at, does}
@@ -61,43 +57,29 @@ silent_acted o (finishes core condition) ds h = h
 silent_acted o (gives slot job core next) ds h = silent_acted o (next (log_length (slice_get ds slot))) (carry ds slot job) (h.1 (log_length (slice_get ds slot)))
 silent_acted o (awaits slot job core next) ds h = silent_acted o (next (desks.outcome ds slot job)) (carry ds slot job) (h.1 (desks.outcome ds slot job))
 
-silent_if : (o : Output) (b : Bool) (x y : Doing) → Silent o x → Silent o y → Silent o (if b then x else y)
-silent_if o true x y h k = h
-silent_if o false x y h k = k
-
 -- ---- READ and WRITE on a unit
 
 behind_silent : (o : Output) (u : Connected) (core : Core) (condition : Condition) → core.output ≡ o → Silent o (finishes_behind u core condition)
-behind_silent o u core condition h = silent_if o (halts condition) _ _ (h, λ number. h) h
+behind_silent o u core condition h = either (Silent o) (halts condition) _ _ (h, λ number. h) h
 
 module _ (control : ℕ → List Given) (variables : List Variable) (line : ℕ) (core : Core) (t : Transfer) (moved : Moved) where
   transferred_silent : (u : Connected) → Silent core.output (transferred control variables line core t moved u)
-  transferred_silent u = silent_if core.output (is_asynchronous t) _ _ (refl, λ number. refl) (refl, λ x. behind_silent core.output u _ _ refl)
-
-  unless_silent : (u : Connected) (condition : Condition) → Silent core.output (unless_refused control variables line core t moved u condition)
-  unless_silent u Fine = transferred_silent u
-  unless_silent u EndOfFile = refl
-  unless_silent u EndOfRecord = refl
-  unless_silent u (Error n) = refl
+  transferred_silent u = either (Silent core.output) (is_asynchronous t) _ _ (refl, λ number. refl) (refl, λ x. behind_silent core.output u _ _ refl)
 
   unit_silent : (o : Option Connected) → Silent core.output (on_unit control variables line core t moved o)
-  unit_silent None = refl
-  unit_silent (Some u) = unless_silent u (refusal u.modes t (layout_of variables moved.cells t.control))
+  unit_silent o = unit_by (Silent core.output) control variables line core t moved o (λ condition. refl) (λ u e. transferred_silent u)
 
 -- ---- CLOSE
 
 detaches_silent : (o : Output) (core : Core) (u : Connected) (keep : Bool) (next : Core → Doing) → core.output ≡ o → ((new : Core) → new.output ≡ o → Silent o (next new)) → Silent o (detaches core u keep next)
-detaches_silent o core u keep next h f = (h, λ x. silent_if o (came_out u x) _ _ (f (disconnected core u keep x) h) h)
+detaches_silent o core u keep next h f = (h, λ x. either (Silent o) (came_out u x) _ _ (f (disconnected core u keep x) h) h)
 
 closes_silent : (core : Core) (keep : Option Bool) (at : Option Connected) → Silent core.output (closes core keep at)
-closes_silent core keep None = refl
-closes_silent core keep (Some u) =
-    silent_if core.output (unwrap_or keep false && u.modes.scratch) _ _ refl
-    (detaches_silent core.output core u (unwrap_or keep (keeps u)) (λ new. finishes new Fine) refl (λ new h. h))
+closes_silent core keep at = closes_by (Silent core.output) core keep at (λ condition. refl) (λ u e. detaches_silent core.output core u (unwrap_or keep (keeps u)) (λ new. finishes new Fine) refl (λ new h. h))
 
 anyway_silent : (core : Core) (keep : Option Bool) (condition : Condition) (at : Option Connected) → Silent core.output (closes_anyway core keep condition at)
-anyway_silent core keep condition None = refl
-anyway_silent core keep condition (Some u) = detaches_silent core.output core u (keeps u && unwrap_or keep true) (λ new. finishes new condition) refl (λ new h. h)
+anyway_silent core keep condition at =
+    anyway_by (Silent core.output) core keep condition at refl (λ u e. detaches_silent core.output core u (keeps u && unwrap_or keep true) (λ new. finishes new condition) refl (λ new h. h))
 
 all_silent : (o : Output) (us : List Connected) (core : Core) (condition : Condition) → core.output ≡ o → Silent o (all_closed us core condition)
 all_silent o [] core condition h = h
@@ -105,37 +87,13 @@ all_silent o (u ∷ us) core condition h = detaches_silent o core u (keeps u) (�
 
 -- ---- OPEN
 
-changes_silent : (core : Core) (u : Connected) (r : Result Modes Condition) → Silent core.output (changes core u r)
-changes_silent core u (Err condition) = refl
-changes_silent core u (Ok modes) = (refl, λ x. refl)
-
-attaches_silent : (o : Output) (core : Core) (number slot : ℕ) (r : Result Connection Condition) → core.output ≡ o → Silent o (attaches core number slot r)
-attaches_silent o core number slot (Err condition) h = h
-attaches_silent o core number slot (Ok c) h = (h, λ x. h)
-
 connects_silent : (o : Output) (core : Core) (number : ℕ) (spec : OpenSpec) (modes : Modes) → core.output ≡ o → Silent o (connects number spec modes core)
-connects_silent o core number spec modes h = by (free_from core.units 0 most_slots)
-  where
-    by : (at : Option ℕ) → Silent o (connects_at number spec modes core at)
-    by None = h
-    by (Some slot) = attaches_silent o core number slot (opened_file (core.files (file_due spec number)) (file_due spec number) spec modes) h
-
-with_silent : (core : Core) (number : ℕ) (spec : OpenSpec) (old : Option Connected) (r : Result Modes Condition) → Silent core.output (opens_with core number spec old r)
-with_silent core number spec old (Err condition) = refl
-with_silent core number spec old (Ok modes) = silent_if core.output (is_taken core number (file_due spec number)) _ _ refl (first old)
-  where
-    first : (at : Option Connected) → Silent core.output (closes_first core at (connects number spec modes))
-    first None = connects_silent core.output core number spec modes refl
-    first (Some u) = detaches_silent core.output core u (keeps u) (connects number spec modes) refl (λ new h. connects_silent core.output new number spec modes h)
-
-opens_silent : (core : Core) (number : ℕ) (spec : OpenSpec) (at : Option Connected) → Silent core.output (opens core number spec at)
-opens_silent core number spec None = with_silent core number spec None (settled spec)
-opens_silent core number spec (Some u) =
-    silent_if core.output (keeps_name u.name spec spec.file) _ _ (changes_silent core u (mode.changed u.modes spec)) (with_silent core number spec (Some u) (settled spec))
+connects_silent o core number spec modes h = connects_by (Silent o) core number spec modes (λ condition. h) (λ slot c free e. (h, λ x. h))
 
 open_silent : (core : Core) (spec : OpenSpec) (number : Option ℕ) → Silent core.output (if_numbered core number (λ n. opens core n spec (connected_at core.units n)))
-open_silent core spec None = refl
-open_silent core spec (Some n) = opens_silent core n spec (connected_at core.units n)
+open_silent core spec number =
+    open_by (Silent core.output) core spec number (λ condition. refl) (λ n u modes is e. (refl, λ x. refl)) (λ n modes is e. connects_silent core.output core n spec modes refl)
+    (λ n u modes is e other. detaches_silent core.output core u (keeps u) (connects n spec modes) refl (λ new h. connects_silent core.output new n spec modes h))
 
 -- ---- the motions, INQUIRE
 
@@ -145,7 +103,7 @@ moves_silent core how (Some u) = (refl, λ x. refl)
 
 inquires_silent : (variables : List Variable) (core : Core) (number : Option ℕ) (file : Option (List ℕ)) (asked : List Wanted) (id : Option ℤ) (at : Option Connected) → Silent core.output (inquires variables core number file asked id at)
 inquires_silent variables core number file asked id None = refl
-inquires_silent variables core number file asked id (Some u) = silent_if core.output (list_any (λ (w : Wanted). asks_connection w.what) asked) _ _ (refl, λ x. refl) refl
+inquires_silent variables core number file asked id (Some u) = either (Silent core.output) (list_any (λ (w : Wanted). asks_connection w.what) asked) _ _ (refl, λ x. refl) refl
 
 -- ---- each kind of statement
 
@@ -163,22 +121,10 @@ record IsAlone (what : Statement) : Type 0 where
 abbrev IsSilent : Statement → Type 0
 IsSilent what = (control : ℕ → List Given) (variables : List Variable) (line : ℕ) (core : Core) (condition : Condition) → Silent core.output (doing control variables line core what condition)
 
--- in place of what it does itself
-instead_silent : (variables : List Variable) (core : Core) (what : Statement) (condition : Condition) → Silent core.output (instead variables core what condition)
-instead_silent variables core (statement.Assign to from) condition = refl
-instead_silent variables core (statement.OpenUnit u spec iostat) condition = refl
-instead_silent variables core (statement.CloseUnit u keep iostat) condition = anyway_silent core keep condition (unit_at core (number_of u))
-instead_silent variables core (statement.WaitFor u id iostat) condition = refl
-instead_silent variables core (statement.Move how u iostat) condition = refl
-instead_silent variables core (statement.Inquire subject asked id iostat) condition = refl
-instead_silent variables core (statement.Transfer t) condition = refl
-instead_silent variables core statement.End condition = all_silent core.output core.units core condition refl
-
 doing_silent : (what : Statement) → ((control : ℕ → List Given) (variables : List Variable) (line : ℕ) (core : Core) → Silent core.output (own control variables line core what)) → IsSilent what
-doing_silent what f control variables line core Fine = f control variables line core
-doing_silent what f control variables line core EndOfFile = instead_silent variables core what EndOfFile
-doing_silent what f control variables line core EndOfRecord = instead_silent variables core what EndOfRecord
-doing_silent what f control variables line core (Error n) = instead_silent variables core what (Error n)
+doing_silent what f control variables line core condition =
+    doing_by (Silent core.output) control variables line core what (f control variables line core) (λ vars condition. refl) (λ u keep iostat condition is. anyway_silent core keep condition (unit_at core (number_of u)))
+    (λ condition is. all_silent core.output core.units core condition refl) condition
 
 -- a transfer on `*`, or on a unit
 transfer_silent : (t : Transfer) (to : UnitRef) → t.unit ≡ to → IsAlone (statement.Transfer t) ⊎ IsSilent (statement.Transfer t)
