@@ -80,7 +80,7 @@ shape_sends = variants_send Shape.enum (search (as_row_send, moved_sends, row_se
 inside_load_sends : IsSend LoadInside.the_row
 inside_load_sends = declared_send LoadInside.the_type (search (as_row_send, shape_sends, crosses, sendable) depth 20)
 
-load_sends : IsSend Load.the_row
+pub load_sends : IsSend Load.the_row
 load_sends = view_send _ _ _ _ _ inside_load_sends
 
 layout_sends : IsSend Layout.the_row

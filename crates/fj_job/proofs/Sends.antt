@@ -5,16 +5,10 @@ use denote.Ref.{NamedLft}
 use denote.Param.Send.{IsSend, view_send, sendable}
 use denote.Param.SendFields.{as_row_send, declared_send, variants_send}
 use Rattle.std.proofs.Crossing.{crosses}
-use Rattle.fj_bay.proofs.Sends.{text_sends, items_sends, value_sends, file_name_sends, modes_sends, format_sends, answer_sends, connection_sends, job_sends}
+use Rattle.fj_bay.proofs.Sends.{text_sends, items_sends, value_sends, file_name_sends, modes_sends, format_sends, load_sends, answer_sends, connection_sends, job_sends}
 use Rattle.fj_outside.specs.declared.outside.Disk as disk
 use Rattle.fj_outside.specs.declared.outside.FileStore as files
 use Rattle.fj_outside.specs.declared.outside.Sink as sink
-use Rattle.fj_value.specs.contracts.value.Cell as Cell
-use Rattle.fj_list.specs.contracts.load.Load as Load
-use Rattle.fj_list.specs.contracts.load.Load.TheInside as LoadInside
-use Rattle.fj_list.specs.contracts.load.Shape as Shape
-use Rattle.fj_list.specs.contracts.moved.Moved as Moved
-use Rattle.fj_list.specs.contracts.moved.Row as Row
 use Rattle.fj_modes.specs.contracts.asked.Question as Question
 use Rattle.fj_modes.specs.contracts.asked.Wanted as Wanted
 use Rattle.fj_modes.specs.contracts.specifiers.OpenSpec as OpenSpec
@@ -118,24 +112,6 @@ output_sends = search (text_sends, crosses, sendable) depth 20
 
 tell_sends : IsSend Tell.the_row
 tell_sends = declared_send Tell.the_type (search (as_row_send, crosses, sendable) depth 20)
-
-cell_sends : IsSend Cell.the_row
-cell_sends = declared_send Cell.the_type (search (as_row_send, value_sends, crosses, sendable) depth 20)
-
-moved_sends : IsSend Moved.the_row
-moved_sends = declared_send Moved.the_type (search (as_row_send, cell_sends, items_sends, crosses, sendable) depth 20)
-
-row_sends : IsSend Row.the_row
-row_sends = declared_send Row.the_type (search (as_row_send, value_sends, items_sends, crosses, sendable) depth 20)
-
-shape_sends : IsSend Shape.the_row
-shape_sends = variants_send Shape.enum (search (as_row_send, moved_sends, row_sends, crosses, sendable) depth 20)
-
-inside_load_sends : IsSend LoadInside.the_row
-inside_load_sends = declared_send LoadInside.the_type (search (as_row_send, shape_sends, crosses, sendable) depth 20)
-
-load_sends : IsSend Load.the_row
-load_sends = view_send _ _ _ _ _ inside_load_sends
 
 told_sends : IsSend Told.the_row
 told_sends = declared_send Told.the_type (search (as_row_send, load_sends, crosses, sendable) depth 20)
