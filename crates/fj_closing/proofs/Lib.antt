@@ -1,12 +1,9 @@
 pub mod Performing
 pub mod Desking
+pub mod Stopped
 pub mod Returning
 pub mod Due
-pub mod Running
-pub mod Fitting
-pub mod Others
 pub mod Finding
 pub mod Holding
-pub mod Taking
-pub mod LetGo
-pub mod Ended
+pub mod Names
+pub mod Each
