@@ -48,7 +48,7 @@ use Rattle.fj_turns.specs.Standing.{Waits}
 use Rattle.fj_turns.proofs.Meant.{CutTied, cut_of_deck}
 use Rattle.fj_cut.specs.Others.{Names, names_of, has_file}
 use Rattle.fj_cut.specs.Awaiting.{WaitsBy, AwaitedUnit, IsFree, StopsAt, StopsAreAwaited}
-use Rattle.fj_cut.proofs.Units.{each_found, found_without}
+use Rattle.fj_cut.proofs.Units.{each_found, found_behind}
 use Rattle.fj_cut.proofs.Deck.{cut_sound}
 use Rattle.fj_cut.proofs.Seats.{HasSeat, seated_before, unit_kept, id_kept}
 use Rattle.fj_cut.proofs.Stops.{names_same}
@@ -139,8 +139,7 @@ module _ (what : Statement) (names : Names) (unit_named_by : List ℕ → Option
     inl (u.number, u.name, w u.number, named.0, file_there core.units u.number u found.0),
     λ o. either (came_out u o) _ _
         (λ i. end_places us (disconnected core u (keeps u) o) condition w apart.1
-        (each_both (λ (x : Connected). x.number ≡ u.number → ⊥) (λ (x : Connected). connected_at core.units x.number ≡ Some x)
-        (λ (x : Connected). connected_at (without_connected u.number core.units) x.number ≡ Some x) us (λ x ne e. found_without core.units u.number x.number ne ∙ e) apart.0 found.1)
+        (found_behind core.units u us apart.0 found.1)
         named.1)
         (λ i. tt),
   )
