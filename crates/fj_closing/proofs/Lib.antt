@@ -7,3 +7,7 @@ pub mod Finding
 pub mod Holding
 pub mod Names
 pub mod Each
+pub mod Seating
+pub mod Walk
+pub mod Standing
+pub mod Ended

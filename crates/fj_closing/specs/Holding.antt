@@ -1,5 +1,5 @@
 -- Slots that hold the connections of units, each under its name, and no other.
-use Rattle.std.specs.Prelude.{◌≡◌, ◌==◌, ℕ, ◌<◌, ◌≤◌, true, List, [], ◌∷◌, length, take, All, Option, Some, None, is_some, option_map, slice_get, if◌then◌else◌}
+use Rattle.std.specs.Prelude.{◌≡◌, ℕ, ◌<◌, ◌≤◌, ◌==◌, true, List, [], ◌∷◌, length, take, All, Option, Some, None, is_some, option_map, slice_get, if◌then◌else◌}
 use Rattle.fj_connect.specs.Connection.{Connection}
 use Rattle.fj_slot.specs.Ledger.{Ledger}
 use Rattle.fj_slot.specs.Serving.{Meaning}
@@ -22,7 +22,8 @@ abbrev pub name_at : List Connected → ℕ → Option (List ℕ)
 name_at [] at = None
 name_at (u ∷ us) at = if u.slot == at then Some u.name else name_at us at
 
--- The slot is sound. However many of its jobs are done that are not yet, and none where it has stopped, the connection then has that name; or there is none.
+-- The slot is sound. However many of its jobs are done that are not yet, and none where it has stopped, the connection then has that
+-- name; or there is none.
 pub record HoldsName {E J A : Type 0} (m : Meaning E J A Bay Job Answer) (l : Ledger E J A) (name : Option (List ℕ)) : Type 0 where
   pub start : Bay
   pub jobs : List Job

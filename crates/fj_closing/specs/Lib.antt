@@ -5,3 +5,4 @@ pub mod Finding
 pub mod Closing
 pub mod Holding
 pub mod Fitting
+pub mod Ended
