@@ -23,6 +23,7 @@ use Rattle.fj_closing.specs.Fitting.{CountsStop, HasItsOwn, HaveTheirOwn}
 use Rattle.fj_closing.specs.Losing.{after, may_want}
 use Rattle.fj_closing.specs.Remains.{AreOfDesks}
 use Rattle.fj_closing.specs.declared.remains.Remains.{Remains}
+use Rattle.fj_closing.proofs.Halted.{some_in}
 use Rattle.fj_closing.proofs.Due.{all_due, due_on, same_on}
 use Rattle.fj_closing.proofs.Finding.{found_of_wider}
 use Rattle.fj_closing.proofs.Returning.{both_ok}
@@ -137,10 +138,6 @@ each_by all P Q f (u ∷ us) h = (let it = h.0 in (it.0, it.1, f u it.0 it.2), e
 pub spared_each : (u : Connected) (us : List Connected) (old mid new : Holdings) → ((name : List ℕ) → name ≢ u.name → SameAt old mid name) → AreSpared us mid new → AreSpared (u ∷ us) old new
 spared_each u us old mid new first others name none =
     let apart = has_other us u name none in same_on old mid new name (first name apart.0) (others name apart.1)
-
-pub some_in : {X : Type 0} → (o : Option X) → IsSome o → (x : X) × (o ≡ Some x)
-some_in None e = absurd (cc)
-some_in (Some x) e = (x, refl)
 
 -- what is due of each file
 pub due_each : (u : Connected) (us : List Connected) (desks : List Desk) (old mid new : Holdings) (a b c : ℕ) → a ≤ b → b ≤ c → has_name us u.name ≡ false → AreSpared us mid new

@@ -47,6 +47,7 @@ use Rattle.fj_units.specs.Having.{Differ}
 use Rattle.fj_units.specs.Units.{has_slot, same_slot}
 use Rattle.fj_closing.specs.Ended.{HasStoppedAt, LeavesNames, BringsNone, StopSpares, TurnHolds, StopsFull, EndsWithUnits, EachStopHolds, EachStopSpares, EachTurnHolds, EachSubmitHolds}
 use Rattle.fj_closing.specs.Holding.{name_behind, name_at, HoldsName, HoldUnits}
+use Rattle.fj_closing.proofs.Halted.{some_in, halted_at}
 use Rattle.fj_closing.proofs.Seating.{Table, name_in, connects, named_by, named_still, serves_name, Seated, name_is}
 use Rattle.fj_closing.proofs.Standing.{left_in, slot_names, IsWaited, EachMoved, AllTold, ToldOr, IsOut, DoesSo, Goes, HasEnded, Submits, SettlesAt, AskGoes, passes_goes, Before, stands_so, before_so}
 use Rattle.fj_closing.proofs.Walk.{EmptyOrStays, Sits, now_seated, told_sits}
@@ -153,33 +154,13 @@ module _ {E J A : Type 0} (m : Meaning E J A Bay Job Answer) (rack : Rack E J A)
 
     -- the bay on which it stopped is not empty
     stopped_full : StopsFull m → IsSome (w.old slot)
-    stopped_full full = by (slice_get_inside rack.slots slot (let within = slice_get_within qs slot w.own w.here in omega (arith, within, hold.same)))
-      where
-        by : (l : Ledger E J A) × (slice_get rack.slots slot ≡ Some l) → IsSome (w.old slot)
-        by (l, f) = halted l.halt refl l.home refl (slice_get w.own.jobs l.done) refl
-          where
-            sound : IsSound (over_bays m) w.own.start w.own.jobs l
-            sound = hold.each slot w.own l w.here f
-
-            names_some : (o : Option Connection) → IsSome o → IsSome (name_in o)
-            names_some None h = h
-            names_some (Some c) h = refl
-
-            halted : (halt : Option Halt) → l.halt ≡ halt → (home : Option E) → l.home ≡ home → (job : Option Job) → slice_get w.own.jobs l.done ≡ job → IsSome (w.old slot)
-            halted None e home g job i = absurd (let z : false ≡ true = sym (ap is_some e) ∙ stop l f in cc)
-            halted (Some h) e None g job i = absurd (let z : false ≡ true = sym (ap is_some g) ∙ sound.counted.at_home (stop l f) in cc)
-            halted (Some h) e (Some engine) g None i =
-                let less = not_behind l f in
-                let there = slice_get_inside w.own.jobs l.done (omega (arith, less, w.last)) in
-                absurd (let z : None ≡ Some there.0 = sym i ∙ there.1 in cc)
-            halted (Some h) e (Some engine) g (Some job) i =
-                let tells : IsSome (m.state engine) = subst (λ o. IfSome o (λ b. IsSome (m.state b))) g (subst (λ o. IfSome o (λ (x : Halt). IfSome l.home (λ b. IsSome (m.state b)))) e sound.tells) in
-                let at_halt = subst (λ o. IfSome o (λ (x : Halt). IfSome l.home (λ b. IfSome (slice_get w.own.jobs l.done) (λ t. m.spoilt (served_by (over_bays m) w.own.start (take l.done w.own.jobs)) t x.stop b)))) e sound.spoilt in
-                let at_home = subst (λ o. IfSome o (λ b. IfSome (slice_get w.own.jobs l.done) (λ t. m.spoilt (served_by (over_bays m) w.own.start (take l.done w.own.jobs)) t h.stop b))) g at_halt in
-                let spoilt = subst (λ o. IfSome o (λ t. m.spoilt (served_by (over_bays m) w.own.start (take l.done w.own.jobs)) t h.stop engine)) i at_home in
-                let some = full (served_by (over_bays m) w.own.start (take l.done w.own.jobs)) job h.stop engine tells spoilt in
-                subst IsSome (before_stop l f)
-                (names_some (behind w.own.start (take l.done w.own.jobs)).connection (subst (λ (b : Bay). IsSome b.connection) (behind_is (over_bays m) refl w.own.start (take l.done w.own.jobs)) some))
+    stopped_full full =
+        let l = slice_get_inside rack.slots slot (let within = slice_get_within qs slot w.own w.here in omega (arith, within, hold.same)) in
+        let h = some_in l.0.halt (stop l.0 l.1) in
+        let at = halted_at (over_bays m) w.own.start w.own.jobs l.0 h.0 (hold.each slot w.own l.0 w.here l.1) h.1 in
+        let bay = served_by (over_bays m) w.own.start (take l.0.done w.own.jobs) in
+        let c = some_in bay.connection (full bay at.job h.0.stop at.engine at.tells at.spoilt) in
+        subst IsSome (ap (λ (b : Bay). name_in b.connection) (behind_is (over_bays m) refl w.own.start (take l.0.done w.own.jobs)) ∙ before_stop l.0 l.1) (subst (λ o. IsSome (name_in o)) (sym c.1) refl)
 
     -- no connection is about to come
     spared : StopsFull m → ((brought : Option Connection) → w.job ≡ attach brought → ⊥) × LeavesNames (Awaiting slot number onward) r.core.units

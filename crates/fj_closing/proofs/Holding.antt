@@ -32,6 +32,7 @@ use Rattle.fj_closing.specs.Holding.{name_at, HoldUnits}
 use Rattle.fj_closing.specs.Remains.{IsWhatRemains}
 use Rattle.fj_closing.specs.declared.remains.Remains.{Remains}
 use Rattle.fj_closing.proofs.Desking.{with_both}
+use Rattle.fj_closing.proofs.Halted.{some_in}
 use Rattle.fj_closing.proofs.Stopped.{linked_name, left_so, stopped_at}
 
 -- ---- units at slots of their own
@@ -61,10 +62,6 @@ later_at u us at name apart e = elim (eqb_tells u.slot at) [
 there : {F : Type 0} → (o : Option (Linked F)) (name : List ℕ) → linked_name o ≡ Some name → (c : Linked F) × (o ≡ Some c) × (c.name ≡ name)
 there None name e = absurd (cc)
 there (Some c) name e = (c, refl, let z : Some c.name ≡ Some name = e in cc)
-
-some_in : {X : Type 0} → (o : Option X) → is_some o ≡ true → (x : X) × (o ≡ Some x)
-some_in None e = absurd (cc)
-some_in (Some x) e = (x, refl)
 
 last_true : (b : Bool) → (b || true) ≡ true
 last_true true = refl

@@ -24,13 +24,10 @@ use Rattle.fj_closing.specs.Holding.{name_behind}
 use Rattle.fj_closing.specs.Remains.{IsWhatRemains}
 use Rattle.fj_closing.specs.declared.remains.Remains.{Remains}
 use Rattle.fj_closing.proofs.Desking.{at_home, placed}
+use Rattle.fj_closing.proofs.Halted.{some_in, halted_at}
 
 some_is : {X : Type 0} → {x y : X} → Some x ≡ Some y → x ≡ y
 some_is e = cc
-
-state_in : {X : Type 0} → (o : Option X) → IsSome o → (x : X) × (o ≡ Some x)
-state_in None e = absurd (cc)
-state_in (Some x) e = (x, refl)
 
 abbrev pub linked_name : {F : Type 0} → Option (Linked F) → Option (List ℕ)
 linked_name o = option_map (λ c. c.name) o
@@ -72,21 +69,16 @@ module _ {F : Type 0} (told : F → Bool) (bytes : F → List ℕ) (count : F �
 
   pub stopped_at : (l : Ledger (Bay F) (Job F) Answer) (s : PlainBay) (ts : List PlainJob) (h : Halt) (bay : Bay F) → IsSound m s ts l → l.halt ≡ Some h → l.home ≡ Some bay → IsStopped l s ts h bay
   stopped_at l s ts h bay sound halt home =
-      let long : length l.jobs ≡ length ts = sym (length-map l.jobs m.task) ∙ ap length sound.jobs ∙ length-map ts Some in
-      let below = sound.counted.below (ap is_some halt) in
-      let job = slice_get_inside ts l.done (omega (arith, below, long)) in
-      let was = served_by m s (take l.done ts) in
-      let tells : IsSome (m.state bay) = subst (λ o. IfSome o (λ e. IsSome (m.state e))) home (subst (λ o. IfSome o (λ (x : Halt). IfSome l.home (λ e. IsSome (m.state e)))) halt sound.tells) in
-      let left = state_in (m.state bay) tells in
-      let at_halt = subst (λ o. IfSome o (λ (x : Halt). IfSome l.home (λ e. IfSome (slice_get ts l.done) (λ t. m.spoilt was t x.stop e)))) halt sound.spoilt in
-      let at_home = subst (λ o. IfSome o (λ e. IfSome (slice_get ts l.done) (λ t. m.spoilt was t h.stop e))) home at_halt in
-      let spoilt = subst (λ o. IfSome o (λ t. m.spoilt was t h.stop bay)) job.1 at_home in
+      let at = halted_at m s ts l h sound halt in
+      let same : at.engine ≡ bay = some_is (sym at.home ∙ home) in
+      let left = some_in (m.state bay) (subst (λ e. IsSome (m.state e)) same at.tells) in
+      let spoilt = subst (m.spoilt (served_by m s (take l.done ts)) at.job h.stop) same at.spoilt in
       record {
-        job = job.0;
-        at = job.1;
+        job = at.job;
+        at = at.at;
         left = left.0;
         tells = left.1;
-        spoilt = subst (λ o. IfSome o (λ new. IsSpoilt was job.0 h.stop new (file_faults count bay.connection))) left.1 spoilt;
+        spoilt = subst (λ o. IfSome o (λ new. IsSpoilt (served_by m s (take l.done ts)) at.job h.stop new (file_faults count bay.connection))) left.1 spoilt;
       }
 
   -- the bay in which it stopped had a connection, of that name
