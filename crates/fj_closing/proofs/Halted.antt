@@ -7,10 +7,7 @@ use Rattle.fj_slot.specs.Ledger.{Ledger}
 use Rattle.fj_slot.specs.Serving.{Meaning}
 use Rattle.fj_slot.specs.Sound.{IsSound, served_by}
 use Rattle.fj_slot.proofs.Sound.{slice_get_inside}
-
-pub some_in : {X : Type 0} → (o : Option X) → is_some o ≡ true → (x : X) × (o ≡ Some x)
-some_in None e = cc
-some_in (Some x) e = (x, refl)
+use Rattle.fj_closing.proofs.Desking.{some_in}
 
 module _ {G J A P T R : Type 0} (m : Meaning G J A P T R) (s : P) (ts : List T) (l : Ledger G J A) where
   pub record IsHalted (h : Halt) : Type 0 where

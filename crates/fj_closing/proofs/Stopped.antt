@@ -1,5 +1,5 @@
 -- A sound slot: the bay in which it stopped, and what remains of it once its jobs were performed.
-use Rattle.std.proofs.Common.{◌≡◌, ◌⊎◌, ℕ, ◌<◌, ◌≤◌, Bool, true, false, List, [], ◌∷◌, length, map, take, Some, None, Option, IsSome, IfSome, is_some, slice_get, option_map, refl, sym, ap, ◌∙◌, subst, arith}
+use Rattle.std.proofs.Common.{◌≡◌, ℕ, ◌<◌, ◌≤◌, Bool, true, List, length, take, Some, None, Option, IsSome, IfSome, is_some, slice_get, option_map, refl, sym, ap, ◌∙◌, subst, arith}
 use Rattle.std.proofs.lemmas.List.{take_all, length-map}
 use Rattle.fj_outside.specs.declared.errors.Stop.{Stop}
 use Rattle.fj_outside.specs.declared.errors.Stop.TheVariants.{Failed}
@@ -14,7 +14,7 @@ use Rattle.fj_bay.specs.Bay.{Bay as PlainBay}
 use Rattle.fj_bay.specs.Jobs.{Job as PlainJob, Answer as PlainAnswer}
 use Rattle.fj_bay.specs.Meaning.{bay_meaning, file_faults}
 use Rattle.fj_bay.specs.Plain.{place_of, state_of}
-use Rattle.fj_bay.specs.Spoilt.{IsSpoilt, behind}
+use Rattle.fj_bay.specs.Spoilt.{IsSpoilt}
 use Rattle.fj_bay.specs.declared.bay.Bay.{Bay}
 use Rattle.fj_bay.specs.declared.job.Job.{Job}
 use Rattle.fj_bay.specs.declared.job.Answer.{Answer}
@@ -23,11 +23,8 @@ use Rattle.fj_closing.specs.Fitting.{CountsStop}
 use Rattle.fj_closing.specs.Holding.{name_behind}
 use Rattle.fj_closing.specs.Remains.{IsWhatRemains}
 use Rattle.fj_closing.specs.declared.remains.Remains.{Remains}
-use Rattle.fj_closing.proofs.Desking.{at_home, placed}
-use Rattle.fj_closing.proofs.Halted.{some_in, halted_at}
-
-some_is : {X : Type 0} → {x y : X} → Some x ≡ Some y → x ≡ y
-some_is e = cc
+use Rattle.fj_closing.proofs.Desking.{at_home, placed, some_in, some_is}
+use Rattle.fj_closing.proofs.Halted.{halted_at}
 
 abbrev pub linked_name : {F : Type 0} → Option (Linked F) → Option (List ℕ)
 linked_name o = option_map (λ c. c.name) o
