@@ -1,5 +1,5 @@
 -- A sound slot that has stopped: the job in which it did, and the engine that this left.
-use Rattle.std.proofs.Common.{◌≡◌, ℕ, true, false, List, length, map, take, Option, Some, None, IsSome, is_some, slice_get, refl, sym, ap, ◌∙◌, subst, arith}
+use Rattle.std.proofs.Common.{◌≡◌, List, length, take, Some, IsSome, is_some, slice_get, sym, ap, ◌∙◌, subst, arith}
 use Rattle.std.specs.Prelude.{IfSome}
 use Rattle.std.proofs.lemmas.List.{length-map}
 use Rattle.fj_slot.specs.declared.stop.Halt.{Halt}

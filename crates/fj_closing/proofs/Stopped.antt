@@ -9,7 +9,6 @@ use Rattle.fj_slot.specs.declared.stop.Halt.{Halt}
 use Rattle.fj_slot.specs.Ledger.{Ledger}
 use Rattle.fj_slot.specs.Serving.{Meaning}
 use Rattle.fj_slot.specs.Sound.{IsSound, served_by}
-use Rattle.fj_slot.proofs.Sound.{slice_get_inside}
 use Rattle.fj_bay.specs.Bay.{Bay as PlainBay}
 use Rattle.fj_bay.specs.Jobs.{Job as PlainJob, Answer as PlainAnswer}
 use Rattle.fj_bay.specs.Meaning.{bay_meaning, file_faults}
