@@ -126,3 +126,14 @@ returns-in-Ok-clause-jobs g c =
     let core = c.args.core.now in
     let less = closed_less core.units c.remove-2.new.self c.args.number c.args.connection.name (sym c.if-not-is_due.ensures) c.remove-2.ensures.left in
     less_jobs c.go_on.result c.args.after (length c.remove-2.new.self) (length core.units) c.go_on.new.core.units less c.go_on.ensures.jobs
+
+pub returns-in-Ok-clause-vain : goal.returns-in-Ok-clause-vain
+returns-in-Ok-clause-vain g c = λ have.
+    let core = c.args.core.now in
+    c.go_on.ensures.vain
+    (closed_has core.units c.remove-2.new.self c.args.number core.names c.remove.new.self c.args.connection.name (sym c.if-not-is_due.ensures) (c.remove.ensures ∙ ap (left_of core.names) c.name-2.ensures) have.0 c.remove-2.ensures.files)
+
+pub returns-in-Err-clause-vain : goal.returns-in-Err-clause-vain
+returns-in-Err-clause-vain g c = λ have.
+    let core = c.args.core.now in
+    closed_has core.units c.remove-2.new.self c.args.number core.names c.remove.new.self c.args.connection.name (sym c.if-not-is_due.ensures) (c.remove.ensures ∙ ap (left_of core.names) c.name-2.ensures) have.0 c.remove-2.ensures.files
