@@ -1,13 +1,9 @@
 -- How many units are connected, and how many jobs a statement still gives.
-use Rattle.std.proofs.Common.{◌≡◌, ℕ, suc, ◌+◌, ◌-◌, ◌≤◌, Bool, true, false, not, List, [], ◌∷◌, ◌++◌, length, filter, Option, Some, None, refl, sym, ap, subst, ◌∙◌, length-append, arith}
-use Rattle.std.proofs.lemmas.Bool.{ltb-true}
-use Rattle.std.proofs.lemmas.List.{length-map}
+use Rattle.std.proofs.Common.{◌≡◌, ℕ, suc, ◌+◌, ◌-◌, ◌≤◌, Bool, true, false, not, List, [], ◌∷◌, length, filter, Some, None, refl, sym, ap, subst, ◌∙◌, arith}
 use Rattle.std.proofs.lemmas.List.Filters.{length-filter_both}
-use Rattle.std.specs.Prelude.{◌==◌, nat_lt, slice_get, if◌then◌else◌, Result, Ok, Err, IfOk, OnOk}
-use Rattle.fj_modes.specs.declared.modes.Modes.{Modes}
+use Rattle.std.specs.Prelude.{◌==◌, slice_get, if◌then◌else◌, Result, Ok, Err, IfOk}
 use Rattle.fj_bay.specs.declared.job.Job.TheVariants as job
-use Rattle.fj_desk.specs.Core.{Connected, connected_at, inserted, without_connected}
-use Rattle.fj_units.specs.Units.{with_modes}
+use Rattle.fj_desk.specs.Core.{Connected, connected_at, without_connected}
 use Rattle.fj_acts.specs.Doing.{Ends}
 use Rattle.fj_acts.specs.Jobs.{GivesOne, jobs_after, jobs_of}
 use Rattle.fj_acts.specs.Steps.{is_due}
@@ -69,10 +65,6 @@ pub closed_less : (us us' : List Connected) (number : ℕ) (name : List ℕ) →
 closed_less us us' number name due is =
     let u = due_unit (connected_at us number) name due in
     subst (λ l. length l + 1 ≤ length us) (sym is) (without_less us number u.0 u.1)
-
-pub on_ok : {A E : Type 0} → (r : Result A E) (X : Type 0) → X → OnOk r X
-on_ok (Ok a) X x = x
-on_ok (Err e) X x = tt
 
 -- of one unit less
 pub less_jobs : {F E : Type 0} → (r : Result (Doing F) E) (next : After) (left us : ℕ) (us' : List Connected) → left + 1 ≤ us → IfOk r (λ does. jobs_of does (length us') ≤ jobs_after next left)

@@ -198,7 +198,6 @@ fn closed<D: Disk>(
     ensures next { core.new.next ≡ core.old.next }
     ensures fits { HaveThen (Then.Closes number keep after) core.old.names core.old.units lined.now.what → result ≢ Err Lost.Unfit }
     ensures placed { IfOk result IsPlaced }
-    ensures units { OnOk result (length core.new.units ≤ length core.old.units) }
     ensures jobs { IfOk result (λ goes. jobs_of goes (length core.new.units) ≤ jobs_after after (length core.old.units - 1)) }
     ensures files { HaveThen (Then.Closes number keep after) core.old.names core.old.units lined.now.what → IfOk result (λ goes. HaveNext goes core.new.names core.new.units lined.now.what) }
     ensures vain { HaveThen (Then.Closes number keep after) core.old.names core.old.units lined.now.what → OnErr result (HaveFiles core.new.names core.new.units) }

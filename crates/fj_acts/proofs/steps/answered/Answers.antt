@@ -16,7 +16,7 @@ use Rattle.fj_acts.specs.Having.{HaveThen}
 use Rattle.fj_acts.specs.Jobs.{jobs_behind, jobs_of}
 use Rattle.fj_acts.specs.State.{core_of}
 use Rattle.fj_acts.specs.declared.doing.Then.{Then}
-use Rattle.fj_acts.proofs.FailingLemmas.{fails_as, looks_there, stands_as, stands_here}
+use Rattle.fj_acts.proofs.FailingLemmas.{fails_as, looks_there, on_err, stands_as, stands_here}
 use Rattle.fj_acts.proofs.JobLemmas.{none_when_ended}
 use Rattle.fj_acts.proofs.OpeningLemmas.{meant}
 use Rattle.fj_acts.proofs.StateLemmas.{keeps_answers}
@@ -155,7 +155,8 @@ pub returns-in_err-looked-in-Looks-clause-vain : goal.returns-in_err-looked-in-L
 returns-in_err-looked-in-Looks-clause-vain g c = λ have.
     let core = c.args.core.now in
     let it = subst (λ (t : Then). HaveThen t core.names core.units c.args.lined.now.what) c.in-Looks.is have in
-    subst (λ us. HaveFiles c.looked.new.core.names us) (sym c.looked.ensures.units) (subst (λ ns. HaveFiles ns core.units) (sym c.looked.ensures.names) it)
+    let new = c.looked.new.core in
+    on_err c.from_residual.result (HaveFiles new.names new.units) (subst (HaveFiles new.names) (sym c.looked.ensures.units) (subst (λ ns. HaveFiles ns core.units) (sym c.looked.ensures.names) it))
 
 pub returns-in_ok-looked-in-Looks-clause-files : goal.returns-in_ok-looked-in-Looks-clause-files
 returns-in_ok-looked-in-Looks-clause-files g c = λ have.

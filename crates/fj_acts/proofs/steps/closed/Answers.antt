@@ -13,9 +13,9 @@ use Rattle.fj_acts.proofs.FailingLemmas.{fails_as, fails_since, fails_closing, g
 use Rattle.fj_acts.proofs.OpeningLemmas.{meant}
 use Rattle.fj_acts.proofs.StepLemmas.{closed_goes_on, other_closed}
 use Rattle.fj_acts.specs.Having.{IsFreeNext}
-use Rattle.std.proofs.Common.{length, arith}
+use Rattle.std.proofs.Common.{length}
 use Rattle.fj_acts.proofs.HavingLemmas.{closed_has, comes_due}
-use Rattle.fj_acts.proofs.JobLemmas.{closed_less, less_jobs, on_ok}
+use Rattle.fj_acts.proofs.JobLemmas.{closed_less, less_jobs}
 use Rattle.fj_acts.proofs.steps.closed.Goals as goal
 
 pub close_file-requires : goal.close_file-requires
@@ -114,12 +114,6 @@ returns-then-not-holds-clause-fits g c = λ have e.
     let there = comes_due core.units c.args.number core.names c.args.connection.name have.0 (sym c.if-not-is_due.ensures) in
     let z : false ≡ true = c.if-not-holds.ensures ∙ ap (stands core.names) c.name.ensures ∙ there in
     absurd (let bad : ⊥ = cc in bad)
-
-pub returns-in-Ok-clause-units : goal.returns-in-Ok-clause-units
-returns-in-Ok-clause-units g c =
-    let core = c.args.core.now in
-    let less = closed_less core.units c.remove-2.new.self c.args.number c.args.connection.name (sym c.if-not-is_due.ensures) c.remove-2.ensures.left in
-    on_ok c.go_on.result _ (let same : length c.go_on.new.core.units ≡ length c.remove-2.new.self = ap length c.go_on.ensures.units in omega (arith, less, same))
 
 pub returns-in-Ok-clause-jobs : goal.returns-in-Ok-clause-jobs
 returns-in-Ok-clause-jobs g c =
