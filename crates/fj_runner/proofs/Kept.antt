@@ -117,7 +117,7 @@ module _ {F : Type 0} {ghosts : Ghosts F} (m m' : Machine F ghosts) where
     where
       by : (o : Option (Linked F)) → (IsSome o → m.tally.over ≡ true) → o ≡ None
       by None over = refl
-      by (Some k) over = absurd (not_both m.tally.over (over tt) going)
+      by (Some k) over = absurd (not_both m.tally.over (over refl) going)
 
 -- ---- a job that was refused
 
