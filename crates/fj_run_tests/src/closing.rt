@@ -1,10 +1,10 @@
 // The end of a run over a disk in memory: a file with an open record, and a scratch file.
-ghost use Rattle.std.specs.Prelude.{◌≡◌, true, is_some, IfSome};
+ghost use Rattle.std.specs.Prelude.{◌≡◌, ◌≤◌, [], true, length, is_some, vec_capacity, IfSome};
 ghost use Rattle.fj_world.specs.Alone.{AllHome};
 ghost use Rattle.fj_units.specs.Names.{AreInUse};
 
 use fj_bay::{Bay, Job};
-use fj_closing::{finish, room_for};
+use fj_closing::{Remains, finish, room_for};
 use fj_connect::{Connection, open_file};
 use fj_modes::{Access, FileName, FileStatus, OpenSpec, is_file_name, settle_open};
 use fj_outside::{MemoryDisk, MemoryFile};
@@ -117,6 +117,31 @@ fn insert(
         .ok()
 }
 
+/// Whether the open record was ended in its file, and whether the scratch file is there.
+fn found(disk: &MemoryDisk) -> (bool, bool) {
+    let ended = match disk.bytes_of("a") {
+        Some(bytes) => bytes == b"xy\n".as_slice(),
+        None => false,
+    };
+    (ended, disk.bytes_of("SCRATCH.11").is_some())
+}
+
+/// Whether all went well.
+fn is_finished(
+    units: &Units,
+    slots: Slots<Bay<MemoryFile>>,
+    room: Vec<Remains<MemoryFile>>,
+    names: &mut Names,
+    disk: &mut MemoryDisk,
+) -> bool
+    requires home { AllHome slots }
+    requires empty { room.items ≡ [] }
+    requires room { length slots.slots ≤ vec_capacity room }
+    requires names { AreInUse names.old disk.old.in_use }
+{
+    finish(units, slots, room, names, disk).is_ok()
+}
+
 /// Whether all went well, whether the open record was ended in its file, whether the scratch file is there, and whether no name
 /// is out.
 fn end_with(alloc: Global, slot: u32) -> Option<(bool, bool, bool, bool)> {
@@ -132,13 +157,9 @@ fn end_with(alloc: Global, slot: u32) -> Option<(bool, bool, bool, bool)> {
     insert(&mut units, 10, 1, name_of(alloc, "a")?, &text)?;
     let slots = two_slots(alloc, slot_of(alloc, other)?, slot_of(alloc, text)?)?;
     let room = room_for(alloc, slots.len()).ok()?;
-    let done = finish(&units, slots, room, &mut names, &mut disk);
-    let ended = match disk.bytes_of("a") {
-        Some(bytes) => bytes == b"xy\n".as_slice(),
-        None => false,
-    };
-    let stays = disk.bytes_of("SCRATCH.11").is_some();
-    Some((done.is_ok(), ended, stays, names.is_empty()))
+    let fine = is_finished(&units, slots, room, &mut names, &mut disk);
+    let (ended, stays) = found(&disk);
+    Some((fine, ended, stays, names.is_empty()))
 }
 
 #[test]
