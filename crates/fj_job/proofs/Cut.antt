@@ -77,7 +77,7 @@ module _ {E J A F : Type 0} {ghosts : Ghosts F} (meaning : Meaning E J A Bay Job
           }
         ];
         holds = λ lost some. lost_none none some;
-        fit = record { held = holds.held; out = out };
+        fit = record { held = holds.holding; out = out };
         begun = λ t s. lost_none none s;
         front = λ t. record { reach = Untold; part = whole_records m.state.core.output; rest = []; due = ap whole_records (sym output) ∙ sym (append-nil _); taken = took t };
       }
@@ -162,7 +162,7 @@ module _ {E J A F : Type 0} {ghosts : Ghosts F} (meaning : Meaning E J A Bay Job
           at = at_hand deck files comes m.at (hand comes f.run (sym f.rest) x.rest);
           exact = λ how. elim how [ inl none ↦ absurd (lost none) | inr disk ↦ exact_fails f.run x it (f.outside (inl disk)).known (f.disk disk) holds ];
           holds = λ lost some. holds_there meaning rack held before now deck files m f.run.rest holds comes x.rest;
-          fit = record { held = holds.held; out = out };
+          fit = record { held = holds.holding; out = out };
           begun = λ t s. begun_fails f.run x it t (f.sink s (on t));
           front = λ t. front_fails f.run x it t (f.front (on t));
         }

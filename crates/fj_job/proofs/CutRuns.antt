@@ -39,8 +39,8 @@ use Rattle.fj_cut.proofs.Given.{within_deck, each_stop_given, each_turn_given}
 use Rattle.fj_items.specs.Handing.{whole_records}
 use Rattle.fj_items.specs.declared.lost.Lost.{Lost}
 use Rattle.fj_items.specs.declared.lost.Lost.TheVariants.{Unfit}
-use Rattle.fj_closing.specs.Ended.{TurnHolds}
-use Rattle.fj_closing.proofs.Ended.{StopsFull, each_stop_holds, each_stop_spares, each_turn_holds, each_submit_holds}
+use Rattle.fj_closing.specs.Ended.{HasStoppedAt, StopsFull, TurnHolds}
+use Rattle.fj_closing.proofs.Ended.{each_stop_holds, each_stop_spares, each_turn_holds, each_submit_holds}
 use Rattle.fj_acts.specs.State.{core_of}
 use Rattle.fj_units.specs.Files.{files_of}
 use Rattle.fj_runner.specs.Kept.{HaveKept, IsOpened, KeepsFiles}
@@ -178,8 +178,9 @@ module _ {S W D F : Type 0} {ghosts : Ghosts F} (s : Shows S) (tells_out : W →
         cut_at_stop meaning s deck.variables (stated deck.statements) files alone.entries it.slot (record { start = last; script = last; hand = Finished; rack = rack; workers = [] }) alone.fits it.hand in
         let slot = asked_slot meaning s deck.variables (stated deck.statements) files (ends_so deck sound) (some_statement deck sound) alone.entries it.slot it.hand in
         let sound_slots : SlotsHold (over_bays meaning) x.slots rack = record { same = alone.fits.same_slots; each = λ at q k a b. (alone.fits.slots at q k a b).sound; done = λ at q k a b. (alone.fits.slots at q k a b).done } in
+        let stopped : HasStoppedAt it.slot rack = λ k found. (it.halted slot.0 k slot.1 found).0 in
         let waits = settle_waits meaning s deck.variables (stated deck.statements) files (ends_so deck sound) (some_statement deck sound) alone.entries it.slot it.hand in
-        let spares = each_stop_spares meaning s full deck.variables (stated deck.statements) files alone.entries it.slot rack it.hand sound_slots it.halted in
+        let spares = each_stop_spares meaning s full deck.variables (stated deck.statements) files alone.entries it.slot rack it.hand sound_slots stopped in
         let there = slice_get_in rack.slots it.slot (subst (λ n. it.slot < n) alone.fits.same_slots (slice_get_within x.slots it.slot slot.0 slot.1)) in
         elim (each_asks meaning s deck.variables (stated deck.statements) files alone.entries) [
           | inl done ↦ absurd (let z : Settle it.slot ≡ Finished = sym it.hand ∙ done in cc)
@@ -191,11 +192,11 @@ module _ {S W D F : Type 0} {ghosts : Ghosts F} (s : Shows S) (tells_out : W →
               (given_at meaning rack deck.variables (stated deck.statements) files x.script x.slots sound_slots
               (each_stop_given meaning s deck.variables (stated deck.statements) files alone.entries it.slot it.hand) cut.stop.index cut.stop.rest
               (within_deck deck.variables cut.stop.index (stated deck.statements) (fresh deck.variables files) (cut.stop.statement, cut.stop.before) cut.stop.reached)) nothing
-              (each_stop_holds meaning s deck.variables (stated deck.statements) files alone.entries it.slot rack it.hand sound_slots it.halted))
+              (each_stop_holds meaning s deck.variables (stated deck.statements) files alone.entries it.slot rack it.hand sound_slots stopped))
               (subst (λ (o : Option (Linked F)). AreOut (kept_name o) (machine last).state.core.names (machine last).state.core.units) (sym nothing)
               (stopped_files told bytes left (machine last) x.script is waits spares have))
               (stop_cause meaning rack (held (disk last)) (refusals (disk first)) (refusals (disk last)) deck files (machine last) x.script awaited.stop.index awaited.stop.statement it.slot both.0 awaited.stop.rest
-              (stops_are_awaited deck.variables (stated deck.statements) files it.slot x.script (desks_of meaning x.slots) awaited.stop) (λ l found. (it.halted slot.0 l slot.1 found).0)
+              (stops_are_awaited deck.variables (stated deck.statements) files it.slot x.script (desks_of meaning x.slots) awaited.stop) stopped
               (λ free. record {
                 slot = it.slot;
                 ledger = there.0;
@@ -363,7 +364,7 @@ module _ {S W D F : Type 0} {ghosts : Ghosts F} (s : Shows S) (tells_out : W →
             | inl (stop, none) ↦
                 let k = r.keeps before gone w.call.leads in
                 stopped_cut rack all_led alone (ap (λ (m : Machine F ghosts). m.tally.stopped) still.0 ∙ stop) (ap (λ (m : Machine F ghosts). m.tally.lost) still.0 ∙ none)
-                (ap (λ (m : Machine F ghosts). m.kept) still.0 ∙ k.none going over stop)
+                (ap (λ (m : Machine F ghosts). m.kept) still.0 ∙ k.none going stop)
                 (subst (λ (m : Machine F ghosts). (st : Stated) (more : List Stated) → rest_of m ≡ st ∷ more → HaveAt m.state.stage m.state.core.names m.state.core.units st.0.what) (sym still.0) (k.stopped going stop))
             | inr (stop, loss) ↦
                 subst (λ (d : D). IsCut meaning rack (held d) (refusals (disk first)) (refusals d) (tells_out (out first)) (taken (out first)) (taken (out last)) deck files (machine last)) (sym still.2)

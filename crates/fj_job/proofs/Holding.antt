@@ -65,7 +65,7 @@ module _ {E J A F : Type 0} {ghosts : Ghosts F} (meaning : Meaning E J A Bay Job
     pub freed : FreesSo (statement, state)
     pub given : HoldsGiven deck.variables (stated deck.statements) files meaning rack index
     pub kept : KeepsSo (statement, state)
-    pub held : HoldUnits meaning rack m.state.core.units
+    pub holding : HoldUnits meaning rack m.state.core.units
 
   abbrev CausesSo : Stated × State → Type 0
   CausesSo at = IsCause rack m.state.core.units at.0 at.1 before now
@@ -150,7 +150,7 @@ module _ {E J A F : Type 0} {ghosts : Ghosts F} (meaning : Meaning E J A Bay Job
   holds_by : (rest : List Stated) (index : ℕ) (statement : Stated) (state : State) (desks : List Desk) → cut deck.variables index (stated deck.statements) (start deck.variables files) ≡ Some (statement, state)
       → rest ≡ drop index (stated deck.statements) → HoldsDesks meaning rack desks → AreHoused desks m.state.core.units → LeavesSo desks (statement, state) → KeepsUnits (statement, state)
       → HoldsGiven deck.variables (stated deck.statements) files meaning rack index → KeepsSo (statement, state) → HoldUnits meaning rack m.state.core.units → HoldsAt rest
-  holds_by rest index statement state desks cut_is place slots housed others keeps given kept held = record {
+  holds_by rest index statement state desks cut_is place slots housed others keeps given kept holding = record {
     index = index;
     statement = statement;
     state = state;
@@ -163,7 +163,7 @@ module _ {E J A F : Type 0} {ghosts : Ghosts F} (meaning : Meaning E J A Bay Job
     freed = frees_by desks (statement, state) housed others keeps;
     given = given;
     kept = kept;
-    held = held;
+    holding = holding;
   }
 
   -- where nothing is kept
@@ -228,7 +228,7 @@ module _ {E J A F : Type 0} {ghosts : Ghosts F} (meaning : Meaning E J A Bay Job
     freed = λ name none new. inl (sym (not_left desks m.state.core.units (files_of held) name housed none) ∙ due name);
     given = given;
     kept = none_kept (t.statement, t.state) none;
-    held = subst (λ (us : List Connected). HoldUnits meaning rack us) (sym it.units) (holds.unbegun it.may);
+    holding = subst (λ (us : List Connected). HoldUnits meaning rack us) (sym it.units) (holds.unbegun it.may);
   }
     where
       housed : AreHoused desks m.state.core.units

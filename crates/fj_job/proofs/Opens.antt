@@ -77,6 +77,9 @@ module _ (what : Statement) (us : List Connected) where
   halts_give [] core next e h = h
   halts_give (slot ∷ slots) core next e h = (λ name f. subst (λ x. file_opened (names_of x) what ≡ Some name) e f, λ number. halts_give slots core next e h)
 
+abbrev opened_by : OpenSpec → List Connected → Option ℕ → Option (List ℕ)
+opened_by spec us number = option_and_then (λ m. opens_on (names_of us m) spec m) number
+
 -- an OPEN keeps what is connected, or opens that file
 open_gives : (core : Core) (u : _) (spec : OpenSpec) (iostat : _) → let what = statement.OpenUnit u spec iostat in GivesAs what core.units (if_numbered core (number_of u) (λ n. opens core n spec (connected_at core.units n)))
 open_gives core u spec iostat = open_by (GivesAs what core.units) core spec (number_of u) (λ condition. tt) (λ n v modes is e. (λ name f. f, λ o. tt))
@@ -86,12 +89,9 @@ open_gives core u spec iostat = open_by (GivesAs what core.units) core spec (num
     what : Statement
     what = statement.OpenUnit u spec iostat
 
-    abbrev OpenedBy : List Connected → Option ℕ → Option (List ℕ)
-    OpenedBy us number = option_and_then (λ m. opens_on (names_of us m) spec m) number
-
-    all : (n : ℕ) → number_of u ≡ Some n → OpenedBy core.units (number_of u) ≡ Some (file_due spec n) → (now : List Connected) → OpensAs what core.units now
+    all : (n : ℕ) → number_of u ≡ Some n → opened_by spec core.units (number_of u) ≡ Some (file_due spec n) → (now : List Connected) → OpensAs what core.units now
     all n is due now name e =
-        let same : opens_on (names_of now n) spec n ≡ Some name = sym (ap (OpenedBy now) is) ∙ e in
+        let same : opens_on (names_of now n) spec n ≡ Some name = sym (ap (opened_by spec now) is) ∙ e in
         due ∙ ap Some (sym (opened_due (names_of now n) spec n name same))
 
 module _ (control : ℕ → List Given) (variables : List Variable) (line : ℕ) (core : Core) where

@@ -56,7 +56,7 @@ pub names_gone : {F : Type 0} (names mid last : List (List ℕ)) (us : List Conn
     → IfSome kept (λ c. stands mid c.name ≡ true → last ≡ left_of mid c.name) → last ≡ []
 names_gone names mid last us None out off nothing one = nothing refl ∙ off ∙ none_left names us out
 names_gone names mid last us (Some c) out off nothing one =
-    let there : stands mid c.name ≡ true = ap (λ (ns : List (List ℕ)). stands ns c.name) off ∙ still_stands names c.name us out.free ∙ out.out in
+    let there : stands mid c.name ≡ true = ap (λ (ns : List (List ℕ)). stands ns c.name) off ∙ still_stands names us c.name out.free ∙ out.out in
     one there ∙ ap (λ (ns : List (List ℕ)). left_of ns c.name) off ∙ none_left_but names c.name us out.others
 
 -- ---- what holds of each unit

@@ -1,5 +1,5 @@
 -- A deck that came to its end is closed whole: slots and names are those of its units.
-use Rattle.std.proofs.Common.{◌≡◌, ℕ, Bool, List, [], ◌∷◌, map, length, drop, Option, Some, None, refl, sym, ap, ◌∙◌, subst, arith}
+use Rattle.std.proofs.Common.{◌≡◌, ℕ, Bool, List, [], ◌∷◌, length, drop, Option, Some, None, refl, sym, ap, ◌∙◌, subst, arith}
 use Rattle.std.proofs.Math.Logic.{∥∥₁_elim}
 use Rattle.std.proofs.Props.{props}
 use Rattle.std.specs.Prelude.{IsSome, ◌||◌, false}
@@ -25,7 +25,7 @@ use Rattle.fj_world.specs.Rack.{Rack}
 use Rattle.fj_turns.specs.Run.{Run, Stage as PlainStage, Start, Waiting, Acting, Awaiting}
 use Rattle.fj_cut.specs.Others.{core_now}
 use Rattle.fj_units.specs.Having.{HaveFiles, DifferInFile}
-use Rattle.fj_closing.specs.Ended.{LeavesNames}
+use Rattle.fj_closing.specs.Ended.{unit_names, LeavesNames}
 use Rattle.fj_closing.specs.Holding.{HoldUnits}
 use Rattle.fj_acts.specs.Doing.{then_of}
 use Rattle.fj_acts.specs.Having.{HaveThen}
@@ -45,28 +45,25 @@ use Rattle.fj_job.proofs.Learning.{WaitsIn, WaitsOn}
 
 -- ---- units of the same names
 
-abbrev pub names_are : List Connected → List (List ℕ)
-names_are us = map (λ (u : Connected). u.name) us
-
-any_same : (us vs : List Connected) (name : List ℕ) → names_are us ≡ names_are vs → has_name us name ≡ has_name vs name
+any_same : (us vs : List Connected) (name : List ℕ) → unit_names us ≡ unit_names vs → has_name us name ≡ has_name vs name
 any_same [] [] name e = refl
 any_same [] (v ∷ vs) name e = cc
 any_same (u ∷ us) [] name e = cc
 any_same (u ∷ us) (v ∷ vs) name e =
     let first : u.name ≡ v.name = cc in
-    let rest : names_are us ≡ names_are vs = cc in
+    let rest : unit_names us ≡ unit_names vs = cc in
     ap (λ n. bytes_eq name n || has_name us name) first ∙ ap (λ b. bytes_eq name v.name || b) (any_same us vs name rest)
 
-differ_same : (us vs : List Connected) → names_are us ≡ names_are vs → DifferInFile us → DifferInFile vs
+differ_same : (us vs : List Connected) → unit_names us ≡ unit_names vs → DifferInFile us → DifferInFile vs
 differ_same us [] e d = tt
 differ_same [] (v ∷ vs) e d = cc
 differ_same (u ∷ us) (v ∷ vs) e d =
     let first : u.name ≡ v.name = cc in
-    let rest : names_are us ≡ names_are vs = cc in
+    let rest : unit_names us ≡ unit_names vs = cc in
     (sym (any_same us vs v.name rest) ∙ ap (has_name us) (sym first) ∙ d.0, differ_same us vs rest d.1)
 
 -- have the same files
-pub have_same : (names : List (List ℕ)) (us vs : List Connected) → names_are us ≡ names_are vs → HaveFiles names us → HaveFiles names vs
+pub have_same : (names : List (List ℕ)) (us vs : List Connected) → unit_names us ≡ unit_names vs → HaveFiles names us → HaveFiles names vs
 have_same names us vs e h = (λ name. h.0 name ∙ any_same us vs name e, differ_same us vs e h.1)
 
 differ_prop : (us : List Connected) → IsProp (DifferInFile us)
@@ -83,7 +80,7 @@ abbrev pub Spares : PlainStage → List Connected → Type 0
 Spares Start us = Unit {0}
 Spares Waiting us = Unit {0}
 Spares (Acting does) us = ⊥
-Spares (Awaiting own number next) us = (o : Outcome) × (names_are (core_now (next o)).units ≡ names_are us)
+Spares (Awaiting own number next) us = (o : Outcome) × (unit_names (core_now (next o)).units ≡ unit_names us)
 
 some_is : {X : Type 0} → {x y : X} → Some x ≡ Some y → x ≡ y
 some_is e = cc
