@@ -1,107 +1,304 @@
--- Where a deck ended, the slots hold the connections of its units.
-use Rattle.std.proofs.Common.{◌≡◌, ℕ, ◌<◌, ◌≤◌, Bool, true, false, List, [], ◌∷◌, length, Option, Some, None, slice_get, refl, sym, ap, ◌∙◌, subst, inl, inr, arith}
-use Rattle.std.specs.Prelude.{◌||◌, ◌==◌, nat_lt, IsSome}
-use Rattle.std.proofs.lemmas.Bool.{cases_Bool, ne_eqb, ltb-true, ltb-false}
-use Rattle.std.proofs.lemmas.Option.{slice_get_within, slice_get_past}
+-- At each end of a run the slots hold the connections of its units.
+use Rattle.std.proofs.Common.{◌≡◌, ℕ, zero, suc, ◌+◌, ◌<◌, ◌≤◌, Bool, true, false, List, [], ◌∷◌, All, length, take, Option, Some, None, is_some, slice_get, refl, sym, ap, ◌∙◌, subst, inl, inr, arith}
+use Rattle.std.specs.Prelude.{◌||◌, ◌==◌, IsSome, IfSome}
+use Rattle.std.proofs.lemmas.Bool.{cases_Bool, ne_eqb}
+use Rattle.std.proofs.lemmas.Bool.Decides.{eqb_tells}
+use Rattle.std.proofs.lemmas.List.{take_all}
+use Rattle.std.proofs.lemmas.List.Elements.{All-nil, All-cons}
+use Rattle.std.proofs.lemmas.List.{length-map}
+use Rattle.std.proofs.lemmas.Option.{slice_get_within}
+use Rattle.fj_outside.specs.declared.errors.Stop.{Stop}
 use Rattle.fj_connect.specs.Connection.{Connection}
 use Rattle.fj_statement.specs.declared.deck.Variable.{Variable}
+use Rattle.fj_slot.specs.declared.stop.Halt.{Halt}
 use Rattle.fj_slot.specs.Ledger.{Ledger}
 use Rattle.fj_slot.specs.Serving.{Meaning}
-use Rattle.fj_slot.proofs.Serving.{slice_get_mapped_some}
+use Rattle.fj_slot.specs.Sound.{IsSound, served_by}
 use Rattle.fj_slot.proofs.Sound.{slice_get_inside}
-use Rattle.fj_world.specs.declared.ask.Ask.TheVariants.{Finished}
-use Rattle.fj_world.specs.Alone.{ServedAlone}
-use Rattle.fj_world.specs.Plain.{Plain, PlainSlot, after}
+use Rattle.fj_world.specs.declared.ask.Ask.TheVariants.{Submit, Settle, Finished}
+use Rattle.fj_world.specs.Losing.{SlotsHold, before_ask}
+use Rattle.fj_world.specs.Plain.{Plain, PlainSlot, asked_next, after}
 use Rattle.fj_world.specs.Rack.{Rack}
 use Rattle.fj_bay.specs.Bay.{Bay}
-use Rattle.fj_bay.specs.Jobs.{Job, Answer, detach}
-use Rattle.fj_plain.specs.State.{Files, Unit as PlainUnit, start}
-use Rattle.fj_plain.specs.Statement.{Stated, executed}
-use Rattle.fj_plain.proofs.Sound.{Sound, sound_start}
-use Rattle.fj_plain.proofs.Reached.{sound_step}
-use Rattle.fj_desk.specs.Both.{Both}
-use Rattle.fj_desk.specs.Core.{Core, Connected}
-use Rattle.fj_desk.specs.Desks.{Desk, most_slots}
-use Rattle.fj_desk.specs.Desking.{DesksRan, over_desks, fresh, connection_at}
-use Rattle.fj_desk.specs.Forgetting.{IsSeen, bay_at}
-use Rattle.fj_desk.proofs.Apart.{Apart, Differs, differs_any}
-use Rattle.fj_desk.proofs.Forgetting.{start_tied, reached_tied}
-use Rattle.fj_desk.proofs.SoundStates.{sound_caused}
-use Rattle.fj_desk.proofs.Tied.{Tied}
-use Rattle.fj_turns.specs.Run.{Run, Start}
-use Rattle.fj_turns.specs.Serving.{over_bays, Shows, run_conduct, desks_of, desk_of, begins}
-use Rattle.fj_turns.proofs.Decks.{runner_is_plain}
-use Rattle.fj_turns.proofs.Finishing.{one_end, asks_no_more, executes_decks}
-use Rattle.fj_turns.proofs.Slots.{length_mapped}
-use Rattle.fj_units.specs.Units.{has_slot}
-use Rattle.fj_closing.specs.Ended.{EndsWithUnits}
-use Rattle.fj_closing.specs.Holding.{IsAtDesk, AreAtDesks, HoldUnits}
-use Rattle.fj_closing.proofs.LetGo.{AllTold, HasLetAllGo, ends_let_go}
+use Rattle.fj_bay.specs.Jobs.{Job, Answer}
+use Rattle.fj_bay.specs.Spoilt.{IsSpoilt, behind}
+use Rattle.fj_bay.specs.Plain.{state_of}
+use Rattle.fj_bay.specs.Meaning.{bay_meaning, file_faults}
+use Rattle.fj_bay.specs.declared.bay.Bay.{Bay as RealBay}
+use Rattle.fj_bay.specs.Serving.{serve}
+use Rattle.fj_bay.proofs.Behind.{behind_is}
+use Rattle.fj_plain.specs.Statement.{Stated}
+use Rattle.fj_plain.specs.State.{Files}
+use Rattle.fj_desk.specs.Core.{Connected}
+use Rattle.fj_desk.specs.Desks.{most_slots}
+use Rattle.fj_desk.specs.Doing.{Doing}
+use Rattle.fj_desk.proofs.Apart.{Each, Differs, Apart}
+use Rattle.fj_turns.specs.Laws.{plain_bays}
+use Rattle.fj_turns.specs.Passing.{passes}
+use Rattle.fj_turns.specs.Run.{Stage, Start, Waiting, Acting, Awaiting, Run}
+use Rattle.fj_turns.specs.Serving.{over_bays, Shows, run_conduct, first_run, fresh_slots, begins}
+use Rattle.fj_turns.specs.Turns.{doing_told, waited_now}
+use Rattle.fj_turns.proofs.Before.{fares_after}
+use Rattle.fj_turns.proofs.Finishing.{asks_no_more}
+use Rattle.fj_turns.proofs.Slots.{same_some}
+use Rattle.fj_cut.specs.Others.{core_now}
+use Rattle.fj_cut.specs.Turning.{IsUnbegun, doing_at, doing_due, turn_doing}
+use Rattle.fj_units.specs.Having.{Differ}
+use Rattle.fj_units.specs.Units.{has_slot, same_slot}
+use Rattle.fj_closing.specs.Ended.{HasStoppedAt, LeavesNames, TurnHolds, StopsFull, EndsWithUnits, EachStopHolds, EachStopSpares, EachTurnHolds, EachSubmitHolds}
+use Rattle.fj_closing.specs.Holding.{name_behind, name_at, HoldsName, HoldUnits}
+use Rattle.fj_closing.proofs.Seating.{Table, name_in, connects, named_by, named_still, serves_name, Seated, name_is}
+use Rattle.fj_closing.proofs.Standing.{left_in, slot_names, IsWaited, EachMoved, AllTold, ToldOr, IsOut, DoesSo, Goes, HasEnded, Submits, SettlesAt, AskGoes, passes_goes, Before, stands_so, before_so}
+use Rattle.fj_closing.proofs.Walk.{Brings, Sits, now_seated, told_sits}
 
-some_is : {X : Type 0} → {x y : X} → Some x ≡ Some y → x ≡ y
-some_is e = cc
+-- ---- jobs by which no connection comes or goes leave its name
 
-there : (o : Option Desk) (bay : Bay) → bay_at o ≡ Some bay → connection_at o ≡ bay.connection
-there None bay e = cc
-there (Some d) bay e = ap (λ (b : Bay). b.connection) (some_is e)
+-- behind so many jobs, and so many more of which none is such
+steady : (jobs : List Job) (start : Bay) (low high : ℕ) → low ≤ high → ((k : ℕ) (job : Job) → low ≤ k → k < high → slice_get jobs k ≡ Some job → connects job ≡ false) → name_behind start jobs high ≡ name_behind start jobs low
+steady [] start zero zero below still = refl
+steady [] start zero (suc high) below still = refl
+steady [] start (suc low) zero below still = absurd (omega (arith, below))
+steady [] start (suc low) (suc high) below still = refl
+steady (job ∷ jobs) start zero zero below still = refl
+steady (job ∷ jobs) start zero (suc high) below still =
+    steady jobs (serve start job).engine zero high (omega arith) (λ k x over under e. still (suc k) x (omega arith) (omega (arith, under)) e)
+    ∙ serves_name start job ∙ named_still job (name_in start.connection) (still zero job (omega arith) (omega arith) refl)
+steady (job ∷ jobs) start (suc low) zero below still = absurd (omega (arith, below))
+steady (job ∷ jobs) start (suc low) (suc high) below still = steady jobs (serve start job).engine low high (omega (arith, below)) (λ k x over under e. still (suc k) x (omega (arith, over)) (omega (arith, under)) e)
+
+-- ---- units
+
+all_of : (P : Connected → Type 0) (us : List Connected) → Each P us → All P us
+all_of P [] h = All-nil P
+all_of P (u ∷ us) h = All-cons P u us h.0 (all_of P us h.1)
 
 none_there : (us : List Connected) (k : ℕ) → Differs (λ (u : Connected). u.slot) k us → has_slot us k ≡ false
 none_there [] k d = refl
 none_there (u ∷ us) k d = ap (λ b. b || has_slot us k) (ne_eqb u.slot k d.0) ∙ none_there us k d.1
 
-at_desks : (desks : List Desk) (us : List Connected) (vs : List PlainUnit) → Both (IsSeen desks) us vs → Apart (λ (u : Connected). u.slot) us → AreAtDesks desks us
-at_desks desks [] vs b apart = tt
-at_desks desks (u ∷ us) [] b apart = absurd b
-at_desks desks (u ∷ us) (v ∷ vs) b apart = (
-  record { connection = v.connection; there = there (slice_get desks u.slot) _ b.0.bay; named = sym b.0.name },
-  none_there us u.slot apart.0,
-  at_desks desks us vs b.1 apart.1,
-)
+slots_differ : (us : List Connected) → Apart (λ (u : Connected). u.slot) us → Differ same_slot us
+slots_differ [] apart = tt
+slots_differ (u ∷ us) apart = (none_there us u.slot apart.0, slots_differ us apart.1)
+
+-- ---- slots
+
+module _ {E J A : Type 0} (m : Meaning E J A Bay Job Answer) (rack : Rack E J A) (qs : List (PlainSlot Bay Job)) (hold : SlotsHold (over_bays m) qs rack) (long : length qs ≡ most_slots) where
+  -- the slot holds a name, whatever it may still do
+  slot_holds : (at : ℕ) (q : PlainSlot Bay Job) (l : Ledger E J A) (name : Option (List ℕ)) → slice_get qs at ≡ Some q → slice_get rack.slots at ≡ Some l
+      → ((k : ℕ) (job : Job) → slice_get q.jobs k ≡ Some job → connects job ≡ true → k < q.told) → name_in (behind q.start q.jobs).connection ≡ name → HoldsName m l name
+  slot_holds at q l name e f told is = record {
+    start = q.start;
+    jobs = q.jobs;
+    sound = hold.each at q l e f;
+    left = λ number low high one.
+        sym (steady q.jobs q.start number (length q.jobs) high
+        (λ k job over under g. elim (cases_Bool (connects job)) [ inl moved ↦ absurd (let less = told k job g moved in let done = hold.done at q l e f in omega (arith, less, done, low, over)) | inr idle ↦ idle ]))
+        ∙ ap (λ js. name_in (behind q.start js).connection) (take_all (length q.jobs) q.jobs (omega arith)) ∙ is;
+  }
+
+  -- all of them hold the names of units
+  units_held : (names : Table) (us : List Connected) → Seated names us → ((at : ℕ) (q : PlainSlot Bay Job) (l : Ledger E J A) → slice_get qs at ≡ Some q → slice_get rack.slots at ≡ Some l → HoldsName m l (names at)) → HoldUnits m rack us
+  units_held names us s each = record {
+    within = subst (λ n. All (λ (u : Connected). u.slot < n) us) (sym long ∙ hold.same) (all_of (λ (u : Connected). u.slot < most_slots) us s.low);
+    apart = slots_differ us s.slots;
+    holds = λ at l f.
+        let within = slice_get_within rack.slots at l f in
+        let q = slice_get_inside qs at (omega (arith, within, hold.same)) in
+        subst (HoldsName m l) (name_is names us at s.named (s.empty at)) (each at q.0 l q.1 f);
+  }
+
+  pub told_held : (us : List Connected) → Seated (slot_names qs) us → AllTold qs → HoldUnits m rack us
+  told_held us s told = units_held (slot_names qs) us s (λ at q l e f. slot_holds at q l (slot_names qs at) e f (λ k job g moved. told at q k job e g moved) (sym (ap left_in e)))
+
+  -- ---- where a stop was told
+
+  module _ (r : Run) (slot number : ℕ) (onward : _) (w : IsOut m r.core qs slot number onward) (out : ToldOr (Awaiting slot number onward) qs) (stop : HasStoppedAt slot rack) where
+    -- the slot stopped at the job that is awaited, or before it
+    not_behind : (l : Ledger E J A) → slice_get rack.slots slot ≡ Some l → l.done ≤ number
+    not_behind l f =
+        let sound = hold.each slot w.own l w.here f in
+        let below = sound.counted.below (stop l f) in
+        let many : length l.jobs ≡ length w.own.jobs = sym (length-map l.jobs m.task) ∙ ap length sound.jobs ∙ length-map w.own.jobs Some in
+        omega (arith, below, many, w.last)
+
+    -- the jobs between are none by which a connection comes or goes
+    before_stop : (l : Ledger E J A) → slice_get rack.slots slot ≡ Some l → name_behind w.own.start w.own.jobs l.done ≡ w.old slot
+    before_stop l f =
+        sym (steady w.own.jobs w.own.start l.done number (not_behind l f)
+        (λ k job over under e. elim (cases_Bool (connects job)) [
+          | inl moved ↦ absurd (elim (out slot w.own k job w.here e moved) [
+            | inl told ↦ (let done = hold.done slot w.own l w.here f in omega (arith, told, done, over))
+            | inr waited ↦ (let is = waited.1 in omega (arith, is, under))
+          ])
+          | inr idle ↦ idle
+        ]))
+        ∙ w.before
+
+    own_holds : (l : Ledger E J A) → slice_get rack.slots slot ≡ Some l → HoldsName m l (w.old slot)
+    own_holds l f = record {
+      start = w.own.start;
+      jobs = w.own.jobs;
+      sound = hold.each slot w.own l w.here f;
+      left = λ n low high one. ap (name_behind w.own.start w.own.jobs) (one (stop l f)) ∙ before_stop l f;
+    }
+
+    out_held : HoldUnits m rack r.core.units
+    out_held = units_held w.old r.core.units w.seated
+        (λ at q l e f. elim (eqb_tells at slot) [
+          | inl a ↦ subst (λ k. HoldsName m l (w.old k)) (sym a.1) (own_holds l (ap (slice_get rack.slots) (sym a.1) ∙ f))
+          | inr a ↦ slot_holds at q l (w.old at) e f
+              (λ k job g moved. elim (out at q k job e g moved) [ inl told ↦ told | inr waited ↦ absurd (a.1 waited.0) ])
+              (sym (ap left_in e) ∙ w.leaves.others at a.1)
+        ])
+
+    -- the bay on which it stopped is not empty
+    stopped_full : StopsFull m → IsSome (w.old slot)
+    stopped_full full = by (slice_get_inside rack.slots slot (let within = slice_get_within qs slot w.own w.here in omega (arith, within, hold.same)))
+      where
+        by : (l : Ledger E J A) × (slice_get rack.slots slot ≡ Some l) → IsSome (w.old slot)
+        by (l, f) = halted l.halt refl l.home refl (slice_get w.own.jobs l.done) refl
+          where
+            sound : IsSound (over_bays m) w.own.start w.own.jobs l
+            sound = hold.each slot w.own l w.here f
+
+            names_some : (o : Option Connection) → IsSome o → IsSome (name_in o)
+            names_some None h = h
+            names_some (Some c) h = refl
+
+            halted : (halt : Option Halt) → l.halt ≡ halt → (home : Option E) → l.home ≡ home → (job : Option Job) → slice_get w.own.jobs l.done ≡ job → IsSome (w.old slot)
+            halted None e home g job i = absurd (let z : false ≡ true = sym (ap is_some e) ∙ stop l f in cc)
+            halted (Some h) e None g job i = absurd (let z : false ≡ true = sym (ap is_some g) ∙ sound.counted.at_home (stop l f) in cc)
+            halted (Some h) e (Some engine) g None i =
+                let less = not_behind l f in
+                let there = slice_get_inside w.own.jobs l.done (omega (arith, less, w.last)) in
+                absurd (let z : None ≡ Some there.0 = sym i ∙ there.1 in cc)
+            halted (Some h) e (Some engine) g (Some job) i =
+                let tells : IsSome (m.state engine) = subst (λ o. IfSome o (λ b. IsSome (m.state b))) g (subst (λ o. IfSome o (λ (x : Halt). IfSome l.home (λ b. IsSome (m.state b)))) e sound.tells) in
+                let at_halt = subst (λ o. IfSome o (λ (x : Halt). IfSome l.home (λ b. IfSome (slice_get w.own.jobs l.done) (λ t. m.spoilt (served_by (over_bays m) w.own.start (take l.done w.own.jobs)) t x.stop b)))) e sound.spoilt in
+                let at_home = subst (λ o. IfSome o (λ b. IfSome (slice_get w.own.jobs l.done) (λ t. m.spoilt (served_by (over_bays m) w.own.start (take l.done w.own.jobs)) t h.stop b))) g at_halt in
+                let spoilt = subst (λ o. IfSome o (λ t. m.spoilt (served_by (over_bays m) w.own.start (take l.done w.own.jobs)) t h.stop engine)) i at_home in
+                let some = full (served_by (over_bays m) w.own.start (take l.done w.own.jobs)) job h.stop engine tells spoilt in
+                subst IsSome (before_stop l f)
+                (names_some (behind w.own.start (take l.done w.own.jobs)).connection (subst (λ (b : Bay). IsSome b.connection) (behind_is (over_bays m) refl w.own.start (take l.done w.own.jobs)) some))
+
+    out_spares : StopsFull m → LeavesNames (Awaiting slot number onward) r.core.units
+    out_spares full = elim w.brings [
+      | inl come ↦ absurd (let z : false ≡ true = subst IsSome come.1 (stopped_full full) in cc)
+      | inr some ↦ some
+    ]
+
+  stage_held : (r : Run) (slot : ℕ) → Goes m r qs → SettlesAt m slot r.stage → HasStoppedAt slot rack → HoldUnits m rack r.core.units
+  stage_held r slot h at stop = by r.stage h.does h.out at
+    where
+      by : (stage : Stage) → DoesSo m r.core qs stage → ToldOr stage qs → SettlesAt m slot stage → HoldUnits m rack r.core.units
+      by Start does out at = absurd at
+      by Waiting does out at = told_held r.core.units does (λ i q k job e f c. elim (out i q k job e f c) [ inl told ↦ told | inr never ↦ absurd never ])
+      by (Acting d) does out at = absurd at
+      by (Awaiting own number onward) does out at = out_held r own number onward does out (subst (λ k. HasStoppedAt k rack) (sym at) stop)
+
+  stage_spares : StopsFull m → (r : Run) (slot : ℕ) → Goes m r qs → SettlesAt m slot r.stage → HasStoppedAt slot rack → LeavesNames r.stage r.core.units
+  stage_spares full r slot h at stop = by r.stage h.does h.out at
+    where
+      by : (stage : Stage) → DoesSo m r.core qs stage → ToldOr stage qs → SettlesAt m slot stage → LeavesNames stage r.core.units
+      by Start does out at = tt
+      by Waiting does out at = tt
+      by (Acting d) does out at = tt
+      by (Awaiting own number onward) does out at = out_spares r own number onward does out (subst (λ k. HasStoppedAt k rack) (sym at) stop) full
+
+  -- ---- in a turn
+
+  turn_held : (r : Run) → Goes m r qs → TurnHolds m rack r
+  turn_held r h = record { unbegun = begun r.stage h.does h.out; now = λ d e. due r.rest d e }
+    where
+      told : (stage : Stage) → ((at k : ℕ) → IsWaited stage at k → ⊥) → ToldOr stage qs → AllTold qs
+      told stage none out at q k job e f c = elim (out at q k job e f c) [ inl low ↦ low | inr waited ↦ absurd (none at k waited) ]
+
+      begun : (stage : Stage) → DoesSo m r.core qs stage → ToldOr stage qs → IsUnbegun stage → HoldUnits m rack r.core.units
+      begun Start does out un = told_held r.core.units does (told Start (λ at k never. never) out)
+      begun Waiting does out un = told_held r.core.units does (told Waiting (λ at k never. never) out)
+      begun (Acting d) does out un = absurd un
+      begun (Awaiting slot number next) does out un = absurd un
+
+      at_stage : (st : Stated) (d : Doing) (stage : Stage) → DoesSo m r.core qs stage → ToldOr stage qs → doing_at st stage r ≡ Some d → HoldUnits m rack (core_now d).units
+      at_stage st d Start does out e =
+          told_held (core_now d).units (now_seated (slot_names qs) d (subst (Sits (slot_names qs)) (same_some e) (told_sits (slot_names qs) r.variables st (waited_now st r) r.core does))) (told Start (λ at k never. never) out)
+      at_stage st d Waiting does out e =
+          told_held (core_now d).units (now_seated (slot_names qs) d (subst (Sits (slot_names qs)) (same_some e) (told_sits (slot_names qs) r.variables st (waited_now st r) r.core does))) (told Waiting (λ at k never. never) out)
+      at_stage st d (Acting next) does out e = told_held (core_now d).units (now_seated (slot_names qs) d (subst (Sits (slot_names qs)) (same_some e) does)) (told (Acting next) (λ at k never. never) out)
+      at_stage st d (Awaiting slot number next) does out e = cc
+
+      due : (rest : List Stated) (d : Doing) → doing_due rest r ≡ Some d → HoldUnits m rack (core_now d).units
+      due [] d e = cc
+      due (st ∷ rest) d e = at_stage st d r.stage h.does h.out e
+
+-- ---- a runner served alone
 
 module _ {E J A S : Type 0} (m : Meaning E J A Bay Job Answer) (s : Shows S) where
+  no_ending : {X : Type 0} → (r : Run) → r.ending ≡ None → IsSome r.ending → X
+  no_ending r none some = absurd (let z : false ≡ true = subst IsSome none some in cc)
+
   pub ends_with_units : EndsWithUnits m s
   ends_with_units variables deck files script rack run alone going is some =
-      let c = run_conduct s in
-      let first : Plain Bay c = begins m s variables deck files in
-      let comes = runner_is_plain m s variables deck files in
-      let at : Plain Bay c = after (over_bays m) c alone.entries first in
+      let at : Plain Bay (run_conduct s) = after (over_bays m) (run_conduct s) alone.entries (begins m s variables deck files) in
       let shows = alone.fits.script going in
-      let done : at.hand ≡ Finished = asks_no_more (over_bays m) c at.hand shows.1 in
-      let z : Plain Bay c = record { script = comes.run; hand = Finished; slots = comes.slots } in
-      let same : at ≡ z = one_end (over_bays m) c alone.entries comes.reaches.0 first at z refl done comes.reaches.1 refl in
-      let run_is : run ≡ at.script = some_is (sym is ∙ shows.0) in
-      let came = executes_decks m s variables deck files script rack run alone going is in
-      let ran : DesksRan = over_desks variables deck (fresh variables files) in
-      let tied : Tied ran.desked (executed variables deck (start variables files)).state = (reached_tied Sound sound_caused sound_step variables deck (fresh variables files) (start variables files) (start_tied variables files) (sound_start variables files)).0 in
-      let units : run.core.units ≡ ran.desked.core.units = ap (λ (k : Core). k.units) came.core in
-      let long : length rack.slots ≡ length ran.desked.desks =
-      sym alone.fits.same_slots ∙ sym (length_mapped (desk_of m) at.slots) ∙ ap length (ap (λ (k : Plain Bay c). desks_of m k.slots) same ∙ comes.desks) in
-      let let_go : HasLetAllGo at.script at.slots = ends_let_go m s variables deck files alone.entries done in
-      let ended = let_go (subst (λ (r : Run). IsSome r.ending) run_is some) in (
-        record {
-          desks = ran.desked.desks;
-          held = came.desks;
-          same = long;
-          connected = subst (AreAtDesks ran.desked.desks) (sym units) (at_desks ran.desked.desks ran.desked.core.units _ tied.same.units tied.slots.apart);
-          others = λ k none. other k (sym (ap (λ us. has_slot us k) units) ∙ none) tied;
-          let_go = λ k l here number job place e f.
-              let within = slice_get_within rack.slots k l here in
-              let q = slice_get_inside at.slots k (omega (arith, within, alone.fits.same_slots)) in
-              let fits = alone.fits.slots k q.0 l q.1 here in
-              let task = slice_get_mapped_some l.jobs q.0.jobs m.task number job fits.sound.jobs e in
-              let taken : task.0 ≡ detach place = some_is (sym task.2 ∙ f) in
-              let told = ended.1 k q.0 number place q.1 (task.1 ∙ ap Some taken) in
-              let less = fits.done in
-              omega (arith, told, less);
-        },
-        ap (λ (r : Run). r.stage) run_is ∙ ended.0,
-      )
-    where
-      other : (k : ℕ) → has_slot (over_desks variables deck (fresh variables files)).desked.core.units k ≡ false → Tied (over_desks variables deck (fresh variables files)).desked (executed variables deck (start variables files)).state
-          → connection_at (slice_get (over_desks variables deck (fresh variables files)).desked.desks k) ≡ None
-      other k none tied =
-          let ran = over_desks variables deck (fresh variables files) in
-          elim (cases_Bool (nat_lt k most_slots)) [
-            | inl low ↦ there (slice_get ran.desked.desks k) _ (tied.slots.idle k (ltb-true k most_slots low) (differs_any (λ (u : Connected). u.slot) k ran.desked.core.units none))
-            | inr high ↦ ap connection_at (slice_get_past ran.desked.desks k (omega (arith, ltb-false k most_slots high, tied.slots.sixteen)))
-          ]
+      let done : at.hand ≡ Finished = asks_no_more (over_bays m) (run_conduct s) at.hand shows.1 in
+      let run_is : run ≡ at.script = same_some (sym is ∙ shows.0) in
+      elim (subst (λ a. AskGoes m at.slots a at.script) done (stands_so m s variables deck files alone.entries)) [
+        | inl h ↦ no_ending at.script h.counts.going (subst (λ (r : Run). IsSome r.ending) run_is some)
+        | inr ended ↦ (
+          subst (λ (r : Run). HoldUnits m rack r.core.units) (sym run_is)
+              (told_held m rack at.slots (record { same = alone.fits.same_slots; each = λ i q l e f. (alone.fits.slots i q l e f).sound; done = λ i q l e f. (alone.fits.slots i q l e f).done }) ended.long at.script.core.units
+              ended.seated ended.told),
+          ap (λ (r : Run). r.stage) run_is ∙ ended.start,
+        )
+      ]
+
+  settles : (variables : List Variable) (deck : List Stated) (files : Files) (n slot : ℕ)
+      → let x = after (over_bays m) (run_conduct s) n (begins m s variables deck files) in x.hand ≡ Settle slot → AskGoes m x.slots (Settle slot) x.script
+  settles variables deck files n slot hand =
+      let x : Plain Bay (run_conduct s) = after (over_bays m) (run_conduct s) n (begins m s variables deck files) in
+      subst (λ a. AskGoes m x.slots a x.script) hand (stands_so m s variables deck files n)
+
+  pub each_stop_holds : EachStopHolds m s
+  each_stop_holds variables deck files n slot rack hand hold stop =
+      let x : Plain Bay (run_conduct s) = after (over_bays m) (run_conduct s) n (begins m s variables deck files) in
+      let h = settles variables deck files n slot hand in
+      stage_held m rack x.slots hold h.0.counts.long x.script slot h.0 h.1 stop
+
+  pub each_stop_spares : StopsFull m → EachStopSpares m s
+  each_stop_spares full variables deck files n slot rack hand hold stop =
+      let x : Plain Bay (run_conduct s) = after (over_bays m) (run_conduct s) n (begins m s variables deck files) in
+      let h = settles variables deck files n slot hand in
+      stage_spares m rack x.slots hold h.0.counts.long full x.script slot h.0 h.1 stop
+
+  pub each_turn_holds : EachTurnHolds m s
+  each_turn_holds variables deck files n count run rack going passed hold =
+      let b : Run × List (PlainSlot Bay Job) = before_ask (over_bays m) (run_conduct s) n (first_run variables deck files) fresh_slots in
+      elim (before_so m s variables deck files n) [
+        | inl h ↦ let goes = passes_goes m b.1 count b.0 run h passed in turn_held m rack b.1 hold goes.counts.long run goes
+        | inr ended ↦ no_ending b.0 going ended.some
+      ]
+
+  pub each_submit_holds : EachSubmitHolds m s
+  each_submit_holds variables deck files n slot job rack hand hold =
+      let x : Plain Bay (run_conduct s) = after (over_bays m) (run_conduct s) n (begins m s variables deck files) in
+      let b : Run × List (PlainSlot Bay Job) = before_ask (over_bays m) (run_conduct s) n (first_run variables deck files) fresh_slots in
+      let h : Submits m slot job x.script x.slots = subst (λ a. AskGoes m x.slots a x.script) hand (stands_so m s variables deck files n) in
+      elim (fares_after m s variables deck files n) [
+        | inl (e, y) ↦
+            let same : x.slots ≡ b.1 = ap (λ (z : Plain Bay (run_conduct s)). z.slots) e in
+            told_held m rack x.slots (subst (λ qs. SlotsHold (over_bays m) qs rack) (sym same) hold) h.long x.script.core.units h.seated h.told
+        | inr (over, after, was) ↦ absurd (let z : Submit slot job ≡ Finished = sym hand ∙ over in cc)
+      ]
+
+-- ---- nothing stops on an empty bay
+
+pub plain_full : StopsFull plain_bays
+plain_full bay job stop e tells spoilt = subst IsSome (sym spoilt.full) refl
+
+pub bays_full : {F : Type 0} → (told : F → Bool) (bytes : F → List ℕ) (count : F → ℕ) → StopsFull (bay_meaning told bytes count)
+bays_full {F} told bytes count bay job stop e tells spoilt = by (state_of told bytes e) tells spoilt
+  where
+    by : (o : Option Bay) → IsSome o → IfSome o (λ new. IsSpoilt bay job stop new (file_faults count e.connection)) → IsSome bay.connection
+    by None h k = absurd (cc)
+    by (Some new) h k = subst IsSome (sym k.full) refl

@@ -7,6 +7,7 @@ pub mod Fitting
 pub mod Others
 pub mod Finding
 pub mod Holding
-pub mod Taking
-pub mod LetGo
+pub mod Seating
+pub mod Walk
+pub mod Standing
 pub mod Ended

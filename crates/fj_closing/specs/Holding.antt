@@ -1,37 +1,37 @@
 -- Slots that hold the connections of units, each under its name, and no other.
-use Rattle.std.specs.Prelude.{◌≡◌, ℕ, ◌<◌, false, List, [], ◌∷◌, length, Option, Some, None, slice_get}
+use Rattle.std.specs.Prelude.{◌≡◌, ℕ, ◌<◌, ◌≤◌, ◌==◌, true, List, [], ◌∷◌, length, take, All, Option, Some, None, is_some, option_map, slice_get, if◌then◌else◌}
 use Rattle.fj_connect.specs.Connection.{Connection}
 use Rattle.fj_slot.specs.Ledger.{Ledger}
 use Rattle.fj_slot.specs.Serving.{Meaning}
+use Rattle.fj_slot.specs.Sound.{IsSound}
 use Rattle.fj_world.specs.Rack.{Rack}
 use Rattle.fj_bay.specs.Bay.{Bay}
-use Rattle.fj_bay.specs.Jobs.{Job, Answer, detach}
+use Rattle.fj_bay.specs.Jobs.{Job, Answer}
+use Rattle.fj_bay.specs.Spoilt.{behind}
 use Rattle.fj_desk.specs.Core.{Connected}
-use Rattle.fj_desk.specs.Desks.{Desk}
-use Rattle.fj_desk.specs.Desking.{connection_at}
-use Rattle.fj_turns.specs.Executing.{HoldsDesks}
-use Rattle.fj_units.specs.Units.{has_slot}
+use Rattle.fj_turns.specs.Serving.{over_bays}
+use Rattle.fj_units.specs.Having.{Differ}
+use Rattle.fj_units.specs.Units.{same_slot}
 
--- each job of the slot that takes its connection out is done
-abbrev pub HasLetGo : {E J A : Type 0} → Meaning E J A Bay Job Answer → Ledger E J A → Type 0
-HasLetGo {E} {J} m l = (number : ℕ) (job : J) (place : Option Connection) → slice_get l.jobs number ≡ Some job → m.task job ≡ Some (detach place) → number < l.done
+-- the name of the connection behind so many jobs
+abbrev pub name_behind : Bay → List Job → ℕ → Option (List ℕ)
+name_behind start jobs number = option_map (λ (c : Connection). c.name) (behind start (take number jobs)).connection
 
--- the unit's connection is at its desk, under the unit's name
-pub record IsAtDesk (desks : List Desk) (u : Connected) : Type 0 where
-  pub connection : Connection
-  pub there : connection_at (slice_get desks u.slot) ≡ Some connection
-  pub named : connection.name ≡ u.name
+-- the name of the unit at a slot
+abbrev pub name_at : List Connected → ℕ → Option (List ℕ)
+name_at [] at = None
+name_at (u ∷ us) at = if u.slot == at then Some u.name else name_at us at
 
--- each unit's is, and no two units share a slot
-abbrev pub AreAtDesks : List Desk → List Connected → Type 0
-AreAtDesks desks [] = Unit {0}
-AreAtDesks desks (u ∷ us) = IsAtDesk desks u × (has_slot us u.slot ≡ false) × AreAtDesks desks us
+-- The slot is sound. However many of its jobs are done that are not yet, and none where it has stopped, the connection then has that
+-- name; or there is none.
+pub record HoldsName {E J A : Type 0} (m : Meaning E J A Bay Job Answer) (l : Ledger E J A) (name : Option (List ℕ)) : Type 0 where
+  pub start : Bay
+  pub jobs : List Job
+  pub sound : IsSound (over_bays m) start jobs l
+  pub left : (number : ℕ) → l.done ≤ number → number ≤ length jobs → (is_some l.halt ≡ true → number ≡ l.done) → name_behind start jobs number ≡ name
 
--- The slots hold desks, at which the connections of these units are, and no other one; and what a job was to take out is out.
+-- Each unit has a slot of its own, and each slot holds the connection of its unit, under its name; where no unit has it, none.
 pub record HoldUnits {E J A : Type 0} (m : Meaning E J A Bay Job Answer) (rack : Rack E J A) (units : List Connected) : Type 0 where
-  pub desks : List Desk
-  pub held : HoldsDesks m rack desks
-  pub same : length rack.slots ≡ length desks
-  pub connected : AreAtDesks desks units
-  pub others : (at : ℕ) → has_slot units at ≡ false → connection_at (slice_get desks at) ≡ None
-  pub let_go : (at : ℕ) (l : Ledger E J A) → slice_get rack.slots at ≡ Some l → HasLetGo m l
+  pub within : All (λ (u : Connected). u.slot < length rack.slots) units
+  pub apart : Differ same_slot units
+  pub holds : (at : ℕ) (l : Ledger E J A) → slice_get rack.slots at ≡ Some l → HoldsName m l (name_at units at)

@@ -31,13 +31,13 @@ use Rattle.fj_plain.specs.Transfers.{moved_in}
 use Rattle.fj_plain.proofs.Lists.{pairs_head, pairs_tail}
 use Rattle.fj_plain.proofs.Sound.{Sound}
 use Rattle.fj_plain.proofs.Tells.{rising}
-use Rattle.fj_desk.specs.Core.{Core, Pending, Connected, connected_at, unit_named, without_connected}
+use Rattle.fj_desk.specs.Core.{Core, Pending, Connected, connected_at, unit_named}
 use Rattle.fj_desk.specs.Desks.{Desk, Outcome, carry, log_length, entry_of}
 use Rattle.fj_desk.specs.Desks as desks
 use Rattle.fj_desk.specs.Doing.{Doing, finishes, gives, awaits, Desked}
 use Rattle.fj_desk.specs.Desking.{entries, told_core, fresh}
 use Rattle.fj_desk.specs.Acting.{finishes_behind, transferred, transfer_at, keeps, disconnected, came_out, closes, closes_anyway, all_closed, connects, opens, moves, asks_connection, inquires, if_numbered, unit_at, own, doing}
-use Rattle.fj_desk.proofs.Apart.{Each, each_imp, each_both, Differs, Apart}
+use Rattle.fj_desk.proofs.Apart.{Each, each_imp, Differs, Apart}
 use Rattle.fj_desk.proofs.Seen.{numbers_apart, named_same}
 use Rattle.fj_desk.proofs.Walking.{unit_by, closes_by, anyway_by, connects_by, open_by, doing_by}
 use Rattle.fj_turns.specs.Turns.{halted_slots, ends_halts, doing_told}
@@ -48,8 +48,9 @@ use Rattle.fj_turns.specs.Standing.{Waits}
 use Rattle.fj_turns.proofs.Meant.{CutTied, cut_of_deck}
 use Rattle.fj_cut.specs.Others.{Names, names_of, has_file}
 use Rattle.fj_cut.specs.Awaiting.{WaitsBy, AwaitedUnit, IsFree, StopsAt, StopsAreAwaited}
-use Rattle.fj_cut.proofs.Units.{each_found, found_without}
+use Rattle.fj_cut.proofs.Units.{each_found, found_behind}
 use Rattle.fj_cut.proofs.Deck.{cut_sound}
+use Rattle.fj_cut.proofs.Points.{at_point}
 use Rattle.fj_cut.proofs.Seats.{HasSeat, seated_before, unit_kept, id_kept}
 use Rattle.fj_cut.proofs.Stops.{names_same}
 
@@ -139,8 +140,7 @@ module _ (what : Statement) (names : Names) (unit_named_by : List ℕ → Option
     inl (u.number, u.name, w u.number, named.0, file_there core.units u.number u found.0),
     λ o. either (came_out u o) _ _
         (λ i. end_places us (disconnected core u (keeps u) o) condition w apart.1
-        (each_both (λ (x : Connected). x.number ≡ u.number → ⊥) (λ (x : Connected). connected_at core.units x.number ≡ Some x)
-        (λ (x : Connected). connected_at (without_connected u.number core.units) x.number ≡ Some x) us (λ x ne e. found_without core.units u.number x.number ne ∙ e) apart.0 found.1)
+        (found_behind core.units u us apart.0 found.1)
         named.1)
         (λ i. tt),
   )
@@ -203,10 +203,7 @@ module _ (what : Statement) (names : Names) (unit_named_by : List ℕ → Option
   halts_places (slot ∷ slots) core next h = λ number. halts_places slots core next h
 
   places_at : (jobs : ℕ) (ds : List Desk) (d : Doing) → Places what names unit_named_by d → Places what names unit_named_by (walked jobs ds d).1
-  places_at zero ds d h = h
-  places_at (suc k) ds (finishes core condition) h = h
-  places_at (suc k) ds (gives slot job core next) h = places_at k (carry ds slot job) (next (log_length (slice_get ds slot))) (h (log_length (slice_get ds slot)))
-  places_at (suc k) ds (awaits slot job core next) h = places_at k (carry ds slot job) (next (desks.outcome ds slot job)) (h.1 (desks.outcome ds slot job))
+  places_at = at_point (λ ds d. Places what names unit_named_by d) (λ ds slot job core next h. h (log_length (slice_get ds slot))) (λ ds slot job core next h. h.1 (desks.outcome ds slot job))
 
 told_places : (variables : List Variable) (st : Stated) (told : List Entry) (core : Core) → Apart (λ (u : Connected). u.number) core.units
     → Places st.0.what (names_of core.units) (unit_named core.units) (doing_told variables st told core)

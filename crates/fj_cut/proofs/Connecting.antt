@@ -1,5 +1,5 @@
 -- A file that a statement connects is the one that it opens.
-use Rattle.std.proofs.Common.{◌≡◌, ℕ, ℤ, zero, suc, Bool, false, List, [], ◌∷◌, Option, Some, None, slice_get, sym, ap, ◌∙◌, subst}
+use Rattle.std.proofs.Common.{◌≡◌, ℕ, ℤ, Bool, false, List, [], ◌∷◌, Option, Some, None, slice_get, sym, ap, ◌∙◌, subst}
 use Rattle.std.specs.Prelude.{if◌then◌else◌, unwrap_or, option_map, option_and_then, Result, Ok, Err}
 use Rattle.std.specs.List.{list_any}
 use Rattle.fj_value.specs.declared.condition.Condition.{Condition}
@@ -38,6 +38,7 @@ use Rattle.fj_desk.proofs.Walking.{either, unit_by, closes_by, anyway_by, connec
 use Rattle.fj_turns.specs.Turns.{halted_slots, ends_halts, doing_told}
 use Rattle.fj_turns.specs.Inside.{walked}
 use Rattle.fj_cut.specs.Others.{Names, names_of, opens_on, file_opened, file_about}
+use Rattle.fj_cut.proofs.Points.{at_point}
 
 -- the file of OPEN
 pub named_due : (modes : Modes) (name : List ℕ) (r : Result (List ℕ) Condition) (c : Connection) → connected_to modes name r ≡ Ok c → c.name ≡ name
@@ -72,10 +73,7 @@ module _ (Q : List ℕ → Type 0) where
   Connects (awaits slot job core next) = OfJob job × ((o : Outcome) → Connects (next o))
 
   pub connects_at_point : (jobs : ℕ) (ds : List Desk) (d : Doing) → Connects d → Connects (walked jobs ds d).1
-  connects_at_point zero ds d h = h
-  connects_at_point (suc k) ds (finishes core condition) h = h
-  connects_at_point (suc k) ds (gives slot job core next) h = connects_at_point k (carry ds slot job) (next (log_length (slice_get ds slot))) (h (log_length (slice_get ds slot)))
-  connects_at_point (suc k) ds (awaits slot job core next) h = connects_at_point k (carry ds slot job) (next (desks.outcome ds slot job)) (h.1 (desks.outcome ds slot job))
+  connects_at_point = at_point (λ ds d. Connects d) (λ ds slot job core next h. h (log_length (slice_get ds slot))) (λ ds slot job core next h. h.1 (desks.outcome ds slot job))
 
   -- ---- READ and WRITE
 

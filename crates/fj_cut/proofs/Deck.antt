@@ -1,5 +1,5 @@
 -- Every deck, each statement that it comes to.
-use Rattle.std.proofs.Common.{◌≡◌, ℕ, zero, suc, ◌<◌, Bool, true, false, List, [], ◌∷◌, take, Option, Some, None, slice_get, refl, sym, ap, ◌∙◌, subst, inl, inr, ◌&&◌}
+use Rattle.std.proofs.Common.{◌≡◌, ℕ, ◌<◌, Bool, true, false, List, [], ◌∷◌, take, Option, Some, None, slice_get, refl, sym, ap, ◌∙◌, subst, inl, inr, ◌&&◌}
 use Rattle.std.specs.Prelude.{◌==◌, ◌≢◌}
 use Rattle.std.specs.List.{All}
 use Rattle.std.specs.Str.{bytes_eq}
@@ -10,8 +10,6 @@ use Rattle.std.proofs.lemmas.Slice.Eq.{bytes_eq-Decides}
 use Rattle.fj_connect.specs.Connection.{Connection}
 use Rattle.fj_modes.specs.declared.modes.Modes.{Modes}
 use Rattle.fj_statement.specs.declared.deck.Variable.{Variable}
-use Rattle.fj_statement.specs.declared.statement.Statement.{Statement}
-use Rattle.fj_statement.specs.declared.statement.Statement.TheVariants as statement
 use Rattle.fj_bay.specs.Jobs.{Job}
 use Rattle.fj_plain.specs.State.{State, Files, start}
 use Rattle.fj_plain.specs.State as plain
@@ -23,8 +21,7 @@ use Rattle.fj_plain.proofs.Reached.{sound_reached}
 use Rattle.fj_plain.proofs.Sound.{Sound}
 use Rattle.fj_plain.proofs.Units.{bytes_differ}
 use Rattle.fj_desk.specs.Core.{Core, Connected}
-use Rattle.fj_desk.specs.Desks.{Desk, Outcome, carry, log_length}
-use Rattle.fj_desk.specs.Desks as desks
+use Rattle.fj_desk.specs.Desks.{Desk, Outcome, carry}
 use Rattle.fj_desk.specs.Doing.{Doing, finishes, gives, awaits, Desked}
 use Rattle.fj_desk.specs.Desking.{connection_at, fresh, all_left}
 use Rattle.fj_desk.proofs.Apart.{Each, each_imp, Differs, Apart}
@@ -32,12 +29,14 @@ use Rattle.fj_desk.proofs.Seen.{Seen, numbers_apart}
 use Rattle.fj_desk.proofs.Tied.{Tied, bay_of}
 use Rattle.fj_turns.specs.Inside.{waited_at, does, walked, cut_desks}
 use Rattle.fj_turns.proofs.Meant.{CutTied, cut_of_deck}
-use Rattle.fj_cut.specs.Others.{names_of, file_opened, file_about, Names, core_now, has_file, IsHoused, AreHoused, IsAsBefore, OthersStay, KeepsDesks, UnitsKeepDesks}
+use Rattle.fj_cut.specs.Others.{names_of, file_opened, file_about, core_now, has_file, IsHoused, AreHoused, IsAsBefore, OthersStay, KeepsDesks, UnitsKeepDesks}
 use Rattle.fj_cut.proofs.Through.{AtMostOne}
 use Rattle.fj_cut.proofs.Units.{none_any}
 use Rattle.fj_cut.proofs.Carried.{there, connection_of_bay}
 use Rattle.fj_cut.proofs.Touching.{IsHome, touch, at, Other, spared, still, same_left, Stand}
 use Rattle.fj_cut.proofs.Housed.{each_housed, home_housed, each_behind}
+use Rattle.fj_cut.proofs.Connecting.{opened_about}
+use Rattle.fj_cut.proofs.Points.{at_point}
 use Rattle.fj_cut.proofs.EachKind.{IsDue, AtWait, Stays, told_stays}
 
 -- ---- units that are those of a state
@@ -105,10 +104,7 @@ module _ (name : List ℕ) where
 
 module _ (name : List ℕ) (due : Option (List ℕ)) (NotOpened NotAbout : Type 0) where
   walk : (k : ℕ) (ds : List Desk) (d : Doing) → Stays name due NotOpened NotAbout ds d → Stays name due NotOpened NotAbout (walked k ds d).0 (walked k ds d).1
-  walk zero ds d h = h
-  walk (suc k) ds (finishes core condition) h = h
-  walk (suc k) ds (gives slot job core next) h = walk k (carry ds slot job) (next (log_length (slice_get ds slot))) h.1
-  walk (suc k) ds (awaits slot job core next) h = walk k (carry ds slot job) (next (desks.outcome ds slot job)) h.1
+  walk = at_point (Stays name due NotOpened NotAbout) (λ ds slot job core next h. h.1) (λ ds slot job core next h. h.1)
 
   now_due : (ds : List Desk) (d : Doing) → Stays name due NotOpened NotAbout ds d → (NotAbout → NotOpened) → NotAbout → IsDue name due NotOpened NotAbout ds (core_now d)
   now_due ds (finishes core condition) h f b = h.is_due b
@@ -127,18 +123,6 @@ module _ (name : List ℕ) (due : Option (List ℕ)) (NotOpened NotAbout : Type 
   now_housed ds (finishes core condition) h = each_housed ds core.units h.housed
   now_housed ds (gives slot job core next) h = each_housed ds core.units h.0.housed
   now_housed ds (awaits slot job core next) h = each_housed ds core.units (each_imp (IsHome ds) (IsHoused ds) core.units (home_housed ds) h.0.homes)
-
--- ---- a statement is about the file that it opens
-
-opened_about : (name : List ℕ) (names : Names) (st : Statement) → file_opened names st ≡ Some name → file_about names st ≡ Some name
-opened_about name names (statement.Assign to from) e = cc
-opened_about name names (statement.OpenUnit u spec iostat) e = e
-opened_about name names (statement.CloseUnit u keep iostat) e = cc
-opened_about name names (statement.WaitFor u id iostat) e = cc
-opened_about name names (statement.Move how u iostat) e = cc
-opened_about name names (statement.Inquire subject asked id iostat) e = cc
-opened_about name names (statement.Transfer t) e = cc
-opened_about name names statement.End e = cc
 
 -- ---- the law
 
@@ -180,7 +164,7 @@ module _ (variables : List Variable) (deck : List Stated) (files : Files) (index
 
   is_as_before : IsAsBefore variables statement before jobs name
   is_as_before = record {
-    inside = λ b. now_due name due NotOpened NotAbout point.0 point.1 stays (λ about opened. about (opened_about name (names_of before.core.units) statement.0.what opened)) b;
+    inside = λ b. now_due name due NotOpened NotAbout point.0 point.1 stays (λ about opened. about (opened_about (names_of before.core.units) statement.0.what name opened)) b;
     awaited = λ slot job core onward a is. (waits slot job core onward is).is_due a;
     out = λ slot job core onward a is free. out_due name due NotOpened NotAbout point.0 slot job core (waits slot job core onward is) a free;
   }

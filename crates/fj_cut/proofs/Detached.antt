@@ -2,7 +2,6 @@
 use Rattle.std.proofs.Common.{◌≡◌, ◌⊎◌, ℕ, Bool, true, false, not, List, ◌++◌, Option, Some, None, refl, sym, ap, ◌∙◌, subst, inl, inr}
 use Rattle.std.specs.Prelude.{◌==◌, if◌then◌else◌}
 use Rattle.std.specs.Str.{bytes_eq}
-use Rattle.std.proofs.lemmas.Bool.{eqb-true}
 use Rattle.std.proofs.lemmas.Bool.Decides.{eqb_tells}
 use Rattle.fj_value.specs.declared.condition.Condition.TheVariants.{Error}
 use Rattle.fj_connect.specs.Connection.{Connection}
@@ -15,18 +14,13 @@ use Rattle.fj_desk.specs.Desks.{Desk, carry, outcome, connection_in}
 use Rattle.fj_desk.specs.Desking.{connection_at, all_left}
 use Rattle.fj_desk.specs.Doing.{Doing, finishes}
 use Rattle.fj_desk.specs.Acting.{keeps, left, disconnected, once_out}
-use Rattle.fj_desk.proofs.Apart.{Each, each_both, each_filter, each_imp, Differs, apart_filter}
+use Rattle.fj_desk.proofs.Apart.{Each, each_both, each_filter, each_imp, apart_filter}
 use Rattle.fj_desk.proofs.Carrying.{carry_other, carry_later}
 use Rattle.fj_desk.proofs.Closing.{comes_out}
-use Rattle.fj_desk.proofs.Opening.{gone_differs}
 use Rattle.fj_cut.proofs.Through.{over, through, through_same, one_same, one_filter, parted}
-use Rattle.fj_cut.proofs.Units.{each_all, each_unfilter, each_at, only, alone}
+use Rattle.fj_cut.proofs.Units.{each_all, each_at, alone, others_differ, none_had}
 use Rattle.fj_cut.proofs.Carried.{there, gone_there, came_out}
 use Rattle.fj_cut.proofs.Touching.{IsHome, home_same, touch, at, Other, spared, left_is, all_is, Stand}
-
-not_false : (b : Bool) → not b ≡ false → b ≡ true
-not_false true e = refl
-not_false false e = cc
 
 other_left : (name n : List ℕ) (o : Option Connection) (keep : Bool) (files : Files) → bytes_eq name n ≡ false → left n o keep files name ≡ files name
 other_left name n None keep files e = refl
@@ -50,33 +44,20 @@ module _ (name : List ℕ) (ds : List Desk) (us : List Connected) (u : Connected
       let o = outcome ds u.slot (detach None) in
       subst (λ b. P (if b then next (disconnected core u keep o) else finishes core (Error 1))) (sym (comes_out u o (ended home.it) (came_out ds u.slot home.it home.is) ((ended_kept home.it).named ∙ sym home.named))) h
 
-  slots_differ : Differs (λ (x : Connected). x.slot) u.slot others
-  slots_differ =
-      each_both (λ (x : Connected). x.slot ≡ u.slot → x ≡ u) (λ (x : Connected). x.number ≡ u.number → ⊥) (λ (x : Connected). x.slot ≡ u.slot → ⊥) others (λ x same ne e. ne (ap (λ (y : Connected). y.number) (same e)))
-      (each_filter (λ (x : Connected). x.slot ≡ u.slot → x ≡ u) (λ (x : Connected). not (x.number == u.number)) us (only (λ x. x.slot) us u.number u s.slots found))
-      (gone_differs (λ (x : Connected). x.number) u.number us)
-
   at_others : Each (λ x. at name behind x ≡ at name ds x) others
   at_others =
-      each_imp (λ (x : Connected). x.slot ≡ u.slot → ⊥) (λ x. at name behind x ≡ at name ds x) others (λ x ne. ap (λ o. touch name (connection_at o)) (carry_other ds u.slot (detach None) x.slot ne)) slots_differ
-
-  -- the slots that none of the others has are those that no unit had, and its own
-  none_had : (k : ℕ) → Differs (λ (x : Connected). x.slot) k others → (k ≡ u.slot → ⊥) → Differs (λ (x : Connected). x.slot) k us
-  none_had k d ne =
-      each_unfilter (λ (x : Connected). x.slot ≡ k → ⊥) (λ (x : Connected). not (x.number == u.number)) us d
-      (each_imp (λ (x : Connected). x.number ≡ u.number → x ≡ u) (λ (x : Connected). not (x.number == u.number) ≡ false → x.slot ≡ k → ⊥) us
-      (λ x same gone e. ne (sym e ∙ ap (λ (y : Connected). y.slot) (same (eqb-true x.number u.number (not_false (x.number == u.number) gone))))) (only (λ x. x.number) us u.number u s.numbers found))
+      each_imp (λ (x : Connected). x.slot ≡ u.slot → ⊥) (λ x. at name behind x ≡ at name ds x) others (λ x ne. ap (λ o. touch name (connection_at o)) (carry_other ds u.slot (detach None) x.slot ne)) (others_differ us u s.slots found)
 
   pub gone_stand : Stand name behind others
   gone_stand = record {
     homes = each_both (IsHome ds) (λ (x : Connected). x.slot ≡ u.slot → ⊥) (IsHome behind) others (λ x h ne. home_same ds behind x (ap connection_at (carry_other ds u.slot (detach None) x.slot ne)) h)
-        (each_filter (IsHome ds) (λ (x : Connected). not (x.number == u.number)) us s.homes) slots_differ;
+        (each_filter (IsHome ds) (λ (x : Connected). not (x.number == u.number)) us s.homes) (others_differ us u s.slots found);
     slots = apart_filter (λ x. x.slot) (λ (x : Connected). not (x.number == u.number)) us s.slots;
     numbers = apart_filter (λ x. x.number) (λ (x : Connected). not (x.number == u.number)) us s.numbers;
     one = one_same (at name behind) (at name ds) others at_others (one_filter (at name ds) (λ (x : Connected). not (x.number == u.number)) us s.one);
     empty = λ k d. elim (eqb_tells k u.slot) [
       | inl a ↦ ap (there behind) a.1 ∙ gone_there ds u.slot home.it home.is
-      | inr a ↦ ap connection_at (carry_other ds u.slot (detach None) k a.1) ∙ s.empty k (none_had k d a.1)
+      | inr a ↦ ap connection_at (carry_other ds u.slot (detach None) k a.1) ∙ s.empty k (none_had us u s.numbers found k d a.1)
     ];
     sixteen = (carry_later ds u.slot (detach None)).long ∙ s.sixteen;
   }

@@ -46,7 +46,7 @@ use Rattle.fj_turns.specs.Turns.{halted_slots, ends_halts, doing_told}
 use Rattle.fj_turns.proofs.Seated.{found_number}
 use Rattle.fj_cut.specs.Others.{IsHoused, names_of, opens_on, file_opened, file_about}
 use Rattle.fj_cut.proofs.Through.{through, through_map, through_same, one_same, between}
-use Rattle.fj_cut.proofs.Units.{each_at, none_at, only, each_found, found_without, apart_from}
+use Rattle.fj_cut.proofs.Units.{each_at, none_at, only, each_found, found_behind, apart_from}
 use Rattle.fj_cut.proofs.Carried.{Idles, resume_idles, flush_idles, look_idles, idle_there}
 use Rattle.fj_cut.proofs.Touching.{IsHome, touch, at, Other, all_is, still, at_slot, same_left, idle_at, change_idles, backspace_idles, rewind_idles, brought, Stand, stand_same}
 use Rattle.fj_cut.proofs.Housed.{home_housed, each_behind, each_idle, brought_housed, seat_in}
@@ -193,8 +193,7 @@ module _ (name : List ℕ) (due : Option (List ℕ)) (NotOpened NotAbout : Type 
   all_stay (u ∷ us) ds core condition r apart found =
       detaches_stay ds core u (λ new. all_closed us new condition) r found.0
       (λ later. all_stay us (carry ds u.slot (detach None)) (disconnected core u (keeps u) (desks.outcome ds u.slot (detach None))) condition later apart.1
-      (each_both (λ (x : Connected). x.number ≡ u.number → ⊥) (λ (x : Connected). connected_at core.units x.number ≡ Some x) (λ (x : Connected). connected_at (without_connected u.number core.units) x.number ≡ Some x) us
-      (λ x ne e. found_without core.units u.number x.number ne ∙ e) apart.0 found.1))
+      (found_behind core.units u us apart.0 found.1))
 
   end_stays : (ds : List Desk) (core : Core) (condition : Condition) → Ready ds core → Stays ds (all_closed core.units core condition)
   end_stays ds core condition r = all_stay core.units ds core condition r r.stand.numbers (each_found core.units r.stand.numbers)

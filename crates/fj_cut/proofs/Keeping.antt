@@ -1,5 +1,5 @@
 -- A file that a statement is about, and neither opens nor removes, has its unit all the while.
-use Rattle.std.proofs.Common.{◌≡◌, ◌≢◌, ℕ, zero, suc, Bool, true, false, List, [], ◌∷◌, Option, Some, None, slice_get, refl, sym, ap, ◌∙◌, subst}
+use Rattle.std.proofs.Common.{◌≡◌, ◌≢◌, ℕ, Bool, true, false, List, [], ◌∷◌, Option, Some, None, slice_get, refl, sym, ap, ◌∙◌, subst}
 use Rattle.std.specs.Prelude.{◌==◌, ◌||◌, if◌then◌else◌, option_map, option_and_then}
 use Rattle.std.specs.Str.{bytes_eq}
 use Rattle.std.proofs.lemmas.Slice.Eq.{bytes_eq-Decides}
@@ -31,6 +31,7 @@ use Rattle.fj_desk.proofs.Walking.{either, unit_by}
 use Rattle.fj_turns.specs.Turns.{halted_slots, ends_halts, doing_told}
 use Rattle.fj_turns.specs.Inside.{waited_at, does, walked}
 use Rattle.fj_cut.specs.Others.{names_of, file_about, file_renewed, core_now}
+use Rattle.fj_cut.proofs.Points.{at_point}
 
 -- the units stay as they are
 abbrev Stays : List Connected → Doing → Type 0
@@ -45,10 +46,7 @@ module _ (us : List Connected) where
   now_stays (awaits slot job core next) h = h.0
 
   point_stays : (jobs : ℕ) (ds : List Desk) (d : Doing) → Stays us d → Stays us (walked jobs ds d).1
-  point_stays zero ds d h = h
-  point_stays (suc k) ds (finishes core condition) h = h
-  point_stays (suc k) ds (gives slot job core next) h = point_stays k (carry ds slot job) (next (log_length (slice_get ds slot))) (h.1 (log_length (slice_get ds slot)))
-  point_stays (suc k) ds (awaits slot job core next) h = point_stays k (carry ds slot job) (next (desks.outcome ds slot job)) (h.1 (desks.outcome ds slot job))
+  point_stays = at_point (λ ds d. Stays us d) (λ ds slot job core next h. h.1 (log_length (slice_get ds slot))) (λ ds slot job core next h. h.1 (desks.outcome ds slot job))
 
   behind_stays : (u : Connected) (core : Core) (condition : Condition) → core.units ≡ us → Stays us (finishes_behind u core condition)
   behind_stays u core condition e = either (Stays us) (halts condition) _ _ (e, λ number. e) e

@@ -1,4 +1,5 @@
 pub mod Through
+pub mod Points
 pub mod Units
 pub mod Carried
 pub mod Touching
@@ -10,6 +11,7 @@ pub mod Keeping
 pub mod Stops
 pub mod Connecting
 pub mod Turns
+pub mod Opened
 pub mod Seats
 pub mod Awaited
 pub mod OneUnit

@@ -89,7 +89,7 @@ found_filter p (x ∷ us) m h = elim (eqb_tells x.number m) [
     by true f e = ap (λ o. if x.number == m then Some x else o) e
     by false f e = e ∙ sym (ap (λ k. if k then Some x else connected_at us m) f)
 
-missing_filter : (p : ℕ → Bool) (us : List Connected) (m : ℕ) → p m ≡ false → connected_at (filter (λ (u : Connected). p u.number) us) m ≡ None
+pub missing_filter : (p : ℕ → Bool) (us : List Connected) (m : ℕ) → p m ≡ false → connected_at (filter (λ (u : Connected). p u.number) us) m ≡ None
 missing_filter p [] m h = refl
 missing_filter p (x ∷ us) m h = elim (eqb_tells x.number m) [
   | inl a ↦

@@ -34,7 +34,8 @@ use Rattle.fj_cut.specs.Turning.{TurnsDo, doing_at, doing_due, turn_doing, IsUnb
 use Rattle.fj_cut.proofs.Connecting.{connects_at_point, told_connects, connects_one, opened_about}
 use Rattle.fj_cut.proofs.Deck.{housed_before, others_stay, units_keep_desks}
 use Rattle.fj_cut.proofs.Keeping.{has_behind}
-use Rattle.fj_cut.proofs.Stops.{names_same, about_same, renewed_same, closed_same}
+use Rattle.fj_cut.proofs.Opened.{opened_so}
+use Rattle.fj_cut.proofs.Stops.{names_same, opened_same, about_same, renewed_same, closed_same}
 
 -- ---- behind so many jobs
 
@@ -150,6 +151,7 @@ submit_leaves variables deck files run desks index statement before slot job rea
       ap (λ (k : Core). has_name k.units name) (sym core)
       ∙ has_behind variables statement before g.jobs name (about_same (names_of before.core.units) (names_in it.state.units) statement.0.what names ∙ about)
       (λ q. new (sym (renewed_same (names_of before.core.units) (names_in it.state.units) statement.0.what names) ∙ q));
+  opens = opened_so variables statement before g.jobs slot job run.core g.gives ∙ opened_same (names_of before.core.units) (names_in it.state.units) statement.0.what names;
 }
   where
     it : CutTied variables deck index (start variables files) statement before

@@ -2,10 +2,11 @@
 use Rattle.std.proofs.Common.{◌≡◌, ℕ, Bool, true, false, not, List, [], ◌∷◌, Some, None, refl, sym, ap, ◌∙◌, subst, inl, inr, ◌||◌, arith}
 use Rattle.std.specs.Prelude.{◌==◌, if◌then◌else◌, filter, nat_lt}
 use Rattle.std.specs.List.{list_any}
-use Rattle.std.proofs.lemmas.Bool.{ltb-true, ltb-false, eq-eqb, ne_eqb}
+use Rattle.std.proofs.lemmas.Bool.{ltb-true, ltb-false, eq-eqb, ne_eqb, eqb-true}
 use Rattle.std.proofs.lemmas.Bool.Decides.{eqb_tells}
 use Rattle.fj_desk.specs.Core.{Connected, connected_at, without_connected}
-use Rattle.fj_desk.proofs.Apart.{Each, each_imp, each_both, Differs, Apart}
+use Rattle.fj_desk.proofs.Apart.{Each, each_imp, each_both, each_filter, Differs, Apart}
+use Rattle.fj_desk.proofs.Opening.{gone_differs}
 
 pub each_all : {X : Type 0} → (P : X → Type 0) (xs : List X) → ((x : X) → P x) → Each P xs
 each_all P [] f = tt
@@ -100,6 +101,32 @@ found_without (x ∷ us) n m ne =
           ap (λ b. connected_at (if not b then x ∷ without_connected n us else without_connected n us) m) a.0
           ∙ ap (λ o. if x.number == m then Some x else o) (found_without us n m ne)
     ]
+
+pub found_behind : (all : List Connected) (u : Connected) (us : List Connected) → Differs (λ (x : Connected). x.number) u.number us → Each (λ (x : Connected). connected_at all x.number ≡ Some x) us
+    → Each (λ (x : Connected). connected_at (without_connected u.number all) x.number ≡ Some x) us
+found_behind all u us apart found =
+    each_both (λ (x : Connected). x.number ≡ u.number → ⊥) (λ (x : Connected). connected_at all x.number ≡ Some x) (λ (x : Connected). connected_at (without_connected u.number all) x.number ≡ Some x) us
+    (λ x ne e. found_without all u.number x.number ne ∙ e) apart found
+
+not_false : (b : Bool) → not b ≡ false → b ≡ true
+not_false true e = refl
+not_false false e = cc
+
+-- where one is gone, the others have other slots
+pub others_differ : (us : List Connected) (u : Connected) → Apart (λ (x : Connected). x.slot) us → connected_at us u.number ≡ Some u → Differs (λ (x : Connected). x.slot) u.slot (without_connected u.number us)
+others_differ us u slots found =
+    each_both (λ (x : Connected). x.slot ≡ u.slot → x ≡ u) (λ (x : Connected). x.number ≡ u.number → ⊥) (λ (x : Connected). x.slot ≡ u.slot → ⊥) (without_connected u.number us)
+    (λ x same ne e. ne (ap (λ (y : Connected). y.number) (same e)))
+    (each_filter (λ (x : Connected). x.slot ≡ u.slot → x ≡ u) (λ (x : Connected). not (x.number == u.number)) us (only (λ x. x.slot) us u.number u slots found))
+    (gone_differs (λ (x : Connected). x.number) u.number us)
+
+-- and the slots that none of them has are those that no unit had, and its own
+pub none_had : (us : List Connected) (u : Connected) → Apart (λ (x : Connected). x.number) us → connected_at us u.number ≡ Some u → (k : ℕ) → Differs (λ (x : Connected). x.slot) k (without_connected u.number us) → (k ≡ u.slot → ⊥)
+    → Differs (λ (x : Connected). x.slot) k us
+none_had us u numbers found k d ne =
+    each_unfilter (λ (x : Connected). x.slot ≡ k → ⊥) (λ (x : Connected). not (x.number == u.number)) us d
+    (each_imp (λ (x : Connected). x.number ≡ u.number → x ≡ u) (λ (x : Connected). not (x.number == u.number) ≡ false → x.slot ≡ k → ⊥) us
+    (λ x same gone e. ne (sym e ∙ ap (λ (y : Connected). y.slot) (same (eqb-true x.number u.number (not_false (x.number == u.number) gone))))) (only (λ x. x.number) us u.number u numbers found))
 
 -- a unit of another number stands below or above
 pub apart_from : (k n : ℕ) → (k ≡ n → ⊥) → nat_lt n k ≡ not (nat_lt k n)

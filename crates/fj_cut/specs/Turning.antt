@@ -18,7 +18,7 @@ use Rattle.fj_turns.specs.Turns.{turn, turn_act, rule_of, doing_told, waited_now
 use Rattle.fj_turns.specs.Serving.{over_bays, Shows, run_conduct, desks_of, first_run, fresh_slots, begins}
 use Rattle.fj_turns.specs.Passing.{passes, KnowsAnswers}
 use Rattle.fj_turns.specs.Laws.{plain_bays, Seen, shown}
-use Rattle.fj_cut.specs.Others.{names_in, file_about, file_renewed, core_now, left_now, AreHoused}
+use Rattle.fj_cut.specs.Others.{names_of, names_in, file_opened, file_about, file_renewed, core_now, left_now, AreHoused}
 
 -- what the turn of the statement does, once the answers that it needs are known; nothing, where it waits for its own job
 abbrev pub doing_at : Stated → Stage → Run → Option Doing
@@ -80,6 +80,8 @@ pub record SubmitLeavesOthers (variables : List Variable) (deck : List Stated) (
   pub others : (name : List ℕ) → file_about (names_in state.units) statement.0.what ≢ Some name → left_now desks run.core name ≡ (all_closed state).files name
   -- one that the statement is about, and neither opens nor removes, has its unit
   pub keeps : (name : List ℕ) → file_about (names_in state.units) statement.0.what ≡ Some name → file_renewed (names_in state.units) statement.0.what ≢ Some name → has_name run.core.units name ≡ true
+  -- the file that it opens is the same by its units as they are then
+  pub opens : file_opened (names_of run.core.units) statement.0.what ≡ file_opened (names_in state.units) statement.0.what
 
 module _ {E J A S : Type 0} (m : Meaning E J A Bay Job Answer) (s : Shows S) where
   -- for every deck, at each ask that submits a job
