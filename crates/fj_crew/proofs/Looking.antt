@@ -18,6 +18,10 @@ pub sends_of : {E J T : Type 0} → (v w : View E T) (result : Result ℕ (Refus
 sends_of v w (Ok n) job number ok err = (number, ok)
 sends_of v w (Err e) job number ok err = err.1
 
+pub handed_back : {E J T : Type 0} → (v w : View E T) (result : Result ℕ (Refused J)) (job : J) → IfErr result (λ r. (r.job ≡ job) × Keeps v w v.sent v.heard v.hands) → IfErr result (λ r. r.job ≡ job)
+handed_back v w (Ok n) job err = tt
+handed_back v w (Err e) job err = err.0
+
 -- what stands at the end of the first ones
 pub get_at_end : {X : Type 0} → (xs us : List X) (t : X) → slice_get ((xs ++ t ∷ []) ++ us) (length xs) ≡ Some t
 get_at_end [] us t = refl

@@ -24,6 +24,7 @@ pub(crate) fn submit_at<E: Engine, R: Wait>(
     requires next { SeatAt seats.old.items at (λ v. IsNext E.meaning v.plan v.sent job) }
     ensures paired { Paired queues.now.items seats.new.items }
     ensures submits { Submits seats.old.items at result seats.new.items }
+    ensures handed_back { IfErr result (λ refused. refused.job ≡ job) }
 {
     let queue = &queues[at];
     let seat = &mut seats[at];

@@ -53,6 +53,8 @@ impl Script for Asker {
       told = λ s _. s;
     } };
 
+    ghost gives = { λ _ _. Unit {0} };
+
     fn ask(&mut self) -> Ask<u64> {
         if self.over {
             return Ask::Finished;

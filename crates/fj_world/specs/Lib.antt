@@ -1,4 +1,5 @@
 pub mod Conduct
+pub mod Giving
 pub mod Leading
 pub mod Rack
 pub mod Scene

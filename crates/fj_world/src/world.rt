@@ -36,13 +36,15 @@ pub struct World<S: Script> {
 }
 
 impl<S: Script> Model for World<S> {
+    ghost use Rattle.fj_world.specs.Giving.{GivesOf};
     ghost use Rattle.fj_world.specs.Scene.{Scene, IsOrderly};
 
     ghost Value = { Scene S S.Gear S.Gear.Job S.Gear.Answer S.Gear.State S.Gear.Task S.Gear.Reply };
 
     ghost view = { λ s. record { start = s.start.value; script = s.script; hand = s.hand; rack = s.slots; workers = s.workers.items } };
 
-    ghost invariant = { λ s. IsOrderly S.Gear.meaning S.conduct (record { start = s.start.value; script = s.script; hand = s.hand; rack = s.slots; workers = s.workers.items }) };
+    ghost invariant = { λ s. IsOrderly S.Gear.meaning S.conduct (record { start = s.start.value; script = s.script; hand = s.hand; rack = s.slots; workers = s.workers.items })
+        × GivesOf S.gives s.script s.hand };
 }
 
 /// What was not made a world, for want of memory.

@@ -2,7 +2,7 @@ use Rattle.std.proofs.Common.{length, refl, subst, arith}
 use Rattle.std.proofs.lemmas.Option.{slice_get_read}
 use Rattle.fj_queue.specs.Knows.{knows}
 use Rattle.fj_crew.specs.Seats.{Sends}
-use Rattle.fj_crew.proofs.Looking.{same_read, sends_of}
+use Rattle.fj_crew.proofs.Looking.{handed_back, same_read, sends_of}
 use Rattle.fj_crew.proofs.Hiring.{paired_set}
 use Rattle.fj_crew.proofs.seats.submit_at.Goals as goal
 
@@ -25,3 +25,6 @@ returns-clause-submits g c = record {
       subst (λ z. Sends (knows z) c.submit-number.result (knows c.submit-number.new.s)) (same_read c.args.seats.now.items c.args.at c.index_mut-seat.result.now s e c.index_mut-seat.ensures.value)
       (sends_of (knows c.index_mut-seat.result.now) (knows c.submit-number.new.s) c.submit-number.result c.args.job c.submit-number.ensures.number c.submit-number.ensures.ok c.submit-number.ensures.err);
 }
+
+pub returns-clause-handed_back : goal.returns-clause-handed_back
+returns-clause-handed_back g c = handed_back (knows c.index_mut-seat.result.now) (knows c.submit-number.new.s) c.submit-number.result c.args.job c.submit-number.ensures.err

@@ -14,10 +14,11 @@ use Rattle.fj_crew.proofs.serve.serve.Goals as goal
 pub loop-slot-init : goal.loop-slot-init
 loop-slot-init g c =
     let m = g.S.Gear.Engine.meaning in let k = g.S.Script.conduct in
-    let asks = c.ask-hand.ensures in
+    let asks = c.ask-hand.ensures.asks in
     record {
       due = asks.due;
       keeps_to = asks.keeps_to;
+      gives = c.ask-hand.ensures.gives;
       ends = asks.ends;
       uses = omega (arith, asks.uses, c.requires.uses);
       few = λ at s e. omega (arith, c.requires.few at s e, asks.left);
@@ -45,7 +46,7 @@ pub loop-slot-preserved-in-Submit : goal.loop-slot-preserved-in-Submit
 loop-slot-preserved-in-Submit g c =
     let m = g.S.Gear.Engine.meaning in let k = g.S.Script.conduct in
     let inv = c.loop-slot.invariant in
-    let asks = c.ask-hand-in-Submit.ensures in
+    let asks = c.ask-hand-in-Submit.ensures.asks in
     let old = c.loop-slot.seats.items in
     let new = c.submit_at-number.new.seats.items in
     let hand : c.loop-slot.hand ≡ Submit c.in-Submit.slot c.in-Submit.job = sym c.replace.ensures.value ∙ c.in-Submit.is in
@@ -59,6 +60,7 @@ loop-slot-preserved-in-Submit g c =
     record {
       due = asks.due;
       keeps_to = asks.keeps_to;
+      gives = c.ask-hand-in-Submit.ensures.gives;
       ends = asks.ends;
       uses = omega (arith, inv.uses, c.took.ensures.uses, asks.uses, ap length did.after, length-set old c.in-Submit.slot did.seat);
       few = few_on m k c.loop-slot.script c.took.new.self c.ask-hand-in-Submit.new.self old new c.in-Submit.slot found.0 did.seat inv.few found.1 did.after
@@ -80,7 +82,7 @@ pub loop-slot-preserved : goal.loop-slot-preserved
 loop-slot-preserved g c =
     let m = g.S.Gear.Engine.meaning in let k = g.S.Script.conduct in
     let inv = c.loop-slot.invariant in
-    let asks = c.ask-hand-in-Settle.ensures in
+    let asks = c.ask-hand-in-Settle.ensures.asks in
     let old = c.loop-slot.seats.items in
     let new = c.settle_at-told.new.seats.items in
     let hand : c.loop-slot.hand ≡ Settle c.in-Settle.slot = sym c.replace.ensures.value ∙ c.in-Settle.is in
@@ -94,6 +96,7 @@ loop-slot-preserved g c =
     record {
       due = asks.due;
       keeps_to = asks.keeps_to;
+      gives = c.ask-hand-in-Settle.ensures.gives;
       ends = asks.ends;
       uses = omega (arith, inv.uses, c.told.ensures.uses, asks.uses, ap length did.after, length-set old c.in-Settle.slot did.seat);
       few = few_on m k c.loop-slot.script c.told.new.self c.ask-hand-in-Settle.new.self old new c.in-Settle.slot found.0 did.seat inv.few found.1 did.after

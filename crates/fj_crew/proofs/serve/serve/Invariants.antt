@@ -1,5 +1,6 @@
 use Rattle.std.proofs.Common.{◌≡◌, ◌≤◌, true, false, length}
 use Rattle.fj_world.specs.Conduct.{IsDueAsk, KeepsTo}
+use Rattle.fj_world.specs.Giving.{GivesOf}
 use Rattle.fj_world.specs.declared.ask.Ask.TheVariants.{Finished}
 use Rattle.fj_world.specs.Leading.{LeadsTo}
 use Rattle.fj_world.specs.Plain.{asked_next}
@@ -11,6 +12,7 @@ abbrev pub invariant-loop-slot : goal.invariant-loop-slot
 invariant-loop-slot g l = record {
   due : IsDueAsk (g.S.Script.conduct.due l.script) l.hand;
   keeps_to : KeepsTo g.S.Script.conduct l.script l.hand;
+  gives : GivesOf g.S.Script.gives l.script l.hand;
   ends : g.S.Script.conduct.over l.script ≡ true → l.hand ≡ Finished;
   uses : g.S.Script.conduct.uses l.script ≤ length l.seats.items;
   few : FewJobs g.S.Script.conduct l.script l.seats.items;

@@ -20,10 +20,11 @@ use Rattle.fj_world.proofs.alone.run_alone.Goals as goal
 pub loop-slot-init : goal.loop-slot-init
 loop-slot-init g c =
     let m = g.S.Gear.Engine.meaning in let k = g.S.Script.conduct in
-    let asks = c.ask-hand.ensures in
+    let asks = c.ask-hand.ensures.asks in
     let first = begins_orderly m k c.args.script.now c.ask-hand.new.self c.ask-hand.result c.args.slots.now [] 0 c.requires.uses c.requires.few asks refl in
     record {
       orderly = record { due = first.due; keeps_to = first.keeps_to; ends = first.ends; uses = first.uses; few = first.few; held = first.held; apart = first.apart };
+      gives = c.ask-hand.ensures.gives;
       keeps = all_go_itself c.args.slots.now;
       stopped = λ on e. absurd (let o = (asks.stops e).0 in cc);
       counted = λ all. all;
@@ -42,7 +43,7 @@ pub loop-slot-preserved-in-Submit : goal.loop-slot-preserved-in-Submit
 loop-slot-preserved-in-Submit g c =
     let m = g.S.Gear.Engine.meaning in let k = g.S.Script.conduct in
     let inv = c.loop-slot.invariant in
-    let asks = c.ask-hand-in-Submit.ensures in
+    let asks = c.ask-hand-in-Submit.ensures.asks in
     let hand : c.loop-slot.hand ≡ Submit c.in-Submit.slot c.in-Submit.job = sym c.replace.ensures.value ∙ c.in-Submit.is in
     let keeps = subst (KeepsTo k c.loop-slot.script) hand inv.orderly.keeps_to in
     let due = subst (IsDueAsk (k.due c.loop-slot.script)) hand inv.orderly.due in
@@ -56,6 +57,7 @@ loop-slot-preserved-in-Submit g c =
     (c.submit-number.ensures.after found.0 found.1) c.submit-number.ensures.err c.submit-number.ensures.spare in
     record {
       orderly = record { due = orderly.due; keeps_to = orderly.keeps_to; ends = orderly.ends; uses = orderly.uses; few = orderly.few; held = orderly.held; apart = orderly.apart };
+      gives = c.ask-hand-in-Submit.ensures.gives;
       keeps = all_go_on_and_on c.args.slots.now c.loop-slot.slots c.submit-number.new.self inv.keeps moves.0;
       stopped = λ on e. submit_stopped m k c.loop-slot.slots c.submit-number.new.self c.in-Submit.slot c.in-Submit.job found.0 c.submit-number.result found.1
           (c.submit-number.ensures.after found.0 found.1) c.submit-number.ensures.err (inv.stopped on (c.took.ensures.stops (asks.stops e).0));
@@ -82,7 +84,7 @@ pub loop-slot-preserved : goal.loop-slot-preserved
 loop-slot-preserved g c =
     let m = g.S.Gear.Engine.meaning in let k = g.S.Script.conduct in
     let inv = c.loop-slot.invariant in
-    let asks = c.ask-hand-in-Settle.ensures in
+    let asks = c.ask-hand-in-Settle.ensures.asks in
     let hand : c.loop-slot.hand ≡ Settle c.in-Settle.slot = sym c.replace.ensures.value ∙ c.in-Settle.is in
     let keeps = subst (KeepsTo k c.loop-slot.script) hand inv.orderly.keeps_to in
     let due = subst (IsDueAsk (k.due c.loop-slot.script)) hand inv.orderly.due in
@@ -96,6 +98,7 @@ loop-slot-preserved g c =
           c.told.ensures.left c.told.ensures.uses asks;
       stopped = λ on e. told_stopped m k c.loop-slot.slots c.settle-told.new.slots c.in-Settle.slot settled.ledger c.settle-told.result
           (omega (arith, keeps.0, inv.orderly.uses)) settled.after settled.tells (c.told.ensures.stops (asks.stops e).0).0;
+      gives = c.ask-hand-in-Settle.ensures.gives;
       keeps = all_go_on_and_on c.args.slots.now c.loop-slot.slots c.settle-told.new.slots inv.keeps
           (all_go_set c.loop-slot.slots c.settle-told.new.slots c.in-Settle.slot found.0 (with_tell settled.ledger) found.1 settled.after c.settle-told.ensures.spare
           (goes_same found.0 (with_tell settled.ledger) settled.serves.start settled.serves.jobs settled.serves.done (omega (arith, settled.serves.told))));

@@ -1,4 +1,5 @@
 use Rattle.std.proofs.Common.{◌≡◌, ℕ, [], true, false, List, Some}
+use Rattle.fj_world.specs.Giving.{GivesOf}
 use Rattle.fj_world.specs.Scene.{IsOrderly}
 use Rattle.fj_world.specs.Plain.{PlainSlot, asked_next, after}
 use Rattle.fj_world.specs.Fits.{Fits, SlotsFit}
@@ -11,6 +12,7 @@ use Rattle.fj_world.proofs.alone.run_alone.Given as goal
 abbrev pub invariant-loop-slot : goal.invariant-loop-slot
 invariant-loop-slot g l = record {
   orderly : IsOrderly g.S.Gear.Engine.meaning g.S.Script.conduct (record { start = l.script; script = l.script; hand = l.hand; rack = l.slots; workers = [] });
+  gives : GivesOf g.S.Script.gives l.script l.hand;
   owed : OwesAsSaid g.S.Script.conduct l.script l.slots;
   stopped : g.S.Script.conduct.stopped l.fn.script ≡ false → g.S.Script.conduct.stopped l.script ≡ true → SomeStopped l.slots;
   keeps : AllGoOn l.fn.slots l.slots;

@@ -28,9 +28,9 @@ invariant_of-self-2 g c =
     let s = c.self.inside in
     let found = slice_get_in s.slots.slots c.args.slot (grind (arith, common_steps)) in
     let can = sym (c.begin.ensures.variant found.0 found.1) ∙ ap is_some c.in-Some.is in
-    begin_orderly g.S.Gear.Engine.meaning g.S.Script.conduct (record { start = s.start.value; script = s.script; hand = s.hand; rack = s.slots; workers = s.workers.items })
-    c.args.worker (record { slot = c.args.slot; out = c.in-Some.out }) found.0 c.begin.new.self c.self.invariant (grind (arith, common_steps)) found.1 can
-    (c.in-Some.ensures.number found.0 found.1) (c.in-Some.ensures.some found.0 found.1)
+    (begin_orderly g.S.Gear.Engine.meaning g.S.Script.conduct (record { start = s.start.value; script = s.script; hand = s.hand; rack = s.slots; workers = s.workers.items })
+    c.args.worker (record { slot = c.args.slot; out = c.in-Some.out }) found.0 c.begin.new.self c.self.invariant.0 (grind (arith, common_steps)) found.1 can
+    (c.in-Some.ensures.number found.0 found.1) (c.in-Some.ensures.some found.0 found.1), c.self.invariant.1)
 
 pub returns-clause-variant : goal.returns-clause-variant
 returns-clause-variant g c =
@@ -91,7 +91,7 @@ returns-clause-keeps g c = λ yes'.
     let can = sym (c.begin.ensures.variant found.0 found.1) ∙ ap is_some c.in-Some.is in
     let busy : Busy g.row.S-Gear.Denot g.row.S-Gear-Job.Denot g.row.S-Gear-Answer.Denot g.row.S-Gear-State.Denot g.row.S-Gear-Task.Denot g.row.S-Gear-Reply.Denot = record { slot = c.args.slot; out = c.in-Some.out } in
     subst (λ w. Keeps m k w (record { start = s.start.value; script = s.script; hand = s.hand; rack = c.begin.new.self; workers = set s.workers.items c.args.worker (Some busy) })) c.self.view_is
-    (begin_keeps_all m k (record { start = s.start.value; script = s.script; hand = s.hand; rack = s.slots; workers = s.workers.items }) (record { start = s.start.value; script = s.script; hand = s.hand; rack = c.begin.new.self; workers = set s.workers.items c.args.worker (Some busy) }) c.args.worker c.args.slot c.self.invariant (record {
+    (begin_keeps_all m k (record { start = s.start.value; script = s.script; hand = s.hand; rack = s.slots; workers = s.workers.items }) (record { start = s.start.value; script = s.script; hand = s.hand; rack = c.begin.new.self; workers = set s.workers.items c.args.worker (Some busy) }) c.args.worker c.args.slot c.self.invariant.0 (record {
       ledger = found.0;
       found = found.1;
       may = can;

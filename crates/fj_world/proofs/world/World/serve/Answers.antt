@@ -18,19 +18,19 @@ use Rattle.fj_world.proofs.world.World.serve.Goals as goal
 pub invariant_of-self : goal.invariant_of-self
 invariant_of-self g c =
     let s = c.self.inside in
-    let inv = c.self.invariant in
+    let inv = c.self.invariant.0 in
     let hand = sym c.replace.ensures.value ∙ c.in-Submit.is in
     let keeps = subst (KeepsTo g.S.Script.conduct s.script) hand inv.keeps_to in
     let found = slice_get_in s.slots.slots c.in-Submit.slot (omega (arith, keeps.0, inv.uses)) in
-    serve_orderly g.S.Gear.Engine.meaning g.S.Script.conduct (record { start = s.start.value; script = s.script; hand = s.hand; rack = s.slots; workers = s.workers.items })
+    (serve_orderly g.S.Gear.Engine.meaning g.S.Script.conduct (record { start = s.start.value; script = s.script; hand = s.hand; rack = s.slots; workers = s.workers.items })
     c.took.new.self c.ask.new.self c.ask.result c.submit-number.new.self inv
     (submit_alike s.slots c.submit-number.new.self c.in-Submit.slot found.0 c.in-Submit.job c.submit-number.result found.1 (c.submit-number.ensures.after found.0 found.1) c.submit-number.ensures.err)
-    c.took.ensures.left c.took.ensures.uses c.ask.ensures
+    c.took.ensures.left c.took.ensures.uses c.ask.ensures.asks, c.ask.ensures.gives)
 
 pub returns-then-not-ready-clause-variant : goal.returns-then-not-ready-clause-variant
 returns-then-not-ready-clause-variant g c =
     let s = c.self.inside in
-    let inv = c.self.invariant in
+    let inv = c.self.invariant.0 in
     let hand = sym c.replace.ensures.value ∙ c.in-Settle.is in
     let keeps = subst (KeepsTo g.S.Script.conduct s.script) hand inv.keeps_to in
     let found = slice_get_in s.slots.slots c.in-Settle.slot (omega (arith, keeps.0, inv.uses)) in
@@ -41,19 +41,19 @@ returns-then-not-ready-clause-variant g c =
 pub invariant_of-self-in-Settle : goal.invariant_of-self-in-Settle
 invariant_of-self-in-Settle g c =
     let s = c.self.inside in
-    let inv = c.self.invariant in
+    let inv = c.self.invariant.0 in
     let hand = sym c.replace.ensures.value ∙ c.in-Settle.is in
     let keeps = subst (KeepsTo g.S.Script.conduct s.script) hand inv.keeps_to in
     let found = slice_get_in s.slots.slots c.in-Settle.slot (omega (arith, keeps.0, inv.uses)) in
-    serve_orderly g.S.Gear.Engine.meaning g.S.Script.conduct (record { start = s.start.value; script = s.script; hand = s.hand; rack = s.slots; workers = s.workers.items })
+    (serve_orderly g.S.Gear.Engine.meaning g.S.Script.conduct (record { start = s.start.value; script = s.script; hand = s.hand; rack = s.slots; workers = s.workers.items })
     c.told.new.self c.ask-in-Settle.new.self c.ask-in-Settle.result c.tell-told.new.self inv
     (tell_alike s.slots c.tell-told.new.self c.in-Settle.slot found.0 found.1 (c.tell-told.ensures.after found.0 found.1))
-    c.told.ensures.left c.told.ensures.uses c.ask-in-Settle.ensures
+    c.told.ensures.left c.told.ensures.uses c.ask-in-Settle.ensures.asks, c.ask-in-Settle.ensures.gives)
 
 pub returns-else-not-ready-clause-variant : goal.returns-else-not-ready-clause-variant
 returns-else-not-ready-clause-variant g c =
     let s = c.self.inside in
-    let inv = c.self.invariant in
+    let inv = c.self.invariant.0 in
     let hand = sym c.replace.ensures.value ∙ c.in-Settle.is in
     let keeps = subst (KeepsTo g.S.Script.conduct s.script) hand inv.keeps_to in
     let found = slice_get_in s.slots.slots c.in-Settle.slot (omega (arith, keeps.0, inv.uses)) in
@@ -64,7 +64,7 @@ returns-else-not-ready-clause-variant g c =
 pub returns-in-Submit-clause-fits : goal.returns-in-Submit-clause-fits
 returns-in-Submit-clause-fits g c = λ _ p before.
     let s = c.self.inside in
-    let inv = c.self.invariant in
+    let inv = c.self.invariant.0 in
     let hand : s.hand ≡ Submit c.in-Submit.slot c.in-Submit.job = sym c.replace.ensures.value ∙ c.in-Submit.is in
     let keeps = subst (KeepsTo g.S.Script.conduct s.script) hand inv.keeps_to in
     let found = slice_get_in s.slots.slots c.in-Submit.slot (omega (arith, keeps.0, inv.uses)) in
@@ -73,12 +73,12 @@ returns-in-Submit-clause-fits g c = λ _ p before.
     c.took.new.self c.ask.new.self c.ask.result c.submit-number.new.self c.in-Submit.slot c.in-Submit.job c.submit-number.result found.0
     (subst (λ w. Fits g.S.Gear.Engine.meaning g.S.Script.conduct p w) (sym c.self.view_is) before) going hand found.1
     (c.submit-number.ensures.ok found.0 found.1) (c.submit-number.ensures.after found.0 found.1) c.submit-number.ensures.err
-    c.took.ensures c.ask.ensures
+    c.took.ensures c.ask.ensures.asks
 
 pub returns-else-not-ready-clause-fits : goal.returns-else-not-ready-clause-fits
 returns-else-not-ready-clause-fits g c = λ _ p before.
     let s = c.self.inside in
-    let inv = c.self.invariant in
+    let inv = c.self.invariant.0 in
     let hand : s.hand ≡ Settle c.in-Settle.slot = sym c.replace.ensures.value ∙ c.in-Settle.is in
     let keeps = subst (KeepsTo g.S.Script.conduct s.script) hand inv.keeps_to in
     let found = slice_get_in s.slots.slots c.in-Settle.slot (omega (arith, keeps.0, inv.uses)) in
@@ -88,13 +88,13 @@ returns-else-not-ready-clause-fits g c = λ _ p before.
     c.told.new.self c.ask-in-Settle.new.self c.ask-in-Settle.result c.tell-told.new.self c.in-Settle.slot found.0 c.tell-told.result
     (subst (λ w. Fits g.S.Gear.Engine.meaning g.S.Script.conduct p w) (sym c.self.view_is) before) going hand found.1 can
     (c.tell-told.ensures.told found.0 found.1) (c.tell-told.ensures.after found.0 found.1)
-    c.told.ensures c.ask-in-Settle.ensures
+    c.told.ensures c.ask-in-Settle.ensures.asks
 
 pub returns-in-Submit-clause-moves : goal.returns-in-Submit-clause-moves
 returns-in-Submit-clause-moves g c = λ yes'.
     let m = g.S.Gear.Engine.meaning in let k = g.S.Script.conduct in
     let s = c.self.inside in
-    let inv = c.self.invariant in
+    let inv = c.self.invariant.0 in
     let hand : s.hand ≡ Submit c.in-Submit.slot c.in-Submit.job = sym c.replace.ensures.value ∙ c.in-Submit.is in
     let keeps = subst (KeepsTo k s.script) hand inv.keeps_to in
     let found = slice_get_in s.slots.slots c.in-Submit.slot (omega (arith, keeps.0, inv.uses)) in
@@ -107,7 +107,7 @@ pub returns-else-not-ready-clause-moves : goal.returns-else-not-ready-clause-mov
 returns-else-not-ready-clause-moves g c = λ yes'.
     let m = g.S.Gear.Engine.meaning in let k = g.S.Script.conduct in
     let s = c.self.inside in
-    let inv = c.self.invariant in
+    let inv = c.self.invariant.0 in
     let hand : s.hand ≡ Settle c.in-Settle.slot = sym c.replace.ensures.value ∙ c.in-Settle.is in
     let keeps = subst (KeepsTo k s.script) hand inv.keeps_to in
     let found = slice_get_in s.slots.slots c.in-Settle.slot (omega (arith, keeps.0, inv.uses)) in
@@ -120,7 +120,7 @@ pub returns-in-Submit-clause-happens : goal.returns-in-Submit-clause-happens
 returns-in-Submit-clause-happens g c = λ yes'.
     let m = g.S.Gear.Engine.meaning in let k = g.S.Script.conduct in
     let s = c.self.inside in
-    let inv = c.self.invariant in
+    let inv = c.self.invariant.0 in
     let hand : s.hand ≡ Submit c.in-Submit.slot c.in-Submit.job = sym c.replace.ensures.value ∙ c.in-Submit.is in
     let keeps = subst (KeepsTo k s.script) hand inv.keeps_to in
     let found = slice_get_in s.slots.slots c.in-Submit.slot (omega (arith, keeps.0, inv.uses)) in
@@ -135,7 +135,7 @@ returns-in-Submit-clause-happens g c = λ yes'.
       same = c.submit-number.ensures.err;
       script = c.took.new.self;
       takes = c.took.ensures;
-      asks = c.ask.ensures;
+      asks = c.ask.ensures.asks;
       workers = refl;
     }))
 
@@ -143,7 +143,7 @@ pub returns-in-Submit-clause-keeps : goal.returns-in-Submit-clause-keeps
 returns-in-Submit-clause-keeps g c = λ yes'.
     let m = g.S.Gear.Engine.meaning in let k = g.S.Script.conduct in
     let s = c.self.inside in
-    let inv = c.self.invariant in
+    let inv = c.self.invariant.0 in
     let hand : s.hand ≡ Submit c.in-Submit.slot c.in-Submit.job = sym c.replace.ensures.value ∙ c.in-Submit.is in
     let keeps = subst (KeepsTo k s.script) hand inv.keeps_to in
     let found = slice_get_in s.slots.slots c.in-Submit.slot (omega (arith, keeps.0, inv.uses)) in
@@ -158,7 +158,7 @@ returns-in-Submit-clause-keeps g c = λ yes'.
       same = c.submit-number.ensures.err;
       script = c.took.new.self;
       takes = c.took.ensures;
-      asks = c.ask.ensures;
+      asks = c.ask.ensures.asks;
       workers = refl;
     }) c.submit-number.ensures.spare)
 
@@ -166,7 +166,7 @@ pub returns-in-Submit-clause-going : goal.returns-in-Submit-clause-going
 returns-in-Submit-clause-going g c = λ yes'.
     let m = g.S.Gear.Engine.meaning in let k = g.S.Script.conduct in
     let s = c.self.inside in
-    let inv = c.self.invariant in
+    let inv = c.self.invariant.0 in
     let hand : s.hand ≡ Submit c.in-Submit.slot c.in-Submit.job = sym c.replace.ensures.value ∙ c.in-Submit.is in
     let keeps = subst (KeepsTo k s.script) hand inv.keeps_to in
     let found = slice_get_in s.slots.slots c.in-Submit.slot (omega (arith, keeps.0, inv.uses)) in
@@ -177,7 +177,7 @@ pub returns-else-not-ready-clause-happens : goal.returns-else-not-ready-clause-h
 returns-else-not-ready-clause-happens g c = λ yes'.
     let m = g.S.Gear.Engine.meaning in let k = g.S.Script.conduct in
     let s = c.self.inside in
-    let inv = c.self.invariant in
+    let inv = c.self.invariant.0 in
     let hand : s.hand ≡ Settle c.in-Settle.slot = sym c.replace.ensures.value ∙ c.in-Settle.is in
     let keeps = subst (KeepsTo k s.script) hand inv.keeps_to in
     let found = slice_get_in s.slots.slots c.in-Settle.slot (omega (arith, keeps.0, inv.uses)) in
@@ -192,7 +192,7 @@ returns-else-not-ready-clause-happens g c = λ yes'.
       after = c.tell-told.ensures.after found.0 found.1;
       script = c.told.new.self;
       hears = c.told.ensures;
-      asks = c.ask-in-Settle.ensures;
+      asks = c.ask-in-Settle.ensures.asks;
       workers = refl;
     }))
 
@@ -200,7 +200,7 @@ pub returns-else-not-ready-clause-keeps : goal.returns-else-not-ready-clause-kee
 returns-else-not-ready-clause-keeps g c = λ yes'.
     let m = g.S.Gear.Engine.meaning in let k = g.S.Script.conduct in
     let s = c.self.inside in
-    let inv = c.self.invariant in
+    let inv = c.self.invariant.0 in
     let hand : s.hand ≡ Settle c.in-Settle.slot = sym c.replace.ensures.value ∙ c.in-Settle.is in
     let keeps = subst (KeepsTo k s.script) hand inv.keeps_to in
     let found = slice_get_in s.slots.slots c.in-Settle.slot (omega (arith, keeps.0, inv.uses)) in
@@ -215,7 +215,7 @@ returns-else-not-ready-clause-keeps g c = λ yes'.
       after = c.tell-told.ensures.after found.0 found.1;
       script = c.told.new.self;
       hears = c.told.ensures;
-      asks = c.ask-in-Settle.ensures;
+      asks = c.ask-in-Settle.ensures.asks;
       workers = refl;
     }) c.tell-told.ensures.spare)
 
@@ -223,7 +223,7 @@ pub returns-else-not-ready-clause-going : goal.returns-else-not-ready-clause-goi
 returns-else-not-ready-clause-going g c = λ yes'.
     let m = g.S.Gear.Engine.meaning in let k = g.S.Script.conduct in
     let s = c.self.inside in
-    let inv = c.self.invariant in
+    let inv = c.self.invariant.0 in
     let hand : s.hand ≡ Settle c.in-Settle.slot = sym c.replace.ensures.value ∙ c.in-Settle.is in
     let keeps = subst (KeepsTo k s.script) hand inv.keeps_to in
     let found = slice_get_in s.slots.slots c.in-Settle.slot (omega (arith, keeps.0, inv.uses)) in
