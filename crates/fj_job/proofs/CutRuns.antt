@@ -29,7 +29,7 @@ use Rattle.fj_turns.specs.Cutting.{IsCutRun, IsCut as IsCutAt}
 use Rattle.fj_turns.specs.Serving.{over_bays, Shows, run_conduct, desks_of, first_run, fresh_slots, begins}
 use Rattle.fj_turns.proofs.Before.{each_asks}
 use Rattle.fj_turns.proofs.Cutting.{cut_at_stop, world_is_cut}
-use Rattle.fj_cut.specs.Others.{names_of, names_in, file_opened}
+use Rattle.fj_cut.specs.Others.{Names, names_of, names_in, file_opened}
 use Rattle.fj_cut.specs.Stopping.{WereGiven}
 use Rattle.fj_cut.specs.Turning.{IsUnbegun, TurnLeavesOthers, SubmitLeavesOthers}
 use Rattle.fj_cut.proofs.Awaited.{stops_are_awaited}
@@ -60,8 +60,7 @@ use Rattle.fj_job.proofs.Executed.{parts, nothing_written, all_taken, rest_is}
 use Rattle.fj_job.proofs.Leading.{led_to, leaves_same, leaves_on, rose_earlier}
 use Rattle.fj_job.proofs.Holding.{HoldsAt, stop_cause, stop_holds, turn_holds, still_holds, submit_holds}
 use Rattle.fj_job.proofs.CutTexts.{cut_place}
-use Rattle.fj_job.proofs.Leaving.{slots_hold, within, one_place}
-use Rattle.fj_job.proofs.Opens.{submit_opens}
+use Rattle.fj_job.proofs.Leaving.{slots_hold, within}
 use Rattle.fj_job.proofs.Whole.{stopped_files}
 use Rattle.fj_job.proofs.Learning.{LearnsAt, none_left, at_before, learns_before, learns_at, asked_slot, settle_waits, asked_given}
 use Rattle.fj_job.proofs.Giving.{given_at}
@@ -99,14 +98,10 @@ kept_out : {F : Type 0} (kept : Option (Linked F)) (names : List (List ℕ)) (us
 kept_out None names us rest h = h
 kept_out (Some c) names us rest h = h.0
 
-kept_opens : {F : Type 0} (kept : Option (Linked F)) (names : List (List ℕ)) (us : List Connected) (st : Stated) (more : List Stated) → HaveKept (kept_name kept) names us (st ∷ more)
-    → IfSome kept (λ c. file_opened (names_of us) st.0.what ≡ Some c.name)
-kept_opens None names us st more h = tt
-kept_opens (Some c) names us st more h = h.1
-
-if_some : {X : Type 0} (o : Option X) (P Q : X → Type 0) → ((x : X) → P x → Q x) → IfSome o P → IfSome o Q
-if_some None P Q f h = tt
-if_some (Some x) P Q f h = f x h
+opens_kept : {F : Type 0} (kept : Option (Linked F)) (names : List (List ℕ)) (us vs : List Connected) (there : Names) (st : Stated) (more : List Stated) → HaveKept (kept_name kept) names us (st ∷ more) → us ≡ vs
+    → file_opened (names_of vs) st.0.what ≡ file_opened there st.0.what → IfSome kept (λ c. file_opened there st.0.what ≡ Some c.name)
+opens_kept None names us vs there st more h same opens = tt
+opens_kept (Some c) names us vs there st more h same opens = sym opens ∙ sym (ap (λ (ws : List Connected). file_opened (names_of ws) st.0.what) same) ∙ h.1
 
 -- ---- the ask at hand
 
@@ -194,7 +189,7 @@ module _ {S W D F : Type 0} {ghosts : Ghosts F} (s : Shows S) (tells_out : W →
               (within_deck deck.variables cut.stop.index (stated deck.statements) (fresh deck.variables files) (cut.stop.statement, cut.stop.before) cut.stop.reached)) nothing
               (each_stop_holds meaning s deck.variables (stated deck.statements) files alone.entries it.slot rack it.hand sound_slots stopped))
               (subst (λ (o : Option (Linked F)). AreOut (kept_name o) (machine last).state.core.names (machine last).state.core.units) (sym nothing)
-              (stopped_files told bytes left (machine last) x.script is waits spares have))
+              (stopped_files told bytes left (machine last) x.script is waits spares.names have))
               (stop_cause meaning rack (held (disk last)) (refusals (disk first)) (refusals (disk last)) deck files (machine last) x.script awaited.stop.index awaited.stop.statement it.slot both.0 awaited.stop.rest
               (stops_are_awaited deck.variables (stated deck.statements) files it.slot x.script (desks_of meaning x.slots) awaited.stop) stopped
               (λ free. record {
@@ -300,15 +295,10 @@ module _ {S W D F : Type 0} {ghosts : Ghosts F} (s : Shows S) (tells_out : W →
           -- a connection that was kept is of the file that the statement opens
           opens : IfSome (machine gone).kept (λ c. file_opened (names_in t.state.units) t.statement.0.what ≡ Some c.name)
           opens =
-              let o = submit_opens meaning s deck.variables (stated deck.statements) files w.asks job.0 job.1 job.2 in
-              let here = cut_place deck.variables o.index (stated deck.statements) (start deck.variables files) o.statement o.state o.cut_is in
-              let kept = subst (λ (l : List Stated). HaveKept (kept_name (machine gone).kept) (machine gone).state.core.names (machine gone).state.core.units l) (place ∙ run_rest ∙ o.place ∙ here.1)
+              let here = cut_place deck.variables t.index (stated deck.statements) (start deck.variables files) t.statement t.state t.cut_is in
+              let kept = subst (λ (l : List Stated). HaveKept (kept_name (machine gone).kept) (machine gone).state.core.names (machine gone).state.core.units l) (place ∙ run_rest ∙ t.rest ∙ here.1)
               ((r.keeps before gone w.call.leads).given_up going over stop) in
-              let same : ◌≡◌ {A = Stated × State} (o.statement, o.state) (t.statement, t.state) =
-              one_place deck.variables (stated deck.statements) (start deck.variables files) o.index t.index (o.statement, o.state) (t.statement, t.state) o.cut_is t.cut_is (sym o.place ∙ t.rest) in
-              subst (λ (x : Stated × State). IfSome (machine gone).kept (λ c. file_opened (names_in x.1.units) x.0.0.what ≡ Some c.name)) same
-              (if_some (machine gone).kept _ _ (λ c e. o.opens c.name (sym (ap (λ us. file_opened (names_of us) o.statement.0.what) units) ∙ e))
-              (kept_opens (machine gone).kept (machine gone).state.core.names (machine gone).state.core.units o.statement here.0 kept))
+              opens_kept (machine gone).kept (machine gone).state.core.names (machine gone).state.core.units script_at.script.core.units (names_in t.state.units) t.statement here.0 kept units t.opens
 
       gave_up : (machine gone).tally.stopped ≡ false → IsLoss (machine gone).tally.lost → GaveUpAt
       gave_up stop loss =

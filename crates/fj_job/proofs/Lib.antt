@@ -7,7 +7,6 @@ pub mod Fresh
 pub mod Closed
 pub mod Settling
 pub mod Returning
-pub mod Opens
 pub mod MadeReplies
 pub mod Carried
 pub mod Whole
