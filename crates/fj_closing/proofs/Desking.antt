@@ -1,8 +1,9 @@
 -- What remains of slots that hold desks.
-use Rattle.std.proofs.Common.{◌≡◌, ℕ, zero, suc, Bool, List, [], ◌∷◌, ◌++◌, length, take, Some, None, Option, slice_get, option_map, IfSome, refl, sym, ap, ◌∙◌, subst, arith}
+use Rattle.std.proofs.Common.{◌≡◌, ℕ, zero, suc, Bool, true, false, List, [], ◌∷◌, ◌++◌, length, take, Some, None, Option, is_some, slice_get, option_map, IfSome, refl, sym, ap, ◌∙◌, subst, arith}
 use Rattle.std.proofs.lemmas.List.{take_all, length-map}
 use Rattle.fj_value.specs.declared.condition.Condition.{Condition}
 use Rattle.fj_connect.specs.Connection.{Connection}
+use Rattle.fj_connect.specs.Linked.{Linked, connection_of}
 use Rattle.fj_slot.specs.declared.stop.Halt.{Halt}
 use Rattle.fj_slot.specs.Ledger.{Ledger}
 use Rattle.fj_slot.specs.Sound.{IsSound, served_by}
@@ -14,14 +15,24 @@ use Rattle.fj_bay.specs.declared.bay.Bay.{Bay}
 use Rattle.fj_bay.specs.declared.job.Job.{Job}
 use Rattle.fj_bay.specs.declared.job.Answer.{Answer}
 use Rattle.fj_desk.specs.Both.{Both}
+use Rattle.fj_desk.specs.Core.{Connected}
 use Rattle.fj_desk.specs.Desks.{Desk}
 use Rattle.fj_turns.specs.Executing.{HoldsDesk, HoldsDesks}
+use Rattle.fj_closing.specs.Finding.{OfEach}
 use Rattle.fj_closing.specs.Remains.{IsWhatRemains, AreOfDesks}
 use Rattle.fj_closing.specs.declared.remains.Remains.{Remains}
 
 pub not_halted : (halt : Option Halt) → option_map (λ (h : Halt). h.stop) halt ≡ None → halt ≡ None
 not_halted None e = refl
 not_halted (Some h) e = absurd (cc)
+
+pub placed : {F : Type 0} → (told : F → Bool) (bytes : F → List ℕ) (c : Linked F) (place : Option Connection) → place_of told bytes (Some c) ≡ Some place
+    → (told c.file ≡ true) × (place ≡ Some (connection_of bytes c))
+placed told bytes c place e = by (told c.file) refl
+  where
+    by : (b : Bool) → told c.file ≡ b → (told c.file ≡ true) × (place ≡ Some (connection_of bytes c))
+    by true t = (t, (let is = rw t at e in cc))
+    by false t = absurd (let is = rw t at e in cc)
 
 place_in : (place : Option (Option Connection)) (halt : Option Condition) (bay : PlainBay)
     → option_map (λ (p : Option Connection). record { connection = p; halt = halt }) place ≡ Some bay → place ≡ Some bay.connection
@@ -56,11 +67,39 @@ module _ {F : Type 0} (told : F → Bool) (bytes : F → List ℕ) (count : F �
   of_both (x ∷ xs) (y ∷ ys) b zero it e = let is : y ≡ it = cc in (x, refl, subst (λ z. IsWhatRemains (bay_meaning told bytes count) x z) is b.0)
   of_both (x ∷ xs) (y ∷ ys) b (suc at) it e = of_both xs ys b.1 at it e
 
+  pub with_both : (slots : List (Ledger (Bay F) (Job F) Answer)) (all : List (Remains F)) → Both (IsWhatRemains (bay_meaning told bytes count)) slots all
+      → (at : ℕ) (l : Ledger (Bay F) (Job F) Answer) → slice_get slots at ≡ Some l → (it : Remains F) × (slice_get all at ≡ Some it) × IsWhatRemains (bay_meaning told bytes count) l it
+  with_both [] all b at l e = cc
+  with_both (x ∷ xs) [] b at l e = absurd b
+  with_both (x ∷ xs) (y ∷ ys) b zero l e = let is : x ≡ l = cc in (y, refl, subst (λ z. IsWhatRemains (bay_meaning told bytes count) z y) is b.0)
+  with_both (x ∷ xs) (y ∷ ys) b (suc at) l e = with_both xs ys b.1 at l e
+
   pub all_of_desks : (rack : Rack (Bay F) (Job F) Answer) (all : List (Remains F)) (desks : List Desk) → Both (IsWhatRemains (bay_meaning told bytes count)) rack.slots all
       → HoldsDesks (bay_meaning told bytes count) rack desks → AreOfDesks told bytes all desks
-  all_of_desks rack all desks both holds at it d at_it at_d running =
-      let was = of_both rack.slots all both at it at_it in
-      of_desk was.0 it d was.2 (holds at was.0 d was.1 at_d) running
+  all_of_desks rack all desks both holds at c d at_it at_d =
+      let was = of_both rack.slots all both at _ at_it in
+      placed told bytes c d.bay.connection (of_desk was.0 _ d was.2 (holds at was.0 d was.1 at_d) refl)
+
+  -- of each unit, by what remains of its slot
+  pub slots_each : (slots : List (Ledger (Bay F) (Job F) Answer)) (all : List (Remains F)) → Both (IsWhatRemains (bay_meaning told bytes count)) slots all
+      → (P : Connected → Remains F → Type 0) (Q : Connected → Ledger (Bay F) (Job F) Answer → Type 0)
+      → ((u : Connected) (l : Ledger (Bay F) (Job F) Answer) (it : Remains F) → IsWhatRemains (bay_meaning told bytes count) l it → P u it → Q u l)
+      → (units : List Connected) → OfEach units all P → OfEach units slots Q
+  slots_each slots all both P Q f [] h = tt
+  slots_each slots all both P Q f (u ∷ us) h = (
+    let it = h.0 in
+        let was = of_both slots all both u.slot it.0 it.1 in
+        (was.0, was.1, f u was.0 it.0 was.2 it.2),
+    slots_each slots all both P Q f us h.1,
+  )
+
+  -- a slot did not stop of which what remains did not
+  pub slot_runs : (l : Ledger (Bay F) (Job F) Answer) (it : Remains F) → IsWhatRemains (bay_meaning told bytes count) l it → it.stop ≡ None → l.halt ≡ None
+  slot_runs l it is running = by l.halt (λ halted. ap (λ (k : Ledger (Bay F) (Job F) Answer). k.halt) (sym (is.stopped halted)) ∙ not_halted is.ledger.halt (sym is.stop ∙ running))
+    where
+      by : (o : Option Halt) → (is_some o ≡ true → o ≡ None) → o ≡ None
+      by None f = refl
+      by (Some h) f = f refl
 
 -- one more on both sides
 pub both_more : {X Y : Type 0} → (R : X → Y → Type 0) (xs : List X) (ys : List Y) (x : X) (y : Y) → Both R xs ys → R x y → Both R (xs ++ x ∷ []) (ys ++ y ∷ [])

@@ -20,7 +20,7 @@ use Rattle.fj_world.specs.Losing.{SlotsHold, before_ask}
 use Rattle.fj_world.specs.Plain.{Plain, PlainSlot, asked_next, after}
 use Rattle.fj_world.specs.Rack.{Rack}
 use Rattle.fj_bay.specs.Bay.{Bay}
-use Rattle.fj_bay.specs.Jobs.{Job, Answer}
+use Rattle.fj_bay.specs.Jobs.{Job, Answer, attach, detach, move, go, change, flush, look, resume}
 use Rattle.fj_bay.specs.Spoilt.{IsSpoilt, behind}
 use Rattle.fj_bay.specs.Plain.{state_of}
 use Rattle.fj_bay.specs.Meaning.{bay_meaning, file_faults}
@@ -45,11 +45,11 @@ use Rattle.fj_cut.specs.Others.{core_now}
 use Rattle.fj_cut.specs.Turning.{IsUnbegun, doing_at, doing_due, turn_doing}
 use Rattle.fj_units.specs.Having.{Differ}
 use Rattle.fj_units.specs.Units.{has_slot, same_slot}
-use Rattle.fj_closing.specs.Ended.{HasStoppedAt, LeavesNames, TurnHolds, StopsFull, EndsWithUnits, EachStopHolds, EachStopSpares, EachTurnHolds, EachSubmitHolds}
+use Rattle.fj_closing.specs.Ended.{HasStoppedAt, LeavesNames, BringsNone, StopSpares, TurnHolds, StopsFull, EndsWithUnits, EachStopHolds, EachStopSpares, EachTurnHolds, EachSubmitHolds}
 use Rattle.fj_closing.specs.Holding.{name_behind, name_at, HoldsName, HoldUnits}
 use Rattle.fj_closing.proofs.Seating.{Table, name_in, connects, named_by, named_still, serves_name, Seated, name_is}
 use Rattle.fj_closing.proofs.Standing.{left_in, slot_names, IsWaited, EachMoved, AllTold, ToldOr, IsOut, DoesSo, Goes, HasEnded, Submits, SettlesAt, AskGoes, passes_goes, Before, stands_so, before_so}
-use Rattle.fj_closing.proofs.Walk.{Brings, Sits, now_seated, told_sits}
+use Rattle.fj_closing.proofs.Walk.{EmptyOrStays, Sits, now_seated, told_sits}
 
 -- ---- jobs by which no connection comes or goes leave its name
 
@@ -181,11 +181,19 @@ module _ {E J A : Type 0} (m : Meaning E J A Bay Job Answer) (rack : Rack E J A)
                 subst IsSome (before_stop l f)
                 (names_some (behind w.own.start (take l.done w.own.jobs)).connection (subst (λ (b : Bay). IsSome b.connection) (behind_is (over_bays m) refl w.own.start (take l.done w.own.jobs)) some))
 
-    out_spares : StopsFull m → LeavesNames (Awaiting slot number onward) r.core.units
-    out_spares full = elim w.brings [
-      | inl come ↦ absurd (let z : false ≡ true = subst IsSome come.1 (stopped_full full) in cc)
-      | inr some ↦ some
-    ]
+    -- no connection is about to come
+    spared : StopsFull m → ((brought : Option Connection) → w.job ≡ attach brought → ⊥) × LeavesNames (Awaiting slot number onward) r.core.units
+    spared full = by w.job w.stays
+      where
+        by : (job : Job) → EmptyOrStays job (w.old slot) r.core onward → ((brought : Option Connection) → job ≡ attach brought → ⊥) × LeavesNames (Awaiting slot number onward) r.core.units
+        by (attach brought) empty = absurd (let z : false ≡ true = subst IsSome empty (stopped_full full) in cc)
+        by (detach place) some = ((λ brought q. cc), some)
+        by (move t) some = ((λ brought q. cc), some)
+        by (go how) some = ((λ brought q. cc), some)
+        by (change edit) some = ((λ brought q. cc), some)
+        by flush some = ((λ brought q. cc), some)
+        by (look place) some = ((λ brought q. cc), some)
+        by resume some = ((λ brought q. cc), some)
 
   stage_held : (r : Run) (slot : ℕ) → Goes m r qs → SettlesAt m slot r.stage → HasStoppedAt slot rack → HoldUnits m rack r.core.units
   stage_held r slot h at stop = by r.stage h.does h.out at
@@ -196,14 +204,25 @@ module _ {E J A : Type 0} (m : Meaning E J A Bay Job Answer) (rack : Rack E J A)
       by (Acting d) does out at = absurd at
       by (Awaiting own number onward) does out at = out_held r own number onward does out (subst (λ k. HasStoppedAt k rack) (sym at) stop)
 
-  stage_spares : StopsFull m → (r : Run) (slot : ℕ) → Goes m r qs → SettlesAt m slot r.stage → HasStoppedAt slot rack → LeavesNames r.stage r.core.units
-  stage_spares full r slot h at stop = by r.stage h.does h.out at
+  stage_spares : StopsFull m → (r : Run) (slot : ℕ) → Goes m r qs → SettlesAt m slot r.stage → HasStoppedAt slot rack → StopSpares slot qs r
+  stage_spares full r slot h at stop = record { names = names r.stage h.does h.out at; none_comes = none r.stage h.does h.out at }
     where
-      by : (stage : Stage) → DoesSo m r.core qs stage → ToldOr stage qs → SettlesAt m slot stage → LeavesNames stage r.core.units
-      by Start does out at = tt
-      by Waiting does out at = tt
-      by (Acting d) does out at = tt
-      by (Awaiting own number onward) does out at = out_spares r own number onward does out (subst (λ k. HasStoppedAt k rack) (sym at) stop) full
+      names : (stage : Stage) → DoesSo m r.core qs stage → ToldOr stage qs → SettlesAt m slot stage → LeavesNames stage r.core.units
+      names Start does out at = tt
+      names Waiting does out at = tt
+      names (Acting d) does out at = tt
+      names (Awaiting own number onward) does out at = (spared r own number onward does out (subst (λ k. HasStoppedAt k rack) (sym at) stop) full).1
+
+      none : (stage : Stage) → DoesSo m r.core qs stage → ToldOr stage qs → SettlesAt m slot stage → BringsNone slot qs
+      none Start does out at q k brought e low f = absurd at
+      none Waiting does out at q k brought e low f = elim (out slot q k (attach brought) e f refl) [ inl told ↦ omega (arith, told, low) | inr never ↦ never ]
+      none (Acting d) does out at q k brought e low f = absurd at
+      none (Awaiting own number onward) does out at q k brought e low f = elim (out slot q k (attach brought) e f refl) [
+        | inl told ↦ omega (arith, told, low)
+        | inr waited ↦
+            (spared r own number onward does out (subst (λ k. HasStoppedAt k rack) (sym at) stop) full).0 brought
+            (same_some (sym does.job_is ∙ ap (slice_get does.own.jobs) (sym waited.1) ∙ ap (λ (p : PlainSlot Bay Job). slice_get p.jobs k) (same_some (sym does.here ∙ ap (slice_get qs) at ∙ e)) ∙ f))
+      ]
 
   -- ---- in a turn
 

@@ -33,13 +33,11 @@ use Rattle.fj_plain.specs.State.{Files}
 use Rattle.fj_units.specs.Names.{stands}
 use Rattle.fj_units.specs.Files.{files_of}
 use Rattle.fj_units.specs.Returning.{returned, IsAsDue}
-use Rattle.fj_closing.specs.Closing.{Lessens, AreOthersSame}
-use Rattle.fj_closing.specs.Finding.{IsEndedUpTo, IsFound, IsFoundOf, IsLeftBehind, OfEach, AreSpared}
+use Rattle.fj_closing.specs.Finding.{IsEndedUpTo, IsFound, IsFoundOf, IsLeftBehind, OfEach}
 use Rattle.fj_closing.specs.Remains.{IsWhatRemains}
 use Rattle.fj_closing.specs.declared.remains.Remains.{Remains}
-use Rattle.fj_closing.proofs.Due.{same_on}
-use Rattle.fj_closing.proofs.Desking.{at_home, front_get, last_get, of_both}
-use Rattle.fj_closing.proofs.Returning.{fewer, placed}
+use Rattle.fj_closing.proofs.Desking.{at_home, front_get, last_get, slots_each}
+use Rattle.fj_closing.proofs.Stopped.{holds_it, stopped_at}
 
 -- ---- the end of a record
 
@@ -99,45 +97,6 @@ found_of_wider told bytes it name found a b c d l k f = record {
   file = λ t. found_wider (not f.connection.modes.scratch) found (IsEndedUpTo it.stop (connection_of bytes f.connection)) a b c d l k (f.file t);
 }
 
--- of each unit, by another word
-pub each_by : {Y : Type 0} → (all : List Y) (P Q : Connected → Y → Type 0) → ((u : Connected) (y : Y) → P u y → Q u y) → (us : List Connected) → OfEach us all P → OfEach us all Q
-each_by all P Q f [] h = tt
-each_by all P Q f (u ∷ us) h = (let it = h.0 in (it.0, it.1, f u it.0 it.2), each_by all P Q f us h.1)
-
--- ---- one unit closed, and then the others
-
-module _ {Y : Type 0} (all : List Y) (P : ℕ → ℕ → Connected → Option (List ℕ) → Y → Type 0) (wider : (a b c d : ℕ) (u : Connected) (o : Option (List ℕ)) (y : Y) → a ≤ b → c ≤ d → P b c u o y → P a d u o y) where
-  pub each_found : {X : Type 0} → (f : X → Connected) (units : List X) (unit : X) (mid new : Holdings) (mid_names new_names : List (List ℕ)) (a b c : ℕ) → 1 ≤ length units → unit ≡ get_or units 0 unit
-      → a ≤ b → b ≤ c → Lessens mid_names new_names → AreOthersSame mid_names new_names mid new → stands mid_names (f unit).name ≡ false
-      → ((y : Y) × (slice_get all (f unit).slot ≡ Some y) × P a b (f unit) (files_of mid (f unit).name) y)
-      → OfEach (map f (take (length units - 1) (drop 1 units))) all (λ u. P b c u (files_of new u.name)) → OfEach (map f units) all (λ u. P a c u (files_of new u.name))
-  each_found f [] unit mid new mid_names new_names a b c long item ab bc less same off first others = absurd (omega (arith, long))
-  each_found f (u ∷ us) unit mid new mid_names new_names a b c long item ab bc less same off first others =
-      let tail : take (length (u ∷ us) - 1) (drop 1 (u ∷ us)) ≡ us = take_all (length (u ∷ us) - 1) us (omega arith) in
-      let gone : stands mid_names (f u).name ≡ false = subst (λ x. stands mid_names (f x).name ≡ false) item off in
-      let closed = subst (λ x. (y : Y) × (slice_get all (f x).slot ≡ Some y) × P a b (f x) (files_of mid (f x).name) y) item first in
-      let still : files_of new (f u).name ≡ files_of mid (f u).name = (same (f u).name (fewer mid_names new_names (f u).name less gone ∙ sym gone)).0 in (
-        (closed.0, closed.1, wider a a b c (f u) (files_of new (f u).name) closed.0 (omega arith) bc (subst (λ o. P a b (f u) o closed.0) (sym still) closed.2)),
-        each_by all (λ v. P b c v (files_of new v.name)) (λ v. P a c v (files_of new v.name)) (λ v y p. wider a b c c v (files_of new v.name) y ab (omega arith) p) (map f us)
-            (subst (λ zs. OfEach (map f zs) all (λ v. P b c v (files_of new v.name))) tail others),
-      )
-
--- a file that none of them has
-apart : (name other : List ℕ) (more : Bool) → (bytes_eq name other || more) ≡ false → (name ≡ other → ⊥) × (more ≡ false)
-apart name other more e = by (bytes_eq name other) refl e
-  where
-    by : (b : Bool) → bytes_eq name other ≡ b → (b || more) ≡ false → (name ≡ other → ⊥) × (more ≡ false)
-    by true is h = cc
-    by false is h = ((λ same. let z : false ≡ true = sym is ∙ (bytes_eq-Decides name other).1 same in cc), h)
-
-pub each_spared : {X : Type 0} → (f : X → Connected) (units : List X) (unit : X) (old mid new : Holdings) → 1 ≤ length units → unit ≡ get_or units 0 unit
-    → ((name : List ℕ) → (name ≡ (f unit).name → ⊥) → SameAt old mid name) → AreSpared (map f (take (length units - 1) (drop 1 units))) mid new → AreSpared (map f units) old new
-each_spared f [] unit old mid new long item first others = absurd (omega (arith, long))
-each_spared f (u ∷ us) unit old mid new long item first others = λ name none.
-    let tail : take (length (u ∷ us) - 1) (drop 1 (u ∷ us)) ≡ us = take_all (length (u ∷ us) - 1) us (omega arith) in
-    let parts = apart name (f u).name (has_name (map f us) name) none in
-    same_on old mid new name (first name (λ same. parts.0 (same ∙ ap (λ x. (f x).name) item))) (subst (λ zs. AreSpared (map f zs) mid new) tail others name parts.1)
-
 -- ---- what remains of slots that are sound
 
 -- what is found, where the bytes are those
@@ -145,15 +104,6 @@ as_found : (scratch : Bool) (found : Option (List ℕ)) (P Q : List ℕ → Type
     → IfSome found Q × (scratch ≡ false → IsSome found) × (scratch ≡ true → (found ≡ None) ⊎ Rose before now)
 as_found scratch None P Q before now f is = (tt, λ e. is.kept (ap not e), λ e. inl refl)
 as_found scratch (Some b) P Q before now f is = (f b is.bytes, λ e. refl, λ e. is.gone (ap not e))
-
-job_at : {X : Type 0} → (xs : List X) (k : ℕ) → k < length xs → (x : X) × (slice_get xs k ≡ Some x)
-job_at [] k h = absurd (omega (arith, h))
-job_at (x ∷ xs) zero h = (x, refl)
-job_at (x ∷ xs) (suc k) h = job_at xs k (omega (arith, h))
-
-state_in : {X : Type 0} → (o : Option X) → IsSome o → (x : X) × (o ≡ Some x)
-state_in None e = absurd (cc)
-state_in (Some x) e = (x, refl)
 
 -- the job behind all others takes the connection out
 unfolding_ends : (bay : PlainBay) (c : Connection) → bay.connection ≡ Some c → first_change bay bay.connection (detach None) ≡ first_difference c.bytes (ended c).bytes
@@ -164,18 +114,6 @@ unfolding_ends bay c full =
 module _ {F : Type 0} (told : F → Bool) (bytes : F → List ℕ) (count : F → ℕ) where
   abbrev m : Meaning (Bay F) (Job F) Answer PlainBay PlainJob PlainAnswer
   m = bay_meaning told bytes count
-
-  -- a bay that tells has the connection
-  holds_it : (bay : Bay F) (p : PlainBay) (c : Linked F) → bay.connection ≡ Some c → state_of told bytes bay ≡ Some p → (told c.file ≡ true) × (p.connection ≡ Some (connection_of bytes c))
-  holds_it bay p c has is = by (place_of told bytes bay.connection) refl
-    where
-      by : (o : Option (Option Connection)) → place_of told bytes bay.connection ≡ o → (told c.file ≡ true) × (p.connection ≡ Some (connection_of bytes c))
-      by None e = absurd (let z : None ≡ Some p = sym (ap (option_map (λ place. record { connection = place; halt = bay.halt })) e) ∙ is in cc)
-      by (Some place) e =
-          let z : Some (record { connection = place; halt = bay.halt }) ≡ Some p = sym (ap (option_map (λ place. record { connection = place; halt = bay.halt })) e) ∙ is in
-          let same : record { connection = place; halt = bay.halt } ≡ p = cc in
-          let at = placed told bytes c place (ap (place_of told bytes) (sym has) ∙ e) in
-          (at.0, sym (ap (λ (x : PlainBay). x.connection) same) ∙ at.1)
 
   module _ (l : Ledger (Bay F) (Job F) Answer) (s : PlainBay) (ts : List PlainJob) (sound : IsSound m s ts l) (bay : Bay F) (home : l.home ≡ Some bay) (name : List ℕ) (found : Option (List ℕ))
       (before now : ℕ) (c : Linked F) (has : bay.connection ≡ Some c) (named : c.name ≡ name) where
@@ -193,19 +131,14 @@ module _ {F : Type 0} (told : F → Bool) (bytes : F → List ℕ) (count : F �
     -- the slot stopped in a job
     stopped_in : (h : Halt) → l.halt ≡ Some h → (told c.file ≡ true → IsFound (not c.modes.scratch) found (IsEndedUpTo (Some h.stop) (connection_of bytes c)) before now) → LeavesAt l.done
     stopped_in h halt file =
-        let below = sound.counted.below (ap is_some halt) in
-        let at = job_at ts l.done (omega (arith, below, long)) in
-        let tells : IsSome (m.state bay) = subst (λ o. IfSome o (λ e. IsSome (m.state e))) home (subst (λ o. IfSome o (λ h. IfSome l.home (λ e. IsSome (m.state e)))) halt sound.tells) in
-        let p = state_in (m.state bay) tells in
+        let at = stopped_at told bytes count l s ts h bay sound halt home in
         let was = served_by m s (take l.done ts) in
-        let all = subst (λ o. IfSome o (λ h. IfSome l.home (λ e. IfSome (slice_get ts l.done) (λ t. m.spoilt was t h.stop e)))) halt sound.spoilt in
-        let one = subst (λ o. IfSome o (λ t. m.spoilt was t h.stop bay)) at.1 (subst (λ o. IfSome o (λ e. IfSome (slice_get ts l.done) (λ t. m.spoilt was t h.stop e))) home all) in
-        let spoilt : IsSpoilt was at.0 h.stop p.0 (file_faults count bay.connection) = subst (λ o. IfSome o (λ new. IsSpoilt was at.0 h.stop new (file_faults count bay.connection))) p.1 one in
-        let here = holds_it bay p.0 c has p.1 in
+        let spoilt = at.spoilt in
+        let here = holds_it told bytes count bay at.left c has at.tells in
         let same : spoilt.after ≡ connection_of bytes c = (let z : Some spoilt.after ≡ Some (connection_of bytes c) = sym spoilt.keeps ∙ here.1 in cc) in
-        let by = as_found c.modes.scratch found (IsEndedUpTo (Some h.stop) (connection_of bytes c)) (AgreeBelow (first_change was was.connection at.0) spoilt.before.bytes) before now
-        (λ b e. subst (AgreeBelow (first_change was was.connection at.0) spoilt.before.bytes) (ap (λ (x : Connection). x.bytes) same ∙ sym e) spoilt.agrees) (file here.0) in
-        let leaves = subst (λ b. LeavesSo b at.0) (behind_is m refl s (take l.done ts)) (
+        let by = as_found c.modes.scratch found (IsEndedUpTo (Some h.stop) (connection_of bytes c)) (AgreeBelow (first_change was was.connection at.job) spoilt.before.bytes) before now
+        (λ b e. subst (AgreeBelow (first_change was was.connection at.job) spoilt.before.bytes) (ap (λ (x : Connection). x.bytes) same ∙ sym e) spoilt.agrees) (file here.0) in
+        let leaves = subst (λ b. LeavesSo b at.job) (behind_is m refl s (take l.done ts)) (
           record {
             before = spoilt.before;
             full = spoilt.full;
@@ -215,14 +148,14 @@ module _ {F : Type 0} (told : F → Bool) (bytes : F → List ℕ) (count : F �
             kept = λ e. by.1 (ap (λ (x : Connection). x.modes.scratch) (sym same) ∙ ap (λ (x : _). x.scratch) spoilt.modes ∙ e);
           },
           λ e. by.2 (ap (λ (x : Connection). x.modes.scratch) (sym same) ∙ ap (λ (x : _). x.scratch) spoilt.modes ∙ e),
-        ) in (record { number = l.done; job = at.0; at = front_get ts (detach None) at.0 l.done at.1; leaves = leaves.0 }, refl, leaves.1)
+        ) in (record { number = l.done; job = at.job; at = front_get ts (detach None) at.job l.done at.at; leaves = leaves.0 }, refl, leaves.1)
 
     -- its jobs were all done
     ended_behind : l.halt ≡ None → l.done ≡ length l.jobs → (told c.file ≡ true → IsFound (not c.modes.scratch) found (IsEndedUpTo None (connection_of bytes c)) before now) → LeavesAt l.done
     ended_behind running done file =
         let is = at_home told bytes count l s ts bay sound running done home in
         let was = served_by m s ts in
-        let here = holds_it bay was c has is in
+        let here = holds_it told bytes count bay was c has is in
         let all : take (length ts) ts ≡ ts = take_all (length ts) ts (omega arith) in
         let first = unfolding_ends was (connection_of bytes c) here.1 in
         let by = as_found c.modes.scratch found (IsEndedUpTo None (connection_of bytes c)) (AgreeBelow (first_change was was.connection (detach None)) (bytes c.file)) before now
@@ -249,10 +182,7 @@ module _ {F : Type 0} (told : F → Bool) (bytes : F → List ℕ) (count : F �
   pub slots_leave : (slots : List (Ledger (Bay F) (Job F) Answer)) (all : List (Remains F)) → Both (IsWhatRemains m) slots all → (files : Files) (before now : ℕ) (units : List Connected)
       → OfEach units all (λ u it. IsFoundOf told bytes it u.name (files u.name) before now)
       → OfEach units slots (λ u l. (s : PlainBay) (ts : List PlainJob) → IsSound m s ts l → IsLeftBehind l s ts u.name (files u.name) before now)
-  slots_leave slots all both files before now [] h = tt
-  slots_leave slots all both files before now (u ∷ us) h = (
-    let it = h.0 in
-        let was = of_both told bytes count slots all both u.slot it.0 it.1 in
-        (was.0, was.1, slot_leaves was.0 it.0 u.name (files u.name) before now was.2 it.2),
-    slots_leave slots all both files before now us h.1,
-  )
+  slots_leave slots all both files before now =
+      slots_each told bytes count slots all both (λ u it. IsFoundOf told bytes it u.name (files u.name) before now)
+      (λ u l. (s : PlainBay) (ts : List PlainJob) → IsSound m s ts l → IsLeftBehind l s ts u.name (files u.name) before now)
+      (λ u l it is file. slot_leaves l it u.name (files u.name) before now is file)

@@ -1,12 +1,12 @@
 pub mod Performing
 pub mod Desking
+pub mod Stopped
 pub mod Returning
 pub mod Due
-pub mod Running
-pub mod Fitting
-pub mod Others
 pub mod Finding
 pub mod Holding
+pub mod Names
+pub mod Each
 pub mod Seating
 pub mod Walk
 pub mod Standing

@@ -36,7 +36,7 @@ use Rattle.fj_turns.proofs.Before.{after_next}
 use Rattle.fj_turns.proofs.Slots.{and_true, same_some, each_at, each_replicate, get_mapped, map_get, map_set, get_last, length_set, set_found}
 use Rattle.fj_turns.proofs.Ties.{more, given}
 use Rattle.fj_closing.proofs.Seating.{Table, name_in, connects, named_by, serves_name, IsBehind, Seated, seated_same}
-use Rattle.fj_closing.proofs.Walk.{IsOutcome, outcome_is, BringsOrStays, Sits, told_sits}
+use Rattle.fj_closing.proofs.Walk.{IsOutcome, outcome_is, EmptyOrStays, Sits, told_sits}
 
 -- ---- the names that the jobs of slots leave
 
@@ -94,7 +94,7 @@ module _ {E J A : Type 0} (m : Meaning E J A Bay Job Answer) where
     pub before : name_in (behind own.start (take number own.jobs)).connection ≡ old slot
     pub job : Job
     pub job_is : slice_get own.jobs number ≡ Some job
-    pub brings : BringsOrStays old slot job core onward
+    pub stays : EmptyOrStays job (old slot) core onward
     pub leaves : IsBehind old slot job (slot_names qs)
     pub comes : (o : Outcome) → outcome (over_bays m) own.start own.jobs number ≡ Some o → IsOutcome job (old slot) o
     pub later : (new : Table) (o : Outcome) → IsBehind old slot job new → IsOutcome job (old slot) o → Sits new (onward o)
@@ -225,9 +225,9 @@ module _ {E J A : Type 0} (m : Meaning E J A Bay Job Answer) where
     behind_told old own job b = record { here = names_more own ∙ b.here; others = λ at ne. names_more at ∙ b.others at ne }
 
     -- the job that is given is the last of its slot
-    given_last : (core : Core) (job : Job) (number : ℕ) (onward : Outcome → Doing) → number ≡ length q.jobs → Seated (slot_names qs) core.units → BringsOrStays (slot_names qs) slot job core onward
+    given_last : (core : Core) (job : Job) (number : ℕ) (onward : Outcome → Doing) → number ≡ length q.jobs → Seated (slot_names qs) core.units → EmptyOrStays job (slot_names qs slot) core onward
         → ((new : Table) (o : Outcome) → IsBehind (slot_names qs) slot job new → IsOutcome job (slot_names qs slot) o → Sits new (onward o)) → IsOut core (set qs slot (given q job)) slot number onward
-    given_last core job number onward is s brings f = record {
+    given_last core job number onward is s stays f = record {
       old = slot_names qs;
       seated = s;
       own = given q job;
@@ -236,7 +236,7 @@ module _ {E J A : Type 0} (m : Meaning E J A Bay Job Answer) where
       before = ap (λ n. name_in (behind q.start (take n (q.jobs ++ job ∷ []))).connection) is ∙ ap (λ l. name_in (behind q.start l).connection) (take_front q.jobs (job ∷ [])) ∙ sym (ap left_in found);
       job = job;
       job_is = ap (slice_get (q.jobs ++ job ∷ [])) is ∙ get_last q.jobs job;
-      brings = brings;
+      stays = stays;
       leaves = names_given job;
       comes = λ o e. subst (λ x. IsOutcome job (slot_names qs slot) x) (same_some (sym (ap (outcome (over_bays m) q.start (q.jobs ++ job ∷ [])) is ∙ its_outcome) ∙ e))
           (subst (λ n. IsOutcome job n (outcome_on (behind q.start q.jobs) job)) (sym (ap left_in found)) (outcome_is (behind q.start q.jobs) job));
@@ -337,7 +337,7 @@ module _ {E J A : Type 0} (m : Meaning E J A Bay Job Answer) where
           before = sym (ap (λ (p : PlainSlot Bay Job). name_in (behind p.start (take last p.jobs)).connection) same) ∙ w.before;
           job = w.job;
           job_is = sym (ap (λ (p : PlainSlot Bay Job). slice_get p.jobs last) same) ∙ w.job_is;
-          brings = w.brings;
+          stays = w.stays;
           leaves = behind_told qs own q e w.old own w.job w.leaves;
           comes = λ x f. w.comes x (ap (λ (p : PlainSlot Bay Job). outcome (over_bays m) p.start p.jobs last) same ∙ f);
           later = w.later;

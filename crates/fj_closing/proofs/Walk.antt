@@ -15,6 +15,7 @@ use Rattle.fj_list.specs.declared.moved.Moved.{Moved}
 use Rattle.fj_control.specs.Steps.{Given}
 use Rattle.fj_connect.specs.Connection.{Connection}
 use Rattle.fj_connect.specs.Positions.{ended}
+use Rattle.fj_connect.specs.declared.spot.Positioning.TheVariants as positioning
 use Rattle.fj_statement.specs.declared.deck.Variable.{Variable}
 use Rattle.fj_statement.specs.declared.statement.Statement.{Statement}
 use Rattle.fj_statement.specs.declared.statement.Statement.TheVariants as statement
@@ -30,9 +31,9 @@ use Rattle.fj_plain.specs.Statement.{Stated, file_asked}
 use Rattle.fj_plain.specs.Telling.{is_asynchronous, condition_of, tells_cause}
 use Rattle.fj_plain.specs.Transfers.{moved_in}
 use Rattle.fj_desk.specs.Core.{Core, Connected, connected_at, unit_named, without_connected}
-use Rattle.fj_desk.specs.Desks.{Outcome, connection_in, outcome_on, most_slots}
+use Rattle.fj_desk.specs.Desks.{Outcome, connection_in, condition_in, outcome_on, most_slots}
 use Rattle.fj_desk.specs.Doing.{Doing, finishes, gives, awaits}
-use Rattle.fj_desk.specs.Acting.{finishes_behind, transferred, transfer_at, keeps, disconnected, came_out, detaches, closes, closes_anyway, all_closed, opens, job_of, moves, asks_connection, inquires, if_numbered, unit_at, own, doing}
+use Rattle.fj_desk.specs.Acting.{finishes_behind, transferred, transfer_at, keeps, disconnected, came_out, detaches, closes, closes_anyway, all_closed, opens, moves, asks_connection, inquires, if_numbered, unit_at, own, doing}
 use Rattle.fj_desk.specs.Acting as acting
 use Rattle.fj_desk.specs.Desking.{told_core}
 use Rattle.fj_desk.proofs.Apart.{Each, each_filter, each_map, Differs, Apart}
@@ -74,20 +75,17 @@ outcome_is bay resume = tt
 
 -- ---- the points of a statement
 
-abbrev pub Brings : Job → Type 0
-Brings (attach place) = Unit {0}
-Brings _ = ⊥
-
--- the job brings a connection to a slot that has none; or some outcome of it leaves units of the same names
-abbrev pub BringsOrStays : Table → ℕ → Job → Core → (Outcome → Doing) → Type 0
-BringsOrStays names slot job core next = (Brings job × (names slot ≡ None)) ⊎ ((o : Outcome) × (unit_names (core_now (next o)).units ≡ unit_names core.units))
+-- a connection is brought to a slot that has none; of any other job some outcome leaves units of the same names
+abbrev pub EmptyOrStays : Job → Option (List ℕ) → Core → (Outcome → Doing) → Type 0
+EmptyOrStays (attach brought) name core next = name ≡ None
+EmptyOrStays _ name core next = ((o : Outcome) × (unit_names (core_now (next o)).units ≡ unit_names core.units))
 
 abbrev pub Sits : Table → Doing → Type 0
 Sits names (finishes core condition) = Seated names core.units
 Sits names (gives slot job core next) =
     Seated names core.units × (slot < most_slots) × (connects job ≡ false) × ((new : Table) (number : ℕ) → IsBehind names slot job new → Sits new (next number))
 Sits names (awaits slot job core next) =
-    Seated names core.units × (slot < most_slots) × BringsOrStays names slot job core next × ((new : Table) (o : Outcome) → IsBehind names slot job new → IsOutcome job (names slot) o → Sits new (next o))
+    Seated names core.units × (slot < most_slots) × EmptyOrStays job (names slot) core next × ((new : Table) (o : Outcome) → IsBehind names slot job new → IsOutcome job (names slot) o → Sits new (next o))
 
 pub now_seated : (names : Table) (d : Doing) → Sits names d → Seated names (core_now d).units
 now_seated names (finishes core condition) h = h
@@ -114,7 +112,7 @@ module _ (control : ℕ → List Given) (variables : List Variable) (line : ℕ)
   transferred_sits t moved u low =
       either (Sits names) (is_asynchronous t) _ _
       (s, low, refl, λ new number b. seated_same names new core.units (same_behind names u.slot (move _) new refl b) s)
-      (s, low, inr (some_outcome, refl), λ new o b is. behind_sits new u _ _ (seated_same names new core.units (same_behind names u.slot (move _) new refl b) s) low)
+      (s, low, (some_outcome, refl), λ new o b is. behind_sits new u _ _ (seated_same names new core.units (same_behind names u.slot (move _) new refl b) s) low)
 
   transfer_sits : (t : Transfer) (moved : Moved) (to : UnitRef) → Sits names (transfer_at control variables line core t moved to)
   transfer_sits t moved unit.Star = s
@@ -129,7 +127,7 @@ detaches_sits : (names : Table) (core : Core) (u : Connected) (keep : Bool) (nex
 detaches_sits names core u keep next s found f = (
   s,
   seated_low names core.units u s found,
-  inr (some_outcome, refl),
+  (some_outcome, refl),
   λ new o b is.
       let out : ComesOut (Some u.name) o = subst (λ n. ComesOut n o) (seated_name names core.units u s found) is in
       subst (λ k. Sits new (if k then next (disconnected core u keep o) else finishes core (Error 1))) (sym (comes_out u o out.0 out.1 out.2)) (f new o (gone_seated names new core.units u s found b)),
@@ -163,7 +161,7 @@ connects_sits names core number spec modes s lacks =
     (λ slot c free e.
     let low : slot < most_slots = omega (arith, free.inside) in
     let come : Connected = record { number = number; slot = slot; name = c.name; modes = c.modes } in
-    (s, low, inl (tt, s.empty slot free.differs), λ new o b is. come_seated names new core.units come c s low free.differs lacks refl b))
+    (s, low, s.empty slot free.differs, λ new o b is. come_seated names new core.units come c s low free.differs lacks refl b))
 
 open_sits : (names : Table) (core : Core) (spec : OpenSpec) (number : Option ℕ) → Seated names core.units → Sits names (if_numbered core number (λ n. opens core n spec (connected_at core.units n)))
 open_sits names core spec number s =
@@ -172,7 +170,7 @@ open_sits names core spec number s =
     let found = own_found core (Some n) u e in (
       s,
       seated_low names core.units u s found,
-      inr (some_outcome, modes_named names core.units u modes s found),
+      (some_outcome, modes_named names core.units u modes s found),
       λ new o b same. modes_seated new core.units u modes (seated_same names new core.units (same_behind names u.slot (change modes.edit) new refl b) s) found,
     ))
     (λ n modes is e. connects_sits names core n spec modes s (none_at core.units n e))
@@ -182,23 +180,19 @@ open_sits names core spec number s =
 
 -- ---- the motions, INQUIRE
 
-motion_stays : (how : Motion) → connects (job_of how) ≡ false
-motion_stays motion.Flush = refl
-motion_stays motion.Backspace = refl
-motion_stays motion.Rewind = refl
-motion_stays motion.Endfile = refl
-
 moves_sit : (names : Table) (core : Core) (how : Motion) (number : Option ℕ) → Seated names core.units → Sits names (moves core how (unit_at core number))
-moves_sit names core how number s = by (unit_at core number) refl
+moves_sit names core how number s = by (unit_at core number) refl how
   where
-    by : (o : Option Connected) → unit_at core number ≡ o → Sits names (moves core how o)
-    by None e = s
-    by (Some u) e = (
-      s,
-      seated_low names core.units u s (own_found core number u e),
-      inr (some_outcome, refl),
-      λ new o b is. seated_same names new core.units (same_behind names u.slot (job_of how) new (motion_stays how) b) s,
-    )
+    so : (u : Connected) (job : Job) → unit_at core number ≡ Some u → connects job ≡ false → EmptyOrStays job (names u.slot) core (λ o. finishes core (condition_in o.1)) → Sits names (awaits u.slot job core (λ o. finishes core (condition_in o.1)))
+    so u job e still stays =
+        (s, seated_low names core.units u s (own_found core number u e), stays, λ new o b is. seated_same names new core.units (same_behind names u.slot job new still b) s)
+
+    by : (o : Option Connected) → unit_at core number ≡ o → (how : Motion) → Sits names (moves core how o)
+    by None e how = s
+    by (Some u) e motion.Flush = so u flush e refl (some_outcome, refl)
+    by (Some u) e motion.Backspace = so u (go positioning.Backspace) e refl (some_outcome, refl)
+    by (Some u) e motion.Rewind = so u (go positioning.Rewind) e refl (some_outcome, refl)
+    by (Some u) e motion.Endfile = so u (go positioning.Endfile) e refl (some_outcome, refl)
 
 inquires_sits : (variables : List Variable) (names : Table) (core : Core) (number : Option ℕ) (file : Option (List ℕ)) (asked : List Wanted) (id : Option ℤ) → Seated names core.units
     → Sits names (inquires variables core number file asked id (unit_at core number))
@@ -210,7 +204,7 @@ inquires_sits variables names core number file asked id s = by (unit_at core num
         either (Sits names) (list_any (λ (w : Wanted). asks_connection w.what) asked) _ _ (
           s,
           seated_low names core.units u s (own_found core number u e),
-          inr (some_outcome, refl),
+          (some_outcome, refl),
           λ new o b is. seated_same names new core.units (same_behind names u.slot (look None) new refl b) s,
         ) s
 

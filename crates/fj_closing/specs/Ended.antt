@@ -1,15 +1,17 @@
 -- At each end of a run the slots hold the connections of its units: where the deck ended, where a stop was told, and where a call gave up.
-use Rattle.std.specs.Prelude.{◌≡◌, ℕ, true, false, List, map, Option, Some, None, IsSome, is_some, slice_get}
+use Rattle.std.specs.Prelude.{◌≡◌, ℕ, ◌≤◌, true, false, List, map, Option, Some, None, IsSome, is_some, slice_get}
 use Rattle.fj_outside.specs.declared.errors.Stop.{Stop}
+use Rattle.fj_connect.specs.Connection.{Connection}
 use Rattle.fj_statement.specs.declared.deck.Variable.{Variable}
 use Rattle.fj_slot.specs.Ledger.{Ledger}
 use Rattle.fj_slot.specs.Serving.{Meaning}
 use Rattle.fj_world.specs.declared.ask.Ask.TheVariants.{Submit, Settle}
 use Rattle.fj_world.specs.Alone.{ServedAlone}
 use Rattle.fj_world.specs.Losing.{SlotsHold, before_ask}
+use Rattle.fj_world.specs.Plain.{PlainSlot}
 use Rattle.fj_world.specs.Rack.{Rack}
 use Rattle.fj_bay.specs.Bay.{Bay}
-use Rattle.fj_bay.specs.Jobs.{Job, Answer}
+use Rattle.fj_bay.specs.Jobs.{Job, Answer, attach}
 use Rattle.fj_plain.specs.State.{Files}
 use Rattle.fj_plain.specs.Statement.{Stated}
 use Rattle.fj_desk.specs.Core.{Connected}
@@ -38,6 +40,15 @@ LeavesNames Waiting us = Unit {0}
 LeavesNames (Acting does) us = Unit {0}
 LeavesNames (Awaiting slot number next) us = ((o : Outcome) × (unit_names (core_now (next o)).units ≡ unit_names us))
 
+-- no job of that slot that was not told brings a connection
+abbrev pub BringsNone : ℕ → List (PlainSlot Bay Job) → Type 0
+BringsNone slot qs = (q : PlainSlot Bay Job) (number : ℕ) (brought : Option Connection) → slice_get qs slot ≡ Some q → q.told ≤ number → slice_get q.jobs number ≡ Some (attach brought) → ⊥
+
+-- no connection is about to come
+pub record StopSpares (slot : ℕ) (qs : List (PlainSlot Bay Job)) (run : Run) : Type 0 where
+  pub none_comes : BringsNone slot qs
+  pub names : LeavesNames run.stage run.core.units
+
 -- While nothing of the statement at hand is begun the slots hold the connections of the runner's units; and those of what its turn does, once
 -- the answers that it needs are known.
 pub record TurnHolds {E J A : Type 0} (m : Meaning E J A Bay Job Answer) (rack : Rack E J A) (run : Run) : Type 0 where
@@ -65,7 +76,7 @@ module _ {E J A S : Type 0} (m : Meaning E J A Bay Job Answer) (s : Shows S) whe
   abbrev pub EachStopSpares : Type 0
   EachStopSpares = (variables : List Variable) (deck : List Stated) (files : Files) (n slot : ℕ) (rack : Rack E J A) →
       let x = stands m s variables deck files n in
-      x.hand ≡ Settle slot → SlotsHold (over_bays m) x.slots rack → HasStoppedAt slot rack → LeavesNames x.script.stage x.script.core.units
+      x.hand ≡ Settle slot → SlotsHold (over_bays m) x.slots rack → HasStoppedAt slot rack → StopSpares slot x.slots x.script
 
   -- before each ask, and behind the statements that are then passed
   abbrev pub EachTurnHolds : Type 0

@@ -3,6 +3,6 @@ pub mod Remains
 pub mod Losing
 pub mod Finding
 pub mod Closing
-pub mod Fitting
 pub mod Holding
+pub mod Fitting
 pub mod Ended

@@ -1,12 +1,12 @@
 -- What remains of slots whose jobs were performed.
 use Rattle.std.specs.Prelude.{◌≡◌, ℕ, Bool, true, List, length, Some, None, is_some, option_map, slice_get}
+use Rattle.fj_connect.specs.Linked.{Linked, connection_of}
 use Rattle.fj_slot.specs.Ledger.{Ledger}
 use Rattle.fj_slot.specs.Serving.{Meaning}
 use Rattle.fj_slot.specs.declared.stop.Halt.{Halt}
 use Rattle.fj_world.specs.Alone.{ServesOn}
 use Rattle.fj_bay.specs.Bay.{Bay as PlainBay}
 use Rattle.fj_bay.specs.Jobs.{Job as PlainJob, Answer as PlainAnswer}
-use Rattle.fj_bay.specs.Plain.{place_of}
 use Rattle.fj_bay.specs.declared.bay.Bay.{Bay}
 use Rattle.fj_bay.specs.declared.job.Job.{Job}
 use Rattle.fj_bay.specs.declared.job.Answer.{Answer}
@@ -24,7 +24,7 @@ pub record IsWhatRemains {F : Type 0} (m : Meaning (Bay F) (Job F) Answer PlainB
   pub connection : it.connection ≡ bay.connection
   pub stop : it.stop ≡ option_map (λ (h : Halt). h.stop) ledger.halt
 
--- where a slot did not stop, its connection is the desk's
+-- where a slot did not stop, a connection that remains of it is the desk's
 abbrev pub AreOfDesks : {F : Type 0} → (F → Bool) → (F → List ℕ) → List (Remains F) → List Desk → Type 0
-AreOfDesks {F} told bytes all desks = (at : ℕ) (it : Remains F) (d : Desk) → slice_get all at ≡ Some it → slice_get desks at ≡ Some d
-    → it.stop ≡ None → place_of told bytes it.connection ≡ Some d.bay.connection
+AreOfDesks {F} told bytes all desks = (at : ℕ) (c : Linked F) (d : Desk) → slice_get all at ≡ Some (record { connection = Some c; stop = None }) → slice_get desks at ≡ Some d
+    → (told c.file ≡ true) × (d.bay.connection ≡ Some (connection_of bytes c))

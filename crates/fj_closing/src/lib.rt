@@ -9,11 +9,10 @@ mod losing;
 mod remains;
 mod serving;
 
-pub use closing::close_units;
+pub use closing::give_back;
 pub use finishing::finish;
 pub use laws::{
     ended_decks_hold_units, stops_hold_units, stops_spare_names, submits_hold_units,
     turns_hold_units,
 };
-pub use remains::{Remains, room_for, what_remains};
-pub use serving::served;
+pub use remains::{Remains, room_for};

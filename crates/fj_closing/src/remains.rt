@@ -72,7 +72,10 @@ pub fn room_for<F: FileStore>(alloc: Global, slots: usize) -> Result<Vec<Remains
 
 /// Performs the jobs that are left of slots, in ascending order of the slots, and takes the connections out. There is room for
 /// what remains, so that no slot is left for want of memory.
-pub fn what_remains<F: FileStore>(slots: Slots<Bay<F>>, room: Vec<Remains<F>>) -> Vec<Remains<F>>
+pub(crate) fn what_remains<F: FileStore>(
+    slots: Slots<Bay<F>>,
+    room: Vec<Remains<F>>,
+) -> Vec<Remains<F>>
     requires home { AllHome slots }
     requires empty { room.items ≡ [] }
     requires room { length slots.slots ≤ vec_capacity room }

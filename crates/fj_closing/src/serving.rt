@@ -29,7 +29,7 @@ fn serve_first<E: Engine>(slot: &mut Slot<E>)
 }
 
 /// Performs the jobs that are left, one after another, as far as the slot has not stopped.
-pub fn served<E: Engine>(slot: Slot<E>) -> Slot<E>
+pub(crate) fn served<E: Engine>(slot: Slot<E>) -> Slot<E>
     requires home { is_some slot.home ≡ true }
     ensures serves { ServesOn E.meaning slot result }
     ensures finished { result.halt ≡ None → result.done ≡ length result.jobs }

@@ -14,15 +14,11 @@ use fj_world::Slots;
 use std::alloc::Global;
 use std::test::Fail;
 
-/// The slot of the scratch file's unit and the name of the other unit's file, as the units have them; then whether all went
-/// well, and whether the scratch file stays, which it does where no unit has it.
-type Row = (u32, &'static str, bool, bool);
+/// The slot of the scratch file's unit, as the units have it; then whether no file stays out, as that one does where its unit has no
+/// connection at its slot.
+type Row = (u32, bool);
 
-static ROWS: [Row; 3] = [
-    (0, "a", true, false),
-    (5, "a", false, true),
-    (0, "b", false, false),
-];
+static ROWS: [Row; 2] = [(0, true), (5, false)];
 
 fn name_of(alloc: Global, text: &str) -> Option<FileName> {
     if !is_file_name(text.as_bytes()) {
@@ -123,7 +119,7 @@ fn insert(
 
 /// Whether all went well, whether the open record was ended in its file, whether the scratch file is there, and whether no name
 /// is out.
-fn end_with(alloc: Global, slot: u32, name: &str) -> Option<(bool, bool, bool, bool)> {
+fn end_with(alloc: Global, slot: u32) -> Option<(bool, bool, bool, bool)> {
     let mut names = Names::new(alloc);
     let mut disk = MemoryDisk::new(alloc);
     let mut units = Units::new(alloc);
@@ -133,7 +129,7 @@ fn end_with(alloc: Global, slot: u32, name: &str) -> Option<(bool, bool, bool, b
     let other = connect(alloc, &scratch, status, &mut names, &mut disk)?;
     write(&mut text)?;
     insert(&mut units, 11, slot, scratch, &other)?;
-    insert(&mut units, 10, 1, name_of(alloc, name)?, &text)?;
+    insert(&mut units, 10, 1, name_of(alloc, "a")?, &text)?;
     let slots = two_slots(alloc, slot_of(alloc, other)?, slot_of(alloc, text)?)?;
     let room = room_for(alloc, slots.len()).ok()?;
     let done = finish(&units, slots, room, &mut names, &mut disk);
@@ -147,9 +143,9 @@ fn end_with(alloc: Global, slot: u32, name: &str) -> Option<(bool, bool, bool, b
 
 #[test]
 fn files_go_back(rt: HostRuntime) -> Result<(), Fail> {
-    for (slot, name, fine, stays) in &ROWS {
-        let ended = end_with(rt.alloc(), *slot, name);
-        assert_eq!(rt; ended, Some((*fine, true, *stays, true)));
+    for (slot, back) in &ROWS {
+        let ended = end_with(rt.alloc(), *slot);
+        assert_eq!(rt; ended, Some((true, true, false, *back)));
     }
     Ok(())
 }

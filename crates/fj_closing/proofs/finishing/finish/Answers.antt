@@ -1,48 +1,61 @@
-use Rattle.fj_closing.proofs.Others.{others_run}
-use Rattle.fj_closing.proofs.Running.{slots_running}
+use Rattle.std.proofs.Common.{◌≡◌, false, None, OnOk, sym, ◌∙◌, subst}
+use Rattle.std.specs.FinSet as set
+use Rattle.fj_desk.specs.Desking.{all_left}
 use Rattle.fj_units.specs.Files.{files_of}
+use Rattle.fj_closing.specs.Closing.{AreAsDue, AreNamed, AreSeated, IfClear, names_left}
+use Rattle.fj_closing.specs.Finding.{AreSpared, IsFoundOf, OfEach}
+use Rattle.fj_closing.specs.Fitting.{HaveTheirOwn}
+use Rattle.fj_closing.proofs.Desking.{slot_runs, slots_each}
 use Rattle.fj_closing.proofs.Finding.{slots_leave}
-use Rattle.fj_closing.proofs.Holding.{units_own, slots_owned, none_left}
+use Rattle.fj_closing.proofs.Holding.{units_own, others_run}
 use Rattle.fj_closing.proofs.finishing.finish.Goals as goal
 
 pub returns-clause-files : goal.returns-clause-files
-returns-clause-files g c = λ tells desks holds seats. c.close_units.ensures.files tells desks (c.what_remains-all.ensures.desks desks holds) seats
-
-pub returns-clause-remains : goal.returns-clause-remains
-returns-clause-remains g c = record {
-  all = c.what_remains-all.result.items;
-  each = c.what_remains-all.ensures.each;
-  back = c.close_units.ensures.back;
-  memory = c.close_units.ensures.memory;
-}
+returns-clause-files g c = λ tells fit desks holds seats.
+    let all = c.what_remains-all.result.items in
+    let own = subst (HaveTheirOwn g.D.File.FileStore.count c.args.names.now all) (sym c.as_slice.ensures.units) (units_own g.D.File.FileStore.told g.D.File.FileStore.bytes g.D.File.FileStore.count c.args.slots all c.what_remains-all.ensures.each c.args.names.now c.args.units.now fit) in
+    subst (λ us. OnOk c.close_each.result (files_of (g.D.Disk.held c.close_each.new.disk) ≡ all_left desks us (files_of (g.D.Disk.held c.args.disk.now)))) c.as_slice.ensures.units
+    (c.close_each.ensures.files tells own desks (c.what_remains-all.ensures.desks desks holds) (subst (AreSeated desks) (sym c.as_slice.ensures.units) seats))
 
 pub returns-clause-due : goal.returns-clause-due
-returns-clause-due g c = λ tells may desks holds. c.close_units.ensures.due tells may desks (c.what_remains-all.ensures.desks desks holds)
+returns-clause-due g c = λ tells fit none desks holds seats named.
+    let all = c.what_remains-all.result.items in
+    let own = subst (HaveTheirOwn g.D.File.FileStore.count c.args.names.now all) (sym c.as_slice.ensures.units) (units_own g.D.File.FileStore.told g.D.File.FileStore.bytes g.D.File.FileStore.count c.args.slots all c.what_remains-all.ensures.each c.args.names.now c.args.units.now fit) in
+    subst (λ us. AreAsDue (g.D.Disk.refusals c.args.disk.now) (g.D.Disk.refusals c.close_each.new.disk) (g.D.Disk.held c.close_each.new.disk) (all_left desks us (files_of (g.D.Disk.held c.args.disk.now)))) c.as_slice.ensures.units
+    (c.close_each.ensures.due tells own none desks (c.what_remains-all.ensures.desks desks holds) (subst (AreSeated desks) (sym c.as_slice.ensures.units) seats)
+    (subst (AreNamed desks) (sym c.as_slice.ensures.units) named))
 
 pub returns-clause-running : goal.returns-clause-running
-returns-clause-running g c = λ tells may.
-    slots_running g.D.File.FileStore.told g.D.File.FileStore.bytes g.D.File.FileStore.count c.args.slots.slots c.what_remains-all.result.items c.what_remains-all.ensures.each
-    (g.D.Disk.held c.close_units.new.disk) c.args.units.now (c.close_units.ensures.running tells may)
-
-pub returns-clause-fits : goal.returns-clause-fits
-returns-clause-fits g c = λ fit.
-    let each = fit c.what_remains-all.result.items c.what_remains-all.ensures.each in
-    c.close_units.ensures.fits each.0 each.1
-
-pub returns-clause-others : goal.returns-clause-others
-returns-clause-others g c = λ fit desks holds.
-    others_run g.D.File.FileStore.told g.D.File.FileStore.bytes g.D.File.FileStore.count c.args.slots c.what_remains-all.result.items c.args.units.now desks c.what_remains-all.ensures.each holds (c.close_units.ensures.owned fit)
+returns-clause-running g c = λ tells fit none.
+    let all = c.what_remains-all.result.items in
+    let own = subst (HaveTheirOwn g.D.File.FileStore.count c.args.names.now all) (sym c.as_slice.ensures.units) (units_own g.D.File.FileStore.told g.D.File.FileStore.bytes g.D.File.FileStore.count c.args.slots all c.what_remains-all.ensures.each c.args.names.now c.args.units.now fit) in
+    slots_each g.D.File.FileStore.told g.D.File.FileStore.bytes g.D.File.FileStore.count c.args.slots.slots all c.what_remains-all.ensures.each
+    (λ u it. set.contains (g.D.Disk.held c.close_each.new.disk).hurt u.name ≡ false → it.stop ≡ None) (λ u l. set.contains (g.D.Disk.held c.close_each.new.disk).hurt u.name ≡ false → l.halt ≡ None)
+    (λ u l it is running clear. slot_runs g.D.File.FileStore.told g.D.File.FileStore.bytes g.D.File.FileStore.count l it is (running clear)) c.args.units.now
+    (subst (λ us. IfClear (g.D.Disk.held c.close_each.new.disk) us all (λ it. it.stop ≡ None)) c.as_slice.ensures.units (c.close_each.ensures.running tells own none))
 
 pub returns-clause-found : goal.returns-clause-found
 returns-clause-found g c = λ tells fit.
-    slots_leave g.D.File.FileStore.told g.D.File.FileStore.bytes g.D.File.FileStore.count c.args.slots.slots c.what_remains-all.result.items c.what_remains-all.ensures.each
-    (files_of (g.D.Disk.held c.close_units.new.disk)) (g.D.Disk.refusals c.args.disk.now) (g.D.Disk.refusals c.close_units.new.disk) c.args.units.now (c.close_units.ensures.found tells fit)
-
-pub returns-clause-whole : goal.returns-clause-whole
-returns-clause-whole g c = λ hold files.
     let all = c.what_remains-all.result.items in
-    let own = units_own g.D.File.FileStore.told g.D.File.FileStore.bytes g.D.File.FileStore.count c.args.slots all c.what_remains-all.ensures.each c.args.units.now hold c.args.names.now files in
-    let owned = slots_owned g.D.File.FileStore.told g.D.File.FileStore.bytes g.D.File.FileStore.count c.args.slots all c.what_remains-all.ensures.each c.args.units.now hold in (
-      c.close_units.ensures.fits own owned,
-      none_left g.D.File.FileStore.told g.D.File.FileStore.bytes g.D.File.FileStore.count c.args.names.now c.close_units.new.names all c.args.units.now files own c.close_units.ensures.lessens c.close_units.ensures.back,
-    )
+    let own = subst (HaveTheirOwn g.D.File.FileStore.count c.args.names.now all) (sym c.as_slice.ensures.units) (units_own g.D.File.FileStore.told g.D.File.FileStore.bytes g.D.File.FileStore.count c.args.slots all c.what_remains-all.ensures.each c.args.names.now c.args.units.now fit) in
+    slots_leave g.D.File.FileStore.told g.D.File.FileStore.bytes g.D.File.FileStore.count c.args.slots.slots all c.what_remains-all.ensures.each (files_of (g.D.Disk.held c.close_each.new.disk)) (g.D.Disk.refusals c.args.disk.now) (g.D.Disk.refusals c.close_each.new.disk) c.args.units.now
+    (subst (λ us. OfEach us all (λ u it. IsFoundOf g.D.File.FileStore.told g.D.File.FileStore.bytes it u.name (files_of (g.D.Disk.held c.close_each.new.disk) u.name) (g.D.Disk.refusals c.args.disk.now) (g.D.Disk.refusals c.close_each.new.disk))) c.as_slice.ensures.units
+    (c.close_each.ensures.found tells own))
+
+pub returns-clause-spared : goal.returns-clause-spared
+returns-clause-spared g c = λ tells fit.
+    let all = c.what_remains-all.result.items in
+    let own = subst (HaveTheirOwn g.D.File.FileStore.count c.args.names.now all) (sym c.as_slice.ensures.units) (units_own g.D.File.FileStore.told g.D.File.FileStore.bytes g.D.File.FileStore.count c.args.slots all c.what_remains-all.ensures.each c.args.names.now c.args.units.now fit) in
+    subst (λ us. AreSpared us (g.D.Disk.held c.args.disk.now) (g.D.Disk.held c.close_each.new.disk)) c.as_slice.ensures.units (c.close_each.ensures.spared tells own)
+
+pub returns-clause-off : goal.returns-clause-off
+returns-clause-off g c = λ fit.
+    let all = c.what_remains-all.result.items in
+    let own = subst (HaveTheirOwn g.D.File.FileStore.count c.args.names.now all) (sym c.as_slice.ensures.units) (units_own g.D.File.FileStore.told g.D.File.FileStore.bytes g.D.File.FileStore.count c.args.slots all c.what_remains-all.ensures.each c.args.names.now c.args.units.now fit) in
+    subst (λ us. c.close_each.new.names ≡ names_left us c.args.names.now) c.as_slice.ensures.units (c.close_each.ensures.off own)
+
+pub returns-clause-others : goal.returns-clause-others
+returns-clause-others g c = λ fit. others_run g.D.File.FileStore.told g.D.File.FileStore.bytes g.D.File.FileStore.count c.args.slots c.args.units.now fit.held
+
+pub returns-clause-remains : goal.returns-clause-remains
+returns-clause-remains g c = record { all = c.what_remains-all.result.items; each = c.what_remains-all.ensures.each; memory = c.close_each.ensures.memory }
