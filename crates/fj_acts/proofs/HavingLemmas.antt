@@ -1,20 +1,25 @@
 -- Units have the files that are out, where a statement closes one, and where OPEN connects one.
-use Rattle.std.proofs.Common.{◌≡◌, ℕ, Bool, true, false, List, [], ◌∷◌, Option, Some, None, refl, sym, ap, subst, ◌∙◌}
-use Rattle.std.specs.Prelude.{option_and_then, slice_get, if◌then◌else◌, is_some}
+use Rattle.std.proofs.Common.{◌≡◌, ℕ, Bool, true, false, ◌||◌, List, [], ◌∷◌, ◌++◌, Option, Some, None, refl, sym, ap, subst, ◌∙◌}
+use Rattle.std.specs.Str.{bytes_eq}
+use Rattle.std.specs.Prelude.{option_and_then, option_map, slice_get, if◌then◌else◌, is_some}
 use Rattle.std.proofs.lemmas.Bool.{eq-eqb}
 use Rattle.std.proofs.lemmas.Slice.Eq.{bytes_eq-Decides}
+use Rattle.fj_value.specs.declared.place.Place.{Place}
 use Rattle.fj_modes.specs.declared.specifiers.OpenSpec.{OpenSpec}
+use Rattle.fj_modes.specs.declared.unit.UnitRef.{UnitRef}
 use Rattle.fj_statement.specs.declared.statement.Statement.{Statement}
 use Rattle.fj_statement.specs.declared.statement.Statement.TheVariants as statement
 use Rattle.fj_bay.specs.declared.job.Job.TheVariants as job
 use Rattle.fj_plain.specs.Connecting.{file_due}
+use Rattle.fj_plain.specs.Needs.{number_of}
 use Rattle.fj_desk.specs.Core.{Connected, connected_at, has_name, without_connected}
 use Rattle.fj_units.specs.Having.{HaveFiles}
 use Rattle.fj_units.specs.Names.{stands, left_of}
 use Rattle.fj_units.specs.Units.{is_taken}
-use Rattle.fj_units.proofs.Having.{found_has, free_without, gone_from, without_none}
+use Rattle.fj_units.proofs.Files.{any_append}
+use Rattle.fj_units.proofs.Having.{found_has, free_without, gone_from, have_vain, without_none}
 use Rattle.fj_acts.specs.Doing.{AsksToOpen}
-use Rattle.fj_acts.specs.Having.{HaveNext, IsFreeNext}
+use Rattle.fj_acts.specs.Having.{HaveBeside, HaveNext, IsFreeNext, IsToOpen, OpensAt}
 use Rattle.fj_acts.specs.Steps.{is_due}
 use Rattle.fj_acts.specs.declared.doing.After.{After}
 use Rattle.fj_acts.specs.declared.doing.After.TheVariants as after
@@ -29,7 +34,7 @@ pub closing_has : {F : Type 0} → (result : Doing F) (slot : ℕ) (u : Connecte
     → result ≡ doing.Awaits slot (job.Detach None) (then.Closes u.number keep next) → connected_at us u.number ≡ Some u → IsFreeNext next what (without_connected u.number us)
     → HaveFiles names us → HaveNext result names us what
 closing_has result slot u keep next names us what is found free have =
-    subst (λ d. HaveNext d names us what) (sym is) (have, ap is_some found, free)
+    subst (λ d. HaveNext d names us what) (sym is) ((have, ap is_some found, free), have)
 
 -- that of a statement
 pub found_at : (us : List Connected) (o : Option ℕ) (u : Connected) → option_and_then (connected_at us) o ≡ Some u → connected_at us u.number ≡ Some u
@@ -54,38 +59,78 @@ due_unit (Some u) name e = (u, refl, sym ((bytes_eq-Decides name u.name).0 e))
 pub free_there : (us : List Connected) (n : ℕ) (name : List ℕ) → connected_at us n ≡ None → is_taken us n name ≡ false → has_name us name ≡ false
 free_there us n name none free = ap (λ l. has_name l name) (sym (without_none n us none)) ∙ free_without us n name free
 
-opens_free : (what : Statement) (spec : OpenSpec) (n : ℕ) (us : List Connected) → AsksToOpen what spec → connected_at us n ≡ None → has_name us (file_due spec n) ≡ false
+pub opens_free : (what : Statement) (spec : OpenSpec) (n : ℕ) (us : List Connected) → OpensAt what (Some n) spec → connected_at us n ≡ None → has_name us (file_due spec n) ≡ false
     → IsFreeNext (after.Connects n) what us
-opens_free (statement.OpenUnit u own iostat) spec n us asks none free = (none, ap (λ (s : OpenSpec). has_name us (file_due s n)) asks ∙ free)
-opens_free (statement.Assign to from) spec n us asks none free = absurd asks
-opens_free (statement.CloseUnit u keep iostat) spec n us asks none free = absurd asks
-opens_free (statement.WaitFor u id iostat) spec n us asks none free = absurd asks
-opens_free (statement.Move how u iostat) spec n us asks none free = absurd asks
-opens_free (statement.Inquire about asked id iostat) spec n us asks none free = absurd asks
-opens_free (statement.Transfer t) spec n us asks none free = absurd asks
-opens_free statement.End spec n us asks none free = absurd asks
+opens_free (statement.OpenUnit u own iostat) spec n us opens none free = (opens.0, none, ap (λ (s : OpenSpec). has_name us (file_due s n)) opens.1 ∙ free)
+opens_free (statement.Assign to from) spec n us opens none free = absurd opens
+opens_free (statement.CloseUnit u keep iostat) spec n us opens none free = absurd opens
+opens_free (statement.WaitFor u id iostat) spec n us opens none free = absurd opens
+opens_free (statement.Move how u iostat) spec n us opens none free = absurd opens
+opens_free (statement.Inquire about asked id iostat) spec n us opens none free = absurd opens
+opens_free (statement.Transfer t) spec n us opens none free = absurd opens
+opens_free statement.End spec n us opens none free = absurd opens
+
+-- it is that OPEN
+pub opens_as : (what : Statement) (unit : UnitRef) (spec : OpenSpec) (iostat : Option Place) → what ≡ statement.OpenUnit unit spec iostat → OpensAt what (number_of unit) spec
+opens_as what unit spec iostat e = subst (λ (s : Statement). OpensAt s (number_of unit) spec) (sym e) (refl, refl)
+
+pub asks_by : (what : Statement) (number : Option ℕ) (spec : OpenSpec) → OpensAt what number spec → AsksToOpen what spec
+asks_by (statement.OpenUnit u own iostat) number spec opens = opens.1
+asks_by (statement.Assign to from) number spec opens = absurd opens
+asks_by (statement.CloseUnit u keep iostat) number spec opens = absurd opens
+asks_by (statement.WaitFor u id iostat) number spec opens = absurd opens
+asks_by (statement.Move how u iostat) number spec opens = absurd opens
+asks_by (statement.Inquire about asked id iostat) number spec opens = absurd opens
+asks_by (statement.Transfer t) number spec opens = absurd opens
+asks_by statement.End number spec opens = absurd opens
 
 -- the one that it closes first
-pub opens_behind_free : (what : Statement) (spec : OpenSpec) (name : List ℕ) (m n : ℕ) (us : List Connected) → AsksToOpen what spec → m ≡ n → name ≡ file_due spec n → is_taken us n name ≡ false
+pub opens_behind_free : (what : Statement) (spec : OpenSpec) (name : List ℕ) (m n : ℕ) (us : List Connected) → OpensAt what (Some n) spec → m ≡ n → name ≡ file_due spec n → is_taken us n name ≡ false
     → IsFreeNext (after.Connects n) what (without_connected m us)
-opens_behind_free what spec name m n us asks same due free =
+opens_behind_free what spec name m n us opens same due free =
     subst (λ k. IsFreeNext (after.Connects n) what (without_connected k us)) (sym same)
-    (opens_free what spec n (without_connected n us) asks (gone_from n us) (ap (has_name (without_connected n us)) (sym due) ∙ free_without us n name free))
+    (opens_free what spec n (without_connected n us) opens (gone_from n us) (ap (has_name (without_connected n us)) (sym due) ∙ free_without us n name free))
 
--- where it goes on
-pub free_of : (next : After) (n : ℕ) (what : Statement) (spec : OpenSpec) (us : List Connected) → next ≡ after.Connects n → AsksToOpen what spec → IsFreeNext next what us
-    → (connected_at us n ≡ None) × (has_name us (file_due spec n) ≡ false)
-free_of next n what spec us is asks free = by what asks (subst (λ a. IsFreeNext a what us) is free)
+-- what OPEN is to connect where it goes on
+pub record IsFreeToOpen (what : Statement) (spec : OpenSpec) (n : ℕ) (us : List Connected) : Type 0 where
+  pub none : connected_at us n ≡ None
+  pub free : has_name us (file_due spec n) ≡ false
+  pub opens : IsToOpen what us (file_due spec n)
+
+pub free_of : (what : Statement) (spec : OpenSpec) (n : ℕ) (us : List Connected) → AsksToOpen what spec → IsFreeNext (after.Connects n) what us → IsFreeToOpen what spec n us
+free_of (statement.OpenUnit u own iostat) spec n us asks f = record {
+  none = f.1;
+  free = ap (λ (s : OpenSpec). has_name us (file_due s n)) (sym asks) ∙ f.2;
+  opens = (ap (option_map (file_due own)) f.0 ∙ ap (λ (s : OpenSpec). Some (file_due s n)) asks, ap (option_and_then (connected_at us)) f.0 ∙ f.1);
+}
+free_of (statement.Assign to from) spec n us asks f = absurd asks
+free_of (statement.CloseUnit u keep iostat) spec n us asks f = absurd asks
+free_of (statement.WaitFor u id iostat) spec n us asks f = absurd asks
+free_of (statement.Move how u iostat) spec n us asks f = absurd asks
+free_of (statement.Inquire about asked id iostat) spec n us asks f = absurd asks
+free_of (statement.Transfer t) spec n us asks f = absurd asks
+free_of statement.End spec n us asks f = absurd asks
+
+-- its file came out, and was named among those that are out
+pub named_beside : (names : List (List ℕ)) (us : List Connected) (name given : List ℕ) (what : Statement) → given ≡ name → stands names name ≡ false → has_name us name ≡ false → IsToOpen what us name → HaveFiles names us
+    → HaveBeside (Some given) (names ++ name ∷ []) us what
+named_beside names us name given what is out free opens have =
+    subst (λ n. HaveBeside (Some n) (names ++ name ∷ []) us what) (sym is) (
+      record {
+        out = any_append (λ (other : List ℕ). bytes_eq other name) names (name ∷ []) ∙ ap (λ b. stands names name || (b || false)) ((bytes_eq-Decides name name).1 refl) ∙ or_true (stands names name);
+        free = free;
+        others = have_vain names us name out have;
+      },
+      opens,
+    )
   where
-    by : (w : Statement) → AsksToOpen w spec → IsFreeNext (after.Connects n) w us → (connected_at us n ≡ None) × (has_name us (file_due spec n) ≡ false)
-    by (statement.OpenUnit u own iostat) a f = (f.0, ap (λ (s : OpenSpec). has_name us (file_due s n)) (sym a) ∙ f.1)
-    by (statement.Assign to from) a f = absurd a
-    by (statement.CloseUnit u keep iostat) a f = absurd a
-    by (statement.WaitFor u id iostat) a f = absurd a
-    by (statement.Move how u iostat) a f = absurd a
-    by (statement.Inquire about asked id iostat) a f = absurd a
-    by (statement.Transfer t) a f = absurd a
-    by statement.End a f = absurd a
+    or_true : (b : Bool) → (b || true) ≡ true
+    or_true true = refl
+    or_true false = refl
+
+-- it did not, and the name is gone again
+pub named_in_vain : (names more back : List (List ℕ)) (us : List Connected) (name : List ℕ) → stands names name ≡ false → more ≡ names ++ name ∷ [] → back ≡ left_of more name → HaveFiles names us → HaveFiles back us
+named_in_vain names more back us name out is_more is_back have = subst (λ ns. HaveFiles ns us) (sym (is_back ∙ ap (λ ns. left_of ns name) is_more)) (have_vain names us name out have)
 
 -- ---- a job came back
 

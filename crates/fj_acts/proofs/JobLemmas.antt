@@ -1,15 +1,11 @@
 -- How many units are connected, and how many jobs a statement still gives.
-use Rattle.std.proofs.Common.{◌≡◌, ℕ, suc, ◌+◌, ◌-◌, ◌≤◌, Bool, true, false, not, List, [], ◌∷◌, ◌++◌, length, filter, Option, Some, None, refl, sym, ap, subst, ◌∙◌, length-append, arith}
-use Rattle.std.proofs.lemmas.Bool.{ltb-true}
-use Rattle.std.proofs.lemmas.List.{length-map}
+use Rattle.std.proofs.Common.{◌≡◌, ℕ, suc, ◌+◌, ◌-◌, ◌≤◌, Bool, true, false, not, List, [], ◌∷◌, length, filter, Some, None, refl, sym, ap, subst, ◌∙◌, arith}
 use Rattle.std.proofs.lemmas.List.Filters.{length-filter_both}
-use Rattle.std.specs.Prelude.{◌==◌, nat_lt, slice_get, if◌then◌else◌, Result, Ok, Err, IfOk, OnOk}
-use Rattle.fj_modes.specs.declared.modes.Modes.{Modes}
+use Rattle.std.specs.Prelude.{◌==◌, slice_get, if◌then◌else◌, Result, Ok, Err, IfOk}
 use Rattle.fj_bay.specs.declared.job.Job.TheVariants as job
-use Rattle.fj_desk.specs.Core.{Connected, connected_at, inserted, without_connected}
-use Rattle.fj_units.specs.Units.{with_modes}
+use Rattle.fj_desk.specs.Core.{Connected, connected_at, without_connected}
 use Rattle.fj_acts.specs.Doing.{Ends}
-use Rattle.fj_acts.specs.Jobs.{GivesOne, jobs_after, jobs_of, units_more}
+use Rattle.fj_acts.specs.Jobs.{GivesOne, jobs_after, jobs_of}
 use Rattle.fj_acts.specs.Steps.{is_due}
 use Rattle.fj_acts.specs.declared.doing.After.{After}
 use Rattle.fj_acts.specs.declared.doing.After.TheVariants as after
@@ -38,32 +34,6 @@ without_less (v ∷ us) number u found = by (v.number == number) refl (without_l
         let low = less there in
         omega (arith, low)
 
--- one has other modes
-pub modes_as_many : (us : List Connected) (o : Option Connected) (modes : Modes) → length (with_modes us o modes) ≡ length us
-modes_as_many us None modes = refl
-modes_as_many us (Some u) modes = length-map us (λ (x : Connected). if x.number == u.number then record u { modes = modes } else x)
-
-apart_by : (a b : ℕ) (below above : Bool) (u : Connected) (low high : List Connected) (n : ℕ) → nat_lt a b ≡ below → nat_lt b a ≡ above → length low + length high ≤ n
-    → length (if below then u ∷ low else low) + length (if above then u ∷ high else high) ≤ suc n
-apart_by a b true true u low high n is_below is_above few = absurd (let x = ltb-true a b is_below in let y = ltb-true b a is_above in omega (arith, x, y))
-apart_by a b true false u low high n is_below is_above few = omega (arith, few)
-apart_by a b false true u low high n is_below is_above few = omega (arith, few)
-apart_by a b false false u low high n is_below is_above few = omega (arith, few)
-
--- those below a number, and those above it
-parts_fewer : (number : ℕ) (us : List Connected) → length (filter (λ (u : Connected). nat_lt u.number number) us) + length (filter (λ (u : Connected). nat_lt number u.number) us) ≤ length us
-parts_fewer number [] = omega arith
-parts_fewer number (u ∷ us) =
-    apart_by u.number number (nat_lt u.number number) (nat_lt number u.number) u (filter (λ (x : Connected). nat_lt x.number number) us) (filter (λ (x : Connected). nat_lt number x.number) us) (length us) refl refl (parts_fewer number us)
-
-pub inserted_more : (new : Connected) (us : List Connected) → length (inserted new us) ≤ length us + 1
-inserted_more new us =
-    let low : List Connected = filter (λ (u : Connected). nat_lt u.number new.number) us in
-    let high : List Connected = filter (λ (u : Connected). nat_lt new.number u.number) us in
-    let parts = parts_fewer new.number us in
-    let all : length (low ++ new ∷ high) ≡ length low + suc (length high) = length-append low (new ∷ high) in
-    omega (arith, parts, all)
-
 some_there : (us : List Connected) (u : Connected) → slice_get us 0 ≡ Some u → 1 ≤ length us
 some_there [] u e = absurd (let bad : ⊥ = cc in bad)
 some_there (v ∷ us) u e = omega arith
@@ -90,24 +60,11 @@ pub if_one : {F E : Type 0} → (r : Result (Doing F) E) (units most : ℕ) → 
 if_one (Ok does) units most some one = let low = one units in omega (arith, low, some)
 if_one (Err e) units most some one = tt
 
--- as many units as there were
-pub as_many : {F E : Type 0} → (r : Result (Doing F) E) (us us' : List Connected) → us' ≡ us → IfOk r (λ does. length us' ≤ length us + units_more does)
-as_many (Ok does) us us' same = let e : length us' ≡ length us = ap length same in omega (arith, e)
-as_many (Err e) us us' same = tt
-
-pub fewer_units : {F E : Type 0} → (r : Result (Doing F) E) (us us' : List Connected) → OnOk r (length us' ≤ length us) → IfOk r (λ does. length us' ≤ length us + units_more does)
-fewer_units (Ok does) us us' low = omega (arith, low)
-fewer_units (Err e) us us' low = tt
-
 -- the unit that is closed was connected
 pub closed_less : (us us' : List Connected) (number : ℕ) (name : List ℕ) → is_due (connected_at us number) name ≡ true → us' ≡ without_connected number us → length us' + 1 ≤ length us
 closed_less us us' number name due is =
     let u = due_unit (connected_at us number) name due in
     subst (λ l. length l + 1 ≤ length us) (sym is) (without_less us number u.0 u.1)
-
-pub on_ok : {A E : Type 0} → (r : Result A E) (X : Type 0) → X → OnOk r X
-on_ok (Ok a) X x = x
-on_ok (Err e) X x = tt
 
 -- of one unit less
 pub less_jobs : {F E : Type 0} → (r : Result (Doing F) E) (next : After) (left us : ℕ) (us' : List Connected) → left + 1 ≤ us → IfOk r (λ does. jobs_of does (length us') ≤ jobs_after next left)

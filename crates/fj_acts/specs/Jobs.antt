@@ -28,8 +28,3 @@ jobs_of (doing.Awaits slot job next) units = jobs_behind next units + 1
 -- however many units there are it gives one job at most
 abbrev pub GivesOne : {F : Type 0} → Doing F → Type 0
 GivesOne does = (units : ℕ) → jobs_of does units ≤ 1
-
--- where it ends, one unit more may be connected
-abbrev pub units_more : {F : Type 0} → Doing F → ℕ
-units_more (doing.Finishes condition) = 1
-units_more _ = 0

@@ -1,5 +1,5 @@
 // What a statement does once the transfers that it waits for are told.
-ghost use Rattle.std.specs.Prelude.{◌≡◌, ◌↔◌, ◌≤◌, ◌≢◌, List, Some, IfOk, true, OnOk, OnErr, Err};
+ghost use Rattle.std.specs.Prelude.{◌≡◌, ◌↔◌, ◌≤◌, ◌≢◌, List, Some, None, IfOk, true, OnOk, OnErr, Err};
 ghost use Rattle.fj_outside.specs.Faults.{Rose};
 ghost use Rattle.fj_plain.specs.Statement.{Stated, control_by};
 ghost use Rattle.fj_desk.specs.Acting.{doing, own, instead, moves, job_of, unit_at};
@@ -21,7 +21,7 @@ ghost use Rattle.fj_units.specs.Files.{files_of};
 ghost use Rattle.fj_acts.specs.Doing.{IsDoing};
 ghost use Rattle.fj_statement.specs.declared.statement.Statement.{Statement};
 ghost use Rattle.fj_units.specs.Having.{HaveFiles};
-ghost use Rattle.fj_acts.specs.Having.{HaveNext};
+ghost use Rattle.fj_acts.specs.Having.{HaveNext, name_brought};
 
 use crate::closing::{close, close_all, close_anyway};
 use crate::doing::{Doing, Then};
@@ -40,7 +40,8 @@ use std::alloc::Global;
 
 /// The job of a statement that moves a connection, or flushes it.
 fn job_of<F: FileStore>(how: Motion) -> Job<F>
-    ensures { task_of F.told F.bytes result ≡ Some (job_of how) }
+    ensures task { task_of F.told F.bytes result ≡ Some (job_of how) }
+    ensures brings { name_brought result ≡ None }
 {
     match how {
         Motion::Flush => Job::Flush,
@@ -113,6 +114,7 @@ fn own<W: Sink, D: Disk>(
     ensures closes { IfOk result (λ next. may_do lined.now.what next ≡ true) }
     ensures called { result ≡ Err Lost.Disk → calls_disk lined.now.what ≡ true }
     ensures files { HaveFiles core.old.names core.old.units → IfOk result (λ next. HaveNext next core.new.names core.new.units lined.now.what) }
+    ensures vain { HaveFiles core.old.names core.old.units → OnErr result (HaveFiles core.new.names core.new.units) }
 {
     let fine = Condition::Fine;
     match &lined.what {
@@ -232,6 +234,7 @@ pub fn begin<W: Sink, D: Disk>(
     ensures closes { IfOk result (λ next. may_do lined.now.what next ≡ true) }
     ensures called { result ≡ Err Lost.Disk → calls_disk lined.now.what ≡ true }
     ensures files { HaveFiles core.old.names core.old.units → IfOk result (λ next. HaveNext next core.new.names core.new.units lined.now.what) }
+    ensures vain { HaveFiles core.old.names core.old.units → OnErr result (HaveFiles core.new.names core.new.units) }
 {
     match condition {
         Condition::Fine => own(alloc, variables, lined, core, disk, out),

@@ -1,5 +1,5 @@
 // OPEN (ISO/IEC 1539-1:2004, 9.4.5).
-ghost use Rattle.std.specs.Prelude.{◌≡◌, ◌≢◌, ◌↔◌, ◌≤◌, ◌<◌, ◌+◌, ℕ, false, List, length, Some, None, IfOk, OnErr, Result, Ok, Err};
+ghost use Rattle.std.specs.Prelude.{◌≡◌, ◌≢◌, ◌↔◌, ◌≤◌, ◌<◌, ℕ, false, List, Some, None, IfOk, OnErr, Result, Ok, Err};
 ghost use Rattle.std.specs.Option.{option_map, option_copied};
 ghost use Rattle.fj_outside.specs.Faults.{Rose};
 ghost use Rattle.fj_modes.specs.Modes.{settled};
@@ -27,7 +27,7 @@ ghost use Rattle.fj_acts.specs.Doing.{IsDoing, AsksToOpen};
 ghost use Rattle.fj_acts.specs.declared.state.Core.{Core};
 ghost use Rattle.fj_statement.specs.declared.statement.Statement.{Statement};
 ghost use Rattle.fj_units.specs.Having.{HaveFiles};
-ghost use Rattle.fj_acts.specs.Having.{HaveNext};
+ghost use Rattle.fj_acts.specs.Having.{HaveBeside, HaveNext, IsFreeNext, IsToOpen, OpensAt};
 
 use crate::closing::closing;
 use crate::doing::{After, Doing, Then};
@@ -52,7 +52,7 @@ fn attaching<F: FileStore>(slot: u32, units: Units, connection: Connection<F>) -
         IsDoing F.told F.bytes variables st (record core { files = files }) result (attaches core number slot opened) }
     ensures placed { IsPlaced result }
     ensures jobs { GivesOne result }
-    ensures files { (names : List (List ℕ)) (us : List PlainConnected) (what : Statement) → HaveFiles names units → length units ≤ length us + 1 → HaveNext result names us what }
+    ensures files { (names : List (List ℕ)) (us : List PlainConnected) (what : Statement) → HaveFiles names units → HaveBeside (Some connection.name) names us what → HaveNext result names us what }
 {
     Doing::Awaits {
         slot,
@@ -100,8 +100,9 @@ fn attach<D: Disk>(
     ensures fits { stands core.old.names name ≡ false → result ≢ Err Lost.Unfit }
     ensures placed { IfOk result IsPlaced }
     ensures jobs { IfOk result GivesOne }
-    ensures files { (what : Statement) → connected_at core.old.units number ≡ None → has_name core.old.units name ≡ false → HaveFiles core.old.names core.old.units
-        → IfOk result (λ next. HaveNext next core.new.names core.new.units what) }
+    ensures files { (what : Statement) → connected_at core.old.units number ≡ None → has_name core.old.units name ≡ false → IsToOpen what core.old.units name
+        → HaveFiles core.old.names core.old.units → IfOk result (λ next. HaveNext next core.new.names core.new.units what) }
+    ensures vain { HaveFiles core.old.names core.old.units → OnErr result (HaveFiles core.new.names core.new.units) }
 {
     if core.names.holds(&name) {
         return Err(Lost::Unfit);
@@ -161,8 +162,9 @@ pub(crate) fn connect<D: Disk>(
     ensures fits { stands core.old.names (file_due spec.now number) ≡ false → result ≢ Err Lost.Unfit }
     ensures placed { IfOk result IsPlaced }
     ensures jobs { IfOk result GivesOne }
-    ensures files { (what : Statement) → connected_at core.old.units number ≡ None → has_name core.old.units (file_due spec.now number) ≡ false → HaveFiles core.old.names core.old.units
+    ensures files { (what : Statement) → AsksToOpen what spec.now → IsFreeNext (After.Connects number) what core.old.units → HaveFiles core.old.names core.old.units
         → IfOk result (λ next. HaveNext next core.new.names core.new.units what) }
+    ensures vain { HaveFiles core.old.names core.old.units → OnErr result (HaveFiles core.new.names core.new.units) }
 {
     match core.units.free_slot() {
         Some(slot) => {
@@ -223,8 +225,9 @@ fn open_other<D: Disk>(
     ensures next { core.new.next ≡ core.old.next }
     ensures fits { HaveFiles core.old.names core.old.units → result ≢ Err Lost.Unfit }
     ensures placed { IfOk result IsPlaced }
-    ensures files { (what : Statement) → AsksToOpen what spec.now → HaveFiles core.old.names core.old.units
+    ensures files { (what : Statement) → OpensAt what (Some number) spec.now → HaveFiles core.old.names core.old.units
         → IfOk result (λ next. HaveNext next core.new.names core.new.units what) }
+    ensures vain { HaveFiles core.old.names core.old.units → OnErr result (HaveFiles core.new.names core.new.units) }
 {
     let modes = match settle_open(spec) {
         Ok(modes) => modes,
@@ -276,8 +279,9 @@ pub(crate) fn open<D: Disk>(
     ensures next { core.new.next ≡ core.old.next }
     ensures fits { HaveFiles core.old.names core.old.units → result ≢ Err Lost.Unfit }
     ensures placed { IfOk result IsPlaced }
-    ensures files { (what : Statement) → AsksToOpen what spec.now → HaveFiles core.old.names core.old.units
+    ensures files { (what : Statement) → OpensAt what (number_of unit) spec.now → HaveFiles core.old.names core.old.units
         → IfOk result (λ next. HaveNext next core.new.names core.new.units what) }
+    ensures vain { HaveFiles core.old.names core.old.units → OnErr result (HaveFiles core.new.names core.new.units) }
 {
     let UnitRef::Number(number) = unit else {
         return Ok(Doing::Finishes(Condition::Error(1)));

@@ -18,7 +18,7 @@ ghost use Rattle.fj_desk.specs.Desks.{most_slots};
 ghost use Rattle.fj_statement.specs.declared.statement.Statement.{Statement as PlainStatement};
 ghost use Rattle.fj_acts.specs.Calling.{may_await, may_close, may_do};
 ghost use Rattle.fj_acts.specs.Placing.{IsPlaced, slot_behind};
-ghost use Rattle.fj_acts.specs.Jobs.{GivesOne, jobs_after, jobs_behind, jobs_of, units_more};
+ghost use Rattle.fj_acts.specs.Jobs.{GivesOne, jobs_after, jobs_behind, jobs_of};
 ghost use Rattle.fj_acts.specs.Fitting.{MayGoOn};
 ghost use Rattle.fj_acts.specs.Holding.{MayEnter};
 ghost use Rattle.fj_acts.specs.State.{KeepsAnswers, KeepsPending, core_of};
@@ -118,6 +118,7 @@ fn go_on<D: Disk>(
     ensures jobs { IfOk result (λ goes. jobs_of goes (length core.new.units) ≤ jobs_after after (length core.old.units)) }
     ensures files { IsFreeNext after lined.now.what core.old.units → HaveFiles core.old.names core.old.units
         → IfOk result (λ goes. HaveNext goes core.new.names core.new.units lined.now.what) }
+    ensures vain { HaveFiles core.old.names core.old.units → OnErr result (HaveFiles core.new.names core.new.units) }
 {
     let number = match after {
         After::Finishes(condition) => return Ok(Doing::Finishes(condition)),
@@ -197,9 +198,9 @@ fn closed<D: Disk>(
     ensures next { core.new.next ≡ core.old.next }
     ensures fits { HaveThen (Then.Closes number keep after) core.old.names core.old.units lined.now.what → result ≢ Err Lost.Unfit }
     ensures placed { IfOk result IsPlaced }
-    ensures units { OnOk result (length core.new.units ≤ length core.old.units) }
     ensures jobs { IfOk result (λ goes. jobs_of goes (length core.new.units) ≤ jobs_after after (length core.old.units - 1)) }
     ensures files { HaveThen (Then.Closes number keep after) core.old.names core.old.units lined.now.what → IfOk result (λ goes. HaveNext goes core.new.names core.new.units lined.now.what) }
+    ensures vain { HaveThen (Then.Closes number keep after) core.old.names core.old.units lined.now.what → OnErr result (HaveFiles core.new.names core.new.units) }
 {
     if !is_due(&connection, number, core) {
         return Ok(Doing::Finishes(Condition::Error(1)));
@@ -324,11 +325,11 @@ pub fn answered<D: Disk>(
     ensures same { KeepsPending core.old core.new }
     ensures fits { HaveThen then core.old.names core.old.units lined.now.what → result ≢ Err Lost.Unfit }
     ensures placed { slot_behind then < most_slots → IfOk result IsPlaced }
-    ensures units { HaveThen then core.old.names core.old.units lined.now.what → IfOk result (λ goes. length core.new.units ≤ length core.old.units + units_more goes) }
     ensures jobs { IfOk result (λ goes. jobs_of goes (length core.new.units) ≤ jobs_behind then (length core.old.units)) }
     ensures closes { may_await lined.now.what then ≡ true → IfOk result (λ next. may_do lined.now.what next ≡ true) }
     ensures called { may_await lined.now.what then ≡ true → result ≡ Err Lost.Disk → may_close lined.now.what ≡ true }
     ensures files { HaveThen then core.old.names core.old.units lined.now.what → IfOk result (λ goes. HaveNext goes core.new.names core.new.units lined.now.what) }
+    ensures vain { HaveThen then core.old.names core.old.units lined.now.what → OnErr result (HaveFiles core.new.names core.new.units) }
 {
     let condition = condition_in(answer);
     match then {

@@ -98,7 +98,7 @@ module _ {F : Type 0} {ghosts : Ghosts F} (m : Machine F ghosts) (s : State F gh
 
   pub on_paused : (a : Ask (Job F)) → rest_of m ≡ st ∷ more → HaveTurned (turned.Pauses a) m.state st.0.what → Counts (turned.Pauses a) s m.state → IsAt m
   on_paused a here have counts = record {
-    files = λ st' more' e. subst (λ (x : Stated). HaveAt m.state.stage m.state.core.names m.state.core.units x.0.what) (at_hand st' more' here e) have;
+    files = λ st' more' e. subst (λ (x : Stated). HaveAt m.state.stage m.state.core.names m.state.core.units x.0.what) (at_hand st' more' here e) have.0;
     few = λ none. let f = few (sym counts.2 ∙ none) in omega (arith, f, counts.0);
     kept = kept;
   }

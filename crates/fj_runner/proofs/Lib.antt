@@ -16,3 +16,4 @@ pub mod Numbering
 pub mod Fits
 pub mod Counting
 pub mod Spending
+pub mod Kept

@@ -10,7 +10,8 @@ use Rattle.fj_units.specs.Having.{HaveFiles}
 use Rattle.fj_world.specs.declared.ask.Ask.{Ask}
 use Rattle.fj_world.specs.declared.ask.Ask.TheVariants as ask
 use Rattle.fj_acts.specs.Fitting.{IsKept}
-use Rattle.fj_acts.specs.Having.{HaveThen}
+use Rattle.fj_bay.specs.declared.job.Job.{Job}
+use Rattle.fj_acts.specs.Having.{HaveBeside, HaveThen, name_brought}
 use Rattle.fj_runner.specs.Machine.{rest_of}
 use Rattle.fj_runner.specs.Passing.{is_waiting}
 use Rattle.fj_runner.specs.Spending.{HasAsks, jobs_at}
@@ -31,9 +32,15 @@ HaveAt (stage.Awaiting slot number next) names us what = HaveThen next names us 
 HaveAt (stage.Answered next job answer) names us what = HaveThen next names us what
 HaveAt _ names us what = HaveFiles names us
 
+-- while a job is asked for
+abbrev pub HaveAsked : {F : Type 0} → Ask (Job F) → List (List ℕ) → List Connected → Statement → Type 0
+HaveAsked (ask.Submit slot job) names us what = HaveBeside (name_brought job) names us what
+HaveAsked (ask.Settle slot) names us what = Unit {0}
+HaveAsked ask.Finished names us what = Unit {0}
+
 -- by what its turn comes to
 abbrev pub HaveTurned : {F : Type 0} {ghosts : Ghosts F} → Turned F → State F ghosts → Statement → Type 0
-HaveTurned (turned.Pauses ask) s what = HaveAt s.stage s.core.names s.core.units what
+HaveTurned (turned.Pauses a) s what = HaveAt s.stage s.core.names s.core.units what × HaveAsked a s.core.names s.core.units what
 HaveTurned _ s what = (s.stage ≡ stage.Start) × HaveFiles s.core.names s.core.units
 
 -- ---- identifiers, and numbers of jobs

@@ -36,7 +36,7 @@ pub record Rests {F : Type 0} {ghosts : Ghosts F} (m m' : Machine F ghosts) : Ty
   pub deck : m'.deck ≡ m.deck
 
 -- one call of a runner, whose sink, disk and machine go by these names: they are the same ones
-pub record Leads {N : Type 0} (out disk machine out' disk' machine' : N) (left_so given_up_so asking_so stays_so reason_so : Type 0) : Type 0 where
+pub record Leads {N : Type 0} (out disk machine out' disk' machine' : N) (left_so given_up_so asking_so stays_so reason_so keeps_so : Type 0) : Type 0 where
   pub same_out : out' ≡ out
   pub same_disk : disk' ≡ disk
   pub same_machine : machine' ≡ machine
@@ -45,3 +45,4 @@ pub record Leads {N : Type 0} (out disk machine out' disk' machine' : N) (left_s
   pub asking : asking_so
   pub stays : stays_so
   pub reason : reason_so
+  pub keeps : keeps_so

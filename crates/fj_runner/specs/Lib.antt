@@ -15,3 +15,4 @@ pub mod Making
 pub mod Fitting
 pub mod Going
 pub mod Spending
+pub mod Kept

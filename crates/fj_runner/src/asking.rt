@@ -8,6 +8,8 @@ ghost use Rattle.fj_turns.specs.Turns.{Turn, asked, by_turn, goes};
 ghost use Rattle.fj_turns.specs.Passing.{passed_by, passed_on};
 ghost use Rattle.fj_units.specs.Names.{AreInUse};
 ghost use Rattle.fj_units.specs.Files.{files_of};
+ghost use Rattle.fj_world.specs.Giving.{GivesOf};
+ghost use Rattle.fj_runner.specs.Kept.{Follows, MayKeep};
 ghost use Rattle.fj_runner.specs.Machine.{rest_of, run_at, run_of};
 ghost use Rattle.fj_runner.specs.Turned.{IsTurn, IsAsked};
 ghost use Rattle.fj_runner.specs.Stepping.{Steps};
@@ -40,6 +42,7 @@ impl<F: FileStore> Machine<F> {
         ensures at { IfNone result (self.new.at ≡ self.old.at + 1) }
         ensures deck { self.new.deck ≡ self.old.deck }
         ensures on { FromTurn self.old turned (IsAt self.new) }
+        ensures gives { FromTurn self.old turned (IfSome result (GivesOf MayKeep self.new)) }
         ensures behind { IfNone result (DoesNotPause turned) }
         ensures start { FromTurn self.old turned (IfNone result (self.new.state.stage ≡ Stage.Start)) }
         ensures still { SinceTurn self.old turned (λ s. IfNone result (self.new.state.sent ≡ s.sent)) }
@@ -82,9 +85,8 @@ impl<F: FileStore> Machine<F> {
             (D.held disk.new) (D.refusals disk.old) (D.refusals disk.new)
             (run_at (files_of (D.held disk.old)) self.old Start) self.old self.new) }
         ensures at { IfOk result (λ o. IfNone o (self.new.at ≡ self.old.at + 1)) }
-        ensures on { self.old.state.stage ≡ Stage.Start → IsAt self.old → IfOk result (λ o. IsAt self.new) }
-        ensures fits { IsSound self.old.deck → self.old.state.stage ≡ Stage.Start → IsAt self.old → result ≢ Err Lost.Unfit }
-        ensures start { self.old.state.stage ≡ Stage.Start → IsAt self.old → IfOk result (λ o. IfNone o (self.new.state.stage ≡ Stage.Start)) }
+        ensures follows { self.old.state.stage ≡ Stage.Start → IsAt self.old → Follows (λ o. IfSome o (GivesOf MayKeep self.new) × IfNone o (self.new.state.stage ≡ Stage.Start))
+            (IsSound self.old.deck) result self.new }
         ensures sent { IfOk result (λ o. IfSome o (λ ask. SentFor ask self.old.state.sent.items self.new.state.sent.items)) }
         ensures slots { IfOk result (λ o. IfSome o (λ ask. KeepsToSlots ask self.new.state)) }
         ensures still { IfOk result (λ o. IfNone o (self.new.state.sent ≡ self.old.state.sent)) }
@@ -116,8 +118,7 @@ impl<F: FileStore> Machine<F> {
         requires room { HasRoom self.old.state.sent.items }
         ensures asks { D.tells disk.old → self.old.state.stage ≡ Stage.Start → IfOk result (λ ask. IsAsked F.told F.bytes (files_of (D.held disk.new)) self.new ask
             (goes (rest_of self.old) (run_at (files_of (D.held disk.old)) self.old Start))) }
-        ensures on { self.old.state.stage ≡ Stage.Start → IsAt self.old → IfOk result (λ ask. IsAt self.new) }
-        ensures fits { IsSound self.old.deck → self.old.state.stage ≡ Stage.Start → IsAt self.old → result ≢ Err Lost.Unfit }
+        ensures follows { self.old.state.stage ≡ Stage.Start → IsAt self.old → Follows (GivesOf MayKeep self.new) (IsSound self.old.deck) result self.new }
         ensures spends { IfOk result (λ ask. Spent ask (jobs_from (length self.old.deck.statements) self.old.at) self.new) }
         ensures sent { IfOk result (λ ask. SentFor ask self.old.state.sent.items self.new.state.sent.items) }
         ensures slots { IfOk result (λ ask. KeepsToSlots ask self.new.state) }
@@ -156,8 +157,7 @@ impl<F: FileStore> Machine<F> {
         requires room { DoesNotPause turned → HasRoom self.old.state.sent.items }
         ensures asks { D.tells disk.old → (t : Turn) → IsTurn F.told F.bytes self.old.deck.variables (rest_of self.old) (files_of (D.held disk.old)) self.old.state turned t
             → IfOk result (λ ask. IsAsked F.told F.bytes (files_of (D.held disk.new)) self.new ask (by_turn (drop (self.old.at + 1) (stated self.old.deck.statements)) t)) }
-        ensures on { FromTurn self.old turned (IfOk result (λ ask. IsAt self.new)) }
-        ensures fits { IsSound self.old.deck → FromTurn self.old turned (result ≢ Err Lost.Unfit) }
+        ensures follows { FromTurn self.old turned (Follows (GivesOf MayKeep self.new) (IsSound self.old.deck) result self.new) }
         ensures spends { (jobs : ℕ) → Spends jobs turned self.old.state
             → SinceTurn self.old turned (λ s. IfOk result (λ ask. Spent ask (jobs + jobs_from (length self.old.deck.statements) (self.old.at + 1)) self.new)) }
         ensures sent { SinceTurn self.old turned (λ s. IfOk result (λ ask. SentFor ask s.sent.items self.new.state.sent.items)) }
@@ -188,8 +188,7 @@ impl<F: FileStore> Machine<F> {
         requires room { HasRoom self.old.state.sent.items }
         ensures asks { D.tells disk.old → (r : Run) → run_of F.told F.bytes (files_of (D.held disk.old)) self.old ≡ Some r
             → IfOk result (λ ask. IsAsked F.told F.bytes (files_of (D.held disk.new)) self.new ask (asked r)) }
-        ensures on { IsAt self.old → IfOk result (λ ask. IsAt self.new) }
-        ensures fits { IsSound self.old.deck → IsAt self.old → result ≢ Err Lost.Unfit }
+        ensures follows { IsAt self.old → Follows (GivesOf MayKeep self.new) (IsSound self.old.deck) result self.new }
         ensures spends { IfOk result (λ ask. Spent ask (jobs_left self.old) self.new × Lives ask self.old) }
         ensures sent { IfOk result (λ ask. SentFor ask self.old.state.sent.items self.new.state.sent.items) }
         ensures slots { IfOk result (λ ask. KeepsToSlots ask self.new.state) }

@@ -1,5 +1,5 @@
 // How a statement begins: prohibitions, then the transfers that it waits for are settled and told.
-ghost use Rattle.std.specs.Prelude.{◌≡◌, ◌≢◌, ◌<◌, List, length, ◌∷◌, ◌++◌, not, map, filter, get_or, true, Some, IfOk, OnOk, All, Err};
+ghost use Rattle.std.specs.Prelude.{◌≡◌, ◌≢◌, ◌<◌, List, length, ◌∷◌, ◌++◌, not, map, filter, get_or, true, Some, IfOk, OnOk, OnErr, All, Err};
 ghost use Rattle.fj_items.specs.Kinds.{kinds_of};
 ghost use Rattle.fj_store.specs.Storage.{values_of};
 ghost use Rattle.fj_plain.specs.State.{Entry, Files};
@@ -107,6 +107,7 @@ impl<F: FileStore> State<F> {
             (run_in variables.now ((lined.now, control_by lined.now.what) ∷ more) (files_of (D.held disk.old)) self.old stage))) }
         ensures steps { Steps W.tells W.taken W.count D.tells D.held D.count D.refusals out.old disk.old self.old.core result out.new disk.new self.new.core }
         ensures files { HaveFiles self.old.core.names self.old.core.units → IfOk result (λ t. HaveTurned t self.new lined.now.what) }
+        ensures vain { HaveFiles self.old.core.names self.old.core.units → OnErr result (HaveFiles self.new.core.names self.new.core.units) }
         ensures counts { IfOk result (λ t. Counts t self.old self.new) }
         ensures units { self.new.core.units ≡ self.old.core.units }
         ensures holds { IsKept self.old.core → OnOk result (IsKept self.new.core) }
@@ -184,6 +185,7 @@ impl<F: FileStore> State<F> {
             (run_in variables.now ((lined.now, control_by lined.now.what) ∷ more) (files_of (D.held disk.old)) self.old stage))) }
         ensures steps { Steps W.tells W.taken W.count D.tells D.held D.count D.refusals out.old disk.old self.old.core result out.new disk.new self.new.core }
         ensures files { HaveFiles self.old.core.names self.old.core.units → IfOk result (λ t. HaveTurned t self.new lined.now.what) }
+        ensures vain { HaveFiles self.old.core.names self.old.core.units → OnErr result (HaveFiles self.new.core.names self.new.core.units) }
         ensures counts { IfOk result (λ t. Counts t self.old self.new) }
         ensures units { self.new.core.units ≡ self.old.core.units }
         ensures holds { IsKept self.old.core → OnOk result (IsKept self.new.core) }
@@ -223,6 +225,7 @@ impl<F: FileStore> State<F> {
             (run_in variables.now ((lined.now, control_by lined.now.what) ∷ more) (files_of (D.held disk.old)) self.old stage))) }
         ensures steps { Steps W.tells W.taken W.count D.tells D.held D.count D.refusals out.old disk.old self.old.core result out.new disk.new self.new.core }
         ensures files { HaveFiles self.old.core.names self.old.core.units → IfOk result (λ t. HaveTurned t self.new lined.now.what) }
+        ensures vain { HaveFiles self.old.core.names self.old.core.units → OnErr result (HaveFiles self.new.core.names self.new.core.units) }
         ensures counts { IfOk result (λ t. Counts t self.old self.new) }
         ensures units { self.new.core.units ≡ self.old.core.units }
         ensures holds { IsKept self.old.core → OnOk result (IsKept self.new.core) }
@@ -259,6 +262,7 @@ impl<F: FileStore> State<F> {
             (run_in variables.now ((lined.now, control_by lined.now.what) ∷ more) (files_of (D.held disk.old)) self.old stage))) }
         ensures steps { Steps W.tells W.taken W.count D.tells D.held D.count D.refusals out.old disk.old self.old.core result out.new disk.new self.new.core }
         ensures files { HaveFiles self.old.core.names self.old.core.units → IfOk result (λ t. HaveTurned t self.new lined.now.what) }
+        ensures vain { HaveFiles self.old.core.names self.old.core.units → OnErr result (HaveFiles self.new.core.names self.new.core.units) }
         ensures counts { IfOk result (λ t. Counts t self.old self.new) }
         ensures units { self.new.core.units ≡ self.old.core.units }
         ensures holds { IsKept self.old.core → OnOk result (IsKept self.new.core) }

@@ -1,5 +1,5 @@
 // The runner as a script over slots of bays.
-ghost use Rattle.std.specs.Prelude.{◌≡◌, true, false, Some, None, if◌then◌else◌};
+ghost use Rattle.std.specs.Prelude.{◌≡◌, true, false, Some, None, IfErr, if◌then◌else◌};
 ghost use Rattle.fj_bay.specs.Meaning.{bay_meaning};
 ghost use Rattle.fj_world.specs.Conduct.{Idle, IsSubmitting, IsSettling, Asks, Takes, Tells};
 ghost use Rattle.fj_turns.specs.Serving.{run_conduct};
@@ -10,6 +10,8 @@ ghost use Rattle.fj_turns.specs.Turns.{asked};
 ghost use Rattle.fj_runner.specs.Admitting.{IsDue};
 ghost use Rattle.fj_runner.specs.Turned.{IsAsked};
 ghost use Rattle.fj_runner.specs.Failing.{IsGivenUp, FailsAsking, Stays, HasReason};
+ghost use Rattle.fj_world.specs.Giving.{GivesOf};
+ghost use Rattle.fj_runner.specs.Kept.{KeepsFiles, MayKeep};
 ghost use Rattle.fj_runner.specs.Leaving.{Leaves, Leads};
 ghost use Rattle.fj_runner.specs.Machine.{run_of};
 ghost use Rattle.fj_runner.specs.Tallying.{due_of, owed_at};
@@ -50,6 +52,8 @@ fn next_of<W: Sink, D: Disk>(
     ensures due { IsDue machine.old.tally result machine.new.tally }
     ensures rests { machine.old.tally.over ≡ true → (machine.new ≡ machine.old) × (disk.new ≡ disk.old) × (out.new ≡ out.old) }
     ensures reason { HasReason machine.old machine.new }
+    ensures gives { GivesOf MayKeep machine.new result }
+    ensures keeps { KeepsFiles machine.old machine.new }
     ensures asks { D.tells disk.old → (r : Run) → run_of D.File.told D.File.bytes (files_of (D.held disk.old)) machine.old ≡ Some r → machine.new.tally.over ≡ false
         → IsAsked D.File.told D.File.bytes (files_of (D.held disk.new)) machine.new result (asked r) }
     ensures names { D.tells disk.old → AreInUse machine.new.state.core.names (D.held disk.new).in_use }
@@ -75,19 +79,23 @@ impl<'a, 'b, 'c, W: Sink, D: Disk> Script for Runner<'a, 'b, 'c, W, D> {
           (Leaves W.tells W.taken W.count D.tells D.count D.refusals old.out.now old.disk.now old.machine.now new.out.now new.disk.now new.machine.now)
           (IsGivenUp (W.tells old.out.now) (W.taken old.out.now) (W.taken new.out.now) (D.held new.disk.now) (D.refusals old.disk.now) (D.refusals new.disk.now)
           (if D.told old.disk.now then run_of D.File.told D.File.bytes (files_of (D.held old.disk.now)) old.machine.now else None) old.machine.now new.machine.now)
-          (FailsAsking old.disk.now new.disk.now old.machine.now new.machine.now) (Stays (W.taken old.out.now) (W.taken new.out.now) old.disk.now new.disk.now old.machine.now new.machine.now) (HasReason old.machine.now new.machine.now);
+          (FailsAsking old.disk.now new.disk.now old.machine.now new.machine.now) (Stays (W.taken old.out.now) (W.taken new.out.now) old.disk.now new.disk.now old.machine.now new.machine.now) (HasReason old.machine.now new.machine.now) (KeepsFiles old.machine.now new.machine.now);
       state = λ r. if D.told r.disk.now then run_of D.File.told D.File.bytes (files_of (D.held r.disk.now)) r.machine.now else None;
     }) };
 
+    ghost gives = { λ r job. MayKeep r.machine.now job };
+
     fn ask(&mut self) -> Ask<Job<D::File>>
         requires { ⟦<Runner<'a, 'b, 'c, W, D> as Script>⟧.conduct.due self.old ≡ Idle }
-        ensures { Asks (bay_meaning D.File.told D.File.bytes D.File.count) ⟦<Runner<'a, 'b, 'c, W, D> as Script>⟧.conduct self.old result self.new }
+        ensures asks { Asks (bay_meaning D.File.told D.File.bytes D.File.count) ⟦<Runner<'a, 'b, 'c, W, D> as Script>⟧.conduct self.old result self.new }
+        ensures gives { GivesOf ⟦<Runner<'a, 'b, 'c, W, D> as Script>⟧.gives self.new result }
     {
         next_of(self.alloc, self.machine, self.disk, self.out)
     }
 
     fn took(&mut self, number: Result<u64, Refused<Job<D::File>>>)
-        requires { IsSubmitting (⟦<Runner<'a, 'b, 'c, W, D> as Script>⟧.conduct.due self.old) }
+        requires submitting { IsSubmitting (⟦<Runner<'a, 'b, 'c, W, D> as Script>⟧.conduct.due self.old) }
+        requires back { IfErr number (λ refused. ⟦<Runner<'a, 'b, 'c, W, D> as Script>⟧.gives self.old refused.job) }
         ensures { Takes ⟦<Runner<'a, 'b, 'c, W, D> as Script>⟧.conduct self.old number self.new }
     {
         self.machine.take_number(number);

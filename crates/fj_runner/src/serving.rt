@@ -1,5 +1,5 @@
 // Asks that are made and answered.
-ghost use Rattle.std.specs.Prelude.{◌≡◌, ◌⊎◌, ◌<◌, ℕ, get_or, true, false, OnErr, OnOk, Some, None, IsSome};
+ghost use Rattle.std.specs.Prelude.{◌≡◌, ◌⊎◌, ◌<◌, ℕ, get_or, true, false, IfErr, OnErr, OnOk, Some, None, IsSome};
 ghost use Rattle.fj_bay.specs.Jobs.{Job as Task, Answer as Reply};
 ghost use Rattle.fj_bay.specs.Meaning.{bay_meaning};
 ghost use Rattle.fj_bay.specs.Plain.{task_of, reply_of};
@@ -12,6 +12,8 @@ ghost use Rattle.fj_units.specs.Files.{files_of};
 ghost use Rattle.fj_world.specs.Conduct.{IsSubmitting, IsSettling, IsAnswer, is_done, owed_after_settle, owed_after_took};
 ghost use Rattle.fj_runner.specs.Admitting.{IsDue, IsAdmitted, MayAsk};
 ghost use Rattle.fj_runner.specs.Failing.{IsGivenUp, HasReason};
+ghost use Rattle.fj_world.specs.Giving.{GivesOf};
+ghost use Rattle.fj_runner.specs.Kept.{KeepsFiles, MayKeep};
 ghost use Rattle.fj_runner.specs.Leaving.{Leaves, Rests};
 ghost use Rattle.fj_runner.specs.Machine.{run_of};
 ghost use Rattle.fj_runner.specs.Refused.{brought};
@@ -53,6 +55,7 @@ impl<F: FileStore> Machine<F> {
         requires may { MayAsk ask self.old.tally.owed.items self.old.tally.left }
         ensures due { IsDue self.old.tally result self.new.tally }
         ensures admitted { IsAdmitted self.old.tally ask result self.new.tally }
+        ensures kept { self.new.kept ≡ self.old.kept }
         ensures state { self.new.state ≡ self.old.state }
         ensures at { self.new.at ≡ self.old.at }
         ensures deck { self.new.deck ≡ self.old.deck }
@@ -83,6 +86,8 @@ impl<F: FileStore> Machine<F> {
         ensures asks { D.tells disk.old → (r : Run) → run_of F.told F.bytes (files_of (D.held disk.old)) self.old ≡ Some r → self.new.tally.over ≡ false
             → IsAsked F.told F.bytes (files_of (D.held disk.new)) self.new result (asked r) }
         ensures names { D.tells disk.old → AreInUse self.new.state.core.names (D.held disk.new).in_use }
+        ensures gives { GivesOf MayKeep self.new result }
+        ensures keeps { KeepsFiles self.old self.new }
         ensures on { IsGoing self.old → self.new.tally.over ≡ false → IsGoing self.new }
         ensures leaves { Leaves W.tells W.taken W.count D.tells D.count D.refusals out.old disk.old self.old out.new disk.new self.new }
         ensures fails { D.tells disk.old → IsGivenUp (W.tells out.old) (W.taken out.old) (W.taken out.new) (D.held disk.new) (D.refusals disk.old) (D.refusals disk.new)
@@ -102,12 +107,14 @@ impl<F: FileStore> Machine<F> {
 
     /// Its job was submitted, or refused.
     pub(crate) fn take_number(&mut self, number: Result<u64, Refused<Job<F>>>)
-        requires { IsSubmitting (due_of self.old.tally.hand) }
+        requires submitting { IsSubmitting (due_of self.old.tally.hand) }
+        requires back { IfErr number (λ refused. MayKeep self.old refused.job) }
         ensures hand { self.new.tally.hand ≡ Idle }
         ensures left { self.new.tally.left < self.old.tally.left }
         ensures owed { (slot : ℕ) → owed_at self.new.tally.owed.items slot ≡ owed_after_took (due_of self.old.tally.hand) number (owed_at self.old.tally.owed.items) slot }
         ensures over { self.old.tally.over ≡ true → self.new.tally.over ≡ true }
         ensures refused { OnErr number (self.new.tally.over ≡ true) }
+        ensures keeps { KeepsFiles self.old self.new }
         ensures goes { OnOk number (self.new.tally.over ≡ self.old.tally.over) }
         ensures reason { HasReason self.old self.new }
         ensures stopped { self.new.tally.stopped ≡ self.old.tally.stopped }
@@ -134,6 +141,7 @@ impl<F: FileStore> Machine<F> {
         ensures told { (files : Files) (r : Run) (task : Task) → run_of F.told F.bytes files self.old ≡ Some r → task_of F.told F.bytes job ≡ Some task
             → run_of F.told F.bytes files self.new ≡ Some (told_of r (task, reply_of answer)) }
         ensures tally { self.new.tally ≡ self.old.tally }
+        ensures kept { self.new.kept ≡ self.old.kept }
         ensures hears { Hears self.old.state self.new.state }
         ensures rests { Rests self.old self.new }
     {
@@ -150,6 +158,7 @@ impl<F: FileStore> Machine<F> {
         ensures left { self.new.tally.left < self.old.tally.left }
         ensures owed { (slot : ℕ) → owed_at self.new.tally.owed.items slot ≡ owed_after_settle (due_of self.old.tally.hand) (owed_at self.old.tally.owed.items) slot }
         ensures over { self.old.tally.over ≡ true → self.new.tally.over ≡ true }
+        ensures kept { self.new.kept ≡ self.old.kept }
         ensures reason { HasReason self.old self.new }
         ensures goes { is_done told ≡ true → self.new.tally.over ≡ self.old.tally.over }
         ensures halts { is_done told ≡ false → (self.new.tally.over ≡ true) × (self.new.tally.stopped ≡ true) }

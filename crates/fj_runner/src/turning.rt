@@ -1,5 +1,6 @@
 // A statement goes on from its stage.
-ghost use Rattle.std.specs.Prelude.{◌≡◌, ◌≢◌, ◌+◌, ◌<◌, ◌^◌, List, length, ◌∷◌, true, Some, IfOk, OnOk, Err};
+ghost use Rattle.std.specs.Prelude.{◌≡◌, ◌≢◌, ◌+◌, ◌<◌, ◌^◌, List, length, ◌∷◌, true, Some, IfOk, OnErr, OnOk, Err};
+ghost use Rattle.fj_units.specs.Having.{HaveFiles};
 ghost use Rattle.fj_statement.specs.Sound.{IsSoundStatement};
 ghost use Rattle.fj_items.specs.Kinds.{kinds_of};
 ghost use Rattle.fj_plain.specs.Statement.{Stated, control_by};
@@ -52,6 +53,7 @@ impl<F: FileStore> State<F> {
             → IsKept self.old.core → result ≢ Err Lost.Unfit }
         ensures holds { IsKept self.old.core → OnOk result (IsKept self.new.core) }
         ensures files { HaveAt self.old.stage self.old.core.names self.old.core.units lined.now.what → IfOk result (λ t. HaveTurned t self.new lined.now.what) }
+        ensures vain { HaveAt self.old.stage self.old.core.names self.old.core.units lined.now.what → OnErr result (HaveFiles self.new.core.names self.new.core.units) }
         ensures counts { IfOk result (λ t. Counts t self.old self.new) }
         ensures spends { IfOk result (λ t. Spends (jobs_at self.old.stage (length self.old.core.units)) t self.new) }
         ensures heard { self.new.told ≡ self.old.told }

@@ -34,7 +34,7 @@ ghost use Rattle.fj_statement.specs.declared.statement.Statement.{Statement as P
 ghost use Rattle.fj_statement.specs.declared.statement.Statement.{Statement};
 ghost use Rattle.fj_units.specs.Having.{HaveFiles};
 ghost use Rattle.fj_acts.specs.Doing.{Ends};
-ghost use Rattle.fj_acts.specs.Having.{HaveNext};
+ghost use Rattle.fj_acts.specs.Having.{HaveBeside, HaveNext, name_brought};
 ghost use Rattle.fj_acts.specs.Jobs.{jobs_of};
 ghost use Rattle.fj_runner.specs.Spending.{Spends, jobs_at};
 ghost use Rattle.fj_runner.specs.Going.{Counts, DoesNotPause, HaveAt, HaveTurned};
@@ -66,7 +66,8 @@ impl<F: FileStore> State<F> {
         ensures core { self.new.core ≡ self.old.core }
         ensures may { (what : PlainStatement) → may_be_at what stage ≡ true → may_be_at what self.old.stage ≡ true → may_be_at what self.new.stage ≡ true }
         ensures pauses { result ≢ Turned.Passes }
-        ensures files { (what : Statement) → HaveAt stage self.old.core.names self.old.core.units what → HaveTurned result self.new what }
+        ensures files { (what : Statement) → HaveAt stage self.old.core.names self.old.core.units what → HaveBeside (name_brought job) self.old.core.names self.old.core.units what
+            → HaveTurned result self.new what }
         ensures counts { Counts result self.old self.new }
         ensures spends { Spends (jobs_at stage (length self.old.core.units) + 1) result self.new }
         ensures heard { self.new.told ≡ self.old.told }
@@ -182,6 +183,7 @@ impl<F: FileStore> State<F> {
         ensures fits { IsSoundStatement variables.now lined.now.what → HaveFiles self.old.core.names self.old.core.units → IsKept self.old.core → result ≢ Err Lost.Unfit }
         ensures holds { IsKept self.old.core → OnOk result (IsKept self.new.core) }
         ensures files { HaveFiles self.old.core.names self.old.core.units → IfOk result (λ t. HaveTurned t self.new lined.now.what) }
+        ensures vain { HaveFiles self.old.core.names self.old.core.units → OnErr result (HaveFiles self.new.core.names self.new.core.units) }
         ensures counts { IfOk result (λ t. Counts t self.old self.new) }
         ensures units { self.new.core.units ≡ self.old.core.units }
         ensures spends { IfOk result (λ t. Spends ((length slots - next) + max (length self.old.core.units) 2) t self.new) }

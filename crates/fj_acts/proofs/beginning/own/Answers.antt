@@ -12,6 +12,7 @@ use Rattle.fj_acts.specs.Doing.{IsDoing}
 use Rattle.fj_acts.specs.State.{core_of}
 use Rattle.fj_acts.proofs.BeginningLemmas.{asks_about, own_is, assign_front, open_front, inquire_front, takes_as, part_as}
 use Rattle.fj_acts.proofs.FailingLemmas.{fails_as, still_as, on_err}
+use Rattle.fj_acts.proofs.HavingLemmas.{opens_as}
 use Rattle.fj_acts.proofs.OpeningLemmas.{meant}
 use Rattle.fj_acts.proofs.StateLemmas.{keeps_answers}
 use Rattle.fj_acts.proofs.StepLemmas.{asks_to_open}
@@ -36,6 +37,11 @@ returns-in-OpenUnit-clause-doing g c = λ tells.
     meant g.D.File.FileStore.told g.D.File.FileStore.bytes c.args.variables.now st _ c.open.result _ _
     (own_is c.args.variables.now c.args.lined.now.line core what (statement.OpenUnit c.in-OpenUnit.unit c.in-OpenUnit.spec c.in-OpenUnit.iostat) c.in-OpenUnit.is)
     (c.open.ensures.doing tells c.args.variables.now st (asks_to_open what c.in-OpenUnit.unit c.in-OpenUnit.spec c.in-OpenUnit.iostat c.in-OpenUnit.is))
+
+pub returns-in-OpenUnit-clause-files : goal.returns-in-OpenUnit-clause-files
+returns-in-OpenUnit-clause-files g c = λ have.
+    let what : Statement = c.args.lined.now.what in
+    c.open.ensures.files what (opens_as what c.in-OpenUnit.unit c.in-OpenUnit.spec c.in-OpenUnit.iostat c.in-OpenUnit.is) have
 
 pub returns-in-OpenUnit-clause-fault : goal.returns-in-OpenUnit-clause-fault
 returns-in-OpenUnit-clause-fault g c = λ tells lost.

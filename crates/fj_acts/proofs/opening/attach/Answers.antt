@@ -1,4 +1,4 @@
-use Rattle.std.proofs.Common.{◌+◌, ◌≤◌, length, refl, ap, ◌∙◌, sym, subst, [], ◌∷◌, ◌++◌}
+use Rattle.std.proofs.Common.{refl, ap, ◌∙◌, sym, subst, [], ◌∷◌, ◌++◌}
 use Rattle.fj_connect.specs.Linked.{connection_of}
 use Rattle.fj_connect.specs.Opening.{opened_file}
 use Rattle.fj_outside.specs.Holdings.{Holdings}
@@ -8,11 +8,11 @@ use Rattle.fj_units.proofs.Files.{files-out_of}
 use Rattle.fj_acts.specs.State.{core_of}
 use Rattle.fj_acts.proofs.OpeningLemmas.{opened_is, unit_more, names_taken, names_back, refusal_of, stop_of}
 use Rattle.fj_acts.proofs.FailingLemmas.{fails_open, still_open, open_rose}
-use Rattle.fj_acts.proofs.JobLemmas.{inserted_more}
+use Rattle.fj_acts.proofs.HavingLemmas.{named_beside, named_in_vain}
 use Rattle.fj_acts.specs.Having.{HaveNext}
 use Rattle.fj_units.specs.Having.{HaveFiles}
-use Rattle.fj_units.specs.Names.{left_of}
-use Rattle.fj_units.proofs.Having.{have_more, have_vain}
+use Rattle.fj_units.proofs.Having.{have_more}
+use Rattle.fj_desk.specs.Core.{Connected}
 use Rattle.fj_acts.proofs.opening.attach.Goals as goal
 
 pub returns-in-Ok-clause-doing : goal.returns-in-Ok-clause-doing
@@ -53,19 +53,23 @@ returns-clause-fault g c = λ tells lost.
     (stop_of _ c.in-Err.fault c.in-Stop.stop c.in-Stop.is (c.in-Err.ensures.stopped tells))
 
 pub returns-in-Ok-clause-files : goal.returns-in-Ok-clause-files
-returns-in-Ok-clause-files g c = λ what none free have.
+returns-in-Ok-clause-files g c = λ what none free opens have.
     let us = c.args.core.now.units in
+    let old = c.args.core.now.names in
+    let new : Connected = record { number = c.args.number; slot = c.args.slot; name = c.args.name; modes = c.args.modes } in
     let more = unit_more c.in_ok-units.units us c.args.number c.args.slot c.args.name c.in_ok-copy.copy c.args.name c.args.modes c.args.modes c.in_ok-units.ensures c.in_ok-copy.ensures refl refl in
-    let names = c.args.core.now.names ++ c.args.name ∷ [] in
+    let names = old ++ c.args.name ∷ [] in
     subst (λ ns. HaveNext c.attaching.result ns us what) (sym c.in_ok-add.ensures.ok)
-    (c.attaching.ensures.files names us what (subst (HaveFiles names) (sym more) (have_more c.args.core.now.names us (record { number = c.args.number; slot = c.args.slot; name = c.args.name; modes = c.args.modes }) none free have))
-    (subst (λ l. length l ≤ length us + 1) (sym more) (inserted_more (record { number = c.args.number; slot = c.args.slot; name = c.args.name; modes = c.args.modes }) us)))
+    (c.attaching.ensures.files names us what (subst (HaveFiles names) (sym more) (have_more old us new none free have))
+    (named_beside old us c.args.name c.in-Ok.connection.name what c.in-Ok.ensures.connected.1 (sym c.holds.ensures ∙ c.if-holds.false) free opens have))
 
 pub returns-in-Refused-clause-files : goal.returns-in-Refused-clause-files
-returns-in-Refused-clause-files g c = λ what none free have.
-    let names = c.args.core.now.names in
-    let us = c.args.core.now.units in
-    subst (λ ns. HaveFiles ns us) (sym (c.remove.ensures ∙ ap (λ ns. left_of ns c.args.name) c.in_ok-add.ensures.ok)) (have_vain names us c.args.name (sym c.holds.ensures ∙ c.if-holds.false) have)
+returns-in-Refused-clause-files g c = λ what none free opens have.
+    named_in_vain c.args.core.now.names c.add.new.self c.remove.new.self c.args.core.now.units c.args.name (sym c.holds.ensures ∙ c.if-holds.false) c.in_ok-add.ensures.ok c.remove.ensures have
+
+pub returns-clause-vain : goal.returns-clause-vain
+returns-clause-vain g c = λ have.
+    named_in_vain c.args.core.now.names c.add.new.self c.remove.new.self c.args.core.now.units c.args.name (sym c.holds.ensures ∙ c.if-holds.false) c.in_ok-add.ensures.ok c.remove.ensures have
 
 pub returns-clause-stays : goal.returns-clause-stays
 returns-clause-stays g c = λ tells.

@@ -1,9 +1,11 @@
-use Rattle.std.proofs.Common.{sym, ◌∙◌, ap}
+use Rattle.std.proofs.Common.{sym, subst, ◌∙◌, ap}
 use Rattle.fj_desk.specs.Core.{has_name}
 use Rattle.fj_units.specs.Files.{files_of}
 use Rattle.fj_acts.specs.State.{core_of}
 use Rattle.fj_acts.proofs.OpeningLemmas.{connects_is, meant}
 use Rattle.fj_acts.proofs.FailingLemmas.{fails_as, still_as}
+use Rattle.fj_acts.specs.Having.{IsToOpen}
+use Rattle.fj_acts.proofs.HavingLemmas.{free_of}
 use Rattle.fj_acts.proofs.opening.connect.Goals as goal
 
 pub returns-in_ok-name-in-Some-clause-doing : goal.returns-in_ok-name-in-Some-clause-doing
@@ -21,8 +23,11 @@ returns-in_ok-name-in-Some-clause-fault g c = λ tells lost.
     (c.attach.ensures.fault tells lost)
 
 pub returns-in_ok-name-in-Some-clause-files : goal.returns-in_ok-name-in-Some-clause-files
-returns-in_ok-name-in-Some-clause-files g c = λ what none free have.
-    c.attach.ensures.files what none (ap (has_name c.args.core.now.units) c.in_ok-name-in-Some.ensures ∙ free) have
+returns-in_ok-name-in-Some-clause-files g c = λ what asks free have.
+    let us = c.args.core.now.units in
+    let name = c.in_ok-name-in-Some.ensures in
+    let f = free_of what c.args.spec.now c.args.number us asks free in
+    c.attach.ensures.files what f.none (ap (has_name us) name ∙ f.free) (subst (IsToOpen what us) (sym name) f.opens) have
 
 pub returns-in_ok-name-in-Some-clause-stays : goal.returns-in_ok-name-in-Some-clause-stays
 returns-in_ok-name-in-Some-clause-stays g c = λ tells.

@@ -5,7 +5,10 @@ use Rattle.fj_desk.specs.Acting.{opens, opens_with}
 use Rattle.fj_desk.specs.Doing.{Doing as PlainDoing}
 use Rattle.fj_units.specs.Files.{files_of}
 use Rattle.fj_units.specs.Units.{connected_of}
+use Rattle.fj_units.specs.Having.{HaveFiles}
+use Rattle.fj_plain.specs.Needs.{number_of}
 use Rattle.fj_acts.specs.Doing.{IsDoing}
+use Rattle.fj_acts.specs.Having.{OpensAt}
 use Rattle.fj_acts.specs.State.{core_of}
 use Rattle.fj_acts.proofs.FailingLemmas.{fails_as, still_as}
 use Rattle.fj_acts.proofs.OpeningLemmas.{opens_again, opens_none, opens_another, numbered, meant}
@@ -88,3 +91,8 @@ returns-clause-fault g c = λ tells lost.
           ∙ opens_none core number c.args.spec.now (connected_at c.args.core.now.units number) found
     ] ∙ whole)
     (c.open_other.ensures.fault tells lost)
+
+pub returns-clause-files : goal.returns-clause-files
+returns-clause-files g c = λ what opens have.
+    let same : c.match-find.core ≡ c.args.core.now = elim c.match-find.branch [ in-Some+else-keeps_name w ↦ w.core-is | in_default-find w ↦ w.core-is ] in
+    c.open_other.ensures.files what (subst (λ u. OpensAt what (number_of u) c.args.spec.now) c.in-Number.is opens) (subst (λ (k : Held). HaveFiles k.names k.units) (sym same) have)

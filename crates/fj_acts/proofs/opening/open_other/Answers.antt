@@ -10,7 +10,7 @@ use Rattle.fj_acts.proofs.FailingLemmas.{fails_as, still_as}
 use Rattle.fj_acts.proofs.FittingLemmas.{free_home}
 use Rattle.fj_acts.specs.declared.doing.After.TheVariants as after
 use Rattle.fj_acts.proofs.ClosingLemmas.{found_again, found_number}
-use Rattle.fj_acts.proofs.HavingLemmas.{closing_has, free_there, opens_behind_free}
+use Rattle.fj_acts.proofs.HavingLemmas.{asks_by, closing_has, free_there, opens_behind_free, opens_free}
 use Rattle.fj_acts.proofs.opening.open_other.Goals as goal
 
 pub returns-in-Some-clause-doing : goal.returns-in-Some-clause-doing
@@ -52,10 +52,11 @@ returns-in-Some-clause-files g c = λ what asks have.
     (opens_behind_free what c.args.spec.now c.in_ok-name.name u.number number us asks (found_number us number u found) c.in_ok-name.ensures (sym c.is_taken.ensures ∙ c.if-is_taken.false)) have
 
 pub returns-clause-files : goal.returns-clause-files
-returns-clause-files g c = λ what asks have.
+returns-clause-files g c = λ what opens have.
     let us = c.args.core.now.units in
     let none : connected_at us c.args.number ≡ None = sym c.in_default.ensures in
-    c.connect.ensures.files what none (ap (has_name us) (sym c.in_ok-name.ensures) ∙ free_there us c.args.number c.in_ok-name.name none (sym c.is_taken.ensures ∙ c.if-is_taken.false)) have
+    c.connect.ensures.files what (asks_by what (Some c.args.number) c.args.spec.now opens) (opens_free what c.args.spec.now c.args.number us opens none
+    (ap (has_name us) (sym c.in_ok-name.ensures) ∙ free_there us c.args.number c.in_ok-name.name none (sym c.is_taken.ensures ∙ c.if-is_taken.false))) have
 
 pub returns-clause-stays : goal.returns-clause-stays
 returns-clause-stays g c = λ tells.

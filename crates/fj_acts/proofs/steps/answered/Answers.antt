@@ -1,4 +1,4 @@
-use Rattle.std.proofs.Common.{◌≡◌, ℕ, refl, sym, ap, ◌∙◌, subst, length, ◌≤◌, IfOk, arith}
+use Rattle.std.proofs.Common.{◌≡◌, ℕ, refl, sym, ap, ◌∙◌, subst, length, ◌≤◌, IfOk}
 use Rattle.std.specs.Option.{option_map}
 use Rattle.fj_bay.specs.Jobs.{Job as Task, Answer}
 use Rattle.fj_bay.specs.Plain.{looked_of, reply_of}
@@ -10,13 +10,14 @@ use Rattle.fj_desk.specs.Desks.{brought_by}
 use Rattle.fj_pending.specs.Plain.{brought_of}
 use Rattle.fj_pending.specs.declared.held.Told.{Told}
 use Rattle.fj_units.specs.Files.{files_of}
+use Rattle.fj_units.specs.Having.{HaveFiles}
 use Rattle.fj_acts.specs.Doing.{IsDoing, closed, goes_on, looks, then_of}
 use Rattle.fj_acts.specs.Having.{HaveThen}
 use Rattle.fj_acts.specs.Jobs.{jobs_behind, jobs_of}
 use Rattle.fj_acts.specs.State.{core_of}
 use Rattle.fj_acts.specs.declared.doing.Then.{Then}
-use Rattle.fj_acts.proofs.FailingLemmas.{fails_as, looks_there, stands_as, stands_here}
-use Rattle.fj_acts.proofs.JobLemmas.{fewer_units, modes_as_many, none_when_ended}
+use Rattle.fj_acts.proofs.FailingLemmas.{fails_as, looks_there, on_err, stands_as, stands_here}
+use Rattle.fj_acts.proofs.JobLemmas.{none_when_ended}
 use Rattle.fj_acts.proofs.OpeningLemmas.{meant}
 use Rattle.fj_acts.proofs.StateLemmas.{keeps_answers}
 use Rattle.fj_acts.proofs.StepLemmas.{brought_is, detached_is, looked_is, none_closed, none_out}
@@ -143,8 +144,19 @@ returns-in-Some-clause-files g c = λ have.
 pub returns-in-Attaches-clause-files : goal.returns-in-Attaches-clause-files
 returns-in-Attaches-clause-files g c = λ have.
     let core = c.args.core.now in
-    let it = subst (λ (t : Then). HaveThen t core.names core.units c.args.lined.now.what) c.in-Attaches.is have in
-    it.0
+    subst (λ (t : Then). HaveThen t core.names core.units c.args.lined.now.what) c.in-Attaches.is have
+
+pub returns-in-Some-clause-vain : goal.returns-in-Some-clause-vain
+returns-in-Some-clause-vain g c = λ have.
+    let core = c.args.core.now in
+    c.closed.ensures.vain (subst (λ (t : Then). HaveThen t core.names core.units c.args.lined.now.what) c.in-Closes.is have)
+
+pub returns-in_err-looked-in-Looks-clause-vain : goal.returns-in_err-looked-in-Looks-clause-vain
+returns-in_err-looked-in-Looks-clause-vain g c = λ have.
+    let core = c.args.core.now in
+    let it = subst (λ (t : Then). HaveThen t core.names core.units c.args.lined.now.what) c.in-Looks.is have in
+    let new = c.looked.new.core in
+    on_err c.from_residual.result (HaveFiles new.names new.units) (subst (HaveFiles new.names) (sym c.looked.ensures.units) (subst (λ ns. HaveFiles ns core.units) (sym c.looked.ensures.names) it))
 
 pub returns-in_ok-looked-in-Looks-clause-files : goal.returns-in_ok-looked-in-Looks-clause-files
 returns-in_ok-looked-in-Looks-clause-files g c = λ have.
@@ -169,25 +181,10 @@ returns-in-Carries-clause-jobs g c =
     let most = length c.args.core.now.units in
     subst (λ (t : Then). jobs_of c.carried.result (length c.carried.new.core.units) ≤ jobs_behind t most) (sym c.in-Carries.is) (c.carried.ensures.jobs (length c.carried.new.core.units))
 
-pub returns-in-Some-clause-units : goal.returns-in-Some-clause-units
-returns-in-Some-clause-units g c = λ have. fewer_units c.closed.result c.args.core.now.units c.closed.new.core.units c.closed.ensures.units
-
 pub returns-in-Some-clause-jobs : goal.returns-in-Some-clause-jobs
 returns-in-Some-clause-jobs g c =
     let most = length c.args.core.now.units in
     subst (λ (t : Then). IfOk c.closed.result (λ does. jobs_of does (length c.closed.new.core.units) ≤ jobs_behind t most)) (sym c.in-Closes.is) c.closed.ensures.jobs
 
-pub returns-in-Attaches-clause-units : goal.returns-in-Attaches-clause-units
-returns-in-Attaches-clause-units g c = λ have.
-    let core = c.args.core.now in
-    let it = subst (λ (t : Then). HaveThen t core.names core.units c.args.lined.now.what) c.in-Attaches.is have in
-    it.1
-
 pub returns-in_ok-looked-in-Looks-clause-jobs : goal.returns-in_ok-looked-in-Looks-clause-jobs
 returns-in_ok-looked-in-Looks-clause-jobs g c = none_when_ended c.in_ok-looked-in-Looks.field-0 (length c.looked.new.core.units) _ c.in_ok-looked-in-Looks.ensures.ends
-
-pub returns-in-Changes-clause-units : goal.returns-in-Changes-clause-units
-returns-in-Changes-clause-units g c = λ have.
-    let us = c.args.core.now.units in
-    let same : length c.set_modes.new.self ≡ length us = ap length c.set_modes.ensures.modes ∙ modes_as_many us _ _ in
-    omega (arith, same)

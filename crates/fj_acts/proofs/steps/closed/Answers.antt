@@ -13,9 +13,9 @@ use Rattle.fj_acts.proofs.FailingLemmas.{fails_as, fails_since, fails_closing, g
 use Rattle.fj_acts.proofs.OpeningLemmas.{meant}
 use Rattle.fj_acts.proofs.StepLemmas.{closed_goes_on, other_closed}
 use Rattle.fj_acts.specs.Having.{IsFreeNext}
-use Rattle.std.proofs.Common.{length, arith}
+use Rattle.std.proofs.Common.{length}
 use Rattle.fj_acts.proofs.HavingLemmas.{closed_has, comes_due}
-use Rattle.fj_acts.proofs.JobLemmas.{closed_less, less_jobs, on_ok}
+use Rattle.fj_acts.proofs.JobLemmas.{closed_less, less_jobs}
 use Rattle.fj_acts.proofs.steps.closed.Goals as goal
 
 pub close_file-requires : goal.close_file-requires
@@ -115,14 +115,19 @@ returns-then-not-holds-clause-fits g c = λ have e.
     let z : false ≡ true = c.if-not-holds.ensures ∙ ap (stands core.names) c.name.ensures ∙ there in
     absurd (let bad : ⊥ = cc in bad)
 
-pub returns-in-Ok-clause-units : goal.returns-in-Ok-clause-units
-returns-in-Ok-clause-units g c =
-    let core = c.args.core.now in
-    let less = closed_less core.units c.remove-2.new.self c.args.number c.args.connection.name (sym c.if-not-is_due.ensures) c.remove-2.ensures.left in
-    on_ok c.go_on.result _ (let same : length c.go_on.new.core.units ≡ length c.remove-2.new.self = ap length c.go_on.ensures.units in omega (arith, less, same))
-
 pub returns-in-Ok-clause-jobs : goal.returns-in-Ok-clause-jobs
 returns-in-Ok-clause-jobs g c =
     let core = c.args.core.now in
     let less = closed_less core.units c.remove-2.new.self c.args.number c.args.connection.name (sym c.if-not-is_due.ensures) c.remove-2.ensures.left in
     less_jobs c.go_on.result c.args.after (length c.remove-2.new.self) (length core.units) c.go_on.new.core.units less c.go_on.ensures.jobs
+
+pub returns-in-Ok-clause-vain : goal.returns-in-Ok-clause-vain
+returns-in-Ok-clause-vain g c = λ have.
+    let core = c.args.core.now in
+    c.go_on.ensures.vain
+    (closed_has core.units c.remove-2.new.self c.args.number core.names c.remove.new.self c.args.connection.name (sym c.if-not-is_due.ensures) (c.remove.ensures ∙ ap (left_of core.names) c.name-2.ensures) have.0 c.remove-2.ensures.files)
+
+pub returns-in-Err-clause-vain : goal.returns-in-Err-clause-vain
+returns-in-Err-clause-vain g c = λ have.
+    let core = c.args.core.now in
+    closed_has core.units c.remove-2.new.self c.args.number core.names c.remove.new.self c.args.connection.name (sym c.if-not-is_due.ensures) (c.remove.ensures ∙ ap (left_of core.names) c.name-2.ensures) have.0 c.remove-2.ensures.files

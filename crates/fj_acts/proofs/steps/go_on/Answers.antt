@@ -14,6 +14,7 @@ use Rattle.fj_acts.proofs.StepLemmas.{asks_to_open}
 use Rattle.fj_plain.specs.Connecting.{file_due}
 use Rattle.fj_acts.proofs.HavingLemmas.{free_of}
 use Rattle.std.proofs.Common.{length, ◌≤◌, arith}
+use Rattle.fj_acts.specs.Having.{IsFreeNext}
 use Rattle.fj_acts.specs.Jobs.{jobs_after, jobs_of}
 use Rattle.fj_acts.proofs.JobLemmas.{if_one}
 use Rattle.fj_acts.proofs.steps.go_on.Goals as goal
@@ -62,14 +63,14 @@ returns-in-ClosesAll-clause-files g c = λ free have. c.close_all.ensures.files 
 pub returns-in-Ok-clause-files : goal.returns-in-Ok-clause-files
 returns-in-Ok-clause-files g c = λ free have.
     let what : Statement = c.args.lined.now.what in
-    let f = free_of c.args.after c.in-Connects.number what c.in-OpenUnit.spec c.args.core.now.units c.in-Connects.is (asks_to_open what c.in-OpenUnit.unit c.in-OpenUnit.spec c.in-OpenUnit.iostat c.in-OpenUnit.is) free in
-    c.connect.ensures.files what f.0 f.1 have
+    c.connect.ensures.files what (asks_to_open what c.in-OpenUnit.unit c.in-OpenUnit.spec c.in-OpenUnit.iostat c.in-OpenUnit.is) (subst (λ a. IsFreeNext a what c.args.core.now.units) c.in-Connects.is free) have
 
 pub returns-in-Ok-clause-fits : goal.returns-in-Ok-clause-fits
 returns-in-Ok-clause-fits g c = λ free have.
     let what : Statement = c.args.lined.now.what in
-    let f = free_of c.args.after c.in-Connects.number what c.in-OpenUnit.spec c.args.core.now.units c.in-Connects.is (asks_to_open what c.in-OpenUnit.unit c.in-OpenUnit.spec c.in-OpenUnit.iostat c.in-OpenUnit.is) free in
-    c.connect.ensures.fits (have.0 (file_due c.in-OpenUnit.spec c.in-Connects.number) ∙ f.1)
+    let f = free_of what c.in-OpenUnit.spec c.in-Connects.number c.args.core.now.units (asks_to_open what c.in-OpenUnit.unit c.in-OpenUnit.spec c.in-OpenUnit.iostat c.in-OpenUnit.is)
+    (subst (λ a. IsFreeNext a what c.args.core.now.units) c.in-Connects.is free) in
+    c.connect.ensures.fits (have.0 (file_due c.in-OpenUnit.spec c.in-Connects.number) ∙ f.free)
 
 pub returns-in-ClosesAll-clause-jobs : goal.returns-in-ClosesAll-clause-jobs
 returns-in-ClosesAll-clause-jobs g c =

@@ -10,6 +10,9 @@ use Rattle.fj_runner.proofs.Going.{none_has}
 use Rattle.fj_runner.specs.Fitting.{HasRoom}
 use Rattle.fj_runner.specs.Spending.{Spent, jobs_from}
 use Rattle.fj_runner.proofs.Spending.{from_later, ok_spent}
+use Rattle.fj_world.specs.Giving.{GivesOf}
+use Rattle.fj_runner.specs.Kept.{MayKeep}
+use Rattle.fj_runner.proofs.Kept.{asks_on, follows_by}
 use Rattle.fj_runner.proofs.machine.Machine.ask_or_go.Goals as goal
 
 pub returns-in-None-clause-fails : goal.returns-in-None-clause-fails
@@ -24,12 +27,16 @@ returns-in-None-clause-fails g c = λ tells t i.
     (λ f. (r, passed, fails_like _ (g.W.Sink.tells c.args.out.now) (taken c.args.out.now) (taken c.go.new.out) r m mid c.go.new.self (ap (λ s. s.core.output) c.asked_by.ensures.state) (ap (λ t. t.hand) c.asked_by.ensures.tally) f))
     (c.go.ensures.fails tells)
 
-pub returns-in-Some-clause-on : goal.returns-in-Some-clause-on
-returns-in-Some-clause-on g c = λ s st more here have counts few kept. c.asked_by.ensures.on s st more here have counts few kept
+pub returns-in-Some-clause-follows : goal.returns-in-Some-clause-follows
+returns-in-Some-clause-follows g c = λ s st more here have counts few kept.
+    let new = c.asked_by.new.self in
+    asks_on _ _ new c.in-Some.ask (c.asked_by.ensures.on s st more here have counts few kept)
+    (subst (λ o. IfSome o (GivesOf MayKeep new)) c.in-Some.is (c.asked_by.ensures.gives s st more here have counts few kept))
 
-pub returns-in-None-clause-on : goal.returns-in-None-clause-on
-returns-in-None-clause-on g c = λ s st more here have counts few kept.
-    c.go.ensures.on (c.in-None.ensures.start s st more here have counts few kept) (c.asked_by.ensures.on s st more here have counts few kept)
+pub returns-in-None-clause-follows : goal.returns-in-None-clause-follows
+returns-in-None-clause-follows g c = λ s st more here have counts few kept.
+    follows_by _ _ _ c.go.result c.go.new.self (λ sound. subst (λ d. IsSound d) (sym c.asked_by.ensures.deck) sound)
+    (c.go.ensures.follows (c.in-None.ensures.start s st more here have counts few kept) (c.asked_by.ensures.on s st more here have counts few kept))
 
 pub go-requires-clause-room : goal.go-requires-clause-room
 go-requires-clause-room g c = subst (λ s. HasRoom s.sent.items) (sym c.asked_by.ensures.state) (c.requires.room c.in-None.ensures.behind)
@@ -48,7 +55,3 @@ returns-in-None-clause-spends g c = λ jobs spends s counts.
     let spent = subst (λ d. IfOk c.go.result (λ ask. Spent ask (jobs_from (length d.statements) mid.at) c.go.new.self)) c.asked_by.ensures.deck c.go.ensures.spends in
     let few_jobs = from_later statements (m.at + 1) mid.at past in
     ok_spent c.go.result c.go.new.self (jobs_from statements mid.at) (jobs + jobs_from statements (m.at + 1)) (omega (arith, few_jobs)) spent
-
-pub returns-in-None-clause-fits : goal.returns-in-None-clause-fits
-returns-in-None-clause-fits g c = λ sound s st more here have counts few kept.
-    c.go.ensures.fits (subst (λ d. IsSound d) (sym c.asked_by.ensures.deck) sound) (c.in-None.ensures.start s st more here have counts few kept) (c.asked_by.ensures.on s st more here have counts few kept)

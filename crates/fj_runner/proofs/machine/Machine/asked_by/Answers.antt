@@ -5,6 +5,7 @@ use Rattle.fj_runner.specs.Machine.{rest_of}
 use Rattle.fj_runner.specs.Turned.{IsTurn}
 use Rattle.fj_runner.proofs.NextAsks.{passes_goes}
 use Rattle.fj_runner.specs.Going.{Counts, HaveTurned}
+use Rattle.fj_runner.proofs.Kept.{gives_asked}
 use Rattle.fj_runner.proofs.Counting.{on_paused, on_passed, on_stopped}
 use Rattle.fj_runner.specs.Going.{DoesNotPause}
 use Rattle.fj_runner.specs.Spending.{Spends}
@@ -31,6 +32,11 @@ pub returns-in-Pauses-clause-on : goal.returns-in-Pauses-clause-on
 returns-in-Pauses-clause-on g c = λ s st more here have counts few kept.
     let m = c.args.self.now in
     on_paused m s st more few kept c.in-Pauses.ask here (subst (λ t. HaveTurned t m.state st.0.what) c.in-Pauses.is have) (subst (λ t. Counts t s m.state) c.in-Pauses.is counts)
+
+pub returns-in-Pauses-clause-gives : goal.returns-in-Pauses-clause-gives
+returns-in-Pauses-clause-gives g c = λ s st more here have counts few kept.
+    let m = c.args.self.now in
+    gives_asked m c.in-Pauses.ask st more here (subst (λ t. HaveTurned t m.state st.0.what) c.in-Pauses.is have).1
 
 pub returns-in-Pauses-clause-sent : goal.returns-in-Pauses-clause-sent
 returns-in-Pauses-clause-sent g c = λ s counts.

@@ -1,4 +1,4 @@
-use Rattle.std.proofs.Common.{◌≡◌, ◌+◌, List, ◌∷◌, drop, length, Some, IfSome, IfNone, refl, sym, subst}
+use Rattle.std.proofs.Common.{◌≡◌, ◌+◌, List, ◌∷◌, drop, length, Some, Err, IfSome, IfNone, refl, sym, ap, subst, ◌∙◌}
 use Rattle.fj_plain.specs.State.{Files}
 use Rattle.fj_plain.specs.Statement.{Stated, stated, control_by}
 use Rattle.fj_units.specs.Files.{files_of}
@@ -15,6 +15,7 @@ use Rattle.fj_runner.proofs.Counting.{files_at}
 use Rattle.fj_runner.proofs.Fits.{sound_at_hand}
 use Rattle.fj_runner.specs.Spending.{Spent}
 use Rattle.fj_runner.proofs.Spending.{from_next}
+use Rattle.fj_runner.proofs.Kept.{asks_on, gave_up}
 use Rattle.fj_runner.proofs.machine.Machine.begin_next.Goals as goal
 
 pub returns-in-Ok-clause-asks : goal.returns-in-Ok-clause-asks
@@ -79,23 +80,19 @@ returns-in-Err-clause-fails g c = λ tells.
     fails_for _ _ (g.W.Sink.tells out) (taken out) (taken out') (run_at files m Start) m _ (λ lost e. cc (c.in-Err.is, e)) (λ e. cc (c.in-Err.is, e))
     (fails_turn g.W.Sink.tells taken out out' m _ c.start.result c.in-Err.lost st more (run_at files m Start) c.in-Err.is h refl refl c.start.ensures.steps.still f)
 
-pub returns-in-Ok-clause-on : goal.returns-in-Ok-clause-on
-returns-in-Ok-clause-on g c = λ start i.
+pub returns-in-Ok-clause-follows : goal.returns-in-Ok-clause-follows
+returns-in-Ok-clause-follows g c = λ start i.
     let m = c.args.self.now in
     let lined = c.index-as_slice-self.result in
     let st : Stated = (lined, control_by lined.what) in
     let more : List Stated = drop (m.at + 1) (stated m.deck.statements) in
     let h = read_at_hand m.deck.statements c.as_slice.result.now m.at lined c.as_slice.ensures c.requires.at c.index-as_slice-self.is in
-    c.asked_by.ensures.on m.state st more h (c.in-Ok.ensures.files (files_at m.state.stage m.state.core.names m.state.core.units lined.what start (i.files st more h))) c.in-Ok.ensures.counts i.few (c.in-Ok.ensures.holds i.kept)
-
-pub returns-in-Ok-clause-start : goal.returns-in-Ok-clause-start
-returns-in-Ok-clause-start g c = λ start i.
-    let m = c.args.self.now in
-    let lined = c.index-as_slice-self.result in
-    let st : Stated = (lined, control_by lined.what) in
-    let more : List Stated = drop (m.at + 1) (stated m.deck.statements) in
-    let h = read_at_hand m.deck.statements c.as_slice.result.now m.at lined c.as_slice.ensures c.requires.at c.index-as_slice-self.is in
-    c.asked_by.ensures.start m.state st more h (c.in-Ok.ensures.files (files_at m.state.stage m.state.core.names m.state.core.units lined.what start (i.files st more h))) c.in-Ok.ensures.counts i.few (c.in-Ok.ensures.holds i.kept)
+    let have = files_at m.state.stage m.state.core.names m.state.core.units lined.what start (i.files st more h) in
+    let turned = c.in-Ok.ensures.files have in
+    let kept = c.in-Ok.ensures.holds i.kept in
+    let by = c.asked_by.ensures in
+    asks_on _ _ _ c.asked_by.result (by.on m.state st more h turned c.in-Ok.ensures.counts i.few kept)
+    (by.gives m.state st more h turned c.in-Ok.ensures.counts i.few kept, by.start m.state st more h turned c.in-Ok.ensures.counts i.few kept)
 
 pub returns-in-Ok-clause-sent : goal.returns-in-Ok-clause-sent
 returns-in-Ok-clause-sent g c = c.asked_by.ensures.sent c.args.self.now.state c.in-Ok.ensures.counts
@@ -112,12 +109,13 @@ returns-in-Ok-clause-spends g c =
     subst (λ jobs. IfSome c.asked_by.result (λ ask. Spent ask jobs c.asked_by.new.self)) (from_next (length m.deck.statements) m.at c.requires.at)
     (c.asked_by.ensures.spends most_jobs c.in-Ok.ensures.spends m.state c.in-Ok.ensures.counts)
 
-pub returns-in-Err-clause-fits : goal.returns-in-Err-clause-fits
-returns-in-Err-clause-fits g c = λ sound start i e.
+pub returns-in-Err-clause-follows : goal.returns-in-Err-clause-follows
+returns-in-Err-clause-follows g c = λ start i.
     let m = c.args.self.now in
     let lined = c.index-as_slice-self.result in
     let st : Stated = (lined, control_by lined.what) in
     let more : List Stated = drop (m.at + 1) (stated m.deck.statements) in
     let h = read_at_hand m.deck.statements c.as_slice.result.now m.at lined c.as_slice.ensures c.requires.at c.index-as_slice-self.is in
-    c.start.ensures.fits (sound_at_hand m.deck c.as_slice.result.now m.at lined sound c.as_slice.ensures c.requires.at c.index-as_slice-self.is)
-    (files_at m.state.stage m.state.core.names m.state.core.units lined.what start (i.files st more h)) i.kept (cc (c.in-Err.is, e))
+    let have = files_at m.state.stage m.state.core.names m.state.core.units lined.what start (i.files st more h) in
+    gave_up _ _ _ c.in-Err.lost (c.in-Err.ensures.vain have)
+    (λ sound lost. c.start.ensures.fits (sound_at_hand m.deck c.as_slice.result.now m.at lined sound c.as_slice.ensures c.requires.at c.index-as_slice-self.is) have i.kept (c.in-Err.is ∙ ap Err lost))

@@ -10,6 +10,10 @@ use Rattle.fj_runner.specs.Fitting.{HasRoom}
 use Rattle.fj_runner.specs.Going.{KeepsToSlots, SentFor}
 use Rattle.fj_runner.specs.Spending.{Spent, jobs_from}
 use Rattle.fj_runner.proofs.Spending.{from_later, spent_le}
+use Rattle.fj_world.specs.Giving.{GivesOf}
+use Rattle.fj_world.specs.declared.ask.Ask.TheVariants as ask
+use Rattle.fj_runner.specs.Kept.{MayKeep}
+use Rattle.fj_runner.proofs.Kept.{asks_on, follows_err, follows_ok}
 use Rattle.fj_runner.proofs.machine.Machine.go.Goals as goal
 
 pub loop-self-preserved : goal.loop-self-preserved
@@ -17,7 +21,7 @@ loop-self-preserved g c =
     goes_more g.W.Sink.tells g.W.Sink.taken g.W.Sink.count g.D.Disk.tells g.D.Disk.held g.D.Disk.count g.D.Disk.refusals c.args.out.now c.loop-self.out c.begin_next.new.out c.args.disk.now c.loop-self.disk c.begin_next.new.disk
     c.args.self.now c.loop-self.self c.begin_next.new.self c.in-Ok.asked c.loop-self.invariant c.in-Ok.ensures.steps (λ t. none_has c.in-Ok.asked _ c.in_default.is (c.in-Ok.ensures.passes t))
     (λ t. none_has c.in-Ok.asked _ c.in_default.is (c.in-Ok.ensures.passed t)) c.begin_next.ensures.deck c.begin_next.ensures.tally c.begin_next.ensures.kept
-    (λ h i. (none_has c.in-Ok.asked _ c.in_default.is (c.in-Ok.ensures.start h i), c.in-Ok.ensures.on h i)) (none_has c.in-Ok.asked _ c.in_default.is c.in-Ok.ensures.still) c.begin_next.ensures.heard
+    (λ h i. let f = follows_ok _ _ c.begin_next.result c.begin_next.new.self c.in-Ok.asked c.in-Ok.is (c.begin_next.ensures.follows h i) in (none_has c.in-Ok.asked _ c.in_default.is f.1.1, f.0)) (none_has c.in-Ok.asked _ c.in_default.is c.in-Ok.ensures.still) c.begin_next.ensures.heard
     (let e = none_has c.in-Ok.asked _ c.in_default.is c.in-Ok.ensures.at in omega (arith, e))
 
 pub returns-in-Err-clause-fails : goal.returns-in-Err-clause-fails
@@ -51,10 +55,12 @@ returns-in-Some-clause-steps g c =
 pub begin_next-requires-clause-room : goal.begin_next-requires-clause-room
 begin_next-requires-clause-room g c = subst (λ l. HasRoom l.items) (sym c.loop-self.invariant.sent) c.requires.room
 
-pub returns-in-Some-clause-on : goal.returns-in-Some-clause-on
-returns-in-Some-clause-on g c = λ start i.
+pub returns-in-Some-clause-follows : goal.returns-in-Some-clause-follows
+returns-in-Some-clause-follows g c = λ start i.
+    let new = c.begin_next.new.self in
     let k = c.loop-self.invariant.on start i in
-    c.in-Ok.ensures.on k.0 k.1
+    let f = follows_ok _ _ c.begin_next.result new c.in-Ok.asked c.in-Ok.is (c.begin_next.ensures.follows k.0 k.1) in
+    asks_on _ _ new c.in-Some.ask f.0 (subst (λ o. IfSome o (GivesOf MayKeep new)) c.in-Some.is f.1.0)
 
 pub returns-in-Some-clause-sent : goal.returns-in-Some-clause-sent
 returns-in-Some-clause-sent g c =
@@ -81,8 +87,11 @@ returns-in-Some-clause-spends g c =
     spent_le c.in-Some.ask new (jobs_from statements half.at) (jobs_from statements m.at) (from_later statements m.at half.at it.at)
     (subst (λ d. Spent c.in-Some.ask (jobs_from (length d.statements) half.at) new) it.deck spent)
 
-pub returns-in-Err-clause-fits : goal.returns-in-Err-clause-fits
-returns-in-Err-clause-fits g c = λ sound start i e.
+pub returns-in-Err-clause-follows : goal.returns-in-Err-clause-follows
+returns-in-Err-clause-follows g c = λ start i.
     let it = c.loop-self.invariant in
     let k = it.on start i in
-    c.begin_next.ensures.fits (subst (λ d. IsSound d) (sym it.deck) sound) k.0 k.1 (cc (c.in-Err.is, e))
+    follows_err _ _ _ _ c.begin_next.result c.begin_next.new.self c.in-Err.lost c.in-Err.is (λ sound. subst (λ d. IsSound d) (sym it.deck) sound) (c.begin_next.ensures.follows k.0 k.1)
+
+pub returns-clause-follows : goal.returns-clause-follows
+returns-clause-follows g c = λ start i. asks_on _ _ c.loop-self.self ask.Finished (c.loop-self.invariant.on start i).1 tt

@@ -1,4 +1,4 @@
-use Rattle.std.proofs.Common.{◌≡◌, ◌+◌, ◌<◌, ◌≤◌, ◌^◌, List, ◌∷◌, drop, length, Some, None, IfOk, refl, sym, ◌∙◌, subst, arith}
+use Rattle.std.proofs.Common.{◌≡◌, ◌+◌, ◌<◌, ◌≤◌, ◌^◌, List, ◌∷◌, drop, length, Some, None, Err, IfOk, refl, sym, ap, ◌∙◌, subst, arith}
 use Rattle.fj_plain.specs.State.{Files}
 use Rattle.fj_plain.specs.Statement.{Stated, stated, control_by}
 use Rattle.fj_units.specs.Files.{files_of}
@@ -16,6 +16,9 @@ use Rattle.fj_runner.proofs.Spending.{is_none_by, ok_lives, some_ended}
 use Rattle.fj_runner.specs.declared.machine.Machine.{Machine}
 use Rattle.fj_runner.proofs.Counting.{room_kept}
 use Rattle.fj_runner.proofs.Fits.{sound_at_hand}
+use Rattle.fj_world.specs.declared.ask.Ask.TheVariants as ask
+use Rattle.fj_runner.specs.Going.{IsAt}
+use Rattle.fj_runner.proofs.Kept.{asks_on, gave_up}
 use Rattle.fj_runner.proofs.machine.Machine.next_ask.Goals as goal
 use Rattle.fj_runner.proofs.machine.Machine.next_ask.Goals.{then-is_some-via-then-is_some, then-is_some-via-else-is_some+then-self-len}
 
@@ -109,15 +112,15 @@ returns-then-is_some-clause-asks g c = λ tells r known.
           rests_asked told bytes files at r (subst (λ x. run_of told bytes files x ≡ Some r) (sym w.self-is) known) (done_asked files m k.0 r k.2 (sym c.is_some.ensures ∙ w.if-is_some.false) low)
     ]
 
-pub returns-in-Ok-clause-on : goal.returns-in-Ok-clause-on
-returns-in-Ok-clause-on g c = λ i.
+pub returns-in-Ok-clause-follows : goal.returns-in-Ok-clause-follows
+returns-in-Ok-clause-follows g c = λ i.
     let m = c.args.self.now in
     let lined = c.index-as_slice-self.result in
     let st : Stated = (lined, control_by lined.what) in
     let more : List Stated = drop (m.at + 1) (stated m.deck.statements) in
     let low : m.at < length m.deck.statements = omega arith in
     let h = read_at_hand m.deck.statements c.as_slice.result.now m.at lined c.as_slice.ensures low c.index-as_slice-self.is in
-    c.ask_or_go.ensures.on m.state st more h (c.in-Ok.ensures.files (i.files st more h)) c.in-Ok.ensures.counts i.few (c.in-Ok.ensures.holds i.kept)
+    c.ask_or_go.ensures.follows m.state st more h (c.in-Ok.ensures.files (i.files st more h)) c.in-Ok.ensures.counts i.few (c.in-Ok.ensures.holds i.kept)
 
 pub returns-in-Ok-clause-sent : goal.returns-in-Ok-clause-sent
 returns-in-Ok-clause-sent g c = c.ask_or_go.ensures.sent c.args.self.now.state c.in-Ok.ensures.counts
@@ -147,25 +150,24 @@ returns-then-is_some-clause-spends g c =
       | then-is_some-via-else-is_some+then-self-len w ↦ (subst Past (sym w.self-is) (λ none. omega arith), tt)
     ]
 
-pub returns-in-Ok-clause-fits : goal.returns-in-Ok-clause-fits
-returns-in-Ok-clause-fits g c = λ sound i.
+pub returns-in-Err-clause-follows : goal.returns-in-Err-clause-follows
+returns-in-Err-clause-follows g c = λ i.
     let m = c.args.self.now in
     let lined = c.index-as_slice-self.result in
     let st : Stated = (lined, control_by lined.what) in
     let more : List Stated = drop (m.at + 1) (stated m.deck.statements) in
     let low : m.at < length m.deck.statements = omega arith in
     let h = read_at_hand m.deck.statements c.as_slice.result.now m.at lined c.as_slice.ensures low c.index-as_slice-self.is in
-    c.ask_or_go.ensures.fits sound m.state st more h (c.in-Ok.ensures.files (i.files st more h)) c.in-Ok.ensures.counts i.few (c.in-Ok.ensures.holds i.kept)
-
-pub returns-in-Err-clause-fits : goal.returns-in-Err-clause-fits
-returns-in-Err-clause-fits g c = λ sound i e.
-    let m = c.args.self.now in
-    let lined = c.index-as_slice-self.result in
-    let st : Stated = (lined, control_by lined.what) in
-    let more : List Stated = drop (m.at + 1) (stated m.deck.statements) in
-    let low : m.at < length m.deck.statements = omega arith in
-    let h = read_at_hand m.deck.statements c.as_slice.result.now m.at lined c.as_slice.ensures low c.index-as_slice-self.is in
+    gave_up _ _ _ c.in-Err.lost (c.in-Err.ensures.vain (i.files st more h))
+    (λ sound lost.
     let few = i.few (is_none_by m.state.ending (sym c.is_some.ensures ∙ c.if-is_some.false)) in
     let within = sound.few in
     let behind : m.state.core.next + 1 < 2 ^ 32 = omega (arith, few, low, within) in
-    c.turn.ensures.fits (sound_at_hand m.deck c.as_slice.result.now m.at lined sound c.as_slice.ensures low c.index-as_slice-self.is) (i.files st more h) behind i.kept (cc (c.in-Err.is, e))
+    c.turn.ensures.fits (sound_at_hand m.deck c.as_slice.result.now m.at lined sound c.as_slice.ensures low c.index-as_slice-self.is) (i.files st more h) behind i.kept (c.in-Err.is ∙ ap Err lost))
+
+pub returns-then-is_some-clause-follows : goal.returns-then-is_some-clause-follows
+returns-then-is_some-clause-follows g c = λ i.
+    asks_on _ _ c.then-is_some.self ask.Finished (elim c.then-is_some.branch [
+      | then-is_some-via-then-is_some w ↦ subst IsAt (sym w.self-is) i
+      | then-is_some-via-else-is_some+then-self-len w ↦ subst IsAt (sym w.self-is) i
+    ]) tt

@@ -10,10 +10,11 @@ use Rattle.fj_runner.proofs.Tallies.{asking}
 use Rattle.std.proofs.Math.Logic.{∥∥₁_elim, ∥∥₁_map}
 use Rattle.fj_runner.specs.Going.{asked_for}
 use Rattle.fj_runner.proofs.Counting.{at_most_one, owes_prop, room_for, room_prop, still_going}
+use Rattle.fj_runner.proofs.Kept.{gives_through}
 use Rattle.fj_runner.proofs.script.RunnerScript.ask.Goals as goal
 
-pub returns : goal.returns
-returns g c =
+pub returns-clause-asks : goal.returns-clause-asks
+returns-clause-asks g c =
     let told = g.D.File.FileStore.told in
     let bytes = g.D.File.FileStore.bytes in
     let count = g.D.File.FileStore.count in
@@ -49,10 +50,14 @@ returns g c =
       };
       stays = λ over. let still = it.rests over in (still.0, ap g.W.Sink.taken still.2, still.1);
       reason = it.reason;
+      keeps = it.keeps;
     })
     (λ r e over. asked_told told bytes count files_after new (g.D.Disk.told disk) (g.D.Disk.told after) (run_of told bytes files m) r c.next_of.result e
     (λ t. (g.met.D.Disk.decided after).1 (it.leaves.telling.0 ((g.met.D.Disk.decided disk).0 t)))
     (λ t known. it.asks ((g.met.D.Disk.decided disk).0 t) r known over))
+
+pub returns-clause-gives : goal.returns-clause-gives
+returns-clause-gives g c = gives_through _ _ c.next_of.result c.next_of.ensures.gives
 
 pub next_of-requires-clause-room : goal.next_of-requires-clause-room
 next_of-requires-clause-room g c = λ over.

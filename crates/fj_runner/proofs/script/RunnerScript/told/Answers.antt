@@ -11,7 +11,8 @@ use Rattle.fj_runner.proofs.Tallies.{settling_runs, not_both}
 use Rattle.std.proofs.Math.Logic.{∥∥₁_elim, ∥∥₁_map}
 use Rattle.fj_units.specs.Names.{AreInUse}
 use Rattle.std.proofs.Props.{props}
-use Rattle.fj_runner.proofs.Counting.{awaits_due, room_for, room_prop, still_going}
+use Rattle.fj_runner.proofs.Kept.{have_at_prop, none_kept}
+use Rattle.fj_runner.proofs.Counting.{awaits_due, on_same, room_for, room_prop, still_going}
 use Rattle.fj_runner.proofs.script.RunnerScript.told.Goals as goal
 
 pub returns : goal.returns
@@ -42,6 +43,14 @@ returns g c =
         asking = rests_ask old.disk.now m new it.rests (λ going over stop. absurd (only_stop (is_done c.args.told) m.tally.over new.tally.over new.tally.stopped it.goes it.halts going over stop));
         stays = λ over. absurd (not_both m.tally.over over (settling_runs m.tally.hand m.tally.over m.tally.left m.tally.owed.items m.tally.settles c.requires));
         reason = it.reason;
+        keeps = record {
+          given_up = λ going over stop. absurd (only_stop (is_done c.args.told) m.tally.over new.tally.over new.tally.stopped it.goes it.halts going over stop);
+          asked = λ going idle. absurd (subst (λ h. IsSettling (due_of h)) idle c.requires);
+          none = λ going stopped. none_kept m new it.kept going;
+          stopped = λ going stopped st more here.
+              let k = it.stops stopped in
+              ∥∥₁_elim old.on (have_at_prop new.state.stage new.state.core.names new.state.core.units st.0.what) (λ f. (on_same m new it.rests.deck k.2 k.1 (f going).at).files st more here);
+        };
       };
       told = λ s reply e over is. if_told (g.D.Disk.told old.disk.now) (run_of told bytes files m) (run_of told bytes files new) s (told_of s reply) e (λ _ known. it.told files s reply known over is);
     }

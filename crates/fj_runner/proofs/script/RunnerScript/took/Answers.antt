@@ -37,10 +37,11 @@ returns g c =
         same_machine = refl;
         leaves = rests_leaves old.out.now old.disk.now m new it.rests;
         gives_up = given_up_told (g.W.Sink.tells old.out.now) (g.W.Sink.taken old.out.now) (g.W.Sink.taken old.out.now) (g.D.Disk.told old.disk.now) (run_of told bytes files m) m new
-            (λ _. rests_give_up told bytes (g.W.Sink.tells old.out.now) (g.W.Sink.taken old.out.now) files m new (λ idle. subst (λ h. IsSubmitting (due_of h)) idle c.requires) it.rests);
-        asking = rests_ask old.disk.now m new it.rests (λ going over stop. c.requires);
-        stays = λ over. absurd (not_both m.tally.over over (submitting_runs m.tally.hand m.tally.over m.tally.left m.tally.submits c.requires));
+            (λ _. rests_give_up told bytes (g.W.Sink.tells old.out.now) (g.W.Sink.taken old.out.now) files m new (λ idle. subst (λ h. IsSubmitting (due_of h)) idle c.requires.submitting) it.rests);
+        asking = rests_ask old.disk.now m new it.rests (λ going over stop. c.requires.submitting);
+        stays = λ over. absurd (not_both m.tally.over over (submitting_runs m.tally.hand m.tally.over m.tally.left m.tally.submits c.requires.submitting));
         reason = it.reason;
+        keeps = it.keeps;
       };
       took = λ s e over. took_by c.args.number _ (same ∙ e);
     }

@@ -4,6 +4,7 @@ use Rattle.fj_turns.specs.Run.{Run, Acting, Awaiting}
 use Rattle.fj_turns.specs.Turns.{turn_act}
 use Rattle.fj_acts.specs.Doing.{IsDoing, next_of, then_of}
 use Rattle.fj_acts.specs.State.{core_of}
+use Rattle.fj_acts.specs.Having.{HaveNext}
 use Rattle.fj_acts.specs.Jobs.{jobs_of}
 use Rattle.fj_runner.specs.Spending.{Spends}
 use Rattle.fj_runner.specs.Machine.{run_in}
@@ -55,3 +56,17 @@ pub returns-in-Awaits-clause-spends : goal.returns-in-Awaits-clause-spends
 returns-in-Awaits-clause-spends g c =
     let units = length c.args.self.now.core.units in
     subst (λ d. Spends (jobs_of d units) c.submit-in-Awaits.result c.submit-in-Awaits.new.self) (sym c.in-Awaits.is) c.submit-in-Awaits.ensures.spends
+
+pub returns-in-Gives-clause-files : goal.returns-in-Gives-clause-files
+returns-in-Gives-clause-files g c = λ have.
+    let core = c.args.self.now.core in
+    let what = c.args.lined.now.what in
+    let it = subst (λ d. HaveNext d core.names core.units what) c.in-Gives.is have in
+    c.submit.ensures.files what it.0 it.1
+
+pub returns-in-Awaits-clause-files : goal.returns-in-Awaits-clause-files
+returns-in-Awaits-clause-files g c = λ have.
+    let core = c.args.self.now.core in
+    let what = c.args.lined.now.what in
+    let it = subst (λ d. HaveNext d core.names core.units what) c.in-Awaits.is have in
+    c.submit-in-Awaits.ensures.files what it.0 it.1

@@ -120,3 +120,6 @@ returns-in-Ok-clause-spends g c =
     let does : jobs_of c.in-Ok.doing units ≤ most = subst (λ us. jobs_of c.in-Ok.doing units ≤ max (length us) 2) c.begin.ensures.units (doing_few c.in-Ok.doing units) in
     let few : jobs_of c.in-Ok.doing units ≤ (length c.args.slots - c.args.next) + most = omega (arith, does) in
     ok_spends (went c.act.result) (jobs_of c.in-Ok.doing units) ((length c.args.slots - c.args.next) + most) c.act.new.self few c.act.ensures.spends
+
+pub returns-in-Some-clause-files : goal.returns-in-Some-clause-files
+returns-in-Some-clause-files g c = λ have. c.submit.ensures.files c.args.lined.now.what have have

@@ -4,6 +4,7 @@ use Rattle.fj_runner.specs.Passing.{is_waiting}
 use Rattle.fj_runner.specs.Spending.{jobs_at}
 use Rattle.fj_runner.specs.Machine.{run_in, stage_of}
 use Rattle.fj_runner.proofs.Pauses.{settle_pauses}
+use Rattle.fj_runner.specs.Going.{HaveAt}
 use Rattle.fj_runner.proofs.state.State.settle.Goals as goal
 
 pub returns-clause-turn : goal.returns-clause-turn
@@ -21,3 +22,8 @@ returns-clause-spends g c =
     let units = length c.args.self.now.core.units in
     let n = jobs_at c.args.stage units in
     subst (λ x. jobs_at x units ≤ n) (sym c.put_stage.ensures) (omega arith)
+
+pub returns-clause-files : goal.returns-clause-files
+returns-clause-files g c = λ what have.
+    let core = c.args.self.now.core in
+    (subst (λ s. HaveAt s core.names core.units what) (sym c.put_stage.ensures) have, tt)

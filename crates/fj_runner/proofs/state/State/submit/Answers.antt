@@ -8,6 +8,7 @@ use Rattle.fj_runner.proofs.Numbering.{given_still, own_given, own_not_told, wit
 use Rattle.fj_runner.proofs.Pauses.{submit_pauses}
 use Rattle.fj_runner.specs.Spending.{jobs_at}
 use Rattle.fj_runner.specs.Numbering.{AreSlots, OwnIsLast, OwnIsUntold, slots_behind}
+use Rattle.fj_runner.specs.Going.{HaveAt}
 use Rattle.fj_runner.proofs.state.State.submit.Goals as goal
 
 pub returns-clause-turn : goal.returns-clause-turn
@@ -61,3 +62,8 @@ returns-clause-spends g c =
     let units = length c.args.self.now.core.units in
     let n = jobs_at c.args.stage units in
     subst (λ x. jobs_at x units + 1 ≤ n + 1) (sym c.put_stage.ensures) (omega arith)
+
+pub returns-clause-files : goal.returns-clause-files
+returns-clause-files g c = λ what have beside.
+    let core = c.args.self.now.core in
+    (subst (λ s. HaveAt s core.names core.units what) (sym c.put_stage.ensures) have, beside)

@@ -12,6 +12,7 @@ use Rattle.fj_acts.specs.Doing.{next_of, then_of}
 use Rattle.fj_acts.specs.Fitting.{IsKept}
 use Rattle.fj_acts.specs.State.{core_of}
 use Rattle.fj_units.specs.Files.{files_of}
+use Rattle.fj_units.specs.Having.{HaveFiles}
 use Rattle.fj_runner.specs.Machine.{run_in, stage_of}
 use Rattle.fj_runner.specs.Turned.{IsTurn}
 use Rattle.fj_runner.proofs.NextAsks.{some_same, run_known}
@@ -386,3 +387,29 @@ returns-in-Ok-doing-clause-spends g c =
     let left = length c.answered-doing.new.core.units in
     let few = subst (λ x. jobs_of c.in-Ok-doing.doing left ≤ jobs_at x units) (sym (sym c.replace.ensures.value ∙ c.in-Answered.is)) c.in-Ok-doing.ensures.jobs in
     ok_spends (went c.act-in-Ok-doing.result) (jobs_of c.in-Ok-doing.doing left) (jobs_at c.args.self.now.stage units) c.act-in-Ok-doing.new.self few c.act-in-Ok-doing.ensures.spends
+
+pub returns-in-Start-clause-vain : goal.returns-in-Start-clause-vain
+returns-in-Start-clause-vain g c = λ have.
+    let s = c.args.self.now in
+    c.start.ensures.vain (subst (λ x. HaveAt x s.core.names s.core.units c.args.lined.now.what) (sym c.replace.ensures.value ∙ c.in-Start.is) have)
+
+pub returns-in-Waiting-clause-vain : goal.returns-in-Waiting-clause-vain
+returns-in-Waiting-clause-vain g c = λ have.
+    let s = c.args.self.now in
+    c.wait.ensures.vain (subst (λ x. HaveAt x s.core.names s.core.units c.args.lined.now.what) (sym c.replace.ensures.value ∙ c.in-Waiting.is) have)
+
+pub returns-in-Resuming-clause-vain : goal.returns-in-Resuming-clause-vain
+returns-in-Resuming-clause-vain g c = λ have.
+    let s = c.args.self.now in
+    c.resume.ensures.vain (subst (λ x. HaveAt x s.core.names s.core.units c.args.lined.now.what) (sym c.replace.ensures.value ∙ c.in-Resuming.is) have)
+
+pub returns-in-Err-clause-vain : goal.returns-in-Err-clause-vain
+returns-in-Err-clause-vain g c = λ have.
+    let s = c.args.self.now in
+    let files = subst (λ x. HaveAt x s.core.names s.core.units c.args.lined.now.what) (sym c.replace.ensures.value ∙ c.in-Going.is) have in
+    subst (HaveFiles c.given.new.core.names) (sym c.given.ensures.units) (subst (λ ns. HaveFiles ns s.core.units) (sym c.given.ensures.names) files)
+
+pub returns-in-Err-doing-clause-vain : goal.returns-in-Err-doing-clause-vain
+returns-in-Err-doing-clause-vain g c = λ have.
+    let s = c.args.self.now in
+    c.in-Err-doing.ensures.vain (subst (λ x. HaveAt x s.core.names s.core.units c.args.lined.now.what) (sym c.replace.ensures.value ∙ c.in-Answered.is) have)
