@@ -1,5 +1,5 @@
 -- What remains of slots that hold desks.
-use Rattle.std.proofs.Common.{◌≡◌, ℕ, zero, suc, Bool, true, false, List, [], ◌∷◌, ◌++◌, length, take, Some, None, Option, is_some, slice_get, option_map, IfSome, refl, sym, ap, ◌∙◌, subst, arith}
+use Rattle.std.proofs.Common.{◌≡◌, ◌||◌, IsSome, ℕ, zero, suc, Bool, true, false, List, [], ◌∷◌, ◌++◌, length, take, Some, None, Option, is_some, slice_get, option_map, IfSome, refl, sym, ap, ◌∙◌, subst, arith}
 use Rattle.std.proofs.lemmas.List.{take_all, length-map}
 use Rattle.fj_value.specs.declared.condition.Condition.{Condition}
 use Rattle.fj_connect.specs.Connection.{Connection}
@@ -25,6 +25,17 @@ use Rattle.fj_closing.specs.declared.remains.Remains.{Remains}
 pub not_halted : (halt : Option Halt) → option_map (λ (h : Halt). h.stop) halt ≡ None → halt ≡ None
 not_halted None e = refl
 not_halted (Some h) e = absurd (cc)
+
+pub some_is : {X : Type 0} → {x y : X} → Some x ≡ Some y → x ≡ y
+some_is e = cc
+
+pub some_in : {X : Type 0} → (o : Option X) → IsSome o → (x : X) × (o ≡ Some x)
+some_in None e = absurd (cc)
+some_in (Some x) e = (x, refl)
+
+pub either : (a b : Bool) → (a || b) ≡ false → (a ≡ false) × (b ≡ false)
+either true b e = cc
+either false b e = (refl, e)
 
 pub placed : {F : Type 0} → (told : F → Bool) (bytes : F → List ℕ) (c : Linked F) (place : Option Connection) → place_of told bytes (Some c) ≡ Some place
     → (told c.file ≡ true) × (place ≡ Some (connection_of bytes c))

@@ -21,7 +21,7 @@ use Rattle.fj_closing.specs.Losing.{is_memory}
 use Rattle.fj_closing.specs.Remains.{AreOfDesks}
 use Rattle.fj_closing.specs.declared.remains.Remains.{Remains}
 
-clash : true ≡ false → ⊥
+pub clash : true ≡ false → ⊥
 clash e = cc
 
 -- ---- what the disk tells of other names

@@ -1,5 +1,5 @@
 -- One unit is closed, and then the others.
-use Rattle.std.proofs.Common.{◌≡◌, ◌≢◌, ◌⊎◌, ◌||◌, ◌&&◌, ℕ, ◌-◌, ◌≤◌, Bool, true, false, not, List, [], ◌∷◌, length, map, take, drop, get_or, Some, None, Option, is_some, IsSome, IfSome, slice_get, Result, OnOk, inl, inr, refl, sym, ap, ◌∙◌, subst, arith}
+use Rattle.std.proofs.Common.{◌≡◌, ◌≢◌, ◌&&◌, ℕ, ◌-◌, ◌≤◌, Bool, true, false, not, List, [], ◌∷◌, length, map, take, drop, get_or, Some, None, Option, is_some, IfSome, slice_get, Result, OnOk, inl, inr, refl, sym, ap, ◌∙◌, subst, arith}
 use Rattle.std.specs.Prelude.{◌==◌}
 use Rattle.std.proofs.lemmas.Bool.Decides.{eqb_tells}
 use Rattle.std.proofs.lemmas.List.{take_all}
@@ -16,14 +16,15 @@ use Rattle.fj_units.specs.Names.{stands, left_of}
 use Rattle.fj_units.specs.Files.{files_of}
 use Rattle.fj_units.specs.Returning.{IsAsDue}
 use Rattle.fj_units.specs.Units.{has_slot}
-use Rattle.fj_units.proofs.Files.{bytes_same, is_same, stands-left_of}
-use Rattle.fj_closing.specs.Closing.{IfClear, AreAsDue, AreSeated, AreNamed, may_lack, SomeMayLack}
+use Rattle.fj_units.proofs.Files.{bytes_same, stands-left_of}
+use Rattle.fj_closing.specs.Closing.{IfClear, AreAsDue, AreSeated, AreNamed, SomeMayLack}
 use Rattle.fj_closing.specs.Finding.{IsEndedUpTo, IsFound, IsFoundOf, OfEach, AreSpared}
 use Rattle.fj_closing.specs.Fitting.{CountsStop, HasItsOwn, HaveTheirOwn}
 use Rattle.fj_closing.specs.Losing.{after, may_want}
 use Rattle.fj_closing.specs.Remains.{AreOfDesks}
 use Rattle.fj_closing.specs.declared.remains.Remains.{Remains}
-use Rattle.fj_closing.proofs.Due.{all_due, due_on, same_on}
+use Rattle.fj_closing.proofs.Desking.{either, some_in, some_is}
+use Rattle.fj_closing.proofs.Due.{all_due, clash, due_on, same_on}
 use Rattle.fj_closing.proofs.Finding.{found_of_wider}
 use Rattle.fj_closing.proofs.Returning.{both_ok}
 
@@ -33,13 +34,6 @@ parted f [] unit long item = absurd (omega (arith, long))
 parted f (u ∷ us) unit long item =
     ap (λ x. f x ∷ map f us) (sym item) ∙ ap (λ xs. f unit ∷ map f xs) (sym (take_all (length (u ∷ us) - 1) us (omega arith)))
 
-clash : true ≡ false → ⊥
-clash e = cc
-
-either : (a b : Bool) → (a || b) ≡ false → (a ≡ false) × (b ≡ false)
-either true b e = cc
-either false b e = (refl, e)
-
 unlike : (a b : ℕ) → (a == b) ≡ false → a ≢ b
 unlike a b e same = elim (eqb_tells a b) [ inl x ↦ clash (sym x.0 ∙ e) | inr x ↦ x.1 same ]
 
@@ -48,9 +42,6 @@ pub has_other : (us : List Connected) (u : Connected) (name : List ℕ) → has_
 has_other us u name none =
     let both = either (bytes_eq name u.name) (has_name us name) none in
     (λ same. clash (sym (bytes_same name u.name same) ∙ both.0), both.1)
-
-some_is : {X : Type 0} → {x y : X} → Some x ≡ Some y → x ≡ y
-some_is e = cc
 
 -- what a unit has is what is at its slot
 pub own_is : {F : Type 0} → (count : F → ℕ) (names : List (List ℕ)) (all : List (Remains F)) (u : Connected) (c : Linked F) (stop : Option Stop) → HasItsOwn count names all u
@@ -137,10 +128,6 @@ each_by all P Q f (u ∷ us) h = (let it = h.0 in (it.0, it.1, f u it.0 it.2), e
 pub spared_each : (u : Connected) (us : List Connected) (old mid new : Holdings) → ((name : List ℕ) → name ≢ u.name → SameAt old mid name) → AreSpared us mid new → AreSpared (u ∷ us) old new
 spared_each u us old mid new first others name none =
     let apart = has_other us u name none in same_on old mid new name (first name apart.0) (others name apart.1)
-
-pub some_in : {X : Type 0} → (o : Option X) → IsSome o → (x : X) × (o ≡ Some x)
-some_in None e = absurd (cc)
-some_in (Some x) e = (x, refl)
 
 -- what is due of each file
 pub due_each : (u : Connected) (us : List Connected) (desks : List Desk) (old mid new : Holdings) (a b c : ℕ) → a ≤ b → b ≤ c → has_name us u.name ≡ false → AreSpared us mid new

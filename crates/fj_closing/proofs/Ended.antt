@@ -1,13 +1,12 @@
 -- At each end of a run the slots hold the connections of its units.
-use Rattle.std.proofs.Common.{◌≡◌, ℕ, zero, suc, ◌+◌, ◌<◌, ◌≤◌, Bool, true, false, List, [], ◌∷◌, All, length, take, Option, Some, None, is_some, slice_get, refl, sym, ap, ◌∙◌, subst, inl, inr, arith}
-use Rattle.std.specs.Prelude.{◌||◌, ◌==◌, IsSome, IfSome}
+use Rattle.std.proofs.Common.{◌≡◌, ℕ, zero, suc, ◌<◌, ◌≤◌, Bool, true, false, List, [], ◌∷◌, All, length, take, Option, Some, None, is_some, slice_get, refl, sym, ap, ◌∙◌, subst, inl, inr, arith}
+use Rattle.std.specs.Prelude.{◌||◌, IsSome, IfSome}
 use Rattle.std.proofs.lemmas.Bool.{cases_Bool, ne_eqb}
 use Rattle.std.proofs.lemmas.Bool.Decides.{eqb_tells}
 use Rattle.std.proofs.lemmas.List.{take_all}
 use Rattle.std.proofs.lemmas.List.Elements.{All-nil, All-cons}
 use Rattle.std.proofs.lemmas.List.{length-map}
 use Rattle.std.proofs.lemmas.Option.{slice_get_within}
-use Rattle.fj_outside.specs.declared.errors.Stop.{Stop}
 use Rattle.fj_connect.specs.Connection.{Connection}
 use Rattle.fj_statement.specs.declared.deck.Variable.{Variable}
 use Rattle.fj_slot.specs.declared.stop.Halt.{Halt}
@@ -17,14 +16,13 @@ use Rattle.fj_slot.specs.Sound.{IsSound, served_by}
 use Rattle.fj_slot.proofs.Sound.{slice_get_inside}
 use Rattle.fj_world.specs.declared.ask.Ask.TheVariants.{Submit, Settle, Finished}
 use Rattle.fj_world.specs.Losing.{SlotsHold, before_ask}
-use Rattle.fj_world.specs.Plain.{Plain, PlainSlot, asked_next, after}
+use Rattle.fj_world.specs.Plain.{Plain, PlainSlot, after}
 use Rattle.fj_world.specs.Rack.{Rack}
 use Rattle.fj_bay.specs.Bay.{Bay}
 use Rattle.fj_bay.specs.Jobs.{Job, Answer, attach, detach, move, go, change, flush, look, resume}
 use Rattle.fj_bay.specs.Spoilt.{IsSpoilt, behind}
 use Rattle.fj_bay.specs.Plain.{state_of}
 use Rattle.fj_bay.specs.Meaning.{bay_meaning, file_faults}
-use Rattle.fj_bay.specs.declared.bay.Bay.{Bay as RealBay}
 use Rattle.fj_bay.specs.Serving.{serve}
 use Rattle.fj_bay.proofs.Behind.{behind_is}
 use Rattle.fj_plain.specs.Statement.{Stated}
@@ -34,21 +32,20 @@ use Rattle.fj_desk.specs.Desks.{most_slots}
 use Rattle.fj_desk.specs.Doing.{Doing}
 use Rattle.fj_desk.proofs.Apart.{Each, Differs, Apart}
 use Rattle.fj_turns.specs.Laws.{plain_bays}
-use Rattle.fj_turns.specs.Passing.{passes}
 use Rattle.fj_turns.specs.Run.{Stage, Start, Waiting, Acting, Awaiting, Run}
 use Rattle.fj_turns.specs.Serving.{over_bays, Shows, run_conduct, first_run, fresh_slots, begins}
-use Rattle.fj_turns.specs.Turns.{doing_told, waited_now}
+use Rattle.fj_turns.specs.Turns.{waited_now}
 use Rattle.fj_turns.proofs.Before.{fares_after}
 use Rattle.fj_turns.proofs.Finishing.{asks_no_more}
 use Rattle.fj_turns.proofs.Slots.{same_some}
 use Rattle.fj_cut.specs.Others.{core_now}
-use Rattle.fj_cut.specs.Turning.{IsUnbegun, doing_at, doing_due, turn_doing}
+use Rattle.fj_cut.specs.Turning.{IsUnbegun, doing_at, doing_due}
 use Rattle.fj_units.specs.Having.{Differ}
 use Rattle.fj_units.specs.Units.{has_slot, same_slot}
 use Rattle.fj_closing.specs.Ended.{HasStoppedAt, LeavesNames, BringsNone, StopSpares, TurnHolds, StopsFull, EndsWithUnits, EachStopHolds, EachStopSpares, EachTurnHolds, EachSubmitHolds}
-use Rattle.fj_closing.specs.Holding.{name_behind, name_at, HoldsName, HoldUnits}
-use Rattle.fj_closing.proofs.Seating.{Table, name_in, connects, named_by, named_still, serves_name, Seated, name_is}
-use Rattle.fj_closing.proofs.Standing.{left_in, slot_names, IsWaited, EachMoved, AllTold, ToldOr, IsOut, DoesSo, Goes, HasEnded, Submits, SettlesAt, AskGoes, passes_goes, Before, stands_so, before_so}
+use Rattle.fj_closing.specs.Holding.{name_behind, HoldsName, HoldUnits}
+use Rattle.fj_closing.proofs.Seating.{Table, name_in, connects, named_still, serves_name, Seated, name_is}
+use Rattle.fj_closing.proofs.Standing.{left_in, slot_names, IsWaited, AllTold, ToldOr, IsOut, DoesSo, Goes, Submits, SettlesAt, AskGoes, passes_goes, stands_so, before_so}
 use Rattle.fj_closing.proofs.Walk.{EmptyOrStays, Sits, now_seated, told_sits}
 
 -- ---- jobs by which no connection comes or goes leave its name

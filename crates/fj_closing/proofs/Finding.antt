@@ -1,12 +1,10 @@
 -- What is found of a file whose connection was closed.
-use Rattle.std.proofs.Common.{◌≡◌, ◌⊎◌, inl, inr, ℕ, ◌-◌, ◌<◌, ◌≤◌, zero, suc, Bool, true, false, not, List, [], ◌∷◌, length, map, take, drop, get_or, Some, None, Option, IsSome, IfSome, is_some, slice_get, Result, Ok, Err, OnOk, OnErr, option_map, refl, sym, ap, ◌∙◌, subst, arith}
+use Rattle.std.proofs.Common.{◌≡◌, ◌⊎◌, inl, inr, ℕ, ◌≤◌, Bool, true, false, not, List, length, take, Some, None, Option, IsSome, IfSome, Result, Ok, Err, OnOk, OnErr, option_map, refl, sym, ap, ◌∙◌, subst, arith}
 use Rattle.std.specs.Prelude.{if◌then◌else◌}
 use Rattle.std.proofs.lemmas.List.{take_all, length-map}
-use Rattle.std.specs.Prelude.{◌||◌}
-use Rattle.std.specs.Str.{bytes_eq}
 use Rattle.std.proofs.lemmas.Slice.Eq.{bytes_eq-Decides}
 use Rattle.fj_outside.specs.Faults.{Rose}
-use Rattle.fj_outside.specs.Holdings.{Holdings, given, without, SameAt}
+use Rattle.fj_outside.specs.Holdings.{Holdings, given, without}
 use Rattle.fj_outside.specs.declared.errors.Stop.{Stop}
 use Rattle.fj_outside.proofs.HoldingLaws.{steps}
 use Rattle.fj_connect.specs.Connection.{Connection}
@@ -18,19 +16,17 @@ use Rattle.fj_slot.specs.Sound.{IsSound, served_by}
 use Rattle.fj_slot.specs.declared.stop.Halt.{Halt}
 use Rattle.fj_bay.specs.Bay.{Bay as PlainBay}
 use Rattle.fj_bay.specs.Jobs.{Job as PlainJob, Answer as PlainAnswer, detach}
-use Rattle.fj_bay.specs.Meaning.{bay_meaning, file_faults}
-use Rattle.fj_bay.specs.Plain.{place_of, state_of}
+use Rattle.fj_bay.specs.Meaning.{bay_meaning}
 use Rattle.fj_bay.specs.Serving.{serve}
-use Rattle.fj_bay.specs.Spoilt.{first_difference, first_change, AgreeBelow, IsSpoilt, MayLeave, behind, SomeMayLeave}
+use Rattle.fj_bay.specs.Spoilt.{first_difference, first_change, AgreeBelow, MayLeave, behind, SomeMayLeave}
 use Rattle.fj_bay.specs.declared.bay.Bay.{Bay}
 use Rattle.fj_bay.specs.declared.job.Job.{Job}
 use Rattle.fj_bay.specs.declared.job.Answer.{Answer}
 use Rattle.fj_bay.proofs.Behind.{behind_is}
 use Rattle.fj_bay.proofs.Performed.{agree}
 use Rattle.fj_desk.specs.Both.{Both}
-use Rattle.fj_desk.specs.Core.{Connected, has_name}
+use Rattle.fj_desk.specs.Core.{Connected}
 use Rattle.fj_plain.specs.State.{Files}
-use Rattle.fj_units.specs.Names.{stands}
 use Rattle.fj_units.specs.Files.{files_of}
 use Rattle.fj_units.specs.Returning.{returned, IsAsDue}
 use Rattle.fj_closing.specs.Finding.{IsEndedUpTo, IsFound, IsFoundOf, IsLeftBehind, OfEach}

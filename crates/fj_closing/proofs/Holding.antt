@@ -1,5 +1,5 @@
 -- Slots that hold the connections of units: what remains of them is each unit's own, and the others did not stop.
-use Rattle.std.proofs.Common.{◌≡◌, ◌||◌, ℕ, ◌<◌, Bool, true, false, List, [], ◌∷◌, length, map, take, All, Some, None, Option, is_some, slice_get, option_map, refl, sym, ap, ◌∙◌, subst, inl, inr, arith}
+use Rattle.std.proofs.Common.{◌≡◌, ◌||◌, ℕ, ◌<◌, Bool, true, false, List, [], ◌∷◌, length, take, All, Some, None, Option, is_some, option_map, refl, sym, ap, ◌∙◌, inl, inr, arith}
 use Rattle.std.specs.Prelude.{◌==◌, if◌then◌else◌}
 use Rattle.std.proofs.lemmas.Bool.Decides.{eqb_tells}
 use Rattle.std.proofs.lemmas.List.{length-map}
@@ -8,9 +8,7 @@ use Rattle.std.specs.Str.{bytes_eq}
 use Rattle.fj_connect.specs.Connection.{Connection}
 use Rattle.fj_connect.specs.Linked.{Linked}
 use Rattle.fj_slot.specs.declared.stop.Halt.{Halt}
-use Rattle.fj_slot.specs.Ledger.{Ledger}
 use Rattle.fj_slot.specs.Serving.{Meaning}
-use Rattle.fj_slot.specs.Sound.{served_by}
 use Rattle.fj_slot.proofs.Sound.{slice_get_inside}
 use Rattle.fj_world.specs.Rack.{Rack}
 use Rattle.fj_bay.specs.Bay.{Bay as PlainBay}
@@ -22,7 +20,7 @@ use Rattle.fj_bay.specs.declared.job.Answer.{Answer}
 use Rattle.fj_bay.proofs.Behind.{behind_is}
 use Rattle.fj_desk.specs.Both.{Both}
 use Rattle.fj_desk.specs.Core.{Connected, has_name}
-use Rattle.fj_units.specs.Having.{Differ, DifferInFile}
+use Rattle.fj_units.specs.Having.{Differ}
 use Rattle.fj_units.specs.Names.{stands}
 use Rattle.fj_units.specs.Units.{has_slot, same_slot}
 use Rattle.fj_units.proofs.Files.{bytes_same}
@@ -31,14 +29,10 @@ use Rattle.fj_closing.specs.Fitting.{AllOut, FitUnits, HasItsOwn, HaveTheirOwn}
 use Rattle.fj_closing.specs.Holding.{name_at, HoldUnits}
 use Rattle.fj_closing.specs.Remains.{IsWhatRemains}
 use Rattle.fj_closing.specs.declared.remains.Remains.{Remains}
-use Rattle.fj_closing.proofs.Desking.{with_both}
+use Rattle.fj_closing.proofs.Desking.{either, some_in, with_both}
 use Rattle.fj_closing.proofs.Stopped.{linked_name, left_so, stopped_at}
 
 -- ---- units at slots of their own
-
-either : (a b : Bool) → (a || b) ≡ false → (a ≡ false) × (b ≡ false)
-either true b e = cc
-either false b e = (refl, e)
 
 none_at : (us : List Connected) (at : ℕ) → has_slot us at ≡ false → name_at us at ≡ None
 none_at [] at e = refl
@@ -61,10 +55,6 @@ later_at u us at name apart e = elim (eqb_tells u.slot at) [
 there : {F : Type 0} → (o : Option (Linked F)) (name : List ℕ) → linked_name o ≡ Some name → (c : Linked F) × (o ≡ Some c) × (c.name ≡ name)
 there None name e = absurd (cc)
 there (Some c) name e = (c, refl, let z : Some c.name ≡ Some name = e in cc)
-
-some_in : {X : Type 0} → (o : Option X) → is_some o ≡ true → (x : X) × (o ≡ Some x)
-some_in None e = absurd (cc)
-some_in (Some x) e = (x, refl)
 
 last_true : (b : Bool) → (b || true) ≡ true
 last_true true = refl

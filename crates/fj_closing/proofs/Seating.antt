@@ -10,7 +10,7 @@ use Rattle.fj_bay.specs.Serving.{serve, attached, detached, moved_in, gone, chan
 use Rattle.fj_bay.proofs.BayProofs.{keeps_its_connection}
 use Rattle.fj_desk.specs.Core.{Connected, connected_at, with_connected, inserted, without_connected}
 use Rattle.fj_desk.specs.Desks.{most_slots}
-use Rattle.fj_desk.proofs.Apart.{Each, each_filter, each_append, each_imp, each_both, each_map, Differs, Apart, apart_filter, apart_split, apart_map, filter_each}
+use Rattle.fj_desk.proofs.Apart.{Each, each_filter, each_append, each_imp, each_both, each_map, Differs, Apart, apart_filter, apart_split, filter_each}
 use Rattle.fj_cut.proofs.Units.{each_all, each_unfilter, each_at, only, others_differ, none_had, apart_from}
 use Rattle.fj_closing.specs.Ended.{unit_names}
 use Rattle.fj_closing.specs.Holding.{name_at}

@@ -1,5 +1,5 @@
 -- Between two asks: the slots have the connections of units, and each job by which one comes or goes was told, or is awaited.
-use Rattle.std.proofs.Common.{◌≡◌, ◌⊎◌, ℕ, zero, suc, ◌+◌, ◌<◌, ◌≤◌, ◌&&◌, Bool, true, false, List, [], ◌∷◌, ◌++◌, map, length, take, Option, Some, None, is_some, slice_get, set, get_or, refl, sym, ap, ◌∙◌, subst, inl, inr, arith}
+use Rattle.std.proofs.Common.{◌≡◌, ◌⊎◌, ℕ, zero, suc, ◌+◌, ◌<◌, ◌&&◌, Bool, true, false, List, [], ◌∷◌, ◌++◌, map, length, take, Option, Some, None, is_some, slice_get, set, get_or, refl, sym, ap, ◌∙◌, subst, inl, inr, arith}
 use Rattle.std.specs.Prelude.{if◌then◌else◌, ◌==◌, nat_lt, IsSome, option_and_then}
 use Rattle.std.proofs.lemmas.Bool.{cases_Bool, eqb-true, ltb-true, ltb-false}
 use Rattle.std.proofs.lemmas.Bool.Decides.{eqb_tells}
@@ -15,7 +15,7 @@ use Rattle.fj_world.specs.declared.ask.Ask.{Ask}
 use Rattle.fj_world.specs.declared.ask.Ask.TheVariants.{Submit, Settle, Finished}
 use Rattle.fj_world.specs.Conduct.{Conduct}
 use Rattle.fj_world.specs.Losing.{given_number, given_reply, given_outcome, answered, before_ask}
-use Rattle.fj_world.specs.Plain.{Plain, PlainSlot, asked_next, submitted_to, told_from, settled_from, served, next, after}
+use Rattle.fj_world.specs.Plain.{Plain, PlainSlot, submitted_to, told_from, settled_from, served, next, after}
 use Rattle.fj_world.proofs.Places.{slice_get_set, slice_get_in, set_other, set_itself}
 use Rattle.fj_bay.specs.Bay.{Bay}
 use Rattle.fj_bay.specs.Jobs.{Job, Answer}
@@ -24,15 +24,13 @@ use Rattle.fj_bay.specs.Spoilt.{behind}
 use Rattle.fj_bay.proofs.Behind.{behind_is}
 use Rattle.fj_plain.specs.State.{Entry, Files}
 use Rattle.fj_plain.specs.Statement.{Stated, Ending, ends, prohibition}
-use Rattle.fj_desk.specs.Core.{Core, Connected}
+use Rattle.fj_desk.specs.Core.{Core}
 use Rattle.fj_desk.specs.Desks.{Outcome, outcome_on, most_slots}
 use Rattle.fj_desk.specs.Doing.{Doing, finishes, gives, awaits}
-use Rattle.fj_desk.proofs.Apart.{Each}
 use Rattle.fj_turns.specs.Run.{Stage, Start, Waiting, Acting, Awaiting, Run}
 use Rattle.fj_turns.specs.Turns.{Turn, Pauses, Passes, Stops, unsettled, bump, waited_now, with_core, with_iostat, with_tells, finish_by, turn_act, doing_told, wait_by, start_by, rule_of, turn_start, turn, Asked, goes, by_turn, asked_on, asked, told_of}
 use Rattle.fj_turns.specs.Passing.{passed_by, passed_on, passes}
 use Rattle.fj_turns.specs.Serving.{over_bays, Shows, run_conduct, first_run, fresh_slots, begins}
-use Rattle.fj_turns.proofs.Before.{after_next}
 use Rattle.fj_turns.proofs.Slots.{and_true, same_some, each_at, each_replicate, get_mapped, map_get, map_set, get_last, length_set, set_found}
 use Rattle.fj_turns.proofs.Ties.{more, given}
 use Rattle.fj_closing.proofs.Seating.{Table, name_in, connects, named_by, serves_name, IsBehind, Seated, seated_same}

@@ -1,5 +1,5 @@
 -- A sound slot: the bay in which it stopped, and what remains of it once its jobs were performed.
-use Rattle.std.proofs.Common.{◌≡◌, ◌⊎◌, ℕ, ◌<◌, ◌≤◌, Bool, true, false, List, [], ◌∷◌, length, map, take, Some, None, Option, IsSome, IfSome, is_some, slice_get, option_map, refl, sym, ap, ◌∙◌, subst, arith}
+use Rattle.std.proofs.Common.{◌≡◌, ℕ, ◌<◌, ◌≤◌, Bool, true, List, length, take, Some, None, Option, IsSome, IfSome, is_some, slice_get, option_map, refl, sym, ap, ◌∙◌, subst, arith}
 use Rattle.std.proofs.lemmas.List.{take_all, length-map}
 use Rattle.fj_outside.specs.declared.errors.Stop.{Stop}
 use Rattle.fj_outside.specs.declared.errors.Stop.TheVariants.{Failed}
@@ -14,7 +14,7 @@ use Rattle.fj_bay.specs.Bay.{Bay as PlainBay}
 use Rattle.fj_bay.specs.Jobs.{Job as PlainJob, Answer as PlainAnswer}
 use Rattle.fj_bay.specs.Meaning.{bay_meaning, file_faults}
 use Rattle.fj_bay.specs.Plain.{place_of, state_of}
-use Rattle.fj_bay.specs.Spoilt.{IsSpoilt, behind}
+use Rattle.fj_bay.specs.Spoilt.{IsSpoilt}
 use Rattle.fj_bay.specs.declared.bay.Bay.{Bay}
 use Rattle.fj_bay.specs.declared.job.Job.{Job}
 use Rattle.fj_bay.specs.declared.job.Answer.{Answer}
@@ -23,14 +23,7 @@ use Rattle.fj_closing.specs.Fitting.{CountsStop}
 use Rattle.fj_closing.specs.Holding.{name_behind}
 use Rattle.fj_closing.specs.Remains.{IsWhatRemains}
 use Rattle.fj_closing.specs.declared.remains.Remains.{Remains}
-use Rattle.fj_closing.proofs.Desking.{at_home, placed}
-
-some_is : {X : Type 0} → {x y : X} → Some x ≡ Some y → x ≡ y
-some_is e = cc
-
-state_in : {X : Type 0} → (o : Option X) → IsSome o → (x : X) × (o ≡ Some x)
-state_in None e = absurd (cc)
-state_in (Some x) e = (x, refl)
+use Rattle.fj_closing.proofs.Desking.{at_home, placed, some_in, some_is}
 
 abbrev pub linked_name : {F : Type 0} → Option (Linked F) → Option (List ℕ)
 linked_name o = option_map (λ c. c.name) o
@@ -77,7 +70,7 @@ module _ {F : Type 0} (told : F → Bool) (bytes : F → List ℕ) (count : F �
       let job = slice_get_inside ts l.done (omega (arith, below, long)) in
       let was = served_by m s (take l.done ts) in
       let tells : IsSome (m.state bay) = subst (λ o. IfSome o (λ e. IsSome (m.state e))) home (subst (λ o. IfSome o (λ (x : Halt). IfSome l.home (λ e. IsSome (m.state e)))) halt sound.tells) in
-      let left = state_in (m.state bay) tells in
+      let left = some_in (m.state bay) tells in
       let at_halt = subst (λ o. IfSome o (λ (x : Halt). IfSome l.home (λ e. IfSome (slice_get ts l.done) (λ t. m.spoilt was t x.stop e)))) halt sound.spoilt in
       let at_home = subst (λ o. IfSome o (λ e. IfSome (slice_get ts l.done) (λ t. m.spoilt was t h.stop e))) home at_halt in
       let spoilt = subst (λ o. IfSome o (λ t. m.spoilt was t h.stop bay)) job.1 at_home in

@@ -1,4 +1,4 @@
-use Rattle.std.proofs.Common.{◌≡◌, ◌≢◌, ◌-◌, ℕ, false, List, ◌∷◌, length, map, take, drop, slice_get, None, OnOk, sym, ap, ◌∙◌, subst}
+use Rattle.std.proofs.Common.{◌≡◌, ◌-◌, List, length, map, take, drop, None, OnOk, sym, ap, ◌∙◌, subst}
 use Rattle.fj_desk.specs.Desking.{all_left}
 use Rattle.fj_units.specs.Files.{files_of}
 use Rattle.fj_units.specs.Units.{connected_of}

@@ -1,4 +1,4 @@
-use Rattle.std.proofs.Common.{◌≡◌, true, is_some, sym, ap, ◌∙◌, inl, inr}
+use Rattle.std.proofs.Common.{ap, ◌∙◌}
 use Rattle.std.specs.FinSet as set
 use Rattle.fj_units.specs.Files.{files_of}
 use Rattle.fj_units.specs.Names.{left_of}
@@ -33,9 +33,12 @@ returns-clause-running g c = λ tells own none.
 
 pub returns-clause-found : goal.returns-clause-found
 returns-clause-found g c = λ tells own.
-    let its = own_is g.D.File.FileStore.count c.args.names.now c.args.all.now.items (connected_of c.args.unit.now) c.in-Some.own.connection c.in-Some.own.stop own c.in-Some.ensures.here in
-    (_, c.in-Some.ensures.here, found_at g.D.File.FileStore.told g.D.File.FileStore.bytes c.in-Some.own.connection c.in-Some.own.stop c.args.unit.now.name (files_of (g.D.Disk.held c.close.new.disk))
-    (g.D.Disk.refusals c.args.disk.now) (g.D.Disk.refusals c.close.new.disk) its.0 (c.close.ensures.found tells))
+    let its = own_is g.D.File.FileStore.count c.args.names.now c.args.all.now.items (connected_of c.args.unit.now) c.in-Some.own.connection c.in-Some.own.stop own c.in-Some.ensures.here in (
+      _,
+      c.in-Some.ensures.here,
+      found_at g.D.File.FileStore.told g.D.File.FileStore.bytes c.in-Some.own.connection c.in-Some.own.stop c.args.unit.now.name (files_of (g.D.Disk.held c.close.new.disk))
+          (g.D.Disk.refusals c.args.disk.now) (g.D.Disk.refusals c.close.new.disk) its.0 (c.close.ensures.found tells),
+    )
 
 pub returns-clause-spared : goal.returns-clause-spared
 returns-clause-spared g c = λ tells own name other.

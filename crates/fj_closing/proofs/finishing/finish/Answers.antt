@@ -1,4 +1,4 @@
-use Rattle.std.proofs.Common.{◌≡◌, false, None, OnOk, sym, ◌∙◌, subst}
+use Rattle.std.proofs.Common.{◌≡◌, false, None, OnOk, sym, subst}
 use Rattle.std.specs.FinSet as set
 use Rattle.fj_desk.specs.Desking.{all_left}
 use Rattle.fj_units.specs.Files.{files_of}
