@@ -1,5 +1,5 @@
 // How a statement goes on from a job that it gave.
-ghost use Rattle.std.specs.Prelude.{◌<◌, ◌≡◌, ◌≢◌, ◌↔◌, ◌≤◌, ◌+◌, ◌-◌, ℕ, true, length, All, Some, IfOk, IfSome, OnErr, OnOk, Err};
+ghost use Rattle.std.specs.Prelude.{◌<◌, ◌≡◌, ◌≢◌, ◌↔◌, ◌≤◌, ◌-◌, ℕ, true, length, All, Some, IfOk, IfSome, OnErr, Err};
 ghost use Rattle.std.specs.Option.{option_map};
 ghost use Rattle.fj_outside.specs.Faults.{Rose};
 ghost use Rattle.fj_outside.specs.Holdings.{Holdings};

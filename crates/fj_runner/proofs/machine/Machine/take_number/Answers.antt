@@ -1,8 +1,10 @@
-use Rattle.std.proofs.Common.{◌≡◌, true, option_map, refl, sym, ap, ◌∙◌, subst}
+use Rattle.std.proofs.Common.{◌≡◌, true, IfErr, option_map, refl, sym, ap, ◌∙◌, subst}
+use Rattle.fj_slot.specs.declared.told.Refused.{Refused}
 use Rattle.fj_connect.specs.Linked.{Linked}
+use Rattle.fj_bay.specs.declared.job.Job.{Job}
 use Rattle.fj_world.specs.Conduct.{IsSubmitting}
 use Rattle.fj_acts.specs.Having.{name_brought}
-use Rattle.fj_runner.specs.Kept.{HaveKeptAt}
+use Rattle.fj_runner.specs.Kept.{HaveKeptAt, MayKeep}
 use Rattle.fj_runner.specs.Tallying.{due_of}
 use Rattle.fj_runner.proofs.Kept.{brought_name, keeps_same}
 use Rattle.fj_runner.proofs.Tallies.{not_both, not_stopped, submitting_runs}
@@ -35,7 +37,8 @@ returns-in-Err-clause-keeps g c =
     record {
       given_up = λ goes over stopped.
           subst (λ o. HaveKeptAt o new) (sym (brought_name c.in-Err.refused.job) ∙ ap (option_map (λ (k : Linked g.row.F.Denot). k.name)) (sym c.keep.ensures.kept))
-          (keeps_same m new (name_brought c.in-Err.refused.job) c.keep.ensures.deck c.keep.ensures.at c.keep.ensures.state c.requires.back);
+          (keeps_same m new (name_brought c.in-Err.refused.job) c.keep.ensures.deck c.keep.ensures.at c.keep.ensures.state
+          (subst (λ n. IfErr n (λ (refused : Refused (Job g.row.F.Denot)). MayKeep m refused.job)) c.in-Err.is c.requires.back));
       asked = λ goes idle. absurd (subst (λ h. IsSubmitting (due_of h)) idle c.requires.submitting);
       none = λ goes stopped. absurd (never stopped);
       stopped = λ goes stopped. absurd (never stopped);
