@@ -1,5 +1,5 @@
 -- At each end of a run the slots hold the connections of its units.
-use Rattle.std.proofs.Common.{◌≡◌, ℕ, zero, suc, ◌<◌, ◌≤◌, Bool, true, false, List, [], ◌∷◌, All, length, take, Option, Some, None, is_some, slice_get, refl, sym, ap, ◌∙◌, subst, inl, inr, arith}
+use Rattle.std.proofs.Common.{◌≡◌, ℕ, zero, suc, ◌<◌, ◌≤◌, Bool, true, false, List, [], ◌∷◌, All, length, take, Option, Some, None, slice_get, refl, sym, ap, ◌∙◌, subst, inl, inr, arith}
 use Rattle.std.specs.Prelude.{◌||◌, IsSome, IfSome}
 use Rattle.std.proofs.lemmas.Bool.{cases_Bool, ne_eqb}
 use Rattle.std.proofs.lemmas.Bool.Decides.{eqb_tells}
@@ -9,10 +9,9 @@ use Rattle.std.proofs.lemmas.List.{length-map}
 use Rattle.std.proofs.lemmas.Option.{slice_get_within}
 use Rattle.fj_connect.specs.Connection.{Connection}
 use Rattle.fj_statement.specs.declared.deck.Variable.{Variable}
-use Rattle.fj_slot.specs.declared.stop.Halt.{Halt}
 use Rattle.fj_slot.specs.Ledger.{Ledger}
 use Rattle.fj_slot.specs.Serving.{Meaning}
-use Rattle.fj_slot.specs.Sound.{IsSound, served_by}
+use Rattle.fj_slot.specs.Sound.{served_by}
 use Rattle.fj_slot.proofs.Sound.{slice_get_inside}
 use Rattle.fj_world.specs.declared.ask.Ask.TheVariants.{Submit, Settle, Finished}
 use Rattle.fj_world.specs.Losing.{SlotsHold, before_ask}
@@ -44,6 +43,8 @@ use Rattle.fj_units.specs.Having.{Differ}
 use Rattle.fj_units.specs.Units.{has_slot, same_slot}
 use Rattle.fj_closing.specs.Ended.{HasStoppedAt, LeavesNames, BringsNone, StopSpares, TurnHolds, StopsFull, EndsWithUnits, EachStopHolds, EachStopSpares, EachTurnHolds, EachSubmitHolds}
 use Rattle.fj_closing.specs.Holding.{name_behind, HoldsName, HoldUnits}
+use Rattle.fj_closing.proofs.Desking.{some_in}
+use Rattle.fj_closing.proofs.Halted.{halted_at}
 use Rattle.fj_closing.proofs.Seating.{Table, name_in, connects, named_still, serves_name, Seated, name_is}
 use Rattle.fj_closing.proofs.Standing.{left_in, slot_names, IsWaited, AllTold, ToldOr, IsOut, DoesSo, Goes, Submits, SettlesAt, AskGoes, passes_goes, stands_so, before_so}
 use Rattle.fj_closing.proofs.Walk.{EmptyOrStays, Sits, now_seated, told_sits}
@@ -150,33 +151,13 @@ module _ {E J A : Type 0} (m : Meaning E J A Bay Job Answer) (rack : Rack E J A)
 
     -- the bay on which it stopped is not empty
     stopped_full : StopsFull m → IsSome (w.old slot)
-    stopped_full full = by (slice_get_inside rack.slots slot (let within = slice_get_within qs slot w.own w.here in omega (arith, within, hold.same)))
-      where
-        by : (l : Ledger E J A) × (slice_get rack.slots slot ≡ Some l) → IsSome (w.old slot)
-        by (l, f) = halted l.halt refl l.home refl (slice_get w.own.jobs l.done) refl
-          where
-            sound : IsSound (over_bays m) w.own.start w.own.jobs l
-            sound = hold.each slot w.own l w.here f
-
-            names_some : (o : Option Connection) → IsSome o → IsSome (name_in o)
-            names_some None h = h
-            names_some (Some c) h = refl
-
-            halted : (halt : Option Halt) → l.halt ≡ halt → (home : Option E) → l.home ≡ home → (job : Option Job) → slice_get w.own.jobs l.done ≡ job → IsSome (w.old slot)
-            halted None e home g job i = absurd (let z : false ≡ true = sym (ap is_some e) ∙ stop l f in cc)
-            halted (Some h) e None g job i = absurd (let z : false ≡ true = sym (ap is_some g) ∙ sound.counted.at_home (stop l f) in cc)
-            halted (Some h) e (Some engine) g None i =
-                let less = not_behind l f in
-                let there = slice_get_inside w.own.jobs l.done (omega (arith, less, w.last)) in
-                absurd (let z : None ≡ Some there.0 = sym i ∙ there.1 in cc)
-            halted (Some h) e (Some engine) g (Some job) i =
-                let tells : IsSome (m.state engine) = subst (λ o. IfSome o (λ b. IsSome (m.state b))) g (subst (λ o. IfSome o (λ (x : Halt). IfSome l.home (λ b. IsSome (m.state b)))) e sound.tells) in
-                let at_halt = subst (λ o. IfSome o (λ (x : Halt). IfSome l.home (λ b. IfSome (slice_get w.own.jobs l.done) (λ t. m.spoilt (served_by (over_bays m) w.own.start (take l.done w.own.jobs)) t x.stop b)))) e sound.spoilt in
-                let at_home = subst (λ o. IfSome o (λ b. IfSome (slice_get w.own.jobs l.done) (λ t. m.spoilt (served_by (over_bays m) w.own.start (take l.done w.own.jobs)) t h.stop b))) g at_halt in
-                let spoilt = subst (λ o. IfSome o (λ t. m.spoilt (served_by (over_bays m) w.own.start (take l.done w.own.jobs)) t h.stop engine)) i at_home in
-                let some = full (served_by (over_bays m) w.own.start (take l.done w.own.jobs)) job h.stop engine tells spoilt in
-                subst IsSome (before_stop l f)
-                (names_some (behind w.own.start (take l.done w.own.jobs)).connection (subst (λ (b : Bay). IsSome b.connection) (behind_is (over_bays m) refl w.own.start (take l.done w.own.jobs)) some))
+    stopped_full full =
+        let l = slice_get_inside rack.slots slot (let within = slice_get_within qs slot w.own w.here in omega (arith, within, hold.same)) in
+        let h = some_in l.0.halt (stop l.0 l.1) in
+        let at = halted_at (over_bays m) w.own.start w.own.jobs l.0 h.0 (hold.each slot w.own l.0 w.here l.1) h.1 in
+        let bay = served_by (over_bays m) w.own.start (take l.0.done w.own.jobs) in
+        let c = some_in bay.connection (full bay at.job h.0.stop at.engine at.tells at.spoilt) in
+        subst IsSome (ap (λ (b : Bay). name_in b.connection) (behind_is (over_bays m) refl w.own.start (take l.0.done w.own.jobs)) ∙ before_stop l.0 l.1) (subst (λ o. IsSome (name_in o)) (sym c.1) refl)
 
     -- no connection is about to come
     spared : StopsFull m → ((brought : Option Connection) → w.job ≡ attach brought → ⊥) × LeavesNames (Awaiting slot number onward) r.core.units

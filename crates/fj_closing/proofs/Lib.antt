@@ -1,5 +1,6 @@
 pub mod Performing
 pub mod Desking
+pub mod Halted
 pub mod Stopped
 pub mod Returning
 pub mod Due

@@ -75,11 +75,14 @@ abbrev pub ToldOr : Stage → List (PlainSlot Bay Job) → Type 0
 ToldOr stage qs = EachMoved (λ q at k. (k < q.told) ⊎ IsWaited stage at k) qs
 
 -- the runner counts the jobs
-pub record Counts (r : Run) (qs : List (PlainSlot Bay Job)) : Type 0 where
-  pub sent : r.sent ≡ map (λ (q : PlainSlot Bay Job). length q.jobs) qs
-  pub told : r.told ≡ map (λ (q : PlainSlot Bay Job). q.told) qs
+pub record CountsJobs (sent told : List ℕ) (ending : Option Ending) (qs : List (PlainSlot Bay Job)) : Type 0 where
+  pub sent_is : sent ≡ map (λ (q : PlainSlot Bay Job). length q.jobs) qs
+  pub told_is : told ≡ map (λ (q : PlainSlot Bay Job). q.told) qs
   pub long : length qs ≡ most_slots
-  pub going : r.ending ≡ None
+  pub going : ending ≡ None
+
+abbrev pub Counts : Run → List (PlainSlot Bay Job) → Type 0
+Counts r qs = CountsJobs r.sent r.told r.ending qs
 
 module _ {E J A : Type 0} (m : Meaning E J A Bay Job Answer) where
   -- The last job of that slot is out, and the statement waits for it: the units are those of before it.
@@ -161,9 +164,9 @@ module _ {E J A : Type 0} (m : Meaning E J A Bay Job Answer) where
         let f : PlainSlot Bay Job → ℕ = λ z. length z.jobs in
         let g : PlainSlot Bay Job → ℕ = λ z. z.told in
         record {
-          sent = ap (λ l. set l slot (get_or l slot 0 + 1)) b.sent ∙ ap (λ n. set (map f qs) slot (n + 1)) (get_mapped f qs slot q found) ∙ ap (set (map f qs) slot) (sym (length-append q.jobs (job ∷ [])))
+          sent_is = ap (λ l. set l slot (get_or l slot 0 + 1)) b.sent_is ∙ ap (λ n. set (map f qs) slot (n + 1)) (get_mapped f qs slot q found) ∙ ap (set (map f qs) slot) (sym (length-append q.jobs (job ∷ [])))
               ∙ sym (map_set f qs slot (given q job));
-          told = b.told ∙ sym (map_set g qs slot (given q job) ∙ set_itself (map g qs) slot q.told (map_get g qs slot q found));
+          told_is = b.told_is ∙ sym (map_set g qs slot (given q job) ∙ set_itself (map g qs) slot q.told (map_get g qs slot q found));
           long = length_set qs slot (given q job) ∙ b.long;
           going = b.going;
         }
@@ -173,8 +176,8 @@ module _ {E J A : Type 0} (m : Meaning E J A Bay Job Answer) where
         let f : PlainSlot Bay Job → ℕ = λ z. length z.jobs in
         let g : PlainSlot Bay Job → ℕ = λ z. z.told in
         record {
-          sent = b.sent ∙ sym (map_set f qs slot (more q) ∙ set_itself (map f qs) slot (length q.jobs) (map_get f qs slot q found));
-          told = ap (λ l. set l slot (get_or l slot 0 + 1)) b.told ∙ ap (λ n. set (map g qs) slot (n + 1)) (get_mapped g qs slot q found) ∙ sym (map_set g qs slot (more q));
+          sent_is = b.sent_is ∙ sym (map_set f qs slot (more q) ∙ set_itself (map f qs) slot (length q.jobs) (map_get f qs slot q found));
+          told_is = ap (λ l. set l slot (get_or l slot 0 + 1)) b.told_is ∙ ap (λ n. set (map g qs) slot (n + 1)) (get_mapped g qs slot q found) ∙ sym (map_set g qs slot (more q));
           long = length_set qs slot (more q) ∙ b.long;
           going = b.going;
         }
@@ -252,22 +255,19 @@ module _ {E J A : Type 0} (m : Meaning E J A Bay Job Answer) where
 
   module _ (qs : List (PlainSlot Bay Job)) where
     finish_goes : (o : Option Ending) (r : Run) → Counts r qs → AllTold qs → Seated (slot_names qs) r.core.units → TurnGoes qs (finish_by o r)
-    finish_goes None r b all s = (record { counts = record { sent = b.sent; told = b.told; long = b.long; going = b.going }; does = s; out = λ at q k job e f c. inl (all at q k job e f c) }, refl)
+    finish_goes None r b all s = (record { counts = b; does = s; out = λ at q k job e f c. inl (all at q k job e f c) }, refl)
     finish_goes (Some x) r b all s = record { some = refl; start = refl; long = b.long; seated = s; told = all }
-
-    core_counts : (core : Core) (r : Run) → Counts r qs → Counts (with_core core r) qs
-    core_counts core r b = record { sent = b.sent; told = b.told; long = b.long; going = b.going }
 
     act_goes : (st : Stated) (d : Doing) (r : Run) → Counts r qs → AllTold qs → Sits (slot_names qs) d → TurnGoes qs (turn_act st d r)
     act_goes st (finishes core condition) r b all w =
-        finish_goes (ends st.0.line st.0.what condition) (with_core (with_iostat st condition r core) r) (core_counts (with_iostat st condition r core) r b) all w
+        finish_goes (ends st.0.line st.0.what condition) (with_core (with_iostat st condition r core) r) b all w
     act_goes st (gives slot job core next) r b all w = record {
       low = w.1;
       long = b.long;
       seated = w.0;
       told = all;
       later = λ q e. record {
-        counts = counts_given qs slot q e (with_core core r) (Acting (next (get_or r.sent slot 0))) job (core_counts core r b);
+        counts = counts_given qs slot q e (with_core core r) (Acting (next (get_or r.sent slot 0))) job b;
         does = w.3 (slot_names (set qs slot (given q job))) (get_or r.sent slot 0) (names_given qs slot q e job);
         out = given_out qs slot q e job (λ at k. ⊥) all (λ c. let z : false ≡ true = sym w.2 ∙ c in cc);
       };
@@ -278,9 +278,9 @@ module _ {E J A : Type 0} (m : Meaning E J A Bay Job Answer) where
       seated = w.0;
       told = all;
       later = λ q e.
-          let is : get_or r.sent slot 0 ≡ length q.jobs = ap (λ l. get_or l slot 0) b.sent ∙ get_mapped (λ (z : PlainSlot Bay Job). length z.jobs) qs slot q e in
+          let is : get_or r.sent slot 0 ≡ length q.jobs = ap (λ l. get_or l slot 0) b.sent_is ∙ get_mapped (λ (z : PlainSlot Bay Job). length z.jobs) qs slot q e in
           record {
-            counts = counts_given qs slot q e (with_core core r) (Awaiting slot (get_or r.sent slot 0) next) job (core_counts core r b);
+            counts = counts_given qs slot q e (with_core core r) (Awaiting slot (get_or r.sent slot 0) next) job b;
             does = given_last qs slot q e core job (get_or r.sent slot 0) next is w.0 w.2 w.3;
             out = given_out qs slot q e job (λ at k. (at ≡ slot) × (k ≡ get_or r.sent slot 0)) all (λ c. (refl, sym is));
           };
@@ -288,10 +288,10 @@ module _ {E J A : Type 0} (m : Meaning E J A Bay Job Answer) where
 
     wait_goes : (st : Stated) (waited : List Entry) (o : Option ℕ) (r : Run) → Counts r qs → AllTold qs → Seated (slot_names qs) r.core.units → TurnGoes qs (wait_by st waited o r)
     wait_goes st waited None r b all s =
-        act_goes st (doing_told r.variables st waited r.core) (with_tells st waited r) (record { sent = b.sent; told = b.told; long = b.long; going = b.going }) all
+        act_goes st (doing_told r.variables st waited r.core) (with_tells st waited r) b all
         (told_sits (slot_names qs) r.variables st waited r.core s)
     wait_goes st waited (Some slot) r b all s = (
-      record { counts = record { sent = b.sent; told = b.told; long = b.long; going = b.going }; does = s; out = λ at p k job e f c. inl (all at p k job e f c) },
+      record { counts = b; does = s; out = λ at p k job e f c. inl (all at p k job e f c) },
       tt,
       λ q o e f. record {
         counts = counts_told qs slot q e r o Waiting b;
@@ -310,7 +310,7 @@ module _ {E J A : Type 0} (m : Meaning E J A Bay Job Answer) where
     own_goes own last onward r q o b w out e came = by ((own == own) && (last == get_or r.told own 0)) refl
       where
         told_is : get_or r.told own 0 ≡ q.told
-        told_is = ap (λ l. get_or l own 0) b.told ∙ get_mapped (λ (z : PlainSlot Bay Job). z.told) qs own q e
+        told_is = ap (λ l. get_or l own 0) b.told_is ∙ get_mapped (λ (z : PlainSlot Bay Job). z.told) qs own q e
 
         counted : Counts (told_of (record r { stage = Awaiting own last onward; due = own }) o) (set qs own (more q))
         counted = counts_told qs own q e r o (Awaiting own last onward) b
@@ -362,7 +362,7 @@ module _ {E J A : Type 0} (m : Meaning E J A Bay Job Answer) where
     turn_goes st Waiting r b w out = wait_goes st (waited_now st r) (unsettled (waited_now st r) r.book) r b (all_of Waiting (λ at k never. never) out) w
     turn_goes st (Acting d) r b w out = act_goes st d r b (all_of (Acting d) (λ at k never. never) out) w
     turn_goes st (Awaiting own last onward) r b w out =
-        (record { counts = record { sent = b.sent; told = b.told; long = b.long; going = b.going }; does = w; out = out }, refl, λ q o e f. own_goes own last onward r q o b w out e f)
+        (record { counts = b; does = w; out = out }, refl, λ q o e f. own_goes own last onward r q o b w out e f)
 
     -- ---- asks
 
@@ -373,11 +373,10 @@ module _ {E J A : Type 0} (m : Meaning E J A Bay Job Answer) where
     start_seated r h start = subst (λ s. DoesSo r.core qs s) start h.does
 
     goes_so : (sts : List Stated) (r : Run) → Goes r qs → r.stage ≡ Start → let a = goes sts r in AskGoes qs a.ask a.run
-    goes_so [] r h start = let c = h.counts in inl (record { counts = record { sent = c.sent; told = c.told; long = c.long; going = c.going }; does = h.does; out = h.out })
+    goes_so [] r h start = inl (record { counts = h.counts; does = h.does; out = h.out })
     goes_so (st ∷ rest) r h start =
-        let c = h.counts in
         by (turn_start st (record r { rest = st ∷ rest }))
-        (start_goes st (rule_of r.variables st r.core) (record r { rest = st ∷ rest }) (record { sent = c.sent; told = c.told; long = c.long; going = c.going }) (start_all r h start) (start_seated r h start))
+        (start_goes st (rule_of r.variables st r.core) (record r { rest = st ∷ rest }) h.counts (start_all r h start) (start_seated r h start))
         (λ run. goes_so rest run)
       where
         by : (t : Turn) → TurnGoes qs t → ((run : Run) → Goes run qs → run.stage ≡ Start → let a = goes rest run in AskGoes qs a.ask a.run)
@@ -408,8 +407,7 @@ module _ {E J A : Type 0} (m : Meaning E J A Bay Job Answer) where
         by : (t : Turn) → TurnGoes qs t → passed_by rest t ≡ Some run → Goes run qs
         by (Pauses ask on) k f = cc
         by (Passes on) k f =
-            let c = k.0.counts in
-            subst (λ x. Goes x qs) (same_some f) (record { counts = record { sent = c.sent; told = c.told; long = c.long; going = c.going }; does = k.0.does; out = k.0.out })
+            subst (λ x. Goes x qs) (same_some f) (record { counts = k.0.counts; does = k.0.does; out = k.0.out })
         by (Stops on) k f = cc
 
     pub passes_goes : (count : ℕ) (r run : Run) → Goes r qs → passes count r ≡ Some run → Goes run qs
@@ -478,7 +476,7 @@ module _ {E J A S : Type 0} (m : Meaning E J A Bay Job Answer) (s : Shows S) whe
 
   first_goes : (variables : List Variable) (deck : List Stated) (files : Files) → Goes m (first_run variables deck files) fresh_slots
   first_goes variables deck files = record {
-    counts = record { sent = refl; told = refl; long = refl; going = refl };
+    counts = record { sent_is = refl; told_is = refl; long = refl; going = refl };
     does = record { numbers = tt; slots = tt; low = tt; named = tt; empty = λ at d. none_yet at };
     out = λ at q k job e f c. no_job q.jobs k job (each_at (λ (z : PlainSlot Bay Job). z.jobs ≡ []) fresh_slots at q (each_replicate (λ (z : PlainSlot Bay Job). z.jobs ≡ []) most_slots empty refl) e) f;
   }

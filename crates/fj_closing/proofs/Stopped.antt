@@ -9,7 +9,6 @@ use Rattle.fj_slot.specs.declared.stop.Halt.{Halt}
 use Rattle.fj_slot.specs.Ledger.{Ledger}
 use Rattle.fj_slot.specs.Serving.{Meaning}
 use Rattle.fj_slot.specs.Sound.{IsSound, served_by}
-use Rattle.fj_slot.proofs.Sound.{slice_get_inside}
 use Rattle.fj_bay.specs.Bay.{Bay as PlainBay}
 use Rattle.fj_bay.specs.Jobs.{Job as PlainJob, Answer as PlainAnswer}
 use Rattle.fj_bay.specs.Meaning.{bay_meaning, file_faults}
@@ -24,6 +23,7 @@ use Rattle.fj_closing.specs.Holding.{name_behind}
 use Rattle.fj_closing.specs.Remains.{IsWhatRemains}
 use Rattle.fj_closing.specs.declared.remains.Remains.{Remains}
 use Rattle.fj_closing.proofs.Desking.{at_home, placed, some_in, some_is}
+use Rattle.fj_closing.proofs.Halted.{halted_at}
 
 abbrev pub linked_name : {F : Type 0} → Option (Linked F) → Option (List ℕ)
 linked_name o = option_map (λ c. c.name) o
@@ -65,21 +65,16 @@ module _ {F : Type 0} (told : F → Bool) (bytes : F → List ℕ) (count : F �
 
   pub stopped_at : (l : Ledger (Bay F) (Job F) Answer) (s : PlainBay) (ts : List PlainJob) (h : Halt) (bay : Bay F) → IsSound m s ts l → l.halt ≡ Some h → l.home ≡ Some bay → IsStopped l s ts h bay
   stopped_at l s ts h bay sound halt home =
-      let long : length l.jobs ≡ length ts = sym (length-map l.jobs m.task) ∙ ap length sound.jobs ∙ length-map ts Some in
-      let below = sound.counted.below (ap is_some halt) in
-      let job = slice_get_inside ts l.done (omega (arith, below, long)) in
-      let was = served_by m s (take l.done ts) in
-      let tells : IsSome (m.state bay) = subst (λ o. IfSome o (λ e. IsSome (m.state e))) home (subst (λ o. IfSome o (λ (x : Halt). IfSome l.home (λ e. IsSome (m.state e)))) halt sound.tells) in
-      let left = some_in (m.state bay) tells in
-      let at_halt = subst (λ o. IfSome o (λ (x : Halt). IfSome l.home (λ e. IfSome (slice_get ts l.done) (λ t. m.spoilt was t x.stop e)))) halt sound.spoilt in
-      let at_home = subst (λ o. IfSome o (λ e. IfSome (slice_get ts l.done) (λ t. m.spoilt was t h.stop e))) home at_halt in
-      let spoilt = subst (λ o. IfSome o (λ t. m.spoilt was t h.stop bay)) job.1 at_home in
+      let at = halted_at m s ts l h sound halt in
+      let same : at.engine ≡ bay = some_is (sym at.home ∙ home) in
+      let left = some_in (m.state bay) (subst (λ e. IsSome (m.state e)) same at.tells) in
+      let spoilt = subst (m.spoilt (served_by m s (take l.done ts)) at.job h.stop) same at.spoilt in
       record {
-        job = job.0;
-        at = job.1;
+        job = at.job;
+        at = at.at;
         left = left.0;
         tells = left.1;
-        spoilt = subst (λ o. IfSome o (λ new. IsSpoilt was job.0 h.stop new (file_faults count bay.connection))) left.1 spoilt;
+        spoilt = subst (λ o. IfSome o (λ new. IsSpoilt (served_by m s (take l.done ts)) at.job h.stop new (file_faults count bay.connection))) left.1 spoilt;
       }
 
   -- the bay in which it stopped had a connection, of that name

@@ -1,5 +1,5 @@
 //! What becomes of slots and of files when a deck has ended or a run was given up: the jobs that are left are performed, open
-//! records are ended, and the files go back to the disk.
+//! records are ended, and the files go back to the disk. Laws say that at each end of a run the slots hold the connections of units.
 #![tactic(auto)]
 
 mod closing;

@@ -6,6 +6,7 @@ ghost use Rattle.std.specs.FinSet as set;
 ghost use Rattle.fj_outside.specs.Faults.{Rose};
 ghost use Rattle.fj_real.specs.RealFile.{file_size, file_count};
 
+use crate::blocks::keep_big_blocks;
 use crate::file::RealFile;
 use fj_outside::{Disk, Failed, FileStore, Stop};
 use std::alloc::Global;
@@ -18,6 +19,8 @@ use std::rt::Files;
 pub struct RealDisk<R> {
     rt: R,
     faults: u64,
+    /// Big blocks are used again.
+    keeps_blocks: bool,
 }
 
 /// An empty file of that name, in place of one that is there.
@@ -59,7 +62,23 @@ impl<R: Files<File = File>> RealDisk<R> {
     pub fn new(rt: R) -> RealDisk<R>
         ensures { disk_count result ≡ 0 }
     {
-        RealDisk { rt, faults: 0 }
+        RealDisk {
+            rt,
+            faults: 0,
+            keeps_blocks: false,
+        }
+    }
+
+    /// Keeps big blocks from the first file on. Before, the lists of a deck grow, which is sooner done where the pages of a
+    /// block are moved.
+    fn keep_blocks(&mut self, alloc: Global)
+        ensures { disk_count self.new ≡ disk_count self.old }
+    {
+        if self.keeps_blocks {
+            return;
+        }
+        self.keeps_blocks = true;
+        keep_big_blocks(alloc);
     }
 
     fn fail(&mut self)
@@ -96,7 +115,8 @@ impl<R: Files<File = File>> Disk for RealDisk<R> {
     }
 
     /// A file that may only be read is there; a write to it fails. A folder, and a file that may not be read, is a fault.
-    fn take(&mut self, _alloc: Global, name: &str) -> Result<Option<RealFile>, Stop> {
+    fn take(&mut self, alloc: Global, name: &str) -> Result<Option<RealFile>, Stop> {
+        self.keep_blocks(alloc);
         match open_file(&self.rt, name) {
             Ok(file) => Ok(Some(file)),
             Err(e) if e.kind() == ErrorKind::NotFound => Ok(None),
@@ -107,7 +127,8 @@ impl<R: Files<File = File>> Disk for RealDisk<R> {
         }
     }
 
-    fn create(&mut self, _alloc: Global, name: &str) -> Result<RealFile, Stop> {
+    fn create(&mut self, alloc: Global, name: &str) -> Result<RealFile, Stop> {
+        self.keep_blocks(alloc);
         match create_file(&self.rt, name) {
             Ok(file) => Ok(file),
             Err(_) => {

@@ -2,6 +2,7 @@
 //! faults, and tell nothing of what they hold: no contract can say what a file or a terminal gives or takes.
 #![tactic(auto)]
 
+mod blocks;
 mod disk;
 mod file;
 mod sink;

@@ -6,25 +6,13 @@ ghost use Rattle.fjob.specs.Status.{exit_status_of};
 
 use fj_job::{Status, run_job};
 use fj_real::{RealDisk, RealSink, RealSource};
-use std::alloc::{AllocError, Global};
+use std::alloc::AllocError;
 use std::env;
 use std::io::ErrorKind;
 use std::process::ExitCode;
 
 /// The exit status where memory is refused.
 const NO_MEMORY: u8 = 9;
-
-/// The size of a block that is let go at the start.
-const KEPT: usize = 33_000_000;
-
-/// Takes a block and lets it go unused, so that big blocks are used again once they are let go. Up to the size of the largest
-/// mapping that was let go, and 32 MiB, glibc's allocator makes no mapping of a block, and keeps twice that at the end of its
-/// heap (mallopt(3), M_MMAP_THRESHOLD). Else a block of 128 KiB goes back to the system, and each page of the next one is a
-/// fault. Where this block is refused, nothing is lost.
-fn keep_big_blocks(alloc: Global) {
-    let mut block: Vec<u8> = Vec::new(alloc);
-    let _ = block.reserve(KEPT);
-}
 
 /// The words behind the program's name. None where one of them is no text, and so no form.
 fn words(rt: &HostRuntime) -> Result<Vec<String>, AllocError> {
@@ -61,7 +49,6 @@ fn exit_status(status: Status) -> u8
 }
 
 fn main(rt: HostRuntime) -> ExitCode {
-    keep_big_blocks(rt.alloc());
     let Ok(words) = words(&rt) else {
         return ExitCode::from(NO_MEMORY);
     };

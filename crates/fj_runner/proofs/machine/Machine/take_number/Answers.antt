@@ -33,7 +33,7 @@ returns-in-Err-clause-keeps g c =
     let tally = m.tally in
     let going = submitting_runs tally.hand tally.over tally.left tally.submits c.requires.submitting in
     let never : new.tally.stopped ≡ true → ⊥ = λ stopped.
-        not_both new.tally.stopped stopped (ap (λ t. t.stopped) c.keep.ensures.tally ∙ c.refused.ensures.stopped ∙ not_stopped tally.stopped tally.over tally.stop going) in
+    not_both new.tally.stopped stopped (ap (λ t. t.stopped) c.keep.ensures.tally ∙ c.refused.ensures.stopped ∙ not_stopped tally.stopped tally.over tally.stop going) in
     record {
       given_up = λ goes over stopped.
           subst (λ o. HaveKeptAt o new) (sym (brought_name c.in-Err.refused.job) ∙ ap (option_map (λ (k : Linked g.row.F.Denot). k.name)) (sym c.keep.ensures.kept))

@@ -27,10 +27,12 @@ pub invariant_of-self-2 : goal.invariant_of-self-2
 invariant_of-self-2 g c =
     let s = c.self.inside in
     let found = slice_get_in s.slots.slots c.args.slot (grind (arith, common_steps)) in
-    let can = sym (c.begin.ensures.variant found.0 found.1) ∙ ap is_some c.in-Some.is in
-    (begin_orderly g.S.Gear.Engine.meaning g.S.Script.conduct (record { start = s.start.value; script = s.script; hand = s.hand; rack = s.slots; workers = s.workers.items })
-    c.args.worker (record { slot = c.args.slot; out = c.in-Some.out }) found.0 c.begin.new.self c.self.invariant.0 (grind (arith, common_steps)) found.1 can
-    (c.in-Some.ensures.number found.0 found.1) (c.in-Some.ensures.some found.0 found.1), c.self.invariant.1)
+    let can = sym (c.begin.ensures.variant found.0 found.1) ∙ ap is_some c.in-Some.is in (
+      begin_orderly g.S.Gear.Engine.meaning g.S.Script.conduct (record { start = s.start.value; script = s.script; hand = s.hand; rack = s.slots; workers = s.workers.items })
+          c.args.worker (record { slot = c.args.slot; out = c.in-Some.out }) found.0 c.begin.new.self c.self.invariant.0 (grind (arith, common_steps)) found.1 can
+          (c.in-Some.ensures.number found.0 found.1) (c.in-Some.ensures.some found.0 found.1),
+      c.self.invariant.1,
+    )
 
 pub returns-clause-variant : goal.returns-clause-variant
 returns-clause-variant g c =

@@ -40,10 +40,12 @@ invariant_of-self-2 g c =
     let holds = held_place s.workers.items c.args.worker c.index_mut.result.now c.in-Some.busy (grind (arith, common_steps)) c.index_mut.ensures.value (sym c.take.ensures.value ∙ c.in-Some.is) in
     let out = c.self.invariant.0.held c.args.worker c.in-Some.busy holds in
     let left = end_result s.slots c.end.new.self c.in-Some.busy.slot out.ledger c.perform-got.new.self c.perform-got.new.job c.perform-got.result c.faults-before.result
-    (g.S.Gear.Engine.meaning.faults c.perform-got.new.self) (c.end.ensures.ok out.ledger out.found) (c.end.ensures.err out.ledger out.found) in
-    (subst (λ z. IsOrderly g.S.Gear.Engine.meaning g.S.Script.conduct (record { start = s.start.value; script = s.script; hand = s.hand; rack = c.end.new.self; workers = set s.workers.items c.args.worker z })) (sym c.take.ensures.after)
-    (end_orderly g.S.Gear.Engine.meaning g.S.Script.conduct (record { start = s.start.value; script = s.script; hand = s.hand; rack = s.slots; workers = s.workers.items })
-    c.args.worker c.in-Some.busy out.ledger left.0 c.end.new.self c.self.invariant.0 holds out.found left.1 left.2), c.self.invariant.1)
+    (g.S.Gear.Engine.meaning.faults c.perform-got.new.self) (c.end.ensures.ok out.ledger out.found) (c.end.ensures.err out.ledger out.found) in (
+      subst (λ z. IsOrderly g.S.Gear.Engine.meaning g.S.Script.conduct (record { start = s.start.value; script = s.script; hand = s.hand; rack = c.end.new.self; workers = set s.workers.items c.args.worker z })) (sym c.take.ensures.after)
+          (end_orderly g.S.Gear.Engine.meaning g.S.Script.conduct (record { start = s.start.value; script = s.script; hand = s.hand; rack = s.slots; workers = s.workers.items })
+          c.args.worker c.in-Some.busy out.ledger left.0 c.end.new.self c.self.invariant.0 holds out.found left.1 left.2),
+      c.self.invariant.1,
+    )
 
 pub returns-clause-variant : goal.returns-clause-variant
 returns-clause-variant g c =

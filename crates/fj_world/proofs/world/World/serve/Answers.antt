@@ -21,11 +21,13 @@ invariant_of-self g c =
     let inv = c.self.invariant.0 in
     let hand = sym c.replace.ensures.value ∙ c.in-Submit.is in
     let keeps = subst (KeepsTo g.S.Script.conduct s.script) hand inv.keeps_to in
-    let found = slice_get_in s.slots.slots c.in-Submit.slot (omega (arith, keeps.0, inv.uses)) in
-    (serve_orderly g.S.Gear.Engine.meaning g.S.Script.conduct (record { start = s.start.value; script = s.script; hand = s.hand; rack = s.slots; workers = s.workers.items })
-    c.took.new.self c.ask.new.self c.ask.result c.submit-number.new.self inv
-    (submit_alike s.slots c.submit-number.new.self c.in-Submit.slot found.0 c.in-Submit.job c.submit-number.result found.1 (c.submit-number.ensures.after found.0 found.1) c.submit-number.ensures.err)
-    c.took.ensures.left c.took.ensures.uses c.ask.ensures.asks, c.ask.ensures.gives)
+    let found = slice_get_in s.slots.slots c.in-Submit.slot (omega (arith, keeps.0, inv.uses)) in (
+      serve_orderly g.S.Gear.Engine.meaning g.S.Script.conduct (record { start = s.start.value; script = s.script; hand = s.hand; rack = s.slots; workers = s.workers.items })
+          c.took.new.self c.ask.new.self c.ask.result c.submit-number.new.self inv
+          (submit_alike s.slots c.submit-number.new.self c.in-Submit.slot found.0 c.in-Submit.job c.submit-number.result found.1 (c.submit-number.ensures.after found.0 found.1) c.submit-number.ensures.err)
+          c.took.ensures.left c.took.ensures.uses c.ask.ensures.asks,
+      c.ask.ensures.gives,
+    )
 
 pub returns-then-not-ready-clause-variant : goal.returns-then-not-ready-clause-variant
 returns-then-not-ready-clause-variant g c =
@@ -44,11 +46,13 @@ invariant_of-self-in-Settle g c =
     let inv = c.self.invariant.0 in
     let hand = sym c.replace.ensures.value ∙ c.in-Settle.is in
     let keeps = subst (KeepsTo g.S.Script.conduct s.script) hand inv.keeps_to in
-    let found = slice_get_in s.slots.slots c.in-Settle.slot (omega (arith, keeps.0, inv.uses)) in
-    (serve_orderly g.S.Gear.Engine.meaning g.S.Script.conduct (record { start = s.start.value; script = s.script; hand = s.hand; rack = s.slots; workers = s.workers.items })
-    c.told.new.self c.ask-in-Settle.new.self c.ask-in-Settle.result c.tell-told.new.self inv
-    (tell_alike s.slots c.tell-told.new.self c.in-Settle.slot found.0 found.1 (c.tell-told.ensures.after found.0 found.1))
-    c.told.ensures.left c.told.ensures.uses c.ask-in-Settle.ensures.asks, c.ask-in-Settle.ensures.gives)
+    let found = slice_get_in s.slots.slots c.in-Settle.slot (omega (arith, keeps.0, inv.uses)) in (
+      serve_orderly g.S.Gear.Engine.meaning g.S.Script.conduct (record { start = s.start.value; script = s.script; hand = s.hand; rack = s.slots; workers = s.workers.items })
+          c.told.new.self c.ask-in-Settle.new.self c.ask-in-Settle.result c.tell-told.new.self inv
+          (tell_alike s.slots c.tell-told.new.self c.in-Settle.slot found.0 found.1 (c.tell-told.ensures.after found.0 found.1))
+          c.told.ensures.left c.told.ensures.uses c.ask-in-Settle.ensures.asks,
+      c.ask-in-Settle.ensures.gives,
+    )
 
 pub returns-else-not-ready-clause-variant : goal.returns-else-not-ready-clause-variant
 returns-else-not-ready-clause-variant g c =
