@@ -20,7 +20,7 @@ use Rattle.fj_world.specs.Rack.{Rack}
 use Rattle.fj_world.proofs.Places.{slice_get_in}
 use Rattle.fj_bay.specs.Bay.{Bay}
 use Rattle.fj_bay.specs.Jobs.{Job, Answer}
-use Rattle.fj_plain.specs.State.{State, Files, start}
+use Rattle.fj_plain.specs.State.{Files, start}
 use Rattle.fj_plain.specs.Statement.{Stated, stated}
 use Rattle.fj_desk.specs.Core.{Core, Connected}
 use Rattle.fj_desk.specs.Desking.{fresh}
@@ -43,7 +43,7 @@ use Rattle.fj_closing.specs.Ended.{HasStoppedAt, StopsFull, TurnHolds}
 use Rattle.fj_closing.proofs.Ended.{each_stop_holds, each_stop_spares, each_turn_holds, each_submit_holds}
 use Rattle.fj_acts.specs.State.{core_of}
 use Rattle.fj_units.specs.Files.{files_of}
-use Rattle.fj_runner.specs.Kept.{HaveKept, IsOpened, KeepsFiles}
+use Rattle.fj_runner.specs.Kept.{HaveKept, KeepsFiles}
 use Rattle.fj_runner.specs.Failing.{StandsStill, StandsAt, FailsCall, IsGivenUp, FailsAsking, Stays, HasReason, IsLoss}
 use Rattle.fj_runner.specs.Going.{HaveAt}
 use Rattle.fj_runner.specs.Leaving.{Leaves}

@@ -4,24 +4,19 @@ use Rattle.std.specs.FinMap as map
 use Rattle.std.specs.FinSet as set
 use Rattle.std.specs.Option.{option_map}
 use Rattle.fj_outside.specs.declared.outside.FileStore.{Ghosts}
-use Rattle.fj_outside.specs.Holdings.{Holdings, SameAt, Files as Held}
+use Rattle.fj_outside.specs.Holdings.{Holdings, Files as Held}
 use Rattle.fj_statement.specs.Sound.{IsSound}
 use Rattle.fj_statement.specs.declared.deck.Deck.{Deck}
 use Rattle.fj_statement.specs.declared.statement.Statement.{Statement}
 use Rattle.fj_statement.specs.declared.statement.Statement.TheVariants as statement
 use Rattle.fj_connect.specs.Linked.{Linked}
 use Rattle.fj_slot.specs.Serving.{Meaning}
-use Rattle.fj_slot.specs.Sound.{IsSound as IsSoundSlot}
 use Rattle.fj_bay.specs.Bay.{Bay}
 use Rattle.fj_bay.specs.Jobs.{Job, Answer}
 use Rattle.fj_world.specs.Rack.{Rack}
 use Rattle.fj_plain.specs.State.{State, Files, Output, Tell, all_closed, start}
 use Rattle.fj_plain.specs.Statement.{plain_execution, step, stated}
-use Rattle.fj_desk.specs.Core.{Connected, has_name}
-use Rattle.fj_desk.specs.Desks.{Desk}
-use Rattle.fj_desk.specs.Desking.{all_left}
-use Rattle.fj_turns.specs.Executing.{HoldsDesks}
-use Rattle.fj_turns.specs.Serving.{over_bays}
+use Rattle.fj_desk.specs.Core.{has_name}
 use Rattle.fj_cut.specs.Others.{Names, names_in, file_opened, file_about, file_renewed, AreHoused}
 use Rattle.fj_cut.proofs.Connecting.{opened_about}
 use Rattle.fj_pending.specs.Plain.{tells_of}
@@ -30,7 +25,6 @@ use Rattle.fj_items.specs.declared.lost.Lost.{Lost}
 use Rattle.fj_items.specs.declared.lost.Lost.TheVariants.{Sink, Disk}
 use Rattle.fj_units.specs.Files.{files_of}
 use Rattle.fj_units.specs.Returning.{IsAsDue}
-use Rattle.fj_closing.specs.Finding.{IsLeftBehind, OfEach}
 use Rattle.fj_closing.proofs.Due.{due_on}
 use Rattle.fj_closing.proofs.Finding.{rose_wider}
 use Rattle.fj_report.specs.Lines.{status_text}

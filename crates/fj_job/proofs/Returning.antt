@@ -1,7 +1,6 @@
 -- What closing leaves, once the connection that was kept went back.
-use Rattle.std.proofs.Common.{◌≡◌, ◌≢◌, ◌⊎◌, inl, inr, ℕ, ◌≤◌, Bool, true, false, List, [], ◌∷◌, Option, Some, None, IfSome, Result, Ok, OnOk, slice_get, refl, sym, ap, ◌∙◌, subst, arith}
+use Rattle.std.proofs.Common.{◌≡◌, inl, inr, ℕ, ◌≤◌, Bool, true, false, List, [], ◌∷◌, Option, Some, None, IfSome, Result, OnOk, refl, sym, ap, ◌∙◌, subst, arith}
 use Rattle.std.specs.Prelude.{◌||◌}
-use Rattle.std.specs.FinMap as map
 use Rattle.std.specs.FinSet as set
 use Rattle.std.specs.Str.{bytes_eq}
 use Rattle.std.proofs.lemmas.Slice.Eq.{bytes_eq-Decides}
@@ -21,10 +20,8 @@ use Rattle.fj_turns.specs.Executing.{HoldsDesks}
 use Rattle.fj_turns.specs.Serving.{over_bays}
 use Rattle.fj_units.specs.Names.{stands, left_of}
 use Rattle.fj_units.specs.Files.{files_of}
-use Rattle.fj_units.specs.Having.{HaveFiles}
 use Rattle.fj_units.specs.Returning.{IsAsDue}
 use Rattle.fj_items.specs.declared.lost.Lost.{Lost}
-use Rattle.fj_acts.specs.Having.{HaveBut}
 use Rattle.fj_closing.specs.Closing.{AreAsDue, AreSeated, AreNamed, IfClear, OthersRun, names_left}
 use Rattle.fj_closing.specs.Finding.{IsLeftBehind, OfEach, AreSpared}
 use Rattle.fj_closing.specs.Fitting.{FitUnits}
@@ -33,7 +30,6 @@ use Rattle.fj_closing.specs.Losing.{is_memory}
 use Rattle.fj_closing.proofs.Names.{all_out, all_out_but, none_left, none_left_but, still_stands}
 use Rattle.fj_job.specs.Executing.{AreClosed}
 use Rattle.fj_job.specs.Fitting.{kept_name, IsOther, AreOut}
-use Rattle.fj_job.specs.Losing.{wants}
 use Rattle.fj_job.proofs.Leading.{rose_later}
 use Rattle.fj_job.proofs.Leaving.{due_wider}
 use Rattle.fj_job.proofs.Settling.{AnswersFirst, where_ok}

@@ -1,4 +1,4 @@
-use Rattle.std.proofs.Common.{◌∙◌, inl, inr, ap, sym, subst, arith}
+use Rattle.std.proofs.Common.{inl, inr, ap, sym, subst, arith}
 use Rattle.fj_bay.specs.Meaning.{bay_meaning}
 use Rattle.fj_job.specs.Executing.{AreClosed}
 use Rattle.fj_job.specs.Fitting.{kept_name, AreOut}
