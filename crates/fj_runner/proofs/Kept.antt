@@ -64,12 +64,6 @@ module _ {F : Type 0} {ghosts : Ghosts F} (m : Machine F ghosts) where
   gives_asked (ask.Settle slot) st more here have = tt
   gives_asked ask.Finished st more here have = tt
 
--- as a script says it of its machine
-pub gives_through : {S F : Type 0} {ghosts : Ghosts F} → (machine : S → Machine F ghosts) (s : S) (a : Ask (Job F)) → GivesOf MayKeep (machine s) a → GivesOf (λ r given. MayKeep (machine r) given) s a
-gives_through machine s (ask.Submit slot given) have = have
-gives_through machine s (ask.Settle slot) have = tt
-gives_through machine s ask.Finished have = tt
-
 -- ---- what follows
 
 -- something is asked, or nothing yet
@@ -117,7 +111,7 @@ module _ {F : Type 0} {ghosts : Ghosts F} (m m' : Machine F ghosts) where
     where
       by : (o : Option (Linked F)) → (IsSome o → m.tally.over ≡ true) → o ≡ None
       by None over = refl
-      by (Some k) over = absurd (not_both m.tally.over (over tt) going)
+      by (Some k) over = absurd (not_both m.tally.over (over refl) going)
 
 -- ---- a job that was refused
 

@@ -169,5 +169,5 @@ pub returns-then-is_some-clause-follows : goal.returns-then-is_some-clause-follo
 returns-then-is_some-clause-follows g c = λ i.
     asks_on _ _ c.then-is_some.self ask.Finished (elim c.then-is_some.branch [
       | then-is_some-via-then-is_some w ↦ subst IsAt (sym w.self-is) i
-      | then-is_some-via-else-is_some+then-self-len w ↦ subst IsAt (sym w.self-is) i
+      | then-is_some-via-else-is_some+then-self-len w ↦ subst IsAt (sym w.self-is) (record { files = i.files; few = i.few; kept = i.kept })
     ]) tt

@@ -10,7 +10,6 @@ use Rattle.fj_runner.proofs.Tallies.{asking}
 use Rattle.std.proofs.Math.Logic.{∥∥₁_elim, ∥∥₁_map}
 use Rattle.fj_runner.specs.Going.{asked_for}
 use Rattle.fj_runner.proofs.Counting.{at_most_one, owes_prop, room_for, room_prop, still_going}
-use Rattle.fj_runner.proofs.Kept.{gives_through}
 use Rattle.fj_runner.proofs.script.RunnerScript.ask.Goals as goal
 
 pub returns-clause-asks : goal.returns-clause-asks
@@ -57,7 +56,7 @@ returns-clause-asks g c =
     (λ t known. it.asks ((g.met.D.Disk.decided disk).0 t) r known over))
 
 pub returns-clause-gives : goal.returns-clause-gives
-returns-clause-gives g c = gives_through _ _ c.next_of.result c.next_of.ensures.gives
+returns-clause-gives g c = c.next_of.ensures.gives
 
 pub next_of-requires-clause-room : goal.next_of-requires-clause-room
 next_of-requires-clause-room g c = λ over.
