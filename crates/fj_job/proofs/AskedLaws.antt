@@ -29,5 +29,5 @@ module _ {W D : Type 0} (tells_out : W → Type 0) (taken : W → List ℕ) (cou
   pub executed_told : HasRun other status source (seen tells_out taken count_out out out') (seen tells (on_disk held refusals) count disk disk')
   executed_told =
       let it = from_there in
-      run_for _ _ _ _ _ _ (sym asked.task_is ∙ same) (run_executed workers trace deck status source _ _ asked.is_deck it.replied it.fault it.written it.front it.of_run it.cause it.in_use
+      run_for _ _ _ _ _ _ (sym asked.task_is ∙ same) (run_executed workers trace deck status source _ _ asked.is_deck it.replied it.fault it.written it.memory it.front it.of_run it.cause it.in_use
       (asked.goes_on.0, (it.telling_out, it.later_out), (it.telling, it.later)))

@@ -1,8 +1,7 @@
 -- A deck that was carried out on slots of its own, and whose files went back.
 use Rattle.std.proofs.Common.{◌≡◌, ◌⊎◌, inl, inr, ◌≤◌, ℕ, Bool, true, false, List, [], Result, Ok, Err, Some, None, refl, ap, sym, ◌∙◌, subst, arith}
-use Rattle.std.proofs.Math.Logic.{∥∥₁_elim}
-use Rattle.std.proofs.Props.{props}
 use Rattle.fj_outside.specs.Faults.{Rose}
+use Rattle.std.specs.FinSet as set
 use Rattle.fj_outside.specs.Holdings.{Holdings}
 use Rattle.fj_outside.specs.declared.outside.FileStore.{Ghosts}
 use Rattle.fj_statement.specs.Sound.{IsSound}
@@ -14,7 +13,6 @@ use Rattle.fj_world.specs.Rack.{Rack}
 use Rattle.fj_items.specs.Handing.{whole_records}
 use Rattle.fj_items.specs.declared.lost.Lost.TheVariants.{Sink, Disk}
 use Rattle.fj_units.specs.Files.{files_of}
-use Rattle.fj_closing.specs.Losing.{may_tell, all_fits}
 use Rattle.fj_runner.specs.Going.{IsGoing}
 use Rattle.fj_runner.specs.Leaving.{Leaves}
 use Rattle.fj_runner.specs.declared.ending.Ending.{Ending as Code}
@@ -25,18 +23,16 @@ use Rattle.fj_report.specs.declared.status.Status.TheVariants.{WriteFault, DiskF
 use Rattle.fj_job.specs.Answers.{IsAnswer, HasCause}
 use Rattle.fj_job.specs.Cut.{Carried as At, CutByMemory}
 use Rattle.fj_job.specs.Cutting.{IsCut, EndsHere, IsLeftAt, IsLeftBegun, TookSome}
+use Rattle.fj_job.specs.Losing.{wants}
 use Rattle.fj_job.specs.Executing.{IsSettled, IsCarriedOut, IsConcluded, IsExecuted}
 use Rattle.fj_job.specs.declared.ending.Carried.{Carried}
 use Rattle.fj_job.proofs.Executed.{came, replies, all_taken, nothing_written}
-use Rattle.fj_job.proofs.Fronts.{fault_by, write_by, front_of_same, not_lost}
-use Rattle.fj_job.proofs.Reported.{at_statement, left_at, left_begun, left_end, took_some, told_fault, report_of_fault, part_of_end, part_of_run, write_of_begun, write_of_end, front_so_far}
+use Rattle.fj_job.proofs.Fronts.{fault_by, want_by, write_by, front_of_same, not_lost}
+use Rattle.fj_job.proofs.Reported.{at_statement, left_at, left_begun, left_end, took_some, told_fault, report_of_fault, want_of_fault, part_of_end, want_of_end, part_of_run, write_of_begun, write_of_end, front_so_far}
 use Rattle.fj_job.proofs.Wanting.{cut_by_memory}
-use Rattle.fj_job.proofs.Leading.{rose_later, rose_earlier, rose_of, on_left}
+use Rattle.fj_job.proofs.Leading.{rose_later, rose_earlier, rose_of}
 use Rattle.fj_job.proofs.RunLaws.{cause_more}
-use Rattle.fj_job.proofs.Whole.{units_held, files_out}
-
-never_prop : IsProp ⊥
-never_prop = hlevel props
+use Rattle.fj_job.proofs.Whole.{ended_fit}
 
 cause_by : (P Q : Type 0) (a b c : ℕ) → a ≤ b → b ≤ c → (P → Q ⊎ Rose a b) → (Q → ⊥) → P ⊎ Rose b c → Rose a c
 cause_by P Q a b c l k one none (inr rose) = rose_earlier a b c l rose
@@ -56,43 +52,43 @@ module _ {W D F : Type 0} (tells_out : W → Type 0) (taken : W → List ℕ) (c
       let own : IsSound m.deck = subst IsSound (sym same) is_sound in
       let nothing : whole_records m.state.core.output ≡ [] = nothing_written told bytes (files_of (held disk)) m begun in
       let there = λ (t : tells disk).
-      at_statement meaning told bytes m.deck (files_of (held disk)) (held disk') (refusals disk) (refusals disk') m' rack' (tells_out out) (taken out) (taken out') own (ran t) (ended t) (cut t own)
+      at_statement meaning told bytes m.deck (files_of (held disk)) (held disk') (refusals disk) (refusals disk') m' rack' (tells_out out) (taken out) (taken out') own (ran t)
+      (λ going. ended_fit meaning told bytes m.deck (files_of (held disk)) (files_of (held disk')) m' rack' (ran t going) own on going) (ended t) (cut t own)
       (λ going w. all_taken _ _ m.state.core.output m'.state.core.output m'.state.core.output nothing (leaves.output w (inl (not_lost m'.tally.lost m'.tally.over m'.tally.lost_over going))) refl) in
+      let closed = λ (t : tells disk). settled.closed (leaves.telling.0 t) (there t).fit in
       record {
         deck_is = settled.deck ∙ leaves.deck ∙ same;
         taken_is = λ w s. all_taken _ _ m.state.core.output m'.state.core.output it.left.core.output nothing
             (leaves.output w (elim s [ inl e ↦ inl (settled.nothing e) | inr e ↦ settled.alone e ])) (ap (λ k. k.output) settled.core);
         at_fault = λ t e. subst (λ (d : Deck). IsLeftAt d (files_of (held disk)) it.left (held disk'') (refusals disk) (refusals disk'')) same
             (left_at meaning rack' (held disk') (held disk'') (refusals disk) (refusals disk') (refusals disk'') (tells_out out) (taken out) (taken out') m.deck (files_of (held disk)) m' it.left (there t)
-            settled.at (leaves.own t) (settled.own (leaves.telling.0 t)) (settled.due (leaves.telling.0 t) (ap may_tell e)) (settled.running (leaves.telling.0 t) (ap may_tell e)) (settled.others (ap all_fits e)) (settled.found (leaves.telling.0 t) (ap all_fits e)) (settled.spared (leaves.telling.0 t) (ap all_fits e)) (settled.alone e) settled.core);
+            settled.at it.settled (closed t) (leaves.own t) (settled.own (leaves.telling.0 t)) (ap wants e) (settled.alone e) settled.core);
         at_write = λ t e. subst (λ (d : Deck). IsLeftBegun d (files_of (held disk)) it.left (tells_out out) (taken out) (taken out') (held disk'') (refusals disk) (refusals disk'')) same
             (left_begun meaning rack' (held disk') (held disk'') (refusals disk) (refusals disk') (refusals disk'') (tells_out out) (taken out) (taken out') m.deck (files_of (held disk)) m' it.left (there t)
-            settled.at (leaves.own t) (settled.own (leaves.telling.0 t)) (settled.due (leaves.telling.0 t) (ap may_tell e)) (settled.running (leaves.telling.0 t) (ap may_tell e)) (settled.others (ap all_fits e)) (settled.found (leaves.telling.0 t) (ap all_fits e)) (settled.spared (leaves.telling.0 t) (ap all_fits e)) (settled.sink e));
+            settled.at it.settled (closed t) (leaves.own t) (settled.own (leaves.telling.0 t)) (ap wants e) (settled.sink e));
         at_end = λ t s going ending ends. subst (λ (d : Deck). (x : IsLeftAt d (files_of (held disk)) it.left (held disk'') (refusals disk) (refusals disk'')) × (x.reach ≡ At)) same
             (left_end m.deck (files_of (held disk)) m' it.left (held disk'') (refusals disk) (refusals disk'') (ended t (sym settled.over ∙ going) ending (sym settled.ending ∙ ends)) settled.at
             (came meaning told bytes m.deck m.deck (files_of (held disk)) (files_of (held disk')) (files_of (held disk'')) m' rack' it.left
-            (ran t (sym settled.over ∙ going)) refl settled.core settled.ending (λ desks h seats. settled.files (leaves.telling.0 t) s desks h seats)));
-        at_want = λ t fit fault trace. subst (λ (d : Deck). CutByMemory d trace (files_of (held disk)) (tells_out out) (taken out) (taken out') (held disk'') (refusals disk) (refusals disk'')) same
+            (ran t (sym settled.over ∙ going)) refl settled.core settled.ending ((closed t).files s (none_kept going))));
+        at_want = λ t trace. subst (λ (d : Deck). CutByMemory d trace (files_of (held disk)) (tells_out out) (taken out) (taken out') (held disk'') (refusals disk) (refusals disk'')) same
             (cut_by_memory meaning rack' (held disk') (held disk'') (refusals disk) (refusals disk') (refusals disk'') (tells_out out) (taken out) (taken out') m.deck (files_of (held disk)) m' own (there t)
-            (leaves.own t) (settled.own (leaves.telling.0 t)) (settled.found (leaves.telling.0 t) fit) (settled.spared (leaves.telling.0 t) fit) trace (λ u. fault (settled.lost ∙ u)));
+            it.settled (closed t) (leaves.own t) (settled.own (leaves.telling.0 t)) trace);
         part = λ t w. subst (λ (d : Deck). TookSome d (files_of (held disk)) (taken out) (taken out')) same
             (took_some meaning rack' (held disk') (refusals disk) (refusals disk') (tells_out out) (taken out) (taken out') m.deck (files_of (held disk)) m' (there t) w);
         result_is = λ t s going. came meaning told bytes deck m.deck (files_of (held disk)) (files_of (held disk')) (files_of (held disk'')) m' rack' it.left
-            (ran t (sym settled.over ∙ going)) same settled.core settled.ending (λ desks h seats. settled.files (leaves.telling.0 t) s desks h seats);
+            (ran t (sym settled.over ∙ going)) same settled.core settled.ending ((closed t).files s (none_kept going));
         sink = λ e. elim (leaves.of_sink (settled.sink e)) [ inl q ↦ absurd (let z : Some Sink ≡ None = sym q ∙ sound in cc) | inr rose ↦ rose ];
         of_disk = λ e. cause_by _ _ _ _ _ leaves.later settled.later leaves.of_disk (λ q. let z : Some Disk ≡ None = sym q ∙ sound in cc) (settled.of_disk e);
-        in_use = λ t. settled.in_use (leaves.telling.0 t);
-        whole = λ t going unfit.
-            let still = sym settled.over ∙ going in
-            let h = ran t still in
-            ∥∥₁_elim on never_prop (λ f. settled.whole still (units_held meaning told bytes m.deck (files_of (held disk)) (files_of (held disk')) m' rack' h own)
-            (files_out meaning told bytes m.deck (files_of (held disk)) (files_of (held disk')) m' rack' h own (f still)) unfit);
+        in_use = λ t. (closed t).in_use;
         unbegun = tt;
         telling_out = leaves.telling_out;
         telling = (λ t. settled.telling.0 (leaves.telling.0 t), λ t. leaves.telling.1 (settled.telling.1 t));
         later_out = leaves.later_out;
         later = let a = leaves.later in let b = settled.later in omega (arith, a, b);
       }
+    where
+      none_kept : it.left.over ≡ false → m'.kept ≡ None
+      none_kept going = not_lost m'.kept m'.tally.over m'.refused (sym settled.over ∙ going)
 
   conclude_ok : {X : Type 0} (deck : Deck) (trace : Bool) (out : W) (disk : D) (out' : W) (disk' : D) (out'' : W) (it : Carried F) (status : Status)
       → IsSound deck
@@ -112,18 +108,28 @@ module _ {W D F : Type 0} (tells_out : W → Type 0) (taken : W → List ℕ) (c
           write_of_end deck trace it (held disk).files (held disk').files (held disk') (refusals disk) (refusals disk') (taken out) (taken out') (taken out'') carried.deck_is (tells_out out) (tells_out out') carried.telling_out.0 x.0 x.1
           (carried.result_is t f.settled f.going) f (λ w. carried.taken_is w (inl f.settled))
     ]);
-    front = λ t w. elim (h.front (carried.telling_out.0 w)) [
+    memory = λ t. want_by status _ (λ e. inr (elim h.front [
+      | inl still ↦ subst (λ (x : List ℕ). CutByMemory deck trace (files_of (held disk)) (tells_out out) (taken out) x (held disk') (refusals disk) (refusals disk')) (sym still) (carried.at_want t trace)
+      | inr (inl f) ↦ want_of_fault deck trace it (held disk).files (held disk').files (held disk') (refusals disk) (refusals disk') (taken out) (taken out') (taken out'') carried.deck_is status (tells_out out) (tells_out out')
+          carried.telling_out.0 (carried.at_fault t f.settled) f (λ w. carried.taken_is w (inr f.settled))
+      | inr (inr f) ↦ let x = carried.at_end t f.settled f.going f.ending f.ends in
+          want_of_end deck trace it (held disk).files (held disk').files (held disk') (refusals disk) (refusals disk') (taken out) (taken out') (taken out'') carried.deck_is (tells_out out) (tells_out out') carried.telling_out.0
+          x.0 x.1 (carried.result_is t f.settled f.going) f (λ w. carried.taken_is w (inl f.settled))
+    ]));
+    front = λ t w. elim h.front [
       | inl e ↦ inl (part_of_run deck trace (files_of (held disk)) (taken out) (taken out'') sound
           (λ lines. front_so_far deck (files_of (held disk)) (taken out) (taken out'') lines (subst (λ (x : List ℕ). TookSome deck (files_of (held disk)) (taken out) x) (sym e) (carried.part t w))))
       | inr (inl f) ↦ inr (
         carried.of_disk f.settled,
-        report_of_fault deck trace it (held disk).files (held disk').files (held disk') (refusals disk) (refusals disk') (taken out) (taken out') (taken out'') carried.deck_is status (carried.at_fault t f.settled) f (carried.taken_is w (inr f.settled)),
+        report_of_fault deck trace it (held disk).files (held disk').files (held disk') (refusals disk) (refusals disk') (taken out) (taken out') (taken out'') carried.deck_is status (tells_out out') (carried.telling_out.0 w)
+            (carried.at_fault t f.settled) f (carried.taken_is w (inr f.settled)),
       )
-      | inr (inr f) ↦ inl (part_of_end deck trace it (held disk).files (held disk').files (held disk') (refusals disk) (refusals disk') (taken out) (taken out') (taken out'') carried.deck_is (carried.result_is t f.settled f.going) f (carried.taken_is w (inl f.settled)))
+      | inr (inr f) ↦ inl (part_of_end deck trace it (held disk).files (held disk').files (held disk') (refusals disk) (refusals disk') (taken out) (taken out') (taken out'') carried.deck_is (tells_out out') (carried.telling_out.0 w)
+          (carried.result_is t f.settled f.going) f (carried.taken_is w (inl f.settled)))
     ];
     of_run = h.of_run;
     cause = cause_more status _ _ _ _ _ _ (λ x. x) (rose_of _ _ _ _ carried.later_out h.later_out carried.sink) carried.of_disk h.cause;
-    in_use = λ t. on_left _ _ _ h.unfit (carried.in_use t);
+    in_use = carried.in_use;
     telling_out = (λ t. h.telling_out.0 (carried.telling_out.0 t), λ t. carried.telling_out.1 (h.telling_out.1 t));
     telling = carried.telling;
     later_out = let a = carried.later_out in let b = h.later_out in omega (arith, a, b);
@@ -131,19 +137,20 @@ module _ {W D F : Type 0} (tells_out : W → Type 0) (taken : W → List ℕ) (c
   }
 
   conclude_err : {X : Type 0} (deck : Deck) (trace : Bool) (out : W) (disk : D) (out' : W) (disk' : D) (out'' : W) (e : X) (status : Status)
-      → IsSound deck
+      → IsSound deck → (tells disk → (held disk).in_use ≡ set.empty)
       → (let r : Result (Carried F) X = Err e in IsCarriedOut tells_out taken count_out tells held count refusals deck out disk out' disk' r)
       → (let r : Result (Carried F) X = Err e in IsConcluded tells_out taken count_out trace r out' out'' status)
       → IsExecuted tells_out taken count_out tells held count refusals deck trace out disk out'' disk' status
-  conclude_err deck trace out disk out' disk' out'' e status sound carried h = record {
+  conclude_err deck trace out disk out' disk' out'' e status sound free carried h = record {
     replied = λ a t. absurd (subst (λ (s : Status). IsAnswer s) h.begun a);
     fault = λ t. fault_by status _ (λ line f. absurd (let z : Memory ≡ DiskFault line = sym h.begun ∙ f in cc));
     written = λ t. write_by status _ (λ f. absurd (let z : Memory ≡ WriteFault = sym h.begun ∙ f in cc));
+    memory = λ t. want_by status _ (λ f. inl (carried.unbegun.0, ap taken (h.silent ∙ carried.unbegun.1)));
     front = λ t w. inl (part_of_run deck trace (files_of (held disk)) (taken out) (taken out'') sound
         (λ lines. front_of_same (taken out) (taken out'') _ (ap taken (h.silent ∙ carried.unbegun.1))));
     of_run = h.of_run;
     cause = subst (λ (s : Status). HasCause ⊥ (Rose (count_out out) (count_out out'')) (Rose (count disk) (count disk')) s) (sym h.begun) tt;
-    in_use = λ t. inl h.begun;
+    in_use = λ t. ap (λ (d : D). (held d).in_use) carried.unbegun.0 ∙ free t;
     telling_out = (λ t. h.telling_out.0 (carried.telling_out.0 t), λ t. carried.telling_out.1 (h.telling_out.1 t));
     telling = carried.telling;
     later_out = let a = carried.later_out in let b = h.later_out in omega (arith, a, b);
@@ -151,10 +158,10 @@ module _ {W D F : Type 0} (tells_out : W → Type 0) (taken : W → List ℕ) (c
   }
 
   pub executed : {X : Type 0} (deck : Deck) (trace : Bool) (out : W) (disk : D) (out' : W) (disk' : D) (out'' : W) (carried : Result (Carried F) X) (status : Status)
-      → IsSound deck → IsCarriedOut tells_out taken count_out tells held count refusals deck out disk out' disk' carried → IsConcluded tells_out taken count_out trace carried out' out'' status
+      → IsSound deck → (tells disk → (held disk).in_use ≡ set.empty) → IsCarriedOut tells_out taken count_out tells held count refusals deck out disk out' disk' carried → IsConcluded tells_out taken count_out trace carried out' out'' status
       → IsExecuted tells_out taken count_out tells held count refusals deck trace out disk out'' disk' status
-  executed deck trace out disk out' disk' out'' (Ok it) status sound carried h = conclude_ok deck trace out disk out' disk' out'' it status sound carried h
-  executed deck trace out disk out' disk' out'' (Err e) status sound carried h = conclude_err deck trace out disk out' disk' out'' e status sound carried h
+  executed deck trace out disk out' disk' out'' (Ok it) status sound free carried h = conclude_ok deck trace out disk out' disk' out'' it status sound carried h
+  executed deck trace out disk out' disk' out'' (Err e) status sound free carried h = conclude_err deck trace out disk out' disk' out'' e status sound free carried h
 
 -- a run is reported
 pub concluded : {W F X : Type 0} (tells_out : W → Type 0) (taken : W → List ℕ) (count_out : W → ℕ) (trace : Bool) (carried : Result (Carried F) X) (it : Carried F) (out out' : W) (status : Status) → carried ≡ Ok it
@@ -166,4 +173,4 @@ pub unbegun : {W F X : Type 0} (tells_out : W → Type 0) (taken : W → List �
     → IsConcluded tells_out taken count_out trace carried out out Memory
 unbegun {F = F} {X = X} tells_out taken count_out trace carried error out e =
     subst (λ (r : Result (Carried F) X). IsConcluded tells_out taken count_out trace r out out Memory) (sym e)
-    (record { settled = λ a. tt; ended = λ a. tt; begun = refl; of_run = tt; unfit = tt; fault = tt; written = λ e. tt; front = λ w. tt; silent = refl; cause = tt; telling_out = (λ t. t, λ t. t); later_out = omega arith })
+    (record { settled = λ a. tt; ended = λ a. tt; begun = refl; of_run = tt; fault = tt; written = λ e. tt; front = tt; silent = refl; cause = tt; telling_out = (λ t. t, λ t. t); later_out = omega arith })

@@ -21,13 +21,13 @@ use Rattle.fj_turns.proofs.Meant.{cuts_agree}
 use Rattle.fj_pending.specs.Plain.{tells_of}
 use Rattle.fj_items.specs.Handing.{whole_records, HandsOver, HandsFront, HandsPart}
 use Rattle.fj_items.specs.declared.lost.Lost.{Lost}
-use Rattle.fj_items.specs.declared.lost.Lost.TheVariants.{Unfit}
 use Rattle.fj_acts.specs.Calling.{calls_disk}
 use Rattle.fj_acts.specs.State.{core_of}
-use Rattle.fj_runner.specs.Failing.{AllFits, FailsCall, FailsAtDisk, HandsThen, CallsDisk}
+use Rattle.fj_runner.specs.Failing.{FailsCall, FailsAtDisk, HandsThen, CallsDisk}
 use Rattle.fj_runner.specs.Machine.{rest_of}
 use Rattle.fj_runner.specs.declared.machine.Machine.{Machine}
 use Rattle.fj_job.specs.Cut.{Untold, Told, Carried, ComesTo}
+use Rattle.fj_job.specs.Fitting.{kept_name, AreOut}
 use Rattle.fj_job.specs.Cutting.{IsExact, TookFront, TookBegun, IsCut}
 use Rattle.fj_job.proofs.CutTexts.{at_hand, cut_place}
 use Rattle.fj_job.proofs.Holding.{HoldsAt, CauseAt, cause_there, holds_there, holds_told}
@@ -42,9 +42,6 @@ shown false o r e = cc
 pub lost_none : {o : Option Lost} {lost : Lost} {P : Type 0} → o ≡ None → o ≡ Some lost → P
 lost_none {lost = lost} none some = absurd (let z : None ≡ Some lost = sym none ∙ some in cc)
 
-pub all_fits_by : {o : Option Lost} {lost : Lost} → o ≡ Some lost → lost ≢ Unfit → o ≢ Some Unfit
-all_fits_by {lost = lost} some fits unfit = let z : Some lost ≡ Some Unfit = sym some ∙ unfit in fits cc
-
 -- ---- at a statement
 
 module _ {E J A F : Type 0} {ghosts : Ghosts F} (meaning : Meaning E J A Bay Job Answer) (rack : Rack E J A) (held : Holdings) (before now : ℕ) (Tells : Type 0) (old new : List ℕ)
@@ -55,9 +52,9 @@ module _ {E J A F : Type 0} {ghosts : Ghosts F} (meaning : Meaning E J A Bay Job
 
   -- a stop was told there: nothing was done
   pub cut_asking : (run : Run) (left : Files) → AsksAt deck.variables (stated deck.statements) (fresh deck.variables files) run → run.core ≡ core_of left m.state.core → run.rest ≡ rest_of m
-      → (Tells → new ≡ old ++ whole_records m.state.core.output) → m.tally.lost ≡ None → HoldsAt meaning rack held before now deck files m run.rest
+      → (Tells → new ≡ old ++ whole_records m.state.core.output) → m.tally.lost ≡ None → (h : HoldsAt meaning rack held before now deck files m run.rest) → AreOut (kept_name m.kept) m.state.core.names m.state.core.units
       → CauseAt meaning rack held before now deck files m run.rest → IsCut meaning rack held before now Tells old new deck files m
-  cut_asking run left x core rest took none holds why =
+  cut_asking run left x core rest took none holds out why =
       let it : IsCutOf deck.variables (stated deck.statements) files x.index x.statement x.before = cuts_agree deck.variables (stated deck.statements) files x.index x.statement x.before x.reached in
       let comes : ComesTo deck files = record { index = x.index; statement = x.statement; before = it.state; there = it.cut_is } in
       let output : m.state.core.output ≡ it.state.output = sym (ap (λ (c : Core). c.output) core) ∙ x.output ∙ it.same.output in
@@ -79,7 +76,8 @@ module _ {E J A F : Type 0} {ghosts : Ghosts F} (meaning : Meaning E J A Bay Job
             cause = inr cause;
           }
         ];
-        fits = λ lost some _. lost_none none some;
+        holds = λ lost some. lost_none none some;
+        fit = record { held = holds.holding; out = out };
         begun = λ t s. lost_none none s;
         front = λ t. record { reach = Untold; part = whole_records m.state.core.output; rest = []; due = ap whole_records (sym output) ∙ sym (append-nil _); taken = took t };
       }
@@ -155,15 +153,16 @@ module _ {E J A F : Type 0} {ghosts : Ghosts F} (meaning : Meaning E J A Bay Job
         (subst (λ o. HandsPart between new run.core.output o) (x.due ∙ it.output) front))
 
     pub cut_failing : (r : Run) (f : FailsCall (λ lost. m.tally.lost ≡ Some lost) TellsThen taken new held early late r was m) → LearnsAt deck.variables (stated deck.statements) (fresh deck.variables files) f.run → m.tally.lost ≢ None
-        → (AllFits (λ lost. m.tally.lost ≡ Some lost) → HoldsAt meaning rack held before now deck files m f.run.rest) → IsCut meaning rack held before now Tells old new deck files m
-    cut_failing r f x lost holds =
+        → HoldsAt meaning rack held before now deck files m f.run.rest → AreOut (kept_name m.kept) m.state.core.names m.state.core.units → IsCut meaning rack held before now Tells old new deck files m
+    cut_failing r f x lost holds out =
         let it : IsCutOf deck.variables (stated deck.statements) files x.index x.statement x.before = cuts_agree deck.variables (stated deck.statements) files x.index x.statement x.before x.reached in
         let comes : ComesTo deck files = record { index = x.index; statement = x.statement; before = it.state; there = it.cut_is } in
         record {
           comes = comes;
           at = at_hand deck files comes m.at (hand comes f.run (sym f.rest) x.rest);
-          exact = λ how. elim how [ inl none ↦ absurd (lost none) | inr disk ↦ exact_fails f.run x it (f.outside (inl disk)).known (f.disk disk) (holds (all_fits_by disk (λ e. cc))) ];
-          fits = λ lost some fits. holds_there meaning rack held before now deck files m f.run.rest (holds (all_fits_by some fits)) comes x.rest;
+          exact = λ how. elim how [ inl none ↦ absurd (lost none) | inr disk ↦ exact_fails f.run x it (f.outside (inl disk)).known (f.disk disk) holds ];
+          holds = λ lost some. holds_there meaning rack held before now deck files m f.run.rest holds comes x.rest;
+          fit = record { held = holds.holding; out = out };
           begun = λ t s. begun_fails f.run x it t (f.sink s (on t));
           front = λ t. front_fails f.run x it t (f.front (on t));
         }

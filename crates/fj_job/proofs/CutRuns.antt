@@ -1,10 +1,11 @@
 -- A script of runners that is over: its run was cut.
-use Rattle.std.proofs.Common.{◌≡◌, ◌≢◌, ◌⊎◌, ℕ, ◌<◌, Bool, true, false, cond, List, [], ◌++◌, drop, Option, Some, None, IsSome, refl, sym, ap, ◌∙◌, subst, inl, inr, arith}
+use Rattle.std.proofs.Common.{◌≡◌, ◌≢◌, ◌⊎◌, ℕ, ◌<◌, Bool, true, false, cond, List, [], ◌∷◌, ◌++◌, drop, Option, Some, None, IsSome, IfSome, refl, sym, ap, ◌∙◌, subst, inl, inr, arith}
 use Rattle.std.proofs.lemmas.Option.{slice_get_within}
 use Rattle.fj_outside.specs.Holdings.{Holdings}
 use Rattle.fj_outside.specs.declared.outside.FileStore.{Ghosts}
 use Rattle.fj_statement.specs.declared.deck.Deck.{Deck}
 use Rattle.fj_statement.specs.Sound.{IsSound}
+use Rattle.fj_connect.specs.Linked.{Linked}
 use Rattle.fj_slot.specs.Serving.{Meaning}
 use Rattle.fj_world.specs.Conduct as conduct
 use Rattle.fj_world.specs.Conduct.{IsDueAsk, IsSubmitting}
@@ -13,7 +14,7 @@ use Rattle.fj_world.specs.declared.ask.Ask.TheVariants.{Submit, Settle, Finished
 use Rattle.fj_world.specs.Alone.{ServedAlone}
 use Rattle.fj_world.specs.Fits.{HasStopped}
 use Rattle.fj_world.specs.Leading.{LeadsTo}
-use Rattle.fj_world.specs.Losing.{before_ask, WasLost}
+use Rattle.fj_world.specs.Losing.{before_ask, WasLost, SlotsHold}
 use Rattle.fj_world.specs.Plain.{Plain, PlainSlot, after}
 use Rattle.fj_world.specs.Rack.{Rack}
 use Rattle.fj_world.proofs.Places.{slice_get_in}
@@ -21,14 +22,14 @@ use Rattle.fj_bay.specs.Bay.{Bay}
 use Rattle.fj_bay.specs.Jobs.{Job, Answer}
 use Rattle.fj_plain.specs.State.{Files, start}
 use Rattle.fj_plain.specs.Statement.{Stated, stated}
-use Rattle.fj_desk.specs.Core.{Core}
+use Rattle.fj_desk.specs.Core.{Core, Connected}
 use Rattle.fj_desk.specs.Desking.{fresh}
 use Rattle.fj_turns.specs.Run.{Run}
 use Rattle.fj_turns.specs.Cutting.{IsCutRun, IsCut as IsCutAt}
-use Rattle.fj_turns.specs.Serving.{over_bays, Shows, run_conduct, desk_of, desks_of, first_run, fresh_slots, begins}
+use Rattle.fj_turns.specs.Serving.{over_bays, Shows, run_conduct, desks_of, first_run, fresh_slots, begins}
 use Rattle.fj_turns.proofs.Before.{each_asks}
 use Rattle.fj_turns.proofs.Cutting.{cut_at_stop, world_is_cut}
-use Rattle.fj_turns.proofs.Slots.{map_get}
+use Rattle.fj_cut.specs.Others.{Names, names_of, names_in, file_opened}
 use Rattle.fj_cut.specs.Stopping.{WereGiven}
 use Rattle.fj_cut.specs.Turning.{IsUnbegun, TurnLeavesOthers, SubmitLeavesOthers}
 use Rattle.fj_cut.proofs.Awaited.{stops_are_awaited}
@@ -37,9 +38,14 @@ use Rattle.fj_cut.proofs.Turns.{each_turn, each_submit}
 use Rattle.fj_cut.proofs.Given.{within_deck, each_stop_given, each_turn_given}
 use Rattle.fj_items.specs.Handing.{whole_records}
 use Rattle.fj_items.specs.declared.lost.Lost.{Lost}
+use Rattle.fj_items.specs.declared.lost.Lost.TheVariants.{Unfit}
+use Rattle.fj_closing.specs.Ended.{HasStoppedAt, StopsFull, TurnHolds}
+use Rattle.fj_closing.proofs.Ended.{each_stop_holds, each_stop_spares, each_turn_holds, each_submit_holds}
 use Rattle.fj_acts.specs.State.{core_of}
 use Rattle.fj_units.specs.Files.{files_of}
-use Rattle.fj_runner.specs.Failing.{AllFits, StandsStill, StandsAt, FailsCall, IsGivenUp, FailsAsking, Stays, HasReason, IsLoss}
+use Rattle.fj_runner.specs.Kept.{HaveKept, KeepsFiles}
+use Rattle.fj_runner.specs.Failing.{StandsStill, StandsAt, FailsCall, IsGivenUp, FailsAsking, Stays, HasReason, IsLoss}
+use Rattle.fj_runner.specs.Going.{HaveAt}
 use Rattle.fj_runner.specs.Leaving.{Leaves}
 use Rattle.fj_runner.specs.Machine.{rest_of, run_of}
 use Rattle.fj_runner.specs.Tallying.{due_of}
@@ -48,12 +54,15 @@ use Rattle.fj_runner.specs.declared.hand.Hand.TheVariants.{Idle, Submitting, Set
 use Rattle.fj_runner.specs.declared.machine.Machine.{Machine}
 use Rattle.fj_job.specs.Carrying.{HasNotBegun}
 use Rattle.fj_job.specs.Cutting.{IsCut}
+use Rattle.fj_job.specs.Fitting.{kept_name, AreOut}
 use Rattle.fj_job.proofs.Cut.{shown, cut_asking, cut_failing}
 use Rattle.fj_job.proofs.Executed.{parts, nothing_written, all_taken, rest_is}
 use Rattle.fj_job.proofs.Leading.{led_to, leaves_same, leaves_on, rose_earlier}
 use Rattle.fj_job.proofs.Holding.{HoldsAt, stop_cause, stop_holds, turn_holds, still_holds, submit_holds}
+use Rattle.fj_job.proofs.CutTexts.{cut_place}
 use Rattle.fj_job.proofs.Leaving.{slots_hold, within}
-use Rattle.fj_job.proofs.Learning.{LearnsAt, none_left, at_before, learns_before, learns_at, asked_slot, asked_given}
+use Rattle.fj_job.proofs.Whole.{stopped_files}
+use Rattle.fj_job.proofs.Learning.{LearnsAt, none_left, at_before, learns_before, learns_at, asked_slot, settle_waits, asked_given}
 use Rattle.fj_job.proofs.Giving.{given_at}
 use Rattle.fj_job.proofs.Passes.{ends_so, some_statement}
 
@@ -69,6 +78,7 @@ pub record IsRunner {S W D F : Type 0} {ghosts : Ghosts F} (s : Shows S) (tells_
   pub asking : (a b : S) → s.leads a b → FailsAsking (disk a) (disk b) (machine a) (machine b)
   pub stays : (a b : S) → s.leads a b → Stays (taken (out a)) (taken (out b)) (disk a) (disk b) (machine a) (machine b)
   pub reason : (a b : S) → s.leads a b → HasReason (machine a) (machine b)
+  pub keeps : (a b : S) → s.leads a b → KeepsFiles (machine a) (machine b)
 
 -- where it is not over nothing is lost
 none_lost : (lost : Option Lost) (over : Bool) → (IsSome lost → over ≡ true) → over ≡ false → lost ≡ None
@@ -77,6 +87,21 @@ none_lost (Some lost) over some going = absurd (let z : true ≡ false = sym (so
 
 loss_not : (lost : Option Lost) → IsLoss lost → lost ≢ None
 loss_not lost loss none = subst IsLoss none loss
+
+loss_fits : (lost : Option Lost) → IsLoss lost → lost ≡ Some Unfit → ⊥
+loss_fits lost loss unfit = subst IsLoss unfit loss
+
+-- ---- a connection that was kept
+
+-- the files that are out are those of the units and of a connection that was kept, which the statement at hand opens
+kept_out : {F : Type 0} (kept : Option (Linked F)) (names : List (List ℕ)) (us : List Connected) (rest : List Stated) → HaveKept (kept_name kept) names us rest → AreOut (kept_name kept) names us
+kept_out None names us rest h = h
+kept_out (Some c) names us rest h = h.0
+
+opens_kept : {F : Type 0} (kept : Option (Linked F)) (names : List (List ℕ)) (us vs : List Connected) (there : Names) (st : Stated) (more : List Stated) → HaveKept (kept_name kept) names us (st ∷ more) → us ≡ vs
+    → file_opened (names_of vs) st.0.what ≡ file_opened there st.0.what → IfSome kept (λ c. file_opened there st.0.what ≡ Some c.name)
+opens_kept None names us vs there st more h same opens = tt
+opens_kept (Some c) names us vs there st more h same opens = sym opens ∙ sym (ap (λ (ws : List Connected). file_opened (names_of ws) st.0.what) same) ∙ h.1
 
 -- ---- the ask at hand
 
@@ -124,7 +149,7 @@ module _ {S W D F : Type 0} {ghosts : Ghosts F} (s : Shows S) (tells_out : W →
   all_stay a b many = led_to s.leads AllStay r.stays (λ x over. (refl, refl, refl)) stay_on a b many
 
   module _ {E J A : Type 0} (meaning : Meaning E J A Bay Job Answer) (deck : Deck) (files : Files) (sound : IsSound deck) (first last : S) (on : tells (disk first))
-      (begun : HasNotBegun told bytes (machine first)) (same : (machine first).deck ≡ deck) where
+      (begun : HasNotBegun told bytes (machine first)) (same : (machine first).deck ≡ deck) (full : StopsFull meaning) where
     -- the sink took all records that ended, until a call behind which nothing is lost
     took : (x : S) → AllLeave first x → (machine x).tally.lost ≡ None → tells_out (out first) → taken (out x) ≡ taken (out first) ++ whole_records (machine x).state.core.output
     took x l none t =
@@ -133,9 +158,10 @@ module _ {S W D F : Type 0} {ghosts : Ghosts F} (s : Shows S) (tells_out : W →
 
     -- a stop was told
     stopped_cut : (rack : Rack E J A) → AllLeave first last → ServedAlone (over_bays meaning) (run_conduct s) (begins meaning s deck.variables (stated deck.statements) files) last rack
-        → (machine last).tally.stopped ≡ true → (machine last).tally.lost ≡ None
+        → (machine last).tally.stopped ≡ true → (machine last).tally.lost ≡ None → (machine last).kept ≡ None
+        → ((st : Stated) (more : List Stated) → rest_of (machine last) ≡ st ∷ more → HaveAt (machine last).state.stage (machine last).state.core.names (machine last).state.core.units st.0.what)
         → IsCut meaning rack (held (disk last)) (refusals (disk first)) (refusals (disk last)) (tells_out (out first)) (taken (out first)) (taken (out last)) deck files (machine last)
-    stopped_cut rack l alone stop none =
+    stopped_cut rack l alone stop none nothing have =
         let x : Plain Bay (run_conduct s) = after (over_bays meaning) (run_conduct s) alone.entries (begins meaning s deck.variables (stated deck.statements) files) in
         let it : HasStopped (run_conduct s) x last rack = alone.fits.stop (r.stopped last ∙ stop) in
         let left : Files = files_of (held (disk last)) in
@@ -146,6 +172,10 @@ module _ {S W D F : Type 0} {ghosts : Ghosts F} (s : Shows S) (tells_out : W →
         let awaited : IsCutAt meaning s deck.variables (stated deck.statements) files it.slot x (record { start = last; script = last; hand = Finished; rack = rack; workers = [] }) =
         cut_at_stop meaning s deck.variables (stated deck.statements) files alone.entries it.slot (record { start = last; script = last; hand = Finished; rack = rack; workers = [] }) alone.fits it.hand in
         let slot = asked_slot meaning s deck.variables (stated deck.statements) files (ends_so deck sound) (some_statement deck sound) alone.entries it.slot it.hand in
+        let sound_slots : SlotsHold (over_bays meaning) x.slots rack = record { same = alone.fits.same_slots; each = λ at q k a b. (alone.fits.slots at q k a b).sound; done = λ at q k a b. (alone.fits.slots at q k a b).done } in
+        let stopped : HasStoppedAt it.slot rack = λ k found. (it.halted slot.0 k slot.1 found).0 in
+        let waits = settle_waits meaning s deck.variables (stated deck.statements) files (ends_so deck sound) (some_statement deck sound) alone.entries it.slot it.hand in
+        let spares = each_stop_spares meaning s full deck.variables (stated deck.statements) files alone.entries it.slot rack it.hand sound_slots stopped in
         let there = slice_get_in rack.slots it.slot (subst (λ n. it.slot < n) alone.fits.same_slots (slice_get_within x.slots it.slot slot.0 slot.1)) in
         elim (each_asks meaning s deck.variables (stated deck.statements) files alone.entries) [
           | inl done ↦ absurd (let z : Settle it.slot ≡ Finished = sym it.hand ∙ done in cc)
@@ -154,19 +184,18 @@ module _ {S W D F : Type 0} {ghosts : Ghosts F} (s : Shows S) (tells_out : W →
               (rest_is told bytes left (machine last) x.script is) (took last l none) none
               (stop_holds meaning rack (held (disk last)) (refusals (disk first)) (refusals (disk last)) deck files (machine last) s x.script both.0 cut
               (stops_leave_others deck.variables (stated deck.statements) files cut.slot x.script cut.desks cut.stop)
-              (given_at meaning rack deck.variables (stated deck.statements) files x.script x.slots (record { same = alone.fits.same_slots; each = λ at q k a b. (alone.fits.slots at q k a b).sound; done = λ at q k a b. (alone.fits.slots at q k a b).done })
+              (given_at meaning rack deck.variables (stated deck.statements) files x.script x.slots sound_slots
               (each_stop_given meaning s deck.variables (stated deck.statements) files alone.entries it.slot it.hand) cut.stop.index cut.stop.rest
-              (within_deck deck.variables cut.stop.index (stated deck.statements) (fresh deck.variables files) (cut.stop.statement, cut.stop.before) cut.stop.reached)))
+              (within_deck deck.variables cut.stop.index (stated deck.statements) (fresh deck.variables files) (cut.stop.statement, cut.stop.before) cut.stop.reached)) nothing
+              (each_stop_holds meaning s deck.variables (stated deck.statements) files alone.entries it.slot rack it.hand sound_slots stopped))
+              (subst (λ (o : Option (Linked F)). AreOut (kept_name o) (machine last).state.core.names (machine last).state.core.units) (sym nothing)
+              (stopped_files told bytes left (machine last) x.script is waits spares.names have))
               (stop_cause meaning rack (held (disk last)) (refusals (disk first)) (refusals (disk last)) deck files (machine last) x.script awaited.stop.index awaited.stop.statement it.slot both.0 awaited.stop.rest
-              (stops_are_awaited deck.variables (stated deck.statements) files it.slot x.script (desks_of meaning x.slots) awaited.stop) (λ l found. (it.halted slot.0 l slot.1 found).0)
+              (stops_are_awaited deck.variables (stated deck.statements) files it.slot x.script (desks_of meaning x.slots) awaited.stop) stopped
               (λ free. record {
-                desks = desks_of meaning x.slots;
-                held = awaited.held;
                 slot = it.slot;
                 ledger = there.0;
                 here = there.1;
-                desk = desk_of meaning slot.0;
-                has_desk = map_get (desk_of meaning) x.slots it.slot slot.0 slot.1;
                 free = free;
                 halted = (it.halted slot.0 there.0 slot.1 there.1).0;
               }))
@@ -202,19 +231,19 @@ module _ {S W D F : Type 0} {ghosts : Ghosts F} (s : Shows S) (tells_out : W →
         at : Run
         call : FailsCall (λ lost. (machine gone).tally.lost ≡ Some lost) (tells_out (out before)) (taken (out before)) (taken (out gone)) (held (disk gone)) (refusals (disk before)) (refusals (disk gone)) at (machine before) (machine gone)
         learns : LearnsAt deck.variables (stated deck.statements) (fresh deck.variables files) call.run
-        holds : AllFits (λ lost. (machine gone).tally.lost ≡ Some lost) → HoldsThen call.run.rest
+        holds : HoldsThen call.run.rest
 
       -- in an ask
       asked_holds : (run : Run) → TurnLeavesOthers deck.variables (stated deck.statements) files run (desks_of meaning slots_then) → WereGiven deck.variables (stated deck.statements) files run slots_then
-          → StandsStill (IsUnbegun run.stage) run (machine gone).state.core (held (disk gone)) ⊎ StandsAt (held (disk gone)) (refusals (disk before)) (refusals (disk gone)) run (machine gone) → HoldsThen run.rest
-      asked_holds run t g stands =
+          → (machine gone).kept ≡ None → TurnHolds meaning rack run → StandsStill (IsUnbegun run.stage) run (machine gone).state.core (held (disk gone)) ⊎ StandsAt (held (disk gone)) (refusals (disk before)) (refusals (disk gone)) run (machine gone) → HoldsThen run.rest
+      asked_holds run t g none fit stands =
           let slots = slots_hold meaning slots_then rack w.slots in
           let given = given_at meaning rack deck.variables (stated deck.statements) files run slots_then w.slots g t.index t.rest
           (within deck.variables t.index (stated deck.statements) (start deck.variables files) (t.statement, t.state) t.cut_is) in
           elim stands [
-            | inl still ↦ still_holds meaning rack (held (disk gone)) (refusals (disk first)) (refusals (disk gone)) deck files (machine gone) run (desks_of meaning slots_then) still t slots given
+            | inl still ↦ still_holds meaning rack (held (disk gone)) (refusals (disk first)) (refusals (disk gone)) deck files (machine gone) run (desks_of meaning slots_then) still t slots given none fit
             | inr at ↦ turn_holds meaning rack (held (disk gone)) (refusals (disk first)) (refusals (disk gone)) deck files (machine gone) (refusals (disk before)) (refusals (disk gone)) run (desks_of meaning slots_then)
-                (led.own on) (omega arith) at t slots given
+                (led.own on) (omega arith) at t slots given none fit
           ]
 
       abbrev script_at : Plain Bay (run_conduct s)
@@ -225,12 +254,12 @@ module _ {S W D F : Type 0} {ghosts : Ghosts F} (s : Shows S) (tells_out : W →
           → (machine gone).tally.stopped ≡ false → HoldsThen rest
       heard_holds rest place state some due stop =
           submit_holds meaning rack (held (disk gone)) (refusals (disk first)) (refusals (disk gone)) deck files (machine gone) rest script_at.script (desks_of meaning slots_then)
-          (sym place ∙ stays ∙ sym (rest_is told bytes left (machine before) script_at.script is))
-          (it.units asks ∙ ap (λ (k : Core). k.units) (sym core)) (ap (λ (d : D). files_of (held d)) (it.same_disk asks) ∙ ap (λ (k : Core). k.files) (sym core)) t
+          run_rest units (ap (λ (d : D). files_of (held d)) (it.same_disk asks) ∙ ap (λ (k : Core). k.files) (sym core)) t
           (slots_hold meaning slots_then rack w.slots)
           (given_at meaning rack deck.variables (stated deck.statements) files script_at.script slots_then w.slots
           (asked_given meaning s deck.variables (stated deck.statements) files (ends_so deck sound) (some_statement deck sound) w.asks some) t.index t.rest
-          (within deck.variables t.index (stated deck.statements) (start deck.variables files) (t.statement, t.state) t.cut_is))
+          (within deck.variables t.index (stated deck.statements) (start deck.variables files) (t.statement, t.state) t.cut_is)) opens
+          (each_submit_holds meaning s deck.variables (stated deck.statements) files w.asks job.0 job.1 rack job.2 w.slots)
         where
           it : FailsAsking (disk before) (disk gone) (machine before) (machine gone)
           it = r.asking before gone w.call.leads
@@ -257,22 +286,38 @@ module _ {S W D F : Type 0} {ghosts : Ghosts F} (s : Shows S) (tells_out : W →
           stays : rest_of (machine gone) ≡ rest_of (machine before)
           stays = ap (λ (d : Deck). drop (machine gone).at (stated d.statements)) (r.leaves before gone w.call.leads).deck ∙ ap (λ i. drop i (stated (machine before).deck.statements)) (it.at asks)
 
-      gave_up : (machine gone).tally.stopped ≡ false → GaveUpAt
-      gave_up stop =
+          run_rest : rest ≡ script_at.script.rest
+          run_rest = sym place ∙ stays ∙ sym (rest_is told bytes left (machine before) script_at.script is)
+
+          units : (machine gone).state.core.units ≡ script_at.script.core.units
+          units = it.units asks ∙ ap (λ (k : Core). k.units) (sym core)
+
+          -- a connection that was kept is of the file that the statement opens
+          opens : IfSome (machine gone).kept (λ c. file_opened (names_in t.state.units) t.statement.0.what ≡ Some c.name)
+          opens =
+              let here = cut_place deck.variables t.index (stated deck.statements) (start deck.variables files) t.statement t.state t.cut_is in
+              let kept = subst (λ (l : List Stated). HaveKept (kept_name (machine gone).kept) (machine gone).state.core.names (machine gone).state.core.units l) (place ∙ run_rest ∙ t.rest ∙ here.1)
+              ((r.keeps before gone w.call.leads).given_up going over stop) in
+              opens_kept (machine gone).kept (machine gone).state.core.names (machine gone).state.core.units script_at.script.core.units (names_in t.state.units) t.statement here.0 kept units t.opens
+
+      gave_up : (machine gone).tally.stopped ≡ false → IsLoss (machine gone).tally.lost → GaveUpAt
+      gave_up stop loss =
           elim w.call.stood [
             | inl (asked, state, due) ↦
                 let f = r.gives_up before gone w.call.leads script_then state going over stop in
                 let x = learns_before meaning s deck.variables (stated deck.statements) files (ends_so deck sound) (some_statement deck sound) w.asks f.count f.run asked f.passed in
+                let idle = hand_idle (machine before).tally.hand (sym (r.due before) ∙ due) in
                 let at = at_before meaning s deck.variables (stated deck.statements) files (ends_so deck sound) (some_statement deck sound) w.asks asked in
                 record {
                   at = script_then;
                   call = f;
                   learns = x;
-                  holds = λ fits. elim (each_turn meaning s deck.variables (stated deck.statements) files w.asks f.count f.run at.going f.passed) [
+                  holds = elim (each_turn meaning s deck.variables (stated deck.statements) files w.asks f.count f.run at.going f.passed) [
                     | inl none ↦ absurd (none_left deck.variables (stated deck.statements) (fresh deck.variables files) f.run x none)
                     | inr t ↦ elim (each_turn_given meaning s deck.variables (stated deck.statements) files w.asks f.count f.run at.going f.passed) [
                       | inl none ↦ absurd (none_left deck.variables (stated deck.statements) (fresh deck.variables files) f.run x none)
-                      | inr g ↦ asked_holds f.run t g (f.fits (hand_idle (machine before).tally.hand (sym (r.due before) ∙ due)) fits)
+                      | inr g ↦ asked_holds f.run t g ((r.keeps before gone w.call.leads).asked going idle)
+                          (each_turn_holds meaning s deck.variables (stated deck.statements) files w.asks f.count f.run rack at.going f.passed w.slots) (f.fits idle (loss_fits (machine gone).tally.lost loss))
                     ]
                   ];
                 }
@@ -282,18 +327,18 @@ module _ {S W D F : Type 0} {ghosts : Ghosts F} (s : Shows S) (tells_out : W →
                   at = script_at.script;
                   call = f;
                   learns = learns_at meaning s deck.variables (stated deck.statements) files (ends_so deck sound) (some_statement deck sound) w.asks f.count f.run hand f.passed;
-                  holds = λ fits. heard_holds f.run.rest f.rest state hand (subst (λ d. IsDueAsk d script_at.hand) (r.due before) due) stop;
+                  holds = heard_holds f.run.rest f.rest state hand (subst (λ d. IsDueAsk d script_at.hand) (r.due before) due) stop;
                 }
           ]
 
       failed_cut : (machine gone).tally.stopped ≡ false → IsLoss (machine gone).tally.lost
           → IsCut meaning rack (held (disk gone)) (refusals (disk first)) (refusals (disk gone)) (tells_out (out first)) (taken (out first)) (taken (out gone)) deck files (machine gone)
       failed_cut stop loss =
-          let g = gave_up stop in
+          let g = gave_up stop loss in
           cut_failing meaning rack (held (disk gone)) (refusals (disk first)) (refusals (disk gone)) (tells_out (out first)) (taken (out first)) (taken (out gone)) deck files (machine gone)
           ((r.leaves before gone w.call.leads).deck ∙ led.deck ∙ same) (taken (out before)) (machine before) (refusals (disk before)) (refusals (disk gone)) (tells_out (out before)) led.telling_out.0
           (took before led (none_lost (machine before).tally.lost (machine before).tally.over (machine before).tally.lost_over going)) (rose_earlier _ _ _ (led.own on)) g.at g.call g.learns (loss_not (machine gone).tally.lost loss)
-          g.holds
+          g.holds (kept_out (machine gone).kept (machine gone).state.core.names (machine gone).state.core.units (rest_of (machine gone)) ((r.keeps before gone w.call.leads).given_up going over stop))
 
       all_led : AllLeave first last
       all_led =
@@ -307,7 +352,10 @@ module _ {S W D F : Type 0} {ghosts : Ghosts F} (s : Shows S) (tells_out : W →
           let still = all_stay gone last w.call.rests over in
           elim (r.reason before gone w.call.leads going over) [
             | inl (stop, none) ↦
+                let k = r.keeps before gone w.call.leads in
                 stopped_cut rack all_led alone (ap (λ (m : Machine F ghosts). m.tally.stopped) still.0 ∙ stop) (ap (λ (m : Machine F ghosts). m.tally.lost) still.0 ∙ none)
+                (ap (λ (m : Machine F ghosts). m.kept) still.0 ∙ k.none going stop)
+                (subst (λ (m : Machine F ghosts). (st : Stated) (more : List Stated) → rest_of m ≡ st ∷ more → HaveAt m.state.stage m.state.core.names m.state.core.units st.0.what) (sym still.0) (k.stopped going stop))
             | inr (stop, loss) ↦
                 subst (λ (d : D). IsCut meaning rack (held d) (refusals (disk first)) (refusals d) (tells_out (out first)) (taken (out first)) (taken (out last)) deck files (machine last)) (sym still.2)
                 (subst (λ n. IsCut meaning rack (held (disk gone)) (refusals (disk first)) (refusals (disk gone)) (tells_out (out first)) (taken (out first)) n deck files (machine last)) (sym still.1)
@@ -319,7 +367,7 @@ pub run_cut : {S W D F E J A : Type 0} {ghosts : Ghosts F} (meaning : Meaning E 
     (disk_told : D → Bool) (held : D → Holdings) (told : F → Bool) (bytes : F → List ℕ) (out : S → W) (disk : S → D) (machine : S → Machine F ghosts) (deck : Deck) (files : Files) (first last : S) (rack : Rack E J A)
     → ServedAlone (over_bays meaning) (run_conduct s) (begins meaning s deck.variables (stated deck.statements) files) last rack
     → WasLost (over_bays meaning) (run_conduct s) (first_run deck.variables (stated deck.statements) files) fresh_slots first last rack
-    → IsRunner s tells_out taken count_out tells count refusals disk_told held told bytes out disk machine → IsSound deck → HasNotBegun told bytes (machine first) → (machine first).deck ≡ deck → tells (disk first)
+    → IsRunner s tells_out taken count_out tells count refusals disk_told held told bytes out disk machine → IsSound deck → HasNotBegun told bytes (machine first) → (machine first).deck ≡ deck → tells (disk first) → StopsFull meaning
     → IsCut meaning rack (held (disk last)) (refusals (disk first)) (refusals (disk last)) (tells_out (out first)) (taken (out first)) (taken (out last)) deck files (machine last)
-run_cut meaning s tells_out taken count_out tells count refusals disk_told held told bytes out disk machine deck files first last rack alone lost runner sound begun same on =
-    is_cut s tells_out taken count_out tells count refusals disk_told held told bytes out disk machine runner meaning deck files sound first last on begun same rack lost alone
+run_cut meaning s tells_out taken count_out tells count refusals disk_told held told bytes out disk machine deck files first last rack alone lost runner sound begun same on full =
+    is_cut s tells_out taken count_out tells count refusals disk_told held told bytes out disk machine runner meaning deck files sound first last on begun same full rack lost alone

@@ -19,7 +19,7 @@ use Rattle.fj_plain.specs.Statement.{Stated, Ran, Ending, ends, goes_on, step, e
 use Rattle.fj_items.specs.Handing.{TakesFront, TakesPart}
 use Rattle.fj_report.specs.declared.status.Status.{Status}
 use Rattle.fj_report.specs.declared.status.Status.TheVariants.{Ended, ErrorStop, Prohibited, DeckRefused, Usage, ReadFault, WriteFault, DiskFault, Memory}
-use Rattle.fj_job.specs.Answers.{IsLost, IfFault, IfWriteFault, TookFor, TookRefusal}
+use Rattle.fj_job.specs.Answers.{IsLost, IfFault, IfMemory, IfWriteFault, TookFor, TookRefusal}
 use Rattle.fj_job.specs.Cut.{IsOfReport}
 use Rattle.fj_job.specs.Taken.{IsReadOf}
 use Rattle.fj_job.specs.declared.task.Task.{Task}
@@ -81,7 +81,21 @@ write_by WriteFault P h = h refl
 write_by (DiskFault line) P h = tt
 write_by Memory P h = tt
 
+pub want_by : (status : Status) (P : Type 0) → (status ≡ Memory → P) → IfMemory status P
+want_by Ended P h = tt
+want_by (ErrorStop stmt code) P h = tt
+want_by (Prohibited stmt rule) P h = tt
+want_by (DeckRefused line reason) P h = tt
+want_by Usage P h = tt
+want_by ReadFault P h = tt
+want_by WriteFault P h = tt
+want_by (DiskFault line) P h = tt
+want_by Memory P h = h refl
+
 -- where it is known of one
+pub want_at : (status : Status) (P : Type 0) → IfMemory status P → status ≡ Memory → P
+want_at status P h e = subst (λ (s : Status). IfMemory s P) e h
+
 pub write_at : (status : Status) (P : Type 0) → IfWriteFault status P → status ≡ WriteFault → P
 write_at status P h e = subst (λ (s : Status). IfWriteFault s P) e h
 

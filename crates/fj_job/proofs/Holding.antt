@@ -1,8 +1,9 @@
 -- What closing all units would leave, where a stop was told and where a call on the outside failed.
-use Rattle.std.proofs.Common.{◌≡◌, ◌≢◌, inl, inr, ℕ, ◌≤◌, true, false, List, drop, Option, Some, is_some, slice_get, sym, ap, ◌∙◌, subst}
+use Rattle.std.proofs.Common.{◌≡◌, ◌≢◌, inl, inr, ℕ, ◌≤◌, true, false, List, drop, Option, Some, None, IfSome, is_some, slice_get, sym, ap, ◌∙◌, subst}
 use Rattle.fj_outside.specs.Holdings.{Holdings}
 use Rattle.fj_outside.specs.declared.outside.FileStore.{Ghosts}
 use Rattle.fj_statement.specs.declared.deck.Deck.{Deck}
+use Rattle.fj_connect.specs.Linked.{Linked}
 use Rattle.fj_slot.specs.Ledger.{Ledger}
 use Rattle.fj_slot.specs.Serving.{Meaning}
 use Rattle.fj_world.specs.Rack.{Rack}
@@ -17,7 +18,7 @@ use Rattle.fj_turns.specs.Run.{Run}
 use Rattle.fj_turns.specs.Cutting.{IsCutRun}
 use Rattle.fj_turns.specs.Executing.{HoldsDesks}
 use Rattle.fj_turns.specs.Serving.{Shows}
-use Rattle.fj_cut.specs.Others.{names_in, file_about, has_file, core_now, AreHoused, LeavesOthers, file_renewed}
+use Rattle.fj_cut.specs.Others.{names_in, file_about, file_opened, has_file, core_now, AreHoused, LeavesOthers, file_renewed}
 use Rattle.fj_cut.specs.Awaiting.{IsFree, StopsAt}
 use Rattle.fj_cut.specs.Stopping.{HoldsGiven}
 use Rattle.fj_cut.specs.Turning.{IsUnbegun, SubmitLeavesOthers, TurnLeavesOthers}
@@ -25,6 +26,8 @@ use Rattle.fj_cut.proofs.Connecting.{opened_about}
 use Rattle.fj_acts.specs.State.{core_of, core_at}
 use Rattle.fj_units.specs.Files.{files_of}
 use Rattle.fj_units.specs.Returning.{IsAsDue}
+use Rattle.fj_closing.specs.Ended.{TurnHolds}
+use Rattle.fj_closing.specs.Holding.{HoldUnits}
 use Rattle.fj_closing.proofs.Due.{all_due}
 use Rattle.fj_runner.specs.Failing.{StandsAt, StandsStill}
 use Rattle.fj_runner.specs.declared.machine.Machine.{Machine}
@@ -43,8 +46,12 @@ module _ {E J A F : Type 0} {ghosts : Ghosts F} (meaning : Meaning E J A Bay Job
   FreesSo at = (name : List ℕ) → has_name m.state.core.units name ≡ false → file_renewed (names_in at.1.units) at.0.0.what ≢ Some name
       → IsAsDue before now (files_of held name) ((all_closed at.1).files name)
 
+  -- and a connection that was kept is of the file that the statement opens
+  abbrev pub KeepsSo : Stated × State → Type 0
+  KeepsSo at = IfSome m.kept (λ c. file_opened (names_in at.1.units) at.0.0.what ≡ Some c.name)
+
   -- The execution is cut just before a statement, the one in front of these, in this state; and what the slots' desks leave is as closing all
-  -- units in that state leaves it.
+  -- units in that state leaves it. The slots hold the connections of the machine's units.
   pub record HoldsAt (rest : List Stated) : Type 0 where
     pub index : ℕ
     pub statement : Stated
@@ -57,9 +64,11 @@ module _ {E J A F : Type 0} {ghosts : Ghosts F} (meaning : Meaning E J A Bay Job
     pub others : LeavesSo desks (statement, state)
     pub freed : FreesSo (statement, state)
     pub given : HoldsGiven deck.variables (stated deck.statements) files meaning rack index
+    pub kept : KeepsSo (statement, state)
+    pub holding : HoldUnits meaning rack m.state.core.units
 
   abbrev CausesSo : Stated × State → Type 0
-  CausesSo at = IsCause meaning rack m.state.core.units at.0 at.1 before now
+  CausesSo at = IsCause rack m.state.core.units at.0 at.1 before now
 
   -- the same place, and why no more was done
   pub record CauseAt (rest : List Stated) : Type 0 where
@@ -77,7 +86,7 @@ module _ {E J A F : Type 0} {ghosts : Ghosts F} (meaning : Meaning E J A Bay Job
   -- where a stop of that slot was told
   pub stop_cause : (run : Run) (index : ℕ) (statement : Stated) (slot : ℕ) → run.core ≡ core_of (files_of held) m.state.core → run.rest ≡ drop index (stated deck.statements)
       → StopsAt deck.variables (stated deck.statements) files index statement slot run → ((l : Ledger E J A) → slice_get rack.slots slot ≡ Some l → is_some l.halt ≡ true)
-      → (IsFree run.core.units slot → StopsAside meaning rack run.core.units) → CauseAt run.rest
+      → (IsFree run.core.units slot → StopsAside rack run.core.units) → CauseAt run.rest
   stop_cause run index statement slot core place at halted aside = record {
     index = index;
     statement = statement;
@@ -86,7 +95,7 @@ module _ {E J A F : Type 0} {ghosts : Ghosts F} (meaning : Meaning E J A Bay Job
     place = place;
     cause = elim at.place [
       | inl (u, has) ↦ inl (u, λ served. let it = served slot (ap (λ us. has_file us slot u.name) (sym units) ∙ has) in absurd (let z : false ≡ true = sym (ap is_some it.2) ∙ halted it.0 it.1 in cc))
-      | inr free ↦ inr (inl (subst (λ us. StopsAside meaning rack us) units (aside free)))
+      | inr free ↦ inr (inl (subst (λ us. StopsAside rack us) units (aside free)))
     ];
   }
     where
@@ -104,6 +113,7 @@ module _ {E J A F : Type 0} {ghosts : Ghosts F} (meaning : Meaning E J A Bay Job
     given = subst (λ n. HoldsGiven deck.variables (stated deck.statements) files meaning rack n)
         (one_index (stated deck.statements) h.index comes.index (within deck.variables h.index (stated deck.statements) (start deck.variables files) (h.statement, h.state) h.cut_is)
         (within deck.variables comes.index (stated deck.statements) (start deck.variables files) (comes.statement, comes.before) comes.there) (sym h.place ∙ e)) h.given;
+    kept = subst KeepsSo place h.kept;
   }
     where
       place : ◌≡◌ {A = Stated × State} (h.statement, h.state) (comes.statement, comes.before)
@@ -120,6 +130,7 @@ module _ {E J A F : Type 0} {ghosts : Ghosts F} (meaning : Meaning E J A Bay Job
     freed = λ name none new.
         subst (λ (due : Files). IsAsDue before now (files_of held name) (due name)) (sym (told_files deck.variables comes.statement comes.before)) (h.freed name none new);
     given = h.given;
+    kept = h.kept;
   }
 
   -- a file that no unit has is as the others: one that the statement is about has its unit, unless it is opened or removed
@@ -131,25 +142,45 @@ module _ {E J A F : Type 0} {ghosts : Ghosts F} (meaning : Meaning E J A Bay Job
         (others name (no_slot rack m.state.core.units name none) about)
   ]
 
-  -- where a stop was told
-  pub stop_holds : {S : Type 0} (s : Shows S) (run : Run) → run.core ≡ core_of (files_of held) m.state.core → (it : IsCutRun meaning s deck.variables (stated deck.statements) files run rack)
-      → LeavesOthers deck.variables (stated deck.statements) files it.stop.index it.stop.statement it.slot run it.desks → HoldsGiven deck.variables (stated deck.statements) files meaning rack it.stop.index → HoldsAt run.rest
-  stop_holds s run core it lo given = record {
-    index = it.stop.index;
-    statement = it.stop.statement;
-    state = lo.state;
-    cut_is = lo.cut_is;
-    place = it.stop.rest;
-    desks = it.desks;
-    slots = it.held;
+  -- a file that the statement is about, and neither opens nor removes, has its unit
+  abbrev KeepsUnits : Stated × State → Type 0
+  KeepsUnits at = (name : List ℕ) → file_about (names_in at.1.units) at.0.0.what ≡ Some name → file_renewed (names_in at.1.units) at.0.0.what ≢ Some name → has_name m.state.core.units name ≡ true
+
+  -- so a file that no unit has is as the others
+  holds_by : (rest : List Stated) (index : ℕ) (statement : Stated) (state : State) (desks : List Desk) → cut deck.variables index (stated deck.statements) (start deck.variables files) ≡ Some (statement, state)
+      → rest ≡ drop index (stated deck.statements) → HoldsDesks meaning rack desks → AreHoused desks m.state.core.units → LeavesSo desks (statement, state) → KeepsUnits (statement, state)
+      → HoldsGiven deck.variables (stated deck.statements) files meaning rack index → KeepsSo (statement, state) → HoldUnits meaning rack m.state.core.units → HoldsAt rest
+  holds_by rest index statement state desks cut_is place slots housed others keeps given kept holding = record {
+    index = index;
+    statement = statement;
+    state = state;
+    cut_is = cut_is;
+    place = place;
+    desks = desks;
+    slots = slots;
     units = housed;
     others = others;
-    freed = frees_by it.desks (it.stop.statement, lo.state) housed others (λ name about new. sym (ap (λ (c : Core). has_name c.units name) core) ∙ lo.keeps name about new);
+    freed = frees_by desks (statement, state) housed others keeps;
     given = given;
+    kept = kept;
+    holding = holding;
   }
+
+  -- where nothing is kept
+  pub none_kept : (at : Stated × State) → m.kept ≡ None → KeepsSo at
+  none_kept at none = subst (λ (o : Option (Linked F)). IfSome o (λ c. file_opened (names_in at.1.units) at.0.0.what ≡ Some c.name)) (sym none) tt
+
+  -- where a stop was told
+  pub stop_holds : {S : Type 0} (s : Shows S) (run : Run) → run.core ≡ core_of (files_of held) m.state.core → (it : IsCutRun meaning s deck.variables (stated deck.statements) files run rack)
+      → LeavesOthers deck.variables (stated deck.statements) files it.stop.index it.stop.statement it.slot run it.desks → HoldsGiven deck.variables (stated deck.statements) files meaning rack it.stop.index
+      → m.kept ≡ None → HoldUnits meaning rack run.core.units → HoldsAt run.rest
+  stop_holds s run core it lo given none holds =
+      holds_by run.rest it.stop.index it.stop.statement lo.state it.desks lo.cut_is it.stop.rest it.held (subst (λ (us : List Connected). AreHoused it.desks us) units lo.units) others
+      (λ name about new. sym (ap (λ (us : List Connected). has_name us name) units) ∙ lo.keeps name about new) given (none_kept (it.stop.statement, lo.state) none)
+      (subst (λ (us : List Connected). HoldUnits meaning rack us) units holds)
     where
-      housed : AreHoused it.desks m.state.core.units
-      housed = subst (λ (us : List Connected). AreHoused it.desks us) (ap (λ (c : Core). c.units) core) lo.units
+      units : run.core.units ≡ m.state.core.units
+      units = ap (λ (c : Core). c.units) core
 
       others : LeavesSo it.desks (it.stop.statement, lo.state)
       others name served about =
@@ -160,26 +191,14 @@ module _ {E J A F : Type 0} {ghosts : Ghosts F} (meaning : Meaning E J A Bay Job
   -- where a call on the outside failed
   pub turn_holds : (early late : ℕ) (run : Run) (desks : List Desk) → before ≤ early → late ≤ now
       → StandsAt held early late run m → (t : TurnLeavesOthers deck.variables (stated deck.statements) files run desks) → HoldsDesks meaning rack desks
-      → HoldsGiven deck.variables (stated deck.statements) files meaning rack t.index → HoldsAt run.rest
-  turn_holds early late run desks l k it t slots given = record {
-    index = t.index;
-    statement = t.statement;
-    state = t.state;
-    cut_is = t.cut_is;
-    place = t.rest;
-    desks = desks;
-    slots = slots;
-    units = housed;
-    others = others;
-    freed = frees_by desks (t.statement, t.state) housed others (λ name about new. ap (λ (us : List Connected). has_name us name) same ∙ t.keeps it.known it.does.does it.does.is name about new);
-    given = given;
-  }
+      → HoldsGiven deck.variables (stated deck.statements) files meaning rack t.index → m.kept ≡ None → TurnHolds meaning rack run → HoldsAt run.rest
+  turn_holds early late run desks l k it t slots given none holds =
+      holds_by run.rest t.index t.statement t.state desks t.cut_is t.rest slots (subst (λ (us : List Connected). AreHoused desks us) (sym same) (t.units it.known it.does.does it.does.is)) others
+      (λ name about new. ap (λ (us : List Connected). has_name us name) same ∙ t.keeps it.known it.does.does it.does.is name about new) given (none_kept (t.statement, t.state) none)
+      (subst (λ (us : List Connected). HoldUnits meaning rack us) (sym same) (holds.now it.does.does it.does.is))
     where
       same : m.state.core.units ≡ (core_now it.does.does).units
       same = it.does.stands.units ∙ ap (λ (c : Core). c.units) (core_same it.does.does)
-
-      housed : AreHoused desks m.state.core.units
-      housed = subst (λ (us : List Connected). AreHoused desks us) (sym same) (t.units it.known it.does.does it.does.is)
 
       others : LeavesSo desks (t.statement, t.state)
       others name served about =
@@ -195,8 +214,8 @@ module _ {E J A F : Type 0} {ghosts : Ghosts F} (meaning : Meaning E J A Bay Job
 
   -- where nothing of the statement was begun
   pub still_holds : (run : Run) (desks : List Desk) → StandsStill (IsUnbegun run.stage) run m.state.core held → (t : TurnLeavesOthers deck.variables (stated deck.statements) files run desks) → HoldsDesks meaning rack desks
-      → HoldsGiven deck.variables (stated deck.statements) files meaning rack t.index → HoldsAt run.rest
-  still_holds run desks it t slots given = record {
+      → HoldsGiven deck.variables (stated deck.statements) files meaning rack t.index → m.kept ≡ None → TurnHolds meaning rack run → HoldsAt run.rest
+  still_holds run desks it t slots given none holds = record {
     index = t.index;
     statement = t.statement;
     state = t.state;
@@ -208,6 +227,8 @@ module _ {E J A F : Type 0} {ghosts : Ghosts F} (meaning : Meaning E J A Bay Job
     others = λ name served about. inl (due name);
     freed = λ name none new. inl (sym (not_left desks m.state.core.units (files_of held) name housed none) ∙ due name);
     given = given;
+    kept = none_kept (t.statement, t.state) none;
+    holding = subst (λ (us : List Connected). HoldUnits meaning rack us) (sym it.units) (holds.unbegun it.may);
   }
     where
       housed : AreHoused desks m.state.core.units
@@ -218,24 +239,12 @@ module _ {E J A F : Type 0} {ghosts : Ghosts F} (meaning : Meaning E J A Bay Job
 
   -- where a job was to be submitted
   pub submit_holds : (rest : List Stated) (run : Run) (desks : List Desk) → rest ≡ run.rest → m.state.core.units ≡ run.core.units → files_of held ≡ run.core.files
-      → (t : SubmitLeavesOthers deck.variables (stated deck.statements) files run desks) → HoldsDesks meaning rack desks → HoldsGiven deck.variables (stated deck.statements) files meaning rack t.index → HoldsAt rest
-  submit_holds rest run desks same units home t slots given = record {
-    index = t.index;
-    statement = t.statement;
-    state = t.state;
-    cut_is = t.cut_is;
-    place = same ∙ t.rest;
-    desks = desks;
-    slots = slots;
-    units = housed;
-    others = others;
-    freed = frees_by desks (t.statement, t.state) housed others (λ name about new. ap (λ (us : List Connected). has_name us name) units ∙ t.keeps name about new);
-    given = given;
-  }
+      → (t : SubmitLeavesOthers deck.variables (stated deck.statements) files run desks) → HoldsDesks meaning rack desks → HoldsGiven deck.variables (stated deck.statements) files meaning rack t.index
+      → KeepsSo (t.statement, t.state) → HoldUnits meaning rack run.core.units → HoldsAt rest
+  submit_holds rest run desks same units home t slots given kept holds =
+      holds_by rest t.index t.statement t.state desks t.cut_is (same ∙ t.rest) slots (subst (λ (us : List Connected). AreHoused desks us) (sym units) t.units) others
+      (λ name about new. ap (λ (us : List Connected). has_name us name) units ∙ t.keeps name about new) given kept (subst (λ (us : List Connected). HoldUnits meaning rack us) (sym units) holds)
     where
-      housed : AreHoused desks m.state.core.units
-      housed = subst (λ (us : List Connected). AreHoused desks us) (sym units) t.units
-
       others : LeavesSo desks (t.statement, t.state)
       others name served about =
           inl (ap (λ (us : List Connected). all_left desks us (files_of held) name) units ∙ ap (λ (f : Files). all_left desks run.core.units f name) home ∙ t.others name about)

@@ -91,10 +91,6 @@ pub rose_of : (P : Type 0) (a b c : ℕ) → a ≤ b → b ≤ c → (P → Rose
 rose_of P a b c l k one (inl p) = rose_later a b c (one p) k
 rose_of P a b c l k one (inr rose) = rose_earlier a b c l rose
 
-pub on_left : (A B C : Type 0) → (A → C) → A ⊎ B → C ⊎ B
-on_left A B C f (inl a) = inl (f a)
-on_left A B C f (inr b) = inr b
-
 -- ---- many calls of a runner
 
 -- the same sink, disk and machine by name, and what is left of them

@@ -33,13 +33,13 @@ use Rattle.fj_job.proofs.Passes.{IsPassed, EndsSo, passed_is, passes_on}
 -- ---- a runner that waits for an answer
 
 -- it waits for a transfer that the statement tells, or for the statement's own job
-abbrev WaitsIn : Stated → Stage → Run → Type 0
+abbrev pub WaitsIn : Stated → Stage → Run → Type 0
 WaitsIn st Start r = ⊥
 WaitsIn st Waiting r = (slot : ℕ) × (unsettled (waited_now st r) r.book ≡ Some slot)
 WaitsIn st (Acting does) r = ⊥
 WaitsIn st (Awaiting slot number next) r = Unit {0}
 
-abbrev WaitsOn : List Stated → Run → Type 0
+abbrev pub WaitsOn : List Stated → Run → Type 0
 WaitsOn [] r = ⊥
 WaitsOn (st ∷ rest) r = WaitsIn st r.stage r
 
@@ -259,6 +259,16 @@ module _ {E J A S : Type 0} (m : Meaning E J A Bay Job Answer) (s : Shows S) (va
               | inr g ↦ record { index = g.index; rest = ap (λ (z : Plain Bay c). z.script.rest) e ∙ p.rest ∙ g.rest; within = g.within; each = g.each; told = g.told }
             ]
         | inr (f, over, was) ↦ absurd (h f)
+      ]
+
+  -- where an answer is awaited, it waits for that
+  pub settle_waits : (n slot : ℕ) → (at n).hand ≡ Settle slot → WaitsOn (at n).script.rest (at n).script
+  settle_waits n slot h =
+      elim (fares_after m s variables deck files n) [
+        | inl (e, y) ↦
+            let asks : (asked (before n).0).ask ≡ Settle slot = sym (ap (λ (z : Plain Bay c). z.hand) e) ∙ h in
+            subst (λ (z : Plain Bay c). WaitsOn z.script.rest z.script) (sym e) (subst (λ a. WaitsBy a (asked (before n).0).run) asks (asked_waits (before n).0))
+        | inr (f, over, was) ↦ absurd (let z : Finished ≡ Settle slot = sym f ∙ h in cc)
       ]
 
   -- the slot of an answer that is awaited is one of those that there are

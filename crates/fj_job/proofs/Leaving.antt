@@ -61,7 +61,7 @@ served_of {E} {J} {A} rack held name (u ∷ us) clear e slot has = by (served_of
     here at named =
         let same : name ≡ u.name = (bytes_eq-Decides name u.name).0 named in
         let slot_is : u.slot ≡ slot = elim (eqb_tells u.slot slot) [ inl a ↦ a.1 | inr a ↦ absurd (let z : true ≡ false = sym at ∙ a.0 in cc) ] in
-        subst (λ n. (l : Ledger E J A) × (slice_get rack.slots n ≡ Some l) × (l.halt ≡ None)) slot_is (clear.0 (sym (ap (set.contains held.hurt) same) ∙ e))
+        subst (λ n. (l : Ledger E J A) × (slice_get rack.slots n ≡ Some l) × (l.halt ≡ None)) slot_is (clear.0.0, clear.0.1, clear.0.2 (sym (ap (set.contains held.hurt) same) ∙ e))
 
     by : (has_file us slot name ≡ true → (l : Ledger E J A) × (slice_get rack.slots slot ≡ Some l) × (l.halt ≡ None)) → (b : Bool) → ((u.slot == slot) && bytes_eq name u.name) ≡ b → (b || has_file us slot name) ≡ true
         → (l : Ledger E J A) × (slice_get rack.slots slot ≡ Some l) × (l.halt ≡ None)

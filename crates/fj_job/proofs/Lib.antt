@@ -6,6 +6,7 @@ pub mod Executed
 pub mod Fresh
 pub mod Closed
 pub mod Settling
+pub mod Returning
 pub mod MadeReplies
 pub mod Carried
 pub mod Whole

@@ -1,5 +1,5 @@
 -- What was told and written where a run met a fault, and what is reported then.
-use Rattle.std.proofs.Common.{◌≡◌, ◌⊎◌, inl, inr, ℕ, ◌≤◌, Bool, true, false, List, [], ◌++◌, Option, Some, None, IsSome, Ok, slice_get, refl, ap, sym, ◌∙◌, subst, append_assoc, is_some, ◌≢◌, arith}
+use Rattle.std.proofs.Common.{◌≡◌, ◌⊎◌, inl, inr, ℕ, ◌≤◌, Bool, true, false, List, [], ◌++◌, Option, Some, None, IsSome, IfSome, Result, Ok, slice_get, refl, ap, sym, ◌∙◌, subst, append_assoc, is_some, ◌≢◌, arith}
 use Rattle.std.specs.FinMap as map
 use Rattle.std.specs.FinSet as set
 use Rattle.std.specs.Option.{option_map}
@@ -7,27 +7,24 @@ use Rattle.fj_outside.specs.declared.outside.FileStore.{Ghosts}
 use Rattle.fj_outside.specs.Holdings.{Holdings, Files as Held}
 use Rattle.fj_statement.specs.Sound.{IsSound}
 use Rattle.fj_statement.specs.declared.deck.Deck.{Deck}
-use Rattle.fj_slot.specs.Ledger.{Ledger}
+use Rattle.fj_statement.specs.declared.statement.Statement.{Statement}
+use Rattle.fj_statement.specs.declared.statement.Statement.TheVariants as statement
+use Rattle.fj_connect.specs.Linked.{Linked}
 use Rattle.fj_slot.specs.Serving.{Meaning}
-use Rattle.fj_slot.specs.Sound.{IsSound as IsSoundSlot}
 use Rattle.fj_bay.specs.Bay.{Bay}
 use Rattle.fj_bay.specs.Jobs.{Job, Answer}
 use Rattle.fj_world.specs.Rack.{Rack}
 use Rattle.fj_plain.specs.State.{State, Files, Output, Tell, all_closed, start}
 use Rattle.fj_plain.specs.Statement.{plain_execution, step, stated}
 use Rattle.fj_desk.specs.Core.{has_name}
-use Rattle.fj_desk.specs.Desks.{Desk}
-use Rattle.fj_desk.specs.Desking.{all_left}
-use Rattle.fj_turns.specs.Executing.{HoldsDesks}
-use Rattle.fj_turns.specs.Serving.{over_bays}
-use Rattle.fj_cut.specs.Others.{names_in, file_renewed, AreHoused}
+use Rattle.fj_cut.specs.Others.{Names, names_in, file_opened, file_about, file_renewed, AreHoused}
+use Rattle.fj_cut.proofs.Connecting.{opened_about}
 use Rattle.fj_pending.specs.Plain.{tells_of}
 use Rattle.fj_items.specs.Handing.{TakesFront, TakesPart, whole_records, open_record}
+use Rattle.fj_items.specs.declared.lost.Lost.{Lost}
 use Rattle.fj_items.specs.declared.lost.Lost.TheVariants.{Sink, Disk}
 use Rattle.fj_units.specs.Files.{files_of}
 use Rattle.fj_units.specs.Returning.{IsAsDue}
-use Rattle.fj_closing.specs.Closing.{AreSeated, AreNamed, IfClear, OthersRun}
-use Rattle.fj_closing.specs.Finding.{IsLeftBehind, OfEach, AreSpared}
 use Rattle.fj_closing.proofs.Due.{due_on}
 use Rattle.fj_closing.proofs.Finding.{rose_wider}
 use Rattle.fj_report.specs.Lines.{status_text}
@@ -40,9 +37,11 @@ use Rattle.fj_runner.specs.declared.machine.Machine.{Machine}
 use Rattle.fj_acts.specs.declared.state.Core.{Core as Kept}
 use Rattle.fj_job.specs.Carrying.{HasRun}
 use Rattle.fj_job.specs.Concluding.{HasEnded, IsResult, run_text, fault_text}
-use Rattle.fj_job.specs.Cut.{Reach, Untold, Carried as At, reached, ComesTo, AreCutShort, AreLeft, IsLearnt, IsFaultReport, IsNext, TookRun, TookReport, TookBehind, CutByDisk, CutBySink}
+use Rattle.fj_job.specs.Cut.{Reach, Untold, Carried as At, reached, ComesTo, AreCutShort, AreLeft, IsLearnt, CutByMemory, fault_report, IsFaultReport, IsNext, TookRun, TookReport, TookBehind, CutByDisk, CutBySink}
 use Rattle.fj_job.specs.Cutting.{HoldsFiles, IsCut, EndsHere, IsLeftAt, IsLeftBegun, TookSome, IsCause}
-use Rattle.fj_job.specs.Executing.{IsFaultReported, IsFaultBegun, IsEndBegun}
+use Rattle.fj_job.specs.Fitting.{IsOther, LeavesFit}
+use Rattle.fj_job.specs.Losing.{wants}
+use Rattle.fj_job.specs.Executing.{AreClosed, IsFaultReported, IsFaultBegun, IsEndBegun}
 use Rattle.fj_job.specs.Making.{HasMade, IsMadeFront, TookMade, made_text}
 use Rattle.fj_job.specs.Reply.{Reply, IsRunReply, open_feed, trace_of, variable_lines, report_of, made_lines, made_report, no_files, files_in, status_of}
 use Rattle.fj_job.specs.declared.ending.Carried.{Carried}
@@ -63,9 +62,9 @@ module _ {E J A F : Type 0} {ghosts : Ghosts F} (meaning : Meaning E J A Bay Job
   abbrev left : Files
   left = files_of held
 
-  at_end : IsSound deck → m.tally.over ≡ false → HasRun meaning told bytes deck files left m rack
+  at_end : IsSound deck → m.tally.over ≡ false → HasRun meaning told bytes deck files left m rack → LeavesFit meaning rack m
       → ((ending : Code) → m.state.ending ≡ Some ending → EndsHere deck files m) → (Tells → new ≡ old ++ whole_records m.state.core.output) → IsCut meaning rack held before now Tells old new deck files m
-  at_end sound going ran ended taken =
+  at_end sound going ran fit ended taken =
       let some : IsSome (option_map ending_of m.state.ending) = subst IsSome (ending_is meaning told bytes deck files left m rack ran) (deck_ends deck files sound) in
       let code = some_by ending_of m.state.ending some in
       let e = ended code.0 code.1 in
@@ -80,6 +79,7 @@ module _ {E J A F : Type 0} {ghosts : Ghosts F} (meaning : Meaning E J A Bay Job
         freed = λ name none new. inl (sym (not_left (desks meaning told bytes deck files left m rack ran) m.state.core.units left name housed none) ∙ due name);
         given = given_until meaning told bytes deck files left m rack ran some e.comes.index e.place
             (within deck.variables e.comes.index (stated deck.statements) (start deck.variables files) (e.comes.statement, e.comes.before) e.comes.there);
+        kept = subst (λ (o : Option (Linked F)). IfSome o (λ c. file_opened (names_in e.comes.before.units) e.comes.statement.0.what ≡ Some c.name)) (sym (not_lost m.kept m.tally.over m.refused going)) tt;
       } in
       let exact = ended_exact meaning rack held before now Tells old new deck files m e holds (output_is meaning told bytes deck files left m rack ran) (tells_are meaning told bytes deck files left m rack ran) taken in
       let none = not_lost m.tally.lost m.tally.over m.tally.lost_over going in
@@ -87,70 +87,89 @@ module _ {E J A F : Type 0} {ghosts : Ghosts F} (meaning : Meaning E J A Bay Job
         comes = e.comes;
         at = e.at;
         exact = λ _. exact;
-        fits = λ lost some _. lost_none none some;
+        holds = λ lost some. lost_none none some;
+        fit = fit;
         begun = λ t s. lost_none none s;
         front = λ t. front_of_exact meaning rack held before now Tells old new deck files e.comes m exact t;
       }
 
-  at_hand_by : (over : Bool) → m.tally.over ≡ over → IsSound deck → (m.tally.over ≡ false → HasRun meaning told bytes deck files left m rack)
+  at_hand_by : (over : Bool) → m.tally.over ≡ over → IsSound deck → (m.tally.over ≡ false → HasRun meaning told bytes deck files left m rack) → (m.tally.over ≡ false → LeavesFit meaning rack m)
       → (m.tally.over ≡ false → (ending : Code) → m.state.ending ≡ Some ending → EndsHere deck files m)
       → (m.tally.over ≡ true → IsCut meaning rack held before now Tells old new deck files m) → (m.tally.over ≡ false → Tells → new ≡ old ++ whole_records m.state.core.output) → IsCut meaning rack held before now Tells old new deck files m
-  at_hand_by true e sound ran ended cut taken = cut e
-  at_hand_by false e sound ran ended cut taken = at_end sound e (ran e) (ended e) (taken e)
+  at_hand_by true e sound ran fit ended cut taken = cut e
+  at_hand_by false e sound ran fit ended cut taken = at_end sound e (ran e) (fit e) (ended e) (taken e)
 
   -- the statement at hand is one to which the execution comes
-  pub at_statement : IsSound deck → (m.tally.over ≡ false → HasRun meaning told bytes deck files left m rack)
+  pub at_statement : IsSound deck → (m.tally.over ≡ false → HasRun meaning told bytes deck files left m rack) → (m.tally.over ≡ false → LeavesFit meaning rack m)
       → (m.tally.over ≡ false → (ending : Code) → m.state.ending ≡ Some ending → EndsHere deck files m)
       → (m.tally.over ≡ true → IsCut meaning rack held before now Tells old new deck files m) → (m.tally.over ≡ false → Tells → new ≡ old ++ whole_records m.state.core.output) → IsCut meaning rack held before now Tells old new deck files m
-  at_statement sound ran ended cut taken = at_hand_by m.tally.over refl sound ran ended cut taken
+  at_statement sound ran fit ended cut taken = at_hand_by m.tally.over refl sound ran fit ended cut taken
 
 -- ---- what is left there, once the files went back
 
--- each file that the statement neither opens nor removes
-pub cut_short : {E J A F : Type 0} {ghosts : Ghosts F} (meaning : Meaning E J A Bay Job Answer) (rack : Rack E J A) (held last : Holdings) (before now end : ℕ)
-    (deck : Deck) (files : Files) (m : Machine F ghosts) (comes : ComesTo deck files) (reach : Reach) → before ≤ now → now ≤ end
-    → OfEach m.state.core.units rack.slots (λ u k. (s : Bay) (ts : List Job) → IsSoundSlot (over_bays meaning) s ts k → IsLeftBehind k s ts u.name (files_of last u.name) now end)
-    → AreSpared m.state.core.units held last → HoldsFiles meaning rack held before now deck files comes reach m → AreCutShort deck files comes reach last before end
-cut_short meaning rack held last before now end deck files m comes reach early late found spared h = λ name new. by name new (has_name m.state.core.units name) refl
-  where
-    by : (name : List ℕ) → file_renewed (names_in comes.before.units) comes.statement.0.what ≢ Some name → (b : Bool) → has_name m.state.core.units name ≡ b
-        → LeavesShort deck.variables (stated deck.statements) files (files_of last) comes.index before end name
-        ⊎ IsAsDue before end (files_of last name) ((all_closed (reached reach deck.variables comes.statement comes.before)).files name)
-    by name new true e =
-        let short = left_short meaning rack deck.variables (stated deck.statements) files (files_of last) comes.index now end name m.state.core.units found h.given e in
-        inl (short.0, λ s. elim (short.1 s) [ inl none ↦ inl none | inr rose ↦ inr (rose_wider before now end end early (omega arith) rose) ])
-    by name new false e = inr (subst (λ (o : Option (List ℕ)). IsAsDue before end o ((all_closed (reached reach deck.variables comes.statement comes.before)).files name)) (sym (spared name e).0)
-        (due_wider before before now end (files_of held name) _ (omega arith) late (h.freed name e new)))
+-- what is opened is renewed
+opened_renewed : (names : Names) (st : Statement) (name : List ℕ) → file_opened names st ≡ Some name → file_renewed names st ≡ Some name
+opened_renewed names (statement.Assign to from) name e = cc
+opened_renewed names (statement.OpenUnit u spec iostat) name e = e
+opened_renewed names (statement.CloseUnit u keep iostat) name e = cc
+opened_renewed names (statement.WaitFor u id iostat) name e = cc
+opened_renewed names (statement.Move how u iostat) name e = cc
+opened_renewed names (statement.Inquire subject asked id iostat) name e = cc
+opened_renewed names (statement.Transfer t) name e = cc
+opened_renewed names statement.End name e = cc
 
-module _ {E J A F : Type 0} {ghosts : Ghosts F} (meaning : Meaning E J A Bay Job Answer) (rack : Rack E J A) (held last : Holdings) (before now end : ℕ) (Tells : Type 0) (old new : List ℕ)
-    (deck : Deck) (files : Files) (m : Machine F ghosts) (l : Left F) (cut : IsCut meaning rack held before now Tells old new deck files m) (at : l.at ≡ m.at) (early : before ≤ now) (late : now ≤ end)
-    (due : (desks : List Desk) → HoldsDesks meaning rack desks → AreSeated desks m.state.core.units → AreNamed desks m.state.core.units → (name : List ℕ) → set.contains last.hurt name ≡ false
-    → IsAsDue now end (files_of last name) (all_left desks m.state.core.units (files_of held) name))
-    (running : IfClear last m.state.core.units rack.slots (λ (k : Ledger E J A). k.halt ≡ None))
-    (others : (desks : List Desk) → HoldsDesks meaning rack desks → OthersRun m.state.core.units rack.slots desks)
-    (found : OfEach m.state.core.units rack.slots (λ u k. (s : Bay) (ts : List Job) → IsSoundSlot (over_bays meaning) s ts k → IsLeftBehind k s ts u.name (files_of last u.name) now end))
-    (spared : AreSpared m.state.core.units held last) where
-  hand : slice_get deck.statements l.at ≡ Some cut.comes.statement.0
-  hand = ap (λ n. slice_get deck.statements n) at ∙ cut.at
+-- a connection that was kept is of a file that has P; no other file is of it
+other_by : {F : Type 0} (kept : Option (Linked F)) (Opened P : List ℕ → Type 0) → IfSome kept (λ c. Opened c.name) → ((name : List ℕ) → Opened name → P name) → (name : List ℕ) → (P name → ⊥) → IsOther kept name
+other_by None Opened P is so name not = tt
+other_by (Some c) Opened P is so name not = λ same. not (subst P same (so c.name is))
 
-  files_left : (reach : Reach) → HoldsFiles meaning rack held before now deck files cut.comes reach m → AreLeft deck files cut.comes reach last before end
-  files_left reach h = record {
+-- Once the files went back behind a run that was cut.
+module _ {E J A F : Type 0} {ghosts : Ghosts F} (meaning : Meaning E J A Bay Job Answer) (rack : Rack E J A) (held last : Holdings) (before now end : ℕ)
+    (deck : Deck) (files : Files) (m : Machine F ghosts) (settled : Result (Unit {0}) Lost) (closed : AreClosed meaning rack m.state.core.units m.kept held last now end settled) (early : before ≤ now) (late : now ≤ end) where
+  -- each file that the statement neither opens nor removes
+  pub cut_short : (comes : ComesTo deck files) (reach : Reach) → HoldsFiles meaning rack held before now deck files comes reach m → AreCutShort deck files comes reach last before end
+  cut_short comes reach h = λ name new. by name new (has_name m.state.core.units name) refl
+    where
+      other : (name : List ℕ) → file_renewed (names_in comes.before.units) comes.statement.0.what ≢ Some name → IsOther m.kept name
+      other = other_by m.kept (λ name. file_opened (names_in comes.before.units) comes.statement.0.what ≡ Some name) (λ name. file_renewed (names_in comes.before.units) comes.statement.0.what ≡ Some name) h.kept
+          (λ name e. opened_renewed (names_in comes.before.units) comes.statement.0.what name e)
+
+      by : (name : List ℕ) → file_renewed (names_in comes.before.units) comes.statement.0.what ≢ Some name → (b : Bool) → has_name m.state.core.units name ≡ b
+          → LeavesShort deck.variables (stated deck.statements) files (files_of last) comes.index before end name
+          ⊎ IsAsDue before end (files_of last name) ((all_closed (reached reach deck.variables comes.statement comes.before)).files name)
+      by name new true e =
+          let short = left_short meaning rack deck.variables (stated deck.statements) files (files_of last) comes.index now end name m.state.core.units closed.found h.given e in
+          inl (short.0, λ s. elim (short.1 s) [ inl none ↦ inl none | inr rose ↦ inr (rose_wider before now end end early (omega arith) rose) ])
+      by name new false e = inr (subst (λ (o : Option (List ℕ)). IsAsDue before end o ((all_closed (reached reach deck.variables comes.statement comes.before)).files name)) (sym (closed.spared name e (other name new)).0)
+          (due_wider before before now end (files_of held name) _ (omega arith) late (h.freed name e new)))
+
+  -- and where memory was not wanting, each one that is not hurt, and that it is not about
+  pub files_left : wants settled ≡ false → (comes : ComesTo deck files) (reach : Reach) → HoldsFiles meaning rack held before now deck files comes reach m → AreLeft deck files comes reach last before end
+  files_left told comes reach h = record {
     clear = λ name clear about.
-        due_on before now end _ _ _ early late (due h.desks h.slots (seated_of h.desks m.state.core.units h.units) (named_of h.desks m.state.core.units h.units) name clear)
-        (h.others name (served_of rack last name m.state.core.units running clear) about);
-    others = cut_short meaning rack held last before now end deck files m cut.comes reach early late found spared h;
+        due_on before now end _ _ _ early late
+        (closed.due told h.desks h.slots (seated_of h.desks m.state.core.units h.units) (named_of h.desks m.state.core.units h.units) name
+        (other_by m.kept (λ other. file_opened (names_in comes.before.units) comes.statement.0.what ≡ Some other) (λ other. file_about (names_in comes.before.units) comes.statement.0.what ≡ Some other) h.kept
+        (λ other e. opened_about (names_in comes.before.units) comes.statement.0.what other e) name about) clear)
+        (h.others name (served_of rack last name m.state.core.units (closed.running told) clear) about);
+    others = cut_short comes reach h;
   }
 
   -- a unit whose slot has stopped has a file that is hurt, and no other slot has stopped
-  learnt_by : IsCause meaning rack m.state.core.units cut.comes.statement cut.comes.before before now → IsLearnt cut.comes.statement cut.comes.before last before end
-  learnt_by (inl (u, stopped)) = inl (u, by (set.contains last.hurt u.name) refl)
+  pub learnt_by : wants settled ≡ false → (comes : ComesTo deck files) → IsCause rack m.state.core.units comes.statement comes.before before now → IsLearnt comes.statement comes.before last before end
+  learnt_by told comes (inl (u, stopped)) = inl (u, by (set.contains last.hurt u.name) refl)
     where
       by : (b : Bool) → set.contains last.hurt u.name ≡ b → b ≡ true
       by true e = refl
-      by false e = absurd (stopped (served_of rack last u.name m.state.core.units running e))
-  learnt_by (inr (inl aside)) =
-      absurd (let z : false ≡ true = sym (ap is_some (others aside.desks aside.held aside.slot aside.ledger aside.desk aside.here aside.has_desk aside.free)) ∙ aside.halted in cc)
-  learnt_by (inr (inr (called, rose))) = inr (called, rose_later before now end rose late)
+      by false e = absurd (stopped (served_of rack last u.name m.state.core.units (closed.running told) e))
+  learnt_by told comes (inr (inl aside)) = absurd (let z : false ≡ true = sym (ap is_some (closed.others aside.slot aside.ledger aside.here aside.free)) ∙ aside.halted in cc)
+  learnt_by told comes (inr (inr (called, rose))) = inr (called, rose_later before now end rose late)
+
+module _ {E J A F : Type 0} {ghosts : Ghosts F} (meaning : Meaning E J A Bay Job Answer) (rack : Rack E J A) (held last : Holdings) (before now end : ℕ) (Tells : Type 0) (old new : List ℕ)
+    (deck : Deck) (files : Files) (m : Machine F ghosts) (l : Left F) (cut : IsCut meaning rack held before now Tells old new deck files m) (at : l.at ≡ m.at) (settled : Result (Unit {0}) Lost)
+    (closed : AreClosed meaning rack m.state.core.units m.kept held last now end settled) (early : before ≤ now) (late : now ≤ end) (told : wants settled ≡ false) where
+  hand : slice_get deck.statements l.at ≡ Some cut.comes.statement.0
+  hand = ap (λ n. slice_get deck.statements n) at ∙ cut.at
 
   -- where nothing was lost, or by the disk
   pub left_at : (m.tally.lost ≡ None) ⊎ (m.tally.lost ≡ Some Disk) → l.core ≡ record (m.state.core) { names = l.core.names } → IsLeftAt deck files l last before end
@@ -163,13 +182,13 @@ module _ {E J A F : Type 0} {ghosts : Ghosts F} (meaning : Meaning E J A Bay Job
         at = hand;
         output = ap (λ (k : Kept). k.output) core ∙ x.output;
         tells = ap (λ (k : Kept). tells_of k.tells) core ∙ x.tells;
-        files_are = files_left x.reach x.files_are;
-        learnt = elim x.cause [ inl e ↦ inl e | inr why ↦ inr (learnt_by why) ];
+        files_are = files_left meaning rack held last before now end deck files m settled closed early late told cut.comes x.reach x.files_are;
+        learnt = elim x.cause [ inl e ↦ inl e | inr why ↦ inr (learnt_by meaning rack held last before now end deck files m settled closed early late told cut.comes why) ];
       }
 
   -- where the sink failed
   pub left_begun : m.tally.lost ≡ Some Sink → IsLeftBegun deck files l Tells old new last before end
-  left_begun lost = record { comes = cut.comes; at = hand; begun = λ t. cut.begun t lost; files_are = files_left Untold (cut.fits Sink lost (λ e. cc)) }
+  left_begun lost = record { comes = cut.comes; at = hand; begun = λ t. cut.begun t lost; files_are = files_left meaning rack held last before now end deck files m settled closed early late told cut.comes Untold (cut.holds Sink lost) }
 
 -- where the deck ended
 pub left_end : {F : Type 0} {ghosts : Ghosts F} (deck : Deck) (files : Files) (m : Machine F ghosts) (l : Left F) (last : Holdings) (before end : ℕ) → EndsHere deck files m → l.at ≡ m.at
@@ -230,15 +249,32 @@ module _ {F : Type 0} (deck : Deck) (trace : Bool) (it : Carried F) (before now 
     λ t. elim (fault.taken (on t)) [ inl e ↦ inl (taken_both old mid new _ _ (one t) e) | inr f ↦ inr (later f.0, part_behind old mid new _ _ (one t) f.1) ],
   )
 
-  pub report_of_fault : (status : Status) → IsLeftAt deck (files_in before) it.left left own own' → IsFaultBegun trace it status mid new → mid ≡ old ++ whole_records it.left.core.output
+  pub report_of_fault : (status : Status) (Tells : Type 0) → Tells → IsLeftAt deck (files_in before) it.left left own own' → IsFaultBegun trace it status Tells mid new → mid ≡ old ++ whole_records it.left.core.output
       → TookReport deck trace (files_in before) status old new
-  report_of_fault status at fault one = (
+  report_of_fault status Tells t at fault one = (
     fault.line,
     fault.answer,
     whole_records it.left.core.output ++ fault_text trace fault.line it.left.core.output (tells_of it.left.core.tells),
     fault_reported deck (files_in before) it.left left own own' at trace fault.line (line_by at fault.line fault.line_is),
-    front_behind old mid new _ _ one fault.taken,
+    front_behind old mid new _ _ one (fault.taken t),
   )
+
+  -- memory was wanting in it
+  pub want_of_fault : (status : Status) (Tells Now : Type 0) → (Tells → Now) → (at : IsLeftAt deck (files_in before) it.left left own own') → IsFaultBegun trace it status Now mid new
+      → (Tells → mid ≡ old ++ whole_records it.left.core.output) → CutByMemory deck trace (files_in before) Tells old new left own own'
+  unfolding fault_reported
+  want_of_fault status Tells Now on at fault one =
+      let line = line_by at fault.line fault.line_is in
+      let report = fault_reported deck (files_in before) it.left left own own' at trace fault.line line in
+      record {
+        comes = at.comes;
+        reach = at.reach;
+        may = at.may;
+        due = whole_records it.left.core.output ++ fault_text trace fault.line it.left.core.output (tells_of it.left.core.tells);
+        written = inr (report.output_is ∙ ap (λ n. fault_report trace n (reached at.reach deck.variables at.comes.statement at.comes.before)) (sym line));
+        taken = λ t. front_behind old mid new _ _ (one t) (fault.taken (on t));
+        files_are = at.files_are.others;
+      }
 
   -- what is told where the deck ended: the records that ended, and the report behind them
   reply_of_end : (Took : List ℕ → Type 0) → IsResult (plain_execution deck.variables deck.statements (files_in before)) (files_in now) it.left → IsEndBegun trace it Took
@@ -251,11 +287,26 @@ module _ {F : Type 0} (deck : Deck) (trace : Bool) (it : Carried F) (before now 
       let r = replies deck trace it.left before now (status_of (ending_of ended.ending)) (Unit {0}) (Unit {0}) [] whole (whole ++ text) (λ t. t) same is h (λ _. refl) in
       (r.reply, r.is, text, sym (r.output tt), ended.taken)
 
-  pub part_of_end : IsResult (plain_execution deck.variables deck.statements (files_in before)) (files_in now) it.left → IsEndBegun trace it (TakesFront mid new)
+  pub part_of_end : (Tells : Type 0) → Tells → IsResult (plain_execution deck.variables deck.statements (files_in before)) (files_in now) it.left → IsEndBegun trace it (λ due. Tells → TakesFront mid new due)
       → mid ≡ old ++ whole_records it.left.core.output → TookRun deck trace (files_in before) old new
-  part_of_end is ended one =
-      let r = reply_of_end (TakesFront mid new) is ended in
-      (r.0, r.1, subst (λ (x : List ℕ). TakesFront old new x) (sym r.3) (front_behind old mid new _ r.2 one r.4))
+  part_of_end Tells t is ended one =
+      let r = reply_of_end (λ due. Tells → TakesFront mid new due) is ended in
+      (r.0, r.1, subst (λ (x : List ℕ). TakesFront old new x) (sym r.3) (front_behind old mid new _ r.2 one (r.4 t)))
+
+  -- memory was wanting in the report
+  pub want_of_end : (Tells Now : Type 0) → (Tells → Now) → (x : IsLeftAt deck (files_in before) it.left left own own') → x.reach ≡ At → IsResult (plain_execution deck.variables deck.statements (files_in before)) (files_in now) it.left
+      → IsEndBegun trace it (λ due. Now → TakesFront mid new due) → (Tells → mid ≡ old ++ whole_records it.left.core.output) → CutByMemory deck trace (files_in before) Tells old new left own own'
+  want_of_end Tells Now on x reach is ended one =
+      let r = reply_of_end (λ due. Now → TakesFront mid new due) is ended in
+      record {
+        comes = x.comes;
+        reach = x.reach;
+        may = x.may;
+        due = r.0.output;
+        written = inl (subst (λ (k : Reach). IsNext k deck trace (files_in before) x.comes r.0.output) (sym reach) (r.0, r.1, refl));
+        taken = λ t. subst (λ (y : List ℕ). TakesFront old new y) (sym r.3) (front_behind old mid new _ r.2 (one t) (r.4 (on t)));
+        files_are = x.files_are.others;
+      }
 
   -- a fault of the sink in the report
   pub write_of_end : (Tells Now : Type 0) → (Tells → Now) → (x : IsLeftAt deck (files_in before) it.left left own own') → x.reach ≡ At → IsResult (plain_execution deck.variables deck.statements (files_in before)) (files_in now) it.left

@@ -1,5 +1,5 @@
 -- What a run has done, by what the words ask for.
-use Rattle.std.proofs.Common.{◌≡◌, ◌⊎◌, inl, inr, ℕ, Bool, List, ◌++◌, Result, Ok, Err, IfErr, refl, sym, ◌∙◌, subst}
+use Rattle.std.proofs.Common.{◌≡◌, ◌⊎◌, inl, inr, ℕ, Bool, List, ◌++◌, Result, Ok, Err, IfErr, refl, sym, ap, ◌∙◌, subst}
 use Rattle.std.specs.FinSet as set
 use Rattle.fj_outside.specs.Holdings.{Files}
 use Rattle.fj_statement.specs.declared.reason.Reason.{Reason}
@@ -14,10 +14,10 @@ use Rattle.fj_job.specs.Asking.{IsUnread}
 use Rattle.fj_job.specs.Concluding.{IsReplied}
 use Rattle.fj_job.specs.Taken.{IsReadOf}
 use Rattle.fj_job.proofs.ReplyLaws.{ended_by, lost_by, same_refusal}
-use Rattle.fj_job.specs.Answers.{IsAnswer, IsLost, IsOfRun, LeavesDisk, HasCause, IfEnded, IfRefused, IfFault, IfWriteFault, IfExecute, HasDeck, IsSomeRefusal, OfSource, OfDisk, Replied, AnswersRightly, TookFor, TookRefusal, HasRun, Keeps}
+use Rattle.fj_job.specs.Answers.{IsAnswer, IsLost, IsOfRun, LeavesDisk, HasCause, IfEnded, IfRefused, IfFault, IfMemory, IfWriteFault, IfExecute, HasDeck, IsSomeRefusal, OfSource, OfDisk, Replied, AnswersRightly, TookFor, TookRefusal, HasRun, Keeps}
 use Rattle.fj_job.specs.Seen.{Seen, OnDisk, left_alone}
-use Rattle.fj_job.specs.Cut.{TookRun, TookReport, CutByDisk, CutBySink}
-use Rattle.fj_job.proofs.Fronts.{fault_by, fault_more, write_by, write_at}
+use Rattle.fj_job.specs.Cut.{TookRun, TookReport, CutByDisk, CutBySink, CutByMemory}
+use Rattle.fj_job.proofs.Fronts.{fault_by, fault_more, want_by, want_at, write_by, write_at}
 use Rattle.fj_job.specs.Reply.{IsRefusal, usage_reply, refusal_reply, files_in, status_of}
 use Rattle.fj_job.specs.declared.task.Task.{Task}
 use Rattle.fj_job.specs.declared.task.Task.TheVariants.{Refuse, Check, Execute, Generate}
@@ -136,22 +136,30 @@ execute_more (Generate seed count shown) P Q f p = tt
 no_fault : (status : Status) (R W P : Type 0) (line : ℕ) → HasCause R W ⊥ status → status ≡ DiskFault line → P
 no_fault status R W P line c e = absurd (subst (λ (x : Status). HasCause R W ⊥ x) e c)
 
+execute_all : (task : Task) (P : Bool → Type 0) → ((trace : Bool) → P trace) → IfExecute task P
+execute_all Refuse P f = tt
+execute_all Check P f = tt
+execute_all (Execute workers trace) P f = f trace
+execute_all (Generate seed count shown) P f = tt
+
 pub run_without : (task : Task) (status : Status) (source sink : Seen (List ℕ)) (disk : OnDisk)
     → (IsAnswer status → OfSource task source.tells → Replied task source.before disk.held.files status disk.held.files (λ output. sink.tells → sink.after ≡ sink.before ++ output))
     → AnswersRightly task status source
     → (source.tells → status ≡ WriteFault → IfExecute task (λ trace. IsSomeRefusal source.before))
+    → (source.tells → IfExecute task (λ trace. sink.tells → TookRefusal source.before sink.before sink.after))
     → (OfSource task source.tells → sink.tells → TookFor task source.before (files_in disk.held.files) sink.before sink.after)
     → HasCause source.rose sink.rose ⊥ status → Keeps task status source sink (left_alone disk) → source.goes_on × sink.goes_on → HasRun task status source sink (left_alone disk)
-run_without task status source sink disk replied rightly written front cause keeps goes_on = record {
+run_without task status source sink disk replied rightly written begun front cause keeps goes_on = record {
   replied = λ a t u. replied a t;
   rightly = rightly;
   fault = λ t u. fault_by status _ (λ line e. no_fault status _ _ _ line cause e);
   written = λ t u. write_by status _ (λ e. execute_more task _ _ (λ trace. inl) (written t e));
+  memory = λ t u. want_by status _ (λ e. execute_more task _ _ (λ trace took. inl (tt, took)) (begun t));
   front = λ t u w. inl (front t w);
   keeps = keeps;
   cause = cause;
   fine = λ x y z. fine_by status _ _ _ cause x y z;
-  back = λ empty. inr empty;
+  back = λ empty. empty;
   goes_on = (goes_on.0, goes_on.1, tt);
 }
 
@@ -176,7 +184,7 @@ pub run_refused : (status : Status) (source sink : Seen (List ℕ)) (disk : OnDi
     → HasRun Refuse status source sink (left_alone disk)
 run_refused status source sink disk told output front c keeps goes_on = run_without Refuse status source sink disk
     (λ a t. answered status Usage _ told a (λ e. record { reply = usage_reply (files_in disk.held.files); is = refl; answer = e; files_left = refl; output = output a }))
-    (refused_rightly status source told) (λ t e. tt) (λ t w. inr (usage_reply (files_in disk.held.files), refl, front w))
+    (refused_rightly status source told) (λ t e. tt) (λ t. tt) (λ t w. inr (usage_reply (files_in disk.held.files), refl, front w))
     (cause_more status _ _ _ _ _ _ (λ x. absurd x) (λ x. x) (λ x. x) c) keeps goes_on
 
 -- ---- a text that is not carried out
@@ -260,7 +268,7 @@ run_unread workers trace status source sink disk unread output front c keeps goe
       ended = λ t. not_ended status _ of_refusal;
       refused = λ t. refused_at status source.tells source.before unread t;
     })
-    (λ t e. written_at status source.tells source.before unread t e) (λ t w. refusal_taken workers trace source.before disk.held.files sink.before sink.after (front t w))
+    (λ t e. written_at status source.tells source.before unread t e) front (λ t w. refusal_taken workers trace source.before disk.held.files sink.before sink.after (front t w))
     c keeps goes_on
 
 -- a refusal that is told, or what kept it from being told, where it is
@@ -285,6 +293,8 @@ run_over task status source sink disk is same goes_on empty t = subst (λ (after
   rightly = t.rightly;
   fault = λ r d. t.fault r (of_disk task source.before _ _ empty d);
   written = λ r d. t.written r (of_disk task source.before _ _ empty d);
+  memory = λ r d. want_by status _ (λ e. execute_more task _ _ (λ trace begun. elim begun [ inl none ↦ inl (same, none.1) | inr cut ↦ inr cut ])
+      (want_at status _ (t.memory r (of_disk task source.before _ _ empty d)) e));
   front = λ r d w. elim (t.front r (of_disk task source.before _ _ empty d) w) [ inl reply ↦ inl reply | inr fault ↦ absurd fault.0 ];
   keeps = record {
     aside = λ a. ((t.keeps.aside a).0, same);
@@ -295,15 +305,15 @@ run_over task status source sink disk is same goes_on empty t = subst (λ (after
   };
   cause = cause_more status _ _ _ _ _ _ (λ x. x) (λ x. x) (λ x. absurd x) t.cause;
   fine = λ x y z. t.fine x y (λ b. b);
-  back = λ d. inr (empty d);
+  back = λ d. empty d;
   goes_on = (t.goes_on.0, t.goes_on.1, goes_on);
 })
 
 -- ---- memory was wanting before anything was done
 
-pub run_nothing : (task : Task) (source sink : Seen (List ℕ)) (disk : Seen OnDisk) → sink.after ≡ sink.before → source.same → sink.same → disk.same → source.goes_on × sink.goes_on × disk.goes_on
+pub run_nothing : (task : Task) (source sink : Seen (List ℕ)) (disk : Seen OnDisk) → sink.after ≡ sink.before → disk.after ≡ disk.before → (disk.tells → disk.before.held.in_use ≡ set.empty) → source.same → sink.same → disk.same → source.goes_on × sink.goes_on × disk.goes_on
     → HasRun task Memory source sink disk
-run_nothing task source sink disk is source_same sink_same disk_same goes_on = record {
+run_nothing task source sink disk is still empty source_same sink_same disk_same goes_on = record {
   replied = λ a t u. absurd a;
   rightly = record {
     usage = λ q. cc;
@@ -313,6 +323,7 @@ run_nothing task source sink disk is source_same sink_same disk_same goes_on = r
   };
   fault = λ t u. tt;
   written = λ t u. tt;
+  memory = λ t u. execute_all task _ (λ trace. inl (disk_same, λ w. inl is));
   front = λ t u w. inl (inl is);
   keeps = record {
     aside = λ a. (source_same, disk_same);
@@ -323,7 +334,7 @@ run_nothing task source sink disk is source_same sink_same disk_same goes_on = r
   };
   cause = tt;
   fine = λ x y z. inl refl;
-  back = λ d. inl refl;
+  back = λ d. ap (λ (x : OnDisk). x.held.in_use) still ∙ empty d;
   goes_on = goes_on;
 }
 
@@ -333,11 +344,12 @@ pub run_executed : (workers : ℕ) (trace : Bool) (deck : Deck) (status : Status
     → (IsAnswer status → disk.tells → IsReplied deck trace disk.before.held.files status disk.after.held.files (λ output. sink.tells → sink.after ≡ sink.before ++ output))
     → (disk.tells → IfFault status (λ line. CutByDisk deck trace (files_in disk.before.held.files) line sink.tells sink.before sink.after sink.rose disk.after.held disk.before.own disk.after.own))
     → (disk.tells → IfWriteFault status (CutBySink deck trace (files_in disk.before.held.files) sink.tells sink.before sink.after disk.after.held disk.before.own disk.after.own))
+    → (disk.tells → IfMemory status ((disk.same × (sink.after ≡ sink.before)) ⊎ CutByMemory deck trace (files_in disk.before.held.files) sink.tells sink.before sink.after disk.after.held disk.before.own disk.after.own))
     → (disk.tells → sink.tells → TookRun deck trace (files_in disk.before.held.files) sink.before sink.after
     ⊎ (disk.rose × TookReport deck trace (files_in disk.before.held.files) status sink.before sink.after))
-    → IsOfRun status → HasCause ⊥ sink.rose disk.rose status → (disk.tells → (status ≡ Memory) ⊎ (disk.after.held.in_use ≡ set.empty)) → source.goes_on × sink.goes_on × disk.goes_on
+    → IsOfRun status → HasCause ⊥ sink.rose disk.rose status → (disk.tells → disk.after.held.in_use ≡ set.empty) → source.goes_on × sink.goes_on × disk.goes_on
     → HasRun (Execute workers trace) status source sink disk
-run_executed workers trace deck status source sink disk is replied fault written front r c back goes_on = record {
+run_executed workers trace deck status source sink disk is replied fault written memory front r c back goes_on = record {
   replied = λ a t u. let it = replied a (u (deck, is t)) in record {
     reply = it.reply;
     is = (Ok deck, is t, it.is);
@@ -353,6 +365,7 @@ run_executed workers trace deck status source sink disk is replied fault written
   };
   fault = λ t u. fault_more status _ _ (λ line told. (deck, is t, told)) (fault (u (deck, is t)));
   written = λ t u. write_by status _ (λ e. inr (deck, is t, write_at status _ (written (u (deck, is t))) e));
+  memory = λ t u. want_by status _ (λ e. elim (want_at status _ (memory (u (deck, is t))) e) [ inl none ↦ inl (none.0, λ w. inl none.1) | inr cut ↦ inr (deck, is t, cut) ]);
   front = λ t u w. elim (front (u (deck, is t)) w) [ inl run ↦ inl (inr (run.0, (Ok deck, is t, run.1), run.2)) | inr fault ↦ inr (fault.0, (deck, is t, fault.1)) ];
   keeps = record {
     aside = λ q. absurd q;

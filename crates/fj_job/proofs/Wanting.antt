@@ -1,26 +1,22 @@
 -- What was told and written where memory was wanting.
-use Rattle.std.proofs.Common.{◌≡◌, ◌≢◌, inl, inr, ℕ, ◌≤◌, Bool, List, ◌++◌, Option, Some, None, refl, sym, ap, ◌∙◌, subst, append_assoc}
+use Rattle.std.proofs.Common.{◌≡◌, inl, ℕ, ◌≤◌, Bool, List, ◌++◌, Option, Some, None, Result, refl, sym, ap, ◌∙◌, subst, append_assoc}
 use Rattle.fj_outside.specs.declared.outside.FileStore.{Ghosts}
 use Rattle.fj_outside.specs.Holdings.{Holdings}
 use Rattle.fj_statement.specs.Sound.{IsSound}
 use Rattle.fj_statement.specs.declared.deck.Deck.{Deck}
 use Rattle.fj_statement.specs.declared.deck.Variable.{Variable}
 use Rattle.fj_slot.specs.Serving.{Meaning}
-use Rattle.fj_slot.specs.Sound.{IsSound as IsSoundSlot}
 use Rattle.fj_bay.specs.Bay.{Bay}
 use Rattle.fj_bay.specs.Jobs.{Job, Answer}
 use Rattle.fj_world.specs.Rack.{Rack}
 use Rattle.fj_plain.specs.State.{State, Files, Output}
 use Rattle.fj_plain.specs.Statement.{Stated, plain_execution, step}
-use Rattle.fj_turns.specs.Serving.{over_bays}
 use Rattle.fj_items.specs.Handing.{TakesFront, whole_records}
 use Rattle.fj_items.specs.declared.lost.Lost.{Lost}
-use Rattle.fj_items.specs.declared.lost.Lost.TheVariants.{Memory, Sink, Disk, Unfit}
-use Rattle.fj_units.specs.Files.{files_of}
-use Rattle.fj_closing.specs.Finding.{IsLeftBehind, OfEach, AreSpared}
 use Rattle.fj_runner.specs.declared.machine.Machine.{Machine}
-use Rattle.fj_job.specs.Cut.{Reach, Untold, Told, Carried as At, reached, MayReach, ComesTo, CutByMemory}
+use Rattle.fj_job.specs.Cut.{Reach, Untold, Told, Carried as At, reached, MayReach, ComesTo, IsNext, CutByMemory}
 use Rattle.fj_job.specs.Cutting.{HoldsFiles, IsCut, TookFront}
+use Rattle.fj_job.specs.Executing.{AreClosed}
 use Rattle.fj_job.specs.Reply.{Reply, IsRunReply, open_feed, trace_of, variable_lines, report_of, status_of}
 use Rattle.fj_report.specs.Lines.{status_text}
 use Rattle.fj_job.proofs.Closed.{Follows, follows_same, records_follow, step_follows}
@@ -54,49 +50,34 @@ run_reply deck trace files sound =
     )
 
 module _ {E J A F : Type 0} {ghosts : Ghosts F} (meaning : Meaning E J A Bay Job Answer) (rack : Rack E J A) (held last : Holdings) (before now end : ℕ) (Tells : Type 0) (old new : List ℕ)
-    (deck : Deck) (files : Files) (m : Machine F ghosts) (sound : IsSound deck) (cut : IsCut meaning rack held before now Tells old new deck files m) (early : before ≤ now) (late : now ≤ end)
-    (found : OfEach m.state.core.units rack.slots (λ u k. (s : Bay) (ts : List Job) → IsSoundSlot (over_bays meaning) s ts k → IsLeftBehind k s ts u.name (files_of last u.name) now end))
-    (spared : AreSpared m.state.core.units held last) (trace : Bool) where
+    (deck : Deck) (files : Files) (m : Machine F ghosts) (sound : IsSound deck) (cut : IsCut meaning rack held before now Tells old new deck files m) (settled : Result (Unit {0}) Lost)
+    (closed : AreClosed meaning rack m.state.core.units m.kept held last now end settled) (early : before ≤ now) (late : now ≤ end) (trace : Bool) where
+  due_next : (reach : Reach) → (due : List ℕ) × IsNext reach deck trace files cut.comes due × (Tells → TakesFront old new due)
+  due_next Untold = (whole_records (step deck.variables cut.comes.statement cut.comes.before).0.output, refl, λ t. next_front old new deck files cut.comes (cut.front t))
+  due_next Told = (whole_records (step deck.variables cut.comes.statement cut.comes.before).0.output, refl, λ t. next_front old new deck files cut.comes (cut.front t))
+  due_next At =
+      let r = run_reply deck trace files sound in
+      (r.0.output, (r.0, r.1, refl), λ t. subst (λ (x : List ℕ). TakesFront old new x) (sym r.3) (front_so_far deck files old new r.2 (front_of_output old new deck files cut.comes (cut.front t))))
+
   -- as far as the statement came
   cut_at : (reach : Reach) → MayReach reach deck.variables cut.comes.statement cut.comes.before → HoldsFiles meaning rack held before now deck files cut.comes reach m
       → CutByMemory deck trace files Tells old new last before end
-  cut_at Untold may h = record {
-    comes = cut.comes;
-    reach = Untold;
-    may = may;
-    due = whole_records (step deck.variables cut.comes.statement cut.comes.before).0.output;
-    written = inl refl;
-    taken = λ t. next_front old new deck files cut.comes (cut.front t);
-    files_are = cut_short meaning rack held last before now end deck files m cut.comes Untold early late found spared h;
-  }
-  cut_at Told may h = record {
-    comes = cut.comes;
-    reach = Told;
-    may = may;
-    due = whole_records (step deck.variables cut.comes.statement cut.comes.before).0.output;
-    written = inl refl;
-    taken = λ t. next_front old new deck files cut.comes (cut.front t);
-    files_are = cut_short meaning rack held last before now end deck files m cut.comes Told early late found spared h;
-  }
-  cut_at At may h =
-      let r = run_reply deck trace files sound in
+  cut_at reach may h =
+      let d = due_next reach in
       record {
         comes = cut.comes;
-        reach = At;
+        reach = reach;
         may = may;
-        due = r.0.output;
-        written = inl (r.0, r.1, refl);
-        taken = λ t. subst (λ (x : List ℕ). TakesFront old new x) (sym r.3) (front_so_far deck files old new r.2 (front_of_output old new deck files cut.comes (cut.front t)));
-        files_are = cut_short meaning rack held last before now end deck files m cut.comes At early late found spared h;
+        due = d.0;
+        written = inl d.1;
+        taken = d.2;
+        files_are = cut_short meaning rack held last before now end deck files m settled closed early late cut.comes reach h;
       }
 
-  -- unless something does not fit
-  pub cut_by_memory : m.tally.lost ≢ Some Unfit → CutByMemory deck trace files Tells old new last before end
-  cut_by_memory fits = by m.tally.lost refl
+  -- whatever was lost
+  pub cut_by_memory : CutByMemory deck trace files Tells old new last before end
+  cut_by_memory = by m.tally.lost refl
     where
       by : (o : Option Lost) → m.tally.lost ≡ o → CutByMemory deck trace files Tells old new last before end
       by None e = let x = cut.exact (inl e) in cut_at x.reach x.may x.files_are
-      by (Some (Memory error)) e = cut_at Untold tt (cut.fits (Memory error) e (λ u. cc))
-      by (Some Sink) e = cut_at Untold tt (cut.fits Sink e (λ u. cc))
-      by (Some Disk) e = let x = cut.exact (inr e) in cut_at x.reach x.may x.files_are
-      by (Some Unfit) e = absurd (fits e)
+      by (Some lost) e = cut_at Untold tt (cut.holds lost e)

@@ -13,7 +13,7 @@ use Rattle.fj_report.specs.declared.status.Status.TheVariants.{Ended, ErrorStop,
 use Rattle.fj_job.specs.declared.task.Task.{Task}
 use Rattle.fj_job.specs.declared.task.Task.TheVariants.{Refuse, Check, Execute, Generate}
 use Rattle.fj_job.specs.Reply.{Reply, IsReplyTo, IsRefusal, files_in}
-use Rattle.fj_job.specs.Cut.{TookReport, CutByDisk, CutBySink}
+use Rattle.fj_job.specs.Cut.{TookReport, CutByDisk, CutBySink, CutByMemory}
 use Rattle.fj_job.specs.Seen.{Seen, OnDisk}
 
 -- neither a fault nor want of memory
@@ -66,6 +66,11 @@ abbrev pub IfWriteFault : Status → Type 0 → Type 0
 IfWriteFault WriteFault P = P
 IfWriteFault _ P = Unit {0}
 
+-- where memory was wanting
+abbrev pub IfMemory : Status → Type 0 → Type 0
+IfMemory Memory P = P
+IfMemory _ P = Unit {0}
+
 -- of a deck that is to be carried out, whether the trace is asked for
 abbrev pub IfExecute : Task → (Bool → Type 0) → Type 0
 IfExecute (Execute workers trace) P = P trace
@@ -81,6 +86,10 @@ IfEnded _ P = Unit {0}
 -- the sink took nothing, or a front of the line by which the text is refused
 abbrev pub TookRefusal : List ℕ → List ℕ → List ℕ → Type 0
 TookRefusal text old new = (new ≡ old) ⊎ ((line : ℕ) × (reason : Reason) × IsRefused text line reason × TakesFront old new (status_text (DeckRefused line reason)))
+
+-- no deck was begun: the disk is as it was, and the sink took nothing, or a front of the line by which the text is refused
+abbrev pub NoneBegun : Seen (List ℕ) → Seen (List ℕ) → Seen OnDisk → Type 0
+NoneBegun source sink disk = disk.same × (sink.tells → TookRefusal source.before sink.before sink.after)
 
 -- the text is a deck, which is done what the words ask for
 abbrev pub HasDeck : Task → List ℕ → Type 0
@@ -172,6 +181,13 @@ pub record HasRun (task : Task) (status : Status) (source sink : Seen (List ℕ)
   pub written : source.tells → OfDisk task source.before disk.tells → IfWriteFault status (IfExecute task (λ trace. IsSomeRefusal source.before
       ⊎ ((deck : Deck) × IsDeck source.before deck
       × CutBySink deck trace (files_in disk.before.held.files) sink.tells sink.before sink.after disk.after.held disk.before.own disk.after.own)))
+  -- Want of memory is met before a deck was begun; or at a statement of the deck that is carried out, or, where the deck stops at it, behind
+  -- it, in closing or in the report. The sink took a front of what may be written there. Each file that the statement neither opens nor
+  -- removes is left as closing all units leaves it there; or a job that no statement before this one waits for was stopped in it, or
+  -- the end of its record, and its bytes are as before below the first one that this changes.
+  pub memory : source.tells → OfDisk task source.before disk.tells → IfMemory status (IfExecute task (λ trace. NoneBegun source sink disk
+      ⊎ ((deck : Deck) × IsDeck source.before deck
+      × CutByMemory deck trace (files_in disk.before.held.files) sink.tells sink.before sink.after disk.after.held disk.before.own disk.after.own)))
   -- Whatever is answered, the sink took nothing or a front of the reply; or, where the disk failed while a deck was carried out, of
   -- the report of that fault, which is then answered, unless memory was wanting.
   pub front : OfSource task source.tells → OfDisk task source.before disk.tells → sink.tells → TookFor task source.before (files_in disk.before.held.files) sink.before sink.after
@@ -180,6 +196,6 @@ pub record HasRun (task : Task) (status : Status) (source sink : Seen (List ℕ)
   -- Each fault has its cause. Where no count rises the answer is that of a reply, or memory was wanting.
   pub cause : HasCause source.rose sink.rose disk.rose status
   pub fine : (source.rose → ⊥) → (sink.rose → ⊥) → (disk.rose → ⊥) → (status ≡ Memory) ⊎ IsAnswer status
-  -- Each file is back, unless memory was wanting; and the outside goes on telling, and counting.
-  pub back : disk.tells → (status ≡ Memory) ⊎ (disk.after.held.in_use ≡ set.empty)
+  -- Each file is back, whatever is answered; and the outside goes on telling, and counting.
+  pub back : disk.tells → disk.after.held.in_use ≡ set.empty
   pub goes_on : source.goes_on × sink.goes_on × disk.goes_on

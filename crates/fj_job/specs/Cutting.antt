@@ -1,5 +1,5 @@
 -- What the machine and its sink are where a run was cut, and where a deck ended.
-use Rattle.std.specs.Prelude.{◌≡◌, ◌≢◌, ◌⊎◌, ℕ, true, false, List, ◌++◌, Some, None, is_some, slice_get, drop}
+use Rattle.std.specs.Prelude.{◌≡◌, ◌≢◌, ◌⊎◌, ℕ, true, false, List, ◌++◌, Some, None, IfSome, is_some, slice_get, drop}
 use Rattle.fj_outside.specs.Faults.{Rose}
 use Rattle.fj_outside.specs.Holdings.{Holdings}
 use Rattle.fj_outside.specs.declared.outside.FileStore.{Ghosts}
@@ -15,7 +15,7 @@ use Rattle.fj_desk.specs.Core.{Connected, has_name}
 use Rattle.fj_desk.specs.Desks.{Desk}
 use Rattle.fj_desk.specs.Desking.{all_left}
 use Rattle.fj_turns.specs.Executing.{HoldsDesks}
-use Rattle.fj_cut.specs.Others.{names_in, file_about, has_file, AreHoused, file_renewed}
+use Rattle.fj_cut.specs.Others.{names_in, file_about, file_opened, has_file, AreHoused, file_renewed}
 use Rattle.fj_cut.specs.Awaiting.{AwaitedUnit}
 use Rattle.fj_cut.specs.Stopping.{HoldsGiven}
 use Rattle.fj_pending.specs.Plain.{tells_of}
@@ -25,11 +25,12 @@ use Rattle.fj_units.specs.Returning.{IsAsDue}
 use Rattle.fj_units.specs.Units.{has_slot}
 use Rattle.fj_items.specs.Handing.{whole_records, HandsPart}
 use Rattle.fj_items.specs.declared.lost.Lost.{Lost}
-use Rattle.fj_items.specs.declared.lost.Lost.TheVariants.{Disk, Sink, Unfit}
+use Rattle.fj_items.specs.declared.lost.Lost.TheVariants.{Disk, Sink}
 use Rattle.fj_runner.specs.Machine.{rest_of}
 use Rattle.fj_runner.specs.declared.left.Left.{Left}
 use Rattle.fj_runner.specs.declared.machine.Machine.{Machine}
 use Rattle.fj_job.specs.Cut.{Reach, Untold, Carried, reached, MayReach, ComesTo, AreLeft, IsLearnt}
+use Rattle.fj_job.specs.Fitting.{LeavesFit}
 
 -- each slot at which a unit has the file is there, and has not stopped
 abbrev pub IsServed : {E J A : Type 0} → Rack E J A → List Connected → List ℕ → Type 0
@@ -37,7 +38,8 @@ IsServed {E} {J} {A} rack units name = (slot : ℕ) → has_file units slot name
 
 -- The slots hold desks, one for each unit. Were all units closed then, each file that is at no slot that has stopped, and that the
 -- statement is not about, would be as closing all units leaves it there; and so is each one that no unit has, and that the statement
--- neither opens nor removes. The slots' jobs were given by statements until then. The disk holds `held`, and its own number rose or not.
+-- neither opens nor removes. The slots' jobs were given by statements until then. A connection that was kept is of the file that the
+-- statement opens. The disk holds `held`, and its own number rose or not.
 pub record HoldsFiles {E J A F : Type 0} {ghosts : Ghosts F} (meaning : Meaning E J A Bay Job Answer) (rack : Rack E J A) (held : Holdings) (before now : ℕ)
     (deck : Deck) (files : Files) (comes : ComesTo deck files) (reach : Reach) (m : Machine F ghosts) : Type 0 where
   pub desks : List Desk
@@ -48,24 +50,21 @@ pub record HoldsFiles {E J A F : Type 0} {ghosts : Ghosts F} (meaning : Meaning 
   pub freed : (name : List ℕ) → has_name m.state.core.units name ≡ false → file_renewed (names_in comes.before.units) comes.statement.0.what ≢ Some name
       → IsAsDue before now (files_of held name) ((all_closed (reached reach deck.variables comes.statement comes.before)).files name)
   pub given : HoldsGiven deck.variables (stated deck.statements) files meaning rack comes.index
+  pub kept : IfSome m.kept (λ c. file_opened (names_in comes.before.units) comes.statement.0.what ≡ Some c.name)
 
 -- A slot that has stopped, and that no unit has.
-pub record StopsAside {E J A : Type 0} (meaning : Meaning E J A Bay Job Answer) (rack : Rack E J A) (units : List Connected) : Type 0 where
-  pub desks : List Desk
-  pub held : HoldsDesks meaning rack desks
+pub record StopsAside {E J A : Type 0} (rack : Rack E J A) (units : List Connected) : Type 0 where
   pub slot : ℕ
   pub ledger : Ledger E J A
   pub here : slice_get rack.slots slot ≡ Some ledger
-  pub desk : Desk
-  pub has_desk : slice_get desks slot ≡ Some desk
   pub free : has_slot units slot ≡ false
   pub halted : is_some ledger.halt ≡ true
 
 -- why no more was done: the statement waits at a unit whose slot has stopped, or for one that no unit has; or it calls the disk itself, and
 -- the disk's own number rose
-abbrev pub IsCause : {E J A : Type 0} → Meaning E J A Bay Job Answer → Rack E J A → List Connected → Stated → State → ℕ → ℕ → Type 0
-IsCause meaning rack units statement s before now =
-    ((u : AwaitedUnit s statement.0.what) × (IsServed rack units u.name → ⊥)) ⊎ StopsAside meaning rack units ⊎ ((calls_disk statement.0.what ≡ true) × Rose before now)
+abbrev pub IsCause : {E J A : Type 0} → Rack E J A → List Connected → Stated → State → ℕ → ℕ → Type 0
+IsCause rack units statement s before now =
+    ((u : AwaitedUnit s statement.0.what) × (IsServed rack units u.name → ⊥)) ⊎ StopsAside rack units ⊎ ((calls_disk statement.0.what ≡ true) × Rose before now)
 
 -- Output and tells are what the execution tells up to that statement, the sink took the records that ended, and so it is of the files.
 pub record IsExact {E J A F : Type 0} {ghosts : Ghosts F} (meaning : Meaning E J A Bay Job Answer) (rack : Rack E J A) (held : Holdings) (before now : ℕ) (Tells : Type 0) (old new : List ℕ)
@@ -76,7 +75,7 @@ pub record IsExact {E J A F : Type 0} {ghosts : Ghosts F} (meaning : Meaning E J
   pub tells : tells_of m.state.core.tells ≡ (reached reach deck.variables comes.statement comes.before).tells
   pub taken : Tells → new ≡ old ++ whole_records m.state.core.output
   pub files_are : HoldsFiles meaning rack held before now deck files comes reach m
-  pub cause : (reach ≡ Carried) ⊎ IsCause meaning rack m.state.core.units comes.statement comes.before before now
+  pub cause : (reach ≡ Carried) ⊎ IsCause rack m.state.core.units comes.statement comes.before before now
 
 -- The sink took a front of the records that the output has before or behind that statement.
 pub record TookFront (old new : List ℕ) (deck : Deck) (files : Files) (comes : ComesTo deck files) : Type 0 where
@@ -101,13 +100,14 @@ abbrev pub TookSome : Deck → Files → List ℕ → List ℕ → Type 0
 TookSome deck files old new = (part rest : List ℕ) × IsOutputSoFar deck files (part ++ rest) × (new ≡ old ++ part)
 
 -- The run was cut at the statement at hand. What was told and written is exact where nothing is lost but by the disk. Of the files it is
--- known unless something does not fit, and where the sink failed of what it took, too.
+-- known whatever is lost, and where the sink failed of what it took, too. What the machine leaves fits.
 pub record IsCut {E J A F : Type 0} {ghosts : Ghosts F} (meaning : Meaning E J A Bay Job Answer) (rack : Rack E J A) (held : Holdings) (before now : ℕ) (Tells : Type 0) (old new : List ℕ)
     (deck : Deck) (files : Files) (m : Machine F ghosts) : Type 0 where
   pub comes : ComesTo deck files
   pub at : slice_get deck.statements m.at ≡ Some comes.statement.0
   pub exact : (m.tally.lost ≡ None) ⊎ (m.tally.lost ≡ Some Disk) → IsExact meaning rack held before now Tells old new deck files comes m
-  pub fits : (lost : Lost) → m.tally.lost ≡ Some lost → lost ≢ Unfit → HoldsFiles meaning rack held before now deck files comes Untold m
+  pub holds : (lost : Lost) → m.tally.lost ≡ Some lost → HoldsFiles meaning rack held before now deck files comes Untold m
+  pub fit : LeavesFit meaning rack m
   pub begun : Tells → m.tally.lost ≡ Some Sink → TookBegun old new deck files comes
   pub front : Tells → TookFront old new deck files comes
 

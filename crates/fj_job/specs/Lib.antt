@@ -9,5 +9,7 @@ pub mod Answers
 pub mod Asking
 pub mod Carrying
 pub mod Concluding
+pub mod Losing
+pub mod Fitting
 pub mod Executing
 pub mod Making

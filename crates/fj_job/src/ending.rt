@@ -1,31 +1,22 @@
 // A deck is carried out on slots, its files go back to the disk, and it is reported.
-ghost use Rattle.std.specs.Prelude.{◌≡◌, ◌≢◌, ◌⊎◌, ◌≤◌, ◌++◌, ◌↔◌, ℕ, [], Some, None, Ok, Err, IfNone, IfOk, IfErr, IfSome, OnOk, true, false, length, slice_get, vec_capacity, List};
+ghost use Rattle.std.specs.Prelude.{◌≡◌, ◌⊎◌, ◌≤◌, ◌++◌, ◌↔◌, ℕ, [], Some, None, Ok, Err, IfOk, IfSome, OnOk, OnErr, true, false, length, slice_get, vec_capacity, List};
 ghost use Rattle.std.specs.FinSet as set;
 ghost use Rattle.fj_outside.specs.Faults.{Rose};
+ghost use Rattle.fj_outside.specs.Holdings.{SameAt};
 ghost use Rattle.fj_statement.specs.Sound.{IsSound};
 ghost use Rattle.fj_world.specs.Alone.{AllHome};
-ghost use Rattle.fj_slot.specs.Sound.{IsSound as IsSoundSlot};
-ghost use Rattle.fj_bay.specs.Bay.{Bay as PlainBay};
-ghost use Rattle.fj_bay.specs.Jobs.{Job as PlainJob};
 ghost use Rattle.fj_bay.specs.Meaning.{bay_meaning};
-ghost use Rattle.fj_desk.specs.Desks.{Desk};
-ghost use Rattle.fj_desk.specs.Desking.{all_left};
-ghost use Rattle.fj_turns.specs.Executing.{HoldsDesks};
 ghost use Rattle.fj_items.specs.Handing.{open_record, TakesFront, TakesPart};
 ghost use Rattle.fj_pending.specs.Plain.{tells_of};
-ghost use Rattle.fj_units.specs.Names.{AreInUse};
-ghost use Rattle.fj_units.specs.Files.{files_of};
-ghost use Rattle.fj_units.specs.Having.{HaveFiles};
+ghost use Rattle.fj_units.specs.Names.{AreInUse, stands, left_of};
 ghost use Rattle.fj_runner.specs.Machine.{ending_of};
-ghost use Rattle.fj_units.specs.Returning.{IsAsDue};
-ghost use Rattle.fj_closing.specs.Losing.{is_fault, all_fits, may_tell};
-ghost use Rattle.fj_closing.specs.Closing.{AreSeated, AreNamed, IfClear, OthersRun};
-ghost use Rattle.fj_closing.specs.Finding.{IsLeftBehind, OfEach, AreSpared};
 ghost use Rattle.fj_closing.specs.Holding.{HoldUnits};
 ghost use Rattle.fj_job.specs.Answers.{IsAnswer, IsLost, IsOfRun, HasCause};
 ghost use Rattle.fj_job.specs.Reply.{status_of};
 ghost use Rattle.fj_job.specs.Concluding.{HasEnded, run_text, fault_text};
-ghost use Rattle.fj_job.specs.Executing.{IsSettled, IsCarriedOut, IsConcluded, IsExecuted, IsFaultReported, IsFrontReported, IsWriteReported};
+ghost use Rattle.fj_job.specs.Fitting.{kept_name, IsOther, AreOut};
+ghost use Rattle.fj_job.specs.Losing.{first_lost, settled_by};
+ghost use Rattle.fj_job.specs.Executing.{AreClosed, IsSettled, IsCarriedOut, IsConcluded, IsExecuted, IsFaultReported, IsFrontReported, IsWriteReported};
 
 use crate::carrying::{carry, carry_with};
 use crate::ready::{Ready, ready_for};
@@ -34,10 +25,10 @@ use crate::workers::workers_for;
 use crate::writing::write_behind;
 use fj_acts::Core;
 use fj_bay::Bay;
-use fj_closing::{Remains, finish};
+use fj_closing::{Remains, finish, give_back};
 use fj_connect::Connection;
 use fj_items::Lost;
-use fj_outside::{Disk, FileStore, Sink};
+use fj_outside::{Disk, FileStore, Sink, Stop};
 use fj_report::Status;
 use fj_runner::{Ending, Left, Machine};
 use fj_statement::{Deck, Lined, Variable};
@@ -47,28 +38,27 @@ use std::alloc::{AllocError, Global};
 use std::sync::Wait;
 use std::thread::Threads;
 
-/// What does not fit, else want of memory, else what was lost first.
-fn first_lost(lost: Option<Lost>, closed: Result<(), Lost>) -> Option<Lost>
-    ensures none { IfNone result ((lost ≡ None) × (closed ≡ Ok tt)) }
-    ensures sink { result ≡ Some Lost.Sink → (lost ≡ Some Lost.Sink) ⊎ (closed ≡ Err Lost.Sink) }
-    ensures disk { result ≡ Some Lost.Disk → (lost ≡ Some Lost.Disk) ⊎ (closed ≡ Err Lost.Disk) }
-    ensures alone { result ≡ Some Lost.Disk → (lost ≡ None) ⊎ (lost ≡ Some Lost.Disk) }
-    ensures told { IfSome result (λ first. is_fault first ≡ true → may_tell closed ≡ true) }
-    ensures fit { result ≢ Some Lost.Unfit → all_fits closed ≡ true }
-    ensures unfit { result ≡ Some Lost.Unfit → (lost ≡ Some Lost.Unfit) ⊎ (closed ≡ Err Lost.Unfit) }
-    ensures ok { closed ≡ Ok tt → result ≡ lost }
+/// Want of memory in closing, else what was lost before, else a fault of the disk in closing.
+fn first_lost(lost: Option<Lost>, closed: Result<(), Stop>) -> Option<Lost>
+    ensures { result ≡ first_lost lost closed }
 {
     match closed {
         Ok(()) => lost,
-        Err(Lost::Unfit) => Some(Lost::Unfit),
-        Err(Lost::Memory(error)) => match lost {
-            Some(Lost::Unfit) => Some(Lost::Unfit),
-            _ => Some(Lost::Memory(error)),
-        },
-        Err(other) => match lost {
+        Err(Stop::Memory(error)) => Some(Lost::Memory(error)),
+        Err(Stop::Failed) => match lost {
             Some(first) => Some(first),
-            None => Some(other),
+            None => Some(Lost::Disk),
         },
+    }
+}
+
+/// What is answered of what was lost first.
+fn settled_by(lost: Option<Lost>) -> Result<(), Lost>
+    ensures { result ≡ settled_by lost }
+{
+    match lost {
+        Some(lost) => Err(lost),
+        None => Ok(()),
     }
 }
 
@@ -154,18 +144,18 @@ fn line_of<F: FileStore>(left: &Left<F>) -> u32
     line_at(left.deck.statements.as_slice(), left.at)
 }
 
-/// Gives a connection back whose job was refused. A scratch file is removed. A run that has one was given up, and what it leaves is
-/// not known.
+/// Gives a connection back whose job was refused. A scratch file is removed.
 fn give_kept<D: Disk>(
     kept: Option<Connection<D::File>>,
     names: &mut Names,
     disk: &mut D,
-) -> Result<(), Lost>
+) -> Result<(), Stop>
     requires names { D.tells disk.old → AreInUse names.old (D.held disk.old).in_use }
     ensures names { D.tells disk.old → AreInUse names.new (D.held disk.new).in_use }
-    ensures none { OnOk result (disk.new ≡ disk.old) }
-    ensures unfit { IfErr result (λ lost. lost ≡ Lost.Unfit) }
-    ensures nothing { kept ≡ None → (result ≡ Ok tt) × (names.new ≡ names.old) }
+    ensures nothing { kept ≡ None → (names.new ≡ names.old) × (disk.new ≡ disk.old) }
+    ensures off { IfSome kept (λ c. stands names.old c.name ≡ true → names.new ≡ left_of names.old c.name) }
+    ensures others { D.tells disk.old → (name : List ℕ) → IsOther kept name → SameAt (D.held disk.old) (D.held disk.new) name }
+    ensures failed { OnErr result (Rose (D.count disk.old) (D.count disk.new)) }
     ensures own { D.tells disk.old → D.refusals disk.old ≤ D.refusals disk.new }
     ensures telling { D.tells disk.old ↔ D.tells disk.new }
     ensures later { D.count disk.old ≤ D.count disk.new }
@@ -174,17 +164,14 @@ fn give_kept<D: Disk>(
         return Ok(());
     };
     if !names.holds(connection.name()) {
-        return Err(Lost::Unfit);
+        return Ok(());
     }
-    names.remove(connection.name());
     let keep = !connection.modes().scratch;
-    let _given = connection.close_file(disk, keep);
-    Err(Lost::Unfit)
+    Ok(give_back(connection, keep, names, disk)?)
 }
 
-/// Gives the files of a run back, and answers what was lost first. Where a name would stay in use the run does not fit: it is
-/// not known, as what it lost is not.
-fn give_back<D: Disk>(
+/// Gives the files of a run back, and answers what was lost first.
+fn give_all<D: Disk>(
     left: &mut Left<D::File>,
     slots: Slots<Bay<D::File>>,
     room: Vec<Remains<D::File>>,
@@ -196,25 +183,13 @@ fn give_back<D: Disk>(
     requires names { D.tells disk.old → AreInUse left.old.core.names (D.held disk.old).in_use }
     ensures left { left.new ≡ record left.old { core = record (left.old.core) { names = left.new.core.names }; kept = None } }
     ensures nothing { OnOk result (left.old.lost ≡ None) }
-    ensures files { D.tells disk.old → OnOk result ((desks : List Desk) → HoldsDesks (bay_meaning D.File.told D.File.bytes D.File.count) slots desks
-        → AreSeated desks left.old.core.units → files_of (D.held disk.new) ≡ all_left desks left.old.core.units (files_of (D.held disk.old))) }
-    ensures due { D.tells disk.old → may_tell result ≡ true → (desks : List Desk) → HoldsDesks (bay_meaning D.File.told D.File.bytes D.File.count) slots desks
-        → AreSeated desks left.old.core.units → AreNamed desks left.old.core.units → (name : List ℕ) → set.contains (D.held disk.new).hurt name ≡ false
-        → IsAsDue (D.refusals disk.old) (D.refusals disk.new) (files_of (D.held disk.new) name) (all_left desks left.old.core.units (files_of (D.held disk.old)) name) }
-    ensures running { D.tells disk.old → may_tell result ≡ true → IfClear (D.held disk.new) left.old.core.units slots.slots (λ l. l.halt ≡ None) }
-    ensures others { all_fits result ≡ true → (desks : List Desk) → HoldsDesks (bay_meaning D.File.told D.File.bytes D.File.count) slots desks
-        → OthersRun left.old.core.units slots.slots desks }
-    ensures found { D.tells disk.old → all_fits result ≡ true → OfEach left.old.core.units slots.slots (λ u l. (s : PlainBay) (ts : List PlainJob)
-        → IsSoundSlot (bay_meaning D.File.told D.File.bytes D.File.count) s ts l → IsLeftBehind l s ts u.name (files_of (D.held disk.new) u.name)
-        (D.refusals disk.old) (D.refusals disk.new)) }
-    ensures spared { D.tells disk.old → all_fits result ≡ true → AreSpared left.old.core.units (D.held disk.old) (D.held disk.new) }
+    ensures closed { D.tells disk.old → HoldUnits (bay_meaning D.File.told D.File.bytes D.File.count) slots left.old.core.units
+        → AreOut (kept_name left.old.kept) left.old.core.names left.old.core.units → AreClosed (bay_meaning D.File.told D.File.bytes D.File.count) slots left.old.core.units left.old.kept
+        (D.held disk.old) (D.held disk.new) (D.refusals disk.old) (D.refusals disk.new) result }
     ensures own { D.tells disk.old → D.refusals disk.old ≤ D.refusals disk.new }
     ensures sink { result ≡ Err Lost.Sink → left.old.lost ≡ Some Lost.Sink }
     ensures disk { result ≡ Err Lost.Disk → (left.old.lost ≡ Some Lost.Disk) ⊎ Rose (D.count disk.old) (D.count disk.new) }
     ensures alone { result ≡ Err Lost.Disk → (left.old.lost ≡ None) ⊎ (left.old.lost ≡ Some Lost.Disk) }
-    ensures in_use { D.tells disk.old → (result ≡ Err Lost.Unfit) ⊎ ((D.held disk.new).in_use ≡ set.empty) }
-    ensures whole { left.old.lost ≡ None → left.old.kept ≡ None → HoldUnits (bay_meaning D.File.told D.File.bytes D.File.count) slots left.old.core.units
-        → HaveFiles left.old.core.names left.old.core.units → result ≢ Err Lost.Unfit }
     ensures telling { D.tells disk.old ↔ D.tells disk.new }
     ensures later { D.count disk.old ≤ D.count disk.new }
 {
@@ -223,13 +198,9 @@ fn give_back<D: Disk>(
     let core = &mut left.core;
     let closed = finish(&core.units, slots, room, &mut core.names, disk);
     let given = give_kept(kept, &mut core.names, disk);
-    if !core.names.is_empty() {
-        return Err(Lost::Unfit);
-    }
-    match first_lost(first_lost(lost, closed), given) {
-        Some(lost) => Err(lost),
-        None => Ok(()),
-    }
+    let first = first_lost(lost, closed);
+    let last = first_lost(first, given);
+    settled_by(last)
 }
 
 /// What a run left, and what was lost first, if anything was.
@@ -253,7 +224,7 @@ fn settle<D: Disk>(
     ensures settled { IsSettled D.tells D.held D.count D.refusals (bay_meaning D.File.told D.File.bytes D.File.count) machine slots disk.old disk.new result }
 {
     let mut left = machine.into_left();
-    let settled = give_back(&mut left, slots, room, disk);
+    let settled = give_all(&mut left, slots, room, disk);
     Carried { left, settled }
 }
 
@@ -309,11 +280,10 @@ fn report<F: FileStore, W: Sink>(alloc: Global, trace: bool, it: Carried<F>, out
     ensures settled { IsAnswer result → it.settled ≡ Ok tt }
     ensures ended { IsAnswer result → HasEnded trace it.left result (W.tells out.old) (W.taken out.old) (W.taken out.new) }
     ensures of_run { IsOfRun result }
-    ensures unfit { it.settled ≡ Err Lost.Unfit → result ≡ Status.Memory }
     ensures fault { (line : ℕ) → result ≡ Status.DiskFault line
         → IsFaultReported trace it line (W.tells out.old) (W.taken out.old) (W.taken out.new) (Rose (W.count out.old) (W.count out.new)) }
     ensures written { result ≡ Status.WriteFault → IsWriteReported trace it (W.tells out.old) (W.taken out.old) (W.taken out.new) }
-    ensures front { W.tells out.old → IsFrontReported trace it result (W.taken out.old) (W.taken out.new) }
+    ensures front { IsFrontReported trace it result (W.tells out.old) (W.taken out.old) (W.taken out.new) }
     ensures cause { HasCause ⊥ ((it.settled ≡ Err Lost.Sink) ⊎ Rose (W.count out.old) (W.count out.new)) (it.settled ≡ Err Lost.Disk) result }
     ensures telling { W.tells out.old ↔ W.tells out.new }
     ensures later { W.count out.old ≤ W.count out.new }

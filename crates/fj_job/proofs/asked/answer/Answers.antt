@@ -34,7 +34,7 @@ returns-in-Check g c =
           no_form = λ q. no_words Check _ tt q;
           ended = it.ended;
           refused = it.refused;
-        }) (λ t e. tt) (λ t w. it.front disk.held.files t w) it.cause (record {
+        }) (λ t e. tt) (λ t. tt) (λ t w. it.front disk.held.files t w) it.cause (record {
           aside = λ q. absurd q;
           check = λ e. tt;
           answer = λ l. tt;
@@ -93,7 +93,7 @@ returns-in-Generate g c =
           no_form = λ q. no_words task _ tt q;
           ended = λ t. ended_by c.make.result _ tt;
           refused = λ t. it.refused;
-        }) (λ t e. tt) (λ t w. it.front (g.R.Source.left c.args.deck.now) disk.held.files w) (cause_more c.make.result _ _ _ _ _ _ (λ x. absurd x) (λ x. x) (λ x. x) it.cause) (record {
+        }) (λ t e. tt) (λ t. tt) (λ t w. it.front (g.R.Source.left c.args.deck.now) disk.held.files w) (cause_more c.make.result _ _ _ _ _ _ (λ x. absurd x) (λ x. x) (λ x. x) it.cause) (record {
           aside = λ q. (refl, tt);
           check = λ q. no_check task _ tt q;
           answer = λ l. tt;

@@ -6,6 +6,7 @@ use Rattle.fj_bay.proofs.Sends.{job_sends}
 use Rattle.fj_plain.specs.Statement.{stated}
 use Rattle.fj_turns.specs.Serving.{first_run, fresh_slots}
 use Rattle.fj_units.specs.Files.{files_of}
+use Rattle.fj_closing.proofs.Ended.{bays_full}
 use Rattle.fj_job.proofs.Fresh.{few, owed, fresh_at, fit, sound_fresh}
 use Rattle.fj_job.proofs.Leading.{runner_rests}
 use Rattle.fj_job.proofs.Sends.{runner_sends}
@@ -107,4 +108,5 @@ returns-clause-cut g c = λ t sound over.
     let lost = c.serve_with.ensures.gave_up first fresh_slots known c.requires.begins.running c.requires.begins.going (fit meaning c.args.slots.now c.requires.fresh) (sym (ap (λ k. k.tally.over) m) ∙ over) in
     rw (o, d, m) (run_cut meaning _ g.W.Sink.tells g.W.Sink.taken g.W.Sink.count g.D.Disk.tells g.D.Disk.count g.D.Disk.refusals g.D.Disk.told g.D.Disk.held g.D.File.FileStore.told g.D.File.FileStore.bytes
     (λ r. r.out.now) (λ r. r.disk.now) (λ r. r.machine.now) old.deck files _ c.serve_with.new.script c.serve_with.new.slots alone lost
-    (record { over = λ a. refl; stopped = λ a. refl; state = λ a. refl; due = λ a. refl; leaves = λ a b h. h.leaves; gives_up = λ a b h. h.gives_up; asking = λ a b h. h.asking; stays = λ a b h. h.stays; reason = λ a b h. h.reason }) sound c.requires.begins refl t)
+    (record { over = λ a. refl; stopped = λ a. refl; state = λ a. refl; due = λ a. refl; leaves = λ a b h. h.leaves; gives_up = λ a b h. h.gives_up; asking = λ a b h. h.asking; stays = λ a b h. h.stays; reason = λ a b h. h.reason; keeps = λ a b h. h.keeps }) sound c.requires.begins refl t
+    (bays_full g.D.File.FileStore.told g.D.File.FileStore.bytes g.D.File.FileStore.count))

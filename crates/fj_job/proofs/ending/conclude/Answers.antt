@@ -9,7 +9,6 @@ returns-in-Ok g c = record {
         ended = c.report.ensures.ended;
         begun = tt;
         of_run = c.report.ensures.of_run;
-        unfit = c.report.ensures.unfit;
         fault = c.report.ensures.fault;
         written = c.report.ensures.written;
         front = c.report.ensures.front;

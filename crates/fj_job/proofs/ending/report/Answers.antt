@@ -16,12 +16,12 @@ returns-in-Some-clause-ended g c = λ a. record {
 }
 
 pub returns-in-Some-clause-front : goal.returns-in-Some-clause-front
-returns-in-Some-clause-front g c = λ w. inr (inr (record {
+returns-in-Some-clause-front g c = inr (inr (record {
   settled = c.in-Ok.is;
   going = c.in-Some.ensures.0;
   ending = c.in-Some.ending;
   ends = c.in-Some.ensures.1;
-  taken = rw (← c.as_slice.ensures) (c.write_run.ensures.front w);
+  taken = λ w. rw (← c.as_slice.ensures) (c.write_run.ensures.front w);
 }))
 
 pub returns-in-Some-clause-written : goal.returns-in-Some-clause-written
@@ -34,12 +34,12 @@ returns-in-Some-clause-written g c = λ e. inr (record {
 })
 
 pub returns-in-Err-Disk-clause-front : goal.returns-in-Err-Disk-clause-front
-returns-in-Err-Disk-clause-front g c = λ w. inr (inl (record {
+returns-in-Err-Disk-clause-front g c = inr (inl (record {
   settled = search rules;
   line = c.line_of.result;
   answer = of_report c.write_fault.result c.line_of.result c.write_fault.ensures.status;
   line_is = c.line_of.ensures;
-  taken = c.write_fault.ensures.front w;
+  taken = λ w. c.write_fault.ensures.front w;
 }))
 
 pub returns-in-Err-Disk-clause-fault : goal.returns-in-Err-Disk-clause-fault

@@ -5,7 +5,7 @@ use Rattle.fj_job.proofs.RunLaws.{run_nothing}
 use Rattle.fj_job.proofs.job.alone_job.Goals as goal
 
 pub returns-in_default : goal.returns-in_default
-returns-in_default g c = run_nothing _ _ _ _ refl refl refl refl (((λ t. t, λ t. t), omega arith), ((λ t. t, λ t. t), omega arith), ((λ t. t, λ t. t), omega arith))
+returns-in_default g c = run_nothing _ _ _ _ refl refl c.requires refl refl refl (((λ t. t, λ t. t), omega arith), ((λ t. t, λ t. t), omega arith), ((λ t. t, λ t. t), omega arith))
 
 pub returns-in-Answered : goal.returns-in-Answered
 returns-in-Answered g c =
