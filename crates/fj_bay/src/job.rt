@@ -25,7 +25,7 @@ pub enum Job<F: FileStore> {
 }
 
 /// What a job ended with.
-#[derive(Clone, Copy, Debug, PartialEq, Eq)]
+#[derive(Clone, Copy, PartialEq, Eq)]
 pub enum Answer {
     Done(Condition),
     /// Not carried out in a halt, with its cause.

@@ -23,7 +23,7 @@ use std::collections::VecDeque;
 use std::marker::Model;
 
 /// The pending transfers, seen as their list.
-#[derive(Debug, Drop)]
+#[derive(Drop)]
 pub struct Book {
     entries: VecDeque<Pending>,
     inputs: Counts,

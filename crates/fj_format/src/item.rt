@@ -7,7 +7,7 @@ use fj_value::{Edit, Items, Text};
 use std::alloc::{AllocError, Global};
 
 /// A change of a mode by a control edit descriptor (10.7.4, 10.7.6 and 10.7.8).
-#[derive(Clone, Copy, Debug, PartialEq, Eq)]
+#[derive(Clone, Copy, PartialEq, Eq)]
 pub enum ModeStep {
     /// `SP`.
     Plus,

@@ -19,7 +19,7 @@ use fj_value::{Items, Place, Text};
 use std::alloc::{AllocError, Global};
 
 /// What the names in a transfer stand for.
-#[derive(Debug, Drop)]
+#[derive(Drop)]
 pub struct Parts {
     /// The members of its group.
     pub group: Option<Vars>,
