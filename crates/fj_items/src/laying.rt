@@ -69,6 +69,15 @@ fn members_among(
     }
 }
 
+/// The layout of a transfer that has no group.
+pub(crate) fn layout_of_items(control: &Control) -> Result<Layout, AllocError> {
+    match control {
+        Control::Explicit(format) => Ok(Layout::Explicit(format.try_clone()?)),
+        Control::Listed | Control::Group { .. } => Ok(Layout::Listed),
+        Control::Unformatted => Ok(Layout::Unformatted),
+    }
+}
+
 /// The layout of a transfer with these cells.
 pub(crate) fn layout_for(
     alloc: Global,

@@ -11,19 +11,19 @@ ghost use Rattle.fj_transfer.specs.Printing.{IsRecords, actions_by, control_of, 
 ghost use Rattle.fj_items.specs.Handing.{open_record, ended_part, printed_on, IsPrinted, HandsOver, HandsFront, HandsPart, TakesFront, TakesPart};
 ghost use Rattle.fj_items.specs.Kinds.{kinds_of};
 
-use crate::copying::copied;
-use crate::laying::{is_grouped, layout_for};
+use crate::gathering::gather;
+use crate::laying::{is_grouped, layout_for, layout_of_items};
 use crate::lost::Lost;
 use crate::refusing::is_formatted;
 use crate::sink::put_all;
 use fj_line::Unwritten;
-use fj_list::Load;
+use fj_list::{Load, OutputItems};
 use fj_modes::usual_edit;
 use fj_outside::Sink;
-use fj_statement::{Transfer, Variables};
+use fj_statement::{Control, Transfer, Variables};
 use fj_store::Store;
-use fj_transfer::{EditChange, Layout, print_onto};
-use fj_value::{Condition, EditModes, Text};
+use fj_transfer::{EditChange, Layout, print_items_onto, print_onto};
+use fj_value::{Condition, EditModes, Kind, Text, Value};
 use std::alloc::{AllocError, Global};
 use std::marker::Model;
 use std::snapshot::Snapshot;
@@ -36,6 +36,63 @@ fn ends_record(layout: &Layout, advance: bool) -> bool
     ensures { result ≡ (advance || not (is_explicit layout.now)) }
 {
     advance || !matches!(layout, Layout::Explicit(_))
+}
+
+/// What a WRITE on `*` prints: copies of its items, or the values of a variable where they stand.
+#[derive(Drop)]
+enum Shown<'a> {
+    Copied(Load),
+    Row(Kind, &'a [Value]),
+}
+
+impl<'a> Shown<'a> {
+    /// How many cells they are.
+    fn len(&self) -> usize
+        ensures { result ≡ length (shown_cells self.now) }
+    {
+        match self {
+            Shown::Copied(moved) => moved.len(),
+            Shown::Row(_, values) => values.len(),
+        }
+    }
+
+    /// The same as `print_onto` and `print_items_onto`.
+    fn print(
+        &self,
+        layout: &Layout,
+        advance: bool,
+        modes: EditModes,
+        begun: u32,
+        out: &mut Text,
+    ) -> Result<u64, Unwritten> {
+        match self {
+            Shown::Copied(moved) => {
+                print_onto(layout, advance, modes, moved, STAR_LIMIT, begun, out)
+            }
+            Shown::Row(kind, values) => {
+                let items = OutputItems::of_row(*kind, values);
+                print_items_onto(layout, advance, modes, items, STAR_LIMIT, begun, out)
+            }
+        }
+    }
+}
+
+/// The items of a WRITE where they stand, where they are one run of a variable and no group, or else copied.
+fn shown<'a>(
+    alloc: Global,
+    variables: &Variables,
+    store: &'a mut Store,
+    t: &Transfer,
+) -> Result<Shown<'a>, Lost> {
+    let gathered = gather(alloc, variables, t)?;
+    if !matches!(t.control, Control::Group { .. }) && store.row(&gathered.pieces).is_some() {
+        let Some((kind, values)) = store.row(&gathered.pieces) else {
+            return Err(Lost::Unfit);
+        };
+        return Ok(Shown::Row(kind, values));
+    }
+    let moved = store.copy_of(alloc, gathered.pieces, gathered.size)?;
+    Ok(Shown::Copied(moved))
 }
 
 /// What was written on unit `*`. The records that ended were handed on; the characters of the one that is open are kept.
@@ -131,7 +188,7 @@ impl Output {
         layout: &Layout,
         advance: bool,
         modes: EditModes,
-        moved: &Load,
+        moved: &Shown,
     ) -> Result<Condition, Lost>
         requires records { IsRecords layout.now }
         requires grouped { All (IsWithin (length moved.now.cells)) (members_of layout.now) }
@@ -152,15 +209,7 @@ impl Output {
         if begun > STAR_LIMIT as usize {
             return Err(Lost::Unfit);
         }
-        match print_onto(
-            layout,
-            advance,
-            modes,
-            moved,
-            STAR_LIMIT,
-            begun as u32,
-            &mut self.open,
-        ) {
+        match moved.print(layout, advance, modes, begun as u32, &mut self.open) {
             Ok(count) => {
                 self.hand_on(alloc, out, count as usize)?;
                 self.leave(ends_record(layout, advance));
@@ -219,8 +268,11 @@ pub fn write_star<W: Sink>(
     if !is_formatted(&t.control) {
         return Ok(Condition::Error(16));
     }
-    let moved = copied(alloc, variables, store, t)?;
-    let layout = layout_for(alloc, variables, &moved, &t.control)?;
+    let moved = shown(alloc, variables, store, t)?;
+    let layout = match &moved {
+        Shown::Copied(load) => layout_for(alloc, variables, load, &t.control)?,
+        Shown::Row(_, _) => layout_of_items(&t.control)?,
+    };
     if !is_grouped(moved.len(), &layout) {
         return Err(Lost::Unfit);
     }

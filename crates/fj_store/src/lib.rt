@@ -8,6 +8,7 @@ mod laws;
 mod piece;
 mod run;
 mod slot;
+mod slots;
 mod store;
 mod table;
 mod taken;

@@ -3,7 +3,9 @@ ghost use Rattle.std.specs.Prelude.{◌≡◌};
 ghost use Rattle.std.specs.List.{list_any};
 ghost use Rattle.std.specs.Option.{option_map_or};
 ghost use Rattle.fj_store.specs.Variables.{is_undefined};
+ghost use Rattle.fj_store.specs.Slots.{slot_of};
 ghost use Rattle.fj_store.specs.Taking.{value_read, mark_of};
+ghost use Rattle.fj_value.specs.declared.value.Value.{Value as AnyValue};
 ghost use Rattle.fj_value.specs.declared.value.Value.TheVariants.{Undefined};
 
 use fj_value::Value;
@@ -17,25 +19,45 @@ pub(crate) enum Slot {
     Out(u32),
 }
 
-// A variable of a million elements takes 24 bytes for each at most.
-const _: () = prove!(size_of::<Slot>() <= 24);
+/// What stands at a place beside its value: the value is at home, or it is moved out; and the mark.
+#[derive(Clone, Copy, Debug)]
+pub(crate) enum Mark {
+    Home(u32),
+    Out(u32),
+}
 
-impl Slot {
-    pub(crate) fn mark(&self) -> u32
-        ensures { result ≡ mark_of self.now }
+// With a value of 16 bytes an element of a variable takes 24.
+const _: () = prove!(size_of::<Mark>() <= 8);
+
+impl Mark {
+    pub(crate) fn number(self) -> u32
+        ensures { (v : AnyValue) → result ≡ mark_of (slot_of self v) }
     {
         match self {
-            Slot::Home(mark, _) | Slot::Out(mark) => *mark,
+            Mark::Home(number) | Mark::Out(number) => number,
         }
     }
 
-    /// Whether the value is undefined; one that is moved out is.
-    pub(crate) fn is_undefined(&self) -> bool
-        ensures { result ≡ is_undefined (value_read self.now) }
+    /// What stands at a place with this mark and a value.
+    pub(crate) fn with(self, value: Value) -> Slot
+        ensures { result ≡ slot_of self value }
     {
         match self {
-            Slot::Home(_, value) => matches!(value, Value::Undefined),
-            Slot::Out(_) => true,
+            Mark::Home(number) => Slot::Home(number, value),
+            Mark::Out(number) => Slot::Out(number),
+        }
+    }
+}
+
+impl Slot {
+    /// The mark and the value apart. One that is moved out is undefined.
+    pub(crate) fn apart(self) -> (Mark, Value)
+        ensures slot { slot_of result.0 result.1 ≡ self }
+        ensures value { result.1 ≡ value_read self }
+    {
+        match self {
+            Slot::Home(number, value) => (Mark::Home(number), value),
+            Slot::Out(number) => (Mark::Out(number), Value::Undefined),
         }
     }
 }
@@ -50,9 +72,9 @@ pub(crate) fn value_of(slot: Option<Slot>) -> Value
     }
 }
 
-/// Whether one of some values is undefined; one that is moved out is.
-pub(crate) fn any_undefined(slots: &[Slot]) -> bool
-    ensures { result ≡ list_any (λ slot. is_undefined (value_read slot)) slots.now }
+/// Whether one of some values is undefined.
+pub(crate) fn any_undefined(values: &[Value]) -> bool
+    ensures { result ≡ list_any is_undefined values.now }
 {
-    slots.iter().any(|slot| slot.is_undefined())
+    values.iter().any(|value| matches!(value, Value::Undefined))
 }

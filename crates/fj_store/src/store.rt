@@ -2,6 +2,7 @@
 ghost use Rattle.std.specs.Prelude.{◌≡◌, ◌<◌, ◌≤◌, ◌∷◌, [], length, map, replicate, IfSome, IfOk, OnOk, OnErr};
 ghost use Rattle.std.specs.List.{list_any};
 ghost use Rattle.std.specs.Option.{option_copied};
+ghost use Rattle.fj_list.specs.Items.{items_of, of_kind as of_items};
 ghost use Rattle.fj_list.specs.Load.{moved_row};
 ghost use Rattle.fj_store.specs.Places.{places_of, places_in};
 ghost use Rattle.fj_store.specs.Tables.{with_element, with_cells};
@@ -19,7 +20,7 @@ use crate::kinds::{kind_in, of_kind};
 use crate::piece::Piece;
 use crate::run::Run;
 use crate::slot::{Slot, any_undefined};
-use crate::table::Table;
+use crate::slots::Slots;
 use crate::taken::{count_of, room_for, take_places};
 use fj_list::{Cells, Load, Moved, Row, Shape};
 use fj_value::{Cell, Items, Kind, Place, Value};
@@ -31,7 +32,7 @@ use std::marker::Model;
 #[derive(Debug, Drop)]
 pub struct Store {
     kinds: Vec<Kind>,
-    slots: Table<Slot>,
+    slots: Slots,
 }
 
 impl Model for Store {
@@ -42,21 +43,8 @@ impl Model for Store {
     ghost view = { λ store. storage store.kinds.items store.slots };
 }
 
-/// So many places that are undefined.
-fn undefined_row(alloc: Global, count: u32) -> Result<Items<Slot>, AllocError>
-    ensures { IfOk result (λ row. row ≡ replicate count (Home 0 Undefined)) }
-{
-    let mut row = Items::new(alloc);
-    row.reserve(count as usize)?;
-    for at in 0..count {
-        let _ = at;
-        row.push(Slot::Home(0, Value::Undefined))?;
-    }
-    Ok(row)
-}
-
 /// Puts the values of cells back, each at its place.
-fn put_back(slots: &mut Table<Slot>, kinds: &[Kind], cells: Vec<Cell>)
+fn put_back(slots: &mut Slots, kinds: &[Kind], cells: Vec<Cell>)
     ensures { slots.new ≡ with_cells (home kinds.now) cells.items slots.old }
 {
     for cell in cells {
@@ -71,7 +59,7 @@ fn put_back(slots: &mut Table<Slot>, kinds: &[Kind], cells: Vec<Cell>)
 }
 
 /// Puts the values of a row back.
-fn put_row(slots: &mut Table<Slot>, kinds: &[Kind], row: Row)
+fn put_row(slots: &mut Slots, kinds: &[Kind], row: Row)
     ensures { slots.new ≡ with_cells (home kinds.now) (moved_row row).cells slots.old }
 {
     let Row {
@@ -110,10 +98,10 @@ impl Store {
         ensures { IfOk result (λ store. store ≡ all_undefined variables.now) }
     {
         let mut kinds = Vec::new(alloc);
-        let mut slots = Table::new(alloc);
+        let mut slots = Slots::new(alloc);
         for (kind, count) in variables {
             kinds.push(*kind)?;
-            slots.push(undefined_row(alloc, *count)?)?;
+            slots = slots.push_undefined(alloc, *count)?;
         }
         Ok(Store { kinds, slots })
     }
@@ -122,10 +110,7 @@ impl Store {
     pub fn read(&self, place: Place) -> Option<&Value>
         ensures { option_copied result ≡ value_at self.now place }
     {
-        match self.slots.get(place) {
-            Some(Slot::Home(_, value)) => Some(value),
-            Some(Slot::Out(_)) | None => None,
-        }
+        self.slots.value(place)
     }
 
     /// Whether a place of a run is undefined. One that is moved out is.
@@ -135,8 +120,8 @@ impl Store {
         if run.count == 0 {
             return false;
         }
-        match self.slots.at_run(run) {
-            Some(slots) => any_undefined(slots),
+        match self.slots.values_of(run) {
+            Some(values) => any_undefined(values),
             None => true,
         }
     }
@@ -162,15 +147,25 @@ impl Store {
         Ok(taken.into_moved())
     }
 
+    /// The values of items and their kind, one behind the other, where the items are one run of a variable that has its places. One
+    /// that is moved out is undefined.
+    pub fn row(&self, pieces: &VecDeque<Piece>) -> Option<(Kind, &[Value])>
+        ensures { IfSome result (λ row. of_items row.0 row.1.now ≡ items_of (moved_of (cells_in self.now pieces.now.items))) }
+    {
+        let run = only_run(pieces)?;
+        let values = self.slots.values_of(run)?;
+        Some((kind_in(&self.kinds, run.var), values))
+    }
+
     /// Copies the values of a run, whose places are distinct, in their order; none where the variable has not all of them.
     fn copy_of_run(&self, alloc: Global, run: Run) -> Result<Option<Load>, AllocError>
         ensures { IfOk result (λ o. IfSome o (λ load. load ≡ moved_of (map (cell_at self.now) (places_of run)))) }
     {
-        let Some(slots) = self.slots.at_run(run) else {
+        let Some(values) = self.slots.values_of(run) else {
             return Ok(None);
         };
         let kind = kind_in(&self.kinds, run.var);
-        let values = copy_row(alloc, slots)?;
+        let values = copy_row(alloc, values)?;
         let first = Place {
             var: run.var,
             index: run.first,

@@ -1,0 +1,130 @@
+// What stands at the places of the variables: the values of each one behind the other, and apart from them the marks.
+ghost use Rattle.std.specs.Prelude.{◌≡◌, ◌<◌, ◌∷◌, ◌++◌, [], true, map, is_none, replicate, unwrap_or, IfSome, IfNone, IfOk, OnOk, OnErr};
+ghost use Rattle.std.specs.List.{list_any};
+ghost use Rattle.std.specs.Option.{option_copied, option_flatten, option_map};
+ghost use Rattle.fj_store.specs.Places.{places_of};
+ghost use Rattle.fj_store.specs.Slots.{slots_of};
+ghost use Rattle.fj_store.specs.Storage.{value_in};
+ghost use Rattle.fj_store.specs.Tables.{element_at, with_element};
+ghost use Rattle.fj_store.specs.Taking.{mark_of, value_read};
+ghost use Rattle.fj_store.specs.declared.slot.Slot.TheVariants.{Home};
+ghost use Rattle.fj_value.specs.declared.value.Value.TheVariants.{Undefined};
+
+use crate::run::Run;
+use crate::slot::{Mark, Slot};
+use crate::table::Table;
+use fj_value::{Items, Place, Value};
+use std::alloc::{AllocError, Global};
+use std::marker::Model;
+
+/// By variable, what stands at each of its places. Contracts see it as a list of lists.
+#[derive(Debug, Drop)]
+pub(crate) struct Slots {
+    marks: Table<Mark>,
+    values: Table<Value>,
+}
+
+impl Model for Slots {
+    ghost use Rattle.std.specs.Prelude.{List};
+    ghost use Rattle.fj_store.specs.declared.slot.Slot.{Slot as AnySlot};
+    ghost use Rattle.fj_store.specs.Slots.{AreMarked, slots_of};
+
+    ghost Value = { List (List AnySlot) };
+
+    ghost view = { λ slots. slots_of slots.marks slots.values };
+
+    ghost invariant = { λ slots. AreMarked slots.marks slots.values };
+}
+
+/// So many copies of one element.
+fn row_of<T: Copy + Drop>(alloc: Global, count: u32, element: T) -> Result<Items<T>, AllocError>
+    ensures { IfOk result (λ row. row ≡ replicate count element) }
+{
+    let mut row = Items::new(alloc);
+    row.reserve(count as usize)?;
+    for at in 0..count {
+        let _ = at;
+        row.push(element)?;
+    }
+    Ok(row)
+}
+
+/// So many values that are undefined.
+fn undefined_row(alloc: Global, count: u32) -> Result<Items<Value>, AllocError>
+    ensures { IfOk result (λ row. row ≡ replicate count Undefined) }
+{
+    let mut row = Items::new(alloc);
+    row.reserve(count as usize)?;
+    for at in 0..count {
+        let _ = at;
+        row.push(Value::Undefined)?;
+    }
+    Ok(row)
+}
+
+impl Slots {
+    /// No variables.
+    pub(crate) fn new(alloc: Global) -> Slots
+        ensures { result ≡ [] }
+    {
+        Slots {
+            marks: Table::new(alloc),
+            values: Table::new(alloc),
+        }
+    }
+
+    /// Adds a variable with so many places, all undefined. After want of memory nothing is said of it.
+    pub(crate) fn push_undefined(mut self, alloc: Global, count: u32) -> Result<Slots, AllocError>
+        ensures { IfOk result (λ slots. slots ≡ self ++ replicate count (Home 0 Undefined) ∷ []) }
+    {
+        self.marks.push(row_of(alloc, count, Mark::Home(0))?)?;
+        self.values.push(undefined_row(alloc, count)?)?;
+        Ok(self)
+    }
+
+    /// The value at a place; none where it is moved out.
+    pub(crate) fn value(&self, place: Place) -> Option<&Value>
+        ensures { option_copied result ≡ option_flatten (option_map value_in (element_at self.now place)) }
+    {
+        match self.marks.get(place) {
+            Some(Mark::Home(_)) => self.values.get(place),
+            Some(Mark::Out(_)) | None => None,
+        }
+    }
+
+    /// The mark of a place, if there is such a place.
+    pub(crate) fn mark(&self, place: Place) -> Option<u32>
+        ensures { result ≡ option_map mark_of (element_at self.now place) }
+    {
+        match self.marks.get(place) {
+            Some(mark) => Some(mark.number()),
+            None => None,
+        }
+    }
+
+    /// The values of a run, one behind the other, if there are all its places. One that is moved out is undefined.
+    pub(crate) fn values_of(&self, run: Run) -> Option<&[Value]>
+        ensures some { IfSome result (λ row. row.now ≡ map (λ place. unwrap_or (option_map value_read (element_at self.now place)) Undefined) (places_of run)) }
+        ensures none { IfNone result (0 < run.count → list_any (λ place. is_none (element_at self.now place)) (places_of run) ≡ true) }
+    {
+        self.values.at_run(run)
+    }
+
+    /// Puts what stands at a place, and answers what stood there. Where there is no such place nothing changes.
+    pub(crate) fn replace(&mut self, place: Place, slot: Slot) -> Option<Slot>
+        ensures old { result ≡ element_at self.old place }
+        ensures new { self.new ≡ with_element self.old place slot }
+    {
+        let (mark, value) = slot.apart();
+        let mark = self.marks.replace(place, mark)?;
+        let value = self.values.replace(place, value)?;
+        Some(mark.with(value))
+    }
+
+    /// Puts what stands at a place, and drops what stood there. Where there is no such place nothing changes.
+    pub(crate) fn put(&mut self, place: Place, slot: Slot)
+        ensures { self.new ≡ with_element self.old place slot }
+    {
+        let _ = self.replace(place, slot);
+    }
+}
