@@ -7,6 +7,7 @@ ghost use Rattle.fj_store.specs.Slots.{slots_of};
 ghost use Rattle.fj_store.specs.Storage.{value_in};
 ghost use Rattle.fj_store.specs.Tables.{element_at, with_element};
 ghost use Rattle.fj_store.specs.Taking.{mark_of, value_read};
+ghost use Rattle.fj_store.specs.declared.slot.Mark.TheVariants as marked;
 ghost use Rattle.fj_store.specs.declared.slot.Slot.TheVariants.{Home};
 ghost use Rattle.fj_value.specs.declared.value.Value.TheVariants.{Undefined};
 
@@ -36,17 +37,13 @@ impl Model for Slots {
     ghost invariant = { λ slots. AreMarked slots.marks slots.values };
 }
 
-/// So many copies of one element.
-fn row_of<T: Copy + Drop>(alloc: Global, count: u32, element: T) -> Result<Items<T>, AllocError>
-    ensures { IfOk result (λ row. row ≡ replicate count element) }
+/// So many marks of places at home.
+fn home_row(alloc: Global, count: u32) -> Result<Items<Mark>, AllocError>
+    ensures { IfOk result (λ row. row ≡ replicate count (marked.Home 0)) }
 {
-    let mut row = Items::new(alloc);
-    row.reserve(count as usize)?;
-    for at in 0..count {
-        let _ = at;
-        row.push(element)?;
-    }
-    Ok(row)
+    let mut row = Vec::new(alloc);
+    row.resize(count as usize, Mark::Home(0))?;
+    Ok(Items::from_vec(row))
 }
 
 /// So many values that are undefined.
@@ -77,7 +74,7 @@ impl Slots {
     pub(crate) fn push_undefined(mut self, alloc: Global, count: u32) -> Result<Slots, AllocError>
         ensures { IfOk result (λ slots. slots ≡ self ++ replicate count (Home 0 Undefined) ∷ []) }
     {
-        self.marks.push(row_of(alloc, count, Mark::Home(0))?)?;
+        self.marks.push(home_row(alloc, count)?)?;
         self.values.push(undefined_row(alloc, count)?)?;
         Ok(self)
     }
