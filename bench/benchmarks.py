@@ -18,7 +18,8 @@ WORKERS = [["alone"], *(["run", "--workers", number] for number in ("1", "2", "4
 
 @dataclasses.dataclass
 class Benchmark:
-    """A deck with its program. A file is due by its bytes, or by the list of its numbers where layouts differ."""
+    """A deck with its program. A file is due by its bytes, or by the list of its numbers where layouts differ; what is printed likewise, by
+    numbers and the text behind them. The program of gfortran runs with the environment that is given, beside what stands there."""
     deck: str
     program: str
     printed: str
@@ -27,6 +28,8 @@ class Benchmark:
     shown: str = ""
     inputs: dict = dataclasses.field(default_factory=dict)
     files: dict = dataclasses.field(default_factory=dict)
+    numbers: list | None = None
+    environment: dict = dataclasses.field(default_factory=dict)
     runs: int = RUNS
     flags: tuple = ()
     measured: str = ""
@@ -162,21 +165,22 @@ def first():
     )
 
 
-def star_whole():
-    """All numbers on standard output."""
-    done = ["WRITE(*,'(10I8)') V"]
-    shown = rows(range(1, ALL + 1), 10)
+def star_whole(listing):
+    """All numbers on standard output, under a format or list-directed."""
+    done = ["WRITE(*,*) V" if listing else "WRITE(*,'(10I8)') V"]
+    shown = "" if listing else rows(range(1, ALL + 1), 10)
     return Benchmark(
         deck=text([f"INTEGER V({ALL})", *FILLED, *done, "END"]),
         base=text([f"INTEGER V({ALL})", *FILLED, "END"]),
         program=program_of([f"integer, save :: v({ALL})"], FILLED, done),
         printed=shown + elements(False),
         shown=shown,
+        numbers=list(range(1, ALL + 1)) if listing else None,
         inputs={"values": little(range(1, ALL + 1))},
     )
 
 
-def star_single():
+def star_single(environment):
     """Many statements on standard output."""
     line = "WRITE(*,'(I8)') K"
     shown = rows([42] * MANY, 1)
@@ -185,6 +189,7 @@ def star_single():
         program=program_of(["integer :: i, k"], ["k = 42"], [f"do i = 1, {MANY}", line, "end do"]),
         printed=shown + "= ended\nK = 42\n",
         shown=shown,
+        environment=environment,
     )
 
 
@@ -250,7 +255,14 @@ def overlap():
 # a deck has 100,000 statements at most
 MOST_PENDING = 99_996
 
-BENCHMARKS = {"first": first, "star all": star_whole, "star many": star_single, "records": records}
+BENCHMARKS = {
+    "first": first,
+    "star all": functools.partial(star_whole, False),
+    "star list all": functools.partial(star_whole, True),
+    "star many": functools.partial(star_single, {}),
+    "star many unbuffered": functools.partial(star_single, {"GFORTRAN_UNBUFFERED_PRECONNECTED": "y"}),
+    "records": records,
+}
 for one in KINDS:
     for verb, way in (("write", False), ("read", True)):
         BENCHMARKS[f"{verb} {one} all"] = functools.partial(whole, one, way)

@@ -1,6 +1,6 @@
 -- What each kind of statement does, and the output on unit `*` while it does.
 use Rattle.std.proofs.Common.{◌≡◌, ℕ, Bool, true, false, List, [], ◌∷◌, ◌++◌, Option, Some, None, Result, Ok, Err, refl, sym, ap, subst, ◌∙◌}
-use Rattle.std.specs.Prelude.{ℤ, if◌then◌else◌, OnErr}
+use Rattle.std.specs.Prelude.{ℤ, ◌&&◌, unwrap_or, if◌then◌else◌, OnErr}
 use Rattle.std.specs.List.{list_any}
 use Rattle.fj_value.specs.declared.condition.Condition.{Condition}
 use Rattle.fj_value.specs.declared.condition.Condition.TheVariants as condition
@@ -27,7 +27,7 @@ use Rattle.fj_plain.specs.Statement.{control_by, file_asked}
 use Rattle.fj_desk.specs.Core.{Core, Connected, connected_at, unit_named}
 use Rattle.fj_desk.specs.Desks.{Outcome, most_slots}
 use Rattle.fj_desk.specs.Doing.{Doing, finishes}
-use Rattle.fj_desk.specs.Acting.{all_closed, asks_connection, attaches, changes, closes_anyway, closes_first, connects, connects_at, doing, free_from, if_numbered, inquires, instead, is_taken, opens, opens_with, own, unit_at}
+use Rattle.fj_desk.specs.Acting.{all_closed, asks_connection, attaches, changes, closes, closes_anyway, closes_first, connects, connects_at, doing, free_from, if_numbered, inquires, instead, is_taken, opens, opens_with, own, unit_at}
 use Rattle.fj_items.specs.Handing.{HandsFront, HandsPart, whole_records}
 use Rattle.fj_items.proofs.Prints.{on_err}
 use Rattle.fj_acts.specs.Doing.{AsksAbout, looks}
@@ -88,6 +88,10 @@ inquires_output : (variables : List Variable) (core : Core) (number : Option ℕ
 inquires_output variables core number file asked id None = refl
 inquires_output variables core number file asked id (Some u) = either_output core (list_any (λ (w : Wanted). asks_connection w.what) asked) _ _ refl refl
 
+close_output : (core : Core) (keep : Option Bool) (found : Option Connected) → (core_at (closes core keep found)).output ≡ core.output
+close_output core keep None = refl
+close_output core keep (Some u) = either_output core (unwrap_or keep false && u.modes.scratch) _ _ refl refl
+
 closed_output : (core : Core) (keep : Option Bool) (k : Condition) (found : Option Connected) → (core_at (closes_anyway core keep k found)).output ≡ core.output
 closed_output core keep k None = refl
 closed_output core keep k (Some u) = refl
@@ -139,6 +143,18 @@ pub open_front : {A E : Type 0} (r : Result A E) (taken : List ℕ) (variables :
 open_front r taken variables line core what unit spec iostat e =
     takes_nothing r taken core (own (control_by what) variables line core what)
     (ap (λ (d : Doing). (core_at d).output) (sym (own_is variables line core what (statement.OpenUnit unit spec iostat) e)) ∙ numbered_output core (number_of unit) spec)
+
+pub close_front : {A E : Type 0} (r : Result A E) (taken : List ℕ) (variables : List Variable) (line : ℕ) (core : Core) (what : Statement) (unit : UnitRef) (keep : Option Bool) (iostat : Option Place) → what ≡ statement.CloseUnit unit keep iostat
+    → OnErr r (HandsFront taken taken core.output (core_at (own (control_by what) variables line core what)).output)
+close_front r taken variables line core what unit keep iostat e =
+    takes_nothing r taken core (own (control_by what) variables line core what)
+    (ap (λ (d : Doing). (core_at d).output) (sym (own_is variables line core what (statement.CloseUnit unit keep iostat) e)) ∙ close_output core keep (unit_at core (number_of unit)))
+
+pub end_front : {A E : Type 0} (r : Result A E) (taken : List ℕ) (variables : List Variable) (line : ℕ) (core : Core) (what : Statement) → what ≡ statement.End
+    → OnErr r (HandsFront taken taken core.output (core_at (own (control_by what) variables line core what)).output)
+end_front r taken variables line core what e =
+    takes_nothing r taken core (own (control_by what) variables line core what)
+    (ap (λ (d : Doing). (core_at d).output) (sym (own_is variables line core what statement.End e)) ∙ ended_output core core.units condition.Fine)
 
 pub inquire_front : {A E : Type 0} (r : Result A E) (taken : List ℕ) (variables : List Variable) (line : ℕ) (core : Core) (what : Statement) (subject : Subject) (asked : List Wanted) (id : Option Operand) (iostat : Option Place)
     → what ≡ statement.Inquire subject asked id iostat → OnErr r (HandsFront taken taken core.output (core_at (own (control_by what) variables line core what)).output)

@@ -20,7 +20,7 @@ use Rattle.fj_modes.specs.declared.asked.Wanted.{Wanted}
 use Rattle.fj_connect.specs.declared.spot.Look.{Look}
 use Rattle.fj_statement.specs.declared.deck.Variable.{Variable}
 use Rattle.fj_bay.specs.Jobs.{Looked}
-use Rattle.fj_bay.specs.Plain.{looked_of}
+use Rattle.fj_bay.specs.Plain.{looked_of, task_of}
 use Rattle.fj_plain.specs.Inquiring as plain
 use Rattle.fj_plain.specs.State.{Files}
 use Rattle.fj_plain.specs.Statement.{Stated, about_other, about_connected, file_asked, has_pending}
@@ -319,16 +319,16 @@ looks_is variables core (statement.Transfer t) subject asked id x asks = absurd 
 looks_is variables core statement.End subject asked id x asks = absurd asks
 
 -- the connection is looked at first
-pub inquires_later : {F : Type 0} (reads : F → Bool) (bytes : F → List ℕ) (variables : List Variable) (st : Stated) (core : Core) (n : ℕ) (u : PlainConnected) (subject : Subject) (asked : List Wanted) (id : Option Operand)
-    → Some n ≡ unit_about (unit_named core.units) subject → Some u ≡ connected_at core.units n → true ≡ list_any (λ (w : Wanted). asks_connection w.what) asked → AsksAbout st.0.what subject asked id
-    → IsDoing reads bytes variables st core (doing.Awaits u.slot (job.Look None) then.Looks)
+pub inquires_later : {F : Type 0} (reads : F → Bool) (bytes : F → List ℕ) (variables : List Variable) (st : Stated) (core : Core) (n : ℕ) (u : PlainConnected) (subject : Subject) (asked : List Wanted) (id : Option Operand) (place : Option Look)
+    → Some n ≡ unit_about (unit_named core.units) subject → Some u ≡ connected_at core.units n → true ≡ list_any (λ (w : Wanted). asks_connection w.what) asked → AsksAbout st.0.what subject asked id → place ≡ None
+    → IsDoing reads bytes variables st core (doing.Awaits u.slot (job.Look place) then.Looks)
     (inquires variables core (unit_about (unit_named core.units) subject) (file_asked subject) asked (number_given core.vars id) (unit_at core (unit_about (unit_named core.units) subject)))
-inquires_later reads bytes variables st core n u subject asked id at is needs asks =
+inquires_later reads bytes variables st core n u subject asked id place at is needs asks empty =
     let o : Option ℕ = unit_about (unit_named core.units) subject in
     let given : Option ℤ = number_given core.vars id in
     record {
       task = task.look None;
-      is = refl;
+      is = ap (λ (p : Option Look). task_of reads bytes (job.Look p)) empty;
       gives =
           inquires_by variables core o n u (file_asked subject) asked given true at is needs
           ∙ ap (awaits u.slot (task.look None) core)

@@ -131,7 +131,7 @@ fn own<W: Sink, D: Disk>(
             unit,
             keep,
             iostat: _,
-        } => Ok(close(*unit, *keep, core)),
+        } => close(alloc, *unit, *keep, core),
         Statement::WaitFor {
             unit: _,
             id: _,
@@ -149,12 +149,13 @@ fn own<W: Sink, D: Disk>(
             iostat: _,
         } => { inquire(alloc, variables, about, asked, id.as_ref(), core, disk) }
         Statement::Transfer(t) => read_or_write(alloc, variables, lined.line, t, core, out),
-        Statement::End => Ok(close_all(fine, core)),
+        Statement::End => close_all(alloc, fine, core),
     }
 }
 
 /// What is done in its place where a condition was told.
 fn instead<F: FileStore>(
+    alloc: Global,
     variables: &Variables,
     lined: &Lined,
     condition: Condition,
@@ -181,9 +182,9 @@ fn instead<F: FileStore>(
             unit,
             keep,
             iostat: _,
-        } => { Ok(close_anyway(*unit, *keep, condition, core)) }
+        } => { close_anyway(alloc, *unit, *keep, condition, core) }
         Statement::Transfer(t) => refuse(variables, t, condition, core),
-        Statement::End => Ok(close_all(condition, core)),
+        Statement::End => close_all(alloc, condition, core),
         _ => Ok(Doing::Finishes(condition)),
     }
 }
@@ -238,6 +239,6 @@ pub fn begin<W: Sink, D: Disk>(
 {
     match condition {
         Condition::Fine => own(alloc, variables, lined, core, disk, out),
-        _ => instead(variables, lined, condition, core),
+        _ => instead(alloc, variables, lined, condition, core),
     }
 }

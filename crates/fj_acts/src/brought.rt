@@ -24,11 +24,14 @@ pub fn told_by<F: FileStore>(job: Job<F>, answer: Answer) -> Told
 {
     let condition = condition_in(answer);
     match job {
-        Job::Move(transfer) => Told {
-            moved: Some(transfer.moved),
-            count: transfer.count,
-            condition,
-        },
+        Job::Move(transfer) => {
+            let transfer = transfer.into_inner();
+            Told {
+                moved: Some(transfer.moved),
+                count: transfer.count,
+                condition,
+            }
+        }
         _ => Told {
             moved: None,
             count: None,

@@ -6,7 +6,7 @@ use fj_units::Units;
 use fj_value::Condition;
 
 /// How a statement goes on once it has the number of its job.
-#[derive(Clone, Copy, Debug, PartialEq, Eq)]
+#[derive(Clone, Copy, PartialEq, Eq)]
 pub enum Given {
     /// The transfer on a unit is pending, at the slot of its job.
     Pends { unit: u32, slot: u32 },
@@ -15,7 +15,7 @@ pub enum Given {
 }
 
 /// How a statement goes on once a connection is closed.
-#[derive(Clone, Copy, Debug, PartialEq, Eq)]
+#[derive(Clone, Copy, PartialEq, Eq)]
 pub enum After {
     /// It ends.
     Finishes(Condition),
@@ -26,7 +26,7 @@ pub enum After {
 }
 
 /// How a statement goes on once its job was carried out.
-#[derive(Debug, Drop)]
+#[derive(Drop)]
 pub enum Then {
     /// It ends with the condition of the job.
     Finishes,

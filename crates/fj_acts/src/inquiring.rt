@@ -29,7 +29,7 @@ ghost use Rattle.fj_acts.specs.Having.{HaveNext};
 
 use crate::doing::{Doing, Then};
 use crate::state::Core;
-use fj_bay::Job;
+use fj_bay::{Boxed, Job};
 use fj_connect::Look;
 use fj_inquire::{Connected, inquire_file, inquire_unit};
 use fj_items::{Lost, give_back, number_given};
@@ -297,9 +297,10 @@ pub(crate) fn inquire<D: Disk>(
         return answer_other(alloc, variables, subject, asked, core, disk);
     };
     if needs_look(asked) {
+        let place = Boxed::new(alloc, None)?;
         return Ok(Doing::Awaits {
             slot: unit.slot,
-            job: Job::Look(None),
+            job: Job::Look(place),
             then: Then::Looks,
         });
     }

@@ -34,7 +34,7 @@ use crate::doing::{After, Doing, Then};
 use crate::file_names::{file_due, keeps_name};
 use crate::lost::lost_by_stop;
 use crate::state::Core;
-use fj_bay::Job;
+use fj_bay::{Boxed, Job};
 use fj_connect::{Connection, OpenFault, open_file};
 use fj_items::Lost;
 use fj_modes::{FileName, Modes, OpenSpec, UnitRef, settle_open};
@@ -44,7 +44,12 @@ use fj_value::Condition;
 use std::alloc::Global;
 
 /// A new connection, whose file is out, goes to a slot; the units are these once it is there.
-fn attaching<F: FileStore>(slot: u32, units: Units, connection: Connection<F>) -> Doing<F>
+fn attaching<F: FileStore>(
+    slot: u32,
+    units: Units,
+    mut place: Boxed<Option<Connection<F>>>,
+    connection: Connection<F>,
+) -> Doing<F>
     requires { slot < most_slots }
     ensures doing { F.tells connection.file → (number : ℕ) (variables : List Variable) (st : Stated) (core : PlainCore) (files : Files) (opened : Result PlainConnection Condition) →
         units ≡ inserted (record { number = number; slot = slot; name = connection.name; modes = connection.modes }) core.units →
@@ -54,9 +59,10 @@ fn attaching<F: FileStore>(slot: u32, units: Units, connection: Connection<F>) -
     ensures jobs { GivesOne result }
     ensures files { (names : List (List ℕ)) (us : List PlainConnected) (what : Statement) → HaveFiles names units → HaveBeside (Some connection.name) names us what → HaveNext result names us what }
 {
+    *place.get_mut() = Some(connection);
     Doing::Awaits {
         slot,
-        job: Job::Attach(Some(connection)),
+        job: Job::Attach(place),
         then: Then::Attaches(units),
     }
 }
@@ -115,9 +121,10 @@ fn attach<D: Disk>(
         modes,
     };
     let units = core.units.with(unit)?;
+    let place = Boxed::new(alloc, None)?;
     core.names.add(&name)?;
     match open_file(alloc, disk, &name, spec, modes) {
-        Ok(connection) => Ok(attaching(slot, units, connection)),
+        Ok(connection) => Ok(attaching(slot, units, place, connection)),
         Err(fault) => {
             core.names.remove(&name);
             match fault {
@@ -239,7 +246,7 @@ fn open_other<D: Disk>(
     }
     if let Some(unit) = core.units.find(number) {
         let keep = !unit.modes.scratch;
-        return Ok(closing(unit, keep, After::Connects { number }));
+        return closing(alloc, unit, keep, After::Connects { number });
     }
     connect(alloc, number, spec, modes, core, disk)
 }

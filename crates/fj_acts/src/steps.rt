@@ -122,7 +122,7 @@ fn go_on<D: Disk>(
 {
     let number = match after {
         After::Finishes(condition) => return Ok(Doing::Finishes(condition)),
-        After::ClosesAll(condition) => return Ok(close_all(condition, core)),
+        After::ClosesAll(condition) => return close_all(alloc, condition, core),
         After::Connects { number } => number,
     };
     let Statement::OpenUnit {
@@ -144,7 +144,7 @@ fn connection_in<F: FileStore>(job: Job<F>) -> Option<Connection<F>>
     ensures { result ≡ held_in job }
 {
     match job {
-        Job::Detach(place) => place,
+        Job::Detach(place) => place.into_inner(),
         _ => None,
     }
 }
@@ -284,7 +284,7 @@ fn look_in<F: FileStore>(job: Job<F>) -> Option<Look>
     ensures { result ≡ looked_in job }
 {
     match job {
-        Job::Look(look) => look,
+        Job::Look(look) => look.into_inner(),
         _ => None,
     }
 }

@@ -1,5 +1,5 @@
 -- What the program's bays, jobs and answers are as plain data before and behind each job.
-use Rattle.std.proofs.Common.{◌≡◌, ◌≢◌, ℕ, ◌+◌, ◌<◌, ◌≤◌, ◌↔◌, ◌-◌, ◌^◌, min, Bool, true, false, List, [], take, length, Option, Some, None, Ok, Err, IsTrue, IsSome, is_some, refl, sym, ap, ◌∙◌, subst, arith, if◌then◌else◌}
+use Rattle.std.proofs.Common.{◌≡◌, ℕ, ◌<◌, ◌↔◌, Bool, true, false, List, length, Option, Some, None, Ok, Err, IsTrue, IsSome, is_some, refl, sym, ap, ◌∙◌, subst, arith, if◌then◌else◌}
 use Rattle.std.specs.Prelude.{IfSome, option_map}
 use Rattle.fj_value.specs.declared.condition.Condition.{Condition}
 use Rattle.fj_value.specs.declared.condition.Condition.TheVariants.{Fine, Error}
@@ -8,7 +8,6 @@ use Rattle.fj_outside.specs.declared.errors.Stop.{Stop}
 use Rattle.fj_outside.specs.declared.errors.Stop.TheVariants.{Failed}
 use Rattle.fj_span.specs.Change.{KeepsUpToChange}
 use Rattle.fj_span.proofs.KeptLemmas.{keeps_whole}
-use Rattle.fj_list.specs.declared.moved.Moved.{Moved}
 use Rattle.fj_connect.specs.Connection.{Connection}
 use Rattle.fj_connect.specs.Linked.{Linked, connection_of}
 use Rattle.fj_connect.specs.Positions.{ended, moved}
@@ -17,7 +16,7 @@ use Rattle.fj_connect.specs.declared.spot.Look.{Look}
 use Rattle.fj_value.specs.declared.edit.EditModes.{EditModes}
 use Rattle.fj_transfer.specs.declared.transfer.Transfer.{Transfer}
 use Rattle.fj_transfer.specs.Printing.{control_of}
-use Rattle.fj_transfer.specs.Transfer.{Done, in_error, transfer_by, transfer}
+use Rattle.fj_transfer.specs.Transfer.{in_error, transfer_by, transfer}
 use Rattle.fj_perform.specs.Performing.{comes_to, LeavesStatement}
 use Rattle.fj_slot.specs.Serving.{Serves}
 use Rattle.fj_bay.specs.Bay.{Bay as PlainBay}

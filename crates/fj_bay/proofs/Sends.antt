@@ -1,7 +1,7 @@
 -- A job and its answer may go to another thread, where the file may.
 -- A type that holds a format, or much else, is past the limits of one `search`. So each such type has a lemma here, from those of its parts.
 use denote.RattleType.{RattleType}
-use denote.Param.Send.{IsSend, view_send, sendable}
+use denote.Param.Send.{IsSend, IsSync, view_send, sendable}
 use denote.Param.SendFields.{as_row_send, declared_send, variants_send}
 use Rattle.std.proofs.Crossing.{crosses}
 use Rattle.std.specs.contracts.option.Option as Option
@@ -16,6 +16,7 @@ use Rattle.fj_modes.specs.contracts.file_name.FileName as FileName
 use Rattle.fj_modes.specs.contracts.modes.Modes as Modes
 use Rattle.fj_format.proofs.item.FormatItem.TheLaws.TheKnot as knot
 use Rattle.fj_format.specs.contracts.format.Format as Format
+use Rattle.fj_format.specs.contracts.format.Format.TheInside as FormatInside
 use Rattle.fj_format.specs.contracts.item.FormatItem as FormatItem
 use Rattle.fj_list.specs.contracts.load.Load as Load
 use Rattle.fj_list.specs.contracts.load.Load.TheInside as LoadInside
@@ -32,6 +33,7 @@ use Rattle.fj_connect.specs.contracts.connection.Connection.TheInside as Inside
 use Rattle.fj_connect.specs.contracts.connection.Looked as Looked
 use Rattle.fj_connect.specs.contracts.spot.Look as Look
 use Rattle.fj_connect.specs.contracts.spot.Spot as Spot
+use Rattle.fj_bay.specs.contracts.boxed.Boxed as Boxed
 use Rattle.fj_bay.specs.contracts.job.Answer as Answer
 use Rattle.fj_bay.specs.contracts.job.Job as Job
 
@@ -41,6 +43,12 @@ text_sends = search (crosses, sendable) depth 20
 
 pub items_sends : (T : RattleType) → IsSend T → IsSend (Items.the_row T)
 items_sends T s = search (crosses, sendable) depth 20
+
+items_sync : (T : RattleType) → IsSync T → IsSync (Items.the_row T)
+items_sync T s = search (crosses, sendable) depth 20
+
+boxed_sends : (T : RattleType) → IsSend T → IsSend (Boxed.the_row T)
+boxed_sends T s = search (crosses, sendable) depth 20
 
 pub value_sends : IsSend Value.the_row
 value_sends = search (crosses, sendable) depth 20
@@ -61,8 +69,15 @@ modes_sends = declared_send Modes.the_type (search (as_row_send, edit_modes_send
 format_item_sends : IsSend FormatItem.the_row
 format_item_sends = search (crosses, knot.crosses, sendable) depth 60 fits 20000
 
+format_item_sync : IsSync FormatItem.the_row
+format_item_sync = search (crosses, knot.crosses, sendable) depth 60 fits 20000
+
+inside_format_sends : IsSend FormatInside.the_row
+inside_format_sends = declared_send FormatInside.the_type (search (as_row_send, crosses, format_item_sends, format_item_sync, items_sends, items_sync, sendable) depth 20)
+
+-- its clones share its items
 pub format_sends : IsSend Format.the_row
-format_sends = search (format_item_sends, items_sends, sendable) depth 12
+format_sends = view_send _ _ _ _ _ inside_format_sends
 
 -- ---- what a job moves
 group_member_sends : IsSend GroupMember.the_row
@@ -75,10 +90,10 @@ row_sends : IsSend Row.the_row
 row_sends = declared_send Row.the_type (search (as_row_send, value_sends, items_sends, crosses, sendable) depth 20)
 
 shape_sends : IsSend Shape.the_row
-shape_sends = variants_send Shape.enum (search (as_row_send, moved_sends, row_sends, crosses, sendable) depth 20)
+shape_sends = variants_send Shape.enum (search (moved_sends, row_sends, crosses, sendable) depth 20)
 
 inside_load_sends : IsSend LoadInside.the_row
-inside_load_sends = declared_send LoadInside.the_type (search (as_row_send, shape_sends, crosses, sendable) depth 20)
+inside_load_sends = declared_send LoadInside.the_type (search (shape_sends, crosses, sendable) depth 20)
 
 pub load_sends : IsSend Load.the_row
 load_sends = view_send _ _ _ _ _ inside_load_sends
@@ -128,6 +143,9 @@ module _ (F : RattleType) (g : files.Ghosts F.Denot) (s : IsSend F) where
   -- its variants by hand, since they are many and most have parts
   pub job_sends : IsSend (Job.the_row F g)
   job_sends = variants_send (Job.enum F g) (
-    (connections_send, tt),
-    ((connections_send, tt), ((transfer_sends, tt), ((search sendable depth 20, tt), ((edit_modes_sends, tt), (tt, ((looks_send, tt), (tt, tt))))))),
+    (search (as_row_send, boxed_sends, connections_send, sendable) depth 12, tt),
+    (
+      (search (as_row_send, boxed_sends, connections_send, sendable) depth 12, tt),
+      ((search (as_row_send, boxed_sends, transfer_sends, sendable) depth 12, tt), ((search sendable depth 20, tt), ((edit_modes_sends, tt), (tt, ((search (as_row_send, boxed_sends, looks_send, sendable) depth 12, tt), (tt, tt)))))),
+    ),
   )

@@ -173,13 +173,13 @@ impl<F: FileStore> Bay<F> {
         ensures faults { self.new.faults ≡ self.old.faults }
     {
         match job {
-            Job::Attach(brought) => Ok(Answer::Done(self.attach(brought))),
-            Job::Detach(place) => self.detach(place),
-            Job::Move(transfer) => self.transfer(transfer),
+            Job::Attach(brought) => Ok(Answer::Done(self.attach(brought.get_mut()))),
+            Job::Detach(place) => self.detach(place.get_mut()),
+            Job::Move(transfer) => self.transfer(transfer.get_mut()),
             Job::Go(how) => self.go(*how),
             Job::Change(edit) => Ok(Answer::Done(self.change(*edit))),
             Job::Flush => Ok(Answer::Done(Condition::Fine)),
-            Job::Look(place) => Ok(Answer::Done(self.look(place))),
+            Job::Look(place) => Ok(Answer::Done(self.look(place.get_mut()))),
             Job::Resume => {
                 self.halt = None;
                 Ok(Answer::Done(Condition::Fine))
@@ -217,7 +217,7 @@ impl<F: FileStore> Engine for Bay<F> {
 
     fn is_long(job: &Job<F>) -> bool {
         match job {
-            Job::Move(transfer) => transfer.moved.len() >= MANY_CELLS,
+            Job::Move(transfer) => transfer.get().moved.len() >= MANY_CELLS,
             _ => false,
         }
     }

@@ -1,4 +1,5 @@
 // What a bay may be given to do, and what it answers.
+use crate::boxed::Boxed;
 use fj_connect::{Connection, Look, Positioning};
 use fj_outside::FileStore;
 use fj_transfer::Transfer;
@@ -8,24 +9,24 @@ use fj_value::{Condition, EditModes};
 #[derive(Drop)]
 pub enum Job<F: FileStore> {
     /// Brings a connection. It is gone from the job where the bay took it in.
-    Attach(Option<Connection<F>>),
+    Attach(Boxed<Option<Connection<F>>>),
     /// Gets the connection, with no record open.
-    Detach(Option<Connection<F>>),
+    Detach(Boxed<Option<Connection<F>>>),
     /// READ or WRITE.
-    Move(Transfer),
+    Move(Boxed<Transfer>),
     /// BACKSPACE, REWIND or ENDFILE.
     Go(Positioning),
     /// Other modes of formatted editing.
     Change(EditModes),
     Flush,
     /// Gets where the connection stands, and the length of its file.
-    Look(Option<Look>),
+    Look(Boxed<Option<Look>>),
     /// Ends the halt.
     Resume,
 }
 
 /// What a job ended with.
-#[derive(Clone, Copy, Debug, PartialEq, Eq)]
+#[derive(Clone, Copy, PartialEq, Eq)]
 pub enum Answer {
     Done(Condition),
     /// Not carried out in a halt, with its cause.

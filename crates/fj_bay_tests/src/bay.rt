@@ -4,7 +4,7 @@ ghost use Rattle.std.specs.FinSet as set;
 ghost use Rattle.fj_outside.specs.FailingDisk.{disk_held};
 
 use fj_bay::Answer::{Done, Skipped};
-use fj_bay::{Answer, Bay, Job};
+use fj_bay::{Answer, Bay, Boxed, Job};
 use fj_connect::{Connection, OpenFault, Positioning, open_file};
 use fj_format::parse;
 use fj_list::{Load, Moved};
@@ -119,18 +119,22 @@ fn transfer(
     })
 }
 
+fn moves(alloc: Global, transfer: Transfer) -> Result<Job<FailingFile>, OpenFault> {
+    Ok(Job::Move(Boxed::new(alloc, transfer)?))
+}
+
 fn job_of(alloc: Global, step: Step) -> Result<Job<FailingFile>, OpenFault> {
     match step {
-        Step::Attach(fails) => Ok(Job::Attach(Some(connection(alloc, fails)?))),
-        Step::Detach => Ok(Job::Detach(None)),
+        Step::Attach(fails) => Ok(Job::Attach(Boxed::new(alloc, Some(connection(alloc, fails)?))?)),
+        Step::Detach => Ok(Job::Detach(Boxed::new(alloc, None)?)),
         // It passes over a record.
-        Step::Read => Ok(Job::Move(transfer(alloc, 0, true, true, b"()")?)),
-        Step::Pend => Ok(Job::Move(transfer(alloc, 1, true, true, b"()")?)),
-        Step::Open => Ok(Job::Move(transfer(alloc, 0, false, false, b"('b')")?)),
+        Step::Read => moves(alloc, transfer(alloc, 0, true, true, b"()")?),
+        Step::Pend => moves(alloc, transfer(alloc, 1, true, true, b"()")?),
+        Step::Open => moves(alloc, transfer(alloc, 0, false, false, b"('b')")?),
         Step::Go(how) => Ok(Job::Go(how)),
         Step::Change => Ok(Job::Change(MODES)),
         Step::Flush => Ok(Job::Flush),
-        Step::Look => Ok(Job::Look(None)),
+        Step::Look => Ok(Job::Look(Boxed::new(alloc, None)?)),
         Step::Resume => Ok(Job::Resume),
     }
 }
@@ -138,8 +142,8 @@ fn job_of(alloc: Global, step: Step) -> Result<Job<FailingFile>, OpenFault> {
 /// Whether the job has a connection, or where it was looked at.
 fn brings<F: FileStore>(job: &Job<F>) -> Option<u64> {
     match job {
-        Job::Attach(Some(_)) | Job::Detach(Some(_)) => Some(0),
-        Job::Look(Some(look)) => Some(look.spot.at),
+        Job::Attach(place) | Job::Detach(place) => place.get().as_ref().map(|_| 0),
+        Job::Look(place) => place.get().as_ref().map(|look| look.spot.at),
         _ => None,
     }
 }

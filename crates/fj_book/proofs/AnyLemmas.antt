@@ -1,6 +1,7 @@
 -- Loops that look for an element.
-use Rattle.std.proofs.Common.{◌≡◌, ℕ, zero, suc, ◌+◌, ◌-◌, ◌<◌, ◌≤◌, ◌||◌, cond, Bool, true, false, List, [], ◌∷◌, ◌++◌, length, length-drop, drop, take, get_or, Some, refl, sym, ap, ◌∙◌, arith}
+use Rattle.std.proofs.Common.{◌≡◌, ℕ, zero, suc, ◌+◌, ◌-◌, ◌<◌, ◌≤◌, ◌||◌, ◌==◌, cond, Bool, true, false, List, [], ◌∷◌, ◌++◌, length, length-drop, drop, take, get_or, Some, refl, sym, ap, ◌∙◌, arith}
 use Rattle.std.proofs.Math.Seq.{drop-cons}
+use Rattle.std.proofs.lemmas.Bool.{ne_eqb}
 use Rattle.std.proofs.lemmas.List.Folds.{list_any-append}
 use Rattle.std.specs.List.{list_any, find}
 use Rattle.fj_value.specs.declared.place.Place.{Place}
@@ -73,3 +74,8 @@ rest_whole xs n = whole (drop n xs) (length xs - n) (omega (arith, length-drop n
 pub any_never : {X : Type 0} → (xs : List X) → list_any (λ x. false) xs ≡ false
 any_never [] = refl
 any_never (x ∷ xs) = any_never xs
+
+-- no element where the count of them is 0
+pub none_there : {X : Type 0} → (xs : List X) (n : ℕ) (b : Bool) → n ≡ length xs → b ≡ (n == 0) → b ≡ true → xs ≡ []
+none_there [] n b len is some = refl
+none_there (x ∷ xs) n b len is some = let counted : b ≡ false = is ∙ ne_eqb n 0 (λ z. absurd (omega (arith, len, z))) in let never : true ≡ false = sym some ∙ counted in cc

@@ -9,13 +9,12 @@ ghost use Rattle.fj_store.specs.Variables.{value_at, is_undefined};
 ghost use Rattle.fj_book.specs.declared.pending.Pending.{Pending};
 ghost use Rattle.fj_book.specs.Counting.{AreCounted, IsKept};
 ghost use Rattle.fj_book.specs.Entries.{holders, has_tag, is_of_unit, is_of, is_told, tag_of, IsAscending};
-ghost use Rattle.fj_book.specs.Needs.{need_of};
 ghost use Rattle.fj_book.specs.Prohibitions.{prohibited, is_read, is_held, names_pending};
 
 use crate::counts::{Counts, any_held};
-use crate::need::Need;
+use crate::need::Needs;
 use crate::pending::Pending;
-use crate::place_test::{RunTest, any_in_runs};
+use crate::place_test::RunTest;
 use fj_store::{Run, Store};
 use fj_value::{Kind, Rule, Tag};
 use std::alloc::{AllocError, Global};
@@ -23,7 +22,7 @@ use std::collections::VecDeque;
 use std::marker::Model;
 
 /// The pending transfers, seen as their list.
-#[derive(Debug, Drop)]
+#[derive(Drop)]
 pub struct Book {
     entries: VecDeque<Pending>,
     inputs: Counts,
@@ -220,20 +219,34 @@ impl Book {
         self.entries[at].unit == unit
     }
 
-    /// The lowest rule that a statement breaks. It takes no memory.
-    pub fn check(&self, store: &Store, need: &Need<'_>) -> Option<Rule>
-        ensures { result ≡ prohibited (values_of store.now) (holders self.now) (need_of need.now) }
+    /// Whether a statement references a place of a pending input.
+    fn is_read<N: Needs>(&self, need: &N) -> bool
+        ensures { result ≡ list_any (is_read (holders self.now)) (N.need need.now).references }
     {
-        if any_in_runs(need.references, &Reads { book: self }) {
+        !self.entries.is_empty() && need.any_referenced(&Reads { book: self })
+    }
+
+    /// Whether a statement defines a place of a pending transfer.
+    fn is_held<N: Needs>(&self, need: &N) -> bool
+        ensures { result ≡ list_any (is_held (holders self.now)) (N.need need.now).defines }
+    {
+        !self.entries.is_empty() && need.any_defined(&Holds { book: self })
+    }
+
+    /// The lowest rule that a statement breaks. It takes no memory.
+    pub fn check<N: Needs>(&self, store: &Store, need: &N) -> Option<Rule>
+        ensures { result ≡ prohibited (values_of store.now) (holders self.now) (N.need need.now) }
+    {
+        if self.is_read(need) {
             return Some(Rule::P1);
         }
-        if any_in_runs(need.defines, &Holds { book: self }) {
+        if self.is_held(need) {
             return Some(Rule::P2);
         }
-        if any_in_runs(need.references, &IsUndefined { store }) {
+        if need.any_referenced(&IsUndefined { store }) {
             return Some(Rule::P3);
         }
-        if !self.names_pending(need.unit, need.id) {
+        if !self.names_pending(need.unit(), need.id()) {
             return Some(Rule::P4);
         }
         if need.defines_twice() {

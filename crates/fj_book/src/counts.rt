@@ -16,7 +16,7 @@ use std::collections::VecDeque;
 use std::marker::Model;
 
 /// By variable, how many hold each of its places.
-#[derive(Debug, Drop)]
+#[derive(Drop)]
 pub(crate) struct Counts {
     rows: Vec<Row>,
 }

@@ -15,5 +15,6 @@ pub use laws::{
     all_is_held, decks_are_told, each_is_told, first_is_least, lowest_is_broken, lowest_is_told,
     parts_meet, places_are_held_until_told, places_meet, specifiers_meet, statements_are_told,
 };
-pub use need::Need;
+pub use need::{Need, Needs};
 pub use pending::{Pending, Places};
+pub use place_test::RunTest;

@@ -1,12 +1,39 @@
 // What a statement references, defines and names.
 ghost use Rattle.std.specs.Prelude.{◌≡◌};
 ghost use Rattle.fj_store.specs.Places.{is_among, has_twice};
-ghost use Rattle.fj_book.specs.Prohibitions.{defines_twice};
 ghost use Rattle.fj_book.specs.Needs.{need_of};
 
-use crate::place_test::{Among, any_in_runs, any_of};
+use crate::place_test::{Among, RunTest, any_in_runs, any_of};
 use fj_store::Run;
 use fj_value::Place;
+
+/// What a statement needs, told without a list of its places.
+pub trait Needs {
+    ghost use Rattle.std.specs.Prelude.{◌≡◌};
+    ghost use Rattle.std.specs.List.{list_any};
+    ghost use Rattle.fj_book.specs.Prohibitions.{Need, defines_twice};
+
+    ghost need: { Self → Need };
+
+    fn unit(&self) -> Option<u32>
+        ensures { result ≡ (need self.now).unit };
+
+    /// The value of ID= in WAIT and INQUIRE.
+    fn id(&self) -> Option<i64>
+        ensures { result ≡ (need self.now).id };
+
+    /// Whether a place that it references passes.
+    fn any_referenced<T: RunTest>(&self, test: &T) -> bool
+        ensures { result ≡ list_any (T.passes test.now) (need self.now).references };
+
+    /// Whether a place that it defines passes.
+    fn any_defined<T: RunTest>(&self, test: &T) -> bool
+        ensures { result ≡ list_any (T.passes test.now) (need self.now).defines };
+
+    /// Whether a place that a specifier defines is defined or transferred by another part too.
+    fn defines_twice(&self) -> bool
+        ensures { result ≡ defines_twice (need self.now) };
+}
 
 /// The unit of a statement, the places that it references and defines, those that its specifiers define, its items or its
 /// group, the elements of its internal file, and the value of ID= in WAIT and INQUIRE.
@@ -40,11 +67,26 @@ fn has_twice(places: &[Place]) -> bool
     false
 }
 
-impl<'a> Need<'a> {
-    /// Whether a place that a specifier defines is defined or transferred by another part too.
-    pub(crate) fn defines_twice(&self) -> bool
-        ensures { result ≡ defines_twice (need_of self.now) }
-    {
+impl<'a> Needs for Need<'a> {
+    ghost need = { λ need. need_of need };
+
+    fn unit(&self) -> Option<u32> {
+        self.unit
+    }
+
+    fn id(&self) -> Option<i64> {
+        self.id
+    }
+
+    fn any_referenced<T: RunTest>(&self, test: &T) -> bool {
+        any_in_runs(self.references, test)
+    }
+
+    fn any_defined<T: RunTest>(&self, test: &T) -> bool {
+        any_in_runs(self.defines, test)
+    }
+
+    fn defines_twice(&self) -> bool {
         let items = Among { runs: self.items };
         let internal = Among {
             runs: self.internal,

@@ -9,7 +9,7 @@ use fj_value::{Items, Tag};
 use std::marker::Model;
 
 /// Places of which no two are the same, as runs.
-#[derive(Debug, Drop)]
+#[derive(Drop)]
 pub struct Places {
     runs: Items<Run>,
 }
@@ -54,7 +54,7 @@ impl Places {
 }
 
 /// A transfer that is pending on a unit.
-#[derive(Debug, Drop)]
+#[derive(Drop)]
 pub struct Pending {
     pub tag: Tag,
     pub unit: u32,

@@ -7,7 +7,7 @@ use fj_store::Run;
 use fj_value::Place;
 
 /// A test of places, which answers for a whole run whether some place passes.
-pub(crate) trait RunTest {
+pub trait RunTest {
     ghost use Rattle.std.specs.Prelude.{◌≡◌, Bool};
     ghost use Rattle.std.specs.List.{list_any};
     ghost use Rattle.fj_value.specs.declared.place.Place.{Place};

@@ -8,7 +8,7 @@ use std::marker::Model;
 
 /// The numbers of a variable's places, each in two parts of which the sum counts, and which wrap. What is counted at all of them
 /// is counted once.
-#[derive(Debug, Drop)]
+#[derive(Drop)]
 pub(crate) struct Row {
     all: u64,
     each: Vec<u64>,

@@ -20,7 +20,7 @@ pub use opening::{OpenFault, open_file};
 use std::marker::Model;
 
 /// The place of the record that was looked at last, and the place behind it.
-#[derive(Clone, Copy, Debug, PartialEq, Eq)]
+#[derive(Clone, Copy, PartialEq, Eq)]
 pub struct Looked {
     pub at: u64,
     pub next: u64,

@@ -2,7 +2,7 @@
 ghost use Rattle.std.specs.Prelude.{◌≡◌, false};
 
 /// Whether the position is inside a record (ISO/IEC 1539-1:2004, 9.2.3).
-#[derive(Clone, Copy, Debug, PartialEq, Eq)]
+#[derive(Clone, Copy, PartialEq, Eq)]
 pub enum Within {
     /// Between two records, or there are none.
     Outside,
@@ -21,7 +21,7 @@ pub enum Positioning {
 }
 
 /// Where a connection stands.
-#[derive(Clone, Copy, Debug, PartialEq, Eq)]
+#[derive(Clone, Copy, PartialEq, Eq)]
 pub struct Spot {
     /// The position: how many bytes stand before it.
     pub at: u64,
@@ -35,7 +35,7 @@ pub struct Spot {
 }
 
 /// A look at a connection: where it stands, and the length of its file.
-#[derive(Clone, Copy, Debug, PartialEq, Eq)]
+#[derive(Clone, Copy, PartialEq, Eq)]
 pub struct Look {
     pub spot: Spot,
     pub size: u64,

@@ -4,7 +4,7 @@ use fj_value::Edit;
 
 /// A step of format control (ISO/IEC 1539-1:2004, 10.3). `nX` is given as `Right`, and the end of the format as `Slash`
 /// where an item is left.
-#[derive(Clone, Copy, Debug, PartialEq, Eq)]
+#[derive(Clone, Copy, PartialEq, Eq)]
 pub enum Step<'a> {
     /// The next item is edited by this descriptor.
     Edit(Edit),

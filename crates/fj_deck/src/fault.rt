@@ -19,7 +19,7 @@ pub enum DeckFault {
 }
 
 /// Why a line adds nothing to a deck.
-#[derive(Debug, Drop)]
+#[derive(Drop)]
 pub enum LineFault {
     Memory(AllocError),
     Refused(Reason),

@@ -5,7 +5,7 @@ use fj_value::Text;
 use std::alloc::{AllocError, Global};
 
 /// A deck of so many statements, or a line that is refused.
-#[derive(Clone, Copy, Debug, PartialEq, Eq)]
+#[derive(Clone, Copy, PartialEq, Eq)]
 enum Outcome {
     Deck(usize),
     Refused(u32, Reason),
@@ -22,7 +22,7 @@ fn answer_on(alloc: Global, text: &[u8]) -> Result<Outcome, AllocError> {
 }
 
 /// The six lines before each of the following lines, behind which END stands.
-const DECLARED: &[u8] = b"\
+static DECLARED: &[u8] = b"\
     INTEGER A(3), I, J, N, S\n\
     INTEGER(8) K\n\
     LOGICAL L\n\
@@ -31,13 +31,13 @@ const DECLARED: &[u8] = b"\
     NAMELIST /G/ I, A\n";
 
 /// Lines that add no statement.
-const NO_STATEMENTS: &[u8] = b"\
+static NO_STATEMENTS: &[u8] = b"\
     \x20\t \n! x\n\x20! \x01\x7f\xff 'x\nINTEGER(8) X\nINTEGER(08) :: X(3), Y\nINTEGER(KIND=4), ASYNCHRONOUS :: X\n\
     INTEGER ASYNCHRONOUS\nCHARACTER(00005) X\n\
     integer a23456789012345678901234567890123456789012345678901234567890123\nNAMELIST /H/ I, I, D\nnamelist/h/i";
 
 /// Lines that add one.
-const STATEMENTS: &[u8] = b"\
+static STATEMENTS: &[u8] = b"\
     I = 5 ! five\ni\t=\t-5\nI = -2147483648\nI = 2147483647\nK = 9223372036854775807\nK = -9223372036854775808\n\
     K = 0000000000000000005\nA = 5\nA(3) = I\nA(01) = +0\nL = .TRUE.\nC = 'it''s\t\x7f\xff'\nC = D(2)\nD(1) = C\n\
     D = \"\"\nFILE = 5\nUNIT = FILE\nOPEN(0010)\nOPEN(10,RECL=+4)\nOPEN(10,RECL=-0)\nOPEN(10,RECL=2147483647)\n\
@@ -48,7 +48,7 @@ const STATEMENTS: &[u8] = b"\
     WRITE(10,'(I1)',ASYNCHRONOUS='YES',ID=N) I";
 
 /// Lines that are no statement.
-const GARBLED: &[u8] = b"\
+static GARBLED: &[u8] = b"\
     READ(10,*,IOSTAT=5) I\nREAD(10,'(I1)',ADVANCE='NO',SIZE='x') I\nREAD(10,REC='x') I\nREAD(10,REC=.TRUE.) I\n\
     OPEN(10,RECL='4')\nOPEN(10,RECL=N)\nOPEN(10,FILE=N)\nOPEN(10,STATUS=OLD)\nREAD(10,FMT=5) I\nREAD(10,FMT=C) I\n\
     READ(10,NML='G')\nOPEN(2147483648)\nA(0) = 1\nA(1000001) = 1\nINTEGER X(0)\nCHARACTER(65537) X\nINTEGER(3) X\n\
@@ -62,7 +62,7 @@ const GARBLED: &[u8] = b"\
     INTEGER, ASYNCHRONOUS X\nWRITE(10,'(Q)',IOSTAT=5) X\nEND X\nEND 5";
 
 /// Lines without a meaning.
-const MEANINGLESS: &[u8] = b"\
+static MEANINGLESS: &[u8] = b"\
     READ(10,*,IOSTAT=L) I\nREAD(10,REC=C) I\nINQUIRE(10,EXIST=N)\nA(4) = 1\nA(1000000) = 1\nI = 2147483648\n\
     K = 9223372036854775808\nK = 9999999999999999999\nWRITE(*,*) 9999999999999999999\n\
     READ(10,REC=9999999999999999999) I\nREAD(10,POS=9999999999999999999) I\nWAIT(10,ID=9999999999999999999)\n\
@@ -73,7 +73,7 @@ const MEANINGLESS: &[u8] = b"\
     READ(10,'(I0)') I\nREAD(10,'(1000(1001(I0)))') I\nWRITE(10,'(1000(1001(I1)))') X";
 
 /// Lines past a limit.
-const BEYOND: &[u8] = b"\
+static BEYOND: &[u8] = b"\
     INTEGER X(1000000)\nCHARACTER(65536) X(256)\nWRITE(10,'(1000(1001(I1)))') I\nREAD(10,'(1000(1001(I1)))') I";
 
 /// What a line is, behind declarations and before END.
@@ -84,25 +84,32 @@ fn of_line(alloc: Global, line: &[u8]) -> Result<Outcome, AllocError> {
     answer_on(alloc, text.bytes())
 }
 
+/// The number of the first line that is something else.
+fn differs(alloc: Global, lines: &[u8], answer: Outcome) -> Result<Option<usize>, AllocError> {
+    for (number, line) in lines.split(|byte| *byte == b'\n').enumerate() {
+        if of_line(alloc, line)? != answer {
+            return Ok(Some(number));
+        }
+    }
+    Ok(None)
+}
+
 #[test]
 fn lines_are_read(rt: HostRuntime) -> Result<(), AllocError> {
     let alloc = rt.alloc();
-    for (lines, answer) in [
-        (NO_STATEMENTS, Deck(1)),
-        (STATEMENTS, Deck(2)),
-        (GARBLED, Refused(7, Reason::Syntax)),
-        (MEANINGLESS, Refused(7, Reason::Meaning)),
-        (BEYOND, Refused(7, Reason::TooMany)),
-    ] {
-        for line in lines.split(|byte| *byte == b'\n') {
-            assert_eq!(rt; of_line(alloc, line)?, answer, "{line:?}");
-        }
-    }
+    assert_eq!(rt; differs(alloc, NO_STATEMENTS, Deck(1))?, None);
+    assert_eq!(rt; differs(alloc, STATEMENTS, Deck(2))?, None);
+    assert_eq!(rt; differs(alloc, GARBLED, Refused(7, Reason::Syntax))?, None);
+    assert_eq!(rt;
+        differs(alloc, MEANINGLESS, Refused(7, Reason::Meaning))?,
+        None
+    );
+    assert_eq!(rt; differs(alloc, BEYOND, Refused(7, Reason::TooMany))?, None);
     Ok(())
 }
 
 /// Whole texts.
-const TEXTS: [(&[u8], Outcome); 31] = [
+static TEXTS: [(&[u8], Outcome); 31] = [
     (b"", Refused(1, Reason::NoEnd)),
     (b"\n", Refused(2, Reason::NoEnd)),
     (b"\n\n ! END\n", Refused(4, Reason::NoEnd)),
@@ -174,8 +181,8 @@ const TEXTS: [(&[u8], Outcome); 31] = [
 
 #[test]
 fn texts_are_read(rt: HostRuntime) -> Result<(), AllocError> {
-    for (text, answer) in TEXTS {
-        assert_eq!(rt; answer_on(rt.alloc(), text)?, answer, "{text:?}");
+    for (number, (text, answer)) in TEXTS.iter().enumerate() {
+        assert!(rt; answer_on(rt.alloc(), text)? == *answer, "row {number}");
     }
     Ok(())
 }
@@ -197,7 +204,7 @@ fn answer_on_many(
 }
 
 /// Texts at the limits of bytes and beyond.
-const LENGTHS: [(&[u8], &[u8], u32, &[u8], Outcome); 8] = [
+static LENGTHS: [(&[u8], &[u8], u32, &[u8], Outcome); 8] = [
     (b"END", b" ", 997, b"\r\n", Deck(1)),
     (b"END", b" ", 998, b"\r\n", Refused(1, Reason::LineTooLong)),
     (b"END!", b"x", 996, b"", Deck(1)),
@@ -216,22 +223,25 @@ const LENGTHS: [(&[u8], &[u8], u32, &[u8], Outcome); 8] = [
 
 #[test]
 fn lengths_are_limited(rt: HostRuntime) -> Result<(), AllocError> {
-    for (first, part, times, last, answer) in LENGTHS {
-        let read = answer_on_many(rt.alloc(), first, part, times, last)?;
-        assert_eq!(rt; read, answer, "{times} times");
+    for (number, (first, part, times, last, answer)) in LENGTHS.iter().enumerate() {
+        let read = answer_on_many(rt.alloc(), first, part, *times, last)?;
+        assert!(rt; read == *answer, "row {number}");
     }
     Ok(())
 }
 
+/// How many assignments stand behind a declaration, what stands behind them, and the answer.
+static COUNTS: [(u32, &[u8], Outcome); 3] = [
+    (99_999, b"\n! x\nEND\n", Deck(100_000)),
+    (100_000, b"\n! x\nEND", Refused(100_004, Reason::TooMany)),
+    (100_000, b"A = B", Refused(100_002, Reason::Meaning)),
+];
+
 #[test]
 fn statements_are_limited(rt: HostRuntime) -> Result<(), AllocError> {
-    for (times, last, answer) in [
-        (99_999, b"\n! x\nEND\n".as_slice(), Deck(100_000)),
-        (100_000, b"\n! x\nEND", Refused(100_004, Reason::TooMany)),
-        (100_000, b"A = B", Refused(100_002, Reason::Meaning)),
-    ] {
-        let read = answer_on_many(rt.alloc(), b"INTEGER A\n", b"A=1\n", times, last)?;
-        assert_eq!(rt; read, answer);
+    for (number, (times, last, answer)) in COUNTS.iter().enumerate() {
+        let read = answer_on_many(rt.alloc(), b"INTEGER A\n", b"A=1\n", *times, last)?;
+        assert!(rt; read == *answer, "row {number}");
     }
     Ok(())
 }
@@ -240,16 +250,20 @@ fn last_digit(number: u32) -> u8 {
     b'0' + (number % 10) as u8
 }
 
+/// Adds the declaration of a variable of its own.
+fn declare(number: u32, text: &mut Text) -> Result<(), AllocError> {
+    text.push_all(b"INTEGER V")?;
+    for part in [1000, 100, 10, 1] {
+        text.push_copies(last_digit(number / part), 1)?;
+    }
+    text.push_all(b"\n")
+}
+
 /// What a text is that declares so many variables, up to 10,000.
 fn answer_on_variables(alloc: Global, count: u32) -> Result<Outcome, AllocError> {
     let mut text = Text::new(alloc);
     for number in 0..count {
-        text.push_all(b"INTEGER V")?;
-        text.push_copies(last_digit(number / 1000), 1)?;
-        text.push_copies(last_digit(number / 100), 1)?;
-        text.push_copies(last_digit(number / 10), 1)?;
-        text.push_copies(last_digit(number), 1)?;
-        text.push_all(b"\n")?;
+        declare(number, &mut text)?;
     }
     text.push_all(b"END\n")?;
     answer_on(alloc, text.bytes())
@@ -257,8 +271,8 @@ fn answer_on_variables(alloc: Global, count: u32) -> Result<Outcome, AllocError>
 
 #[test]
 fn variables_are_limited(rt: HostRuntime) -> Result<(), AllocError> {
-    for (count, answer) in [(4096, Deck(1)), (4097, Refused(4097, Reason::TooMany))] {
-        assert_eq!(rt; answer_on_variables(rt.alloc(), count)?, answer);
-    }
+    let beyond = Refused(4097, Reason::TooMany);
+    assert!(rt; answer_on_variables(rt.alloc(), 4096)? == Deck(1));
+    assert!(rt; answer_on_variables(rt.alloc(), 4097)? == beyond);
     Ok(())
 }

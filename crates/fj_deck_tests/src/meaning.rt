@@ -6,7 +6,7 @@ use fj_value::{Kind, Place, Value};
 use std::alloc::{AllocError, Global};
 use std::test::*;
 
-#[derive(Clone, Copy, Debug, PartialEq, Eq)]
+#[derive(Clone, Copy, PartialEq, Eq)]
 enum Outcome {
     Fine,
     /// Not a format, at this place.
@@ -34,7 +34,7 @@ static DECLARED_TOO_MANY: &str = "\
     CHARACTER(65536) W(257)|CHARACTER(65536) W(256);INTEGER I;CHARACTER C|CHARACTER(65536) W(255), X;CHARACTER C";
 
 /// What the statements below are about.
-const DECLARED: [&str; 8] = [
+static DECLARED: [&str; 8] = [
     "INTEGER I, A(3), N(500000)",
     "INTEGER(8) K",
     "LOGICAL L, M(2)",
@@ -134,17 +134,33 @@ fn last_declared(alloc: Global, lines: &str) -> Outcome {
     outcome
 }
 
-#[test]
-fn declarations(rt: HostRuntime) {
-    for (cases, wanted) in [
-        (DECLARED_FINE, Fine),
-        (DECLARED_MEANINGLESS, Meaning),
-        (DECLARED_TOO_MANY, TooMany),
-    ] {
-        for lines in cases.split('|') {
-            assert_eq!(rt; last_declared(rt.alloc(), lines), wanted, "{lines}");
+/// The number of the first declarations whose last has another outcome.
+fn other_declared(alloc: Global, cases: &str, wanted: Outcome) -> Option<usize> {
+    for (number, lines) in cases.split('|').enumerate() {
+        if last_declared(alloc, lines) != wanted {
+            return Some(number);
         }
     }
+    None
+}
+
+#[test]
+fn declarations(rt: HostRuntime) {
+    let alloc = rt.alloc();
+    assert_eq!(rt; other_declared(alloc, DECLARED_FINE, Fine), None);
+    assert_eq!(rt; other_declared(alloc, DECLARED_MEANINGLESS, Meaning), None);
+    assert_eq!(rt; other_declared(alloc, DECLARED_TOO_MANY, TooMany), None);
+}
+
+/// Declares so many variables, and answers how many were fine before one was not.
+fn declared_of(alloc: Global, names: &mut Names, count: u32) -> Result<u32, AllocError> {
+    for n in 0..count {
+        let line = format!(in alloc; "INTEGER V{n}")?;
+        if declared(alloc, names, n, line.as_str()) != Fine {
+            return Ok(n);
+        }
+    }
+    Ok(count)
 }
 
 /// 4,096 variables are declared, and no more.
@@ -152,13 +168,9 @@ fn declarations(rt: HostRuntime) {
 fn many_variables(rt: HostRuntime) -> Result<(), AllocError> {
     let alloc = rt.alloc();
     let mut names = Names::new(alloc);
-    for n in 0..4096u32 {
-        let line = format!(in alloc; "INTEGER V{n}")?;
-        let outcome = declared(alloc, &mut names, n, line.as_str());
-        assert_eq!(rt; outcome, Fine, "{n}");
-    }
+    assert_eq!(rt; declared_of(alloc, &mut names, 4096)?, 4096);
     assert_eq!(rt; names.variables().len(), 4096);
-    assert_eq!(rt; declared(alloc, &mut names, 1, "INTEGER V4096"), TooMany);
+    assert!(rt; declared(alloc, &mut names, 1, "INTEGER V4096") == TooMany);
     Ok(())
 }
 
@@ -182,19 +194,27 @@ fn stated(alloc: Global, names: &Names, line: &str) -> Outcome {
     }
 }
 
+/// The number of the first statement with another outcome.
+fn other_stated(alloc: Global, names: &Names, lines: &str, wanted: Outcome) -> Option<usize> {
+    for (number, line) in lines.split('|').enumerate() {
+        if stated(alloc, names, line) != wanted {
+            return Some(number);
+        }
+    }
+    None
+}
+
 #[test]
 fn statements(rt: HostRuntime) {
     let alloc = rt.alloc();
     let Some(names) = common_names(alloc) else {
         panic!(rt; "no names");
     };
-    for (lines, wanted) in [(FINE, Fine), (MEANINGLESS, Meaning), (TOO_MANY, TooMany)] {
-        for line in lines.split('|') {
-            assert_eq!(rt; stated(alloc, &names, line), wanted, "{line}");
-        }
-    }
-    for (line, at) in FORMATS {
-        assert_eq!(rt; stated(alloc, &names, line), Format(at), "{line}");
+    assert_eq!(rt; other_stated(alloc, &names, FINE, Fine), None);
+    assert_eq!(rt; other_stated(alloc, &names, MEANINGLESS, Meaning), None);
+    assert_eq!(rt; other_stated(alloc, &names, TOO_MANY, TooMany), None);
+    for (line, at) in FORMATS.iter() {
+        assert!(rt; stated(alloc, &names, line) == Format(*at), "{line}");
     }
 }
 

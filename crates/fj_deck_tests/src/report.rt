@@ -5,6 +5,7 @@ use fj_report::{
 };
 use fj_statement::Reason;
 use fj_value::{Rule, Tag, Text, Value};
+use std::alloc::{AllocError, Global};
 use std::test::Fail;
 
 mod words;
@@ -114,43 +115,71 @@ static CHARACTERS: [(&[u8], &[u8]); 8] = [
     (b"\x7f\x80\xab\xff", b"C = '\\7F\\80\\AB\\FF'\n"),
 ];
 
+/// Whether an answer has this line.
+fn is_told(alloc: Global, status: &Status, line: &[u8]) -> Result<bool, AllocError> {
+    let mut out = Text::new(alloc);
+    status_line(status, &mut out)?;
+    Ok(out.bytes() == line)
+}
+
 #[test]
 fn answers(rt: HostRuntime) -> Result<(), Fail> {
-    let mut out = Text::new(rt.alloc());
-    for (status, line) in STATUSES.iter() {
-        out.clear();
-        status_line(status, &mut out)?;
-        assert_eq!(rt; out.bytes(), *line);
+    for (number, (status, line)) in STATUSES.iter().enumerate() {
+        assert!(rt; is_told(rt.alloc(), status, line)?, "row {number}");
     }
-    out.clear();
+    Ok(())
+}
+
+#[test]
+fn other_lines(rt: HostRuntime) -> Result<(), Fail> {
+    let mut out = Text::new(rt.alloc());
     check_line(2, &mut out)?;
     usage_line(&mut out)?;
     trace_line(8, 10, Tag(3), -1, &mut out)?;
     trace_line(7, -2147483648, Tag(0), 0, &mut out)?;
     let lines =
         b"= deck of 2 statements\nusage: fjob run [--workers N] [--trace] | alone [--trace] | check | gen --seed N --count M [--text]\n~ 8 10 3 -1\n~ 7 -2147483648 0 0\n";
-    assert_eq!(rt; out.bytes(), lines.as_slice());
+    assert!(rt; out.bytes() == lines.as_slice());
     Ok(())
+}
+
+/// Whether a variable stands so in a line, behind what stood there.
+fn stands(
+    alloc: Global,
+    name: &[u8],
+    index: u32,
+    value: Option<&Value>,
+    line: &[u8],
+) -> Result<bool, AllocError> {
+    let mut out = Text::from_bytes(alloc, b"=")?;
+    variable_line(name, index, value, &mut out)?;
+    Ok(matches!(out.bytes(), [b'=', added @ ..] if added == line))
 }
 
 #[test]
 fn variables(rt: HostRuntime) -> Result<(), Fail> {
     let alloc = rt.alloc();
-    let mut out = Text::new(alloc);
-    variable_line(b"A", 0, Some(&Value::Int(5)), &mut out)?;
-    variable_line(b"B", 2, Some(&Value::Int(-7)), &mut out)?;
-    variable_line(b"L", 0, Some(&Value::Log(true)), &mut out)?;
-    variable_line(b"L", 10, Some(&Value::Log(false)), &mut out)?;
-    variable_line(b"A", 0, Some(&Value::Undefined), &mut out)?;
-    variable_line(b"B", 1, None, &mut out)?;
-    variable_line(b"N", 0, Some(&Value::Int(i64::MIN)), &mut out)?;
-    let lines = b"A = 5\nB(2) = -7\nL = T\nL(10) = F\nA = ?\nB(1) = ?\nN = -9223372036854775808\n";
-    assert_eq!(rt; out.bytes(), lines.as_slice());
-    for (characters, line) in CHARACTERS.iter() {
-        out.clear();
-        let value = Value::of_text(Text::from_bytes(alloc, characters)?)?;
-        variable_line(b"C", 0, Some(&value), &mut out)?;
-        assert_eq!(rt; out.bytes(), *line);
+    assert!(rt; stands(alloc, b"A", 0, Some(&Value::Int(5)), b"A = 5\n")?);
+    assert!(rt; stands(alloc, b"B", 2, Some(&Value::Int(-7)), b"B(2) = -7\n")?);
+    assert!(rt; stands(alloc, b"L", 0, Some(&Value::Log(true)), b"L = T\n")?);
+    assert!(rt; stands(alloc, b"L", 10, Some(&Value::Log(false)), b"L(10) = F\n")?);
+    assert!(rt; stands(alloc, b"A", 0, Some(&Value::Undefined), b"A = ?\n")?);
+    assert!(rt; stands(alloc, b"B", 1, None, b"B(1) = ?\n")?);
+    let least = Value::Int(i64::MIN);
+    assert!(rt; stands(alloc, b"N", 0, Some(&least), b"N = -9223372036854775808\n")?);
+    Ok(())
+}
+
+/// Whether characters stand so in a line.
+fn stand(alloc: Global, characters: &[u8], line: &[u8]) -> Result<bool, AllocError> {
+    let value = Value::of_text(Text::from_bytes(alloc, characters)?)?;
+    stands(alloc, b"C", 0, Some(&value), line)
+}
+
+#[test]
+fn characters(rt: HostRuntime) -> Result<(), Fail> {
+    for (number, (characters, line)) in CHARACTERS.iter().enumerate() {
+        assert!(rt; stand(rt.alloc(), characters, line)?, "row {number}");
     }
     Ok(())
 }

@@ -1,4 +1,4 @@
-use fj_modes::{Access, FileStatus, Motion, Question, Subject, UnitRef};
+use fj_modes::{Access, FileStatus, Motion, OpenSpec, Question, Subject, UnitRef};
 use fj_syntax::*;
 use fj_value::{Delim, Kind};
 use std::alloc::Global;
@@ -58,7 +58,7 @@ static REFUSED: &str = "\
     READ(UNIT,*)A|READ 10|READ(10,FMT=5)A|READ(10,*,'(I1)')A|READ(10,NML='G')|READ(10,SIGN='PLUS')A|\
     WRITE(UNIT=10,'(I1)')A|WRITE(10,IOSTAT=S,'(I1)')A|WRITE(10,*)A,|WRITE(10,*)A B";
 
-#[derive(Clone, Copy, Debug, PartialEq, Eq)]
+#[derive(Clone, Copy, PartialEq, Eq)]
 enum Outcome {
     Blank,
     Statement,
@@ -75,20 +75,21 @@ fn outcome_of(alloc: Global, line: &[u8]) -> Outcome {
     }
 }
 
-#[test]
-fn outcomes(rt: HostRuntime) {
-    for (lines, wanted) in [
-        (BLANK, Outcome::Blank),
-        (STATEMENTS, Outcome::Statement),
-        (REFUSED, Outcome::Refused),
-    ] {
-        for (at, line) in lines.as_bytes().split(|byte| *byte == b'|').enumerate() {
-            assert!(rt;
-                outcome_of(rt.alloc(), line) == wanted,
-                "line {at} of {lines}"
-            );
+/// The number of the first line with another outcome.
+fn differs(alloc: Global, lines: &str, wanted: Outcome) -> Option<usize> {
+    for (number, line) in lines.as_bytes().split(|byte| *byte == b'|').enumerate() {
+        if outcome_of(alloc, line) != wanted {
+            return Some(number);
         }
     }
+    None
+}
+
+#[test]
+fn outcomes(rt: HostRuntime) {
+    assert_eq!(rt; differs(rt.alloc(), BLANK, Outcome::Blank), None);
+    assert_eq!(rt; differs(rt.alloc(), STATEMENTS, Outcome::Statement), None);
+    assert_eq!(rt; differs(rt.alloc(), REFUSED, Outcome::Refused), None);
 }
 
 #[test]
@@ -120,63 +121,85 @@ fn is_element(place: Option<&Designator>, name: &[u8], number: u32) -> bool {
     }
 }
 
+fn is_open(open: &OnUnit<OpenSpec>) -> bool {
+    let spec = &open.what;
+    open.unit == UnitRef::Number(10)
+        && is_element(open.iostat.as_ref(), b"S", 2)
+        && matches!(&spec.file, Some(file) if file.as_str() == "x.Y")
+        && spec.status == Some(FileStatus::Old)
+        && spec.access == Some(Access::Direct)
+        && spec.formatted == Some(true)
+        && spec.recl == Some(80)
+        && spec.position.is_none()
+        && spec.asynchronous.is_none()
+}
+
 #[test]
 fn opens(rt: HostRuntime) {
     let line =
         "open(10,file='x.Y  ',status='old ',access='Direct',form='FORMATTED',recl=+80,iostat=s(2))";
-    let Written::Open(open) = written(rt.alloc(), line) else {
-        panic!(rt; "no OPEN");
-    };
-    assert!(rt; open.unit == UnitRef::Number(10) && is_element(open.iostat.as_ref(), b"S", 2));
-    assert!(rt; matches!(&open.what.file, Some(file) if file.as_str() == "x.Y"));
-    let spec = &open.what;
-    assert!(rt; spec.status == Some(FileStatus::Old) && spec.access == Some(Access::Direct));
-    assert!(rt; spec.formatted == Some(true) && spec.recl == Some(80));
-    assert!(rt; spec.position.is_none() && spec.asynchronous.is_none());
+    assert!(rt; matches!(&written(rt.alloc(), line), Written::Open(open) if is_open(open)));
+}
+
+fn are_items(items: &[Operand]) -> bool {
+    matches!(
+        items,
+        [
+            Operand::Number {
+                sign: Sign::Unsigned,
+                amount: 5
+            },
+            Operand::Literal(_),
+            Operand::Place(_),
+        ]
+    )
+}
+
+fn is_write(write: &Transfer) -> bool {
+    matches!(&write.format, Some(Format::Literal(text)) if text.bytes() == "('a',I5)".as_bytes())
+        && are_items(write.items.as_slice())
+        && !write.input
+        && write.unit == UnitRef::Star
+        && write.delim == Some(Delim::Quote)
+        && write.plus == Some(true)
+        && write.pad.is_none()
+        && write.advance == Some(false)
 }
 
 #[test]
 fn transfers(rt: HostRuntime) {
     let line = "WRITE(*,'(''a'',I5)',DELIM='quote',SIGN='PLUS',ADVANCE='NO',ID=N) 5,'it''s',B(3)";
-    let Written::Transfer(write) = written(rt.alloc(), line) else {
-        panic!(rt; "no WRITE");
-    };
-    assert!(rt;
-        matches!(&write.format, Some(Format::Literal(text)) if text.bytes() == "('a',I5)".as_bytes())
-    );
-    let [
-        Operand::Number { sign, amount: 5 },
-        Operand::Literal(_),
-        Operand::Place(_),
-    ] = write.items.as_slice()
-    else {
-        panic!(rt; "other items");
-    };
-    assert!(rt; *sign == Sign::Unsigned);
-    assert!(rt; !write.input && write.unit == UnitRef::Star && write.delim == Some(Delim::Quote));
-    assert!(rt; write.plus == Some(true) && write.pad.is_none() && write.advance == Some(false));
+    assert!(rt; matches!(&written(rt.alloc(), line), Written::Transfer(write) if is_write(write)));
+}
+
+fn is_endfile(motion: &OnUnit<Motion>) -> bool {
+    motion.what == Motion::Endfile && motion.unit == UnitRef::Number(7) && motion.iostat.is_none()
+}
+
+fn is_close(close: &OnUnit<Option<bool>>) -> bool {
+    close.unit == UnitRef::Number(7) && close.what == Some(true) && close.iostat.is_none()
+}
+
+fn is_declaration(declaration: &Declaration) -> bool {
+    declaration.kind == Kind::Chars(7)
+        && declaration.entities.len() == 2
+        && is_element(declaration.entities.get(0), b"C", 2)
+}
+
+fn is_inquiry(inquire: &Inquire) -> bool {
+    matches!(inquire.about, Subject::File(_))
+        && inquire.asked.len() == 2
+        && matches!(inquire.asked.get(0), Some(asking) if asking.what == Question::Size)
 }
 
 #[test]
 fn others(rt: HostRuntime) {
-    let Written::Move(motion) = written(rt.alloc(), "END FILE 7") else {
-        panic!(rt; "no ENDFILE");
-    };
-    assert!(rt; motion.what == Motion::Endfile && motion.unit == UnitRef::Number(7));
-    assert!(rt; motion.iostat.is_none());
-    let Written::Close(close) = written(rt.alloc(), "CLOSE(7,STATUS='keep')") else {
-        panic!(rt; "no CLOSE");
-    };
-    assert!(rt; close.unit == UnitRef::Number(7) && close.what == Some(true));
-    assert!(rt; close.iostat.is_none());
-    let Written::Declaration(declaration) = written(rt.alloc(), "CHARACTER(7) C(2),D") else {
-        panic!(rt; "no CHARACTER");
-    };
-    assert!(rt; declaration.kind == Kind::Chars(7) && declaration.entities.len() == 2);
-    assert!(rt; is_element(declaration.entities.get(0), b"C", 2));
-    let Written::Inquire(inquire) = written(rt.alloc(), "INQUIRE(SIZE=N,FILE='X',EXIST=L)") else {
-        panic!(rt; "no INQUIRE");
-    };
-    assert!(rt; matches!(inquire.about, Subject::File(_)) && inquire.asked.len() == 2);
-    assert!(rt; inquire.asked.as_slice()[0].what == Question::Size);
+    let motion = written(rt.alloc(), "END FILE 7");
+    assert!(rt; matches!(&motion, Written::Move(motion) if is_endfile(motion)));
+    let close = written(rt.alloc(), "CLOSE(7,STATUS='keep')");
+    assert!(rt; matches!(&close, Written::Close(close) if is_close(close)));
+    let kind = written(rt.alloc(), "CHARACTER(7) C(2),D");
+    assert!(rt; matches!(&kind, Written::Declaration(one) if is_declaration(one)));
+    let inquire = written(rt.alloc(), "INQUIRE(SIZE=N,FILE='X',EXIST=L)");
+    assert!(rt; matches!(&inquire, Written::Inquire(one) if is_inquiry(one)));
 }

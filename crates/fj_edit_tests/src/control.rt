@@ -96,81 +96,110 @@ fn nested(alloc: Global, depth: u32, count: &str) -> Result<String, AllocError> 
     Ok(text)
 }
 
+/// A format, the number of items, and the steps.
+static RUNS: [(&str, u32, &str); 33] = [
+    (
+        "(I3,2(1X,I2))",
+        6,
+        " I3 TR1 I2 TR1 I2 / TR1 I2 TR1 I2 / TR1 I2 TR1 . .",
+    ),
+    ("(2(I1,/),:,A)", 0, " . ."),
+    ("(2(I1,/),:,A)", 1, " I1 / . ."),
+    ("(2(I1,/),:,A)", 2, " I1 / I1 / . ."),
+    ("(2(I1,/),:,A)", 3, " I1 / I1 / A . ."),
+    ("(2(I1,/),:,A)", 4, " I1 / I1 / A / I1 / . ."),
+    ("(I1)", 3, " I1 / I1 / I1 . ."),
+    ("()", 0, " . ."),
+    ("()", 1, " ! !"),
+    ("('x')", 0, " 'x' . ."),
+    ("('x')", 1, " 'x' ! !"),
+    ("(I1,'x')", 1, " I1 'x' . ."),
+    ("(I1,'x')", 2, " I1 'x' / I1 'x' . ."),
+    ("(I1,(I2),I3)", 5, " I1 I2 I3 / I2 I3 . ."),
+    (
+        "((I1),2(I2,'a'),'b')",
+        4,
+        " I1 I2 'a' I2 'a' 'b' / I2 'a' . .",
+    ),
+    ("(I1,(1X))", 1, " I1 TR1 . ."),
+    ("(I1,(1X))", 2, " I1 TR1 ! !"),
+    (
+        "('a',2(I1,'c'),2('b'))",
+        3,
+        " 'a' I1 'c' I1 'c' 'b' 'b' ! !",
+    ),
+    (
+        "(2(I1,2('a',I2)),I3)",
+        8,
+        " I1 'a' I2 'a' I2 I1 'a' I2 'a' I2 I3 / I1 'a' . .",
+    ),
+    ("(3(2(I1)))", 7, " I1 I1 I1 I1 I1 I1 / I1 . ."),
+    ("(//I1//)", 2, " / / I1 / / / / / I1 / / . ."),
+    ("(3/,I1)", 1, " / / / I1 . ."),
+    ("(':',:,'x',I1)", 0, " ':' . ."),
+    ("(':',:,'x',I1)", 1, " ':' 'x' I1 . ."),
+    ("(:)", 0, " . ."),
+    ("(:)", 1, " ! !"),
+    ("(I1,:,',')", 2, " I1 ',' / I1 . ."),
+    ("(I1/I2)", 3, " I1 / I2 / I1 / . ."),
+    ("(2I2,3A)", 4, " I2 I2 A A . ."),
+    ("(2(2(2(I1,:),'c'),:),'z')", 3, " I1 I1 'c' I1 . ."),
+    ("(T4,A,T1,A)", 2, " T4 A T1 A . ."),
+    ("(TL3,TR2,5X,X,I1)", 1, " TL3 TR2 TR5 TR1 I1 . ."),
+    (
+        "(SP,I5.3,SS,B8,S,O3,BN,Z4.2,BZ,L1,DC,G8.2,DP,A7)",
+        7,
+        " SP I5.3 SS 2#8 S 8#3 BN 16#4.2 BZ L1 DC G8.2 DP A7 . .",
+    ),
+];
+
+/// Whether a format has these steps.
+fn has_steps(alloc: Global, format: &str, items: u32, want: &str) -> Result<bool, Fail> {
+    if format.len() >= 1000 {
+        return Ok(false);
+    }
+    let got = steps_of(alloc, format.as_bytes(), items)?;
+    Ok(got.as_str() == want)
+}
+
 #[test]
 fn steps(rt: HostRuntime) -> Result<(), Fail> {
-    let alloc = rt.alloc();
-    let runs = [
-        (
-            "(I3,2(1X,I2))",
-            6,
-            " I3 TR1 I2 TR1 I2 / TR1 I2 TR1 I2 / TR1 I2 TR1 . .",
-        ),
-        ("(2(I1,/),:,A)", 0, " . ."),
-        ("(2(I1,/),:,A)", 1, " I1 / . ."),
-        ("(2(I1,/),:,A)", 2, " I1 / I1 / . ."),
-        ("(2(I1,/),:,A)", 3, " I1 / I1 / A . ."),
-        ("(2(I1,/),:,A)", 4, " I1 / I1 / A / I1 / . ."),
-        ("(I1)", 3, " I1 / I1 / I1 . ."),
-        ("()", 0, " . ."),
-        ("()", 1, " ! !"),
-        ("('x')", 0, " 'x' . ."),
-        ("('x')", 1, " 'x' ! !"),
-        ("(I1,'x')", 1, " I1 'x' . ."),
-        ("(I1,'x')", 2, " I1 'x' / I1 'x' . ."),
-        ("(I1,(I2),I3)", 5, " I1 I2 I3 / I2 I3 . ."),
-        (
-            "((I1),2(I2,'a'),'b')",
-            4,
-            " I1 I2 'a' I2 'a' 'b' / I2 'a' . .",
-        ),
-        ("(I1,(1X))", 1, " I1 TR1 . ."),
-        ("(I1,(1X))", 2, " I1 TR1 ! !"),
-        (
-            "('a',2(I1,'c'),2('b'))",
-            3,
-            " 'a' I1 'c' I1 'c' 'b' 'b' ! !",
-        ),
-        (
-            "(2(I1,2('a',I2)),I3)",
-            8,
-            " I1 'a' I2 'a' I2 I1 'a' I2 'a' I2 I3 / I1 'a' . .",
-        ),
-        ("(3(2(I1)))", 7, " I1 I1 I1 I1 I1 I1 / I1 . ."),
-        ("(//I1//)", 2, " / / I1 / / / / / I1 / / . ."),
-        ("(3/,I1)", 1, " / / / I1 . ."),
-        ("(':',:,'x',I1)", 0, " ':' . ."),
-        ("(':',:,'x',I1)", 1, " ':' 'x' I1 . ."),
-        ("(:)", 0, " . ."),
-        ("(:)", 1, " ! !"),
-        ("(I1,:,',')", 2, " I1 ',' / I1 . ."),
-        ("(I1/I2)", 3, " I1 / I2 / I1 / . ."),
-        ("(2I2,3A)", 4, " I2 I2 A A . ."),
-        ("(2(2(2(I1,:),'c'),:),'z')", 3, " I1 I1 'c' I1 . ."),
-        ("(T4,A,T1,A)", 2, " T4 A T1 A . ."),
-        ("(TL3,TR2,5X,X,I1)", 1, " TL3 TR2 TR5 TR1 I1 . ."),
-        (
-            "(SP,I5.3,SS,B8,S,O3,BN,Z4.2,BZ,L1,DC,G8.2,DP,A7)",
-            7,
-            " SP I5.3 SS 2#8 S 8#3 BN 16#4.2 BZ L1 DC G8.2 DP A7 . .",
-        ),
-    ];
-    for (format, items, want) in runs {
-        assert!(rt; format.len() < 100);
-        let got = steps_of(alloc, format.as_bytes(), items)?;
-        assert_eq!(rt; got.as_str(), want, "{format} with {items}");
+    for (format, items, want) in RUNS.iter() {
+        assert!(rt;
+            has_steps(rt.alloc(), format, *items, want)?,
+            "{format} with {items}"
+        );
     }
-    for depth in 1..33u32 {
-        let once = nested(alloc, depth, "")?;
-        assert!(rt; once.len() < 1000);
-        let got = steps_of(alloc, once.as_bytes(), 2)?;
-        assert_eq!(rt; got.as_str(), " I1 / I1 . .");
+    Ok(())
+}
+
+#[test]
+fn nested_formats(rt: HostRuntime) -> Result<(), Fail> {
+    for depth in 1..33 {
+        let format = nested(rt.alloc(), depth, "")?;
+        assert!(rt;
+            has_steps(rt.alloc(), format.as_str(), 2, " I1 / I1 . .")?,
+            "depth {depth}"
+        );
     }
+    Ok(())
+}
+
+/// How many characters the steps of the first pass take.
+fn length_of_a_pass(alloc: Global, format: &str, items: u32) -> Result<usize, Fail> {
+    if format.len() >= 1000 {
+        return Ok(0);
+    }
+    let got = steps_of(alloc, format.as_bytes(), items)?;
+    Ok(got.as_str().split_once("/").map_or(0, |p| p.0.len()))
+}
+
+#[test]
+fn nested_counts(rt: HostRuntime) -> Result<(), Fail> {
     for (depth, want) in [(1, 1), (2, 2), (3, 4), (5, 16), (8, 128)] {
-        let twice = nested(alloc, depth, "2")?;
-        assert!(rt; twice.len() < 1000);
-        let got = steps_of(alloc, twice.as_bytes(), 256)?;
-        let first = got.as_str().split_once("/").map_or(0, |p| p.0.len());
-        assert_eq!(rt; first, 3 * want + 1, "depth {depth}");
+        let twice = nested(rt.alloc(), depth, "2")?;
+        let first = length_of_a_pass(rt.alloc(), twice.as_str(), 256)?;
+        assert!(rt; first == 3 * want + 1, "depth {depth}");
     }
     Ok(())
 }

@@ -206,39 +206,53 @@ fn numbers(rt: HostRuntime) -> Result<(), Fail> {
     Ok(())
 }
 
+/// What a field gives under L; nothing where it is refused and the variable is as it was.
+fn read_truth(alloc: Global, chars: &[u8]) -> Result<Result<Option<bool>, ()>, AllocError> {
+    let mut out = Value::Undefined;
+    let edit = Edit::Log { w: 9 };
+    let condition = read_field(alloc, edit, Kind::Logical, modes(false), chars, &mut out)?;
+    Ok(match (condition, out) {
+        (Condition::Fine, Value::Log(truth)) => Ok(Some(truth)),
+        (Condition::Error(13), Value::Undefined) => Ok(None),
+        _ => Err(()),
+    })
+}
+
 #[test]
 fn logicals(rt: HostRuntime) -> Result<(), Fail> {
     for (chars, expected) in LOGICALS.iter() {
-        let mut out = Value::Undefined;
-        let edit = Edit::Log { w: 9 };
-        let condition = read_field(
-            rt.alloc(),
-            edit,
-            Kind::Logical,
-            modes(false),
-            chars,
-            &mut out,
-        )?;
-        let read = match (condition, out) {
-            (Condition::Fine, Value::Log(truth)) => Ok(Some(truth)),
-            (Condition::Error(13), Value::Undefined) => Ok(None),
-            _ => Err(()),
-        };
-        assert!(rt; read == Ok(*expected), "{chars:?}");
+        assert!(rt;
+            read_truth(rt.alloc(), chars)? == Ok(*expected),
+            "{chars:?}"
+        );
     }
     Ok(())
+}
+
+/// Whether a field gives these characters under A.
+fn reads_text(
+    alloc: Global,
+    chars: &[u8],
+    length: u32,
+    expected: &[u8],
+) -> Result<bool, AllocError> {
+    let mut out = Value::Undefined;
+    let edit = Edit::Chars { w: Some(9) };
+    let kind = Kind::Chars(length);
+    let condition = read_field(alloc, edit, kind, modes(false), chars, &mut out)?;
+    Ok(
+        condition == Condition::Fine
+            && matches!(&out, Value::Chars(text) if text.bytes() == expected),
+    )
 }
 
 #[test]
 fn texts(rt: HostRuntime) -> Result<(), Fail> {
     for (chars, length, expected) in TEXTS.iter() {
-        let mut out = Value::Undefined;
-        let edit = Edit::Chars { w: Some(9) };
-        let kind = Kind::Chars(*length);
-        let condition = read_field(rt.alloc(), edit, kind, modes(false), chars, &mut out)?;
-        assert!(rt; condition == Condition::Fine);
-        let is_expected = matches!(&out, Value::Chars(text) if text.bytes() == *expected);
-        assert!(rt; is_expected, "{chars:?}");
+        assert!(rt;
+            reads_text(rt.alloc(), chars, *length, expected)?,
+            "{chars:?}"
+        );
     }
     Ok(())
 }

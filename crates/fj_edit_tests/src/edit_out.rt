@@ -336,34 +336,75 @@ fn is_refused(alloc: Global, edit: Edit, value: &Value, kind: Kind) -> Result<bo
     Ok(condition == Condition::Error(12) && out.bytes() == b"=".as_slice())
 }
 
+/// Whether an item is written as this field.
+fn is_written(
+    alloc: Global,
+    edit: Edit,
+    value: &Value,
+    kind: Kind,
+    plus: bool,
+    expected: &[u8],
+) -> Result<bool, AllocError> {
+    let out = written(alloc, edit, value, kind, plus)?;
+    Ok(out.bytes() == expected)
+}
+
 #[test]
-fn fields(rt: HostRuntime) -> Result<(), Fail> {
-    let alloc = rt.alloc();
+fn numbers(rt: HostRuntime) -> Result<(), Fail> {
     for (base, w, m, n, kind, plus, expected) in NUMBERS.iter() {
-        let out = written(alloc, edit_of(*base, *w, *m), &Value::Int(*n), *kind, *plus)?;
-        assert_eq!(rt; out.bytes(), *expected, "base {base}, width {w}, {n}");
+        let edit = edit_of(*base, *w, *m);
+        let value = Value::Int(*n);
+        assert!(rt;
+            is_written(rt.alloc(), edit, &value, *kind, *plus, expected)?,
+            "base {base}, width {w}, {n}"
+        );
     }
-    for (w, text, expected) in TEXTS.iter() {
-        let value = Value::of_text(Text::from_bytes(alloc, text)?)?;
-        let out = written(alloc, Edit::Chars { w: *w }, &value, Kind::Chars(3), false)?;
-        assert_eq!(rt; out.bytes(), *expected);
-    }
-    let log = written(
+    Ok(())
+}
+
+/// Whether characters are written as this field.
+fn is_text(
+    alloc: Global,
+    w: Option<u32>,
+    text: &[u8],
+    expected: &[u8],
+) -> Result<bool, AllocError> {
+    let value = Value::of_text(Text::from_bytes(alloc, text)?)?;
+    is_written(
         alloc,
-        Edit::Log { w: 3 },
-        &Value::Log(false),
+        Edit::Chars { w },
+        &value,
+        Kind::Chars(3),
+        false,
+        expected,
+    )
+}
+
+#[test]
+fn texts(rt: HostRuntime) -> Result<(), Fail> {
+    for (number, (w, text, expected)) in TEXTS.iter().enumerate() {
+        assert!(rt; is_text(rt.alloc(), *w, text, expected)?, "row {number}");
+    }
+    Ok(())
+}
+
+/// Whether a logical value is written as this field.
+fn is_logical(alloc: Global, w: u32, truth: bool, expected: &[u8]) -> Result<bool, AllocError> {
+    let value = Value::Log(truth);
+    is_written(
+        alloc,
+        Edit::Log { w },
+        &value,
         Kind::Logical,
         false,
-    )?;
-    assert_eq!(rt; log.bytes(), b"  F".as_slice());
-    let one = written(
-        alloc,
-        Edit::Log { w: 1 },
-        &Value::Log(true),
-        Kind::Logical,
-        false,
-    )?;
-    assert_eq!(rt; one.bytes(), b"T".as_slice());
+        expected,
+    )
+}
+
+#[test]
+fn logicals(rt: HostRuntime) -> Result<(), Fail> {
+    assert!(rt; is_logical(rt.alloc(), 3, false, b"  F")?);
+    assert!(rt; is_logical(rt.alloc(), 1, true, b"T")?);
     Ok(())
 }
 

@@ -5,7 +5,7 @@ use std::alloc::{AllocError, Global};
 
 /// The texts: of whole formats, commas, strings, integers, other data, positions, modes, and at the
 /// limits. Behind each `=` stands the text of the format that it is, or the place of the fault.
-const CASES: &[u8] = b"\
+static CASES: &[u8] = b"\
     ( i5 , x , 2(a) )=(I5,1X,2(A))|\
     (I5) rest=(I5)|\
     =0|\
@@ -167,13 +167,13 @@ fn is_too_long(alloc: Global, text: &[u8]) -> bool {
         return false;
     }
     match parse_items(alloc, text) {
-        Ok(items) => Format::of(items).is_none(),
+        Ok(items) => matches!(Format::of(alloc, items), Ok(None)),
         Err(_) => false,
     }
 }
 
 /// Formats with an integer field as wide as its value, and others.
-const WIDTHS: [(&str, bool); 7] = [
+static WIDTHS: [(&str, bool); 7] = [
     ("(I0)", true),
     ("(B0.5)", true),
     ("(A,2(X,3(O0)))", true),
@@ -193,20 +193,23 @@ fn has_width(alloc: Global, text: &str) -> Option<bool> {
 
 #[test]
 fn widths(rt: HostRuntime) {
-    for (text, wanted) in WIDTHS {
-        assert_eq!(rt; has_width(rt.alloc(), text), Some(wanted), "{text}");
+    for (text, wanted) in WIDTHS.iter() {
+        assert!(rt; has_width(rt.alloc(), text) == Some(*wanted), "{text}");
+    }
+}
+
+/// Whether what stands before the `=` of a case is read as what stands behind it.
+fn is_read(alloc: Global, case: &[u8]) -> Result<bool, AllocError> {
+    match case.iter().position(|c| *c == b'=') {
+        Some(at) => reads_as(alloc, &case[..at], &case[at + 1..]),
+        None => Ok(false),
     }
 }
 
 #[test]
 fn texts_are_read(rt: HostRuntime) -> Result<(), AllocError> {
-    let alloc = rt.alloc();
-    for case in CASES.split(|c| *c == b'|') {
-        let read = match case.iter().position(|c| *c == b'=') {
-            Some(at) => reads_as(alloc, &case[..at], &case[at + 1..])?,
-            None => false,
-        };
-        assert!(rt; read, "{case:?}");
+    for (number, case) in CASES.split(|c| *c == b'|').enumerate() {
+        assert!(rt; is_read(rt.alloc(), case)?, "case {number}");
     }
     Ok(())
 }

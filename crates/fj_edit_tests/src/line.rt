@@ -5,7 +5,7 @@ ghost use Rattle.fj_line.specs.Page.{IsIn};
 use Done::{End, Go, Put};
 use fj_line::{Line, Move, Page, Unwritten};
 use fj_value::{Condition, Text};
-use std::alloc::AllocError;
+use std::alloc::{AllocError, Global};
 use std::test::Fail;
 
 /// A call on a line.
@@ -36,39 +36,45 @@ fn apply(line: &mut Line, call: Call) -> Result<(), Fail> {
     Ok(())
 }
 
+use Call::{L, P, R, T};
+
+/// Calls on an empty line, its text and its position.
+static RUNS: [(&[Call], &[u8], u64); 19] = [
+    (&[T(4), P(b"CD"), T(1), P(b"AB")], b"AB CD", 2),
+    (&[], b"", 0),
+    (&[R(5)], b"", 5),
+    (&[R(2), P(b"")], b"", 2),
+    (&[P(b"abc"), L(1), P(b"X")], b"abX", 3),
+    (&[P(b"abc"), L(9), P(b"X")], b"Xbc", 1),
+    (&[P(b"abc"), L(2), P(b"YZW")], b"aYZW", 4),
+    (&[R(3), P(b"x")], b"   x", 4),
+    (&[T(1), P(b"x")], b"x", 1),
+    (&[T(2), P(b"c")], b" c", 2),
+    (&[P(b"abc"), T(2), P(b" ")], b"a c", 2),
+    (&[P(b"ab"), R(3), P(b"c"), L(1), R(2)], b"ab   c", 7),
+    (&[T(10), T(3), P(b"q")], b"  q", 3),
+    (&[P(b"abcdef"), T(3), P(b"")], b"abcdef", 2),
+    (&[T(5), P(b"e"), T(3), P(b"c"), T(1), P(b"a")], b"a c e", 1),
+    (&[P(b"12345"), T(4), P(b"abc")], b"123abc", 6),
+    (&[P(b"ab"), L(1), L(1), L(1), P(b"c")], b"cb", 1),
+    (&[T(4294967295), L(4294967290), P(b"z")], b"    z", 5),
+    (&[P(b"a"), R(1), L(1), P(b"b")], b"ab", 2),
+];
+
+/// Whether calls come to that.
+fn comes(line: &mut Line, calls: &[Call], text: &[u8], position: u64) -> Result<bool, Fail> {
+    line.clear();
+    for call in calls {
+        apply(line, *call)?;
+    }
+    Ok(line.text() == text && line.position() == position && line.width() == text.len() as u64)
+}
+
 #[test]
-fn line(rt: HostRuntime) -> Result<(), Fail> {
-    use Call::{L, P, R, T};
+fn lines(rt: HostRuntime) -> Result<(), Fail> {
     let mut line = Line::new(rt.alloc());
-    let runs: [(&[Call], &[u8], u64); 19] = [
-        (&[T(4), P(b"CD"), T(1), P(b"AB")], b"AB CD", 2),
-        (&[], b"", 0),
-        (&[R(5)], b"", 5),
-        (&[R(2), P(b"")], b"", 2),
-        (&[P(b"abc"), L(1), P(b"X")], b"abX", 3),
-        (&[P(b"abc"), L(9), P(b"X")], b"Xbc", 1),
-        (&[P(b"abc"), L(2), P(b"YZW")], b"aYZW", 4),
-        (&[R(3), P(b"x")], b"   x", 4),
-        (&[T(1), P(b"x")], b"x", 1),
-        (&[T(2), P(b"c")], b" c", 2),
-        (&[P(b"abc"), T(2), P(b" ")], b"a c", 2),
-        (&[P(b"ab"), R(3), P(b"c"), L(1), R(2)], b"ab   c", 7),
-        (&[T(10), T(3), P(b"q")], b"  q", 3),
-        (&[P(b"abcdef"), T(3), P(b"")], b"abcdef", 2),
-        (&[T(5), P(b"e"), T(3), P(b"c"), T(1), P(b"a")], b"a c e", 1),
-        (&[P(b"12345"), T(4), P(b"abc")], b"123abc", 6),
-        (&[P(b"ab"), L(1), L(1), L(1), P(b"c")], b"cb", 1),
-        (&[T(4294967295), L(4294967290), P(b"z")], b"    z", 5),
-        (&[P(b"a"), R(1), L(1), P(b"b")], b"ab", 2),
-    ];
-    for (calls, text, position) in runs {
-        line.clear();
-        for step in calls {
-            apply(&mut line, *step)?;
-        }
-        assert_eq!(rt; line.text(), text);
-        assert_eq!(rt; line.position(), position);
-        assert_eq!(rt; line.width(), text.len() as u64);
+    for (number, (calls, text, position)) in RUNS.iter().enumerate() {
+        assert!(rt; comes(&mut line, calls, text, *position)?, "row {number}");
     }
     Ok(())
 }
@@ -146,22 +152,30 @@ static ROWS: [Row; 12] = [
     ),
 ];
 
+/// Whether a row holds.
+fn writes(alloc: Global, row: &Row) -> Result<bool, AllocError> {
+    let (all, begun, limit, want) = *row;
+    let mut text = Text::from_bytes(alloc, b"=")?;
+    let page = Page::new(&text, limit, begun);
+    let condition = carry_all(page, &mut text, all)?;
+    Ok(match (want, text.bytes()) {
+        (Ok(written), [b'=', added @ ..]) => condition == Condition::Fine && added == written,
+        (Err(met), _) => condition == met,
+        (Ok(_), _) => false,
+    })
+}
+
 #[test]
 fn pages(rt: HostRuntime) -> Result<(), Fail> {
-    let alloc = rt.alloc();
-    for (all, begun, limit, want) in ROWS {
-        let mut text = Text::from_bytes(alloc, b"=")?;
-        let page = Page::new(&text, limit, begun);
-        let condition = carry_all(page, &mut text, all)?;
-        match (want, text.bytes()) {
-            (Ok(written), [b'=', added @ ..]) => {
-                assert!(rt; condition == Condition::Fine && added == written);
-            }
-            (Err(met), _) => assert_eq!(rt; condition, met),
-            (Ok(_), _) => assert!(rt; false),
-        }
+    for (number, row) in ROWS.iter().enumerate() {
+        assert!(rt; writes(rt.alloc(), row)?, "row {number}");
     }
-    let mut text = Text::from_bytes(alloc, b"=")?;
+    Ok(())
+}
+
+#[test]
+fn pages_take_in(rt: HostRuntime) -> Result<(), Fail> {
+    let mut text = Text::from_bytes(rt.alloc(), b"=")?;
     let mut page = Page::new(&text, 3, 0);
     text.push_all(b"abc")?;
     assert!(rt; page.take_in(&text).is_ok() && page.is_at_end(&text) && page.width(&text) == 3);

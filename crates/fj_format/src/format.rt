@@ -7,15 +7,16 @@ ghost use Rattle.fj_format.specs.Within.{IsStepWithin};
 
 use crate::count::{MOST_STEPS, pass_count};
 use crate::fault::FormatFault;
-use crate::item::{FormatItems, copy_items};
+use crate::item::FormatItems;
 use crate::scanner::Scanner;
 use std::alloc::{AllocError, Global};
 use std::marker::Model;
+use std::sync::Arc;
 
-/// A format, seen as the list of its items.
+/// A format, seen as the list of its items, which its clones share.
 #[derive(Drop)]
 pub struct Format {
-    items: FormatItems,
+    items: Arc<FormatItems, Global>,
 }
 
 impl Model for Format {
@@ -30,21 +31,22 @@ impl Model for Format {
 
     ghost use Rattle.fj_format.specs.Sound.{IsSound};
 
-    ghost view = { λ format. format.items };
+    ghost view = { λ format. format.items.value };
 
-    ghost invariant = { λ format. IsSound format.items };
+    ghost invariant = { λ format. IsSound format.items.value };
 }
 
 impl Format {
     /// The format of these items; `None` where one pass of it has more than 1,000,000 elementary items.
-    pub fn of(items: FormatItems) -> Option<Format>
+    pub fn of(alloc: Global, items: FormatItems) -> Result<Option<Format>, AllocError>
         requires { IsWritten items }
-        ensures { MatchOption result (1000000 < length (pass items)) (λ format. (format ≡ items) × (length (pass items) ≤ 1000000)) }
+        ensures { IfOk result (λ o. MatchOption o (1000000 < length (pass items)) (λ format. (format ≡ items) × (length (pass items) ≤ 1000000))) }
     {
         if pass_count(&items) > MOST_STEPS {
-            return None;
+            return Ok(None);
         }
-        Some(Format { items })
+        let items = Arc::new(alloc, items)?;
+        Ok(Some(Format { items }))
     }
 
     /// Its items.
@@ -57,12 +59,12 @@ impl Format {
         &self.items
     }
 
-    /// An equal format.
+    /// The same format once more, of the same items.
     pub fn try_clone(&self) -> Result<Format, AllocError>
         ensures { IfOk result (λ copy. copy ≡ self.now) }
     {
         Ok(Format {
-            items: copy_items(self.items.allocator(), &self.items)?,
+            items: Arc::try_clone(&self.items)?,
         })
     }
 }
@@ -74,7 +76,7 @@ pub fn parse(alloc: Global, text: &[u8]) -> Result<Format, FormatFault>
     ensures { Parses text.now result }
 {
     let items = parse_items(alloc, text)?;
-    match Format::of(items) {
+    match Format::of(alloc, items)? {
         Some(format) => Ok(format),
         None => Err(FormatFault::TooMany),
     }

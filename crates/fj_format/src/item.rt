@@ -1,13 +1,12 @@
 // The items of a format (ISO/IEC 1539-1:2004, 10.2).
-ghost use Rattle.std.specs.Prelude.{◌≡◌, Bool, IfOk};
+ghost use Rattle.std.specs.Prelude.{◌≡◌, Bool};
 ghost use Rattle.fj_format.specs.declared.item.FormatItem.TheFolds.{fold-FormatItem};
 ghost use Rattle.fj_format.specs.Unfolding.{is_unbounded, unbounded_step, has_width_zero};
 
 use fj_value::{Edit, Items, Text};
-use std::alloc::{AllocError, Global};
 
 /// A change of a mode by a control edit descriptor (10.7.4, 10.7.6 and 10.7.8).
-#[derive(Clone, Copy, Debug, PartialEq, Eq)]
+#[derive(Clone, Copy, PartialEq, Eq)]
 pub enum ModeStep {
     /// `SP`.
     Plus,
@@ -51,43 +50,6 @@ pub enum FormatItem {
 }
 
 pub type FormatItems = Items<FormatItem>;
-
-#[cycle(copy)]
-fn copy_item(alloc: Global, item: &FormatItem) -> Result<FormatItem, AllocError>
-    ensures { IfOk result (λ copy. copy ≡ item.now) }
-{
-    match item {
-        FormatItem::Field { r, edit } => Ok(FormatItem::Field { r: *r, edit: *edit }),
-        FormatItem::Group { r, items } => {
-            let items = copy_items(alloc, items)?;
-            Ok(FormatItem::Group { r: *r, items })
-        }
-        FormatItem::Str(text) => {
-            let text = text.try_clone()?;
-            Ok(FormatItem::Str(text))
-        }
-        FormatItem::Tab(n) => Ok(FormatItem::Tab(*n)),
-        FormatItem::Left(n) => Ok(FormatItem::Left(*n)),
-        FormatItem::Right(n) => Ok(FormatItem::Right(*n)),
-        FormatItem::Skip(n) => Ok(FormatItem::Skip(*n)),
-        FormatItem::Slash(n) => Ok(FormatItem::Slash(*n)),
-        FormatItem::Colon => Ok(FormatItem::Colon),
-        FormatItem::Mode(step) => Ok(FormatItem::Mode(*step)),
-    }
-}
-
-/// Equal items.
-#[cycle(copy)]
-pub fn copy_items(alloc: Global, items: &FormatItems) -> Result<FormatItems, AllocError>
-    ensures { IfOk result (λ copies. copies ≡ items.now) }
-{
-    let mut copies = Items::new(alloc);
-    for item in items.as_slice() {
-        let copy = copy_item(alloc, item)?;
-        copies.push(copy)?;
-    }
-    Ok(copies)
-}
 
 /// Whether this is I, B, O or Z of width 0.
 fn is_unbounded(edit: Edit) -> bool

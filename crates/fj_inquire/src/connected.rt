@@ -3,7 +3,7 @@
 use fj_modes::{FileName, Modes};
 
 /// The modes of the connection of a unit, and the name of its file.
-#[derive(Debug, Drop)]
+#[derive(Drop)]
 pub struct Connected {
     pub modes: Modes,
     pub name: FileName,

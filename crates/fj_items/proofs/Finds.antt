@@ -11,7 +11,7 @@ use Rattle.fj_line.specs.Actions.{Action}
 use Rattle.fj_list.specs.declared.moved.Moved.{Moved}
 use Rattle.fj_namelist.specs.GroupText.{IsWithin}
 use Rattle.fj_transfer.specs.Moving as moving
-use Rattle.fj_transfer.specs.Printing.{Printed, printed_by, open_count}
+use Rattle.fj_transfer.specs.Printing.{Printed, printed_by, open_count, IsOfItems as IsLayoutOfItems}
 use Rattle.fj_transfer.specs.declared.transfer.Layout.{Layout}
 use Rattle.fj_statement.specs.Sound.{IsVariable, IsTransfer, HasNoItems}
 use Rattle.fj_statement.specs.declared.deck.Variable.{Variable}
@@ -36,6 +36,7 @@ use Rattle.fj_plain.specs.Needs.{group_places, if_given}
 use Rattle.fj_plain.specs.State.{Output, elements}
 use Rattle.fj_plain.specs.Transfers.{member_of, members_of, layout_of, moved_in, printed_to}
 use Rattle.fj_items.specs.Gathering.{IsGathered, IsNumbered, all_items, members_in, count_of}
+use Rattle.fj_items.specs.Shown.{IsOfItems}
 use Rattle.fj_items.specs.declared.gathering.Gathered.{Gathered}
 use Rattle.fj_items.specs.declared.lost.Lost.{Lost}
 use Rattle.fj_items.proofs.Cells.{IsCounted, items_counted, HasRun, runs_of}
@@ -168,6 +169,13 @@ pub layout_grouped : (vs : List Variable) (c : Control) (cells : List Cell) (lay
 layout_grouped vs c cells layout n count made h =
     let P : ℕ → Layout → Type 0 = λ k l. All (IsWithin k) (moving.members_of l) in
     subst (λ k. P k layout) (sym count) (subst (P (length cells)) (sym made) h)
+
+-- the layout of items alone is that of no group
+pub of_items : (vs : List Variable) (c : Control) (cells : List Cell) (layout : Layout) → IsOfItems c → layout ≡ layout_of vs cells c → IsLayoutOfItems layout
+of_items vs control.Unformatted cells layout h is = absurd h
+of_items vs (control.Explicit f) cells layout h is = subst IsLayoutOfItems (sym is) tt
+of_items vs control.Listed cells layout h is = subst IsLayoutOfItems (sym is) tt
+of_items vs (control.Group name vars) cells layout h is = absurd h
 
 -- ---- the record that stays open on `*`
 

@@ -26,6 +26,7 @@ use Rattle.fj_plain.specs.Needs.{group_places}
 use Rattle.fj_plain.specs.Transfers.{moved_in}
 use Rattle.fj_items.specs.Gathering.{IsPiece, ArePieces, IsGathered, all_items, members_in}
 use Rattle.fj_items.specs.Kinds.{kinds_of}
+use Rattle.fj_items.specs.Shown.{IsOfItems}
 use Rattle.fj_items.specs.declared.gathering.Gathered.{Gathered}
 use Rattle.fj_items.proofs.Values.{kind_is, read_is}
 
@@ -126,6 +127,30 @@ cells_are variables s t g kinds h = pieces_cells variables s 1 (all_items t) g.p
 pub moved_is : (variables : List Variable) (s : Storage) (t : Transfer) (g : Gathered) (moved : Moved) → s.kinds ≡ kinds_of variables → IsGathered variables (all_items t) g
     → moved ≡ moved_of (cells_in s g.pieces.items) → moved ≡ moved_in variables (values_of s) t
 moved_is variables s t g moved kinds h made = made ∙ ap moved_of (cells_are variables s t g kinds h)
+
+-- ---- one operand alone, and no group
+
+pub alone : (variables : List Variable) (t : Transfer) (slice : List Operand) (item : Operand) (run : Run) → slice ≡ t.items → length slice ≡ 1 → item ≡ get_or slice 0 item → members_in t.control ≡ [] → IsPiece variables item (Places run)
+    → ArePieces variables (all_items t) (Places run ∷ [])
+alone variables t slice item run same one is none h =
+    let P : List Operand → Type 0 = λ xs. ArePieces variables xs (Places run ∷ []) in
+    let Q : Operand → Type 0 = λ x. IsPiece variables x (Places run) in
+    subst P (only slice item one ∙ same ∙ sym (append-nil t.items) ∙ ap (λ xs. t.items ++ xs) (sym none)) (subst Q is h, tt)
+  where
+    only : (xs : List Operand) (x : Operand) → length xs ≡ 1 → get_or xs 0 x ∷ [] ≡ xs
+    only [] x one = absurd (omega (arith, one))
+    only (y ∷ []) x one = refl
+    only (y ∷ z ∷ zs) x one = absurd (omega (arith, one))
+
+pub no_group : (c : Control) → IsOfItems c → members_in c ≡ []
+no_group control.Unformatted h = refl
+no_group (control.Explicit f) h = refl
+no_group control.Listed h = refl
+no_group (control.Group name vars) h = absurd h
+
+pub alone_is : (variables : List Variable) (s : Storage) (t : Transfer) (run : Run) → s.kinds ≡ kinds_of variables → ArePieces variables (all_items t) (Places run ∷ []) → moved_of (map (cell_at s) (places_of run)) ≡ moved_in variables (values_of s) t
+alone_is variables s t run kinds h =
+    ap moved_of (sym (append-nil (map (cell_at s) (places_of run))) ∙ pieces_cells variables s 1 (all_items t) (Places run ∷ []) kinds h ∙ all_cells variables (values_of s) t.items t.control)
 
 -- ---- pieces that are runs alone
 

@@ -1,8 +1,11 @@
 // The layout of a transfer, with the cells of its group.
-ghost use Rattle.std.specs.Prelude.{◌≡◌, ◌≤◌, ◌<◌, ◌^◌, ◌↔◌, length, IfOk, IsTrue, All};
+ghost use Rattle.std.specs.Prelude.{List, ◌≡◌, ◌≤◌, ◌<◌, ◌^◌, ◌↔◌, length, IfOk, IsTrue, All};
 ghost use Rattle.std.specs.List.{position_or_len};
 ghost use Rattle.fj_namelist.specs.GroupText.{IsWithin};
 ghost use Rattle.fj_plain.specs.Transfers.{member_of, members_of, layout_of};
+ghost use Rattle.fj_statement.specs.declared.deck.Variable.{Variable as AnyVariable};
+ghost use Rattle.fj_value.specs.declared.value.Cell.{Cell as AnyCell};
+ghost use Rattle.fj_items.specs.Shown.{IsOfItems};
 ghost use Rattle.fj_store.specs.Places.{same_place};
 ghost use Rattle.fj_store.specs.Variables.{is_at};
 ghost use Rattle.fj_transfer.specs.Moving as moving;
@@ -69,6 +72,21 @@ fn members_among(
     }
 }
 
+/// The layout of a transfer of items alone.
+pub(crate) fn layout_of_items(control: &Control) -> Result<Layout, AllocError>
+    requires { IsOfItems control.now }
+    ensures { IfOk result (λ layout. (variables : List AnyVariable) (cells : List AnyCell) → layout ≡ layout_of variables cells control.now) }
+{
+    match control {
+        Control::Explicit(format) => {
+            let format = format.try_clone()?;
+            Ok(Layout::Explicit(format))
+        }
+        Control::Listed => Ok(Layout::Listed),
+        Control::Unformatted | Control::Group { .. } => unreachable!(),
+    }
+}
+
 /// The layout of a transfer with these cells.
 pub(crate) fn layout_for(
     alloc: Global,
@@ -81,11 +99,7 @@ pub(crate) fn layout_for(
 {
     match control {
         Control::Unformatted => Ok(Layout::Unformatted),
-        Control::Explicit(format) => {
-            let format = format.try_clone()?;
-            Ok(Layout::Explicit(format))
-        }
-        Control::Listed => Ok(Layout::Listed),
+        Control::Explicit(_) | Control::Listed => layout_of_items(control),
         Control::Group { name, vars } => {
             let members = members_among(alloc, variables, moved, vars.as_slice())?;
             let name = name.try_clone()?;

@@ -3,7 +3,7 @@ use fj_outside::Stop;
 use std::alloc::AllocError;
 
 /// Why a run is given up inside a statement.
-#[derive(Clone, Copy, Debug, PartialEq, Eq)]
+#[derive(Clone, Copy, PartialEq, Eq)]
 pub enum Lost {
     Memory(AllocError),
     /// The sink of the output failed.

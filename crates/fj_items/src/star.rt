@@ -1,18 +1,19 @@
 // The output on unit `*`: its records go to a sink as they end.
-ghost use Rattle.std.specs.Prelude.{◌≡◌, ◌≢◌, ◌≤◌, ◌++◌, ◌||◌, [], ◌↔◌, not, false, Err, IfOk, OnOk, OnErr, All, length};
+ghost use Rattle.std.specs.Prelude.{◌≡◌, ◌≢◌, ◌≤◌, ◌++◌, ◌||◌, [], ◌↔◌, not, false, Err, IfSome, IfOk, OnOk, OnErr, length};
 ghost use Rattle.fj_outside.specs.Faults.{Rose};
 ghost use Rattle.fj_store.specs.Storage.{values_of};
-ghost use Rattle.fj_namelist.specs.GroupText.{IsWithin};
-ghost use Rattle.fj_plain.specs.Transfers.{printed_to, star_limit};
+ghost use Rattle.fj_plain.specs.Transfers.{moved_in, printed_to, star_limit};
 ghost use Rattle.fj_statement.specs.Sound.{IsTransfer};
-ghost use Rattle.fj_transfer.specs.Moving.{members_of};
 ghost use Rattle.fj_transfer.specs.Transfer.{is_explicit};
-ghost use Rattle.fj_transfer.specs.Printing.{IsRecords, actions_by, control_of, printed_by};
+ghost use Rattle.fj_transfer.specs.Printing.{actions_by, control_of, printed_by};
+ghost use Rattle.fj_transfer.specs.Writing.{Prints};
 ghost use Rattle.fj_items.specs.Handing.{open_record, ended_part, printed_on, IsPrinted, HandsOver, HandsFront, HandsPart, TakesFront, TakesPart};
 ghost use Rattle.fj_items.specs.Kinds.{kinds_of};
+ghost use Rattle.fj_items.specs.Shown.{IsOfItems, IsShownBy, shown_cells};
 
 use crate::copying::copied;
-use crate::laying::{is_grouped, layout_for};
+use crate::gathering::only_run;
+use crate::laying::{is_grouped, layout_for, layout_of_items};
 use crate::lost::Lost;
 use crate::refusing::is_formatted;
 use crate::sink::put_all;
@@ -20,9 +21,9 @@ use fj_line::Unwritten;
 use fj_list::Load;
 use fj_modes::usual_edit;
 use fj_outside::Sink;
-use fj_statement::{Transfer, Variables};
-use fj_store::Store;
-use fj_transfer::{EditChange, Layout, print_onto};
+use fj_statement::{Control, Transfer, Variables};
+use fj_store::{Lent, Store};
+use fj_transfer::{EditChange, Layout, print_items_onto, print_onto};
 use fj_value::{Condition, EditModes, Text};
 use std::alloc::{AllocError, Global};
 use std::marker::Model;
@@ -31,11 +32,67 @@ use std::snapshot::Snapshot;
 /// The longest record of `*`, in characters.
 const STAR_LIMIT: u32 = 65536;
 
+/// A text that is no longer keeps its memory for other characters.
+const MOST_KEPT: usize = 65536;
+
+/// Puts other characters in place of a text's own. Its memory is used again, unless it is long.
+fn replace_text(text: &mut Text, other: Text) -> Result<(), AllocError>
+    ensures { OnOk result (text.new ≡ other) }
+{
+    if text.len() > MOST_KEPT {
+        *text = other;
+        return Ok(());
+    }
+    text.truncate(0);
+    text.push_all(other.bytes())
+}
+
 /// Whether the last record ends, which ADVANCE='NO' leaves open.
 fn ends_record(layout: &Layout, advance: bool) -> bool
     ensures { result ≡ (advance || not (is_explicit layout.now)) }
 {
     advance || !matches!(layout, Layout::Explicit(_))
+}
+
+/// What a WRITE on `*` prints: the values of a run where they stand, or copies of its items.
+#[derive(Drop)]
+enum Shown<'a> {
+    Lent(Lent<'a>),
+    Copied(Load),
+}
+
+impl<'a> Shown<'a> {
+    /// The output by a layout behind so many characters of an open record, as `print_onto` gives it.
+    fn print(
+        &self,
+        layout: &Layout,
+        advance: bool,
+        modes: EditModes,
+        begun: u32,
+        out: &mut Text,
+    ) -> Result<u64, Unwritten>
+        requires { IsShownBy layout.now self.now }
+        ensures { Prints begun (printed_by 65536 begun (actions_by layout.now (control_of layout.now) modes advance (shown_cells self.now))) out.old result out.new }
+    {
+        match self {
+            Shown::Lent(row) => {
+                print_items_onto(layout, advance, modes, row.items(), STAR_LIMIT, begun, out)
+            }
+            Shown::Copied(moved) => {
+                print_onto(layout, advance, modes, moved, STAR_LIMIT, begun, out)
+            }
+        }
+    }
+}
+
+/// The items of a WRITE where they stand, where they are one run of a variable and no group.
+fn lent<'a>(variables: &Variables, store: &'a Store, t: &Transfer) -> Option<Lent<'a>>
+    requires { store.now.kinds ≡ kinds_of variables.now }
+    ensures moved { IfSome result (λ row. row ≡ moved_in variables.now (values_of store.now) t.now) }
+    ensures items { IfSome result (λ row. IsOfItems t.now.control) }
+{
+    let run = only_run(variables, t)?;
+    store.row(run)
 }
 
 /// What was written on unit `*`. The records that ended were handed on; the characters of the one that is open are kept.
@@ -112,7 +169,7 @@ impl Output {
             Ok(()) => {}
             Err(e) => return Err(AllocError::from(e).into()),
         }
-        self.open = rest;
+        replace_text(&mut self.open, rest)?;
         Ok(())
     }
 
@@ -131,18 +188,17 @@ impl Output {
         layout: &Layout,
         advance: bool,
         modes: EditModes,
-        moved: &Load,
+        shown: &Shown,
     ) -> Result<Condition, Lost>
-        requires records { IsRecords layout.now }
-        requires grouped { All (IsWithin (length moved.now.cells)) (members_of layout.now) }
+        requires { IsShownBy layout.now shown.now }
         ensures printed { IfOk result (λ condition. (self.new, condition)
-            ≡ printed_to (advance || not (is_explicit layout.now)) self.old (printed_by 65536 self.old.begun (actions_by layout.now (control_of layout.now) modes advance moved.now))) }
+            ≡ printed_to (advance || not (is_explicit layout.now)) self.old (printed_by 65536 self.old.begun (actions_by layout.now (control_of layout.now) modes advance (shown_cells shown.now)))) }
         ensures telling { W.tells out.old ↔ W.tells out.new }
         ensures taken { W.tells out.old → OnOk result (HandsOver (W.taken out.old) (W.taken out.new) self.old self.new) }
         ensures front { W.tells out.old → OnErr result (HandsFront (W.taken out.old) (W.taken out.new) self.old
-            (printed_to (advance || not (is_explicit layout.now)) self.old (printed_by 65536 self.old.begun (actions_by layout.now (control_of layout.now) modes advance moved.now))).0) }
+            (printed_to (advance || not (is_explicit layout.now)) self.old (printed_by 65536 self.old.begun (actions_by layout.now (control_of layout.now) modes advance (shown_cells shown.now)))).0) }
         ensures part { W.tells out.old → result ≡ Err Lost.Sink → HandsPart (W.taken out.old) (W.taken out.new) self.old
-            (printed_to (advance || not (is_explicit layout.now)) self.old (printed_by 65536 self.old.begun (actions_by layout.now (control_of layout.now) modes advance moved.now))).0 }
+            (printed_to (advance || not (is_explicit layout.now)) self.old (printed_by 65536 self.old.begun (actions_by layout.now (control_of layout.now) modes advance (shown_cells shown.now)))).0 }
         ensures later { W.count out.old ≤ W.count out.new }
         ensures failed { result ≡ Err Lost.Sink → Rose (W.count out.old) (W.count out.new) }
         ensures fits { self.old.begun ≤ 65536 → result ≢ Err Lost.Unfit }
@@ -152,15 +208,7 @@ impl Output {
         if begun > STAR_LIMIT as usize {
             return Err(Lost::Unfit);
         }
-        match print_onto(
-            layout,
-            advance,
-            modes,
-            moved,
-            STAR_LIMIT,
-            begun as u32,
-            &mut self.open,
-        ) {
+        match shown.print(layout, advance, modes, begun as u32, &mut self.open) {
             Ok(count) => {
                 self.hand_on(alloc, out, count as usize)?;
                 self.leave(ends_record(layout, advance));
@@ -219,18 +267,16 @@ pub fn write_star<W: Sink>(
     if !is_formatted(&t.control) {
         return Ok(Condition::Error(16));
     }
+    let modes = edit_of(t).change(usual_edit());
+    let advance = t.advance.unwrap_or(true);
+    if let Some(row) = lent(variables, store, t) {
+        let layout = layout_of_items(&t.control)?;
+        return output.print(alloc, out, &layout, advance, modes, &Shown::Lent(row));
+    }
     let moved = copied(alloc, variables, store, t)?;
     let layout = layout_for(alloc, variables, &moved, &t.control)?;
     if !is_grouped(moved.len(), &layout) {
         return Err(Lost::Unfit);
     }
-    let modes = edit_of(t).change(usual_edit());
-    output.print(
-        alloc,
-        out,
-        &layout,
-        t.advance.unwrap_or(true),
-        modes,
-        &moved,
-    )
+    output.print(alloc, out, &layout, advance, modes, &Shown::Copied(moved))
 }

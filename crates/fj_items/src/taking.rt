@@ -24,6 +24,7 @@ use crate::lost::Lost;
 use crate::number::number_given;
 use crate::star::edit_of;
 use crate::undefining::undefine_size;
+use fj_bay::Boxed;
 use fj_list::{Load, Moved};
 use fj_statement::{Transfer, Variables};
 use fj_store::{Piece, Run, Store};
@@ -86,7 +87,7 @@ fn job_with(
     tag: Tag,
     t: &Transfer,
     parts: Parts,
-) -> Result<Moving, Lost>
+) -> Result<Boxed<Moving>, Lost>
     requires numbered { IsNumbered parts.moved }
     requires single { option_map_or (λ (size : MovedCells). length size.cells) parts.size 1 ≡ 1 }
     ensures job { IfOk result (λ job. job_of job ≡ record {
@@ -120,14 +121,16 @@ fn job_with(
         pos: parts.pos,
         edit: edit_of(t),
     };
-    Ok(Moving {
+    let moving = Moving {
         stmt: line,
         tag,
         spec,
         moved: parts.moved,
         size: parts.size,
         count: None,
-    })
+    };
+    let job = Boxed::new(alloc, moving)?;
+    Ok(job)
 }
 
 /// The job of a READ or WRITE of a line, under an identifier, which is 0 where it is not pending. The items of an input are moved
@@ -141,7 +144,7 @@ pub fn moving(
     line: u32,
     tag: Tag,
     t: &Transfer,
-) -> Result<Moving, Lost>
+) -> Result<Boxed<Moving>, Lost>
     requires { store.old.kinds ≡ kinds_of variables.now }
     ensures job { IfOk result (λ job. job_of job ≡ moving_of (control_by (statement.Transfer t.now)) variables.now line tag.0
         (values_of store.old) t.now (moved_in variables.now (values_of store.old) t.now)) }

@@ -20,7 +20,9 @@ use Rattle.fj_statement.specs.contracts.statement.Operand as Operand
 use Rattle.fj_statement.specs.contracts.statement.Statement as Statement
 use Rattle.fj_statement.specs.contracts.statement.Transfer as Transfer
 use Rattle.fj_store.specs.contracts.run.Run as Run
-use Rattle.fj_store.specs.contracts.slot.Slot as Slot
+use Rattle.fj_store.specs.contracts.slot.Mark as PlaceMark
+use Rattle.fj_store.specs.contracts.slots.Slots as Slots
+use Rattle.fj_store.specs.contracts.slots.Slots.TheInside as SlotsInside
 use Rattle.fj_store.specs.contracts.store.Store as Store
 use Rattle.fj_store.specs.contracts.table.Table as Table
 use Rattle.fj_book.specs.contracts.book.Book as Book
@@ -80,14 +82,20 @@ deck_sends = declared_send Deck.the_type (search (as_row_send, variable_sends, l
 run_sends : IsSend Run.the_row
 run_sends = declared_send Run.the_type (search (as_row_send, crosses, sendable) depth 20)
 
-slot_sends : IsSend Slot.the_row
-slot_sends = variants_send Slot.enum (search (as_row_send, value_sends, crosses, sendable) depth 20)
-
 table_sends : (T : RattleType) → IsSend T → IsSend (Table.the_row T)
 table_sends T s = search (items_sends, crosses, sendable) depth 20
 
+place_mark_sends : IsSend PlaceMark.the_row
+place_mark_sends = variants_send PlaceMark.enum (search (as_row_send, crosses, sendable) depth 20)
+
+inside_slots_sends : IsSend SlotsInside.the_row
+inside_slots_sends = declared_send SlotsInside.the_type (search (as_row_send, place_mark_sends, value_sends, table_sends, crosses, sendable) depth 20)
+
+slots_sends : IsSend Slots.the_row
+slots_sends = view_send _ _ _ _ _ inside_slots_sends
+
 store_sends : IsSend Store.the_row
-store_sends = search (slot_sends, table_sends, crosses, sendable) depth 20
+store_sends = search (slots_sends, crosses, sendable) depth 20
 
 places_sends : IsSend Places.the_row
 places_sends = search (items_sends, crosses, sendable) depth 20

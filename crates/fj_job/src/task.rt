@@ -5,7 +5,7 @@ ghost use Rattle.fj_job.specs.Task.{task_of, alone_task};
 use fj_report::Form;
 
 /// What is done, and with which deck.
-#[derive(Clone, Copy, Debug, PartialEq, Eq)]
+#[derive(Clone, Copy, PartialEq, Eq)]
 pub enum Task {
     /// Nothing: the words are no form.
     Refuse,

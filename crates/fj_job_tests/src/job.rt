@@ -1,10 +1,12 @@
 // Rows that were worked by hand. The fields are those that gfortran 12 writes.
 ghost use Rattle.std.specs.Prelude.{◌≡◌, IfOk};
 ghost use Rattle.std.specs.FinSet as set;
+ghost use Rattle.fj_outside.specs.FailingDisk.{disk_held};
 
 use fj_job::{Reason, Status, alone_job, run_job};
 use fj_outside::{
-    FailingDisk, FailingSink, FailingSource, GateDisk, MemoryDisk, MemorySink, MemorySource,
+    Disk, FailingDisk, FailingSink, FailingSource, GateDisk, MemoryDisk, MemorySink, MemorySource,
+    Sink, Source,
 };
 use fj_value::{Rule, Text};
 use std::alloc::{AllocError, Global};
@@ -13,7 +15,15 @@ use std::test::Fail;
 use std::thread::Threads;
 
 /// The words, a deck, the answer, the output, and what the file G holds behind the run. Before it, it holds ` 12` and `x`.
-static ROWS: [(&str, &[u8], Status, &[u8], &[u8]); 37] = [
+type Row = (
+    &'static str,
+    &'static [u8],
+    Status,
+    &'static [u8],
+    &'static [u8],
+);
+
+static ROWS: [Row; 37] = [
     ("alone", b"END\n", Status::Ended, b"= ended\n", b" 12\nx\n"),
     (
         "run --workers 0",
@@ -325,18 +335,54 @@ fn disk_of(alloc: Global) -> Result<MemoryDisk, AllocError>
     Ok(disk)
 }
 
+/// Carries out a deck by one thread.
+fn alone<R: Source, W: Sink, D: Disk>(
+    alloc: Global,
+    deck: &mut R,
+    out: &mut W,
+    disk: &mut D,
+) -> Result<Status, AllocError>
+    requires { D.tells disk.old → (D.held disk.old).in_use ≡ set.empty }
+{
+    let words = words_of(alloc, "alone")?;
+    Ok(alone_job(alloc, &words, deck, out, disk))
+}
+
+/// Carries out a deck by words.
+fn run_by<Rt: Threads + Wait + Sync, D: Disk + Send>(
+    rt: &Rt,
+    alloc: Global,
+    words: &str,
+    text: &[u8],
+    out: &mut MemorySink,
+    disk: &mut D,
+) -> Result<Status, AllocError>
+where
+    D::File: Send,
+    requires { D.tells disk.old → (D.held disk.old).in_use ≡ set.empty }
+{
+    let words = words_of(alloc, words)?;
+    let mut deck = MemorySource::new(alloc, text)?;
+    Ok(run_job(rt, alloc, &words, &mut deck, out, disk))
+}
+
+/// Whether a row holds.
+fn replies_so<Rt: Threads + Wait + Sync>(
+    rt: &Rt,
+    alloc: Global,
+    row: &Row,
+) -> Result<bool, AllocError> {
+    let (words, text, status, output, file) = row;
+    let mut out = MemorySink::new(alloc);
+    let mut disk = disk_of(alloc)?;
+    let answer = run_by(rt, alloc, words, text, &mut out, &mut disk)?;
+    Ok(answer == *status && out.taken() == *output && disk.bytes_of("G") == Some(*file))
+}
+
 #[test]
 fn replies(rt: HostRuntime) -> Result<(), Fail> {
-    let alloc = rt.alloc();
-    for (words, text, status, output, file) in ROWS.iter() {
-        let words = words_of(alloc, words)?;
-        let mut deck = MemorySource::new(alloc, text)?;
-        let mut out = MemorySink::new(alloc);
-        let mut disk = disk_of(alloc)?;
-        let answer = run_job(&rt, alloc, &words, &mut deck, &mut out, &mut disk);
-        assert!(rt; answer == *status);
-        assert_eq!(rt; out.taken(), *output);
-        assert_eq!(rt; disk.bytes_of("G"), Some(*file));
+    for (number, row) in ROWS.iter().enumerate() {
+        assert!(rt; replies_so(&rt, rt.alloc(), row)?, "row {number}");
     }
     Ok(())
 }
@@ -353,7 +399,9 @@ static LINES: [&[u8]; 6] = [
 
 /// What stands in place of the line of that number, and the line and the reason for which the deck is then refused, as the sink
 /// is told.
-static WRONG: [(usize, &[u8], u32, Reason, &[u8]); 17] = [
+type Wrong = (usize, &'static [u8], u32, Reason, &'static [u8]);
+
+static WRONG: [Wrong; 17] = [
     (
         1,
         b"INTEGER 1K",
@@ -467,27 +515,39 @@ fn with_line(alloc: Global, number: usize, line: &[u8]) -> Result<Text, AllocErr
     Ok(text)
 }
 
+/// Whether a text is answered so and tells this; the file G stays.
+fn is_answered(
+    alloc: Global,
+    text: &Text,
+    status: Status,
+    output: &[u8],
+) -> Result<bool, AllocError> {
+    let mut deck = MemorySource::new(alloc, text.bytes())?;
+    let mut out = MemorySink::new(alloc);
+    let mut disk = disk_of(alloc)?;
+    let answer = alone(alloc, &mut deck, &mut out, &mut disk)?;
+    Ok(
+        answer == status
+            && out.taken() == output
+            && disk.bytes_of("G") == Some(b" 12\nx\n".as_slice()),
+    )
+}
+
+/// Whether a row holds.
+fn is_refused(alloc: Global, row: &Wrong) -> Result<bool, AllocError> {
+    let (number, wrong, line, reason, output) = row;
+    let text = with_line(alloc, *number, wrong)?;
+    let refused = Status::DeckRefused {
+        line: *line,
+        reason: *reason,
+    };
+    is_answered(alloc, &text, refused, output)
+}
+
 #[test]
 fn refuses_each_line_that_is_wrong(rt: HostRuntime) -> Result<(), Fail> {
-    let alloc = rt.alloc();
-    let words = words_of(alloc, "alone")?;
-    for (number, wrong, line, reason, output) in WRONG.iter() {
-        let text = with_line(alloc, *number, wrong)?;
-        let mut deck = MemorySource::new(alloc, text.bytes())?;
-        let mut out = MemorySink::new(alloc);
-        let mut disk = disk_of(alloc)?;
-        let answer = alone_job(alloc, &words, &mut deck, &mut out, &mut disk);
-        let refused = Status::DeckRefused {
-            line: *line,
-            reason: *reason,
-        };
-        assert!(rt; answer == refused, "{wrong:?}");
-        assert_eq!(rt; out.taken(), *output, "{wrong:?}");
-        assert_eq!(rt;
-            disk.bytes_of("G"),
-            Some(b" 12\nx\n".as_slice()),
-            "{wrong:?}"
-        );
+    for (number, row) in WRONG.iter().enumerate() {
+        assert!(rt; is_refused(rt.alloc(), row)?, "row {number}");
     }
     Ok(())
 }
@@ -499,12 +559,7 @@ fn is_told(alloc: Global, last: &[u8], status: Status, output: &[u8]) -> Result<
         text.push_all(b"!\n")?;
     }
     text.push_all(last)?;
-    let words = words_of(alloc, "alone")?;
-    let mut deck = MemorySource::new(alloc, text.bytes())?;
-    let mut out = MemorySink::new(alloc);
-    let mut disk = disk_of(alloc)?;
-    let answer = alone_job(alloc, &words, &mut deck, &mut out, &mut disk);
-    Ok(answer == status && out.taken() == output)
+    is_answered(alloc, &text, status, output)
 }
 
 /// A text has 4,194,304 bytes at most.
@@ -529,7 +584,9 @@ const WRITES: &[u8] =
 
 /// A deck, its answer where the call of that number of the source (0), the sink (1), the disk (2) or the file (3) fails, and
 /// what the sink took. Each object comes to a run that meets no failure.
-static FAULTS: [(&[u8], u8, u64, Status, &[u8]); 19] = [
+type Fault = (&'static [u8], u8, u64, Status, &'static [u8]);
+
+static FAULTS: [Fault; 19] = [
     (READS, 0, 1, Status::ReadFault, b""),
     (READS, 0, 2, Status::ReadFault, b""),
     (READS, 0, 3, Status::Ended, b" 7\n 12\n= ended\nA = 12\n"),
@@ -575,22 +632,36 @@ static FAULTS: [(&[u8], u8, u64, Status, &[u8]); 19] = [
     (WRITES, 3, 2, Status::Ended, b" 5\n  5\n= ended\nA = 5\n"),
 ];
 
+/// A disk with the file G, of which this call fails, and this one on the file.
+fn failing_disk(alloc: Global, own: u64, file: u64) -> Result<FailingDisk, AllocError>
+    ensures { IfOk result (λ disk. (disk_held disk).in_use ≡ set.empty) }
+{
+    let mut disk = FailingDisk::new(alloc, disk_of(alloc)?, &[own])?;
+    disk.fail_file("G", &[file])?;
+    Ok(disk)
+}
+
+/// The number of the call where the object is that one, else none.
+fn call_of(object: u8, one: u8, k: u64) -> u64 {
+    if object == one { k } else { 0 }
+}
+
+/// Whether a row holds.
+fn is_met(alloc: Global, row: &Fault) -> Result<bool, AllocError> {
+    let (text, object, k, status, output) = row;
+    let source = MemorySource::new(alloc, text)?;
+    let mut deck = FailingSource::new(alloc, source, &[call_of(*object, 0, *k)])?;
+    let sink = MemorySink::new(alloc);
+    let mut out = FailingSink::new(alloc, sink, &[call_of(*object, 1, *k)])?;
+    let mut disk = failing_disk(alloc, call_of(*object, 2, *k), call_of(*object, 3, *k))?;
+    let answer = alone(alloc, &mut deck, &mut out, &mut disk)?;
+    Ok(answer == *status && out.taken() == *output)
+}
+
 #[test]
 fn answers_faults(rt: HostRuntime) -> Result<(), Fail> {
-    let alloc = rt.alloc();
-    let words = words_of(alloc, "alone")?;
-    for (text, object, k, status, output) in FAULTS.iter() {
-        let source = if *object == 0 { *k } else { 0 };
-        let sink = if *object == 1 { *k } else { 0 };
-        let own = if *object == 2 { *k } else { 0 };
-        let file = if *object == 3 { *k } else { 0 };
-        let mut deck = FailingSource::new(alloc, MemorySource::new(alloc, text)?, &[source])?;
-        let mut out = FailingSink::new(alloc, MemorySink::new(alloc), &[sink])?;
-        let mut disk = FailingDisk::new(alloc, disk_of(alloc)?, &[own])?;
-        disk.fail_file("G", &[file])?;
-        let answer = alone_job(alloc, &words, &mut deck, &mut out, &mut disk);
-        assert!(rt; answer == *status, "call {k} of object {object}");
-        assert_eq!(rt; out.taken(), *output, "call {k} of object {object}");
+    for (number, row) in FAULTS.iter().enumerate() {
+        assert!(rt; is_met(rt.alloc(), row)?, "row {number}");
     }
     Ok(())
 }
@@ -611,11 +682,9 @@ fn gated<Rt: Threads + Wait + Sync>(
     until: &str,
     turns: u64,
 ) -> Result<(Status, GateDisk), AllocError> {
-    let words = words_of(alloc, words)?;
-    let mut deck = MemorySource::new(alloc, TWO_UNITS)?;
     let mut out = MemorySink::new(alloc);
     let mut disk = GateDisk::new(alloc, held, until, turns)?;
-    let answer = run_job(rt, alloc, &words, &mut deck, &mut out, &mut disk);
+    let answer = run_by(rt, alloc, words, TWO_UNITS, &mut out, &mut disk)?;
     Ok((answer, disk))
 }
 
@@ -647,12 +716,10 @@ fn four_units<Rt: Threads + Wait + Sync>(
     alloc: Global,
     words: &str,
 ) -> Result<(Status, MemoryDisk), AllocError> {
-    let words = words_of(alloc, words)?;
-    let mut deck = MemorySource::new(alloc, FOUR_UNITS)?;
     let mut out = MemorySink::new(alloc);
     let mut disk = MemoryDisk::new(alloc);
     disk.add_file("V", b"400*-7 1 2 598*123456\n")?;
-    let answer = run_job(rt, alloc, &words, &mut deck, &mut out, &mut disk);
+    let answer = run_by(rt, alloc, words, FOUR_UNITS, &mut out, &mut disk)?;
     Ok((answer, disk))
 }
 

@@ -11,7 +11,7 @@ use std::marker::Model;
 
 /// A line, and the position in it. Positions count from 0 at the left tab limit. A move writes nothing; a position that
 /// was passed is blank once a later one is written.
-#[derive(Debug, Drop)]
+#[derive(Drop)]
 pub struct Line {
     text: Text,
     at: u64,

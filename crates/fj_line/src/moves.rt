@@ -9,7 +9,7 @@ pub const MOST_BYTES: u64 = 16_777_216;
 const FARTHEST: u64 = 4_611_686_018_427_387_904;
 
 /// A move of the position.
-#[derive(Clone, Copy, Debug, PartialEq, Eq)]
+#[derive(Clone, Copy, PartialEq, Eq)]
 pub enum Move {
     /// `Tn`: to the n-th character, from 1 on, counted from the left tab limit.
     To(u32),

@@ -9,7 +9,7 @@ use crate::unwritten::Unwritten;
 use fj_value::{Condition, Text};
 
 /// The record at hand of a statement. It is the end of a text, which each call is given.
-#[derive(Clone, Copy, Debug)]
+#[derive(Clone, Copy)]
 pub struct Page {
     /// The most characters of a record. Without it there is no limit of bytes either.
     limit: Option<u32>,

@@ -3,7 +3,6 @@ use Rattle.std.specs.Prelude.{◌≡◌, ℕ, true, false, List, Result, Ok, Err
 use Rattle.fj_format.specs.declared.item.FormatItem.{FormatItem}
 use Rattle.fj_format.specs.Parsing.{IsNoFormat}
 use Rattle.fj_format.specs.Sound.{IsWritten}
-use Rattle.fj_statement.specs.declared.statement.Control.{Control}
 use Rattle.fj_statement.specs.declared.statement.Statement.{Statement}
 use Rattle.fj_statement.specs.declared.statement.Statement.TheVariants as statement
 use Rattle.fj_syntax.specs.declared.written.Transfer as written
@@ -30,15 +29,13 @@ ReadsFormat text (Err (fault.Format at)) = HasNone text at
 ReadsFormat text (Err fault.NoMeaning) = ⊥
 ReadsFormat text (Err fault.TooMany) = ⊥
 
--- this control, unless the format is too long
-abbrev pub Controls : Option (List FormatItem) → Control → Option Control → Type 0
-Controls items c None = is_short items ≡ false
-Controls items c (Some made) = (made ≡ c) × (is_short items ≡ true)
+-- what is made of a transfer whose format has these items, unless that is too long
+abbrev pub Makes : {T : Type 0} → Option (List FormatItem) → T → Result T Fault → Type 0
+Makes items x (Ok made) = (made ≡ x) × (is_short items ≡ true)
+Makes items x (Err (fault.Memory error)) = Unit {0}
+Makes items x (Err (fault.Format at)) = ⊥
+Makes items x (Err fault.NoMeaning) = ⊥
+Makes items x (Err fault.TooMany) = is_short items ≡ false
 
--- this statement, unless the format is too long
 abbrev pub Assembles : Option (List FormatItem) → written.Transfer → Parts → Result Statement Fault → Type 0
-Assembles items t p (Ok s) = (s ≡ statement.Transfer (assembled items t p)) × (is_short items ≡ true)
-Assembles items t p (Err (fault.Memory error)) = Unit {0}
-Assembles items t p (Err (fault.Format at)) = ⊥
-Assembles items t p (Err fault.NoMeaning) = ⊥
-Assembles items t p (Err fault.TooMany) = is_short items ≡ false
+Assembles items t p result = Makes items (statement.Transfer (assembled items t p)) result

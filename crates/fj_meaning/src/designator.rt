@@ -9,7 +9,7 @@ use fj_syntax::Designator;
 use fj_value::{Kind, Place};
 
 /// A place with the kind of its variable.
-#[derive(Clone, Copy, Debug, PartialEq, Eq)]
+#[derive(Clone, Copy, PartialEq, Eq)]
 pub struct Placed {
     pub place: Place,
     pub kind: Kind,

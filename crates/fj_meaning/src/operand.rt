@@ -14,7 +14,7 @@ use fj_syntax::Designator;
 use fj_value::{Kind, Place, Value};
 
 /// An operand with its kind, and how many elements it is.
-#[derive(Debug, Drop)]
+#[derive(Drop)]
 pub struct Meant {
     pub operand: Operand,
     pub kind: Kind,

@@ -4,7 +4,7 @@ use fj_statement::{Variables, Vars};
 use fj_value::{Items, Kind, Text};
 
 /// A namelist group (ISO/IEC 1539-1:2004, 5.4).
-#[derive(Debug, Drop)]
+#[derive(Drop)]
 pub struct Namelist {
     /// In upper case.
     pub name: Text,
@@ -16,7 +16,7 @@ pub type Namelists = Items<Namelist>;
 
 /// The variables and groups that are declared, in the order of their declarations. A variable is numbered by its
 /// place, from 0 on.
-#[derive(Debug, Drop)]
+#[derive(Drop)]
 pub struct Scope {
     pub variables: Variables,
     pub groups: Namelists,
@@ -25,14 +25,14 @@ pub struct Scope {
 }
 
 /// What a name stands for: a variable or a group, by its number.
-#[derive(Clone, Copy, Debug, PartialEq, Eq)]
+#[derive(Clone, Copy, PartialEq, Eq)]
 pub enum Named {
     Variable(u32),
     Group(u32),
 }
 
 /// A variable that a name stands for.
-#[derive(Clone, Copy, Debug, PartialEq, Eq)]
+#[derive(Clone, Copy, PartialEq, Eq)]
 pub struct Found {
     pub var: u32,
     pub kind: Kind,

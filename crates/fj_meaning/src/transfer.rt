@@ -4,7 +4,7 @@ ghost use Rattle.fj_meaning.specs.Giving.{Gives, each, optional};
 ghost use Rattle.fj_meaning.specs.Scope.{members};
 ghost use Rattle.fj_meaning.specs.Transfer.{parts_with, control_of, is_short};
 ghost use Rattle.fj_meaning.specs.Meaning.{literal_of, Means};
-ghost use Rattle.fj_meaning.specs.Assembling.{ReadsFormat, AreWritten, Controls, Assembles};
+ghost use Rattle.fj_meaning.specs.Assembling.{ReadsFormat, AreWritten, Makes, Assembles};
 ghost use Rattle.fj_syntax.specs.declared.written.Written.TheVariants as written;
 
 use crate::calls::{optional_operand, optional_place};
@@ -19,7 +19,7 @@ use fj_value::{Items, Place, Text};
 use std::alloc::{AllocError, Global};
 
 /// What the names in a transfer stand for.
-#[derive(Debug, Drop)]
+#[derive(Drop)]
 pub struct Parts {
     /// The members of its group.
     pub group: Option<Vars>,
@@ -102,19 +102,20 @@ fn parts_with(
     })
 }
 
-/// A group with its members, an explicit format, a list-directed one, or none; nothing where the format is too long.
+/// A group with its members, an explicit format, a list-directed one, or none, unless the format is too long.
 fn control_of(
+    alloc: Global,
     group: Option<Text>,
     vars: Option<Vars>,
     format: &Option<fj_syntax::Format>,
     items: Option<FormatItems>,
-) -> Option<Control>
+) -> Result<Control, Fault>
     requires { AreWritten items }
-    ensures { Controls items (control_of group vars format.now items) result }
+    ensures { Makes items (control_of group vars format.now items) result }
 {
     let format_given = format.is_some();
     let Some(items) = items else {
-        return Some(match (group, vars) {
+        return Ok(match (group, vars) {
             (Some(name), Some(vars)) => Control::Group { name, vars },
             _ => {
                 if format_given {
@@ -125,15 +126,18 @@ fn control_of(
             }
         });
     };
-    let format = Format::of(items)?;
+    let Some(format) = Format::of(alloc, items)? else {
+        return Err(Fault::TooMany);
+    };
     match (group, vars) {
-        (Some(name), Some(vars)) => Some(Control::Group { name, vars }),
-        _ => Some(Control::Explicit(format)),
+        (Some(name), Some(vars)) => Ok(Control::Group { name, vars }),
+        _ => Ok(Control::Explicit(format)),
     }
 }
 
 /// The statement of these parts, unless its format is too long.
 fn assembled(
+    alloc: Global,
     transfer: fj_syntax::Transfer,
     parts: Parts,
     items: Option<FormatItems>,
@@ -141,9 +145,13 @@ fn assembled(
     requires { AreWritten items }
     ensures { Assembles items transfer parts result }
 {
-    let Some(control) = control_of(transfer.group, parts.group, &transfer.format, items) else {
-        return Err(Fault::TooMany);
-    };
+    let control = control_of(
+        alloc,
+        transfer.group,
+        parts.group,
+        &transfer.format,
+        items,
+    )?;
     Ok(Statement::Transfer(Transfer {
         input: transfer.input,
         unit: transfer.unit,
@@ -181,5 +189,5 @@ pub fn transferred(
     if !few {
         return Err(Fault::TooMany);
     }
-    assembled(transfer, parts, items)
+    assembled(alloc, transfer, parts, items)
 }

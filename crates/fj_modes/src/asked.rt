@@ -40,7 +40,7 @@ pub struct Wanted {
 pub type Asked = Items<Wanted>;
 
 /// What an INQUIRE statement asks about: a unit or a file.
-#[derive(Debug, Drop)]
+#[derive(Drop)]
 pub enum Subject {
     Unit(UnitRef),
     File(FileName),

@@ -11,7 +11,7 @@ use fj_outside::Stop;
 use fj_value::{Condition, Text};
 
 /// What a group's name was looked for in.
-#[derive(Clone, Copy, Debug)]
+#[derive(Clone, Copy)]
 pub enum Found {
     /// It ends at this place of the record at hand.
     At(usize),

@@ -5,7 +5,7 @@ ghost use Rattle.fj_namelist.specs.Names.{same_name, closed_number, subscript_in
 use fj_list::{digits_width, number, width_before};
 
 /// A name of so many characters, and a subscript or none.
-#[derive(Clone, Copy, Debug)]
+#[derive(Clone, Copy)]
 pub struct Named {
     pub width: usize,
     pub subscript: Option<u64>,

@@ -2,7 +2,7 @@
 use fj_value::{Condition, Kind};
 
 /// Elements of a member: its first cell and its number of cells.
-#[derive(Clone, Copy, Debug)]
+#[derive(Clone, Copy)]
 pub struct Elements {
     pub kind: Kind,
     pub first: u32,
@@ -10,7 +10,7 @@ pub struct Elements {
 }
 
 /// What is due.
-#[derive(Clone, Copy, Debug)]
+#[derive(Clone, Copy)]
 pub enum Place {
     /// An assignment, or the slash.
     Due,
@@ -19,28 +19,28 @@ pub enum Place {
 }
 
 /// What a token, or a part of one, leads to.
-#[derive(Clone, Copy, Debug)]
+#[derive(Clone, Copy)]
 pub enum Filled {
     /// The next element.
     To(u32),
     Stopped(Condition),
 }
 
-#[derive(Clone, Copy, Debug)]
+#[derive(Clone, Copy)]
 pub enum Taken {
     On(Place),
     Stopped(Condition),
 }
 
 /// The beginning of an assignment: its elements, if there are such, and how many tokens it takes behind its first one.
-#[derive(Clone, Copy, Debug)]
+#[derive(Clone, Copy)]
 pub struct Begun {
     pub place: Option<Place>,
     pub more: usize,
 }
 
 /// Where a token leads, and how many tokens behind it were taken too.
-#[derive(Clone, Copy, Debug)]
+#[derive(Clone, Copy)]
 pub struct Next {
     pub taken: Taken,
     pub more: usize,

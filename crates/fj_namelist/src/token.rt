@@ -2,7 +2,7 @@
 use fj_value::{Condition, Items, Text};
 
 /// A token of namelist input. Blanks, record ends and comments part tokens.
-#[derive(Debug, Drop)]
+#[derive(Drop)]
 pub enum Token {
     /// A name, or a constant without delimiters, maybe with a repeat count.
     Word(Text),
@@ -25,7 +25,7 @@ pub enum Token {
 pub type Tokens = Items<Token>;
 
 /// A delimited constant so far.
-#[derive(Debug, Drop)]
+#[derive(Drop)]
 pub struct Delimited {
     pub count: u32,
     pub mark: u8,
@@ -33,7 +33,7 @@ pub struct Delimited {
 }
 
 /// Where the next character stands.
-#[derive(Debug, Drop)]
+#[derive(Drop)]
 pub enum State {
     /// Between tokens; whether a comment may begin.
     Between(bool),

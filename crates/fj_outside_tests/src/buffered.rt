@@ -87,12 +87,17 @@ enum Act {
 
 use Act::{Cut, Read, Write};
 
+/// No byte is read by what is done, where it does not fail.
+fn none_read(is_done: bool) -> Option<usize> {
+    if is_done { Some(0) } else { None }
+}
+
 /// Does it, and answers how many bytes were read; nothing where it failed.
 fn done<F: FileStore>(file: &mut F, act: Act, buf: &mut [u8]) -> Option<usize> {
     match act {
         Read(at, count) if count <= buf.len() => file.read_at(at, &mut buf[..count]).ok(),
-        Write(at, piece) if at <= file.len() => file.write_at(at, piece).ok().map(|()| 0),
-        Cut(len) if len <= file.len() => file.cut(len).ok().map(|()| 0),
+        Write(at, piece) if at <= file.len() => none_read(file.write_at(at, piece).is_ok()),
+        Cut(len) if len <= file.len() => none_read(file.cut(len).is_ok()),
         _ => None,
     }
 }
@@ -179,20 +184,33 @@ fn agree<F: FileStore>(
     }
 }
 
-/// Whether a file with a window goes through all acts as one without; the k-th call on it fails.
-fn goes_through(alloc: Global, bytes: &[u8], fails: u64) -> Result<bool, AllocError> {
+/// Whether both files agree in all acts, and the calls that are made are those, if they are counted.
+fn go(
+    alloc: Global,
+    file: &mut Buffered<Counting>,
+    plain: &mut MemoryFile,
+    are_counted: bool,
+) -> Result<bool, AllocError> {
     let mut buf = vec![in alloc; 0; 9000]?;
     let mut beside = vec![in alloc; 0; 9000]?;
+    let mut agreed = true;
+    for (act, calls) in ACTS.iter() {
+        agreed &= agree(file, plain, *act, &mut buf, &mut beside);
+        agreed &= !are_counted || file.get_ref().calls == *calls;
+    }
+    Ok(agreed)
+}
+
+/// Whether a file with a window goes through all acts as one without; the k-th call on it fails.
+fn goes_through(alloc: Global, bytes: &[u8], fails: u64) -> Result<bool, AllocError> {
     let mut file = sent(buffered(alloc, bytes, fails)?);
     let mut plain = MemoryFile::from_bytes(alloc, bytes)?;
-    let mut agreed = true;
-    for (act, calls) in ACTS {
-        agreed &= agree(&mut file, &mut plain, act, &mut buf, &mut beside);
-        agreed &= fails > 0 || file.get_ref().calls == calls;
+    let agreed = go(alloc, &mut file, &mut plain, fails == 0)?;
+    if !agreed || file.faults() != fails.min(1) {
+        return Ok(false);
     }
-    agreed &= file.faults() == fails.min(1);
     let file = file.into_inner();
-    Ok(agreed && file.inner.bytes() == plain.bytes())
+    Ok(file.inner.bytes() == plain.bytes())
 }
 
 // The k-th call fails, for each k; 0 for none.
@@ -211,24 +229,37 @@ fn filled(file: &mut Buffered<Counting>, at: u64) -> usize {
     file.at_hand(at).len()
 }
 
+/// A place, how many bytes are at hand there once the window was filled, and the calls on the file up to it; the third call fails.
+static FILLS: [(u64, usize, u64); 6] = [
+    (0, 8192, 1),
+    (8191, 1, 1),
+    (8192, 8192, 2),
+    (8000, 0, 3),
+    (19_999, 1, 4),
+    (20_000, 0, 4),
+];
+
+/// The number of the first of these that comes to something else.
+fn other_fill(file: &mut Buffered<Counting>) -> Option<usize> {
+    for (number, (at, held, calls)) in FILLS.iter().enumerate() {
+        if filled(file, *at) != *held || file.get_ref().calls != *calls {
+            return Some(number);
+        }
+    }
+    None
+}
+
+/// Whether the last byte is at hand.
+fn lends_the_last(file: &Buffered<Counting>) -> bool {
+    file.at_hand(19_999).first() == Some(&170)
+}
+
 #[test]
 fn a_window_lends_what_it_holds(rt: HostRuntime) -> Result<(), Fail> {
     let bytes = numbered(rt.alloc())?;
     let mut file = buffered(rt.alloc(), &bytes, 3)?;
-    assert_eq!(rt; file.at_hand(0).len(), 0);
-    // The third call fails.
-    for (at, held, calls) in [
-        (0, 8192, 1),
-        (8191, 1, 1),
-        (8192, 8192, 2),
-        (8000, 0, 3),
-        (19_999, 1, 4),
-        (20_000, 0, 4),
-    ] {
-        assert_eq!(rt; filled(&mut file, at), held, "at {at}");
-        assert_eq!(rt; file.get_ref().calls, calls, "at {at}");
-    }
-    assert_eq!(rt; file.at_hand(19_999).first(), Some(&170));
-    assert_eq!(rt; file.faults(), 1);
+    assert!(rt; file.at_hand(0).is_empty());
+    assert_eq!(rt; other_fill(&mut file), None);
+    assert!(rt; lends_the_last(&file) && file.faults() == 1);
     Ok(())
 }

@@ -25,26 +25,38 @@ fn reads<S: Source>(alloc: Global, source: &mut S) -> Result<Vec<u8>, AllocError
     Ok(said)
 }
 
+/// The reads that fail, what all give, and the number of faults.
+static READS: [([u64; 2], &[u8], u64); 4] = [
+    ([9, 9], b"ab|cd|e|||", 0),
+    ([1, 9], b"!|ab|cd|e||", 1),
+    ([2, 9], b"ab|!|cd|e||", 1),
+    ([4, 2], b"ab|!|cd|!|e|", 2),
+];
+
+/// Whether reads come to this.
+fn come<S: Source>(
+    alloc: Global,
+    source: &mut S,
+    said: &[u8],
+    faults: u64,
+) -> Result<bool, AllocError> {
+    let got = reads(alloc, source)?;
+    Ok(got.as_slice() == said && source.faults() == faults)
+}
+
+fn planned_source(alloc: Global, fails: [u64; 2]) -> Result<FailingSource, AllocError> {
+    FailingSource::new(alloc, MemorySource::new(alloc, b"abcde")?, &fails)
+}
+
 #[test]
 fn reads_fail_by_plan(rt: HostRuntime) -> Result<(), Fail> {
     let alloc = rt.alloc();
-    for (fails, said, faults) in [
-        ([9, 9], b"ab|cd|e|||".as_slice(), 0),
-        ([1, 9], b"!|ab|cd|e||".as_slice(), 1),
-        ([2, 9], b"ab|!|cd|e||".as_slice(), 1),
-        ([4, 2], b"ab|!|cd|!|e|".as_slice(), 2),
-    ] {
-        let inner = MemorySource::new(alloc, b"abcde")?;
-        let mut source = FailingSource::new(alloc, inner, &fails)?;
-        assert_eq!(rt; reads(alloc, &mut source)?.as_slice(), said);
-        assert_eq!(rt; source.faults(), faults);
+    for (fails, said, faults) in READS.iter() {
+        let mut source = planned_source(alloc, *fails)?;
+        assert!(rt; come(alloc, &mut source, said, *faults)?);
     }
     let mut source = MemorySource::new(alloc, b"abcde")?;
-    assert_eq!(rt;
-        reads(alloc, &mut source)?.as_slice(),
-        b"ab|cd|e|||".as_slice()
-    );
-    assert_eq!(rt; source.faults(), 0);
+    assert!(rt; come(alloc, &mut source, b"ab|cd|e|||", 0)?);
     Ok(())
 }
 
@@ -61,22 +73,30 @@ fn writes<S: Sink>(alloc: Global, sink: &mut S) -> Result<Vec<u8>, AllocError> {
     Ok(said)
 }
 
+/// The writes that fail, what all answer, what was taken, and the number of faults.
+static WRITES: [([u64; 2], &[u8], &[u8], u64); 4] = [
+    ([9, 9], b"222", b"abcdef", 0),
+    ([1, 9], b"!22", b"cdef", 1),
+    ([2, 9], b"2!2", b"abef", 1),
+    ([3, 1], b"!2!", b"cd", 2),
+];
+
+/// Whether writes are answered so.
+fn go<S: Sink>(alloc: Global, sink: &mut S, said: &[u8], faults: u64) -> Result<bool, AllocError> {
+    let got = writes(alloc, sink)?;
+    Ok(got.as_slice() == said && sink.faults() == faults)
+}
+
 #[test]
 fn writes_fail_by_plan(rt: HostRuntime) -> Result<(), Fail> {
     let alloc = rt.alloc();
-    for (fails, said, taken, faults) in [
-        ([9, 9], b"222".as_slice(), b"abcdef".as_slice(), 0),
-        ([1, 9], b"!22".as_slice(), b"cdef".as_slice(), 1),
-        ([2, 9], b"2!2".as_slice(), b"abef".as_slice(), 1),
-        ([3, 1], b"!2!".as_slice(), b"cd".as_slice(), 2),
-    ] {
-        let mut sink = FailingSink::new(alloc, MemorySink::new(alloc), &fails)?;
-        assert_eq!(rt; writes(alloc, &mut sink)?.as_slice(), said);
-        assert_eq!(rt; sink.taken(), taken);
-        assert_eq!(rt; sink.faults(), faults);
+    for (fails, said, taken, faults) in WRITES.iter() {
+        let mut sink = FailingSink::new(alloc, MemorySink::new(alloc), fails)?;
+        assert!(rt; go(alloc, &mut sink, said, *faults)?);
+        assert_eq!(rt; sink.taken(), *taken);
     }
     let mut sink = MemorySink::new(alloc);
-    assert_eq!(rt; writes(alloc, &mut sink)?.as_slice(), b"222".as_slice());
+    assert!(rt; go(alloc, &mut sink, b"222", 0)?);
     assert_eq!(rt; sink.taken(), b"abcdef".as_slice());
     Ok(())
 }
@@ -84,32 +104,46 @@ fn writes_fail_by_plan(rt: HostRuntime) -> Result<(), Fail> {
 /// What is done with a file that is out.
 #[derive(Clone, Copy)]
 enum Step {
-    /// Adds two bytes at the end.
     Add,
-    /// Counts the bytes from place 1 on, at most four.
     Count,
-    /// Cuts it to one byte.
     Cut,
+}
+
+/// Adds two bytes at the end.
+fn add<F: FileStore>(file: &mut F) -> u8 {
+    let len = file.len();
+    match file.write_at(len, b"de") {
+        Ok(()) => b'.',
+        Err(_) => b'!',
+    }
+}
+
+/// Counts the bytes from place 1 on, at most four.
+fn count<F: FileStore>(file: &mut F) -> u8 {
+    let mut buf = [0u8; 4];
+    match file.read_at(1, &mut buf) {
+        Ok(count) => b"01234".get(count).copied().unwrap_or(b'?'),
+        Err(_) => b'!',
+    }
+}
+
+/// Cuts it to one byte.
+fn cut<F: FileStore>(file: &mut F) -> u8 {
+    if file.len() == 0 {
+        return b'0';
+    }
+    match file.cut(1) {
+        Ok(()) => b'.',
+        Err(_) => b'!',
+    }
 }
 
 /// `.`, or how many bytes there were; `!` where a call failed.
 fn done<F: FileStore>(file: &mut F, step: Step) -> u8 {
-    let len = file.len();
-    let mut buf = [0u8; 4];
     match step {
-        Step::Add => match file.write_at(len, b"de") {
-            Ok(()) => b'.',
-            Err(_) => b'!',
-        },
-        Step::Count => match file.read_at(1, &mut buf) {
-            Ok(count) => b"01234".get(count).copied().unwrap_or(b'?'),
-            Err(_) => b'!',
-        },
-        Step::Cut if len > 0 => match file.cut(1) {
-            Ok(()) => b'.',
-            Err(_) => b'!',
-        },
-        Step::Cut => b'0',
+        Step::Add => add(file),
+        Step::Count => count(file),
+        Step::Cut => cut(file),
     }
 }
 
@@ -188,93 +222,50 @@ fn planned(
     Ok(disk)
 }
 
+/// The calls that fail on the disk, on A and on B; what the story says, what B holds then, and the number of faults.
+type Row = (
+    [u64; 2],
+    [u64; 2],
+    [u64; 2],
+    [u8; 6],
+    Option<&'static [u8]>,
+    u64,
+);
+
+static ROWS: [Row; 12] = [
+    // The calls on the disk are, in their order, take; take, create; take; take; exists, remove; exists.
+    ([99, 99], [99, 99], [99, 99], *b"..4.r-", Some(b"de"), 0),
+    ([1, 99], [99, 99], [99, 99], *b"!.2.r-", Some(b"de"), 1),
+    ([2, 99], [99, 99], [99, 99], *b".!4.r-", None, 1),
+    ([3, 99], [99, 99], [99, 99], *b".!4.r-", None, 1),
+    ([4, 99], [99, 99], [99, 99], *b"..!.r-", Some(b"de"), 1),
+    ([6, 99], [99, 99], [99, 99], *b"..4.!r", Some(b"de"), 1),
+    ([7, 99], [99, 99], [99, 99], *b"..4.!r", Some(b"de"), 1),
+    ([1, 2], [99, 99], [99, 99], *b"!!2.r-", None, 2),
+    // Those on A are write_at, read_at, cut; the count goes on when it is given back and taken again.
+    ([99, 99], [1, 99], [99, 99], *b"!.2.r-", Some(b"de"), 1),
+    ([99, 99], [2, 99], [99, 99], *b"..!.r-", Some(b"de"), 1),
+    ([99, 99], [3, 1], [99, 99], *b"!.2!r-", Some(b"de"), 2),
+    ([99, 99], [99, 99], [1, 99], *b".!4.r-", Some(b""), 1),
+];
+
+/// Whether a row holds; A is gone.
+fn fails_by_plan(alloc: Global, row: &Row) -> Result<bool, AllocError> {
+    let (disk_fails, a_fails, b_fails, said, b_bytes, faults) = *row;
+    let mut disk = planned(alloc, disk_fails, a_fails, b_fails)?;
+    let told = story(alloc, &mut disk);
+    Ok(
+        told == said
+            && disk.bytes_of("A").is_none()
+            && disk.bytes_of("B") == b_bytes
+            && disk.faults() == faults,
+    )
+}
+
 #[test]
 fn disks_fail_by_plan(rt: HostRuntime) -> Result<(), Fail> {
-    let alloc = rt.alloc();
-    for (disk_fails, a_fails, b_fails, said, b_bytes, faults) in [
-        // The calls on the disk are, in their order, take; take, create; take; take; exists, remove; exists.
-        (
-            [99, 99],
-            [99, 99],
-            [99, 99],
-            *b"..4.r-",
-            Some(b"de".as_slice()),
-            0,
-        ),
-        (
-            [1, 99],
-            [99, 99],
-            [99, 99],
-            *b"!.2.r-",
-            Some(b"de".as_slice()),
-            1,
-        ),
-        ([2, 99], [99, 99], [99, 99], *b".!4.r-", None, 1),
-        ([3, 99], [99, 99], [99, 99], *b".!4.r-", None, 1),
-        (
-            [4, 99],
-            [99, 99],
-            [99, 99],
-            *b"..!.r-",
-            Some(b"de".as_slice()),
-            1,
-        ),
-        (
-            [6, 99],
-            [99, 99],
-            [99, 99],
-            *b"..4.!r",
-            Some(b"de".as_slice()),
-            1,
-        ),
-        (
-            [7, 99],
-            [99, 99],
-            [99, 99],
-            *b"..4.!r",
-            Some(b"de".as_slice()),
-            1,
-        ),
-        ([1, 2], [99, 99], [99, 99], *b"!!2.r-", None, 2),
-        // Those on A are write_at, read_at, cut; the count goes on when it is given back and taken again.
-        (
-            [99, 99],
-            [1, 99],
-            [99, 99],
-            *b"!.2.r-",
-            Some(b"de".as_slice()),
-            1,
-        ),
-        (
-            [99, 99],
-            [2, 99],
-            [99, 99],
-            *b"..!.r-",
-            Some(b"de".as_slice()),
-            1,
-        ),
-        (
-            [99, 99],
-            [3, 1],
-            [99, 99],
-            *b"!.2!r-",
-            Some(b"de".as_slice()),
-            2,
-        ),
-        (
-            [99, 99],
-            [99, 99],
-            [1, 99],
-            *b".!4.r-",
-            Some(b"".as_slice()),
-            1,
-        ),
-    ] {
-        let mut disk = planned(alloc, disk_fails, a_fails, b_fails)?;
-        assert_eq!(rt; story(alloc, &mut disk), said);
-        assert_eq!(rt; disk.bytes_of("A"), None);
-        assert_eq!(rt; disk.bytes_of("B"), b_bytes);
-        assert_eq!(rt; disk.faults(), faults);
+    for (number, row) in ROWS.iter().enumerate() {
+        assert!(rt; fails_by_plan(rt.alloc(), row)?, "row {number}");
     }
     Ok(())
 }

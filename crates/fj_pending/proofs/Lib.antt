@@ -2,6 +2,7 @@ pub mod Ids
 pub mod Finding
 pub mod Parting
 pub mod Pushing
+pub mod Meeting
 pub mod Waited
 pub mod Idle
 pub mod Tying

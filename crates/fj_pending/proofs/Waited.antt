@@ -28,6 +28,17 @@ use Rattle.fj_pending.specs.declared.whose.Whose.TheVariants as whose
 use Rattle.fj_pending.specs.Waits.{picks, is_due, is_cause, waited_of, widest, IsPassed}
 use Rattle.fj_pending.proofs.Ids.{filter_absent, filter_one}
 
+-- ---- where none is pending
+
+none_waited : (w : Whose) → waited_of w [] ≡ []
+none_waited whose.None = refl
+none_waited (whose.OfUnit u) = refl
+none_waited (whose.OfId u id) = refl
+none_waited whose.All = refl
+
+pub idle_waited : (w : Whose) (hs : List Held) → hs ≡ [] → waited_of w (entries hs) ≡ []
+idle_waited w hs none = ap (λ xs. waited_of w (entries xs)) none ∙ none_waited w
+
 -- ---- what is known of a transfer
 
 with_unit : (p : Pending) (o : Option Brought) → (entry_with p o).unit ≡ p.unit

@@ -47,12 +47,22 @@ fn is_at(held: &Held, slot: u32, number: u64) -> bool
     held.slot == slot && held.number == number
 }
 
-/// How many of the first transfers have identifiers below this one.
+/// How many of the first transfers have identifiers below this one. It is looked for first where it stands if none is missing.
 pub(crate) fn below(helds: &VecDeque<Held>, id: u64) -> usize
     requires { IsAscending helds.now.items }
     ensures bound { result ≤ length helds.now.items }
     ensures low { (k : ℕ) (h : Held) → k < result → (get_or helds.now.items k h).tag.0 < id }
 {
+    let Some(first) = helds.front() else {
+        return 0;
+    };
+    let ahead = id.saturating_sub(u64::from(first.tag.0)) as usize;
+    if ahead == 0 {
+        return 0;
+    }
+    if ahead < helds.len() && u64::from(helds[ahead].tag.0) == id {
+        return ahead;
+    }
     let at = helds.partition_point(|held| (held.tag.0 as u64) < id);
     at
 }

@@ -8,7 +8,7 @@ use crate::pick::Pick;
 use fj_value::Tag;
 
 /// A unit that may have pending transfers.
-#[derive(Clone, Copy, Debug)]
+#[derive(Clone, Copy)]
 pub(crate) struct Busy {
     pub unit: u32,
     /// None of them has a lower identifier.

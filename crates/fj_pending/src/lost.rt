@@ -4,7 +4,7 @@ ghost use Rattle.fj_pending.specs.declared.lost.Lost.TheVariants.{Memory};
 
 use std::alloc::AllocError;
 
-#[derive(Debug, Drop)]
+#[derive(Drop)]
 pub enum Lost {
     Memory(AllocError),
     /// It does not come behind the others.

@@ -1,6 +1,6 @@
 // What is known of the pending transfers of a slot, so that an answer finds its transfer fast.
 
-#[derive(Clone, Copy, Debug)]
+#[derive(Clone, Copy)]
 pub(crate) struct Mark {
     /// Those of lower identifiers have answers.
     pub passed: u64,

@@ -1,34 +1,22 @@
 // What a statement needs, and what it may not do beside pending transfers (ISO/IEC 1539-1:2004, 9.5.1.4, 9.6).
-ghost use Rattle.std.specs.Prelude.{◌≡◌, ℕ, ◌++◌, List, Option, None, IfOk, OnOk};
+ghost use Rattle.std.specs.Prelude.{◌≡◌, ℕ, ◌++◌, List, Option};
+ghost use Rattle.std.specs.List.{list_any};
 ghost use Rattle.fj_store.specs.Storage.{values_of};
-ghost use Rattle.fj_store.specs.Places.{places_in};
-ghost use Rattle.fj_plain.specs.Items.{operand_places};
-ghost use Rattle.fj_book.specs.Prohibitions.{Need, prohibited};
-ghost use Rattle.fj_plain.specs.Needs.{need_by, need_of, no_need, if_given, number_of, wanted_places, inquiry_need, transfer_need};
+ghost use Rattle.fj_store.specs.Places.{same_place, is_among, has_twice};
+ghost use Rattle.fj_book.specs.Prohibitions.{prohibited};
+ghost use Rattle.fj_plain.specs.Needs.{need_by, if_given, number_of, transfer_need, transfer_places, wanted_places};
 ghost use Rattle.fj_pending.specs.Plain.{holders};
 ghost use Rattle.fj_pending.specs.Asks.{IsUnitAsked, unit_in};
 ghost use Rattle.fj_pending.specs.Parts.{need_in};
 
 use crate::pendings::Pendings;
-use crate::runs::{push_given, push_if_given, push_operand, push_places, push_transfer};
+use crate::places::{any_given, any_if_given, any_in_operand, any_in_transfer, any_wanted};
 use crate::whose::number_given;
-use fj_book::Need;
+use fj_book::{Needs, RunTest};
 use fj_modes::{Subject, UnitRef, Wanted};
-use fj_statement::{Operand, Statement, Transfer, Variable};
+use fj_statement::{Statement, Transfer, Variable};
 use fj_store::{Run, Store};
-use fj_value::{Items, Place, Rule};
-use std::alloc::{AllocError, Global};
-
-/// The unit of a statement, what it references and defines, the places that specifiers define, its items, and the value of ID=.
-#[derive(Drop)]
-pub(crate) struct Parts {
-    unit: Option<u32>,
-    references: Items<Run>,
-    defines: Items<Run>,
-    specifiers: Items<Place>,
-    items: Items<Run>,
-    id: Option<i64>,
-}
+use fj_value::{Place, Rule};
 
 /// The number of a unit; `*` has none.
 fn number_of(unit: UnitRef) -> Option<u32>
@@ -50,205 +38,240 @@ fn unit_in(about: &Subject, named: Option<u32>) -> Option<u32>
     }
 }
 
-/// Of specifiers that define places, on a unit, beside ID=.
-fn specified(
-    alloc: Global,
-    unit: Option<u32>,
-    references: Items<Run>,
-    specifiers: Items<Place>,
-    id: Option<i64>,
-) -> Result<Parts, AllocError>
-    ensures { IfOk result (λ parts. need_in parts ≡ record (need_of specifiers) { unit = unit; references = places_in references; id = id }) }
-{
-    let mut defines = Items::new(alloc);
-    push_places(&mut defines, specifiers.as_slice())?;
-    Ok(Parts {
-        unit,
-        references,
-        defines,
-        specifiers,
-        items: Items::new(alloc),
-        id,
-    })
+/// Is it this place?
+#[derive(Clone, Copy)]
+struct Is {
+    place: Place,
 }
 
-/// Of a statement that defines IOSTAT= alone.
-fn status_parts(alloc: Global, iostat: Option<Place>) -> Result<Parts, AllocError>
-    ensures { IfOk result (λ parts. need_in parts ≡ need_of (if_given iostat)) }
-{
-    let mut specifiers = Items::new(alloc);
-    push_if_given(&mut specifiers, iostat)?;
-    specified(alloc, None, Items::new(alloc), specifiers, None)
-}
+impl RunTest for Is {
+    ghost passes = { λ is place. same_place is.place place };
 
-/// Of an assignment.
-fn assigned_parts(
-    alloc: Global,
-    variables: &[Variable],
-    to: &Operand,
-    from: &Operand,
-) -> Result<Parts, AllocError>
-    ensures { IfOk result (λ parts. need_in parts ≡ record no_need { references = operand_places variables.now from.now; defines = operand_places variables.now to.now }) }
-{
-    let mut references = Items::new(alloc);
-    push_operand(&mut references, variables, from)?;
-    let mut defines = Items::new(alloc);
-    push_operand(&mut defines, variables, to)?;
-    Ok(Parts {
-        unit: None,
-        references,
-        defines,
-        specifiers: Items::new(alloc),
-        items: Items::new(alloc),
-        id: None,
-    })
-}
-
-/// Adds the places of answers.
-fn push_wanted(places: &mut Items<Place>, asked: &[Wanted]) -> Result<(), AllocError>
-    ensures { OnOk result (places.new ≡ places.old ++ wanted_places asked.now) }
-{
-    for wanted in asked {
-        places.push(wanted.place)?;
+    fn test(&self, run: Run) -> bool {
+        run.holds(self.place)
     }
-    Ok(())
 }
 
-/// Of WAIT and INQUIRE, by the unit, with the answers that INQUIRE gives.
-fn inquiry_parts(
-    alloc: Global,
-    variables: &[Variable],
-    store: &Store,
-    unit: Option<u32>,
-    asked: &[Wanted],
-    id: &Option<Operand>,
-    iostat: Option<Place>,
-) -> Result<Parts, AllocError>
-    ensures { IfOk result (λ parts. need_in parts ≡ inquiry_need variables.now (values_of store.now) unit asked.now id.now iostat) }
+/// Whether the place of a specifier is that of another one.
+fn are_same(one: Option<Place>, other: Option<Place>) -> bool
+    ensures { result ≡ list_any (is_among (if_given other)) (if_given one) }
 {
-    let mut specifiers = Items::new(alloc);
-    push_wanted(&mut specifiers, asked)?;
-    push_if_given(&mut specifiers, iostat)?;
-    let mut references = Items::new(alloc);
-    push_given(&mut references, variables, id)?;
-    specified(alloc, unit, references, specifiers, number_given(store, id))
-}
-
-/// The places that READ and WRITE define by specifiers.
-fn specifiers_of(alloc: Global, transfer: &Transfer) -> Result<Items<Place>, AllocError>
-    ensures { IfOk result (λ places. places ≡ if_given transfer.now.id ++ if_given transfer.now.size ++ if_given transfer.now.iostat) }
-{
-    let mut specifiers = Items::new(alloc);
-    push_if_given(&mut specifiers, transfer.id)?;
-    push_if_given(&mut specifiers, transfer.size)?;
-    push_if_given(&mut specifiers, transfer.iostat)?;
-    Ok(specifiers)
-}
-
-/// Of READ and WRITE.
-fn transfer_parts(
-    alloc: Global,
-    variables: &[Variable],
-    transfer: &Transfer,
-) -> Result<Parts, AllocError>
-    ensures { IfOk result (λ parts. need_in parts ≡ transfer_need variables.now transfer.now) }
-{
-    let specifiers = specifiers_of(alloc, transfer)?;
-    let mut references = Items::new(alloc);
-    push_given(&mut references, variables, &transfer.rec)?;
-    push_given(&mut references, variables, &transfer.pos)?;
-    let mut defines = Items::new(alloc);
-    push_places(&mut defines, specifiers.as_slice())?;
-    if transfer.input {
-        push_transfer(&mut defines, variables, transfer)?;
-    } else {
-        push_transfer(&mut references, variables, transfer)?;
+    match one {
+        Some(place) => any_if_given(other, &Is { place }),
+        None => false,
     }
-    let mut items = Items::new(alloc);
-    push_transfer(&mut items, variables, transfer)?;
-    Ok(Parts {
-        unit: number_of(transfer.unit),
-        references,
-        defines,
-        specifiers,
-        items,
-        id: None,
-    })
 }
 
-/// What a statement needs.
-fn parts_of(
-    alloc: Global,
-    variables: &[Variable],
-    store: &Store,
+/// Whether two specifiers of READ or WRITE define the same place.
+fn specifies_twice(transfer: &Transfer) -> bool
+    ensures { result ≡ has_twice (if_given transfer.now.id ++ if_given transfer.now.size ++ if_given transfer.now.iostat) }
+{
+    are_same(transfer.id, transfer.size)
+        || are_same(transfer.id, transfer.iostat)
+        || are_same(transfer.size, transfer.iostat)
+}
+
+/// Whether a place that INQUIRE defines passes.
+fn any_asked<T: RunTest>(asked: &[Wanted], iostat: Option<Place>, test: &T) -> bool
+    ensures { result ≡ list_any (T.passes test.now) (wanted_places asked.now ++ if_given iostat) }
+{
+    any_wanted(asked, test) || any_if_given(iostat, test)
+}
+
+/// Whether two specifiers of INQUIRE define the same place.
+fn asks_twice(asked: &[Wanted], iostat: Option<Place>) -> bool
+    ensures { result ≡ has_twice (wanted_places asked.now ++ if_given iostat) }
+{
+    for at in 0..asked.len() {
+        let is = Is {
+            place: asked[at].place,
+        };
+        if any_asked(&asked[at + 1..], iostat, &is) {
+            return true;
+        }
+    }
+    false
+}
+
+/// Whether the place of a specifier is one of the items or of the group.
+fn is_item(variables: &[Variable], transfer: &Transfer, place: Option<Place>) -> bool
+    ensures { result ≡ list_any (is_among (transfer_places variables.now transfer.now)) (if_given place) }
+{
+    match place {
+        Some(place) => any_in_transfer(variables, transfer, &Is { place }),
+        None => false,
+    }
+}
+
+/// Whether a specifier of READ or WRITE defines a place of the items or of the group.
+fn specifies_item(variables: &[Variable], transfer: &Transfer) -> bool
+    ensures { result ≡ list_any (is_among (transfer_places variables.now transfer.now)) (if_given transfer.now.id ++ if_given transfer.now.size ++ if_given transfer.now.iostat) }
+{
+    is_item(variables, transfer, transfer.id)
+        || is_item(variables, transfer, transfer.size)
+        || is_item(variables, transfer, transfer.iostat)
+}
+
+/// Whether a place that READ or WRITE defines by a specifier passes.
+fn any_specified<T: RunTest>(transfer: &Transfer, test: &T) -> bool
+    ensures { result ≡ list_any (T.passes test.now) (if_given transfer.now.id ++ if_given transfer.now.size ++ if_given transfer.now.iostat) }
+{
+    any_if_given(transfer.id, test)
+        || any_if_given(transfer.size, test)
+        || any_if_given(transfer.iostat, test)
+}
+
+/// Whether a place that READ or WRITE references passes.
+fn any_taken<T: RunTest>(variables: &[Variable], transfer: &Transfer, test: &T) -> bool
+    ensures { result ≡ list_any (T.passes test.now) (transfer_need variables.now transfer.now).references }
+{
+    any_given(variables, &transfer.rec, test)
+        || any_given(variables, &transfer.pos, test)
+        || (!transfer.input && any_in_transfer(variables, transfer, test))
+}
+
+/// Whether a place that READ or WRITE defines passes.
+fn any_got<T: RunTest>(variables: &[Variable], transfer: &Transfer, test: &T) -> bool
+    ensures { result ≡ list_any (T.passes test.now) (transfer_need variables.now transfer.now).defines }
+{
+    any_specified(transfer, test) || (transfer.input && any_in_transfer(variables, transfer, test))
+}
+
+/// A statement, with what its places and its unit come of. `named` is the unit that the file is connected to that INQUIRE asks about.
+#[derive(Clone, Copy)]
+pub(crate) struct Parts<'a> {
+    variables: &'a [Variable],
+    store: &'a Store,
     named: Option<u32>,
-    statement: &Statement,
-) -> Result<Parts, AllocError>
-    ensures { IfOk result (λ parts. (unit_named : List ℕ → Option ℕ) → IsUnitAsked named unit_named statement.now
-        → need_in parts ≡ need_by variables.now (values_of store.now) unit_named statement.now) }
-{
-    match statement {
-        Statement::Assign { to, from } => assigned_parts(alloc, variables, to, from),
-        Statement::OpenUnit {
-            unit: _,
-            spec: _,
-            iostat,
-        } => status_parts(alloc, *iostat),
-        Statement::CloseUnit {
-            unit: _,
-            keep: _,
-            iostat,
-        } => status_parts(alloc, *iostat),
-        Statement::WaitFor { unit, id, iostat } => {
-            inquiry_parts(alloc, variables, store, number_of(*unit), &[], id, *iostat)
+    statement: &'a Statement,
+}
+
+impl<'a> Needs for Parts<'a> {
+    ghost need = { λ parts. need_in parts };
+
+    fn unit(&self) -> Option<u32> {
+        match self.statement {
+            Statement::WaitFor {
+                unit,
+                id: _,
+                iostat: _,
+            } => number_of(*unit),
+            Statement::Inquire {
+                about,
+                asked: _,
+                id: _,
+                iostat: _,
+            } => unit_in(about, self.named),
+            Statement::Transfer(transfer) => number_of(transfer.unit),
+            _ => None,
         }
-        Statement::Move {
-            how: _,
-            unit: _,
-            iostat,
-        } => status_parts(alloc, *iostat),
-        Statement::Inquire {
-            about,
-            asked,
-            id,
-            iostat,
-        } => {
-            inquiry_parts(
-                alloc,
-                variables,
-                store,
-                unit_in(about, named),
-                asked.as_slice(),
+    }
+
+    fn id(&self) -> Option<i64> {
+        match self.statement {
+            Statement::WaitFor {
+                unit: _,
                 id,
-                *iostat,
-            )
+                iostat: _,
+            } => number_given(self.store, id),
+            Statement::Inquire {
+                about: _,
+                asked: _,
+                id,
+                iostat: _,
+            } => number_given(self.store, id),
+            _ => None,
         }
-        Statement::Transfer(transfer) => transfer_parts(alloc, variables, transfer),
-        Statement::End => specified(alloc, None, Items::new(alloc), Items::new(alloc), None),
+    }
+
+    fn any_referenced<T: RunTest>(&self, test: &T) -> bool {
+        match self.statement {
+            Statement::Assign { to: _, from } => any_in_operand(self.variables, from, test),
+            Statement::WaitFor {
+                unit: _,
+                id,
+                iostat: _,
+            } => any_given(self.variables, id, test),
+            Statement::Inquire {
+                about: _,
+                asked: _,
+                id,
+                iostat: _,
+            } => any_given(self.variables, id, test),
+            Statement::Transfer(transfer) => any_taken(self.variables, transfer, test),
+            _ => false,
+        }
+    }
+
+    fn any_defined<T: RunTest>(&self, test: &T) -> bool {
+        match self.statement {
+            Statement::Assign { to, from: _ } => any_in_operand(self.variables, to, test),
+            Statement::OpenUnit {
+                unit: _,
+                spec: _,
+                iostat,
+            } => any_if_given(*iostat, test),
+            Statement::CloseUnit {
+                unit: _,
+                keep: _,
+                iostat,
+            } => any_if_given(*iostat, test),
+            Statement::WaitFor {
+                unit: _,
+                id: _,
+                iostat,
+            } => any_if_given(*iostat, test),
+            Statement::Move {
+                how: _,
+                unit: _,
+                iostat,
+            } => any_if_given(*iostat, test),
+            Statement::Inquire {
+                about: _,
+                asked,
+                id: _,
+                iostat,
+            } => any_asked(asked.as_slice(), *iostat, test),
+            Statement::Transfer(transfer) => any_got(self.variables, transfer, test),
+            Statement::End => false,
+        }
+    }
+
+    fn defines_twice(&self) -> bool {
+        match self.statement {
+            Statement::Inquire {
+                about: _,
+                asked,
+                id: _,
+                iostat,
+            } => asks_twice(asked.as_slice(), *iostat),
+            Statement::Transfer(transfer) => {
+                specifies_twice(transfer) || specifies_item(self.variables, transfer)
+            }
+            _ => false,
+        }
     }
 }
 
-/// The lowest rule that a statement breaks. `named` is the unit that the file is connected to that INQUIRE asks about.
+/// The lowest rule that a statement breaks. `named` is the unit that the file is connected to that INQUIRE asks about. It takes no
+/// memory.
 pub fn check(
-    alloc: Global,
     variables: &[Variable],
     store: &Store,
     pendings: &Pendings,
     named: Option<u32>,
     statement: &Statement,
-) -> Result<Option<Rule>, AllocError>
-    ensures { IfOk result (λ rule. (unit_named : List ℕ → Option ℕ) → IsUnitAsked named unit_named statement.now
-        → rule ≡ prohibited (values_of store.now) (holders pendings.now) (need_by variables.now (values_of store.now) unit_named statement.now)) }
+) -> Option<Rule>
+    ensures { (unit_named : List ℕ → Option ℕ) → IsUnitAsked named unit_named statement.now
+        → result ≡ prohibited (values_of store.now) (holders pendings.now) (need_by variables.now (values_of store.now) unit_named statement.now) }
 {
-    let parts = parts_of(alloc, variables, store, named, statement)?;
-    let need = Need {
-        unit: parts.unit,
-        references: parts.references.as_slice(),
-        defines: parts.defines.as_slice(),
-        specifiers: parts.specifiers.as_slice(),
-        items: parts.items.as_slice(),
-        internal: &[],
-        id: parts.id,
-    };
-    Ok(pendings.rule_for(store, &need))
+    pendings.rule_for(
+        store,
+        &Parts {
+            variables,
+            store,
+            named,
+            statement,
+        },
+    )
 }

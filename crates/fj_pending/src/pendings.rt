@@ -6,7 +6,6 @@ ghost use Rattle.fj_value.specs.declared.place.Place.{Place};
 ghost use Rattle.fj_statement.specs.declared.deck.Variable.{Variable};
 ghost use Rattle.fj_store.specs.Places.{is_among, places_in};
 ghost use Rattle.fj_store.specs.Storage.{values_of};
-ghost use Rattle.fj_book.specs.Needs.{need_of};
 ghost use Rattle.fj_book.specs.Prohibitions.{prohibited};
 ghost use Rattle.fj_plain.specs.Telling.{condition_of, tells_id, tells_cause, with_inputs};
 ghost use Rattle.fj_plain.specs.Telling as telling;
@@ -29,7 +28,7 @@ use crate::pick::{Pick, causes, picked, place_of};
 use crate::taking::{leave, take_picked};
 use crate::tell::Tell;
 use crate::whose::Whose;
-use fj_book::{Book, Need, Pending, Places};
+use fj_book::{Book, Needs, Pending, Places};
 use fj_store::Store;
 use fj_value::{Condition, Items, Kind, Rule};
 use std::alloc::{AllocError, Global};
@@ -373,8 +372,8 @@ impl Pendings {
     }
 
     /// The lowest rule that a statement breaks. It takes no memory.
-    pub(crate) fn rule_for(&self, store: &Store, need: &Need<'_>) -> Option<Rule>
-        ensures { result ≡ prohibited (values_of store.now) (holders self.now) (need_of need.now) }
+    pub(crate) fn rule_for<N: Needs>(&self, store: &Store, need: &N) -> Option<Rule>
+        ensures { result ≡ prohibited (values_of store.now) (holders self.now) (N.need need.now) }
     {
         self.book.check(store, need)
     }

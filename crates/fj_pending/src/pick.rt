@@ -10,7 +10,7 @@ use crate::whose::Whose;
 use fj_value::Condition;
 use std::collections::VecDeque;
 
-#[derive(Clone, Copy, Debug, PartialEq, Eq)]
+#[derive(Clone, Copy, PartialEq, Eq)]
 pub(crate) enum Pick {
     None,
     OfUnit(u32),

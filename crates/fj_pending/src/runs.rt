@@ -6,12 +6,12 @@ ghost use Rattle.std.specs.Prelude.{slice_get};
 ghost use Rattle.fj_store.specs.Places.{places_in, places_of};
 ghost use Rattle.fj_plain.specs.State.{elements};
 ghost use Rattle.fj_plain.specs.Items as plain;
-ghost use Rattle.fj_plain.specs.Needs.{if_given, given_places, group_places, transfer_places};
+ghost use Rattle.fj_plain.specs.Needs.{group_places, transfer_places};
 ghost use Rattle.fj_plain.specs.Transfers.{held_places};
 
 use fj_statement::{Control, Operand, Transfer, Variable};
 use fj_store::Run;
-use fj_value::{Items, Place};
+use fj_value::Items;
 use std::alloc::{AllocError, Global};
 
 /// The number of a variable's elements.
@@ -41,7 +41,7 @@ pub(crate) fn run_of(variables: &[Variable], var: u32) -> Run
 }
 
 /// Adds the places of an operand.
-pub(crate) fn push_operand(
+fn push_operand(
     runs: &mut Items<Run>,
     variables: &[Variable],
     operand: &Operand,
@@ -105,7 +105,7 @@ fn push_group(
 }
 
 /// Adds the places of the items or of the group of a transfer.
-pub(crate) fn push_transfer(
+fn push_transfer(
     runs: &mut Items<Run>,
     variables: &[Variable],
     transfer: &Transfer,
@@ -114,43 +114,6 @@ pub(crate) fn push_transfer(
 {
     push_operands(runs, variables, transfer.items.as_slice())?;
     push_group(runs, variables, &transfer.control)
-}
-
-/// Adds the place of a specifier that is referenced.
-pub(crate) fn push_given(
-    runs: &mut Items<Run>,
-    variables: &[Variable],
-    operand: &Option<Operand>,
-) -> Result<(), AllocError>
-    ensures { OnOk result (places_in runs.new ≡ places_in runs.old ++ given_places variables.now operand.now) }
-{
-    match operand {
-        Some(operand) => push_operand(runs, variables, operand),
-        None => Ok(()),
-    }
-}
-
-/// Adds places.
-pub(crate) fn push_places(runs: &mut Items<Run>, places: &[Place]) -> Result<(), AllocError>
-    ensures { OnOk result (places_in runs.new ≡ places_in runs.old ++ places.now) }
-{
-    for place in places {
-        runs.push(Run::of_place(*place))?;
-    }
-    Ok(())
-}
-
-/// Adds the place of a specifier that is defined, where it is given.
-pub(crate) fn push_if_given(
-    places: &mut Items<Place>,
-    place: Option<Place>,
-) -> Result<(), AllocError>
-    ensures { OnOk result (places.new ≡ places.old ++ if_given place) }
-{
-    match place {
-        Some(place) => places.push(place),
-        None => Ok(()),
-    }
 }
 
 /// The places that a pending transfer holds: of its items or its group, and of an input SIZE=.

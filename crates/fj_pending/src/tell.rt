@@ -3,7 +3,7 @@
 use fj_value::Condition;
 
 /// At which line, of which unit, under which identifier, and its condition.
-#[derive(Clone, Copy, Debug, PartialEq, Eq)]
+#[derive(Clone, Copy, PartialEq, Eq)]
 pub struct Tell {
     pub line: u32,
     pub unit: u32,

@@ -1,19 +1,21 @@
 // Which pending transfers a statement waits for (ISO/IEC 1539-1:2004, 9.6).
-ghost use Rattle.std.specs.Prelude.{◌≡◌, List};
+ghost use Rattle.std.specs.Prelude.{◌≡◌, List, [], IsTrue};
 ghost use Rattle.fj_store.specs.Storage.{values_of};
 ghost use Rattle.fj_store.specs.Variables.{value_at};
 ghost use Rattle.fj_plain.specs.State.{Entry};
 ghost use Rattle.fj_plain.specs.Items.{integer_of, value_of};
 ghost use Rattle.fj_plain.specs.Needs.{number_of, number_given};
 ghost use Rattle.fj_plain.specs.Telling.{of_unit, waited_by, waited_in};
+ghost use Rattle.fj_pending.specs.Plain.{entries};
 ghost use Rattle.fj_pending.specs.Waits.{waited_of};
 
+use crate::pendings::Pendings;
 use fj_modes::UnitRef;
 use fj_statement::{Operand, Statement};
 use fj_store::Store;
 use fj_value::{Place, Value};
 
-#[derive(Clone, Copy, Debug, PartialEq, Eq)]
+#[derive(Clone, Copy, PartialEq, Eq)]
 pub enum Whose {
     None,
     /// All of a unit.
@@ -126,5 +128,18 @@ pub fn waits_for(statement: &Statement, store: &Store) -> Whose
             }
         }
         Statement::End => Whose::All,
+    }
+}
+
+/// Whether no transfer can be one that is waited for: the statement waits for none, or none is pending.
+pub fn is_idle(pendings: &Pendings, whose: Whose) -> bool
+    ensures { IsTrue result → waited_of whose (entries pendings.now) ≡ [] }
+{
+    if pendings.entries().is_empty() {
+        return true;
+    }
+    match whose {
+        Whose::None => true,
+        _ => false,
     }
 }

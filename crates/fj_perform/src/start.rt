@@ -15,7 +15,7 @@ use fj_transfer::{Layout, TransferSpec};
 use fj_value::Condition;
 
 /// Where a transfer begins.
-#[derive(Clone, Copy, Debug, PartialEq, Eq)]
+#[derive(Clone, Copy, PartialEq, Eq)]
 pub enum Start {
     /// At the position.
     Here,

@@ -1,83 +1,149 @@
 // Worked cases of direct and stream access.
 use fj_byterec::{read_direct, read_stream, write_direct, write_stream};
-use fj_outside::{FileStore, MemoryFile};
+use fj_outside::{FileStore, MemoryFile, Stop};
 use fj_value::Text;
+use std::alloc::Global;
 use std::test::Fail;
 
+// The length and the number of a record of ten bytes, whether it is there, and what it has.
+static RECORDS: [(u32, u64, bool, &[u8]); 8] = [
+    (4, 1, true, b"abcd"),
+    (4, 2, true, b"efgh"),
+    (4, 3, false, b""),
+    (5, 2, true, b"fghij"),
+    (10, 1, true, b"abcdefghij"),
+    (11, 1, false, b""),
+    (1, 10, true, b"j"),
+    (4, u64::MAX, false, b""),
+];
+
+/// Whether a record is there; none has no length or no number.
+fn read_at_number<F: FileStore>(
+    file: &mut F,
+    recl: u32,
+    number: u64,
+    into: &mut Text,
+) -> Result<bool, Stop> {
+    if recl == 0 || number == 0 {
+        return Err(Stop::Failed);
+    }
+    read_direct(file, recl, number, into)
+}
+
 #[test]
-fn reads_and_writes_records(rt: HostRuntime) -> Result<(), Fail> {
+fn reads_records(rt: HostRuntime) -> Result<(), Fail> {
     let mut into = Text::new(rt.alloc());
     let mut file = MemoryFile::from_bytes(rt.alloc(), b"abcdefghij")?;
-    let reads: [(u32, u64, bool, &[u8]); 8] = [
-        (4, 1, true, b"abcd"),
-        (4, 2, true, b"efgh"),
-        (4, 3, false, b""),
-        (5, 2, true, b"fghij"),
-        (10, 1, true, b"abcdefghij"),
-        (11, 1, false, b""),
-        (1, 10, true, b"j"),
-        (4, u64::MAX, false, b""),
-    ];
-    for (recl, number, there, record) in reads {
-        assert!(rt; recl > 0 && number > 0);
-        assert_eq!(rt;
-            read_direct(&mut file, recl, number, &mut into)?,
-            there,
+    for (recl, number, there, record) in RECORDS.iter() {
+        let found = read_at_number(&mut file, *recl, *number, &mut into)?;
+        assert!(rt;
+            found == *there && into.bytes() == *record,
             "{number} of {recl}"
         );
-        assert_eq!(rt; into.bytes(), record, "{number} of {recl}");
     }
-    let writes: [(&[u8], u64, &[u8], u8, &[u8]); 7] = [
-        (b"", 2, b"\x05\0\0\0", 0, b"\0\0\0\0\x05\0\0\0"),
-        (b"", 1, b"ab", b' ', b"ab  "),
-        (b"abcdefghij", 2, b"XY", b' ', b"abcdXY  ij"),
-        (b"abcdefghij", 3, b"XY", b' ', b"abcdefghXY  "),
-        (b"abcdefghij", 5, b"WXYZ", b' ', b"abcdefghij      WXYZ"),
-        (b"abcdefghij", 1, b"", 0, b"\0\0\0\0efghij"),
-        (b"ab", 1, b"c", b' ', b"c   "),
-    ];
-    for (bytes, number, piece, fill, after) in writes {
-        let mut file = MemoryFile::from_bytes(rt.alloc(), bytes)?;
-        assert!(rt; number > 0 && number < 9 && piece.len() < 5);
-        write_direct(&mut file, 4, number, piece, fill)?;
-        assert_eq!(rt; file.bytes(), after, "{number} into {bytes:?}");
+    Ok(())
+}
+
+// A file, the number of a record of four bytes, what is put there and what fills it up, and the file then.
+static PUT: [(&[u8], u64, &[u8], u8, &[u8]); 7] = [
+    (b"", 2, b"\x05\0\0\0", 0, b"\0\0\0\0\x05\0\0\0"),
+    (b"", 1, b"ab", b' ', b"ab  "),
+    (b"abcdefghij", 2, b"XY", b' ', b"abcdXY  ij"),
+    (b"abcdefghij", 3, b"XY", b' ', b"abcdefghXY  "),
+    (b"abcdefghij", 5, b"WXYZ", b' ', b"abcdefghij      WXYZ"),
+    (b"abcdefghij", 1, b"", 0, b"\0\0\0\0efghij"),
+    (b"ab", 1, b"c", b' ', b"c   "),
+];
+
+/// Puts a record of four bytes, where there is one.
+fn put_at_number<F: FileStore>(
+    file: &mut F,
+    number: u64,
+    piece: &[u8],
+    fill: u8,
+) -> Result<(), Stop> {
+    if number == 0 || number > 8 || piece.len() > 4 {
+        return Err(Stop::Failed);
     }
-    // Records that are not gathered, behind a gap of several pieces.
+    write_direct(file, 4, number, piece, fill)
+}
+
+/// Whether a row of that table holds.
+fn puts(alloc: Global, row: &(&[u8], u64, &[u8], u8, &[u8])) -> Result<bool, Stop> {
+    let (bytes, number, piece, fill, after) = *row;
+    let mut file = MemoryFile::from_bytes(alloc, bytes)?;
+    put_at_number(&mut file, number, piece, fill)?;
+    Ok(file.bytes() == after)
+}
+
+#[test]
+fn writes_records(rt: HostRuntime) -> Result<(), Fail> {
+    for (row, put) in PUT.iter().enumerate() {
+        assert!(rt; puts(rt.alloc(), put)?, "row {row}");
+    }
+    Ok(())
+}
+
+/// Puts the second record of 3,000 bytes, and answers whether it is there then.
+fn put_long<F: FileStore>(file: &mut F, into: &mut Text) -> Result<bool, Stop> {
+    write_direct(file, 3000, 2, b"cd", b'.')?;
+    read_direct(file, 3000, 2, into)
+}
+
+// Records that are not gathered, behind a gap of several pieces.
+#[test]
+fn writes_long_records(rt: HostRuntime) -> Result<(), Fail> {
+    let mut into = Text::new(rt.alloc());
     let mut file = MemoryFile::from_bytes(rt.alloc(), b"ab")?;
-    write_direct(&mut file, 3000, 2, b"cd", b'.')?;
+    assert!(rt; put_long(&mut file, &mut into)?);
     assert_eq!(rt; file.len(), 6000);
-    assert_eq!(rt; read_direct(&mut file, 3000, 2, &mut into)?, true);
     assert_eq!(rt; into.len(), 3000);
     assert!(rt; into.bytes().starts_with(b"cd."));
     Ok(())
+}
+
+// A place in a stream of six bytes and how many are wanted, whether they are there, and what they are.
+static PIECES: [(u64, u32, bool, &[u8]); 6] = [
+    (0, 6, true, b"abXYef"),
+    (0, 7, false, b""),
+    (2, 3, true, b"XYe"),
+    (6, 0, true, b""),
+    (6, 1, false, b""),
+    (5, u32::MAX, false, b""),
+];
+
+/// Whether the bytes are there; none are behind the end.
+fn read_from<F: FileStore>(
+    file: &mut F,
+    at: u64,
+    want: u32,
+    into: &mut Text,
+) -> Result<bool, Stop> {
+    if at > file.len() {
+        return Err(Stop::Failed);
+    }
+    read_stream(file, at, want, into)
+}
+
+/// Writes at a place of a short stream, and answers the place behind.
+fn write_from<F: FileStore>(file: &mut F, at: u64, piece: &[u8]) -> Result<u64, Stop> {
+    if at > file.len() || at > 9 || piece.len() > 9 {
+        return Err(Stop::Failed);
+    }
+    write_stream(file, at, piece)
 }
 
 #[test]
 fn reads_and_writes_bytes(rt: HostRuntime) -> Result<(), Fail> {
     let mut into = Text::new(rt.alloc());
     let mut file = MemoryFile::from_bytes(rt.alloc(), b"abcdef")?;
-    assert!(rt; 2 <= file.len());
-    assert_eq!(rt; write_stream(&mut file, 2, b"XY")?, 4);
-    assert_eq!(rt; file.bytes(), b"abXYef".as_slice());
-    let reads: [(u64, u32, bool, &[u8]); 6] = [
-        (0, 6, true, b"abXYef"),
-        (0, 7, false, b""),
-        (2, 3, true, b"XYe"),
-        (6, 0, true, b""),
-        (6, 1, false, b""),
-        (5, u32::MAX, false, b""),
-    ];
-    for (at, want, there, bytes) in reads {
-        assert!(rt; at <= file.len());
-        assert_eq!(rt;
-            read_stream(&mut file, at, want, &mut into)?,
-            there,
-            "{want} at {at}"
-        );
-        assert_eq!(rt; into.bytes(), bytes, "{want} at {at}");
+    assert_eq!(rt; write_from(&mut file, 2, b"XY")?, 4);
+    for (at, want, there, bytes) in PIECES.iter() {
+        let found = read_from(&mut file, *at, *want, &mut into)?;
+        assert!(rt; found == *there && into.bytes() == *bytes, "{want} at {at}");
     }
-    assert!(rt; 6 <= file.len());
-    assert_eq!(rt; write_stream(&mut file, 6, b"gh")?, 8);
+    assert_eq!(rt; file.bytes(), b"abXYef".as_slice());
+    assert_eq!(rt; write_from(&mut file, 6, b"gh")?, 8);
     assert_eq!(rt; file.bytes(), b"abXYefgh".as_slice());
     Ok(())
 }

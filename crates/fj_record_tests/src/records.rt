@@ -4,12 +4,11 @@ ghost use Rattle.std.specs.FinSet as set;
 ghost use Rattle.fj_outside.specs.FailingDisk.{disk_held};
 
 use fj_byterec::{read_direct, read_stream, write_direct, write_stream};
-use fj_outside::{Disk, FailingDisk, FailingFile, FileStore, MemoryDisk, Stop};
+use fj_outside::{Disk, FailingDisk, FileStore, MemoryDisk, Stop};
 use fj_seqrec::{append_records, backspace_line, read_record};
 use fj_unfrec::{append_frame, backspace_frame, read_frame};
 use fj_value::Text;
 use std::alloc::{AllocError, Global};
-use std::process::Abort;
 use std::test::Fail;
 
 // Two frames, which are one line and six records of four bytes.
@@ -17,7 +16,12 @@ const WHOLE: [u8; 24] = [
     4, 0, 0, 0, 5, 0, 0, 0, 4, 0, 0, 0, 4, 0, 0, 0, 6, 0, 0, 0, 4, 0, 0, 0,
 ];
 
-#[derive(Clone, Copy, Debug)]
+use Call::{
+    AppendLongFrame, AppendRecords, AppendShortFrame, BackspaceFrame, BackspaceLine, ReadDirect,
+    ReadFrame, ReadRecord, ReadStream, WriteDirectBehindGap, WriteDirectInside, WriteStream,
+};
+
+#[derive(Clone, Copy)]
 enum Call {
     ReadRecord,
     BackspaceLine,
@@ -33,43 +37,75 @@ enum Call {
     WriteStream,
 }
 
-fn run(rt: &impl Abort, call: Call, file: &mut FailingFile, into: &mut Text) -> Result<(), Stop> {
-    assert!(rt; file.len() == 24);
+/// Calls on lines.
+fn run_on_lines<F: FileStore>(file: &mut F, call: Call, into: &mut Text) -> Result<(), Stop> {
+    let len = file.len();
     match call {
-        Call::ReadRecord => {
+        ReadRecord => {
             read_record(file, 0, 99, into)?;
         }
-        Call::BackspaceLine => {
+        BackspaceLine if 24 <= len => {
             backspace_line(file, 24)?;
         }
-        Call::AppendRecords => {
+        AppendRecords if 12 <= len => {
             append_records(file, 12, b"ab\n", true)?;
         }
-        Call::ReadFrame => {
-            read_frame(file, 12, 99, into)?;
-        }
-        Call::BackspaceFrame => {
-            backspace_frame(file, 24)?;
-        }
-        Call::AppendShortFrame => {
-            append_frame(file, 12, b"ab")?;
-        }
-        Call::AppendLongFrame => {
-            append_frame(file, 12, &[7; 1500])?;
-        }
-        Call::ReadDirect => {
-            read_direct(file, 4, 2, into)?;
-        }
-        Call::WriteDirectInside => write_direct(file, 4, 2, b"x", b' ')?,
-        Call::WriteDirectBehindGap => write_direct(file, 4, 9, b"x", b' ')?,
-        Call::ReadStream => {
-            read_stream(file, 3, 5, into)?;
-        }
-        Call::WriteStream => {
-            write_stream(file, 5, b"xyz")?;
-        }
+        _ => {}
     }
     Ok(())
+}
+
+/// Calls on frames.
+fn run_on_frames<F: FileStore>(file: &mut F, call: Call, into: &mut Text) -> Result<(), Stop> {
+    let len = file.len();
+    match call {
+        ReadFrame if 12 <= len => {
+            read_frame(file, 12, 99, into)?;
+        }
+        BackspaceFrame if 24 <= len => {
+            backspace_frame(file, 24)?;
+        }
+        AppendShortFrame if 12 <= len => {
+            append_frame(file, 12, b"ab")?;
+        }
+        AppendLongFrame if 12 <= len => {
+            append_frame(file, 12, &[7; 1500])?;
+        }
+        _ => {}
+    }
+    Ok(())
+}
+
+/// Calls on direct records and on bytes.
+fn run_on_bytes<F: FileStore>(file: &mut F, call: Call, into: &mut Text) -> Result<(), Stop> {
+    let len = file.len();
+    match call {
+        ReadDirect => {
+            read_direct(file, 4, 2, into)?;
+        }
+        WriteDirectInside => write_direct(file, 4, 2, b"x", b' ')?,
+        WriteDirectBehindGap => write_direct(file, 4, 9, b"x", b' ')?,
+        ReadStream if 3 <= len => {
+            read_stream(file, 3, 5, into)?;
+        }
+        WriteStream if 5 <= len => {
+            write_stream(file, 5, b"xyz")?;
+        }
+        _ => {}
+    }
+    Ok(())
+}
+
+fn run<F: FileStore>(file: &mut F, call: Call, into: &mut Text) -> Result<(), Stop> {
+    match call {
+        ReadRecord | BackspaceLine | AppendRecords => run_on_lines(file, call, into),
+        ReadFrame | BackspaceFrame | AppendShortFrame | AppendLongFrame => {
+            run_on_frames(file, call, into)
+        }
+        ReadDirect | WriteDirectInside | WriteDirectBehindGap | ReadStream | WriteStream => {
+            run_on_bytes(file, call, into)
+        }
+    }
 }
 
 /// A disk that holds one file, on which the k-th call fails.
@@ -84,55 +120,66 @@ fn failing(alloc: Global, k: u64) -> Result<FailingDisk, AllocError>
     Ok(disk)
 }
 
-/// Runs a call on the file, and answers whether it failed and how many faults the file counts.
-fn run_on(
-    rt: &impl Abort,
-    alloc: Global,
-    disk: &mut FailingDisk,
-    call: Call,
-) -> Result<(bool, u64), Stop>
-    requires { (disk_held disk.old).in_use ≡ set.empty }
+/// Runs a call on the file, and answers whether it failed and how many faults the file counts; none where there is no file.
+fn run_on<D: Disk>(alloc: Global, disk: &mut D, call: Call) -> Result<(bool, u64), Stop>
+    requires { D.tells disk.old → (D.held disk.old).in_use ≡ set.empty }
 {
+    let mut file = match disk.take(alloc, "R") {
+        Ok(Some(file)) => file,
+        Ok(None) => return Ok((false, 99)),
+        Err(stop) => return Err(stop),
+    };
     let mut into = Text::new(alloc);
-    match disk.take(alloc, "R")? {
-        Some(mut file) => {
-            let failed = run(rt, call, &mut file, &mut into) == Err(Stop::Failed);
-            let faults = file.faults();
-            disk.give("R", file);
-            Ok((failed, faults))
-        }
-        None => Ok((false, 0)),
+    let failed = run(&mut file, call, &mut into) == Err(Stop::Failed);
+    let faults = file.faults();
+    disk.give("R", file);
+    Ok((failed, faults))
+}
+
+/// Whether the file begins as it was, so many bytes.
+fn begins(bytes: Option<&[u8]>, count: usize) -> bool {
+    match bytes {
+        Some(bytes) => bytes.len() >= count && bytes.get(..count) == WHOLE.get(..count),
+        None => false,
     }
 }
 
+/// Whether a call failed at the k-th call on the file, how many faults the file counts, and whether it begins as it was.
+fn fails(alloc: Global, call: Call, kept: usize, k: u64) -> Result<(bool, u64, bool), Stop> {
+    let mut disk = failing(alloc, k)?;
+    let (failed, faults) = run_on(alloc, &mut disk, call)?;
+    Ok((failed, faults, begins(disk.bytes_of("R"), kept)))
+}
+
 // How many calls on the file each makes, and up to where it leaves the file as it was.
+static CALLS: [(Call, u64, usize); 12] = [
+    (ReadRecord, 1, 24),
+    (BackspaceLine, 1, 24),
+    (AppendRecords, 2, 12),
+    (ReadFrame, 3, 24),
+    (BackspaceFrame, 2, 24),
+    (AppendShortFrame, 2, 12),
+    (AppendLongFrame, 3, 12),
+    (ReadDirect, 1, 24),
+    (WriteDirectInside, 1, 4),
+    (WriteDirectBehindGap, 3, 24),
+    (ReadStream, 1, 24),
+    (WriteStream, 1, 5),
+];
+
 #[test]
 fn the_kth_call_fails(rt: HostRuntime) -> Result<(), Fail> {
-    for (call, count, kept) in [
-        (Call::ReadRecord, 1u64, 24usize),
-        (Call::BackspaceLine, 1, 24),
-        (Call::AppendRecords, 2, 12),
-        (Call::ReadFrame, 3, 24),
-        (Call::BackspaceFrame, 2, 24),
-        (Call::AppendShortFrame, 2, 12),
-        (Call::AppendLongFrame, 3, 12),
-        (Call::ReadDirect, 1, 24),
-        (Call::WriteDirectInside, 1, 4),
-        (Call::WriteDirectBehindGap, 3, 24),
-        (Call::ReadStream, 1, 24),
-        (Call::WriteStream, 1, 5),
-    ] {
-        for k in 1..5u64 {
-            let mut disk = failing(rt.alloc(), k)?;
-            let (failed, faults) = run_on(&rt, rt.alloc(), &mut disk, call)?;
-            assert_eq!(rt; failed, k <= count, "{call:?}, call {k}");
-            assert_eq!(rt; faults, if failed { 1 } else { 0 }, "{call:?}, call {k}");
-            let bytes = disk.bytes_of("R").ok_or("R is gone")?;
+    for (number, (call, count, kept)) in CALLS.iter().enumerate() {
+        for k in 1..5 {
+            let due = if k <= *count {
+                (true, 1, true)
+            } else {
+                (false, 0, true)
+            };
             assert!(rt;
-                kept <= WHOLE.len() && kept <= bytes.len(),
-                "{call:?}, call {k}"
+                fails(rt.alloc(), *call, *kept, k)? == due,
+                "row {number}, call {k}"
             );
-            assert!(rt; bytes.starts_with(&WHOLE[..kept]), "{call:?}, call {k}");
         }
     }
     Ok(())

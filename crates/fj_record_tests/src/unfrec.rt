@@ -1,7 +1,9 @@
 // Worked cases of unformatted records. The bytes of `WRITTEN` are those that gfortran writes.
-use fj_outside::{FileStore, MemoryFile};
+use fj_outside::{FileStore, MemoryFile, Stop};
+use fj_unfrec::FrameRead::{Broken, End, Frame, TooLong};
 use fj_unfrec::{FrameRead, append_frame, backspace_frame, get_value, put_value, read_frame};
-use fj_value::{Cell, Kind, Place, Text, Value};
+use fj_value::{Kind, Text, Value};
+use std::alloc::{AllocError, Global};
 use std::test::Fail;
 
 // WRITE(10) 5 / WRITE(10) -2_8 / WRITE(10) .TRUE. / WRITE(10) .FALSE., 'abc' / WRITE(10)
@@ -13,140 +15,188 @@ const WRITTEN: [u8; 63] = [
     0, 0, 0, 0, 0, 0, 0, 0, // an empty record
 ];
 
+// A place in that file and a limit, what is read there, and the bytes of `WRITTEN` that are its body, from one to another.
+static READS: [(u64, u32, FrameRead, usize, usize); 9] = [
+    (0, 4, Frame { next: 12 }, 4, 8),
+    (0, 3, TooLong, 0, 0),
+    (12, 99, Frame { next: 28 }, 16, 24),
+    (28, 99, Frame { next: 40 }, 32, 36),
+    (40, 7, Frame { next: 55 }, 44, 51),
+    (40, 6, TooLong, 0, 0),
+    (55, 0, Frame { next: 63 }, 0, 0),
+    (63, 0, End, 0, 0),
+    (1, 99, Broken, 0, 0),
+];
+
+/// The bytes of `WRITTEN` from one place to another.
+fn written(from: usize, to: usize) -> &'static [u8] {
+    WRITTEN.get(from..to).unwrap_or(&[])
+}
+
+/// Reads a frame at a place that is in the file.
+fn read_at<F: FileStore>(
+    file: &mut F,
+    at: u64,
+    limit: u32,
+    into: &mut Text,
+) -> Result<FrameRead, Stop> {
+    if at > file.len() {
+        return Err(Stop::Failed);
+    }
+    read_frame(file, at, limit, into)
+}
+
+/// Goes back from a place that is in the file.
+fn back_from<F: FileStore>(file: &mut F, at: u64) -> Result<Option<u64>, Stop> {
+    if at > file.len() {
+        return Err(Stop::Failed);
+    }
+    Ok(backspace_frame(file, at)?)
+}
+
 #[test]
 fn reads_frames(rt: HostRuntime) -> Result<(), Fail> {
     let mut into = Text::new(rt.alloc());
     let mut file = MemoryFile::from_bytes(rt.alloc(), &WRITTEN)?;
-    let cases: [(u64, u32, FrameRead, &[u8]); 9] = [
-        (0, 4, FrameRead::Frame { next: 12 }, &WRITTEN[4..8]),
-        (0, 3, FrameRead::TooLong, b""),
-        (12, 99, FrameRead::Frame { next: 28 }, &WRITTEN[16..24]),
-        (28, 99, FrameRead::Frame { next: 40 }, &WRITTEN[32..36]),
-        (40, 7, FrameRead::Frame { next: 55 }, b"\0\0\0\0abc"),
-        (40, 6, FrameRead::TooLong, b""),
-        (55, 0, FrameRead::Frame { next: 63 }, b""),
-        (63, 0, FrameRead::End, b""),
-        (1, 99, FrameRead::Broken, b""),
-    ];
-    for (at, limit, answer, body) in cases {
-        assert!(rt; at <= file.len());
-        assert_eq!(rt;
-            read_frame(&mut file, at, limit, &mut into)?,
-            answer,
+    for (at, limit, answer, from, to) in READS.iter() {
+        let read = read_at(&mut file, *at, *limit, &mut into)?;
+        assert!(rt;
+            read == *answer && into.bytes() == written(*from, *to),
             "at {at} to {limit}"
-        );
-        assert_eq!(rt; into.bytes(), body, "at {at} to {limit}");
-    }
-    // Each cut of the first frame, and the frame with another first or last length.
-    for end in 0..12 {
-        let mut file = MemoryFile::from_bytes(rt.alloc(), &WRITTEN[..end])?;
-        let answer = if end == 0 {
-            FrameRead::End
-        } else {
-            FrameRead::Broken
-        };
-        assert_eq!(rt;
-            read_frame(&mut file, 0, 99, &mut into)?,
-            answer,
-            "cut to {end}"
-        );
-    }
-    for bytes in [
-        [5, 0, 0, 0, 5, 0, 0, 0, 4, 0, 0, 0],
-        [4, 0, 0, 0, 5, 0, 0, 0, 5, 0, 0, 0],
-        [4, 0, 0, 0x80, 5, 0, 0, 0, 4, 0, 0, 0x80],
-    ] {
-        let mut file = MemoryFile::from_bytes(rt.alloc(), &bytes)?;
-        assert_eq!(rt;
-            read_frame(&mut file, 0, 99, &mut into)?,
-            FrameRead::Broken,
-            "{bytes:?}"
-        );
-        assert_eq!(rt;
-            backspace_frame(&mut file, 12).ok(),
-            Some(None),
-            "{bytes:?}"
         );
     }
     Ok(())
 }
 
+/// What a file that begins with a frame, or is to, is read as.
+fn read_first(alloc: Global, bytes: &[u8]) -> Result<FrameRead, Stop> {
+    let mut into = Text::new(alloc);
+    let mut file = MemoryFile::from_bytes(alloc, bytes)?;
+    read_at(&mut file, 0, 99, &mut into)
+}
+
+// Each cut of the first frame.
 #[test]
-fn goes_back(rt: HostRuntime) -> Result<(), Fail> {
-    let mut file = MemoryFile::from_bytes(rt.alloc(), &WRITTEN)?;
-    for (at, start) in [
-        (0u64, Some(0u64)),
-        (12, Some(0)),
-        (28, Some(12)),
-        (40, Some(28)),
-        (55, Some(40)),
-        (63, Some(55)),
-        (62, Some(54)),
-        (59, None),
-        (11, None),
-        (7, None),
-        (1, None),
-    ] {
-        assert!(rt; at <= file.len());
-        assert_eq!(rt; backspace_frame(&mut file, at).ok(), Some(start), "at {at}");
+fn reads_cut_frames(rt: HostRuntime) -> Result<(), Fail> {
+    assert!(rt; read_first(rt.alloc(), b"")? == End);
+    for end in 1..12 {
+        assert!(rt;
+            read_first(rt.alloc(), written(0, end))? == Broken,
+            "cut to {end}"
+        );
     }
     Ok(())
 }
+
+// The first frame with another first or last length.
+static WRONG: [[u8; 12]; 3] = [
+    [5, 0, 0, 0, 5, 0, 0, 0, 4, 0, 0, 0],
+    [4, 0, 0, 0, 5, 0, 0, 0, 5, 0, 0, 0],
+    [4, 0, 0, 0x80, 5, 0, 0, 0, 4, 0, 0, 0x80],
+];
+
+/// Where the frame before a place begins.
+fn before(alloc: Global, bytes: &[u8], at: u64) -> Result<Option<u64>, Stop> {
+    let mut file = MemoryFile::from_bytes(alloc, bytes)?;
+    back_from(&mut file, at)
+}
+
+#[test]
+fn wrong_lengths_are_no_frame(rt: HostRuntime) -> Result<(), Fail> {
+    for (number, bytes) in WRONG.iter().enumerate() {
+        assert!(rt; read_first(rt.alloc(), bytes)? == Broken, "row {number}");
+        assert!(rt; before(rt.alloc(), bytes, 12)?.is_none(), "row {number}");
+    }
+    Ok(())
+}
+
+// A place, and where the frame before it begins.
+static BACK: [(u64, Option<u64>); 11] = [
+    (0, Some(0)),
+    (12, Some(0)),
+    (28, Some(12)),
+    (40, Some(28)),
+    (55, Some(40)),
+    (63, Some(55)),
+    (62, Some(54)),
+    (59, None),
+    (11, None),
+    (7, None),
+    (1, None),
+];
+
+#[test]
+fn goes_back(rt: HostRuntime) -> Result<(), Fail> {
+    for (at, start) in BACK.iter() {
+        assert!(rt; before(rt.alloc(), &WRITTEN, *at)? == *start, "at {at}");
+    }
+    Ok(())
+}
+
+/// Appends a frame at a place that is in the file, near its start.
+fn append_at<F: FileStore>(file: &mut F, at: u64, body: &[u8]) -> Result<u64, Stop> {
+    if at > file.len() || at > 99 || body.len() > 3000 {
+        return Err(Stop::Failed);
+    }
+    append_frame(file, at, body)
+}
+
+// The bodies of `WRITTEN`, from one place to another.
+static BODIES: [(usize, usize); 5] = [(4, 8), (16, 24), (32, 36), (44, 51), (0, 0)];
 
 #[test]
 fn appends_frames(rt: HostRuntime) -> Result<(), Fail> {
     let mut file = MemoryFile::new(rt.alloc());
-    let mut into = Text::new(rt.alloc());
-    let mut at = 0u64;
-    for body in [
-        &WRITTEN[4..8],
-        &WRITTEN[16..24],
-        &WRITTEN[32..36],
-        b"\0\0\0\0abc",
-        b"",
-    ] {
-        assert!(rt; at <= file.len() && at < 99 && body.len() < 99);
-        at = append_frame(&mut file, at, body)?;
+    let mut at = 0;
+    for (from, to) in BODIES.iter() {
+        at = append_at(&mut file, at, written(*from, *to))?;
     }
     assert_eq!(rt; file.bytes(), WRITTEN.as_slice());
-    // A body that is not gathered, over the second frame, and back to a short one.
-    let long = [7u8; 3000];
-    assert!(rt; 12 <= file.len());
-    assert_eq!(rt; append_frame(&mut file, 12, &long)?, 3020);
+    Ok(())
+}
+
+const LONG: [u8; 3000] = [7; 3000];
+
+// A body that is not gathered, over the second frame, and back to a short one.
+#[test]
+fn appends_long_frames(rt: HostRuntime) -> Result<(), Fail> {
+    let mut into = Text::new(rt.alloc());
+    let mut file = MemoryFile::from_bytes(rt.alloc(), &WRITTEN)?;
+    assert_eq!(rt; append_at(&mut file, 12, &LONG)?, 3020);
     assert_eq!(rt; file.len(), 3020);
-    assert_eq!(rt;
-        read_frame(&mut file, 12, 3000, &mut into)?,
-        FrameRead::Frame { next: 3020 }
-    );
-    assert_eq!(rt; into.bytes(), long.as_slice());
-    assert!(rt; 12 <= file.len());
-    assert_eq!(rt; append_frame(&mut file, 12, b"ab")?, 22);
+    assert!(rt; read_at(&mut file, 12, 3000, &mut into)? == Frame { next: 3020 });
+    assert_eq!(rt; into.bytes(), LONG.as_slice());
+    assert_eq!(rt; append_at(&mut file, 12, b"ab")?, 22);
     assert_eq!(rt;
         file.bytes(),
-        [
-            4, 0, 0, 0, 5, 0, 0, 0, 4, 0, 0, 0, 2, 0, 0, 0, 97, 98, 2, 0, 0, 0
-        ]
-        .as_slice()
+        b"\x04\0\0\0\x05\0\0\0\x04\0\0\0\x02\0\0\0ab\x02\0\0\0".as_slice()
+    );
+    Ok(())
+}
+
+/// Puts values of each kind one behind the other.
+fn put_values(alloc: Global) -> Result<Text, AllocError> {
+    let mut out = Text::new(alloc);
+    put_value(Kind::Int4, &Value::Int(5), &mut out)?;
+    put_value(Kind::Int8, &Value::Int(-2), &mut out)?;
+    put_value(Kind::Logical, &Value::Log(true), &mut out)?;
+    let chars = Value::of_text(Text::from_bytes(alloc, b"abc")?)?;
+    put_value(Kind::Chars(3), &chars, &mut out)?;
+    Ok(out)
+}
+
+#[test]
+fn puts_values(rt: HostRuntime) -> Result<(), Fail> {
+    let out = put_values(rt.alloc())?;
+    assert_eq!(rt;
+        out.bytes(),
+        b"\x05\0\0\0\xfe\xff\xff\xff\xff\xff\xff\xff\x01\0\0\0abc".as_slice()
     );
     Ok(())
 }
 
 #[test]
-fn stores_values(rt: HostRuntime) -> Result<(), Fail> {
-    let mut out = Text::new(rt.alloc());
-    let chars = Value::of_text(Text::from_bytes(rt.alloc(), b"abc")?)?;
-    for (kind, value) in [
-        (Kind::Int4, Value::Int(5)),
-        (Kind::Int8, Value::Int(-2)),
-        (Kind::Logical, Value::Log(true)),
-        (Kind::Chars(3), chars),
-    ] {
-        put_value(kind, &value, &mut out)?;
-    }
-    assert_eq!(rt;
-        out.bytes(),
-        b"\x05\0\0\0\xfe\xff\xff\xff\xff\xff\xff\xff\x01\0\0\0abc".as_slice()
-    );
+fn gets_values(rt: HostRuntime) -> Result<(), Fail> {
     let mut value = Value::Undefined;
     get_value(rt.alloc(), Kind::Int4, b"\xff\xff\xff\xff", &mut value)?;
     assert!(rt; matches!(&value, Value::Int(-1)));

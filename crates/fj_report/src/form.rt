@@ -8,7 +8,7 @@ use crate::given::{given, has_flag, number_behind};
 use std::alloc::{AllocError, Global};
 
 /// What the words ask for.
-#[derive(Clone, Copy, Debug, PartialEq, Eq)]
+#[derive(Clone, Copy, PartialEq, Eq)]
 pub enum Form {
     /// To carry out the deck with workers.
     Run { workers: u32, trace: bool },

@@ -3,7 +3,7 @@ use fj_statement::Reason;
 use fj_value::Rule;
 
 /// What a run answers. `stmt` is the line of a statement.
-#[derive(Clone, Copy, Debug, PartialEq, Eq)]
+#[derive(Clone, Copy, PartialEq, Eq)]
 pub enum Status {
     /// The deck came to END.
     Ended,

@@ -7,7 +7,7 @@ use fj_value::{Tag, Text};
 use std::alloc::AllocError;
 
 /// A transfer that was told: the line of the statement that tells it, its unit, its identifier and its condition.
-#[derive(Clone, Copy, Debug, PartialEq, Eq)]
+#[derive(Clone, Copy, PartialEq, Eq)]
 pub struct Tell {
     pub stmt: u32,
     pub unit: i64,

@@ -3,7 +3,7 @@ ghost use Rattle.std.specs.Prelude.{◌≡◌, ◌≤◌, [], true, length, is_s
 ghost use Rattle.fj_world.specs.Alone.{AllHome};
 ghost use Rattle.fj_units.specs.Names.{AreInUse};
 
-use fj_bay::{Bay, Job};
+use fj_bay::{Bay, Boxed, Job};
 use fj_closing::{Remains, finish, room_for};
 use fj_connect::{Connection, open_file};
 use fj_modes::{Access, FileName, FileStatus, OpenSpec, is_file_name, settle_open};
@@ -71,7 +71,10 @@ fn slot_of(alloc: Global, connection: Connection<MemoryFile>) -> Option<Slot<Bay
     ensures { IfSome result (λ slot. is_some slot.home ≡ true) }
 {
     let mut slot = Slot::new(alloc, Bay::empty(alloc));
-    let Ok(_) = slot.submit(Job::Attach(Some(connection))) else {
+    let Ok(place) = Boxed::new(alloc, Some(connection)) else {
+        return None;
+    };
+    let Ok(_) = slot.submit(Job::Attach(place)) else {
         return None;
     };
     Some(slot)

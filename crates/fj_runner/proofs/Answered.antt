@@ -28,6 +28,7 @@ use Rattle.fj_runner.specs.declared.stage.Stage.{Stage}
 use Rattle.fj_runner.specs.declared.stage.Stage.TheVariants as stage
 use Rattle.fj_runner.specs.declared.state.State.{State}
 use Rattle.fj_runner.proofs.NextAsks.{some_same, run_known}
+use Rattle.fj_runner.proofs.Owning.{own_same}
 use Rattle.fj_runner.proofs.Passed.{passed_kept, answered_pendings}
 
 -- ---- the stage
@@ -119,15 +120,5 @@ passed_still slot number it hs hs' (stage.Going next n) e p = refl
 passed_still slot number it hs hs' (stage.Awaiting own last then_) e p = refl
 passed_still slot number it hs hs' (stage.Answered then_ job answer) e p = refl
 
-own_passed_by : {F : Type 0} → (hs : List code_held.Held) (b : Bool) (job : Job F) (answer : Answer) (own last : ℕ) (then_ : Then)
-    → is_passed hs (cond b (stage.Answered then_ job answer) (stage.Awaiting own last then_)) ≡ true
-own_passed_by hs true job answer own last then_ = refl
-own_passed_by hs false job answer own last then_ = refl
-
 pub own_passed : {F : Type 0} → (hs : List code_held.Held) (slot number : ℕ) (job : Job F) (answer : Answer) (s : Stage F) → is_passed hs s ≡ true → is_passed hs (with_own slot number job answer s) ≡ true
-own_passed hs slot number job answer (stage.Waiting whose from) p = p
-own_passed hs slot number job answer stage.Start p = refl
-own_passed hs slot number job answer (stage.Resuming slots next condition) p = refl
-own_passed hs slot number job answer (stage.Going next n) p = refl
-own_passed hs slot number job answer (stage.Awaiting own last then_) p = own_passed_by hs ((own == slot) && (last == number)) job answer own last then_
-own_passed hs slot number job answer (stage.Answered then_ other reply) p = refl
+own_passed hs slot number job answer s p = own_same (is_passed hs) slot number job answer (λ own last next. refl) s ∙ p

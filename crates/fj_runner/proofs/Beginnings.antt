@@ -1,16 +1,18 @@
 -- How a statement begins, as plain data.
-use Rattle.std.proofs.Common.{◌≡◌, ℕ, true, false, not, List, ◌++◌, map, filter, Option, Some, None, Result, Ok, Err, IfOk, OnOk, is_none, refl, sym, ap, ◌∙◌, subst}
+use Rattle.std.proofs.Common.{◌≡◌, ℕ, true, false, not, List, [], ◌∷◌, ◌++◌, map, filter, Option, Some, None, Result, Ok, Err, IfOk, OnOk, is_none, refl, sym, ap, ◌∙◌, subst}
+use Rattle.std.proofs.lemmas.List.{append-nil}
 use Rattle.fj_value.specs.declared.condition.Condition.{Condition}
 use Rattle.fj_value.specs.declared.condition.Rule.{Rule}
 use Rattle.fj_statement.specs.declared.deck.Variable.{Variable}
 use Rattle.fj_store.specs.Storage.{Storage, values_of}
 use Rattle.fj_book.specs.Prohibitions.{prohibited}
 use Rattle.fj_plain.specs.Needs.{need_by}
+use Rattle.fj_plain.proofs.Lists.{filter_true}
 use Rattle.fj_plain.specs.State.{Entry, Files}
 use Rattle.fj_plain.specs.Statement.{Stated, prohibition}
 use Rattle.fj_plain.specs.Telling.{condition_of, tells_id, tell_of, with_inputs}
 use Rattle.fj_desk.specs.Acting.{doing}
-use Rattle.fj_desk.specs.Core.{Core, Pending, pending_holders, unit_named}
+use Rattle.fj_desk.specs.Core.{Core, Pending, Connected, pending_holders, unit_named}
 use Rattle.fj_desk.specs.Desking.{told_core}
 use Rattle.fj_turns.specs.Run.{Run, Held, Waiting}
 use Rattle.fj_turns.specs.Turns.{doing_told, turn_act, turn_tell, turn_wait, turn_start, with_tells, ends_halts, halted_slots, wait_by, waited_now, unsettled, settles, start_by, finish_by, rule_of}
@@ -63,6 +65,22 @@ pub told_core_of : {X E : Type 0} → (r : Result X E) (files : Files) (variable
 told_core_of (Ok x) files variables line told old store pending tells v b t = told_core_is files variables line told old store pending tells v b t
 told_core_of (Err e) files variables line told old store pending tells v b t = tt
 
+-- where none is told
+pub told_nothing : (variables : List Variable) (line : ℕ) (told : List Entry) (core : Core) → told ≡ [] → core ≡ told_core variables line told core
+told_nothing variables line told core none =
+    sym (ap (λ es. told_core variables line es core) none ∙ ap (λ b. record core { book = b; tells = core.tells ++ [] }) (filter_true core.book)
+    ∙ ap (λ ts. record core { tells = ts }) (append-nil core.tells))
+
+pub left_all : (told : List Entry) (hs : List Held) → told ≡ [] → hs ≡ filter (λ (h : Held). not (tells_id told h.pending.id)) hs
+left_all told hs none = sym (ap (λ es. filter (λ (h : Held). not (tells_id es h.pending.id)) hs) none ∙ filter_true hs)
+
+none_halted : (units : List Connected) → [] ≡ halted_slots [] units
+none_halted [] = refl
+none_halted (u ∷ units) = none_halted units
+
+pub no_halts : (told : List Entry) (units : List Connected) → told ≡ [] → [] ≡ halted_slots told units
+no_halts told units none = none_halted units ∙ ap (λ es. halted_slots es units) (sym none)
+
 -- ---- it waits
 
 pub is_none_of : (o : Option ℕ) → o ≡ None → is_none o ≡ true
@@ -92,13 +110,10 @@ pub starts_free : (st : Stated) (r : Run) → rule_of r.variables st r.core ≡ 
 starts_free st r e = ap (λ o. start_by st o r) e
 
 -- as it was looked up
-pub rule_by : {E : Type 0} → (variables vs : List Variable) (st : Stated) (files : Files) (core : code.Core) (named : Option ℕ) (r : Result (Option Rule) E) (o o' : Option Rule) → vs ≡ variables
-    → IfOk r (λ rule. (unit_of : List ℕ → Option ℕ) → IsUnitAsked named unit_of st.0.what → rule ≡ prohibited (values_of core.store) (holders core.pending) (need_by vs (values_of core.store) unit_of st.0.what))
-    → r ≡ Ok o → o ≡ o' → IsUnitAsked named (unit_named core.units) st.0.what → rule_of variables st (core_of files core) ≡ o'
-rule_by {E = E} variables vs st files core named r o o' v h is found asked =
-    let P : Result (Option Rule) E → Type 0 = λ x. IfOk x (λ rule. (unit_of : List ℕ → Option ℕ) → IsUnitAsked named unit_of st.0.what
-    → rule ≡ prohibited (values_of core.store) (holders core.pending) (need_by vs (values_of core.store) unit_of st.0.what)) in
-    let k : P (Ok o) = subst P is h in
+pub rule_by : (variables vs : List Variable) (st : Stated) (files : Files) (core : code.Core) (named : Option ℕ) (o o' : Option Rule) → vs ≡ variables
+    → ((unit_of : List ℕ → Option ℕ) → IsUnitAsked named unit_of st.0.what → o ≡ prohibited (values_of core.store) (holders core.pending) (need_by vs (values_of core.store) unit_of st.0.what))
+    → o ≡ o' → IsUnitAsked named (unit_named core.units) st.0.what → rule_of variables st (core_of files core) ≡ o'
+rule_by variables vs st files core named o o' v is found asked =
     rule_is variables st files core o
-    (k (unit_named core.units) asked ∙ ap (λ (xs : List Variable). prohibited (values_of core.store) (holders core.pending) (need_by xs (values_of core.store) (unit_named core.units) st.0.what)) v)
+    (is (unit_named core.units) asked ∙ ap (λ (xs : List Variable). prohibited (values_of core.store) (holders core.pending) (need_by xs (values_of core.store) (unit_named core.units) st.0.what)) v)
     ∙ found

@@ -3,6 +3,7 @@ pub mod Stepping
 pub mod Passed
 pub mod Tallies
 pub mod NextAsks
+pub mod Owning
 pub mod Going
 pub mod Scripting
 pub mod Lists

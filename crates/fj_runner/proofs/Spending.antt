@@ -1,8 +1,8 @@
 -- How many jobs statements give, and how many asks are left for them.
-use Rattle.std.proofs.Common.{◌≡◌, ℕ, ◌+◌, ◌-◌, ◌*◌, ◌^◌, ◌<◌, ◌≤◌, min, max, Bool, true, false, cond, List, length, get_or, slice_set, replicate, Option, Some, None, IsSome, Result, Ok, Err, IfOk, refl, sym, ap, ◌∙◌, not, arith}
+use Rattle.std.proofs.Common.{◌≡◌, ℕ, ◌+◌, ◌-◌, ◌*◌, ◌^◌, ◌<◌, ◌≤◌, min, max, true, false, List, length, get_or, slice_set, replicate, Option, Some, None, IsSome, Result, Ok, Err, IfOk, refl, sym, ap, ◌∙◌, not, arith}
 use Rattle.std.proofs.lemmas.List.{length-map}
 use Rattle.std.proofs.lemmas.List.Filters.{length-filter_both}
-use Rattle.std.specs.Prelude.{◌==◌, ◌&&◌, filter, is_some}
+use Rattle.std.specs.Prelude.{filter, is_some}
 use Rattle.std.specs.List.{sum}
 use Rattle.std.proofs.Props.{props}
 use Rattle.std.proofs.lemmas.List.Folds.{sum_by-replicate}
@@ -27,10 +27,10 @@ use Rattle.fj_acts.specs.declared.doing.Doing.{Doing}
 use Rattle.fj_acts.specs.declared.doing.Doing.TheVariants as doing
 use Rattle.fj_runner.specs.Admitting.{MayAsk}
 use Rattle.fj_runner.specs.Answering.{with_own}
+use Rattle.fj_runner.proofs.Owning.{own_same}
 use Rattle.fj_runner.specs.Spending.{Gives, Lives, Spends, Spent, jobs_at, jobs_from, jobs_left}
 use Rattle.fj_runner.specs.declared.machine.Machine.{Machine}
 use Rattle.fj_runner.specs.declared.stage.Stage.{Stage}
-use Rattle.fj_runner.specs.declared.stage.Stage.TheVariants as stage
 use Rattle.fj_runner.specs.declared.state.State.{State}
 use Rattle.fj_runner.specs.declared.turned.Turned.{Turned}
 use Rattle.fj_runner.specs.declared.turned.Turned.TheVariants as turned
@@ -86,17 +86,8 @@ halted_few es us =
 
 -- ---- the statement's own job comes back
 
-own_by : {F : Type 0} → (b : Bool) (own last : ℕ) (next : Then) (job : Job F) (answer : Answer) (units : ℕ) → jobs_at (cond b (stage.Answered next job answer) (stage.Awaiting own last next)) units ≡ jobs_behind next units
-own_by true own last next job answer units = refl
-own_by false own last next job answer units = refl
-
 pub own_jobs : {F : Type 0} → (slot number : ℕ) (job : Job F) (answer : Answer) (s : Stage F) (units : ℕ) → jobs_at (with_own slot number job answer s) units ≡ jobs_at s units
-own_jobs slot number job answer stage.Start units = refl
-own_jobs slot number job answer (stage.Waiting whose from) units = refl
-own_jobs slot number job answer (stage.Resuming slots next condition) units = refl
-own_jobs slot number job answer (stage.Going next n) units = refl
-own_jobs slot number job answer (stage.Awaiting own last next) units = own_by ((own == slot) && (last == number)) own last next job answer units
-own_jobs slot number job answer (stage.Answered next other reply) units = refl
+own_jobs slot number job answer s units = own_same (λ x. jobs_at x units) slot number job answer (λ own last next. refl) s
 
 -- ---- statements behind one another
 

@@ -37,14 +37,14 @@ ghost use Rattle.fj_runner.specs.Going.{Counts, HaveAt, HaveTurned};
 
 use crate::ending::Ending;
 use crate::halted::halted_slots;
-use crate::stage::{Stage, put_stage};
+use crate::stage::{Stage, put_stage, put_start};
 use crate::state::State;
 use crate::turned::Turned;
 use fj_acts::Core;
 use fj_items::Lost;
 use fj_modes::Subject;
 use fj_outside::{Disk, FileStore, Sink};
-use fj_pending::{Whose, check, waits_for};
+use fj_pending::{Whose, check, is_idle, waits_for};
 use fj_statement::{Lined, Statement, Variables};
 use fj_units::Units;
 use fj_value::Condition;
@@ -82,6 +82,9 @@ fn tell_all(
     ensures units { core.new.units ≡ core.old.units }
     ensures keeps { Keeps core.old core.new }
 {
+    if is_idle(&core.pending, whose) {
+        return Ok(Condition::Fine);
+    }
     let store = &mut core.store;
     let tells = &mut core.tells;
     core.pending.tell(alloc, whose, line, store, tells)
@@ -124,7 +127,7 @@ impl<F: FileStore> State<F> {
         ensures may { may_be_at lined.now.what self.new.stage ≡ true }
         ensures starts { IfOk result (λ t. t ≡ Turned.Passes → self.new.stage ≡ Stage.Start) }
     {
-        put_stage(&mut self.stage, Stage::Start);
+        put_start(&mut self.stage);
         let units = self.core.units.as_slice();
         let slots = match halted_slots(alloc, &self.core.pending, whose, units) {
             Ok(slots) => slots,
@@ -277,17 +280,12 @@ impl<F: FileStore> State<F> {
     {
         let named = unit_asked(&self.core.units, &lined.what);
         let broken = check(
-            alloc,
             variables.as_slice(),
             &self.core.store,
             &self.core.pending,
             named,
             &lined.what,
         );
-        let broken = match broken {
-            Ok(broken) => broken,
-            Err(error) => return Err(Lost::Memory(error)),
-        };
         match broken {
             None => self.wait(alloc, variables, lined, Whose::None, 0, disk, out),
             Some(rule) => {

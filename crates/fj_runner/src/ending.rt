@@ -8,7 +8,7 @@ use fj_statement::Statement;
 use fj_value::{Condition, Place, Rule};
 
 /// How the statement of a line ended the deck.
-#[derive(Clone, Copy, Debug, PartialEq, Eq)]
+#[derive(Clone, Copy, PartialEq, Eq)]
 pub enum Ending {
     /// END was carried out.
     Ended,

@@ -6,7 +6,7 @@ ghost use Rattle.fj_pending.specs.Waits.{waited_of};
 ghost use Rattle.fj_units.specs.Units.{connected_of};
 ghost use Rattle.fj_runner.specs.Numbering.{AreSlots};
 
-use fj_pending::{Pendings, Whose};
+use fj_pending::{Pendings, Whose, is_idle};
 use fj_units::Connected;
 use fj_value::Items;
 use std::alloc::{AllocError, Global};
@@ -22,6 +22,9 @@ pub(crate) fn halted_slots(
     ensures slots { IfOk result (λ slots. AreSlots slots) }
 {
     let mut slots = Items::new(alloc);
+    if is_idle(pending, whose) {
+        return Ok(slots);
+    }
     for at in 0..units.len() {
         let unit = &units[at];
         if pending.ends_halt(whose, unit.number) {

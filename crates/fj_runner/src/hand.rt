@@ -1,6 +1,6 @@
 // The ask at hand.
 /// The ask that is not answered.
-#[derive(Clone, Copy, Debug, PartialEq, Eq)]
+#[derive(Clone, Copy, PartialEq, Eq)]
 pub(crate) enum Hand {
     Idle,
     Submitting(u32),

@@ -44,7 +44,7 @@ impl<F: FileStore> Machine<F> {
         ensures deck { self.new.deck ≡ self.old.deck }
     {
         if let Job::Attach(brought) = job {
-            self.kept = brought;
+            self.kept = brought.into_inner();
         }
     }
 

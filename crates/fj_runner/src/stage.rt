@@ -48,3 +48,13 @@ pub(crate) fn put_stage<F: FileStore>(place: &mut Stage<F>, stage: Stage<F>)
 {
     *place = stage;
 }
+
+/// Goes back to the start.
+pub(crate) fn put_start<F: FileStore>(place: &mut Stage<F>)
+    ensures { place.new ≡ Stage.Start }
+{
+    if let Stage::Start = place {
+        return;
+    }
+    *place = Stage::Start;
+}

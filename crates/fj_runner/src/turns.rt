@@ -40,7 +40,7 @@ ghost use Rattle.fj_runner.specs.Spending.{Spends, jobs_at};
 ghost use Rattle.fj_runner.specs.Going.{Counts, DoesNotPause, HaveAt, HaveTurned};
 
 use crate::ending::{ended_by, iostat_of};
-use crate::stage::{Stage, put_stage};
+use crate::stage::{Stage, put_stage, put_start};
 use crate::state::State;
 use crate::turned::Turned;
 use fj_acts::{Doing, begin};
@@ -106,7 +106,7 @@ impl<F: FileStore> State<F> {
         ensures spends { (jobs : ℕ) → Spends jobs result self.new }
         ensures heard { self.new.told ≡ self.old.told }
     {
-        put_stage(&mut self.stage, Stage::Start);
+        put_start(&mut self.stage);
         let iostat = iostat_of(&lined.what);
         let code = i64::from(condition.code());
         set_number(variables, &mut self.core.store, iostat, code);
@@ -208,7 +208,7 @@ impl<F: FileStore> State<F> {
             };
             return Ok(self.submit(slot, Job::Resume, stage));
         }
-        put_stage(&mut self.stage, Stage::Start);
+        put_start(&mut self.stage);
         match begin(
             alloc,
             variables,

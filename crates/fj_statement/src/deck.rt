@@ -5,7 +5,7 @@ use crate::statement::Statement;
 use fj_value::{Items, Kind, Text};
 
 /// A variable that is declared.
-#[derive(Debug, Drop)]
+#[derive(Drop)]
 pub struct Variable {
     /// In upper case.
     pub name: Text,

@@ -8,7 +8,7 @@ use fj_value::{Delim, Items, Kind, Place, Text, Value};
 ///
 /// An integer literal is INTEGER(4) where that holds its value, else INTEGER(8). The kind of a character literal has
 /// its length.
-#[derive(Debug, Drop)]
+#[derive(Drop)]
 pub enum Operand {
     Literal { kind: Kind, value: Value },
     One(Place),

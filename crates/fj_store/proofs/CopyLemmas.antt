@@ -1,12 +1,12 @@
 -- Copying pieces gives the cells of the items.
-use Rattle.std.proofs.Common.{◌≡◌, ◌||◌, ℕ, zero, suc, ◌+◌, ◌-◌, ◌<◌, ◌≤◌, eqb, cond, Bool, true, false, List, [], ◌∷◌, ◌++◌, length, map, take, drop, get_or, Option, Some, None, refl, sym, ap, subst, ◌∙◌, inl, inr, arith}
+use Rattle.std.proofs.Common.{◌≡◌, ◌||◌, ℕ, zero, suc, ◌+◌, ◌-◌, ◌<◌, ◌≤◌, eqb, cond, Bool, true, false, List, [], ◌∷◌, ◌++◌, length, map, drop, get_or, Option, Some, None, refl, sym, ap, subst, ◌∙◌, inl, inr, arith}
 use Rattle.std.proofs.lemmas.Bool.{false≢true}
 use Rattle.std.specs.List.{range_with_len}
 use Rattle.std.specs.Option.{option_map, option_flatten}
 use Rattle.std.proofs.lemmas.Bool.Decides.{eqb_tells, nat_tests}
 use Rattle.std.proofs.lemmas.List.Folds.{position_or_len_push}
 use Rattle.std.proofs.Common.{length-append}
-use Rattle.std.proofs.lemmas.List.{length-map, map-append, append-nil, append_assoc, take_more}
+use Rattle.std.proofs.lemmas.List.{append-nil, append_assoc}
 use Rattle.std.specs.List.{position_or_len}
 use Rattle.fj_value.specs.declared.kind.Kind.{Kind}
 use Rattle.fj_value.specs.declared.place.Place.{Place}
@@ -24,6 +24,7 @@ use Rattle.fj_store.specs.declared.slot.Slot.TheVariants.{Home, Out}
 use Rattle.fj_store.specs.Kinds.{kind_at, of_kind}
 use Rattle.fj_store.specs.Pieces.{no_variable, own_cell, cells_from, size_of, sizes}
 use Rattle.fj_store.specs.Places.{same_place, counted_from, places_of}
+use Rattle.fj_store.specs.Slots.{all_read}
 use Rattle.fj_store.specs.Tables.{element_at, with_element, with_cells}
 use Rattle.fj_store.specs.Variables.{is_at, with_item, moved_from, moved_of}
 use Rattle.fj_store.specs.Storage.{Storage, storage, value_in, value_at, cell_at}
@@ -234,44 +235,35 @@ run_alone s var first (suc n) moved free =
     ∙ ap (both (moved.cells ++ cell ∷ more)) (append_assoc moved.order (length moved.cells ∷ []) (range_with_len (length moved.cells + 1) n))
 
 -- what is read at the places of a run, as the cells of a row
-row_read : (kinds : List Kind) (slots : List (List Slot)) (s : Storage) (kind : Kind) (var first n : ℕ) (row : List Slot) → storage kinds slots ≡ s → kind ≡ kind_at s.kinds var
-    → map Some row ≡ map (element_at slots) (counted_from var first n)
-    → row_cells (record { var = var; index = first }) kind (map value_read row) ≡ map (cell_at s) (counted_from var first n)
+row_read : (kinds : List Kind) (slots : List (List Slot)) (s : Storage) (kind : Kind) (var first n : ℕ) (row : List Value) → storage kinds slots ≡ s → kind ≡ kind_at s.kinds var
+    → map Some row ≡ map (element_at (all_read slots)) (counted_from var first n)
+    → row_cells (record { var = var; index = first }) kind row ≡ map (cell_at s) (counted_from var first n)
 row_read kinds slots s kind var first zero [] view same read = refl
-row_read kinds slots s kind var first (suc n) [] view same read = absurd (let never : 0 ≡ suc (length (map (element_at slots) (counted_from var (first + 1) n))) = ap length read in omega (arith, never))
-row_read kinds slots s kind var first zero (x ∷ row) view same read = absurd (let never : suc (length (map (λ (y : Slot). Some y) row)) ≡ 0 = ap length read in omega (arith, never))
-row_read kinds slots s kind var first (suc n) (x ∷ row) view same read =
+row_read kinds slots s kind var first (suc n) [] view same read = absurd (let never : 0 ≡ suc (length (map (element_at (all_read slots)) (counted_from var (first + 1) n))) = ap length read in omega (arith, never))
+row_read kinds slots s kind var first zero (v ∷ row) view same read = absurd (let never : suc (length (map (λ (y : Value). Some y) row)) ≡ 0 = ap length read in omega (arith, never))
+row_read kinds slots s kind var first (suc n) (v ∷ row) view same read =
     let p : Place = record { var = var; index = first } in
-    let none : Option Slot = None in
-    let here : Some x ≡ element_at slots p = ap (λ l. get_or l 0 none) read in
-    let value : value_read x ≡ unwrap_or (value_at s p) Undefined =
-    ap (λ o. unwrap_or (option_flatten (option_map value_in o)) Undefined) here ∙ ap (λ (o : Option Value). unwrap_or o Undefined) (sym (stored_read kinds slots s p view)) in
-    let cell : cell_of p kind (value_read x) ≡ cell_at s p = ap (λ k. cell_of p k (value_read x)) same ∙ ap (cell_of p (kind_at s.kinds var)) value in
-    ap (λ c. c ∷ row_cells (record { var = var; index = first + 1 }) kind (map value_read row)) cell
+    let none : Option Value = None in
+    let here : Some v ≡ element_at (all_read slots) p = ap (λ l. get_or l 0 none) read in
+    let go : (o : Option Slot) → Some v ≡ option_map value_read o → v ≡ unwrap_or (option_flatten (option_map value_in o)) Undefined =
+    λ o. elim o as (λ z. Some v ≡ option_map value_read z → v ≡ unwrap_or (option_flatten (option_map value_in z)) Undefined) [ None ↦ λ e. cc | Some x ↦ λ e. cc ] in
+    let value : v ≡ unwrap_or (value_at s p) Undefined = go (element_at slots p) (here ∙ mapped_at value_read slots p) ∙ ap (λ (o : Option Value). unwrap_or o Undefined) (sym (stored_read kinds slots s p view)) in
+    let cell : cell_of p kind v ≡ cell_at s p = ap (λ k. cell_of p k v) same ∙ ap (cell_of p (kind_at s.kinds var)) value in
+    ap (λ c. c ∷ row_cells (record { var = var; index = first + 1 }) kind row) cell
     ∙ ap (λ l. cell_at s p ∷ l) (row_read kinds slots s kind var (first + 1) n row view same (ap (drop 1) read))
   where
     cell_of : Place → Kind → Value → Cell
     cell_of p kind v = record { place = p; kind = kind; value = v }
 
-pub row_count : (slots : List (List Slot)) (row : List Slot) (var first n : ℕ) (values : List Value) → map Some row ≡ map (element_at slots) (counted_from var first n) → values ≡ map value_read row → length values ≡ n
-row_count slots row var first n values read is = ap length is ∙ length-map row value_read ∙ run_long slots row var first n read
-
 -- these are the items that are copied
-pub row_moved : (kinds : List Kind) (slots : List (List Slot)) (s : Storage) (row : List Slot) (kind : Kind) (var first n : ℕ) (values : List Value) → storage kinds slots ≡ s → kind ≡ kind_at s.kinds var
-    → map Some row ≡ map (element_at slots) (counted_from var first n) → values ≡ map value_read row
-    → record { cells = row_cells (record { var = var; index = first }) kind values; order = range_with_len 0 (length values) } ≡ moved_of (map (cell_at s) (counted_from var first n))
-row_moved kinds slots s row kind var first n values view same read is =
+pub row_moved : (kinds : List Kind) (slots : List (List Slot)) (s : Storage) (row : List Value) (kind : Kind) (var first n : ℕ) → storage kinds slots ≡ s → kind ≡ kind_at s.kinds var
+    → map Some row ≡ map (element_at (all_read slots)) (counted_from var first n)
+    → record { cells = row_cells (record { var = var; index = first }) kind row; order = range_with_len 0 (length row) } ≡ moved_of (map (cell_at s) (counted_from var first n))
+row_moved kinds slots s row kind var first n view same read =
     let both : List Cell → List ℕ → Moved = λ cells order. record { cells = cells; order = order } in
-    ap (λ cs. both cs (range_with_len 0 (length values))) (ap (row_cells (record { var = var; index = first }) kind) is ∙ row_read kinds slots s kind var first n row view same read)
-    ∙ ap (λ k. both (map (cell_at s) (counted_from var first n)) (range_with_len 0 k)) (row_count slots row var first n values read is)
+    ap (λ cs. both cs (range_with_len 0 (length row))) (row_read kinds slots s kind var first n row view same read)
+    ∙ ap (λ k. both (map (cell_at s) (counted_from var first n)) (range_with_len 0 k)) (run_long (all_read slots) row var first n read)
     ∙ sym (run_alone s var first n (both [] []) (none_is_taken var first))
-
--- one value more
-pub slot_copied : (slots : List Slot) (i : ℕ) (x : Slot) (v : Value) (values values' : List Value) → i < length slots → x ≡ get_or slots i x → v ≡ value_read x → values' ≡ values ++ v ∷ []
-    → values ≡ map value_read (take i slots) → values' ≡ map value_read (take (i + 1) slots)
-slot_copied slots i x v values values' low there is step so_far =
-    step ∙ ap (λ l. l ++ v ∷ []) so_far ∙ ap (λ w. map value_read (take i slots) ++ w ∷ []) (is ∙ ap value_read there)
-    ∙ sym (ap (map value_read) (take_more slots i x low) ∙ map-append value_read (take i slots) (get_or slots i x ∷ []))
 
 -- ---- a row that comes back
 

@@ -3,6 +3,7 @@ pub mod LawLemmas
 pub mod ListLemmas
 pub mod PlaceLemmas
 pub mod RunLemmas
+pub mod SlotLemmas
 pub mod StoreLemmas
 pub mod TableLemmas
 pub mod TakingLemmas

@@ -13,6 +13,7 @@ use Rattle.fj_store.specs.declared.slot.Slot.TheVariants.{Home}
 use Rattle.fj_store.specs.Kinds.{kind_at, of_kind}
 use Rattle.fj_store.specs.Places.{places_of}
 use Rattle.fj_store.specs.Tables.{element_at, with_element, with_cells}
+use Rattle.fj_store.specs.Slots.{all_read}
 use Rattle.fj_store.specs.Storage.{Storage, storage, value_in, all_undefined, value_at, values_of, with_value, returned, given_back}
 use Rattle.fj_store.specs.Taking.{home, value_read}
 use Rattle.fj_store.specs.Variables.{is_undefined, value_at as plain_value}
@@ -59,15 +60,14 @@ back_is kinds ks slots new s cells cs view same same_cells put =
 
 -- ---- a new store
 
-map_replicate : {A B : Type 0} → (f : A → B) (n : ℕ) (x : A) → map f (replicate n x) ≡ replicate n (f x)
+pub map_replicate : {A B : Type 0} → (f : A → B) (n : ℕ) (x : A) → map f (replicate n x) ≡ replicate n (f x)
 map_replicate f zero x = refl
 map_replicate f (suc n) x = ap (λ ys. f x ∷ ys) (map_replicate f n x)
 
-rows_undefined : (variables : List (Kind × ℕ)) → map (map value_in) (map (λ v. replicate v.1 (Home 0 Undefined)) variables) ≡ map (λ v. replicate v.1 (Some Undefined)) variables
-rows_undefined [] = refl
-rows_undefined (v ∷ variables) =
-    ap (λ row. row ∷ map (map value_in) (map (λ v. replicate v.1 (Home 0 Undefined)) variables)) (map_replicate value_in v.1 (Home 0 Undefined))
-    ∙ ap (λ rows. replicate v.1 (Some Undefined) ∷ rows) (rows_undefined variables)
+-- so many of one thing for each variable, mapped
+pub mapped_rows : {T U : Type 0} → (f : T → U) (x : T) (variables : List (Kind × ℕ)) → map (map f) (map (λ v. replicate v.1 x) variables) ≡ map (λ v. replicate v.1 (f x)) variables
+mapped_rows f x [] = refl
+mapped_rows f x (v ∷ variables) = ap (λ row. row ∷ map (map f) (map (λ (w : Kind × ℕ). replicate w.1 x) variables)) (map_replicate f v.1 x) ∙ ap (λ rows. replicate v.1 (f x) ∷ rows) (mapped_rows f x variables)
 
 -- a list taken as far as it goes
 pub whole : {A : Type 0} → (xs : List A) (n : ℕ) → length xs ≤ n → take n xs ≡ xs
@@ -76,13 +76,12 @@ whole [] (suc n) h = refl
 whole (x ∷ xs) zero h = absurd (omega arith)
 whole (x ∷ xs) (suc n) h = ap (λ ys. x ∷ ys) (whole xs n (omega arith))
 
-pub new_is : (variables : List (Kind × ℕ)) (kinds : List Kind) (slots : List (List Slot)) (i : ℕ) → length variables ≤ i → kinds ≡ map (λ v. v.0) (take i variables) → slots ≡ map (λ v. replicate v.1 (Home 0 Undefined)) (take i variables)
+pub new_is : (variables : List (Kind × ℕ)) (kinds : List Kind) (slots : List (List Slot)) (i : ℕ) → length variables ≤ i → kinds ≡ map (λ v. v.0) (take i variables) → slots ≡ map (λ v. replicate v.1 (Home 0 Undefined)) variables
     → storage kinds slots ≡ all_undefined variables
 new_is variables kinds slots i past kinds_are slots_are =
-    let all : take i variables ≡ variables = whole variables i past in
-    ap (λ ks. storage ks slots) (kinds_are ∙ ap (map (λ v. v.0)) all)
-    ∙ ap (storage (map (λ v. v.0) variables)) (slots_are ∙ ap (map (λ v. replicate v.1 (Home 0 Undefined))) all)
-    ∙ ap (with_values (map (λ v. v.0) variables)) (rows_undefined variables)
+    ap (λ ks. storage ks slots) (kinds_are ∙ ap (map (λ v. v.0)) (whole variables i past))
+    ∙ ap (storage (map (λ v. v.0) variables)) slots_are
+    ∙ ap (with_values (map (λ v. v.0) variables)) (mapped_rows value_in (Home 0 Undefined) variables)
 
 -- ---- tests of the places of a run
 
@@ -101,16 +100,23 @@ plain_read kinds slots s p view =
 pub stored_read : (kinds : List Kind) (slots : List (List Slot)) (s : Storage) (p : Place) → storage kinds slots ≡ s → value_at s p ≡ option_flatten (option_map value_in (element_at slots p))
 stored_read kinds slots s p view = ap (λ z. value_at z p) (sym view) ∙ ap option_flatten (mapped_at value_in slots p)
 
-pub undefined_at_run : (kinds : List Kind) (slots : List (List Slot)) (s : Storage) (row : List Slot) (run : Run) (b : Bool) → storage kinds slots ≡ s → map Some row ≡ map (element_at slots) (places_of run)
-    → b ≡ list_any (λ slot. is_undefined (value_read slot)) row → b ≡ list_any (λ place. is_undefined (plain_value (values_of s) place)) (places_of run)
-undefined_at_run kinds slots s row run b view read made =
-    made ∙ any_at_run slots row (places_of run) (λ slot. is_undefined (value_read slot)) (λ o. is_undefined (read_by o)) (λ place. is_undefined (plain_value (values_of s) place)) read (λ x. refl)
-    (λ p. ap is_undefined (plain_read kinds slots s p view))
+-- the same of the values by themselves
+plain_at : (kinds : List Kind) (slots : List (List Slot)) (s : Storage) (p : Place) → storage kinds slots ≡ s → plain_value (values_of s) p ≡ unwrap_or (element_at (all_read slots) p) Undefined
+plain_at kinds slots s p view =
+    let go : (o : Option Slot) → read_by o ≡ unwrap_or (option_map value_read o) Undefined =
+    λ o. elim o as (λ z. read_by z ≡ unwrap_or (option_map value_read z) Undefined) [ None ↦ refl | Some x ↦ refl ] in
+    plain_read kinds slots s p view ∙ go (element_at slots p) ∙ ap (λ o. unwrap_or o Undefined) (sym (mapped_at value_read slots p))
 
-pub undefined_lost : (kinds : List Kind) (slots : List (List Slot)) (s : Storage) (run : Run) → storage kinds slots ≡ s → list_any (λ place. is_none (element_at slots place)) (places_of run) ≡ true
+pub undefined_at_run : (kinds : List Kind) (slots : List (List Slot)) (s : Storage) (row : List Value) (run : Run) (b : Bool) → storage kinds slots ≡ s → map Some row ≡ map (element_at (all_read slots)) (places_of run)
+    → b ≡ list_any is_undefined row → b ≡ list_any (λ place. is_undefined (plain_value (values_of s) place)) (places_of run)
+undefined_at_run kinds slots s row run b view read made =
+    made ∙ any_at_run (all_read slots) row (places_of run) is_undefined (λ o. is_undefined (unwrap_or o Undefined)) (λ place. is_undefined (plain_value (values_of s) place)) read (λ x. refl)
+    (λ p. ap is_undefined (plain_at kinds slots s p view))
+
+pub undefined_lost : (kinds : List Kind) (slots : List (List Slot)) (s : Storage) (run : Run) → storage kinds slots ≡ s → list_any (λ place. is_none (element_at (all_read slots) place)) (places_of run) ≡ true
     → true ≡ list_any (λ place. is_undefined (plain_value (values_of s) place)) (places_of run)
 undefined_lost kinds slots s run view lost =
-    any_lost slots (places_of run) (λ o. is_undefined (read_by o)) (λ place. is_undefined (plain_value (values_of s) place)) lost refl (λ p. ap is_undefined (plain_read kinds slots s p view))
+    any_lost (all_read slots) (places_of run) (λ o. is_undefined (unwrap_or o Undefined)) (λ place. is_undefined (plain_value (values_of s) place)) lost refl (λ p. ap is_undefined (plain_at kinds slots s p view))
 
 -- the values are as they were
 pub same_is : (kinds : List Kind) (slots new : List (List Slot)) (s : Storage) → storage kinds slots ≡ s → map (map value_in) new ≡ map (map value_in) slots → storage kinds new ≡ s

@@ -188,7 +188,7 @@ with_found rows p x row e = rw e refl
 with_lost : {T : Type 0} → (rows : List (List T)) (p : Place) (x : T) → slice_get rows p.var ≡ None → with_element rows p x ≡ rows
 with_lost rows p x e = rw e refl
 
-row_tells : {R : Type 0} → (o : Option R) → (o ≡ None) ⊎ ((r : R) × (o ≡ Some r))
+pub row_tells : {R : Type 0} → (o : Option R) → (o ≡ None) ⊎ ((r : R) × (o ≡ Some r))
 row_tells None = inl refl
 row_tells (Some r) = inr (r, refl)
 

@@ -66,26 +66,36 @@ same_self : (p : Place) → same_place p p ≡ true
 same_self p = grind (arith, nat_tests)
 
 -- the mark of a place is right, or the place has no cell
-pub marked_found : (slots : List (List Slot)) (cells : List Cell) (p : Place) (x : Slot) (cell : Cell) (at : ℕ) → IsMarked slots cells → (p.var ≡ no_variable → ⊥) → element_at slots p ≡ Some x → at ≡ mark_of x → at < length cells
-    → same_place p (get_or cells at cell).place ≡ true → at ≡ position_or_len (is_at p) cells
-marked_found slots cells p x cell at m var there mark low same =
-    let first : position_or_len (is_at p) cells ≤ at = position_before (is_at p) cells at cell same in
-    mark ∙ m.marked p x var there (omega (arith, first, low))
+marked_here : (slots : List (List Slot)) (cells : List Cell) (p : Place) (mark : ℕ) → IsMarked slots cells → (p.var ≡ no_variable → ⊥) → Some mark ≡ option_map mark_of (element_at slots p) → position_or_len (is_at p) cells < length cells
+    → mark ≡ position_or_len (is_at p) cells
+marked_here slots cells p mark m var is found =
+    let go : (o : Option Slot) → element_at slots p ≡ o → Some mark ≡ option_map mark_of o → mark ≡ position_or_len (is_at p) cells =
+    λ o. elim o as (λ z. element_at slots p ≡ z → Some mark ≡ option_map mark_of z → mark ≡ position_or_len (is_at p) cells) [
+      | None ↦ λ there e. cc
+      | Some x ↦ λ there e. let same : mark ≡ mark_of x = ap (λ o. unwrap_or o mark) e in same ∙ m.marked p x var there found
+    ] in
+    go (element_at slots p) refl is
 
-pub marked_other : (slots : List (List Slot)) (cells : List Cell) (p : Place) (x : Slot) (cell : Cell) (at : ℕ) → IsMarked slots cells → (p.var ≡ no_variable → ⊥) → element_at slots p ≡ Some x → at ≡ mark_of x → at < length cells
-    → same_place p (get_or cells at cell).place ≡ false → length cells ≡ position_or_len (is_at p) cells
-marked_other slots cells p x cell at m var there mark low differ = elim (cases_lt (position_or_len (is_at p) cells) (length cells)) [
+pub marked_found : (slots : List (List Slot)) (cells : List Cell) (p : Place) (mark : ℕ) (cell : Cell) → IsMarked slots cells → (p.var ≡ no_variable → ⊥) → Some mark ≡ option_map mark_of (element_at slots p) → mark < length cells
+    → same_place p (get_or cells mark cell).place ≡ true → mark ≡ position_or_len (is_at p) cells
+marked_found slots cells p mark cell m var there low same =
+    let first : position_or_len (is_at p) cells ≤ mark = position_before (is_at p) cells mark cell same in
+    marked_here slots cells p mark m var there (omega (arith, first, low))
+
+pub marked_other : (slots : List (List Slot)) (cells : List Cell) (p : Place) (mark : ℕ) (cell : Cell) → IsMarked slots cells → (p.var ≡ no_variable → ⊥) → Some mark ≡ option_map mark_of (element_at slots p) → mark < length cells
+    → same_place p (get_or cells mark cell).place ≡ false → length cells ≡ position_or_len (is_at p) cells
+marked_other slots cells p mark cell m var there low differ = elim (cases_lt (position_or_len (is_at p) cells) (length cells)) [
   | inl found ↦
-      let is : at ≡ position_or_len (is_at p) cells = mark ∙ m.marked p x var there found in
-      let passes : is_at p (get_or cells at cell) ≡ true = ap (λ k. is_at p (get_or cells k cell)) is ∙ passes_at_first (is_at p) cells cell found in
+      let is : mark ≡ position_or_len (is_at p) cells = marked_here slots cells p mark m var there found in
+      let passes : is_at p (get_or cells mark cell) ≡ true = ap (λ k. is_at p (get_or cells k cell)) is ∙ passes_at_first (is_at p) cells cell found in
       absurd (false≢true (sym differ ∙ passes))
   | inr past ↦ let low : position_or_len (is_at p) cells ≤ length cells = position_low (is_at p) cells in omega (arith, past, low)
 ]
 
-pub marked_past : (slots : List (List Slot)) (cells : List Cell) (p : Place) (x : Slot) (at : ℕ) → IsMarked slots cells → (p.var ≡ no_variable → ⊥) → element_at slots p ≡ Some x → at ≡ mark_of x → length cells ≤ at
+pub marked_past : (slots : List (List Slot)) (cells : List Cell) (p : Place) (mark : ℕ) → IsMarked slots cells → (p.var ≡ no_variable → ⊥) → Some mark ≡ option_map mark_of (element_at slots p) → length cells ≤ mark
     → length cells ≡ position_or_len (is_at p) cells
-marked_past slots cells p x at m var there mark past = elim (cases_lt (position_or_len (is_at p) cells) (length cells)) [
-  | inl found ↦ let is : at ≡ position_or_len (is_at p) cells = mark ∙ m.marked p x var there found in absurd (omega (arith, is, found, past))
+marked_past slots cells p mark m var there past = elim (cases_lt (position_or_len (is_at p) cells) (length cells)) [
+  | inl found ↦ let is : mark ≡ position_or_len (is_at p) cells = marked_here slots cells p mark m var there found in absurd (omega (arith, is, found, past))
   | inr high ↦ let low : position_or_len (is_at p) cells ≤ length cells = position_low (is_at p) cells in omega (arith, high, low)
 ]
 
@@ -193,20 +203,20 @@ none_marked slots cells none = record { marked = λ p x var there low. absurd (l
 -- ---- one place
 
 -- the value of what stood at a place
-pub value_there : (slots : List (List Slot)) (p : Place) (o : Option Slot) (v : Value) → o ≡ element_at slots p → v ≡ option_map_or value_read o Undefined
+pub value_there : (slots : List (List Slot)) (p : Place) (v : Value) → v ≡ option_map_or value_read (element_at slots p) Undefined
     → v ≡ unwrap_or (option_flatten (element_at (values_in slots) p)) Undefined
-value_there slots p o v is made =
+value_there slots p v made =
     let go : (x : Option Slot) → option_map_or value_read x Undefined ≡ unwrap_or (option_flatten (option_map value_in x)) Undefined =
     λ x. elim x as (λ z. option_map_or value_read z Undefined ≡ unwrap_or (option_flatten (option_map value_in z)) Undefined) [ None ↦ refl | Some s ↦ refl ] in
-    made ∙ go o ∙ ap (λ x. unwrap_or (option_flatten (option_map value_in x)) Undefined) is ∙ ap (λ x. unwrap_or (option_flatten x) Undefined) (sym (mapped_at value_in slots p))
+    made ∙ go (element_at slots p) ∙ ap (λ x. unwrap_or (option_flatten x) Undefined) (sym (mapped_at value_in slots p))
 
-pub one_taken : (slots new : List (List Slot)) (taken taken' : Taken) (kind : Kind) (place : Place) (o : Option Slot) (v : Value) (at : ℕ) → new ≡ with_element slots place (Out at) → o ≡ element_at slots place → v ≡ option_map_or value_read o Undefined
+pub one_taken : (slots new : List (List Slot)) (taken taken' : Taken) (kind : Kind) (place : Place) (v : Value) (at : ℕ) → new ≡ with_element slots place (Out at) → v ≡ option_map_or value_read (element_at slots place) Undefined
     → items_in taken' ≡ with_item (items_in taken) (record { place = place; kind = kind; value = v }) → taking new taken' ≡ take_one kind (taking slots taken) place
-one_taken slots new taken taken' kind place o v at put there made item =
+one_taken slots new taken taken' kind place v at put made item =
     let by : List (List (Option Value)) → Moved → Taking = λ values moved. record { values = values; moved = moved } in
     let cell : Value → Cell = λ x. record { place = place; kind = kind; value = x } in
     ap (λ values. by values (items_in taken')) (ap values_in put ∙ mapped_with value_in slots place (Out at))
-    ∙ ap (by (with_element (values_in slots) place None)) (item ∙ ap (λ x. with_item (items_in taken) (cell x)) (value_there slots place o v there made))
+    ∙ ap (by (with_element (values_in slots) place None)) (item ∙ ap (λ x. with_item (items_in taken) (cell x)) (value_there slots place v made))
 
 pub one_marked : (slots new : List (List Slot)) (taken taken' : Taken) (cell : Cell) (at : ℕ) → IsMarked slots taken.cells.items → at ≡ position_or_len (is_at cell.place) taken.cells.items → new ≡ with_element slots cell.place (Out at)
     → items_in taken' ≡ with_item (items_in taken) cell → IsMarked new taken'.cells.items

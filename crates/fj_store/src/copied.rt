@@ -13,7 +13,7 @@ use crate::kinds::kind_in;
 use crate::piece::Piece;
 use crate::run::Run;
 use crate::slot::Slot;
-use crate::table::Table;
+use crate::slots::Slots;
 use crate::taken::{NO_VARIABLE, Taken, add_item, cell_of, position};
 use fj_list::Moved;
 use fj_value::{Cell, Items, Kind, Place, Value};
@@ -39,32 +39,21 @@ fn copied_value(value: &Value) -> Result<Value, AllocError>
     cloned(value)
 }
 
-/// The value of a place once more.
-#[inline(always)]
-fn copied_slot(slot: &Slot) -> Result<Value, AllocError>
-    ensures { IfOk result (λ copy. copy ≡ value_read slot.now) }
+/// The same values once more.
+pub(crate) fn copy_row(alloc: Global, values: &[Value]) -> Result<Items<Value>, AllocError>
+    ensures { IfOk result (λ copies. copies ≡ values.now) }
 {
-    match slot {
-        Slot::Home(_, value) => copied_value(value),
-        Slot::Out(_) => Ok(Value::Undefined),
+    let mut copies = Vec::new(alloc);
+    copies.reserve(values.len())?;
+    for value in values {
+        let copy = copied_value(value)?;
+        copies.push_reserved(copy);
     }
-}
-
-/// Copies the values of places. One that is moved out is undefined.
-pub(crate) fn copy_row(alloc: Global, slots: &[Slot]) -> Result<Items<Value>, AllocError>
-    ensures { IfOk result (λ values. values ≡ map value_read slots.now) }
-{
-    let mut values = Vec::new(alloc);
-    values.reserve(slots.len())?;
-    for slot in slots {
-        let copy = copied_slot(slot)?;
-        values.push_reserved(copy);
-    }
-    Ok(Items::from_vec(values))
+    Ok(Items::from_vec(copies))
 }
 
 /// The value of a place once more. The place is marked with the number of its cell, and keeps its value.
-fn copied_at(slots: &mut Table<Slot>, place: Place, at: u32) -> Result<Value, AllocError>
+fn copied_at(slots: &mut Slots, place: Place, at: u32) -> Result<Value, AllocError>
     ensures value { IfOk result (λ copy. copy ≡ unwrap_or (option_flatten (element_at (values_in slots.old) place)) Undefined) }
     ensures same { values_in slots.new ≡ values_in slots.old }
     ensures marked { IsMarkedAt slots.old slots.new place at }
@@ -82,7 +71,7 @@ fn copied_at(slots: &mut Table<Slot>, place: Place, at: u32) -> Result<Value, Al
 
 /// Copies one place, where it was not copied before.
 fn copy_place(
-    slots: &mut Table<Slot>,
+    slots: &mut Slots,
     kind: Kind,
     place: Place,
     taken: &mut Taken,
@@ -101,12 +90,7 @@ fn copy_place(
 }
 
 /// Copies the places of a run, one behind the other.
-fn copy_run(
-    slots: &mut Table<Slot>,
-    kind: Kind,
-    run: Run,
-    taken: &mut Taken,
-) -> Result<(), AllocError>
+fn copy_run(slots: &mut Slots, kind: Kind, run: Run, taken: &mut Taken) -> Result<(), AllocError>
     requires room { HasRoom taken.old run.count }
     requires marked { IsMarked slots.old taken.old.cells.items }
     ensures items { OnOk result (items_in taken.new ≡ moved_from (items_in taken.old) (map (cell_read kind (values_in slots.old)) (places_of run))) }
@@ -148,7 +132,7 @@ fn is_mixed(mixed: bool, run: Run) -> bool
 
 /// Copies pieces one behind the other: the values of their places, and their own values.
 pub(crate) fn copy_pieces(
-    slots: &mut Table<Slot>,
+    slots: &mut Slots,
     kinds: &[Kind],
     mut pieces: VecDeque<Piece>,
     taken: &mut Taken,

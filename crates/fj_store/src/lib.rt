@@ -5,9 +5,11 @@
 mod copied;
 mod kinds;
 mod laws;
+mod lent;
 mod piece;
 mod run;
 mod slot;
+mod slots;
 mod store;
 mod table;
 mod taken;
@@ -16,6 +18,7 @@ pub use laws::{
     all_comes_back, cells_are_distinct, cells_come_back, items_have_cells, just_these_are_out,
     outputs_have_cells, places_come_back, reads_come_back,
 };
+pub use lent::Lent;
 pub use piece::Piece;
 pub use run::Run;
 pub use store::Store;

@@ -4,7 +4,7 @@ ghost use Rattle.std.specs.Prelude.{◌≡◌, ◌+◌, ◌<◌};
 use fj_value::Place;
 
 /// So many elements of a variable, from an index on. A scalar is the one element of index 1.
-#[derive(Clone, Copy, Debug)]
+#[derive(Clone, Copy)]
 pub struct Run {
     pub var: u32,
     pub first: u32,

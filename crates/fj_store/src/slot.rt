@@ -1,58 +1,68 @@
 // What stands at a place of the store.
 ghost use Rattle.std.specs.Prelude.{◌≡◌};
 ghost use Rattle.std.specs.List.{list_any};
-ghost use Rattle.std.specs.Option.{option_map_or};
+ghost use Rattle.fj_store.specs.Slots.{mark_in, slot_of};
+ghost use Rattle.fj_store.specs.Taking.{mark_of, value_read};
 ghost use Rattle.fj_store.specs.Variables.{is_undefined};
-ghost use Rattle.fj_store.specs.Taking.{value_read, mark_of};
-ghost use Rattle.fj_value.specs.declared.value.Value.TheVariants.{Undefined};
+ghost use Rattle.fj_store.specs.declared.slot.Slot.{Slot as AnySlot};
 
 use fj_value::Value;
 use std::mem::size_of;
 
 /// The value of a place, or none where it is moved out; and its mark, the number of the cell that it had last. It has that cell only
 /// where this is a cell of the place.
-#[derive(Debug, Drop)]
+#[derive(Drop)]
 pub(crate) enum Slot {
     Home(u32, Value),
     Out(u32),
 }
 
-// A variable of a million elements takes 24 bytes for each at most.
-const _: () = prove!(size_of::<Slot>() <= 24);
+/// What stands at a place beside its value: whether that is at home, and the mark.
+#[derive(Clone, Copy)]
+pub(crate) enum Mark {
+    Home(u32),
+    Out(u32),
+}
+
+// With a value of 16 bytes a place takes 24.
+const _: () = prove!(size_of::<Mark>() <= 8);
+
+impl Mark {
+    pub(crate) fn number(self) -> u32
+        ensures { (slot : AnySlot) → mark_in slot ≡ self → result ≡ mark_of slot }
+    {
+        match self {
+            Mark::Home(number) | Mark::Out(number) => number,
+        }
+    }
+
+    /// What stands at a place with this mark and a value.
+    pub(crate) fn with(self, value: Value) -> Slot
+        ensures { result ≡ slot_of self value }
+    {
+        match self {
+            Mark::Home(number) => Slot::Home(number, value),
+            Mark::Out(number) => Slot::Out(number),
+        }
+    }
+}
 
 impl Slot {
-    pub(crate) fn mark(&self) -> u32
-        ensures { result ≡ mark_of self.now }
+    /// The mark and the value apart. One that is moved out is undefined.
+    pub(crate) fn apart(self) -> (Mark, Value)
+        ensures mark { result.0 ≡ mark_in self }
+        ensures value { result.1 ≡ value_read self }
     {
         match self {
-            Slot::Home(mark, _) | Slot::Out(mark) => *mark,
-        }
-    }
-
-    /// Whether the value is undefined; one that is moved out is.
-    pub(crate) fn is_undefined(&self) -> bool
-        ensures { result ≡ is_undefined (value_read self.now) }
-    {
-        match self {
-            Slot::Home(_, value) => matches!(value, Value::Undefined),
-            Slot::Out(_) => true,
+            Slot::Home(number, value) => (Mark::Home(number), value),
+            Slot::Out(number) => (Mark::Out(number), Value::Undefined),
         }
     }
 }
 
-/// The value of what stood at a place. One that is moved out, or that there was not, is undefined.
-pub(crate) fn value_of(slot: Option<Slot>) -> Value
-    ensures { result ≡ option_map_or value_read slot Undefined }
+/// Whether one of some values is undefined.
+pub(crate) fn any_undefined(values: &[Value]) -> bool
+    ensures { result ≡ list_any is_undefined values.now }
 {
-    match slot {
-        Some(Slot::Home(_, value)) => value,
-        Some(Slot::Out(_)) | None => Value::Undefined,
-    }
-}
-
-/// Whether one of some values is undefined; one that is moved out is.
-pub(crate) fn any_undefined(slots: &[Slot]) -> bool
-    ensures { result ≡ list_any (λ slot. is_undefined (value_read slot)) slots.now }
-{
-    slots.iter().any(|slot| slot.is_undefined())
+    values.iter().any(|value| matches!(value, Value::Undefined))
 }

@@ -1,5 +1,5 @@
 // The variables of a deck: what their places hold, and taking values out and giving them back.
-ghost use Rattle.std.specs.Prelude.{◌≡◌, ◌<◌, ◌≤◌, ◌∷◌, [], length, map, replicate, IfSome, IfOk, OnOk, OnErr};
+ghost use Rattle.std.specs.Prelude.{◌≡◌, ◌<◌, ◌≤◌, ◌∷◌, [], true, length, map, replicate, IfSome, IfNone, IfOk, OnOk, OnErr};
 ghost use Rattle.std.specs.List.{list_any};
 ghost use Rattle.std.specs.Option.{option_copied};
 ghost use Rattle.fj_list.specs.Load.{moved_row};
@@ -14,12 +14,13 @@ ghost use Rattle.fj_store.specs.declared.piece.Piece.TheVariants.{Places};
 ghost use Rattle.fj_store.specs.declared.slot.Slot.TheVariants.{Home};
 ghost use Rattle.fj_value.specs.declared.value.Value.TheVariants.{Undefined};
 
-use crate::copied::{copy_pieces, copy_row};
+use crate::copied::copy_pieces;
 use crate::kinds::{kind_in, of_kind};
+use crate::lent::Lent;
 use crate::piece::Piece;
 use crate::run::Run;
 use crate::slot::{Slot, any_undefined};
-use crate::table::Table;
+use crate::slots::Slots;
 use crate::taken::{count_of, room_for, take_places};
 use fj_list::{Cells, Load, Moved, Row, Shape};
 use fj_value::{Cell, Items, Kind, Place, Value};
@@ -28,10 +29,10 @@ use std::collections::VecDeque;
 use std::marker::Model;
 
 /// By variable its kind, and at each of its places a value, or none where it is moved out.
-#[derive(Debug, Drop)]
+#[derive(Drop)]
 pub struct Store {
     kinds: Vec<Kind>,
-    slots: Table<Slot>,
+    slots: Slots,
 }
 
 impl Model for Store {
@@ -42,21 +43,8 @@ impl Model for Store {
     ghost view = { λ store. storage store.kinds.items store.slots };
 }
 
-/// So many places that are undefined.
-fn undefined_row(alloc: Global, count: u32) -> Result<Items<Slot>, AllocError>
-    ensures { IfOk result (λ row. row ≡ replicate count (Home 0 Undefined)) }
-{
-    let mut row = Items::new(alloc);
-    row.reserve(count as usize)?;
-    for at in 0..count {
-        let _ = at;
-        row.push(Slot::Home(0, Value::Undefined))?;
-    }
-    Ok(row)
-}
-
 /// Puts the values of cells back, each at its place.
-fn put_back(slots: &mut Table<Slot>, kinds: &[Kind], cells: Vec<Cell>)
+fn put_back(slots: &mut Slots, kinds: &[Kind], cells: Vec<Cell>)
     ensures { slots.new ≡ with_cells (home kinds.now) cells.items slots.old }
 {
     for cell in cells {
@@ -71,7 +59,7 @@ fn put_back(slots: &mut Table<Slot>, kinds: &[Kind], cells: Vec<Cell>)
 }
 
 /// Puts the values of a row back.
-fn put_row(slots: &mut Table<Slot>, kinds: &[Kind], row: Row)
+fn put_row(slots: &mut Slots, kinds: &[Kind], row: Row)
     ensures { slots.new ≡ with_cells (home kinds.now) (moved_row row).cells slots.old }
 {
     let Row {
@@ -110,11 +98,10 @@ impl Store {
         ensures { IfOk result (λ store. store ≡ all_undefined variables.now) }
     {
         let mut kinds = Vec::new(alloc);
-        let mut slots = Table::new(alloc);
-        for (kind, count) in variables {
+        for (kind, _) in variables {
             kinds.push(*kind)?;
-            slots.push(undefined_row(alloc, *count)?)?;
         }
+        let slots = Slots::undefined(alloc, variables)?;
         Ok(Store { kinds, slots })
     }
 
@@ -122,10 +109,7 @@ impl Store {
     pub fn read(&self, place: Place) -> Option<&Value>
         ensures { option_copied result ≡ value_at self.now place }
     {
-        match self.slots.get(place) {
-            Some(Slot::Home(_, value)) => Some(value),
-            Some(Slot::Out(_)) | None => None,
-        }
+        self.slots.value(place)
     }
 
     /// Whether a place of a run is undefined. One that is moved out is.
@@ -136,7 +120,7 @@ impl Store {
             return false;
         }
         match self.slots.at_run(run) {
-            Some(slots) => any_undefined(slots),
+            Some(values) => any_undefined(values),
             None => true,
         }
     }
@@ -162,24 +146,33 @@ impl Store {
         Ok(taken.into_moved())
     }
 
+    /// The values of a run, whose places are distinct, where they stand; none where the variable has not all of them. One that is
+    /// moved out is undefined.
+    pub fn row(&self, run: Run) -> Option<Lent>
+        ensures some { IfSome result (λ row. row ≡ moved_of (map (cell_at self.now) (places_of run))) }
+        ensures none { IfNone result (0 < run.count → list_any (λ place. is_undefined (plain_value (values_of self.now) place)) (places_of run) ≡ true) }
+    {
+        match self.slots.at_run(run) {
+            Some(values) => Some(Lent {
+                first: Place {
+                    var: run.var,
+                    index: run.first,
+                },
+                kind: kind_in(&self.kinds, run.var),
+                values,
+            }),
+            None => None,
+        }
+    }
+
     /// Copies the values of a run, whose places are distinct, in their order; none where the variable has not all of them.
     fn copy_of_run(&self, alloc: Global, run: Run) -> Result<Option<Load>, AllocError>
         ensures { IfOk result (λ o. IfSome o (λ load. load ≡ moved_of (map (cell_at self.now) (places_of run)))) }
     {
-        let Some(slots) = self.slots.at_run(run) else {
+        let Some(row) = self.row(run) else {
             return Ok(None);
         };
-        let kind = kind_in(&self.kinds, run.var);
-        let values = copy_row(alloc, slots)?;
-        let first = Place {
-            var: run.var,
-            index: run.first,
-        };
-        Ok(Some(Load::of_row(Row {
-            first,
-            kind,
-            values,
-        })))
+        Ok(Some(row.copied(alloc)?))
     }
 
     /// Copies the values of so many items, each place once, in the order of the items. It changes nothing.

@@ -11,7 +11,7 @@ use std::alloc::{AllocError, Global};
 use std::marker::Model;
 
 /// By variable, what stands at each of its places. Contracts see it as a list of lists.
-#[derive(Debug, Drop)]
+#[derive(Drop)]
 pub struct Table<T> {
     rows: Vec<Items<T>>,
 }

@@ -7,8 +7,7 @@ ghost use Rattle.fj_store.specs.Variables.{is_at, with_item};
 
 use crate::kinds::kind_in;
 use crate::run::Run;
-use crate::slot::{Slot, value_of};
-use crate::table::Table;
+use crate::slots::Slots;
 use fj_value::{Cell, Kind, Place};
 use std::alloc::{AllocError, Global};
 
@@ -16,7 +15,7 @@ use std::alloc::{AllocError, Global};
 pub(crate) const NO_VARIABLE: u32 = 4294967295;
 
 /// Cells, and the number of the cell of each item.
-#[derive(Debug, Drop)]
+#[derive(Drop)]
 pub(crate) struct Taken {
     pub cells: Vec<Cell>,
     pub order: Vec<u32>,
@@ -55,7 +54,7 @@ pub fn position(cells: &[Cell], place: Place) -> usize
 }
 
 /// The same by the mark of the place. One that cannot be marked is looked for.
-pub(crate) fn cell_of(slots: &Table<Slot>, cells: &[Cell], place: Place) -> usize
+pub(crate) fn cell_of(slots: &Slots, cells: &[Cell], place: Place) -> usize
     requires { IsMarked slots.now cells.now }
     ensures at { result ≡ position_or_len (is_at place) cells.now }
     ensures low { result ≤ length cells.now }
@@ -63,10 +62,10 @@ pub(crate) fn cell_of(slots: &Table<Slot>, cells: &[Cell], place: Place) -> usiz
     if place.var == NO_VARIABLE {
         return position(cells, place);
     }
-    let Some(slot) = slots.get(place) else {
+    let Some(mark) = slots.mark(place) else {
         return position(cells, place);
     };
-    let at = slot.mark() as usize;
+    let at = mark as usize;
     if at >= cells.len() {
         return cells.len();
     }
@@ -92,7 +91,7 @@ pub(crate) fn add_item(at: usize, cell: Cell, taken: &mut Taken)
 }
 
 /// Takes one place out, where it was not taken before.
-fn take_place(slots: &mut Table<Slot>, kind: Kind, place: Place, taken: &mut Taken)
+fn take_place(slots: &mut Slots, kind: Kind, place: Place, taken: &mut Taken)
     requires room { HasRoom taken.old 1 }
     requires marked { IsMarked slots.old taken.old.cells.items }
     ensures taken { taking slots.new taken.new ≡ take_one kind (taking slots.old taken.old) place }
@@ -100,12 +99,12 @@ fn take_place(slots: &mut Table<Slot>, kind: Kind, place: Place, taken: &mut Tak
     ensures room { (n : ℕ) → HasRoom taken.old (n + 1) → HasRoom taken.new n }
 {
     let at = cell_of(slots, &taken.cells, place);
-    let value = value_of(slots.replace(place, Slot::Out(at as u32)));
+    let value = slots.take(place, at as u32);
     add_item(at, Cell { place, kind, value }, taken);
 }
 
 /// Takes the places of a run out, one behind the other.
-fn take_run(slots: &mut Table<Slot>, kind: Kind, run: Run, taken: &mut Taken)
+fn take_run(slots: &mut Slots, kind: Kind, run: Run, taken: &mut Taken)
     requires room { HasRoom taken.old run.count }
     requires marked { IsMarked slots.old taken.old.cells.items }
     ensures taken { taking slots.new taken.new ≡ take_all kind (taking slots.old taken.old) (places_of run) }
@@ -118,7 +117,7 @@ fn take_run(slots: &mut Table<Slot>, kind: Kind, run: Run, taken: &mut Taken)
 }
 
 /// Takes the places of runs out, in the order of the runs.
-pub(crate) fn take_places(slots: &mut Table<Slot>, kinds: &[Kind], runs: &[Run], taken: &mut Taken)
+pub(crate) fn take_places(slots: &mut Slots, kinds: &[Kind], runs: &[Run], taken: &mut Taken)
     requires room { HasRoom taken.old (length (places_in runs.now)) }
     requires marked { IsMarked slots.old taken.old.cells.items }
     ensures { taking slots.new taken.new ≡ take_runs kinds.now (taking slots.old taken.old) runs.now }

@@ -5,7 +5,7 @@ ghost use Rattle.fj_syntax.specs.declared.fault.SyntaxFault.TheVariants.{NotASta
 
 use std::alloc::AllocError;
 
-#[derive(Debug, Drop)]
+#[derive(Drop)]
 pub enum SyntaxFault {
     Memory(AllocError),
     /// The line is not in the grammar.

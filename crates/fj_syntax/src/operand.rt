@@ -6,7 +6,7 @@ use fj_value::{Items, Text};
 
 /// A name, and the number in parentheses behind it: the subscript of an element, or where it is declared the
 /// number of its elements.
-#[derive(Debug, Drop)]
+#[derive(Drop)]
 pub struct Designator {
     /// In upper case.
     pub name: Text,
@@ -15,7 +15,7 @@ pub struct Designator {
 }
 
 /// A literal or a place.
-#[derive(Debug, Drop)]
+#[derive(Drop)]
 pub enum Operand {
     Number {
         sign: Sign,
@@ -28,13 +28,13 @@ pub enum Operand {
 }
 
 /// What is given for a specifier.
-#[derive(Debug, Drop)]
+#[derive(Drop)]
 pub enum Given {
     Asterisk,
     Operand(Operand),
 }
 
-#[derive(Debug, Drop)]
+#[derive(Drop)]
 pub struct Argument {
     pub specifier: Specifier,
     pub value: Given,

@@ -3,7 +3,7 @@
 use fj_value::Text;
 
 /// A mark of the grammar.
-#[derive(Clone, Copy, Debug, PartialEq, Eq)]
+#[derive(Clone, Copy, PartialEq, Eq)]
 pub enum Mark {
     LeftParenthesis,
     RightParenthesis,
@@ -15,14 +15,14 @@ pub enum Mark {
 }
 
 /// The sign that is written before the digits of a number, if any.
-#[derive(Clone, Copy, Debug, PartialEq, Eq)]
+#[derive(Clone, Copy, PartialEq, Eq)]
 pub enum Sign {
     Unsigned,
     Plus,
     Minus,
 }
 
-#[derive(Debug, Drop)]
+#[derive(Drop)]
 pub enum Token {
     /// A name or keyword, in upper case.
     Word(Text),

@@ -5,7 +5,7 @@ ghost use Rattle.fj_syntax.specs.Words.{meaning_of, keyword_of, specifier_of, ta
 use fj_modes::{Motion, Question};
 
 /// A word that begins a statement or declaration. None of them is a name.
-#[derive(Clone, Copy, Debug)]
+#[derive(Clone, Copy)]
 pub enum Keyword {
     Integer,
     Logical,
@@ -40,7 +40,7 @@ pub const KEYWORDS: [(&str, Keyword); 15] = [
 ];
 
 /// A specifier of an input/output statement (ISO/IEC 1539-1:2004, 9.4 to 9.9).
-#[derive(Clone, Copy, Debug, PartialEq, Eq)]
+#[derive(Clone, Copy, PartialEq, Eq)]
 pub enum Specifier {
     Unit,
     File,

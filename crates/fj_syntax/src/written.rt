@@ -5,27 +5,27 @@ use fj_modes::{Motion, OpenSpec, Question, Subject, UnitRef};
 use fj_value::{Delim, Items, Kind, Text};
 
 /// A type declaration. The attribute ASYNCHRONOUS has no effect.
-#[derive(Debug, Drop)]
+#[derive(Drop)]
 pub struct Declaration {
     pub kind: Kind,
     pub entities: Items<Designator>,
 }
 
 /// NAMELIST.
-#[derive(Debug, Drop)]
+#[derive(Drop)]
 pub struct Group {
     pub name: Text,
     pub members: Items<Text>,
 }
 
-#[derive(Debug, Drop)]
+#[derive(Drop)]
 pub struct Assignment {
     pub to: Designator,
     pub from: Operand,
 }
 
 /// A statement on a unit, and what it says beside UNIT= and IOSTAT=.
-#[derive(Debug, Drop)]
+#[derive(Drop)]
 pub struct OnUnit<T> {
     pub unit: UnitRef,
     pub what: T,
@@ -33,14 +33,14 @@ pub struct OnUnit<T> {
 }
 
 /// A question of INQUIRE, and the place for its answer.
-#[derive(Debug, Drop)]
+#[derive(Drop)]
 pub struct Asking {
     pub what: Question,
     pub place: Designator,
 }
 
 /// INQUIRE.
-#[derive(Debug, Drop)]
+#[derive(Drop)]
 pub struct Inquire {
     pub about: Subject,
     /// In order as they are written.
@@ -51,7 +51,7 @@ pub struct Inquire {
 }
 
 /// The format of a transfer.
-#[derive(Debug, Drop)]
+#[derive(Drop)]
 pub enum Format {
     /// List-directed.
     Asterisk,
@@ -60,7 +60,7 @@ pub enum Format {
 }
 
 /// READ or WRITE.
-#[derive(Debug, Drop)]
+#[derive(Drop)]
 pub struct Transfer {
     /// READ.
     pub input: bool,
@@ -92,7 +92,7 @@ pub struct Transfer {
 }
 
 /// A declaration or statement.
-#[derive(Debug, Drop)]
+#[derive(Drop)]
 pub enum Written {
     Declaration(Declaration),
     Group(Group),

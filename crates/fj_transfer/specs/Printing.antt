@@ -42,6 +42,12 @@ abbrev pub IsRecords : Layout → Type 0
 IsRecords Unformatted = ⊥
 IsRecords _ = Unit {0}
 
+-- the layout is that of items, under an explicit format or list-directed
+abbrev pub IsOfItems : Layout → Type 0
+IsOfItems Unformatted = ⊥
+IsOfItems (Group name members) = ⊥
+IsOfItems _ = Unit {0}
+
 -- the texts of actions: those of the records that end, and the last one
 abbrev pub printed_of : List (List ℕ) → Printed
 printed_of [] = record { records = []; «open» = [] }

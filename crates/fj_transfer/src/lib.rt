@@ -34,7 +34,7 @@ pub use laws::{
 pub use listed::{read_grouped, read_listed};
 pub use numbered::read_numbered;
 pub use pieces::write_numbered;
-pub use print::{print_explicit, print_onto, print_records};
+pub use print::{print_explicit, print_items_onto, print_onto, print_records};
 pub use stored::{body_of, frame_of};
 pub use transfer::{Layout, Members, Transfer, TransferSpec};
 pub use unformatted::{

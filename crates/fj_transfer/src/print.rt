@@ -5,11 +5,12 @@ ghost use Rattle.fj_line.specs.Actions.{Appends, first_record, output};
 ghost use Rattle.fj_line.specs.Page.{at_hand, IsIn, IsAtEnd, Keeps, Carries, told_by};
 ghost use Rattle.fj_list.specs.Items.{items_of, items_left, values_in};
 ghost use Rattle.fj_list.specs.Listing.{list_actions};
+ghost use Rattle.fj_list.specs.declared.moved.Moved.{Moved};
 ghost use Rattle.fj_namelist.specs.GroupText.{group_written, IsWithin};
 ghost use Rattle.fj_transfer.specs.Change.{changed};
 ghost use Rattle.fj_transfer.specs.Explicit.{explicit_actions};
 ghost use Rattle.fj_transfer.specs.Moving.{members_of};
-ghost use Rattle.fj_transfer.specs.Printing.{IsRecords, record_actions, actions_by, control_of, printed_by};
+ghost use Rattle.fj_transfer.specs.Printing.{IsRecords, IsOfItems, record_actions, actions_by, control_of, printed_by};
 ghost use Rattle.fj_transfer.specs.Writing.{Prints};
 
 use crate::group::put_group;
@@ -189,6 +190,31 @@ pub fn print_records(
     }
 }
 
+/// Writes items by a layout that is no group on a record that begins.
+fn write_items(
+    page: &mut Page,
+    text: &mut Text,
+    modes: EditModes,
+    layout: &Layout,
+    advance: bool,
+    items: OutputItems,
+) -> Result<(), Unwritten>
+    requires layout { IsOfItems layout.now }
+    requires within { IsIn page.old text.old }
+    requires end { IsAtEnd page.old text.old }
+    requires at { page.old.at ≡ 0 }
+    ensures done { (moved : Moved) → items_of moved ≡ items_left items.entry
+        → Carries (at_hand page.old text.old) (actions_by layout.now (control_of layout.now) modes advance moved) result (at_hand page.new text.new) }
+    ensures within { OnOk result (IsIn page.new text.new) }
+    ensures kept { Keeps page.old text.old page.new text.new }
+{
+    match layout {
+        Layout::Explicit(format) => write_explicit(page, text, modes, format, advance, items),
+        Layout::Listed => put_list(page, text, modes, items),
+        Layout::Group(_, _) | Layout::Unformatted => unreachable!(),
+    }
+}
+
 /// Writes an output by its layout on a record that begins.
 fn write_layout(
     page: &mut Page,
@@ -207,14 +233,13 @@ fn write_layout(
     ensures within { OnOk result (IsIn page.new text.new) }
     ensures kept { Keeps page.old text.old page.new text.new }
 {
-    let items = moved.items();
     match layout {
-        Layout::Explicit(format) => write_explicit(page, text, modes, format, advance, items),
-        Layout::Listed => put_list(page, text, modes, items),
         Layout::Group(name, members) => {
             put_cells(page, text, modes, name.bytes(), members.as_slice(), moved)
         }
-        Layout::Unformatted => unreachable!(),
+        Layout::Unformatted | Layout::Explicit(_) | Layout::Listed => {
+            write_items(page, text, modes, layout, advance, moved.items())
+        }
     }
 }
 
@@ -252,6 +277,31 @@ pub fn print_onto(
     let end = out.len();
     let mut page = Page::new(out, recl, begun);
     match write_layout(&mut page, out, modes, layout, advance, moved) {
+        Ok(()) => Ok(count_at(&page, out, end, begun)),
+        Err(unwritten) => {
+            out.truncate(end);
+            Err(unwritten)
+        }
+    }
+}
+
+/// The same of items by a layout that is no group. They are borrowed from where they stand.
+pub fn print_items_onto(
+    layout: &Layout,
+    advance: bool,
+    modes: EditModes,
+    items: OutputItems,
+    recl: u32,
+    begun: u32,
+    out: &mut Text,
+) -> Result<u64, Unwritten>
+    requires { IsOfItems layout.now }
+    ensures { (moved : Moved) → items_of moved ≡ items_left items.entry
+        → Prints begun (printed_by recl begun (actions_by layout.now (control_of layout.now) modes advance moved)) out.old result out.new }
+{
+    let end = out.len();
+    let mut page = Page::new(out, recl, begun);
+    match write_items(&mut page, out, modes, layout, advance, items) {
         Ok(()) => Ok(count_at(&page, out, end, begun)),
         Err(unwritten) => {
             out.truncate(end);

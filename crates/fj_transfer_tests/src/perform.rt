@@ -20,7 +20,7 @@ use fj_value::{Cell, Condition, Items, Kind, Place, Tag, Text, Value};
 use std::alloc::{AllocError, Global};
 use std::test::Fail;
 
-const NAME: &str = "fort.10";
+pub(crate) const NAME: &str = "fort.10";
 
 /// How values are laid out.
 #[derive(Clone, Copy)]
@@ -63,7 +63,7 @@ fn statement(access: Access, formatted: bool, action: Action) -> OpenSpec {
 
 /// Connects to the file of unit 10, on a disk of which no file is out.
 #[tactic(auto, using(fj_outside::proofs::HoldingLaws::free_of_empty))]
-fn connect<D: Disk>(
+pub(crate) fn connect<D: Disk>(
     alloc: Global,
     disk: &mut D,
     spec: &OpenSpec,
@@ -81,7 +81,7 @@ fn connect<D: Disk>(
 
 /// A disk that holds that file with these bytes.
 #[tactic(auto, using(fj_outside::proofs::HoldingLaws::free_of_empty))]
-fn disk_of(alloc: Global, bytes: &[u8]) -> Result<MemoryDisk, AllocError>
+pub(crate) fn disk_of(alloc: Global, bytes: &[u8]) -> Result<MemoryDisk, AllocError>
     ensures { IfOk result (λ disk. disk.in_use ≡ set.empty) }
 {
     let mut disk = MemoryDisk::new(alloc);
@@ -191,6 +191,28 @@ fn perform_again<F: FileStore>(
 type Came = (Result<Condition, Stop>, u64);
 
 /// Carries out a statement at a place of the file once, and so many times more.
+fn carried_on<F: FileStore>(
+    alloc: Global,
+    c: &mut Connection<F>,
+    place: u64,
+    more: u32,
+    job: &mut Transfer,
+) -> Came
+    ensures { c.new.name ≡ c.old.name }
+{
+    if place <= c.file_len() {
+        c.go_between(place);
+    }
+    let answer = perform_again(alloc, c, more, job);
+    let spot = c.spot();
+    if c.modes().access == Access::Direct {
+        (answer, spot.next_number)
+    } else {
+        (answer, spot.at)
+    }
+}
+
+/// The same on a new connection, which is closed then.
 fn carried_out<D: Disk>(
     alloc: Global,
     disk: &mut D,
@@ -202,20 +224,9 @@ fn carried_out<D: Disk>(
     requires { D.tells disk.old → (D.held disk.old).in_use ≡ set.empty }
 {
     let mut c = connect(alloc, disk, spec)?;
-    if place <= c.file_len() {
-        c.go_between(place);
-    }
-    let answer = perform_again(alloc, &mut c, more, job);
-    let spot = c.spot();
-    let stands = if c.modes().access == Access::Direct {
-        spot.next_number
-    } else {
-        spot.at
-    };
-    if c.close_file(disk, true).is_err() {
-        return Err(OpenFault::Stop(Stop::Failed));
-    }
-    Ok((answer, stands))
+    let came = carried_on(alloc, &mut c, place, more, job);
+    c.close_file(disk, true).map_err(Stop::from)?;
+    Ok(came)
 }
 
 /// Whether the item has a text; none stands for no value.

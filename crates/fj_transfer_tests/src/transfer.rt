@@ -339,103 +339,148 @@ fn is_added(got: (Condition, Text), want: Result<&[u8], u8>) -> bool {
     }
 }
 
+/// An output under a format, or `*`, of so many of each item.
+fn output(
+    alloc: Global,
+    format: &str,
+    items: &[Item],
+    times: u32,
+    advance: bool,
+    edit: EditChange,
+) -> Result<Transfer, Fail>
+    ensures { IfOk result (λ job. IsRecords job.spec.layout) }
+{
+    if format.len() >= 100 || items.len() >= 100 {
+        return Err("too much for a row".into());
+    }
+    let layout = layout_of(alloc, format.as_bytes())?;
+    let items = moved(alloc, items, times)?;
+    if items.order.len() >= 1000 {
+        return Err("too many items for a row".into());
+    }
+    Ok(transfer(layout, items, advance, edit))
+}
+
+/// Whether a row holds.
+fn writes(alloc: Global, advance: bool, row: &Row) -> Result<bool, Fail> {
+    let (format, items, begun, recl, want) = *row;
+    let job = output(alloc, format, items, 1, advance, NO_CHANGE)?;
+    Ok(is_added(added(alloc, &job, false, recl, begun)?, want))
+}
+
 #[test]
 fn records(rt: HostRuntime) -> Result<(), Fail> {
-    let alloc = rt.alloc();
-    for (advance, rows) in [
-        (true, ROWS.as_slice()),
-        (false, OPEN.as_slice()),
-        (false, LISTED.as_slice()),
-    ] {
-        for (format, items, begun, recl, want) in rows {
-            assert!(rt; format.len() < 100 && items.len() < 100);
-            let layout = layout_of(alloc, format.as_bytes())?;
-            let items = moved(alloc, items, 1)?;
-            assert!(rt; items.order.len() < 1000);
-            let job = transfer(layout, items, advance, NO_CHANGE);
-            let got = added(alloc, &job, false, *recl, *begun)?;
-            assert!(rt; is_added(got, *want), "{format} behind {begun} of {recl}");
-        }
+    for (number, row) in ROWS.iter().enumerate() {
+        assert!(rt; writes(rt.alloc(), true, row)?, "row {number}");
     }
     Ok(())
+}
+
+#[test]
+fn open_records(rt: HostRuntime) -> Result<(), Fail> {
+    for (number, row) in OPEN.iter().enumerate() {
+        assert!(rt; writes(rt.alloc(), false, row)?, "row {number}");
+    }
+    Ok(())
+}
+
+#[test]
+fn listed_records(rt: HostRuntime) -> Result<(), Fail> {
+    for (number, row) in LISTED.iter().enumerate() {
+        assert!(rt; writes(rt.alloc(), false, row)?, "row {number}");
+    }
+    Ok(())
+}
+
+/// A format, the sign mode of the connection and that of the statement, and what is written.
+type Signed = (&'static str, bool, Option<bool>, &'static [u8]);
+
+static SIGNED: [Signed; 4] = [
+    ("(I3,I3)", true, Some(false), b"  1  2\n"),
+    ("(I3,I3)", false, Some(true), b" +1 +2\n"),
+    ("(I3,S,I3)", true, None, b" +1  2\n"),
+    ("*", true, Some(false), b" 1 2\n"),
+];
+
+/// Whether a row holds.
+fn signs(alloc: Global, row: &Signed) -> Result<bool, Fail> {
+    let (format, plus, change, want) = *row;
+    let edit = EditChange {
+        plus: change,
+        ..NO_CHANGE
+    };
+    let job = output(alloc, format, &[I4(1), I4(2)], 1, true, edit)?;
+    Ok(is_added(added(alloc, &job, plus, 80, 0)?, Ok(want)))
 }
 
 /// The modes of the connection, those that the statement names, and those of the format.
 #[test]
 fn modes(rt: HostRuntime) -> Result<(), Fail> {
-    let alloc = rt.alloc();
-    let rows: [(&str, bool, Option<bool>, &[u8]); 4] = [
-        ("(I3,I3)", true, Some(false), b"  1  2\n"),
-        ("(I3,I3)", false, Some(true), b" +1 +2\n"),
-        ("(I3,S,I3)", true, None, b" +1  2\n"),
-        ("*", true, Some(false), b" 1 2\n"),
-    ];
-    for (format, plus, change, want) in rows {
-        assert!(rt; format.len() < 100);
-        let items = moved(alloc, &[I4(1), I4(2)], 1)?;
-        let edit = EditChange {
-            plus: change,
-            ..NO_CHANGE
-        };
-        let layout = layout_of(alloc, format.as_bytes())?;
-        assert!(rt; items.order.len() < 1000);
-        let job = transfer(layout, items, true, edit);
-        let got = added(alloc, &job, plus, 80, 0)?;
-        assert!(rt; is_added(got, Ok(want)), "{format}");
+    for (number, row) in SIGNED.iter().enumerate() {
+        assert!(rt; signs(rt.alloc(), row)?, "row {number}");
     }
     let edit = EditChange {
         delim: Some(Delim::Quote),
         ..NO_CHANGE
     };
-    let items = moved(alloc, &[A(b"a\"b"), A(b"'")], 1)?;
-    assert!(rt; items.order.len() < 1000);
-    let job = transfer(Layout::Listed, items, true, edit);
-    let got = added(alloc, &job, false, 80, 0)?;
+    let job = output(rt.alloc(), "*", &[A(b"a\"b"), A(b"'")], 1, true, edit)?;
+    let got = added(rt.alloc(), &job, false, 80, 0)?;
     assert!(rt; is_added(got, Ok(b" \"a\"\"b\" \"'\"\n")));
     Ok(())
+}
+
+/// A format, how many items of one character, ADVANCE=, the limit of a record, and the condition and how many bytes are written.
+type Limit = (&'static str, u32, bool, u32, Condition, usize);
+
+static LIMITS: [Limit; 4] = [
+    ("(A65535)", 256, true, 65_536, Condition::Fine, 16_777_216),
+    ("(A65535)", 257, true, 65_536, Condition::Error(26), 0),
+    ("(A65535)", 256, false, 65_536, Condition::Fine, 16_777_215),
+    (
+        "(255(A65535/),A65535,'y')",
+        256,
+        true,
+        65_536,
+        Condition::Error(26),
+        0,
+    ),
+];
+
+/// Whether a row holds.
+fn is_limit(alloc: Global, row: &Limit) -> Result<bool, Fail> {
+    let (format, times, advance, recl, condition, bytes) = *row;
+    let job = output(alloc, format, &[A(b"x")], times, advance, NO_CHANGE)?;
+    let (told, out) = added(alloc, &job, false, recl, 0)?;
+    Ok(told == condition && out.len().checked_sub(1) == Some(bytes))
 }
 
 /// Records of 65,536 bytes with their line feeds, of which 256 are the most that a statement may write.
 #[test]
 fn limits(rt: HostRuntime) -> Result<(), Fail> {
-    let alloc = rt.alloc();
-    let rows: [(&str, u32, bool, u32, Condition, usize); 4] = [
-        ("(A65535)", 256, true, 65_536, Condition::Fine, 16_777_216),
-        ("(A65535)", 257, true, 65_536, Condition::Error(26), 0),
-        ("(A65535)", 256, false, 65_536, Condition::Fine, 16_777_215),
-        (
-            "(255(A65535/),A65535,'y')",
-            256,
-            true,
-            65_536,
-            Condition::Error(26),
-            0,
-        ),
-    ];
-    for (format, items, advance, recl, condition, bytes) in rows {
-        assert!(rt; format.len() < 100);
-        let items = moved(alloc, &[A(b"x")], items)?;
-        let layout = layout_of(alloc, format.as_bytes())?;
-        assert!(rt; items.order.len() < 1000);
-        let job = transfer(layout, items, advance, NO_CHANGE);
-        let (told, out) = added(alloc, &job, false, recl, 0)?;
-        assert_eq!(rt; told, condition, "{format}");
-        assert_eq!(rt; out.len(), bytes + 1, "{format}");
+    for (number, row) in LIMITS.iter().enumerate() {
+        assert!(rt; is_limit(rt.alloc(), row)?, "row {number}");
     }
     Ok(())
 }
 
-/// A namelist group.
-#[test]
-fn group(rt: HostRuntime) -> Result<(), Fail> {
-    let alloc = rt.alloc();
+/// A namelist group of two.
+fn group_of_two(alloc: Global) -> Result<Transfer, Fail>
+    ensures { IfOk result (λ job. IsRecords job.spec.layout) }
+{
     let items = moved(alloc, &[I4(5), I4(-7)], 1)?;
     let layout = Layout::Group(Text::from_bytes(alloc, b"g")?, members(alloc)?);
-    assert!(rt; items.order.len() < 1000);
-    let job = transfer(layout, items, true, NO_CHANGE);
-    let got = added(alloc, &job, false, 80, 0)?;
+    if items.order.len() >= 1000 {
+        return Err("too many items".into());
+    }
+    Ok(transfer(layout, items, true, NO_CHANGE))
+}
+
+#[test]
+fn group(rt: HostRuntime) -> Result<(), Fail> {
+    let job = group_of_two(rt.alloc())?;
+    let got = added(rt.alloc(), &job, false, 80, 0)?;
     assert!(rt; is_added(got, Ok(b" &G\n A=5\n B=-7\n /\n")));
-    let got = added(alloc, &job, false, 4, 0)?;
+    let got = added(rt.alloc(), &job, false, 4, 0)?;
     assert!(rt; is_added(got, Err(15)));
     Ok(())
 }

@@ -5,7 +5,7 @@ ghost use Rattle.fj_desk.specs.Desks.{most_slots};
 use fj_modes::{FileName, Modes};
 
 /// A connected unit. Its connection is at its slot.
-#[derive(Debug, Drop)]
+#[derive(Drop)]
 pub struct Connected {
     pub number: u32,
     pub slot: u32,

@@ -7,7 +7,7 @@ use std::alloc::{AllocError, Global};
 use std::marker::Model;
 
 /// Names of files, as a list.
-#[derive(Debug, Drop)]
+#[derive(Drop)]
 pub struct Names {
     list: Vec<FileName>,
 }

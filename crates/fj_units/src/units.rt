@@ -18,7 +18,7 @@ use std::marker::Model;
 const MOST_SLOTS: u32 = 16;
 
 /// The connected units, in ascending order of their numbers, each at a slot of its own.
-#[derive(Debug, Drop)]
+#[derive(Drop)]
 pub struct Units {
     list: Vec<Connected>,
 }

@@ -134,35 +134,57 @@ fn form_of(alloc: Global, text: &str) -> Result<Form, AllocError> {
     read_words(alloc, &words)
 }
 
+/// Whether words are a form.
+fn is_form(alloc: Global, words: &str, form: Form) -> Result<bool, AllocError> {
+    Ok(form_of(alloc, words)? == form)
+}
+
 #[test]
-fn forms(rt: HostRuntime) -> Result<(), Fail> {
-    let alloc = rt.alloc();
+fn runs(rt: HostRuntime) -> Result<(), Fail> {
     for (words, workers, trace) in RUNS.iter() {
         let form = Form::Run {
             workers: *workers,
             trace: *trace,
         };
-        assert!(rt; form_of(alloc, words)? == form, "{words}");
+        assert!(rt; is_form(rt.alloc(), words, form)?, "{words}");
     }
+    Ok(())
+}
+
+#[test]
+fn runs_alone(rt: HostRuntime) -> Result<(), Fail> {
     for (words, trace) in ALONE.iter() {
-        assert!(rt;
-            form_of(alloc, words)? == Form::Alone { trace: *trace },
-            "{words}"
-        );
+        let form = Form::Alone { trace: *trace };
+        assert!(rt; is_form(rt.alloc(), words, form)?, "{words}");
     }
+    Ok(())
+}
+
+#[test]
+fn checks(rt: HostRuntime) -> Result<(), Fail> {
     for words in ["check", "check --"].iter() {
-        assert!(rt; form_of(alloc, words)? == Form::Check, "{words}");
+        assert!(rt; is_form(rt.alloc(), words, Form::Check)?, "{words}");
     }
+    Ok(())
+}
+
+#[test]
+fn makes_decks(rt: HostRuntime) -> Result<(), Fail> {
     for (words, seed, count, text) in GENERATED.iter() {
         let form = Form::Gen {
             seed: *seed,
             count: *count,
             text: *text,
         };
-        assert!(rt; form_of(alloc, words)? == form, "{words}");
+        assert!(rt; is_form(rt.alloc(), words, form)?, "{words}");
     }
+    Ok(())
+}
+
+#[test]
+fn wrong_words(rt: HostRuntime) -> Result<(), Fail> {
     for words in WRONG.iter() {
-        assert!(rt; form_of(alloc, words)? == Form::Wrong, "{words}");
+        assert!(rt; is_form(rt.alloc(), words, Form::Wrong)?, "{words}");
     }
     Ok(())
 }

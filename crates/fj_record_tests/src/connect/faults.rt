@@ -9,8 +9,8 @@ use crate::connect::{
 };
 use fj_connect::Positioning::{Backspace, Endfile, Rewind};
 use fj_connect::{Connection, OpenFault};
-use fj_modes::{Access, Action, FileStatus};
-use fj_outside::{FailingDisk, FileStore, Stop};
+use fj_modes::{Access, Action, FileStatus, OpenSpec};
+use fj_outside::{Disk, FailingDisk, FileStore, Stop};
 use fj_value::Text;
 use std::alloc::{AllocError, Global};
 use std::test::Fail;
@@ -40,8 +40,15 @@ static OPENINGS: [(FileStatus, Option<&[u8]>, u64); 6] = [
     (FileStatus::Unknown, None, 2),
 ];
 
-/// Opens the file and closes it to be removed, and answers whether OPEN failed, whether CLOSE did, and whether the file is
-/// as it was.
+/// Opens the file and closes it to be removed, and answers whether CLOSE failed.
+fn opens_on<D: Disk>(alloc: Global, disk: &mut D, spec: &OpenSpec) -> Result<bool, OpenFault>
+    requires { D.tells disk.old → (D.held disk.old).in_use ≡ set.empty }
+{
+    let c = connect(alloc, disk, spec)?;
+    Ok(c.close_file(disk, false).is_err())
+}
+
+/// Whether OPEN failed, whether CLOSE did, and whether the file is as it was.
 fn opens(
     alloc: Global,
     row: (FileStatus, Option<&[u8]>),
@@ -50,16 +57,12 @@ fn opens(
     let (status, there) = row;
     let mut disk = failing(alloc, there, k, 0)?;
     let spec = statement(Lines, status, None, Action::ReadWrite);
-    match connect(alloc, &mut disk, &spec) {
-        Ok(c) => {
-            let failed = c.close_file(&mut disk, false).is_err();
-            Ok((false, failed, disk.bytes_of(NAME).is_some()))
-        }
-        Err(fault) => {
-            let failed = fault == OpenFault::Stop(Stop::Failed);
-            Ok((failed, false, disk.bytes_of(NAME) == there))
-        }
-    }
+    let came = opens_on(alloc, &mut disk, &spec);
+    let left = disk.bytes_of(NAME);
+    Ok(match came {
+        Ok(failed) => (false, failed, left.is_some()),
+        Err(fault) => (fault == OpenFault::Stop(Stop::Failed), false, left == there),
+    })
 }
 
 // An OPEN that fails leaves the file at home; a CLOSE that cannot remove the file leaves it there.
@@ -198,6 +201,37 @@ fn begin_alike(bytes: &[u8], old: &[u8], count: usize) -> bool {
     }
 }
 
+/// Stands somewhere and makes a call, and answers whether that failed and how many faults the file has then.
+fn made_from<F: FileStore>(
+    alloc: Global,
+    c: &mut Connection<F>,
+    from: Step,
+    call: Call,
+) -> Result<(bool, u64), Stop>
+    ensures { c.new.name ≡ c.old.name }
+{
+    let mut into = Text::new(alloc);
+    done(c, from)?;
+    let failed = call_on(c, call, &mut into) == Err(Stop::Failed);
+    Ok((failed, c.faults()))
+}
+
+/// The same of a new connection, which is closed then.
+fn made_on<D: Disk>(
+    alloc: Global,
+    disk: &mut D,
+    spec: &OpenSpec,
+    from: Step,
+    call: Call,
+) -> Result<(bool, u64), OpenFault>
+    requires { D.tells disk.old → (D.held disk.old).in_use ≡ set.empty }
+{
+    let mut c = connect(alloc, disk, spec)?;
+    let made = made_from(alloc, &mut c, from, call);
+    c.close_file(disk, true).map_err(Stop::from)?;
+    Ok(made?)
+}
+
 /// Whether the call failed at the k-th call on the file, how many faults the file has then, and whether it begins as before.
 fn fails(
     alloc: Global,
@@ -210,14 +244,9 @@ fn fails(
         Open(text, _) => (2, text),
         _ => (0, bytes),
     };
-    let mut into = Text::new(alloc);
     let mut disk = failing(alloc, Some(bytes), 0, k.saturating_add(made))?;
     let spec = statement(kind, FileStatus::Old, None, Action::ReadWrite);
-    let mut c = connect(alloc, &mut disk, &spec)?;
-    done(&mut c, from)?;
-    let failed = call_on(&mut c, call, &mut into) == Err(Stop::Failed);
-    let faults = c.faults();
-    c.close_file(&mut disk, true).map_err(Stop::from)?;
+    let (failed, faults) = made_on(alloc, &mut disk, &spec, from, call)?;
     match disk.bytes_of(NAME) {
         Some(left) => Ok((failed, faults, begin_alike(left, old, kept))),
         None => Ok((failed, faults, false)),

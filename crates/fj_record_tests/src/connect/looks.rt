@@ -45,7 +45,22 @@ fn behind<F: FileStore>(c: &mut Connection<F>, at: u64) -> Result<Option<RecordR
     Ok(Some(c.look_at_record(at)?))
 }
 
-/// Whether both find this record.
+/// Whether both find this record behind an open one.
+fn found_behind<F: FileStore>(
+    c: &mut Connection<F>,
+    text: &'static [u8],
+    at: u64,
+    read: RecordRead,
+    chars: &[u8],
+) -> Result<bool, Stop> {
+    all_done(c, &[At(3), Open(text, 0)])?;
+    let look = c.look();
+    let first = ahead(c, at)? == Some(read) && c.hand() == chars && c.look() == look;
+    let second = behind(c, at)? == Some(read) && c.hand() == chars;
+    Ok(first && second)
+}
+
+/// The same of a new connection.
 fn found(
     alloc: Global,
     text: &'static [u8],
@@ -57,11 +72,7 @@ fn found(
     let mut spec = statement(Lines, FileStatus::Old, None, Action::ReadWrite);
     spec.recl = Some(4);
     let mut c = connect(alloc, &mut disk, &spec)?;
-    all_done(&mut c, &[At(3), Open(text, 0)])?;
-    let look = c.look();
-    let first = ahead(&mut c, at)? == Some(read) && c.hand() == chars && c.look() == look;
-    let second = behind(&mut c, at)? == Some(read) && c.hand() == chars;
-    Ok(first && second)
+    Ok(found_behind(&mut c, text, at, read, chars)?)
 }
 
 #[test]

@@ -4,11 +4,13 @@ ghost use Rattle.std.specs.FinSet as set;
 ghost use Rattle.fj_outside.specs.FailingDisk.{disk_held};
 
 use crate::perform::{
-    A, Form, NAME, Said, Verb, carried_out, connect, disk_of, is_text, statement, transfer,
+    A, Form, NAME, Said, Verb, carried_out, connect, disk_of, is_text, perform_again, statement,
+    transfer,
 };
+use fj_connect::Connection;
 use fj_modes::{Access, Action};
-use fj_outside::{Disk, FailingDisk, Stop};
-use fj_perform::perform;
+use fj_outside::{Disk, FailingDisk, FileStore, Stop};
+use fj_transfer::Transfer;
 use fj_value::Condition;
 use std::alloc::{AllocError, Global};
 use std::test::Fail;
@@ -201,6 +203,19 @@ fn each_call_fails_in_turn(rt: HostRuntime) -> Result<(), Fail> {
     Ok(())
 }
 
+/// Carries out two statements, and answers the condition of the last.
+fn both<F: FileStore>(
+    alloc: Global,
+    c: &mut Connection<F>,
+    first: &mut Transfer,
+    second: &mut Transfer,
+) -> Result<Condition, Stop>
+    ensures { c.new.name ≡ c.old.name }
+{
+    perform_again(alloc, c, 0, first)?;
+    perform_again(alloc, c, 0, second)
+}
+
 /// Carries out an output that leaves a record open and then an input, and answers the condition of the last.
 fn one_by_one<D: Disk>(alloc: Global, disk: &mut D) -> Result<Result<Condition, Stop>, Fail>
     requires { D.tells disk.old → (D.held disk.old).in_use ≡ set.empty }
@@ -209,10 +224,7 @@ fn one_by_one<D: Disk>(alloc: Global, disk: &mut D) -> Result<Result<Condition, 
     let mut input = transfer(alloc, (Input, A, None, b"_"), Sequential)?;
     let spec = statement(Sequential, true, Action::ReadWrite);
     let mut c = connect(alloc, disk, &spec)?;
-    let answer = match perform(alloc, &mut c, &mut output) {
-        Ok(_) => perform(alloc, &mut c, &mut input),
-        Err(stop) => Err(stop),
-    };
+    let answer = both(alloc, &mut c, &mut output, &mut input);
     c.close_file(disk, true).map_err(Stop::from)?;
     Ok(answer)
 }

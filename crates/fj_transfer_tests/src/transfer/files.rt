@@ -7,21 +7,20 @@ ghost use Rattle.fj_namelist.specs.GroupText.{IsWithin};
 ghost use Rattle.fj_transfer.specs.Moving.{members_of};
 ghost use Rattle.fj_transfer.specs.Printing.{IsRecords};
 
+use crate::perform::{NAME, connect, disk_of};
 use crate::transfer::{A, I4, I8, Item, L, MODES, moved};
-use fj_connect::{Connection, OpenFault, open_file};
+use fj_connect::{Connection, OpenFault};
 use fj_format::{Format, parse};
 use fj_list::{Load, Moved};
-use fj_modes::{Access, FileName, FileStatus, OpenSpec, settle_open};
-use fj_outside::{Disk, FileStore, MemoryDisk, Stop};
+use fj_modes::{Access, FileStatus, OpenSpec};
+use fj_outside::{Disk, FileStore, Stop};
 use fj_transfer::{
     Layout, body_of, frame_of, read_direct, read_numbered, read_sequential, read_stream,
     write_direct, write_lines, write_numbered, write_sequential, write_stream,
 };
-use fj_value::{Condition, Value};
-use std::alloc::{AllocError, Global};
+use fj_value::{Cell, Condition, Value};
+use std::alloc::Global;
 use std::test::Fail;
-
-pub const NAME: &str = "fort.10";
 
 /// A row that asks for what its access does not have.
 pub const NOT_DONE: Condition = Condition::Error(99);
@@ -38,32 +37,17 @@ pub fn statement(access: Access, formatted: bool) -> OpenSpec {
     spec
 }
 
-/// Connects to the file of unit 10, on a disk of which no file is out.
-#[tactic(auto, using(fj_outside::proofs::HoldingLaws::free_of_empty))]
-pub fn connect<D: Disk>(
-    alloc: Global,
+/// Closes, and answers the condition, and the position and the next record's number.
+pub fn closed<D: Disk>(
     disk: &mut D,
-    spec: &OpenSpec,
-) -> Result<Connection<D::File>, OpenFault>
-    requires { D.tells disk.old → (D.held disk.old).in_use ≡ set.empty }
-    ensures telling { D.tells disk.old ↔ D.tells disk.new }
-    ensures used { D.tells disk.old → IfOk result (λ c. IsInUse (D.held disk.new) c.name) }
+    c: Connection<D::File>,
+    condition: Result<Condition, Stop>,
+) -> Result<(Condition, u64, u64), OpenFault>
+    requires { D.tells disk.old → IsInUse (D.held disk.old) c.name }
 {
-    let name = FileName::by_default(alloc, 10)?;
-    match settle_open(spec) {
-        Ok(modes) => open_file(alloc, disk, &name, spec, modes),
-        Err(condition) => Err(OpenFault::Refused(condition)),
-    }
-}
-
-/// A disk that holds that file with these bytes.
-#[tactic(auto, using(fj_outside::proofs::HoldingLaws::free_of_empty))]
-pub fn disk_of(alloc: Global, bytes: &[u8]) -> Result<MemoryDisk, AllocError>
-    ensures { IfOk result (λ disk. disk.in_use ≡ set.empty) }
-{
-    let mut disk = MemoryDisk::new(alloc);
-    disk.add_file(NAME, bytes)?;
-    Ok(disk)
+    let spot = c.spot();
+    c.close_file(disk, true).map_err(Stop::from)?;
+    Ok((condition?, spot.at, spot.next_number))
 }
 
 /// Writes items at a place, or as the direct record of a number.
@@ -132,9 +116,7 @@ fn written<D: Disk>(
 {
     let mut c = connect(alloc, disk, &statement(access, false))?;
     let condition = write(alloc, &mut c, at, items);
-    let spot = c.spot();
-    c.close_file(disk, true).map_err(Stop::from)?;
-    Ok((condition?, spot.at, spot.next_number))
+    closed(disk, c, condition)
 }
 
 /// What an input of items comes to.
@@ -150,9 +132,7 @@ fn read_from<D: Disk>(
 {
     let mut c = connect(alloc, disk, &statement(access, false))?;
     let condition = read(alloc, &mut c, at, items);
-    let spot = c.spot();
-    c.close_file(disk, true).map_err(Stop::from)?;
-    Ok((condition?, spot.at, spot.next_number))
+    closed(disk, c, condition)
 }
 
 /// Whether a value is that of an item; no item stands for no value.
@@ -165,6 +145,16 @@ pub fn is_value(value: &Value, item: Option<Item>) -> bool {
         (Value::Chars(text), Some(A(chars))) => text.bytes() == chars,
         _ => false,
     }
+}
+
+/// Whether cells have the values of items.
+pub fn are_values(cells: &[Cell], items: &[Option<Item>]) -> bool {
+    for (cell, item) in cells.iter().zip(items) {
+        if !is_value(&cell.value, *item) {
+            return false;
+        }
+    }
+    true
 }
 
 /// Access, the file, the place or the record's number, the items, and the condition, the file then, the position and the
@@ -241,16 +231,22 @@ static WRITES: [Written; 7] = [
     ),
 ];
 
+/// Whether an output comes to what its row says.
+fn writes(alloc: Global, row: &Written) -> Result<bool, Fail> {
+    let (access, before, at, items, condition, after, position, next) = *row;
+    if items.len() >= 1000 {
+        return Ok(false);
+    }
+    let items = Load::of_cells(moved(alloc, items, 1)?);
+    let mut disk = disk_of(alloc, before)?;
+    let came = written(alloc, &mut disk, access, at, &items)?;
+    Ok(came == (condition, position, next) && disk.bytes_of(NAME) == Some(after))
+}
+
 #[test]
 fn unformatted_output(rt: HostRuntime) -> Result<(), Fail> {
-    let alloc = rt.alloc();
-    for (access, before, at, items, condition, after, position, next) in WRITES {
-        assert!(rt; items.len() < 1000);
-        let items = Load::of_cells(moved(alloc, items, 1)?);
-        let mut disk = disk_of(alloc, before)?;
-        let came = written(alloc, &mut disk, access, at, &items)?;
-        assert_eq!(rt; came, (condition, position, next));
-        assert!(rt; disk.bytes_of(NAME) == Some(after));
+    for (number, row) in WRITES.iter().enumerate() {
+        assert!(rt; writes(rt.alloc(), row)?, "row {number}");
     }
     Ok(())
 }
@@ -337,19 +333,26 @@ static READS: [Read; 8] = [
     (Stream, b"abXYef", 5, &[A(b"__")], EndOfFile, &[None], 0, 1),
 ];
 
+/// Whether an input comes to what its row says.
+fn reads(alloc: Global, row: &Read) -> Result<bool, Fail> {
+    let (access, bytes, at, items, condition, after, position, next) = *row;
+    if items.len() >= 1000 {
+        return Ok(false);
+    }
+    let mut items = moved(alloc, items, 1)?;
+    let mut disk = disk_of(alloc, bytes)?;
+    let came = read_from(alloc, &mut disk, access, at, &mut items)?;
+    Ok(
+        came == (condition, position, next)
+            && are_values(items.cells.as_slice(), after)
+            && disk.bytes_of(NAME) == Some(bytes),
+    )
+}
+
 #[test]
 fn unformatted_input(rt: HostRuntime) -> Result<(), Fail> {
-    let alloc = rt.alloc();
-    for (access, bytes, at, items, condition, after, position, next) in READS {
-        assert!(rt; items.len() < 1000);
-        let mut items = moved(alloc, items, 1)?;
-        let mut disk = disk_of(alloc, bytes)?;
-        let came = read_from(alloc, &mut disk, access, at, &mut items)?;
-        assert_eq!(rt; came, (condition, position, next));
-        for (cell, item) in items.cells.as_slice().iter().zip(after) {
-            assert!(rt; is_value(&cell.value, *item));
-        }
-        assert!(rt; disk.bytes_of(NAME) == Some(bytes));
+    for (number, row) in READS.iter().enumerate() {
+        assert!(rt; reads(rt.alloc(), row)?, "row {number}");
     }
     Ok(())
 }
@@ -395,7 +398,7 @@ fn put_from<D: Disk>(
     layout: &Layout,
     advance: bool,
     items: &Load,
-) -> Result<(Condition, u64), OpenFault>
+) -> Result<(Condition, u64, u64), OpenFault>
     requires home { D.tells disk.old → (D.held disk.old).in_use ≡ set.empty }
     requires records { IsRecords layout.now }
     requires grouped { All (IsWithin (length items.now.cells)) (members_of layout.now) }
@@ -405,9 +408,7 @@ fn put_from<D: Disk>(
         c.go_between(at);
     }
     let condition = put(alloc, &mut c, place, layout, advance, items);
-    let spot = c.spot();
-    c.close_file(disk, true).map_err(Stop::from)?;
-    Ok((condition?, spot.at))
+    closed(disk, c, condition)
 }
 
 /// Access, the file, the position, the place of POS=, the format, ADVANCE=, the items, and the condition, the file then and
@@ -552,20 +553,25 @@ static PUTS: [Put; 10] = [
     ),
 ];
 
+/// Whether an output of records comes to what its row says.
+fn puts(alloc: Global, row: &Put) -> Result<bool, Fail> {
+    let (access, before, at, place, format, advance, items, condition, after, position) = *row;
+    if items.len() >= 1000 || format.len() >= 100 {
+        return Ok(false);
+    }
+    let items = Load::of_cells(moved(alloc, items, 1)?);
+    let layout = Layout::Explicit(parse(alloc, format.as_bytes())?);
+    let mut disk = disk_of(alloc, before)?;
+    let (told, stands, _) = put_from(
+        alloc, &mut disk, access, at, place, &layout, advance, &items,
+    )?;
+    Ok(told == condition && stands == position && disk.bytes_of(NAME) == Some(after))
+}
+
 #[test]
 fn formatted_output(rt: HostRuntime) -> Result<(), Fail> {
-    let alloc = rt.alloc();
-    for (access, before, at, place, format, advance, items, condition, after, position) in PUTS {
-        assert!(rt; items.len() < 1000);
-        assert!(rt; format.len() < 100);
-        let items = Load::of_cells(moved(alloc, items, 1)?);
-        let layout = Layout::Explicit(parse(alloc, format.as_bytes())?);
-        let mut disk = disk_of(alloc, before)?;
-        let came = put_from(
-            alloc, &mut disk, access, at, place, &layout, advance, &items,
-        )?;
-        assert_eq!(rt; came, (condition, position), "{format}");
-        assert!(rt; disk.bytes_of(NAME) == Some(after), "{format}");
+    for (number, row) in PUTS.iter().enumerate() {
+        assert!(rt; puts(rt.alloc(), row)?, "row {number}");
     }
     Ok(())
 }
@@ -577,20 +583,19 @@ fn get_from<D: Disk>(
     number: u64,
     format: &Format,
     items: &mut Moved,
-) -> Result<Condition, OpenFault>
+) -> Result<(Condition, u64, u64), OpenFault>
     requires home { D.tells disk.old → (D.held disk.old).in_use ≡ set.empty }
     requires ordered { IsOrdered items.old }
     requires few { length items.old.order < 2 ^ 32 }
 {
     let mut c = connect(alloc, disk, &statement(Direct, true))?;
     let direct = c.modes().access == Direct && number > 0 && number < 100;
-    let performed = if direct {
+    let condition = if direct {
         read_numbered(alloc, &mut c, number, format, MODES, items).map(|p| p.condition)
     } else {
         Ok(NOT_DONE)
     };
-    c.close_file(disk, true).map_err(Stop::from)?;
-    Ok(performed?)
+    closed(disk, c, condition)
 }
 
 /// The file of records of six characters, the number of the first record, the format, items with other values, and the
@@ -625,20 +630,26 @@ static GETS: [Got; 3] = [
     (b"1 2   ", 2, "(I1)", &[I4(0)], Error(17), &[None]),
 ];
 
+/// Whether an input comes to what its row says.
+fn gets(alloc: Global, row: &Got) -> Result<bool, Fail> {
+    let (bytes, number, format, items, condition, after) = *row;
+    if items.len() >= 1000 || format.len() >= 100 {
+        return Ok(false);
+    }
+    let mut items = moved(alloc, items, 1)?;
+    if items.order.len() >= 1000 {
+        return Ok(false);
+    }
+    let format = parse(alloc, format.as_bytes())?;
+    let mut disk = disk_of(alloc, bytes)?;
+    let (told, _, _) = get_from(alloc, &mut disk, number, &format, &mut items)?;
+    Ok(told == condition && are_values(items.cells.as_slice(), after))
+}
+
 #[test]
 fn direct_input_under_a_format(rt: HostRuntime) -> Result<(), Fail> {
-    let alloc = rt.alloc();
-    for (bytes, number, format, items, condition, after) in GETS {
-        assert!(rt; items.len() < 1000 && format.len() < 100);
-        let mut items = moved(alloc, items, 1)?;
-        let mut disk = disk_of(alloc, bytes)?;
-        let format = parse(alloc, format.as_bytes())?;
-        assert!(rt; items.order.len() < 1000);
-        let came = get_from(alloc, &mut disk, number, &format, &mut items)?;
-        assert_eq!(rt; came, condition);
-        for (cell, item) in items.cells.as_slice().iter().zip(after) {
-            assert!(rt; is_value(&cell.value, *item));
-        }
+    for (number, row) in GETS.iter().enumerate() {
+        assert!(rt; gets(rt.alloc(), row)?, "row {number}");
     }
     Ok(())
 }

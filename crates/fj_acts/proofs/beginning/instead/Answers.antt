@@ -1,10 +1,8 @@
-use Rattle.std.proofs.Common.{refl, subst}
+use Rattle.std.proofs.Common.{refl}
 use Rattle.fj_statement.specs.declared.statement.Statement.{Statement}
 use Rattle.fj_statement.specs.declared.statement.Statement.TheVariants as statement
 use Rattle.fj_plain.specs.Statement.{Stated, control_by}
 use Rattle.fj_desk.specs.Core.{Core}
-use Rattle.fj_desk.specs.Doing.{Doing as PlainDoing}
-use Rattle.fj_acts.specs.Doing.{IsDoing}
 use Rattle.fj_acts.specs.State.{core_of}
 use Rattle.fj_acts.proofs.BeginningLemmas.{instead_is, instead_nothing}
 use Rattle.fj_acts.proofs.OpeningLemmas.{meant}
@@ -16,7 +14,7 @@ returns-in-CloseUnit-clause-doing g c = λ files.
     let core : Core = core_of files c.args.core.now in
     let what : Statement = c.args.lined.now.what in
     let st : Stated = (c.args.lined.now, control_by what) in
-    subst (λ (d : PlainDoing). IsDoing g.F.FileStore.told g.F.FileStore.bytes c.args.variables.now st core c.close_anyway.result d)
+    meant g.F.FileStore.told g.F.FileStore.bytes c.args.variables.now st _ c.close_anyway.result _ _
     (instead_is c.args.variables.now core what (statement.CloseUnit c.in-CloseUnit.unit c.in-CloseUnit.keep c.in-CloseUnit.iostat) c.args.condition c.in-CloseUnit.is)
     (c.close_anyway.ensures.doing c.args.variables.now st files)
 
@@ -37,7 +35,7 @@ returns-in-End-clause-doing g c = λ files.
     let core : Core = core_of files c.args.core.now in
     let what : Statement = c.args.lined.now.what in
     let st : Stated = (c.args.lined.now, control_by what) in
-    subst (λ (d : PlainDoing). IsDoing g.F.FileStore.told g.F.FileStore.bytes c.args.variables.now st core c.close_all.result d)
+    meant g.F.FileStore.told g.F.FileStore.bytes c.args.variables.now st _ c.close_all.result _ _
     (instead_is c.args.variables.now core what statement.End c.args.condition c.in-End.is)
     (c.close_all.ensures.doing c.args.variables.now st files)
 

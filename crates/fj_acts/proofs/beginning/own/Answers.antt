@@ -10,7 +10,7 @@ use Rattle.fj_desk.specs.Doing.{Doing as PlainDoing}
 use Rattle.fj_units.specs.Files.{files_of}
 use Rattle.fj_acts.specs.Doing.{IsDoing}
 use Rattle.fj_acts.specs.State.{core_of}
-use Rattle.fj_acts.proofs.BeginningLemmas.{asks_about, own_is, assign_front, open_front, inquire_front, takes_as, part_as}
+use Rattle.fj_acts.proofs.BeginningLemmas.{asks_about, own_is, assign_front, close_front, end_front, open_front, inquire_front, takes_as, part_as}
 use Rattle.fj_acts.proofs.FailingLemmas.{fails_as, still_as, on_err}
 use Rattle.fj_acts.proofs.HavingLemmas.{opens_as}
 use Rattle.fj_acts.proofs.OpeningLemmas.{meant}
@@ -64,12 +64,20 @@ returns-in-CloseUnit-clause-doing g c = λ tells.
     let core : Core = core_of files c.args.core.now in
     let what : Statement = c.args.lined.now.what in
     let st : Stated = (c.args.lined.now, control_by what) in
-    subst (λ (d : PlainDoing). IsDoing g.D.File.FileStore.told g.D.File.FileStore.bytes c.args.variables.now st core c.close.result d)
+    meant g.D.File.FileStore.told g.D.File.FileStore.bytes c.args.variables.now st _ c.close.result _ _
     (own_is c.args.variables.now c.args.lined.now.line core what (statement.CloseUnit c.in-CloseUnit.unit c.in-CloseUnit.keep c.in-CloseUnit.iostat) c.in-CloseUnit.is)
     (c.close.ensures.doing c.args.variables.now st files)
 
 pub returns-in-CloseUnit-clause-pending : goal.returns-in-CloseUnit-clause-pending
 returns-in-CloseUnit-clause-pending g c = keeps_answers c.args.core.now c.args.core.now refl
+
+pub returns-in-CloseUnit-clause-front : goal.returns-in-CloseUnit-clause-front
+returns-in-CloseUnit-clause-front g c = λ tells.
+    close_front c.close.result (g.W.Sink.taken c.args.out.now) c.args.variables.now c.args.lined.now.line (core_of (files_of (g.D.Disk.held c.args.disk.now)) c.args.core.now) c.args.lined.now.what
+    c.in-CloseUnit.unit c.in-CloseUnit.keep c.in-CloseUnit.iostat c.in-CloseUnit.is
+
+pub returns-in-CloseUnit-clause-stays : goal.returns-in-CloseUnit-clause-stays
+returns-in-CloseUnit-clause-stays g c = λ tells. on_err c.close.result _ (λ name other. refl)
 
 pub returns-in-WaitFor-clause-pending : goal.returns-in-WaitFor-clause-pending
 returns-in-WaitFor-clause-pending g c = keeps_answers c.args.core.now c.args.core.now refl
@@ -141,12 +149,19 @@ returns-in-End-clause-doing g c = λ tells.
     let core : Core = core_of files c.args.core.now in
     let what : Statement = c.args.lined.now.what in
     let st : Stated = (c.args.lined.now, control_by what) in
-    subst (λ (d : PlainDoing). IsDoing g.D.File.FileStore.told g.D.File.FileStore.bytes c.args.variables.now st core c.close_all.result d)
+    meant g.D.File.FileStore.told g.D.File.FileStore.bytes c.args.variables.now st _ c.close_all.result _ _
     (own_is c.args.variables.now c.args.lined.now.line core what statement.End c.in-End.is)
     (c.close_all.ensures.doing c.args.variables.now st files)
 
 pub returns-in-End-clause-pending : goal.returns-in-End-clause-pending
 returns-in-End-clause-pending g c = keeps_answers c.args.core.now c.args.core.now refl
+
+pub returns-in-End-clause-front : goal.returns-in-End-clause-front
+returns-in-End-clause-front g c = λ tells.
+    end_front c.close_all.result (g.W.Sink.taken c.args.out.now) c.args.variables.now c.args.lined.now.line (core_of (files_of (g.D.Disk.held c.args.disk.now)) c.args.core.now) c.args.lined.now.what c.in-End.is
+
+pub returns-in-End-clause-stays : goal.returns-in-End-clause-stays
+returns-in-End-clause-stays g c = λ tells. on_err c.close_all.result _ (λ name other. refl)
 
 pub returns-in-OpenUnit-clause-stays : goal.returns-in-OpenUnit-clause-stays
 returns-in-OpenUnit-clause-stays g c = λ tells.

@@ -60,8 +60,8 @@ pub returns-then-needs_look-clause-doing : goal.returns-then-needs_look-clause-d
 returns-then-needs_look-clause-doing g c = λ tells st asks.
     let files : Files = files_of (g.D.Disk.held c.args.disk.now) in
     let u : PlainConnected = connected_of c.in-Some-find.unit.now in
-    inquires_later g.D.File.FileStore.told g.D.File.FileStore.bytes c.args.variables.now st (core_of files c.args.core.now) c.in-Some.number u c.args.subject.now c.args.asked.now (option_copied c.args.id)
-    c.in-Some.ensures c.in-Some-find.ensures c.if-needs_look.ensures asks
+    inquires_later g.D.File.FileStore.told g.D.File.FileStore.bytes c.args.variables.now st (core_of files c.args.core.now) c.in-Some.number u c.args.subject.now c.args.asked.now (option_copied c.args.id) c.in_ok-place.place
+    c.in-Some.ensures c.in-Some-find.ensures c.if-needs_look.ensures asks c.in_ok-place.ensures
 
 pub returns-clause-doing : goal.returns-clause-doing
 returns-clause-doing g c = λ tells st asks.

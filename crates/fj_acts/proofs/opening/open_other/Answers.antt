@@ -1,4 +1,5 @@
-use Rattle.std.proofs.Common.{sym, ap, ◌∙◌, ◌≡◌, Some, None}
+use Rattle.std.proofs.lemmas.Result.{IfOk-weaker}
+use Rattle.std.proofs.Common.{refl, sym, ap, ◌∙◌, ◌≡◌, Some, None}
 use Rattle.fj_modes.specs.Modes.{settled}
 use Rattle.fj_plain.specs.Connecting.{file_due}
 use Rattle.fj_desk.specs.Core.{Connected as PlainConnected, connected_at, has_name}
@@ -6,7 +7,7 @@ use Rattle.fj_units.specs.Files.{files_of}
 use Rattle.fj_units.specs.Units.{connected_of, is_taken}
 use Rattle.fj_acts.specs.State.{core_of}
 use Rattle.fj_acts.proofs.OpeningLemmas.{opens_behind, opens_new, meant}
-use Rattle.fj_acts.proofs.FailingLemmas.{fails_as, still_as}
+use Rattle.fj_acts.proofs.FailingLemmas.{fails_as, on_err, still_as}
 use Rattle.fj_acts.proofs.FittingLemmas.{free_home}
 use Rattle.fj_acts.specs.declared.doing.After.TheVariants as after
 use Rattle.fj_acts.proofs.ClosingLemmas.{found_again, found_number}
@@ -17,9 +18,9 @@ pub returns-in-Some-clause-doing : goal.returns-in-Some-clause-doing
 returns-in-Some-clause-doing g c = λ tells variables st asks.
     let u : PlainConnected = connected_of c.in-Some.unit.now in
     let found : connected_at c.args.core.now.units c.args.number ≡ Some u = sym c.in-Some.ensures in
-    opens_behind g.D.File.FileStore.told g.D.File.FileStore.bytes variables st (core_of (files_of (g.D.Disk.held c.args.disk.now)) c.args.core.now)
-    c.args.number c.in_ok-name.name c.args.spec.now c.in-Ok.modes (connected_at c.args.core.now.units c.args.number) u (settled c.args.spec.now) c.closing.result
-    asks found found (sym c.settle_open.ensures.settled ∙ c.in-Ok.is) (sym c.settle_open.ensures.settled ∙ c.in-Ok.is) c.in_ok-name.ensures (sym c.is_taken.ensures ∙ c.if-is_taken.false) c.closing.ensures
+    IfOk-weaker c.closing.result _ _ (λ next is. opens_behind g.D.File.FileStore.told g.D.File.FileStore.bytes variables st (core_of (files_of (g.D.Disk.held c.args.disk.now)) c.args.core.now)
+    c.args.number c.in_ok-name.name c.args.spec.now c.in-Ok.modes (connected_at c.args.core.now.units c.args.number) u (settled c.args.spec.now) next
+    asks found found (sym c.settle_open.ensures.settled ∙ c.in-Ok.is) (sym c.settle_open.ensures.settled ∙ c.in-Ok.is) c.in_ok-name.ensures (sym c.is_taken.ensures ∙ c.if-is_taken.false) is) c.closing.ensures.next
 
 pub returns-clause-doing : goal.returns-clause-doing
 returns-clause-doing g c = λ tells variables st asks.
@@ -48,8 +49,11 @@ returns-in-Some-clause-files g c = λ what asks have.
     let u : PlainConnected = connected_of c.in-Some.unit.now in
     let number = c.args.number in
     let found : connected_at us number ≡ Some u = sym c.in-Some.ensures in
-    closing_has c.closing.result u.slot u _ (after.Connects number) c.args.core.now.names us what c.closing.ensures (found_again us number u found)
-    (opens_behind_free what c.args.spec.now c.in_ok-name.name u.number number us asks (found_number us number u found) c.in_ok-name.ensures (sym c.is_taken.ensures ∙ c.if-is_taken.false)) have
+    IfOk-weaker c.closing.result _ _ (λ next is. closing_has next u.slot u _ (after.Connects number) c.args.core.now.names us what is (found_again us number u found)
+    (opens_behind_free what c.args.spec.now c.in_ok-name.name u.number number us asks (found_number us number u found) c.in_ok-name.ensures (sym c.is_taken.ensures ∙ c.if-is_taken.false)) have) c.closing.ensures.next
+
+pub returns-in-Some-clause-stays : goal.returns-in-Some-clause-stays
+returns-in-Some-clause-stays g c = λ tells. on_err c.closing.result _ (λ name other. refl)
 
 pub returns-clause-files : goal.returns-clause-files
 returns-clause-files g c = λ what opens have.

@@ -1,14 +1,14 @@
-use Rattle.std.proofs.Common.{sym, ap, subst, ◌∙◌}
+use Rattle.std.proofs.Common.{IfOk, refl, sym, ap, subst, ◌∙◌}
 use Rattle.fj_statement.specs.declared.statement.Statement.{Statement}
 use Rattle.fj_plain.specs.State.{Files}
 use Rattle.fj_plain.specs.Statement.{Stated, control_by}
 use Rattle.fj_desk.specs.Core.{Core}
 use Rattle.fj_units.specs.Files.{files_of}
-use Rattle.fj_acts.specs.Doing.{IsDoing, goes_on}
+use Rattle.fj_acts.specs.Doing.{goes_on}
 use Rattle.fj_acts.specs.State.{core_of}
 use Rattle.fj_acts.specs.declared.doing.After.{After}
 use Rattle.fj_acts.proofs.ClosingLemmas.{connects_is}
-use Rattle.fj_acts.proofs.FailingLemmas.{fails_as, still_as}
+use Rattle.fj_acts.proofs.FailingLemmas.{fails_as, on_err, still_as}
 use Rattle.fj_acts.proofs.OpeningLemmas.{meant}
 use Rattle.fj_acts.proofs.StepLemmas.{asks_to_open}
 use Rattle.fj_plain.specs.Connecting.{file_due}
@@ -25,7 +25,7 @@ returns-in-ClosesAll-clause-doing g c = λ tells.
     let core : Core = core_of files c.args.core.now in
     let what : Statement = c.args.lined.now.what in
     let st : Stated = (c.args.lined.now, control_by what) in
-    subst (λ (a : After). IsDoing g.D.File.FileStore.told g.D.File.FileStore.bytes c.args.variables.now st core c.close_all.result (goes_on what core a)) (sym c.in-ClosesAll.is)
+    meant g.D.File.FileStore.told g.D.File.FileStore.bytes c.args.variables.now st _ c.close_all.result _ _ (ap (goes_on what core) (sym c.in-ClosesAll.is))
     (c.close_all.ensures.doing c.args.variables.now st files)
 
 pub returns-in-Ok-clause-doing : goal.returns-in-Ok-clause-doing
@@ -47,6 +47,9 @@ returns-in-Ok-clause-fault g c = λ tells lost.
     (sym (connects_is what c.in-Connects.number c.in-OpenUnit.spec c.in-Ok.modes core (asks_to_open what c.in-OpenUnit.unit c.in-OpenUnit.spec c.in-OpenUnit.iostat c.in-OpenUnit.is) (sym c.settle_open.ensures.settled ∙ c.in-Ok.is))
     ∙ ap (goes_on what core) (sym c.in-Connects.is))
     (c.connect.ensures.fault tells lost)
+
+pub returns-in-ClosesAll-clause-stays : goal.returns-in-ClosesAll-clause-stays
+returns-in-ClosesAll-clause-stays g c = λ tells. on_err c.close_all.result _ (λ name other. refl)
 
 pub returns-in-Ok-clause-stays : goal.returns-in-Ok-clause-stays
 returns-in-Ok-clause-stays g c = λ tells.
@@ -75,7 +78,7 @@ returns-in-Ok-clause-fits g c = λ free have.
 pub returns-in-ClosesAll-clause-jobs : goal.returns-in-ClosesAll-clause-jobs
 returns-in-ClosesAll-clause-jobs g c =
     let us = c.args.core.now.units in
-    subst (λ (a : After). jobs_of c.close_all.result (length us) ≤ jobs_after a (length us)) (sym c.in-ClosesAll.is) c.close_all.ensures.jobs
+    subst (λ (a : After). IfOk c.close_all.result (λ next. jobs_of next (length us) ≤ jobs_after a (length us))) (sym c.in-ClosesAll.is) c.close_all.ensures.jobs
 
 pub returns-in-Ok-clause-jobs : goal.returns-in-Ok-clause-jobs
 returns-in-Ok-clause-jobs g c =

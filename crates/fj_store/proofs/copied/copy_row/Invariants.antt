@@ -1,9 +1,8 @@
-use Rattle.std.proofs.Common.{◌≡◌, ◌≤◌, length, map, take, vec_capacity}
-use Rattle.fj_store.specs.Taking.{value_read}
+use Rattle.std.proofs.Common.{◌≡◌, ◌≤◌, length, take, vec_capacity}
 use Rattle.fj_store.proofs.copied.copy_row.Given as goal
 
-abbrev pub invariant-loop-slot : goal.invariant-loop-slot
-invariant-loop-slot l = record {
-  values : l.values.items ≡ map value_read (take l.slot-index l.slots);
-  room : length l.slots ≤ vec_capacity l.values;
+abbrev pub invariant-loop-value : goal.invariant-loop-value
+invariant-loop-value l = record {
+  values : l.copies.items ≡ take l.value-index l.values;
+  room : length l.values ≤ vec_capacity l.copies;
 }

@@ -1,4 +1,4 @@
-use Rattle.std.proofs.Common.{◌≡◌, Some, refl, ap}
+use Rattle.std.proofs.Common.{Some, refl, ap}
 use Rattle.fj_bay.proofs.Performed.{change_empty, change_full}
 use Rattle.fj_bay.proofs.bay.Bay.change.Goals as goal
 

@@ -1,4 +1,4 @@
-use Rattle.std.proofs.Common.{◌≡◌, Some, refl, ap}
+use Rattle.std.proofs.Common.{ap}
 use Rattle.fj_connect.specs.declared.spot.Look.{Look}
 use Rattle.fj_bay.proofs.Performed.{look_empty, look_full}
 use Rattle.fj_bay.proofs.bay.Bay.look.Goals as goal

@@ -1,9 +1,8 @@
-use Rattle.std.proofs.Common.{◌≡◌, Ok, Err, Some, refl, sym, ap, ◌∙◌, subst}
+use Rattle.std.proofs.Common.{Ok, Err, Some, refl, sym, ap, ◌∙◌, subst}
 use Rattle.std.proofs.lemmas.Result.{err_from_is_err_and}
 use Rattle.fj_value.specs.declared.condition.Condition.TheVariants.{Error}
-use Rattle.fj_outside.specs.declared.errors.Stop.TheVariants.{Failed}
 use Rattle.fj_slot.specs.Serving.{Serves}
-use Rattle.fj_bay.specs.Jobs.{go, move}
+use Rattle.fj_bay.specs.Jobs.{move}
 use Rattle.fj_bay.specs.Plain.{moving_of}
 use Rattle.fj_bay.specs.Meaning.{bay_meaning}
 use Rattle.fj_bay.specs.declared.job.Job.TheVariants as job

@@ -18,4 +18,4 @@ returns-clause-low c = subst (λ items. height items ≤ 31) c.self.view_is c.se
 pub returns-clause-within : goal.returns-clause-within
 returns-clause-within c =
     subst (λ items. All IsStepWithin (pass items)) c.self.view_is
-    (format_within c.self.inside.items (outside (printed c.self.inside.items)) (printed_is c.self.inside.items c.self.invariant))
+    (format_within c.self.inside.items.value (outside (printed c.self.inside.items.value)) (printed_is c.self.inside.items.value c.self.invariant))

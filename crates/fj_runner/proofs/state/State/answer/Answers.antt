@@ -19,6 +19,8 @@ use Rattle.fj_runner.specs.Going.{HaveAt}
 use Rattle.fj_runner.proofs.Counting.{have_with, is_more}
 use Rattle.fj_runner.specs.Spending.{jobs_at}
 use Rattle.fj_runner.proofs.Spending.{own_jobs}
+use Rattle.fj_runner.specs.Closing.{may_be_at}
+use Rattle.fj_runner.proofs.Owning.{own_same}
 use Rattle.fj_runner.proofs.state.State.answer.Goals as goal
 
 pub invariant_of-self : goal.invariant_of-self
@@ -133,3 +135,10 @@ returns-clause-hears g c =
       jobs = λ units. ap (λ x. jobs_at x units) (c.own.ensures ∙ ap (with_own s.due number c.args.job c.args.answer) c.replace-stage.ensures.value) ∙ own_jobs s.due number c.args.job c.args.answer s.stage units;
       told = is_more s.told.items s.due (number + 1) (omega (arith, s.told_slots, s.due_slot)) (ap (λ k. k + 1) n);
     }
+
+pub returns-clause-may : goal.returns-clause-may
+returns-clause-may g c = λ what may.
+    let s = c.args.self.now in
+    ap (may_be_at what) (c.own.ensures ∙ ap (with_own s.due c.index-number.result.now c.args.job c.args.answer) c.replace-stage.ensures.value)
+    ∙ own_same (may_be_at what) s.due c.index-number.result.now c.args.job c.args.answer (λ own last next. refl) s.stage
+    ∙ may

@@ -1,10 +1,6 @@
-use Rattle.std.proofs.Common.{◌≡◌, ℕ, map, take, replicate}
+use Rattle.std.proofs.Common.{◌≡◌, ℕ, map, take}
 use Rattle.fj_value.specs.declared.kind.Kind.{Kind}
-use Rattle.fj_value.specs.declared.value.Value.TheVariants.{Undefined}
-use Rattle.fj_store.specs.declared.slot.Slot.TheVariants.{Home}
 use Rattle.fj_store.proofs.store.Store.new.Given as goal
 
 abbrev pub invariant-loop-kind : goal.invariant-loop-kind
-invariant-loop-kind l =
-    (l.kinds.items ≡ map (λ (v : Kind × ℕ). v.0) (take l.kind-index l.variables))
-    × (l.slots ≡ map (λ (v : Kind × ℕ). replicate v.1 (Home 0 Undefined)) (take l.kind-index l.variables))
+invariant-loop-kind l = l.kinds.items ≡ map (λ (v : Kind × ℕ). v.0) (take l.kind-index l.variables)

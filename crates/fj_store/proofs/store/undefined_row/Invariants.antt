@@ -1,7 +1,0 @@
-use Rattle.std.proofs.Common.{◌≡◌, replicate}
-use Rattle.fj_value.specs.declared.value.Value.TheVariants.{Undefined}
-use Rattle.fj_store.specs.declared.slot.Slot.TheVariants.{Home}
-use Rattle.fj_store.proofs.store.undefined_row.Given as goal
-
-abbrev pub invariant-loop-at : goal.invariant-loop-at
-invariant-loop-at l = l.row ≡ replicate l.at (Home 0 Undefined)

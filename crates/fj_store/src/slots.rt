@@ -1,0 +1,141 @@
+// What stands at the places of the variables: the values of each one behind the other, and apart from them the marks.
+ghost use Rattle.std.specs.Prelude.{◌≡◌, ◌<◌, ℕ, true, map, is_none, replicate, Some, IfSome, IfNone, IfOk};
+ghost use Rattle.std.specs.List.{list_any};
+ghost use Rattle.std.specs.Option.{option_copied, option_flatten, option_map, option_map_or};
+ghost use Rattle.fj_value.specs.declared.kind.Kind.{Kind as AnyKind};
+ghost use Rattle.fj_value.specs.declared.value.Value.TheVariants.{Undefined};
+ghost use Rattle.fj_store.specs.Places.{places_of};
+ghost use Rattle.fj_store.specs.Slots.{all_read};
+ghost use Rattle.fj_store.specs.Storage.{value_in};
+ghost use Rattle.fj_store.specs.Tables.{element_at, with_element};
+ghost use Rattle.fj_store.specs.Taking.{mark_of, value_read};
+ghost use Rattle.fj_store.specs.declared.slot.Mark.TheVariants as marked;
+ghost use Rattle.fj_store.specs.declared.slot.Slot.TheVariants.{Home, Out};
+
+use crate::run::Run;
+use crate::slot::{Mark, Slot};
+use crate::table::Table;
+use fj_value::{Items, Kind, Place, Value};
+use std::alloc::{AllocError, Global};
+use std::marker::Model;
+
+/// By variable, what stands at each of its places. Contracts see it as a list of lists.
+#[derive(Drop)]
+pub(crate) struct Slots {
+    marks: Table<Mark>,
+    values: Table<Value>,
+}
+
+impl Model for Slots {
+    ghost use Rattle.std.specs.Prelude.{List};
+    ghost use Rattle.fj_store.specs.declared.slot.Slot.{Slot as AnySlot};
+    ghost use Rattle.fj_store.specs.Slots.{AreMarked, slots_of};
+
+    ghost Value = { List (List AnySlot) };
+
+    ghost view = { λ slots. slots_of slots.marks slots.values };
+
+    ghost invariant = { λ slots. AreMarked slots.marks slots.values };
+}
+
+/// So many marks of places at home.
+fn home_row(alloc: Global, count: u32) -> Result<Items<Mark>, AllocError>
+    ensures { IfOk result (λ row. row ≡ replicate count (marked.Home 0)) }
+{
+    let mut row = Vec::new(alloc);
+    row.resize(count as usize, Mark::Home(0))?;
+    Ok(Items::from_vec(row))
+}
+
+/// So many values that are undefined.
+fn undefined_row(alloc: Global, count: u32) -> Result<Items<Value>, AllocError>
+    ensures { IfOk result (λ row. row ≡ replicate count Undefined) }
+{
+    let mut row = Items::new(alloc);
+    row.reserve(count as usize)?;
+    for at in 0..count {
+        let _ = at;
+        row.push(Value::Undefined)?;
+    }
+    Ok(row)
+}
+
+impl Slots {
+    /// So many places of each variable, all undefined.
+    pub(crate) fn undefined(alloc: Global, variables: &[(Kind, u32)]) -> Result<Slots, AllocError>
+        ensures { IfOk result (λ slots. slots ≡ map (λ (v : AnyKind × ℕ). replicate v.1 (Home 0 Undefined)) variables.now) }
+    {
+        let mut marks = Table::new(alloc);
+        let mut values = Table::new(alloc);
+        for (_, count) in variables {
+            marks.push(home_row(alloc, *count)?)?;
+            values.push(undefined_row(alloc, *count)?)?;
+        }
+        Ok(Slots { marks, values })
+    }
+
+    /// The value at a place; none where it is moved out.
+    pub(crate) fn value(&self, place: Place) -> Option<&Value>
+        ensures { option_copied result ≡ option_flatten (option_map value_in (element_at self.now place)) }
+    {
+        match self.marks.get(place) {
+            Some(Mark::Home(_)) => self.values.get(place),
+            Some(Mark::Out(_)) | None => None,
+        }
+    }
+
+    /// The mark of a place, if there is such a place.
+    pub(crate) fn mark(&self, place: Place) -> Option<u32>
+        ensures { result ≡ option_map mark_of (element_at self.now place) }
+    {
+        match self.marks.get(place) {
+            Some(mark) => Some(mark.number()),
+            None => None,
+        }
+    }
+
+    /// The values of a run, one behind the other, if there are all its places. One that is moved out is undefined.
+    pub(crate) fn at_run(&self, run: Run) -> Option<&[Value]>
+        ensures some { IfSome result (λ row. map Some row.now ≡ map (element_at (all_read self.now)) (places_of run)) }
+        ensures none { IfNone result (0 < run.count → list_any (λ place. is_none (element_at (all_read self.now) place)) (places_of run) ≡ true) }
+    {
+        self.values.at_run(run)
+    }
+
+    /// Puts what stands at a place, and answers what stood there. Where there is no such place nothing changes.
+    pub(crate) fn replace(&mut self, place: Place, slot: Slot) -> Option<Slot>
+        ensures old { result ≡ element_at self.old place }
+        ensures new { self.new ≡ with_element self.old place slot }
+    {
+        let (mark, value) = slot.apart();
+        let value = self.values.replace(place, value)?;
+        let mark = self.marks.replace(place, mark)?;
+        Some(mark.with(value))
+    }
+
+    /// Puts what stands at a place, and drops what stood there. Where there is no such place nothing changes.
+    #[inline(always)]
+    pub(crate) fn put(&mut self, place: Place, slot: Slot)
+        ensures { self.new ≡ with_element self.old place slot }
+    {
+        let (mark, value) = slot.apart();
+        self.values.put(place, value);
+        self.marks.put(place, mark);
+    }
+
+    /// Moves the value of a place out, and marks the place. Where there is no such place nothing changes; the value is undefined then, and
+    /// where it is moved out already.
+    #[inline(always)]
+    pub(crate) fn take(&mut self, place: Place, number: u32) -> Value
+        ensures value { result ≡ option_map_or value_read (element_at self.old place) Undefined }
+        ensures new { self.new ≡ with_element self.old place (Out number) }
+    {
+        match self.values.replace(place, Value::Undefined) {
+            Some(value) => {
+                self.marks.put(place, Mark::Out(number));
+                value
+            }
+            None => Value::Undefined,
+        }
+    }
+}
