@@ -145,13 +145,7 @@ fn assembled(
     requires { AreWritten items }
     ensures { Assembles items transfer parts result }
 {
-    let control = control_of(
-        alloc,
-        transfer.group,
-        parts.group,
-        &transfer.format,
-        items,
-    )?;
+    let control = control_of(alloc, transfer.group, parts.group, &transfer.format, items)?;
     Ok(Statement::Transfer(Transfer {
         input: transfer.input,
         unit: transfer.unit,
