@@ -18,6 +18,9 @@ use Rattle.fj_format.proofs.item.FormatItem.TheLaws.TheKnot as knot
 use Rattle.fj_format.specs.contracts.format.Format as Format
 use Rattle.fj_format.specs.contracts.format.Format.TheInside as FormatInside
 use Rattle.fj_format.specs.contracts.item.FormatItem as FormatItem
+use Rattle.fj_list.specs.contracts.elements.Elements as Elements
+use Rattle.fj_list.specs.contracts.elements.Elements.TheInside as ElementsInside
+use Rattle.fj_list.specs.contracts.elements.Kept as Kept
 use Rattle.fj_list.specs.contracts.load.Load as Load
 use Rattle.fj_list.specs.contracts.load.Load.TheInside as LoadInside
 use Rattle.fj_list.specs.contracts.load.Shape as Shape

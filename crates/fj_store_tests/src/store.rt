@@ -213,7 +213,8 @@ fn copies_keep_their_values(rt: HostRuntime) -> Result<(), Fail> {
     let alloc = rt.alloc();
     let mut store = Store::new(alloc, &LONG)?;
     store.set(A, Value::Int(7));
-    let (Some(first), Some(second)) = (copy_whole(&mut store, alloc), copy_whole(&mut store, alloc)) else {
+    let (Some(first), Some(second)) = (copy_whole(&mut store, alloc), copy_whole(&mut store, alloc))
+    else {
         assert!(rt; false, "nothing is copied");
         return Ok(());
     };
