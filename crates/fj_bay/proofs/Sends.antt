@@ -18,6 +18,10 @@ use Rattle.fj_format.proofs.item.FormatItem.TheLaws.TheKnot as knot
 use Rattle.fj_format.specs.contracts.format.Format as Format
 use Rattle.fj_format.specs.contracts.format.Format.TheInside as FormatInside
 use Rattle.fj_format.specs.contracts.item.FormatItem as FormatItem
+use Rattle.fj_list.specs.declared.elements.PlainCopy as plain_copies
+use Rattle.fj_list.specs.contracts.elements.Elements as Elements
+use Rattle.fj_list.specs.contracts.elements.Elements.TheInside as ElementsInside
+use Rattle.fj_list.specs.contracts.elements.Kept as Kept
 use Rattle.fj_list.specs.contracts.load.Load as Load
 use Rattle.fj_list.specs.contracts.load.Load.TheInside as LoadInside
 use Rattle.fj_list.specs.contracts.load.Shape as Shape
@@ -53,6 +57,9 @@ boxed_sends T s = search (crosses, sendable) depth 20
 pub value_sends : IsSend Value.the_row
 value_sends = search (crosses, sendable) depth 20
 
+pub value_sync : IsSync Value.the_row
+value_sync = search (crosses, sendable) depth 20
+
 cell_sends : IsSend Cell.the_row
 cell_sends = declared_send Cell.the_type (search (as_row_send, value_sends, crosses, sendable) depth 20)
 
@@ -86,8 +93,18 @@ group_member_sends = declared_send GroupMember.the_type (search (as_row_send, te
 moved_sends : IsSend Moved.the_row
 moved_sends = declared_send Moved.the_type (search (as_row_send, cell_sends, items_sends, crosses, sendable) depth 20)
 
+-- elements that are shared are looked at by two threads
+kept_sends : (T : RattleType) → IsSend T → IsSync T → IsSend (Kept.the_row T)
+kept_sends T s y = variants_send (Kept.enum T) (search (as_row_send, items_sends, items_sync, crosses, sendable) depth 20)
+
+inside_elements_sends : (T : RattleType) (g : plain_copies.Ghosts T.Denot) → IsSend T → IsSync T → IsSend (ElementsInside.the_row T g)
+inside_elements_sends T g s y = declared_send (ElementsInside.the_type T g) (search (as_row_send, kept_sends, crosses, sendable) depth 20)
+
+pub elements_sends : (T : RattleType) (g : plain_copies.Ghosts T.Denot) → IsSend T → IsSync T → IsSend (Elements.the_row T g)
+elements_sends T g s y = view_send _ _ _ _ _ (inside_elements_sends T g s y)
+
 row_sends : IsSend Row.the_row
-row_sends = declared_send Row.the_type (search (as_row_send, value_sends, items_sends, crosses, sendable) depth 20)
+row_sends = declared_send Row.the_type (search (as_row_send, value_sends, value_sync, elements_sends, crosses, sendable) depth 20)
 
 shape_sends : IsSend Shape.the_row
 shape_sends = variants_send Shape.enum (search (moved_sends, row_sends, crosses, sendable) depth 20)

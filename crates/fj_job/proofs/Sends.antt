@@ -2,10 +2,11 @@
 -- A type that holds a format, or much else, is past the limits of one `search`. So each such type has a lemma here, from those of its parts.
 use denote.RattleType.{RattleType}
 use denote.Ref.{NamedLft}
-use denote.Param.Send.{IsSend, view_send, sendable}
+use denote.Param.Send.{IsSend, IsSync, view_send, sendable}
 use denote.Param.SendFields.{as_row_send, declared_send, variants_send}
 use Rattle.std.proofs.Crossing.{crosses}
-use Rattle.fj_bay.proofs.Sends.{text_sends, items_sends, value_sends, file_name_sends, modes_sends, format_sends, load_sends, answer_sends, connection_sends, job_sends}
+use Rattle.fj_bay.proofs.Sends.{text_sends, items_sends, value_sends, value_sync, elements_sends, file_name_sends, modes_sends, format_sends, load_sends, answer_sends, connection_sends, job_sends}
+use Rattle.fj_list.specs.declared.elements.PlainCopy as plain_copies
 use Rattle.fj_outside.specs.declared.outside.Disk as disk
 use Rattle.fj_outside.specs.declared.outside.FileStore as files
 use Rattle.fj_outside.specs.declared.outside.Sink as sink
@@ -82,14 +83,17 @@ deck_sends = declared_send Deck.the_type (search (as_row_send, variable_sends, l
 run_sends : IsSend Run.the_row
 run_sends = declared_send Run.the_type (search (as_row_send, crosses, sendable) depth 20)
 
-table_sends : (T : RattleType) → IsSend T → IsSend (Table.the_row T)
-table_sends T s = search (items_sends, crosses, sendable) depth 20
+table_sends : (T : RattleType) (g : plain_copies.Ghosts T.Denot) → IsSend T → IsSync T → IsSend (Table.the_row T g)
+table_sends T g s y = search (elements_sends, crosses, sendable) depth 20
 
 place_mark_sends : IsSend PlaceMark.the_row
 place_mark_sends = variants_send PlaceMark.enum (search (as_row_send, crosses, sendable) depth 20)
 
+place_mark_sync : IsSync PlaceMark.the_row
+place_mark_sync = search (crosses, sendable) depth 20
+
 inside_slots_sends : IsSend SlotsInside.the_row
-inside_slots_sends = declared_send SlotsInside.the_type (search (as_row_send, place_mark_sends, value_sends, table_sends, crosses, sendable) depth 20)
+inside_slots_sends = declared_send SlotsInside.the_type (search (as_row_send, place_mark_sends, place_mark_sync, value_sends, value_sync, table_sends, crosses, sendable) depth 20)
 
 slots_sends : IsSend Slots.the_row
 slots_sends = view_send _ _ _ _ _ inside_slots_sends

@@ -18,6 +18,7 @@ pub mod ListLaws
 pub mod Integers
 pub mod ItemLemmas
 pub mod LoadLemmas
+pub mod ElementLemmas
 pub mod Cutting
 pub mod MovedLemmas
 pub mod Rows

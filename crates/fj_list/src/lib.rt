@@ -2,6 +2,7 @@
 #![tactic(auto)]
 
 mod constant;
+mod elements;
 mod items;
 mod laws;
 mod load;
@@ -16,6 +17,7 @@ mod split;
 mod write;
 
 pub use constant::{Form, Read, number, read_as};
+pub use elements::{Elements, PlainCopy};
 pub use items::{Item, OutputItems, Run, Values};
 pub use laws::{
     cells_keep_kinds, constants_are_of_kind, constants_may_be_cut, integers_are_read,

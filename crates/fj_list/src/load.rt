@@ -5,6 +5,7 @@ ghost use Rattle.fj_list.specs.Items.{items_left, items_of};
 ghost use Rattle.fj_list.specs.ListInput.{places_of};
 ghost use Rattle.fj_list.specs.Load.{moved_row, moved_by, with_undefined};
 
+use crate::elements::Elements;
 use crate::items::OutputItems;
 use crate::moved::{Cells, Moved, Row};
 use crate::read::define;
@@ -45,7 +46,7 @@ pub fn undefine(cells: &mut Cells)
 }
 
 /// Makes the values of a row undefined.
-fn undefine_row(values: &mut Items<Value>)
+fn undefine_row(values: &mut Elements<Value>)
     ensures { values.new ≡ replicate (length values.old) Undefined }
 {
     for at in 0..values.len() {

@@ -1,6 +1,7 @@
 // The cells of a statement's items.
 ghost use Rattle.std.specs.Prelude.{◌+◌, ◌<◌, length};
 
+use crate::elements::Elements;
 use fj_value::{Cell, Items, Kind, Place, Text, Value};
 
 /// Cells, by their number from 0 on.
@@ -24,7 +25,7 @@ pub struct Row {
     /// The place of the first one.
     pub first: Place,
     pub kind: Kind,
-    pub values: Items<Value>,
+    pub values: Elements<Value>,
     ghost fits: { first.index + length values < 4294967297 },
 }
 

@@ -1,12 +1,12 @@
 -- Runs beside one another, and rows of a table at the places of a run.
-use Rattle.std.proofs.Common.{◌≡◌, ℕ, zero, suc, ◌+◌, ◌-◌, ◌<◌, ◌≤◌, ◌&&◌, ◌||◌, max, min, eqb, ltb, Bool, true, false, List, [], ◌∷◌, length, map, take, drop, Option, Some, None, is_none, refl, sym, ap, ◌∙◌, inl, inr, arith}
+use Rattle.std.proofs.Common.{◌≡◌, ℕ, zero, suc, ◌+◌, ◌-◌, ◌<◌, ◌≤◌, ◌&&◌, ◌||◌, max, min, eqb, ltb, Bool, true, false, List, [], ◌∷◌, length, map, take, drop, Option, Some, None, is_none, Result, Ok, Err, refl, sym, ap, subst, ◌∙◌, inl, inr, arith}
 use Rattle.std.specs.List.{list_any}
 use Rattle.std.specs.Option.{option_and_then}
-use Rattle.std.specs.Prelude.{slice_get}
+use Rattle.std.specs.Prelude.{slice_get, IfOk, IfSome}
 use Rattle.std.proofs.lemmas.Bool.{cases_lt, false≢true}
 use Rattle.std.proofs.lemmas.Option.{slice_get_past}
 use Rattle.std.proofs.lemmas.Bool.Decides.{eqb_tells, nat_tests}
-use Rattle.std.proofs.lemmas.List.{length-map}
+use Rattle.std.proofs.lemmas.List.{length-map, take_all}
 use Rattle.std.proofs.lemmas.List.Folds.{list_any_at}
 use Rattle.fj_value.specs.declared.place.Place.{Place}
 use Rattle.fj_store.specs.Places.{is_among, counted_from}
@@ -79,6 +79,22 @@ row_at {T} rows row var k (suc n) found low =
     ∙ ap (λ xs. Some here.0 ∷ xs) (ap (λ j. map Some (take n (drop j row))) (sym next) ∙ rest)
     ∙ ap (λ o. o ∷ map (element_at rows) (counted_from var ((k + 1) + 1) n)) (sym there)
     ∙ ap (λ j. element_at rows (record { var = var; index = j }) ∷ map (element_at rows) (counted_from var ((k + 1) + 1) n)) (sym next)
+
+-- a whole row
+pub row_whole : {T : Type 0} → (rows : List (List T)) (row row' : List T) (var first n : ℕ) → slice_get rows var ≡ Some row → row' ≡ row → first ≡ 1 → n ≡ length row → map Some row' ≡ map (element_at rows) (counted_from var first n)
+row_whole rows row row' var first n found same begins ends =
+    ap (map Some) (same ∙ sym (take_all n row (omega (arith, ends))))
+    ∙ row_at rows row var 0 n found (omega (arith, ends))
+    ∙ ap (λ k. map (element_at rows) (counted_from var k n)) (sym begins)
+
+-- what follows where something was shared
+pub shared_so : {X E : Type 0} {P Q : X → Type 0} → (r : Result (Option X) E) → ((x : X) → P x → Q x) → IfOk r (λ o. IfSome o P) → IfOk r (λ o. IfSome o Q)
+shared_so (Ok (Some x)) follows h = follows x h
+shared_so (Ok None) follows h = h
+shared_so (Err e) follows h = h
+
+pub shared_is : {T : Type 0} → (rows : List (List T)) (places : List Place) (o : Option (List T)) (row : List T) → o ≡ Some row → IfSome o (λ xs. map Some xs ≡ map (element_at rows) places) → map Some row ≡ map (element_at rows) places
+shared_is {T} rows places o row is h = let P : Option (List T) → Type 0 = λ z. IfSome z (λ xs. map Some xs ≡ map (element_at rows) places) in subst P is h
 
 -- a place that there is not
 pub lost_at : {T : Type 0} → (rows : List (List T)) (var first n k : ℕ) → k < n → element_at rows (record { var = var; index = first + k }) ≡ None → list_any (λ place. is_none (element_at rows place)) (counted_from var first n) ≡ true

@@ -3,7 +3,7 @@ ghost use Rattle.std.specs.Prelude.{◌≡◌, ◌+◌, ◌<◌, length, IfOk};
 ghost use Rattle.fj_list.specs.Items.{items_left, items_of};
 
 use crate::copied::copy_row;
-use fj_list::{Load, OutputItems, Row};
+use fj_list::{Elements, Load, OutputItems, Row};
 use fj_value::{Kind, Place, Value};
 use std::alloc::{AllocError, Global};
 use std::marker::Model;
@@ -42,11 +42,12 @@ impl<'a> Lent<'a> {
     {
         OutputItems::of_row(self.kind, self.values)
     }
+
     /// The same, copied.
     pub(crate) fn copied(&self, alloc: Global) -> Result<Load, AllocError>
         ensures { IfOk result (λ load. load ≡ self.now) }
     {
-        let values = copy_row(alloc, self.values)?;
+        let values = Elements::of(copy_row(alloc, self.values)?);
         Ok(Load::of_row(Row {
             first: self.first,
             kind: self.kind,

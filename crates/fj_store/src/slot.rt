@@ -1,11 +1,12 @@
 // What stands at a place of the store.
-ghost use Rattle.std.specs.Prelude.{◌≡◌};
+ghost use Rattle.std.specs.Prelude.{◌≡◌, true};
 ghost use Rattle.std.specs.List.{list_any};
 ghost use Rattle.fj_store.specs.Slots.{mark_in, slot_of};
 ghost use Rattle.fj_store.specs.Taking.{mark_of, value_read};
 ghost use Rattle.fj_store.specs.Variables.{is_undefined};
 ghost use Rattle.fj_store.specs.declared.slot.Slot.{Slot as AnySlot};
 
+use fj_list::PlainCopy;
 use fj_value::Value;
 use std::mem::size_of;
 
@@ -26,6 +27,18 @@ pub(crate) enum Mark {
 
 // With a value of 16 bytes a place takes 24.
 const _: () = prove!(size_of::<Mark>() <= 8);
+
+impl PlainCopy for Mark {
+    ghost plain = { λ mark. true };
+
+    fn is_plain(&self) -> bool {
+        true
+    }
+
+    fn plain_copy(&self) -> Mark {
+        *self
+    }
+}
 
 impl Mark {
     pub(crate) fn number(self) -> u32

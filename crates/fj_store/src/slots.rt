@@ -15,6 +15,7 @@ ghost use Rattle.fj_store.specs.declared.slot.Slot.TheVariants.{Home, Out};
 use crate::run::Run;
 use crate::slot::{Mark, Slot};
 use crate::table::Table;
+use fj_list::Elements;
 use fj_value::{Items, Kind, Place, Value};
 use std::alloc::{AllocError, Global};
 use std::marker::Model;
@@ -39,16 +40,16 @@ impl Model for Slots {
 }
 
 /// So many marks of places at home.
-fn home_row(alloc: Global, count: u32) -> Result<Items<Mark>, AllocError>
+fn home_row(alloc: Global, count: u32) -> Result<Elements<Mark>, AllocError>
     ensures { IfOk result (λ row. row ≡ replicate count (marked.Home 0)) }
 {
     let mut row = Vec::new(alloc);
     row.resize(count as usize, Mark::Home(0))?;
-    Ok(Items::from_vec(row))
+    Ok(Elements::of(Items::from_vec(row)))
 }
 
 /// So many values that are undefined.
-fn undefined_row(alloc: Global, count: u32) -> Result<Items<Value>, AllocError>
+fn undefined_row(alloc: Global, count: u32) -> Result<Elements<Value>, AllocError>
     ensures { IfOk result (λ row. row ≡ replicate count Undefined) }
 {
     let mut row = Items::new(alloc);
@@ -57,7 +58,7 @@ fn undefined_row(alloc: Global, count: u32) -> Result<Items<Value>, AllocError>
         let _ = at;
         row.push(Value::Undefined)?;
     }
-    Ok(row)
+    Ok(Elements::to_share(row))
 }
 
 impl Slots {
@@ -100,6 +101,18 @@ impl Slots {
         ensures none { IfNone result (0 < run.count → list_any (λ place. is_none (element_at (all_read self.now) place)) (places_of run) ≡ true) }
     {
         self.values.at_run(run)
+    }
+
+    /// The values of a run, shared with the variable, where these are all of it; none where they are not shared. It changes nothing.
+    pub(crate) fn share(
+        &mut self,
+        alloc: Global,
+        run: Run,
+    ) -> Result<Option<Elements<Value>>, AllocError>
+        ensures same { self.new ≡ self.old }
+        ensures shared { IfOk result (λ o. IfSome o (λ row. map Some row ≡ map (element_at (all_read self.old)) (places_of run))) }
+    {
+        self.values.share(alloc, run)
     }
 
     /// Puts what stands at a place, and answers what stood there. Where there is no such place nothing changes.

@@ -28,6 +28,9 @@ use std::alloc::{AllocError, Global};
 use std::collections::VecDeque;
 use std::marker::Model;
 
+/// The fewest elements of a variable that are shared: fewer are copied as fast.
+const FEWEST_SHARED: u32 = 64;
+
 /// By variable its kind, and at each of its places a value, or none where it is moved out.
 #[derive(Drop)]
 pub struct Store {
@@ -69,7 +72,7 @@ fn put_row(slots: &mut Slots, kinds: &[Kind], row: Row)
     } = row;
     let kind = kind_in(kinds, first.var);
     let mut at = 0;
-    for value in values.into_vec() {
+    for value in values.into_items().into_vec() {
         let place = Place {
             var: first.var,
             index: first.index + at as u32,
@@ -165,6 +168,28 @@ impl Store {
         }
     }
 
+    /// The values of a run, whose places are distinct, shared with the variable, where it is all of a long one; none where they are not
+    /// shared. It changes nothing.
+    fn shared_run(&mut self, alloc: Global, run: Run) -> Result<Option<Load>, AllocError>
+        ensures same { self.new ≡ self.old }
+        ensures moved { IfOk result (λ o. IfSome o (λ load. load ≡ moved_of (map (cell_at self.old) (places_of run)))) }
+    {
+        if run.count < FEWEST_SHARED {
+            return Ok(None);
+        }
+        match self.slots.share(alloc, run)? {
+            Some(values) => Ok(Some(Load::of_row(Row {
+                first: Place {
+                    var: run.var,
+                    index: run.first,
+                },
+                kind: kind_in(&self.kinds, run.var),
+                values,
+            }))),
+            None => Ok(None),
+        }
+    }
+
     /// Copies the values of a run, whose places are distinct, in their order; none where the variable has not all of them.
     fn copy_of_run(&self, alloc: Global, run: Run) -> Result<Option<Load>, AllocError>
         ensures { IfOk result (λ o. IfSome o (λ load. load ≡ moved_of (map (cell_at self.now) (places_of run)))) }
@@ -204,6 +229,9 @@ impl Store {
         ensures same { self.new ≡ self.old }
     {
         if let Some(run) = only_run(&pieces) {
+            if let Some(load) = self.shared_run(alloc, run)? {
+                return Ok(load);
+            }
             if let Some(load) = self.copy_of_run(alloc, run)? {
                 return Ok(load);
             }

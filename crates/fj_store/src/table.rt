@@ -1,22 +1,23 @@
 // Tables with an element at each place of each variable.
-ghost use Rattle.std.specs.Prelude.{◌≡◌, ◌<◌, [], ◌∷◌, ◌++◌, true, length, map, is_none, Some, IfSome, IfNone, OnOk, OnErr};
+ghost use Rattle.std.specs.Prelude.{◌≡◌, ◌<◌, [], ◌∷◌, ◌++◌, true, length, map, is_none, Some, IfSome, IfNone, IfOk, OnOk, OnErr};
 ghost use Rattle.std.specs.List.{list_any};
 ghost use Rattle.std.specs.Option.{option_copied};
 ghost use Rattle.fj_store.specs.Places.{places_of};
 ghost use Rattle.fj_store.specs.Tables.{element_at, with_element};
 
 use crate::run::Run;
-use fj_value::{Items, Place};
+use fj_list::{Elements, PlainCopy};
+use fj_value::Place;
 use std::alloc::{AllocError, Global};
 use std::marker::Model;
 
 /// By variable, what stands at each of its places. Contracts see it as a list of lists.
 #[derive(Drop)]
-pub struct Table<T> {
-    rows: Vec<Items<T>>,
+pub struct Table<T: PlainCopy> {
+    rows: Vec<Elements<T>>,
 }
 
-impl<T> Model for Table<T> {
+impl<T: PlainCopy> Model for Table<T> {
     ghost use Rattle.std.specs.Prelude.{List};
     ghost use Rattle.std.specs.Coded.{coded_list};
 
@@ -27,7 +28,7 @@ impl<T> Model for Table<T> {
     ghost view = { λ table. table.rows.items };
 }
 
-impl<T> Table<T> {
+impl<T: PlainCopy> Table<T> {
     /// A table of no variables.
     pub fn new(alloc: Global) -> Table<T>
         ensures { result ≡ [] }
@@ -61,9 +62,9 @@ impl<T> Table<T> {
     }
 }
 
-impl<T: Drop> Table<T> {
+impl<T: PlainCopy + Drop> Table<T> {
     /// Adds a variable, with what stands at its places. Want of memory changes nothing.
-    pub fn push(&mut self, row: Items<T>) -> Result<(), AllocError>
+    pub fn push(&mut self, row: Elements<T>) -> Result<(), AllocError>
         ensures ok { OnOk result (self.new ≡ self.old ++ row ∷ []) }
         ensures err { OnErr result (self.new ≡ self.old) }
     {
@@ -89,10 +90,30 @@ impl<T: Drop> Table<T> {
         }
         Some(self.rows[var].replace(at, element))
     }
+
     /// Puts an element at a place, and drops the one that stood there. Where there is no such place nothing changes.
     pub fn put(&mut self, place: Place, element: T)
         ensures { self.new ≡ with_element self.old place element }
     {
         let _ = self.replace(place, element);
+    }
+
+    /// What stands at the places of a run, shared with the table, where these are all of a variable; none where it is not shared. It
+    /// changes nothing.
+    pub fn share(&mut self, alloc: Global, run: Run) -> Result<Option<Elements<T>>, AllocError>
+        ensures same { self.new ≡ self.old }
+        ensures shared { IfOk result (λ o. IfSome o (λ row. map Some row ≡ map (element_at self.old) (places_of run))) }
+    {
+        let var = run.var as usize;
+        if var >= self.rows.len() {
+            return Ok(None);
+        }
+        if run.first != 1 {
+            return Ok(None);
+        }
+        if run.count as usize != self.rows[var].len() {
+            return Ok(None);
+        }
+        self.rows[var].share(alloc)
     }
 }

@@ -170,3 +170,65 @@ fn items_are_copied(rt: HostRuntime) -> Result<(), Fail> {
     assert!(rt; has(&store, A, 7));
     Ok(())
 }
+
+/// An array of integers that is long enough to be shared.
+static LONG: [(Kind, u32); 1] = [(Kind::Int4, 64)];
+
+/// The whole of it as an item.
+fn whole(alloc: Global) -> Result<VecDeque<Piece>, AllocError>
+    ensures { IfOk result (λ pieces. sizes pieces.items ≡ 64) }
+{
+    let run = Run {
+        var: 0,
+        first: 1,
+        count: 64,
+    };
+    let mut pieces = VecDeque::new(alloc);
+    pieces.push_back(Piece::Places(run))?;
+    Ok(pieces)
+}
+
+/// Copies it, once more where memory was refused.
+fn copy_whole(store: &mut Store, alloc: Global) -> Option<Load> {
+    for _ in 0..2u8 {
+        if let Ok(pieces) = whole(alloc) {
+            if let Ok(load) = store.copy_of(alloc, pieces, 64) {
+                return Some(load);
+            }
+        }
+    }
+    None
+}
+
+/// Whether the first value of a copy is this number.
+fn begins_with(load: &Load, number: i64) -> bool {
+    match load.items().next() {
+        Some(item) => matches!(item.value, Value::Int(n) if *n == number),
+        None => false,
+    }
+}
+
+#[test]
+fn copies_keep_their_values(rt: HostRuntime) -> Result<(), Fail> {
+    let alloc = rt.alloc();
+    let mut store = Store::new(alloc, &LONG)?;
+    store.set(A, Value::Int(7));
+    let (Some(first), Some(second)) = (copy_whole(&mut store, alloc), copy_whole(&mut store, alloc))
+    else {
+        assert!(rt; false, "nothing is copied");
+        return Ok(());
+    };
+    // while copies are there, and behind them
+    store.set(A, Value::Int(8));
+    assert!(rt; has(&store, A, 8) && begins_with(&first, 7) && begins_with(&second, 7));
+    let third = copy_whole(&mut store, alloc);
+    assert!(rt; third.is_some());
+    drop(third);
+    store.set(A, Value::Int(9));
+    assert!(rt; has(&store, A, 9));
+    // one that comes back
+    drop(first);
+    store.give_load(second);
+    assert!(rt; has(&store, A, 7));
+    Ok(())
+}
