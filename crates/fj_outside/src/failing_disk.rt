@@ -205,6 +205,7 @@ impl Disk for FailingDisk {
         ensures counted { disk_calls self.new ≡ disk_calls self.old }
         ensures plans { HasPlace (disk_plans self.old) name.now → ChangesPlan (disk_plans self.old) (disk_plans self.new) name.now
             (record (plan_under (disk_plans self.old) name.now) { made = (file_calls file).made }) }
+        ensures kept { (HasPlace (disk_plans self.old) name.now → ⊥) → KeepsPlans (disk_plans self.old) (disk_plans self.new) }
 
         ensures back { disk_held self.new ≡ given (disk_held self.old) name.now (file_bytes file) (file_count file == 0) }
         ensures own { CountsFailure false (disk_refusals self.old) (disk_refusals self.new) }

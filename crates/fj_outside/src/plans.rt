@@ -22,10 +22,11 @@ pub fn copy_plan(alloc: Global, plans: &mut Plans, name: &str) -> Result<Plan, A
     Ok(Plan::none(alloc))
 }
 
-/// Sets how many calls there were on the file of a name whose plan has a place. It takes no memory.
+/// Sets how many calls there were on the file of a name whose plan has a place. Where it has none all plans stay. It takes no memory.
 pub fn set_made(plans: &mut Plans, name: &str, made: u64)
-    ensures { HasPlace plans.old name.now →
+    ensures changed { HasPlace plans.old name.now →
         ChangesPlan plans.old plans.new name.now (record (plan_under plans.old name.now) { made = made }) }
+    ensures kept { (HasPlace plans.old name.now → ⊥) → KeepsPlans plans.old plans.new }
 {
     if let Some(plan) = plans.get_mut(name) {
         plan.set_made(made);
