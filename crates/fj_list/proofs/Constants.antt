@@ -1,15 +1,14 @@
 -- What constants are read as, and that items keep their kinds.
-use Rattle.std.proofs.Common.{◌≡◌, ℕ, zero, suc, ℤ, pos, negsuc, ◌-◌, ◌^◌, ◌<◌, Bool, true, false, cond, eqb, List, [], ◌∷◌, length, Option, Some, None, sym, ap, ◌∙◌, refl, subst, inl, inr, arith, length-append, length-take}
+use Rattle.std.proofs.Common.{◌≡◌, ℕ, zero, suc, ℤ, ◌-◌, Bool, true, false, cond, eqb, List, [], ◌∷◌, length, Option, Some, None, sym, ap, ◌∙◌, refl, subst, inl, inr, arith, length-append, length-take}
 use Rattle.std.proofs.lemmas.Bool.{cases_Bool, false≢true}
 use Rattle.std.proofs.lemmas.Bool.Decides.{nat_tests}
 use Rattle.std.proofs.lemmas.Option.{none-some}
-use Rattle.std.proofs.lemmas.Int.{ints}
 use Rattle.std.proofs.lemmas.List.{length-replicate}
 use Rattle.std.specs.Char.{is_digit, is_ascii_digit}
 use Rattle.std.specs.List.{list_all}
 use Rattle.std.specs.Option.{option_map}
 use Rattle.fj_value.specs.Digits.{number_in}
-use Rattle.fj_value.proofs.DigitLaws.{fits_bits-true}
+use Rattle.fj_value.proofs.DigitLaws.{fits_bits-true, fits_bits-fits}
 use Rattle.fj_value.specs.Kind.{FitsBits, IsOfKind, fits_bits}
 use Rattle.fj_value.specs.declared.kind.Kind.TheVariants.{Int4, Int8, Logical, Chars}
 use Rattle.fj_value.specs.declared.value.Cell.{Cell}
@@ -31,14 +30,9 @@ use Rattle.fj_list.proofs.Numbers.{no_digit_is}
 use Rattle.fj_list.proofs.GrammarLaws.{digit_first, all_digits}
 use Rattle.fj_list.proofs.Plain.{NoSign, integer_unsigned}
 
--- numbers of so many bits
-fits_or : (bits : ℕ) (z : ℤ) → fits_bits bits z ≡ true → FitsBits bits z
-fits_or bits (pos n) e = let below : n < 2 ^ (bits - 1) = grind (arith, nat_tests) in (omega (arith, ints), omega (arith, ints))
-fits_or bits (negsuc n) e = let below : n < 2 ^ (bits - 1) = grind (arith, nat_tests) in (omega (arith, ints), omega (arith, ints))
-
 fits_not : (bits : ℕ) (z : ℤ) → (FitsBits bits z → ⊥) → fits_bits bits z ≡ false
 fits_not bits z h = elim (cases_Bool (fits_bits bits z)) [
-  | inl e ↦ absurd (h (fits_or bits z e))
+  | inl e ↦ absurd (h (fits_bits-fits bits z e))
   | inr e ↦ e
 ]
 
@@ -109,7 +103,7 @@ integer_kind : (bits : ℕ) (o : Option ℤ) (v : Value) → integer_read bits o
 integer_kind bits None v e = absurd (cc)
 integer_kind bits (Some z) v e = go (fits_bits bits z) refl where
   go : (b : Bool) → fits_bits bits z ≡ b → (z' : ℤ) × ((v ≡ value.Int z') × FitsBits bits z')
-  go true h = let same : read.Defined (value.Int z) ≡ read.Defined v = sym (ap (λ b. cond b (read.Defined (value.Int z)) (read.Wrong (Error 14))) h) ∙ e in (z, (cc, fits_or bits z h))
+  go true h = let same : read.Defined (value.Int z) ≡ read.Defined v = sym (ap (λ b. cond b (read.Defined (value.Int z)) (read.Wrong (Error 14))) h) ∙ e in (z, (cc, fits_bits-fits bits z h))
   go false h = let same : read.Wrong (Error 14) ≡ read.Defined v = sym (ap (λ b. cond b (read.Defined (value.Int z)) (read.Wrong (Error 14))) h) ∙ e in absurd (cc)
 
 logical_kind : (o : Option Bool) (v : Value) → logical_read o ≡ read.Defined v → IsOfKind Logical v

@@ -1,13 +1,13 @@
 -- What a statement means is sound, part by part.
-use Rattle.std.proofs.Common.{◌≡◌, ℕ, ◌<◌, ◌≤◌, Bool, true, false, not, ◌&&◌, cond, List, max, Option, Some, None, refl, sym, ap, subst, inl, inr, ◌⊎◌, arith, eqb, leb, is_some, ◌-◌, ◌^◌, pos, negsuc, ℤ}
-use Rattle.std.proofs.lemmas.Int.{ints}
+use Rattle.std.proofs.Common.{◌≡◌, ℕ, ◌≤◌, Bool, true, false, not, ◌&&◌, cond, List, max, Option, Some, None, refl, sym, ap, subst, inl, inr, ◌⊎◌, arith, eqb, leb, is_some, ℤ}
 use Rattle.std.proofs.lemmas.Bool.Decides.{nat_tests}
 use Rattle.std.specs.Prelude.{IsSome, IfSome, slice_get}
 use Rattle.std.proofs.lemmas.Bool.{and_parts, leb-true}
+use Rattle.fj_value.proofs.DigitLaws.{fits_bits-fits}
 use Rattle.fj_value.specs.declared.kind.Kind.{Kind}
 use Rattle.fj_value.specs.declared.kind.Kind.TheVariants.{Int4, Int8}
 use Rattle.fj_value.specs.declared.place.Place.{Place}
-use Rattle.fj_value.specs.Kind.{FitsBits, fits_bits, integer_bits, IsOfKind}
+use Rattle.fj_value.specs.Kind.{fits_bits, integer_bits, IsOfKind}
 use Rattle.fj_statement.specs.declared.deck.Variable.{Variable}
 use Rattle.fj_statement.specs.declared.statement.Operand.{Operand}
 use Rattle.fj_statement.specs.declared.statement.Operand.TheVariants as operand
@@ -100,10 +100,6 @@ integer_place_is s d place h =
 
 -- ---- operands
 
-fits_true : (bits : ℕ) (z : ℤ) → fits_bits bits z ≡ true → FitsBits bits z
-fits_true bits (pos n) h = let low : n < 2 ^ (bits - 1) = grind (arith, nat_tests) in (omega (arith, ints), omega (arith, ints))
-fits_true bits (negsuc n) h = let low : n < 2 ^ (bits - 1) = grind (arith, nat_tests) in (omega (arith, ints), omega (arith, ints))
-
 abbrev MeantIs : Scope → Meant → Type 0
 MeantIs s m = IsOperand s.variables m.operand m.kind m.count
 
@@ -112,10 +108,10 @@ unfolding number
 number_is s n m h =
     let k = bound (number_kind n) _ m h in
     let of_kind : IsOfKind k.0 (Rattle.fj_value.specs.declared.value.Value.TheVariants.Int n) = elim (chosen (fits_bits 32 n) (Some Int4) (cond (fits_bits 64 n) (Some Int8) None) (Some k.0) k.1) [
-      | inl four ↦ subst (λ kind. IsOfKind kind (Rattle.fj_value.specs.declared.value.Value.TheVariants.Int n)) (some_is Int4 k.0 four.1) (fits_true 32 n four.0)
+      | inl four ↦ subst (λ kind. IsOfKind kind (Rattle.fj_value.specs.declared.value.Value.TheVariants.Int n)) (some_is Int4 k.0 four.1) (fits_bits-fits 32 n four.0)
       | inr other ↦
           let eight = passed (fits_bits 64 n) (Some Int8) k.0 other.1 in
-          subst (λ kind. IsOfKind kind (Rattle.fj_value.specs.declared.value.Value.TheVariants.Int n)) (some_is Int8 k.0 eight.1) (fits_true 64 n eight.0)
+          subst (λ kind. IsOfKind kind (Rattle.fj_value.specs.declared.value.Value.TheVariants.Int n)) (some_is Int8 k.0 eight.1) (fits_bits-fits 64 n eight.0)
     ] in
     subst (MeantIs s) (some_is _ m k.2) (refl, of_kind, refl)
 

@@ -1,16 +1,15 @@
 -- Variables are as they are declared.
 use Rattle.std.proofs.Common.{◌≡◌, ℕ, zero, suc, Bool, true, false, set, List, [], ◌∷◌, ◌++◌, length, map, take, replicate, Option, Some, None, Result, Ok, Err, slice_get, unwrap_or, length-append, refl, sym, ap, subst, ◌∙◌, inl, inr, arith}
-use Rattle.std.specs.Prelude.{◌≤◌, ◌<◌, ◌-◌, ◌^◌, ◌&&◌, ◌⊎◌, ℤ, if◌then◌else◌, option_and_then, pos, negsuc, nat_lt}
+use Rattle.std.specs.Prelude.{◌≤◌, ◌&&◌, ◌⊎◌, ℤ, if◌then◌else◌, option_and_then, pos, nat_lt}
 use Rattle.std.specs.Option.{option_map_or}
 use Rattle.std.proofs.lemmas.Bool.{eqb-true}
-use Rattle.std.proofs.lemmas.Bool.Decides.{nat_tests}
-use Rattle.std.proofs.lemmas.Int.{ints}
 use Rattle.std.proofs.lemmas.List.{length-set, length-replicate, length-take-le}
+use Rattle.fj_value.proofs.DigitLaws.{fits_bits-fits}
 use Rattle.fj_value.specs.Condition.{code_of}
 use Rattle.fj_value.specs.declared.condition.Condition.{Condition}
 use Rattle.fj_value.specs.declared.condition.Condition.TheVariants.{Fine, EndOfFile, EndOfRecord, Error}
 use Rattle.fj_value.specs.declared.condition.Rule.{Rule}
-use Rattle.fj_value.specs.Kind.{FitsBits, IsOfKind, fits_bits}
+use Rattle.fj_value.specs.Kind.{IsOfKind}
 use Rattle.fj_value.specs.declared.kind.Kind.{Kind}
 use Rattle.fj_value.specs.declared.kind.Kind.TheVariants.{Int4, Int8, Logical, Chars}
 use Rattle.fj_value.specs.declared.place.Place.{Place}
@@ -60,13 +59,9 @@ IsFor kind v = (v ≡ value.Undefined) ⊎ IsOfKind kind v
 undefined_is : (kind : Kind) → IsFor kind value.Undefined
 undefined_is kind = inl refl
 
-fits_so : (bits : ℕ) (z : ℤ) → fits_bits bits z ≡ true → FitsBits bits z
-fits_so bits (pos n) e = let low : n < 2 ^ (bits - 1) = grind (arith, nat_tests) in (omega (arith, ints), omega (arith, ints))
-fits_so bits (negsuc n) e = let low : n < 2 ^ (bits - 1) = grind (arith, nat_tests) in (omega (arith, ints), omega (arith, ints))
-
 told_kind : (kind : Kind) (v : Value) → is_of_kind kind v ≡ true → IsOfKind kind v
-told_kind Int4 (value.Int z) e = fits_so 32 z e
-told_kind Int8 (value.Int z) e = fits_so 64 z e
+told_kind Int4 (value.Int z) e = fits_bits-fits 32 z e
+told_kind Int8 (value.Int z) e = fits_bits-fits 64 z e
 told_kind Logical (value.Log b) e = tt
 told_kind (Chars n) (value.Chars cs) e = eqb-true (length cs) n e
 told_kind _ _ e = no e

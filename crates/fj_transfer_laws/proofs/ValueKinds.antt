@@ -1,5 +1,5 @@
 -- What fields and bytes are read as is of the kind that it is read for.
-use Rattle.std.proofs.Common.{◌≡◌, ℕ, ℤ, pos, negsuc, ◌-◌, ◌^◌, ◌<◌, Bool, true, false, cond, List, length, drop, Option, Some, None, Result, Ok, Err, refl, subst, inl, inr, arith, length-append, length-take}
+use Rattle.std.proofs.Common.{◌≡◌, ℕ, ℤ, ◌-◌, ◌^◌, ◌<◌, Bool, true, false, cond, List, length, drop, Option, Some, None, Result, Ok, Err, refl, subst, inl, inr, arith, length-append, length-take}
 use Rattle.std.specs.Prelude.{nat_lt}
 use Rattle.std.specs.Int.{w32, w64, cast_signed, from_le_bytes}
 use Rattle.std.proofs.lemmas.Bool.{cases_lt}
@@ -19,7 +19,7 @@ use Rattle.fj_value.specs.declared.value.Value.{Value}
 use Rattle.fj_value.specs.declared.value.Value.TheVariants as value
 use Rattle.fj_value.specs.declared.condition.Condition.{Condition}
 use Rattle.fj_value.specs.declared.condition.Condition.TheVariants.{Error}
-use Rattle.fj_value.proofs.DigitLaws.{from_fits}
+use Rattle.fj_value.proofs.DigitLaws.{from_fits, fits_bits-fits}
 use Rattle.fj_edit_in.specs.InputField.{input_field, integer_value, bits_value, logical_value, logical_kind, characters_read, signed_number, unsigned_number, trimmed, read_by, integer_input, logical_input, text_input}
 use Rattle.fj_unfrec.specs.Stored.{stored_width, value_of}
 
@@ -33,11 +33,6 @@ Gives kind (Err condition) = Unit {0}
 if_so : (kind : Kind) (b : Bool) (v : Value) (condition : Condition) → (b ≡ true → IsOfKind kind v) → Gives kind (cond b (Ok v) (Err condition))
 if_so kind true v condition h = h refl
 if_so kind false v condition h = tt
-
--- numbers that pass the test of their bits
-passing : (bits : ℕ) (z : ℤ) → fits_bits bits z ≡ true → FitsBits bits z
-passing bits (pos n) e = let below : n < 2 ^ (bits - 1) = grind (arith, nat_tests) in (omega (arith, ints), omega (arith, ints))
-passing bits (negsuc n) e = let below : n < 2 ^ (bits - 1) = grind (arith, nat_tests) in (omega (arith, ints), omega (arith, ints))
 
 -- a number of as many bits as an integer kind has
 of_bits : (kind : Kind) (bits : ℕ) (z : ℤ) → integer_bits kind ≡ Some bits → FitsBits bits z → IsOfKind kind (value.Int z)
@@ -54,7 +49,7 @@ some_bits (Chars n) bits e = absurd (none-some bits e)
 
 integer_gives : (kind : Kind) (bits : ℕ) (o : Option ℤ) → integer_bits kind ≡ Some bits → Gives kind (integer_value bits o)
 integer_gives kind bits None e = tt
-integer_gives kind bits (Some z) e = if_so kind (fits_bits bits z) (value.Int z) (Error 14) (λ fits. of_bits kind bits z e (passing bits z fits))
+integer_gives kind bits (Some z) e = if_so kind (fits_bits bits z) (value.Int z) (Error 14) (λ fits. of_bits kind bits z e (fits_bits-fits bits z fits))
 
 bits_give : (kind : Kind) (bits : ℕ) (o : Option ℕ) → integer_bits kind ≡ Some bits → Gives kind (bits_value bits o)
 bits_give kind bits None e = tt

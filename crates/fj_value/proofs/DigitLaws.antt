@@ -250,3 +250,8 @@ number_of-zeros base (suc count) ds = omega (arith, number_of-zeros base count d
 pub fits_bits-true : (bits : ℕ) (z : ℤ) → FitsBits bits z → fits_bits bits z ≡ true
 fits_bits-true bits (pos n) h = let low = pos_fits bits n h in grind (arith, nat_tests)
 fits_bits-true bits (negsuc n) h = let low = negsuc_fits bits n h in grind (arith, nat_tests)
+
+-- and where it passes the number fits
+pub fits_bits-fits : (bits : ℕ) (z : ℤ) → fits_bits bits z ≡ true → FitsBits bits z
+fits_bits-fits bits (pos n) e = let low : n < 2 ^ (bits - 1) = grind (arith, nat_tests) in (omega (arith, ints), omega (arith, ints))
+fits_bits-fits bits (negsuc n) e = let low : n < 2 ^ (bits - 1) = grind (arith, nat_tests) in (omega (arith, ints), omega (arith, ints))
