@@ -6,7 +6,8 @@ use Rattle.fj_value.specs.declared.condition.Condition.{Condition}
 use Rattle.fj_line.specs.declared.page.Page.{Page}
 use Rattle.fj_line.specs.Line.{LineState, empty_line, written, moved}
 use Rattle.fj_line.specs.Actions.{Action, put, move, end_record, meet, AtHand, behind, condition_in, unless, carried_out, first_record, text_at}
-use Rattle.fj_line.specs.Page.{at_hand, IsIn, Keeps}
+use Rattle.fj_line.specs.declared.unwritten.Unwritten.{Unwritten}
+use Rattle.fj_line.specs.Page.{at_hand, IsIn, Keeps, Carries}
 use Rattle.fj_line.specs.Records.{texts_from, texts_of}
 use Rattle.fj_list.specs.ListText.{text_of}
 use Rattle.fj_transfer.specs.Printing.{Printed, printed_of, printed_by, if_fine, open_count}
@@ -87,22 +88,30 @@ shown_behind page text low within =
     sym (drop-append-le page.begin (take page.line text) (drop page.line text) (omega (arith, length-take page.line text))) ∙ ap (drop page.begin) (take-append-drop page.line text)
 
 -- a call that carried the actions out
-pub prints_fine : (limit begun end count : ℕ) (actions : List Action) (hand : AtHand) (page page' : Page) (old text : List ℕ)
-    → hand ≡ first_record limit begun → page.begin ≡ length old → end ≡ length old → carried_out hand actions ≡ Ok (at_hand page' text) → IsIn page' text → Keeps page old page' text
-    → count ≡ cond ((length text - end) == length (at_hand page' text).line.text) begun 0 + length (at_hand page' text).line.text
-    → Prints begun (printed_by limit begun actions) old (Ok count) text
-prints_fine limit begun end count actions hand page page' old text is begin from done within kept counts =
+pub prints_fine : (limit begun end count : ℕ) (actions : List Action) (page : Page) (text : List ℕ)
+    → page.begin ≡ end → carried_out (first_record limit begun) actions ≡ Ok (at_hand page text) → IsIn page text
+    → count ≡ cond ((length text - end) == length (at_hand page text).line.text) begun 0 + length (at_hand page text).line.text
+    → Prints begun (printed_by limit begun actions) (take end text) (Ok count) text
+prints_fine limit begun end count actions page text is done within counts =
     let first = first_record limit begun in
-    let last = at_hand page' text in
-    let whole : carried_out first actions ≡ Ok last = ap (λ h. carried_out h actions) (sym is) ∙ done in
-    let ends = ends_as first last actions whole in
+    let last = at_hand page text in
+    let ends = ends_as first last actions done in
     let p = printed_of (texts_of actions) in
-    let start : page'.begin ≡ length old = kept.begin ∙ begin in
-    let all : text_at last ≡ drop page'.begin text = shown_behind page' text within.begin within.line in
-    let total : length text - end ≡ length last.ended + length last.line.text = omega (arith, ap length all, length-append last.ended last.line.text, length-drop page'.begin text) in
-    let P : Result AtHand Condition → Type 0 = λ r. Prints begun (if_fine actions r) old (Ok count) text in
-    subst P (sym whole) (
+    let all : text_at last ≡ drop page.begin text = shown_behind page text within.begin within.line in
+    let total : length text - end ≡ length last.ended + length last.line.text = omega (arith, is, ap length all, length-append last.ended last.line.text, length-drop page.begin text) in
+    let P : Result AtHand Condition → Type 0 = λ r. Prints begun (if_fine actions r) (take end text) (Ok count) text in
+    subst P (sym done) (
       counts ∙ counted p last.ended last.line.text begun (length text - end) ends.ended ends.line total,
-      sym (take-append-drop page'.begin text) ∙ ap (λ l. l ++ drop page'.begin text) (front_is page page' old text begin kept)
-          ∙ ap (λ l. old ++ l) (sym all ∙ ap (λ l. l ++ last.line.text) ends.ended ∙ ap (λ l. text_of p.records ++ l) ends.line),
+      sym (take-append-drop end text)
+          ∙ ap (λ l. take end text ++ l) (ap (λ n. drop n text) (sym is) ∙ sym all ∙ ap (λ l. l ++ last.line.text) ends.ended ∙ ap (λ l. text_of p.records ++ l) ends.line),
     )
+
+-- what is counted behind what stood before the statement
+pub is_printed : (limit begun end : ℕ) (actions : List Action) (carried : Result (Unit {0}) Unwritten) (result : Result ℕ Unwritten) (page page' : Page) (old text new : List ℕ)
+    → at_hand page old ≡ first_record limit begun → page.begin ≡ length old → Keeps page old page' text → end ≡ length old → Carries (at_hand page old) actions carried (at_hand page' text)
+    → (Carries (first_record limit begun) actions carried (at_hand page' text) → Prints begun (printed_by limit begun actions) (take end text) result new)
+    → Prints begun (printed_by limit begun actions) old result new
+is_printed limit begun end actions carried result page page' old text new is begin kept from done counted =
+    let P : List ℕ → Type 0 = λ l. Prints begun (printed_by limit begun actions) l result new in
+    let Q : AtHand → Type 0 = λ h. Carries h actions carried (at_hand page' text) in
+    subst P (ap (λ n. take n text) (from ∙ sym begin ∙ sym kept.begin) ∙ front_is page page' old text begin kept) (counted (subst Q is done))

@@ -1,7 +1,7 @@
 // The records of a formatted output.
-ghost use Rattle.std.specs.Prelude.{◌≡◌, ◌+◌, ◌-◌, ◌==◌, ◌≤◌, length, take, if◌then◌else◌, IfOk, IfErr, OnOk, OnErr, Ok, All};
+ghost use Rattle.std.specs.Prelude.{◌≡◌, ◌+◌, ◌-◌, ◌==◌, ◌≤◌, ℕ, List, length, take, if◌then◌else◌, IfOk, IfErr, OnOk, OnErr, Ok, All};
 ghost use Rattle.fj_value.specs.declared.condition.Condition.TheVariants.{Fine};
-ghost use Rattle.fj_line.specs.Actions.{Appends, first_record, output};
+ghost use Rattle.fj_line.specs.Actions.{Action, Appends, first_record, output};
 ghost use Rattle.fj_line.specs.Page.{at_hand, IsIn, IsAtEnd, Keeps, Carries, told_by};
 ghost use Rattle.fj_list.specs.Items.{items_of, items_left, values_in};
 ghost use Rattle.fj_list.specs.Listing.{list_actions};
@@ -259,6 +259,29 @@ fn count_at(page: &Page, text: &Text, end: usize, begun: u32) -> u64
     u64::from(before) + width as u64
 }
 
+/// What comes of a writing that began behind so many bytes: the count of the record at hand, or what kept it from being
+/// written, and then the text is as it was.
+fn counted(
+    written: Result<(), Unwritten>,
+    page: &Page,
+    end: usize,
+    begun: u32,
+    text: &mut Text,
+) -> Result<u64, Unwritten>
+    requires begin { page.now.begin ≡ end }
+    requires within { OnOk written (IsIn page.now text.old) }
+    ensures { (limit : ℕ) (actions : List Action) → Carries (first_record limit begun) actions written (at_hand page.now text.old)
+        → Prints begun (printed_by limit begun actions) (take end text.old) result text.new }
+{
+    match written {
+        Ok(()) => Ok(count_at(page, text, end, begun)),
+        Err(unwritten) => {
+            text.truncate(end);
+            Err(unwritten)
+        }
+    }
+}
+
 /// The output by a layout behind so many characters of an open record, as `print_records` writes it. Answers how many
 /// characters the record has that stays open, those before the statement among them.
 pub fn print_onto(
@@ -276,13 +299,8 @@ pub fn print_onto(
 {
     let end = out.len();
     let mut page = Page::new(out, recl, begun);
-    match write_layout(&mut page, out, modes, layout, advance, moved) {
-        Ok(()) => Ok(count_at(&page, out, end, begun)),
-        Err(unwritten) => {
-            out.truncate(end);
-            Err(unwritten)
-        }
-    }
+    let written = write_layout(&mut page, out, modes, layout, advance, moved);
+    counted(written, &page, end, begun, out)
 }
 
 /// The same of items by a layout that is no group. They are borrowed from where they stand.
@@ -301,11 +319,6 @@ pub fn print_items_onto(
 {
     let end = out.len();
     let mut page = Page::new(out, recl, begun);
-    match write_items(&mut page, out, modes, layout, advance, items) {
-        Ok(()) => Ok(count_at(&page, out, end, begun)),
-        Err(unwritten) => {
-            out.truncate(end);
-            Err(unwritten)
-        }
-    }
+    let written = write_items(&mut page, out, modes, layout, advance, items);
+    counted(written, &page, end, begun, out)
 }

@@ -1,10 +1,10 @@
-use Rattle.fj_line.specs.Page.{at_hand}
 use Rattle.fj_transfer.specs.Printing.{actions_by, control_of}
-use Rattle.fj_transfer.proofs.PrintedLemmas.{prints_fine}
+use Rattle.fj_transfer.proofs.PrintedLemmas.{is_printed}
 use Rattle.fj_transfer.proofs.print.print_onto.Goals as goal
 
-pub returns-in-Ok : goal.returns-in-Ok
-returns-in-Ok c =
+pub returns : goal.returns
+returns c =
+    let written = c.write_layout-written in
     let actions = actions_by c.args.layout.now (control_of c.args.layout.now) c.args.modes c.args.advance c.args.moved.now in
-    prints_fine c.args.recl c.args.begun c.len-end.result c.count_at.result actions (at_hand c.new-page.result c.args.out.now) c.new-page.result c.write_layout.new.page c.args.out.now c.write_layout.new.text
-    c.new-page.ensures.hand c.new-page.ensures.begin c.len-end.ensures c.in-Ok.ensures.done c.in-Ok.ensures.within c.write_layout.ensures.kept c.count_at.ensures
+    is_printed c.args.recl c.args.begun c.len-end.result actions written.result c.counted.result c.new-page.result written.new.page c.args.out.now written.new.text c.counted.new.text
+    c.new-page.ensures.hand c.new-page.ensures.begin written.ensures.kept c.len-end.ensures written.ensures.done (c.counted.ensures c.args.recl actions)
