@@ -169,17 +169,9 @@ impl<'a> Needs for Parts<'a> {
 
     fn id(&self) -> Option<i64> {
         match self.statement {
-            Statement::WaitFor {
-                unit: _,
-                id,
-                iostat: _,
-            } => number_given(self.store, id),
-            Statement::Inquire {
-                about: _,
-                asked: _,
-                id,
-                iostat: _,
-            } => number_given(self.store, id),
+            Statement::WaitFor { id, .. } | Statement::Inquire { id, .. } => {
+                number_given(self.store, id)
+            }
             _ => None,
         }
     }
@@ -187,17 +179,9 @@ impl<'a> Needs for Parts<'a> {
     fn any_referenced<T: RunTest>(&self, test: &T) -> bool {
         match self.statement {
             Statement::Assign { to: _, from } => any_in_operand(self.variables, from, test),
-            Statement::WaitFor {
-                unit: _,
-                id,
-                iostat: _,
-            } => any_given(self.variables, id, test),
-            Statement::Inquire {
-                about: _,
-                asked: _,
-                id,
-                iostat: _,
-            } => any_given(self.variables, id, test),
+            Statement::WaitFor { id, .. } | Statement::Inquire { id, .. } => {
+                any_given(self.variables, id, test)
+            }
             Statement::Transfer(transfer) => any_taken(self.variables, transfer, test),
             _ => false,
         }
@@ -206,26 +190,10 @@ impl<'a> Needs for Parts<'a> {
     fn any_defined<T: RunTest>(&self, test: &T) -> bool {
         match self.statement {
             Statement::Assign { to, from: _ } => any_in_operand(self.variables, to, test),
-            Statement::OpenUnit {
-                unit: _,
-                spec: _,
-                iostat,
-            } => any_if_given(*iostat, test),
-            Statement::CloseUnit {
-                unit: _,
-                keep: _,
-                iostat,
-            } => any_if_given(*iostat, test),
-            Statement::WaitFor {
-                unit: _,
-                id: _,
-                iostat,
-            } => any_if_given(*iostat, test),
-            Statement::Move {
-                how: _,
-                unit: _,
-                iostat,
-            } => any_if_given(*iostat, test),
+            Statement::OpenUnit { iostat, .. }
+            | Statement::CloseUnit { iostat, .. }
+            | Statement::WaitFor { iostat, .. }
+            | Statement::Move { iostat, .. } => any_if_given(*iostat, test),
             Statement::Inquire {
                 about: _,
                 asked,
