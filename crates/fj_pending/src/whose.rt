@@ -1,5 +1,5 @@
 // Which pending transfers a statement waits for (ISO/IEC 1539-1:2004, 9.6).
-ghost use Rattle.std.specs.Prelude.{◌≡◌, List, [], IsTrue};
+ghost use Rattle.std.specs.Prelude.{◌≡◌, ◌↔◌, ◌⊎◌, List, [], IsTrue};
 ghost use Rattle.fj_store.specs.Storage.{values_of};
 ghost use Rattle.fj_store.specs.Variables.{value_at};
 ghost use Rattle.fj_plain.specs.State.{Entry};
@@ -133,7 +133,8 @@ pub fn waits_for(statement: &Statement, store: &Store) -> Whose
 
 /// Whether no transfer can be one that is waited for: the statement waits for none, or none is pending.
 pub fn is_idle(pendings: &Pendings, whose: Whose) -> bool
-    ensures { IsTrue result → waited_of whose (entries pendings.now) ≡ [] }
+    ensures exact { IsTrue result ↔ ((whose ≡ Whose.None) ⊎ (pendings.now ≡ [])) }
+    ensures waited { IsTrue result → waited_of whose (entries pendings.now) ≡ [] }
 {
     if pendings.entries().is_empty() {
         return true;

@@ -8,14 +8,14 @@ use Rattle.fj_runner.proofs.Beginnings.{told_core_of, told_nothing, left_all}
 use Rattle.fj_runner.proofs.beginning.tell_all.Goals as goal
 
 pub returns-then-is_idle-clause-condition : goal.returns-then-is_idle-clause-condition
-returns-then-is_idle-clause-condition c = sym (ap condition_of (c.is_idle.ensures c.if-is_idle.true))
+returns-then-is_idle-clause-condition c = sym (ap condition_of (c.is_idle.ensures.waited c.if-is_idle.true))
 
 pub returns-then-is_idle-clause-core : goal.returns-then-is_idle-clause-core
 returns-then-is_idle-clause-core c = λ variables files kinds.
-    told_nothing variables c.args.line (waited_of c.args.whose (entries c.args.core.now.pending)) (core_of files c.args.core.now) (c.is_idle.ensures c.if-is_idle.true)
+    told_nothing variables c.args.line (waited_of c.args.whose (entries c.args.core.now.pending)) (core_of files c.args.core.now) (c.is_idle.ensures.waited c.if-is_idle.true)
 
 pub returns-then-is_idle-clause-left : goal.returns-then-is_idle-clause-left
-returns-then-is_idle-clause-left c = left_all (waited_of c.args.whose (entries c.args.core.now.pending)) (held c.args.core.now.pending) (c.is_idle.ensures c.if-is_idle.true)
+returns-then-is_idle-clause-left c = left_all (waited_of c.args.whose (entries c.args.core.now.pending)) (held c.args.core.now.pending) (c.is_idle.ensures.waited c.if-is_idle.true)
 
 pub returns-then-is_idle-clause-some : goal.returns-then-is_idle-clause-some
 returns-then-is_idle-clause-some c = (λ h. true, sym (filter_true c.args.core.now.pending))
