@@ -186,11 +186,15 @@ nothing_printed variables vars t o taken taken' low same =
     none_of o (printed_on variables vars t o).0 taken taken'
     (by_tests (is_asynchronous t) (not (is_formatted spec.layout)) (ends_record spec) (printed_by 65536 o.begun (actions_by spec.layout (control_by (Transfer t)) (changed spec.edit usual_edit) spec.advance moved)) o low) same
 
+-- what a layout prints on `*`
+abbrev pub by_layout : Layout → EditModes → Bool → Moved → Output → Output × Condition
+by_layout layout modes advance moved o = printed_to (advance || not (is_explicit layout)) o (printed_by 65536 o.begun (actions_by layout (control_of layout) modes advance moved))
+
 -- what is printed by the layout of the items is what the statement prints
 pub star_is : (variables : List Variable) (vars : Variables) (t : Stated) (o : Output) (moved : Moved) (layout : Layout) (edit : EditChange) (usual modes : EditModes) (advance : Bool)
     → is_asynchronous t ≡ false → is_formatted (layout_of variables moved.cells t.control) ≡ true → moved ≡ moved_in variables vars t → layout ≡ layout_of variables moved.cells t.control
     → edit ≡ (spec_in variables vars t moved.cells).edit → usual ≡ usual_edit → modes ≡ changed edit usual → advance ≡ unwrap_or t.advance true
-    → printed_to (advance || not (is_explicit layout)) o (printed_by 65536 o.begun (actions_by layout (control_of layout) modes advance moved)) ≡ printed_on variables vars t o
+    → by_layout layout modes advance moved o ≡ printed_on variables vars t o
 star_is variables vars t o moved layout edit usual modes advance sync formatted moved_is layout_is edit_is usual_is modes_is advance_is =
     let spec : TransferSpec = spec_in variables vars t moved.cells in
     let control : ℕ → List Given = control_by (Transfer t) in
