@@ -19,7 +19,8 @@ use Rattle.fj_plain.specs.Telling.{count_for, with_size}
 use Rattle.fj_plain.specs.Transfers.{with_number}
 use Rattle.fj_plain.specs.Statement.{converted, assigned}
 use Rattle.fj_items.specs.Kinds.{kinds_of}
-use Rattle.fj_items.proofs.Values.{set_is, cut_is, places_left}
+use Rattle.fj_plain.proofs.Stored.{set_is}
+use Rattle.fj_items.proofs.Values.{cut_is, places_left}
 
 -- ---- cells
 

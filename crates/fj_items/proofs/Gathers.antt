@@ -28,7 +28,8 @@ use Rattle.fj_items.specs.Gathering.{IsPiece, ArePieces, IsGathered, all_items, 
 use Rattle.fj_items.specs.Kinds.{kinds_of}
 use Rattle.fj_items.specs.Shown.{IsOfItems}
 use Rattle.fj_items.specs.declared.gathering.Gathered.{Gathered}
-use Rattle.fj_items.proofs.Values.{kind_is, read_is}
+use Rattle.fj_plain.proofs.Stored.{kind_is}
+use Rattle.fj_items.proofs.Values.{read_is}
 
 -- ---- one piece more
 

@@ -42,7 +42,7 @@ use Rattle.fj_items.specs.Gathering.{IsGathered, all_items}
 use Rattle.fj_items.specs.Kinds.{kinds_of}
 use Rattle.fj_items.specs.declared.gathering.Gathered.{Gathered}
 use Rattle.fj_items.proofs.Gathers.{cell_same, cells_are, run_cells_are, run_sizes}
-use Rattle.fj_items.proofs.Values.{shown}
+use Rattle.fj_plain.proofs.Stored.{shown}
 
 -- ---- places that are made undefined, whether they stand twice or not
 

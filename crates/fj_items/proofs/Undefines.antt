@@ -20,7 +20,8 @@ use Rattle.fj_plain.specs.Needs.{group_places}
 use Rattle.fj_plain.specs.Telling.{with_size}
 use Rattle.fj_plain.specs.Transfers.{moved_in, without_values}
 use Rattle.fj_items.proofs.Takes.{once_undefined}
-use Rattle.fj_items.proofs.Values.{shown, stays_undefined, places_left, no_places_left}
+use Rattle.fj_plain.proofs.Stored.{shown}
+use Rattle.fj_items.proofs.Values.{stays_undefined, places_left, no_places_left}
 
 pub place_undefined : (s new : Storage) (p : Place) → new ≡ with_value s p Undefined → values_of new ≡ plain.with_value (values_of s) p Undefined
 place_undefined s new p put =

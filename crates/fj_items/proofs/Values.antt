@@ -1,9 +1,7 @@
 -- The variables of a store as plain ones.
-use Rattle.std.proofs.Common.{◌≡◌, ℕ, zero, suc, ◌+◌, ◌-◌, ◌<◌, ◌≤◌, cond, Bool, true, false, List, [], ◌∷◌, ◌++◌, length, map, take, replicate, Option, Some, None, unwrap_or, slice_get, refl, sym, ap, ◌∙◌, arith}
-use Rattle.std.proofs.lemmas.Option.{slice_get-map}
+use Rattle.std.proofs.Common.{◌≡◌, ℕ, zero, suc, ◌+◌, ◌-◌, ◌<◌, ◌≤◌, cond, Bool, true, false, List, [], ◌∷◌, ◌++◌, length, take, replicate, Option, Some, None, unwrap_or, refl, sym, ap, ◌∙◌, arith}
 use Rattle.std.specs.Option.{option_map, option_map_or, option_flatten}
 use Rattle.fj_value.specs.declared.kind.Kind.{Kind}
-use Rattle.fj_value.specs.declared.kind.Kind.TheVariants.{Logical}
 use Rattle.fj_value.specs.declared.place.Place.{Place}
 use Rattle.fj_value.specs.declared.value.Cell.{Cell}
 use Rattle.fj_value.specs.declared.value.Value.{Value}
@@ -11,27 +9,15 @@ use Rattle.fj_value.specs.declared.value.Value.TheVariants.{Undefined}
 use Rattle.fj_value.specs.Reading.{assigned_text}
 use Rattle.fj_list.specs.declared.moved.Moved.{Moved}
 use Rattle.fj_statement.specs.declared.deck.Variable.{Variable}
-use Rattle.fj_store.specs.Kinds.{kind_at, is_of_kind, of_kind}
-use Rattle.fj_store.specs.Tables.{element_at, with_element, with_cells}
+use Rattle.fj_store.specs.Kinds.{is_of_kind, of_kind}
+use Rattle.fj_store.specs.Tables.{element_at}
 use Rattle.fj_store.specs.Places.{counted_from}
-use Rattle.fj_store.specs.Storage.{Storage, value_at, with_value, returned, given_back, values_of}
+use Rattle.fj_store.specs.Storage.{Storage, value_at, with_value, given_back, values_of}
 use Rattle.fj_store.specs.Variables as plain
-use Rattle.fj_store.proofs.TableLemmas.{mapped_at, mapped_with}
-use Rattle.fj_plain.specs.Items.{kind_of, value_for}
+use Rattle.fj_store.proofs.TableLemmas.{mapped_at}
 use Rattle.fj_plain.specs.Items as items
+use Rattle.fj_plain.proofs.Stored.{shown, back_is}
 use Rattle.fj_items.specs.Kinds.{kinds_of}
-
--- ---- kinds
-
-or_logical : (o : Option Variable) → unwrap_or (option_map (λ (v : Variable). v.kind) o) Logical ≡ option_map_or (λ (v : Variable). v.kind) o Logical
-or_logical None = refl
-or_logical (Some v) = refl
-
-pub kind_same : (variables : List Variable) (var : ℕ) → kind_at (kinds_of variables) var ≡ kind_of variables var
-kind_same variables var = ap (λ o. unwrap_or o Logical) (slice_get-map (λ (v : Variable). v.kind) variables var) ∙ or_logical (slice_get variables var)
-
-pub kind_is : (variables : List Variable) (kinds : List Kind) (var : ℕ) → kinds ≡ kinds_of variables → kind_at kinds var ≡ kind_of variables var
-kind_is variables kinds var e = ap (λ ks. kind_at ks var) e ∙ kind_same variables var
 
 same_both : (b : Bool) (v : Value) → cond b v v ≡ v
 same_both true v = refl
@@ -43,9 +29,6 @@ stays_undefined kind = same_both (is_of_kind kind Undefined) Undefined
 
 -- ---- a place gets a value
 
-abbrev pub shown : Option Value → Value
-shown o = unwrap_or o Undefined
-
 flat_shown : (o : Option (Option Value)) → unwrap_or (option_map shown o) Undefined ≡ shown (option_flatten o)
 flat_shown None = refl
 flat_shown (Some None) = refl
@@ -55,30 +38,10 @@ flat_shown (Some (Some v)) = refl
 pub read_is : (s : Storage) (p : Place) → plain.value_at (values_of s) p ≡ shown (value_at s p)
 read_is s p = ap (λ o. unwrap_or o Undefined) (mapped_at shown s.values p) ∙ flat_shown (element_at s.values p)
 
-pub set_is : (variables : List Variable) (s new : Storage) (p : Place) (v : Value) → s.kinds ≡ kinds_of variables → new ≡ with_value s p v
-    → values_of new ≡ plain.with_value (values_of s) p (of_kind (kind_of variables p.var) v)
-set_is variables s new p v kinds put =
-    ap values_of put
-    ∙ mapped_with shown s.values p (Some (of_kind (kind_at s.kinds p.var) v))
-    ∙ ap (λ k. with_element (values_of s) p (of_kind k v)) (kind_is variables s.kinds p.var kinds)
-
 pub kinds_stay : (s new : Storage) (p : Place) (v : Value) → new ≡ with_value s p v → new.kinds ≡ s.kinds
 kinds_stay s new p v put = ap (λ z. z.kinds) put
 
 -- ---- cells come back
-
-back_rows : (variables : List Variable) (kinds : List Kind) (cells : List Cell) (rows : List (List (Option Value))) → kinds ≡ kinds_of variables
-    → map (map shown) (with_cells (returned kinds) cells rows) ≡ with_cells (value_for variables) cells (map (map shown) rows)
-back_rows variables kinds [] rows same = refl
-back_rows variables kinds (c ∷ cells) rows same =
-    back_rows variables kinds cells (with_element rows c.place (returned kinds c)) same
-    ∙ ap (with_cells (value_for variables) cells) (
-    mapped_with shown rows c.place (returned kinds c)
-    ∙ ap (λ k. with_element (map (map shown) rows) c.place (of_kind k c.value)) (kind_is variables kinds c.place.var same))
-
-pub back_is : (variables : List Variable) (s new : Storage) (cells : List Cell) → s.kinds ≡ kinds_of variables → new ≡ given_back cells s
-    → values_of new ≡ items.given_back variables cells (values_of s)
-back_is variables s new cells kinds back = ap values_of back ∙ back_rows variables s.kinds cells s.values kinds
 
 -- what a transfer moved, where it came back
 abbrev pub cells_in : Option Moved → List Cell

@@ -1,57 +1,15 @@
 -- What comes back to the variables.
-use Rattle.std.proofs.Common.{◌≡◌, ℕ, ◌<◌, pos, false, List, [], ◌∷◌, map, slice_get, Option, Some, None, refl, sym, ap, ◌∙◌, arith}
-use Rattle.std.specs.Prelude.{if◌then◌else◌, nat_lt, unwrap_or}
-use Rattle.std.specs.Option.{option_map, option_map_or}
+use Rattle.std.proofs.Common.{◌≡◌, ℕ, ◌<◌, pos, false, refl, sym, ap, arith}
+use Rattle.std.specs.Prelude.{if◌then◌else◌, nat_lt}
 use Rattle.std.proofs.lemmas.Bool.Decides.{nat_tests}
-use Rattle.std.proofs.lemmas.Option.{slice_get-map}
 use Rattle.fj_value.specs.declared.condition.Condition.{Condition}
 use Rattle.fj_value.specs.declared.condition.Condition.TheVariants.{Fine, EndOfFile, EndOfRecord, Error}
 use Rattle.fj_value.specs.declared.kind.Kind.{Kind}
 use Rattle.fj_value.specs.declared.kind.Kind.TheVariants.{Int4, Int8, Logical, Chars}
-use Rattle.fj_value.specs.declared.place.Place.{Place}
-use Rattle.fj_value.specs.declared.value.Cell.{Cell}
-use Rattle.fj_value.specs.declared.value.Value.{Value}
 use Rattle.fj_value.specs.declared.value.Value.TheVariants as value
-use Rattle.fj_statement.specs.declared.deck.Variable.{Variable}
-use Rattle.fj_store.specs.Kinds.{kind_at, of_kind}
-use Rattle.fj_store.specs.Tables.{with_element, with_cells}
-use Rattle.fj_store.specs.Storage.{Storage, values_of, returned}
-use Rattle.fj_store.specs.Storage as storage
-use Rattle.fj_store.specs.Variables.{with_value}
-use Rattle.fj_store.proofs.TableLemmas.{mapped_with}
-use Rattle.fj_plain.specs.Items.{kind_of, number_for, given_back}
+use Rattle.fj_store.specs.Kinds.{of_kind}
+use Rattle.fj_plain.specs.Items.{number_for}
 use Rattle.fj_plain.specs.Telling.{graver}
-
--- ---- kept variables as plain ones
-
-abbrev pub AreKinds : List Kind → List Variable → Type 0
-AreKinds kinds variables = kinds ≡ map (λ (v : Variable). v.kind) variables
-
-kind_same : (kinds : List Kind) (variables : List Variable) (var : ℕ) → AreKinds kinds variables → kind_at kinds var ≡ kind_of variables var
-kind_same kinds variables var are =
-    ap (λ ks. kind_at ks var) are ∙ ap (λ o. unwrap_or o Logical) (slice_get-map (λ (v : Variable). v.kind) variables var) ∙ go (slice_get variables var)
-  where
-    go : (o : Option Variable) → unwrap_or (option_map (λ (v : Variable). v.kind) o) Logical ≡ option_map_or (λ (v : Variable). v.kind) o Logical
-    go None = refl
-    go (Some v) = refl
-
--- a place gets a value as its kind has it
-pub set_plain : (s : Storage) (variables : List Variable) (p : Place) (v : Value) → AreKinds s.kinds variables → values_of (storage.with_value s p v) ≡ with_value (values_of s) p (of_kind (kind_of variables p.var) v)
-set_plain s variables p v are =
-    mapped_with (λ o. unwrap_or o value.Undefined) s.values p (Some (of_kind (kind_at s.kinds p.var) v))
-    ∙ ap (λ k. with_element (values_of s) p (of_kind k v)) (kind_same s.kinds variables p.var are)
-
-cells_plain : (kinds : List Kind) (variables : List Variable) (cells : List Cell) (values : List (List (Option Value))) → AreKinds kinds variables
-    → map (map (λ o. unwrap_or o value.Undefined)) (with_cells (returned kinds) cells values) ≡ given_back variables cells (map (map (λ o. unwrap_or o value.Undefined)) values)
-cells_plain kinds variables [] values are = refl
-cells_plain kinds variables (cell ∷ cells) values are =
-    cells_plain kinds variables cells (with_element values cell.place (returned kinds cell)) are
-    ∙ ap (given_back variables cells) (mapped_with (λ o. unwrap_or o value.Undefined) values cell.place (returned kinds cell)
-    ∙ ap (λ k. with_element (map (map (λ o. unwrap_or o value.Undefined)) values) cell.place (of_kind k cell.value)) (kind_same kinds variables cell.place.var are))
-
--- cells come back
-pub given_plain : (s : Storage) (variables : List Variable) (cells : List Cell) → AreKinds s.kinds variables → values_of (storage.given_back cells s) ≡ given_back variables cells (values_of s)
-given_plain s variables cells are = cells_plain s.kinds variables cells s.values are
 
 -- ---- SIZE=
 

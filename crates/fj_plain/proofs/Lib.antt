@@ -13,3 +13,4 @@ pub mod AtOnce
 pub mod Skipping
 pub mod Numerals
 pub mod Declared
+pub mod Stored

@@ -1,4 +1,4 @@
-use Rattle.fj_items.proofs.Values.{back_is}
+use Rattle.fj_plain.proofs.Stored.{back_is}
 use Rattle.fj_items.proofs.giving.give_back.Goals as goal
 
 pub returns-clause-vars : goal.returns-clause-vars
