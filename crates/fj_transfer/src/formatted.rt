@@ -1,5 +1,5 @@
 // Formatted output of sequential and stream access (ISO/IEC 1539-1:2004, 9.5.3): records as the last of the file.
-ghost use Rattle.std.specs.Prelude.{◌≡◌, ◌≢◌, ◌+◌, ◌≤◌, ◌++◌, ◌||◌, ◌↔◌, true, not, length, IfOk, OnOk, OnErr, All, List, ℕ};
+ghost use Rattle.std.specs.Prelude.{◌≡◌, ◌≢◌, ◌+◌, ◌≤◌, ◌||◌, ◌↔◌, true, not, length, IfOk, OnErr, All, List, ℕ};
 ghost use Rattle.fj_value.specs.declared.value.Cell.{Cell};
 ghost use Rattle.fj_outside.specs.Faults.{Rose};
 ghost use Rattle.fj_span.specs.Change.{KeepsUpToChange};
@@ -12,6 +12,7 @@ ghost use Rattle.fj_transfer.specs.Printing.{IsRecords, actions_by, control_of, 
 ghost use Rattle.fj_transfer.specs.Transfer.{told_with, is_explicit, text_written, lines_written};
 
 use crate::print::print_onto;
+use crate::room::record_room;
 use crate::transfer::Layout;
 use fj_connect::{Connection, Within};
 use fj_line::Unwritten;
@@ -98,15 +99,15 @@ fn put_text<F: FileStore>(
     Ok(Condition::Fine)
 }
 
-/// Adds the line feed that output lacks where it begins.
-fn put_feed<F: FileStore>(
+/// The text that an output begins with, which has the line feed that output lacks there, or nothing.
+fn feed<F: FileStore>(
+    alloc: Global,
     connection: &mut Connection<F>,
     place: Option<u64>,
-    out: &mut Text,
-) -> Result<(), Stop>
+) -> Result<Text, Stop>
     ensures telling { F.tells connection.old.file ↔ F.tells connection.new.file }
     ensures same { F.tells connection.old.file → F.bytes connection.new.file ≡ F.bytes connection.old.file }
-    ensures feed { F.tells connection.old.file → OnOk result (out.new ≡ out.old ++ feed_at place (connection_of F.bytes connection.old)) }
+    ensures feed { F.tells connection.old.file → IfOk result (λ out. out ≡ feed_at place (connection_of F.bytes connection.old)) }
 
     // Told or not.
     ensures rest { connection.new ≡ record connection.old { file = connection.new.file } }
@@ -114,17 +115,19 @@ fn put_feed<F: FileStore>(
     ensures later { F.count connection.old.file ≤ F.count connection.new.file }
     ensures failed { result ≡ Err Stop.Failed → Rose (F.count connection.old.file) (F.count connection.new.file) }
 {
+    let mut out = record_room(alloc)?;
     let spot = connection.spot();
     if place.is_some() || spot.within != Within::Outside || spot.at == 0 {
-        return Ok(());
+        return Ok(out);
     }
-    let mut byte = Text::new(out.allocator());
-    let there = connection.read_bytes(spot.at - 1, 1, &mut byte)?;
-    if there && byte.bytes()[0] == b'\n' {
-        return Ok(());
+    let there = connection.read_bytes(spot.at - 1, 1, &mut out)?;
+    let ended = there && out.bytes()[0] == b'\n';
+    out.clear();
+    if ended {
+        return Ok(out);
     }
     out.push_all(b"\n")?;
-    Ok(())
+    Ok(out)
 }
 
 /// Whether the last record of an output ends.
@@ -173,8 +176,7 @@ pub fn write_lines<F: FileStore>(
     let begun = begun_at(connection, place);
     let recl = connection.modes().recl;
     let ends = ends_record(layout, advance);
-    let mut out = Text::new(alloc);
-    put_feed(connection, place, &mut out)?;
+    let mut out = feed(alloc, connection, place)?;
     match print_onto(layout, advance, modes, moved, recl, begun, &mut out) {
         Ok(count) => put_text(connection, place, out.bytes(), ends, count),
         Err(Unwritten::Met(condition)) => Ok(condition),

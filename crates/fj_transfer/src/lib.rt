@@ -17,6 +17,7 @@ mod pieces;
 mod print;
 mod reached;
 mod reader;
+mod room;
 mod run;
 mod stored;
 mod transfer;

@@ -18,6 +18,7 @@ ghost use Rattle.fj_transfer.specs.Transfer.{told_with, output_done, with_pieces
 ghost use Rattle.fj_transfer.specs.Writing.{items_of_writer, texts_left, actions_left, Fills, HasPieces};
 
 use crate::formatted::begun_at;
+use crate::room::record_room;
 use crate::writer::Writer;
 use fj_connect::Connection;
 use fj_control::{Cursor, Step};
@@ -83,7 +84,7 @@ fn fill_records(
 ) -> Result<(), Unwritten>
     ensures { Fills recl (printed_by recl begun (explicit_actions modes true format.now (items_left items.entry))) run.old result run.new }
 {
-    let mut text = Text::new(run.allocator());
+    let mut text = record_room(run.allocator())?;
     let page = Page::new(&text, recl, begun);
     let mut writer = Writer {
         page,
@@ -164,7 +165,7 @@ pub fn write_numbered<F: FileStore>(
     let recl = connection.modes().recl;
     let begun = begun_at(connection, None);
     let items = moved.items();
-    let mut run = Text::new(alloc);
+    let mut run = record_room(alloc)?;
     match fill_records(format, modes, items, recl, begun, &mut run) {
         Ok(()) => put_pieces(connection, number, run.bytes()),
         Err(Unwritten::Met(condition)) => Ok(condition),

@@ -7,6 +7,7 @@ ghost use Rattle.fj_list.specs.ListInput.{kind_at, places_of, with_value};
 ghost use Rattle.fj_list.specs.Moved.{IsOrdered};
 ghost use Rattle.fj_transfer.specs.Transfer.{widths, bytes_of, body_of, values_from};
 
+use crate::room::record_room;
 use fj_list::{Cells, Load, Shape, define};
 use fj_unfrec::{get_value, put_value};
 use fj_value::{Cell, Kind, Text, Value};
@@ -93,7 +94,7 @@ pub fn body_of(alloc: Global, moved: &Load) -> Result<Text, AllocError>
     requires { IsOrdered moved.now }
     ensures { IfOk result (λ body. body ≡ body_of moved.now) }
 {
-    let mut body = Text::new(alloc);
+    let mut body = record_room(alloc)?;
     put_load(moved, &mut body)?;
     Ok(body)
 }
@@ -103,7 +104,8 @@ pub fn frame_of(alloc: Global, moved: &Load) -> Result<Text, AllocError>
     requires { IsOrdered moved.now }
     ensures { IfOk result (λ frame. frame ≡ framed (body_of moved.now)) }
 {
-    let mut frame = Text::from_bytes(alloc, &[0; 4])?;
+    let mut frame = record_room(alloc)?;
+    frame.push_all(&[0; 4])?;
     put_load(moved, &mut frame)?;
     let length = (frame.len() as u64 - 4).to_le_bytes();
     frame.write_over(0, &length[..4]);

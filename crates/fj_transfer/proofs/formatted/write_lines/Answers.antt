@@ -22,18 +22,18 @@ returns-in-Ok-clause-written g c = λ t.
     let actions = actions_by c.args.layout.now (control_of c.args.layout.now) c.args.modes c.args.advance c.args.moved.now in
     let out = c.print_onto.new.out in
     let count = c.in-Ok.count in
-    let same : connection_of bytes c.put_feed.new.connection ≡ old = same_connection bytes now c.put_feed.new.connection c.put_feed.ensures.rest (c.put_feed.ensures.same t) in
-    let fed : c.put_feed.new.out ≡ feed_at place old = rw c.new-out.ensures at (c.in_ok-put_feed.ensures.feed t) in
+    let same : connection_of bytes c.feed.new.connection ≡ old = same_connection bytes now c.feed.new.connection c.feed.ensures.rest (c.feed.ensures.same t) in
+    let fed : c.in_ok-out.out ≡ feed_at place old = c.in_ok-out.ensures.feed t in
     let limit : c.modes.result.now.recl ≡ at.modes.recl = ap (λ (m : Modes). m.recl) (c.modes.ensures.value ∙ sym (placed_modes place old)) in
-    let shown : c.bytes.result.now ≡ out = cc (c.bytes.ensures, c.out-2.view_is) in
-    let is : text_written (connection_of bytes c.put_feed.new.connection) (at_place place (connection_of bytes c.put_feed.new.connection)) c.ends_record-ends.result cells c.bytes.result.now count
+    let shown : c.bytes.result.now ≡ out = cc c.bytes.ensures in
+    let is : text_written (connection_of bytes c.feed.new.connection) (at_place place (connection_of bytes c.feed.new.connection)) c.ends_record-ends.result cells c.bytes.result.now count
     ≡ lines_written old at (feed_at place old) ends cells (printed_by at.modes.recl (begun at) actions) =
     ap (λ (m : Connection). text_written m (at_place place m) c.ends_record-ends.result cells c.bytes.result.now count) same
     ∙ ap (λ (b : Bool). text_written old at b cells c.bytes.result.now count) c.ends_record-ends.ensures
     ∙ ap (λ (l : List ℕ). text_written old at ends cells l count) shown
-    ∙ lines_printed old at (feed_at place old) ends cells actions c.put_feed.new.out out count c.begun_at-begun.result c.modes.result.now.recl c.begun_at-begun.ensures.begun limit fed c.in-Ok.ensures in
+    ∙ lines_printed old at (feed_at place old) ends cells actions c.in_ok-out.out out count c.begun_at-begun.result c.modes.result.now.recl c.begun_at-begun.ensures.begun limit fed c.in-Ok.ensures in
     let P : Done → Type 0 = λ d. IfOk c.put_text.result (λ condition. told_with (connection_of bytes c.put_text.new.connection) cells condition ≡ d) in
-    subst P is (c.put_text.ensures.written (c.put_feed.ensures.telling.0 t) cells)
+    subst P is (c.put_text.ensures.written (c.feed.ensures.telling.0 t) cells)
 
 pub returns-in-Ok-clause-stopped : goal.returns-in-Ok-clause-stopped
 returns-in-Ok-clause-stopped g c = λ t.
@@ -47,16 +47,16 @@ returns-in-Ok-clause-stopped g c = λ t.
     let actions = actions_by c.args.layout.now (control_of c.args.layout.now) c.args.modes c.args.advance c.args.moved.now in
     let out = c.print_onto.new.out in
     let count = c.in-Ok.count in
-    let same : connection_of bytes c.put_feed.new.connection ≡ old = same_connection bytes now c.put_feed.new.connection c.put_feed.ensures.rest (c.put_feed.ensures.same t) in
-    let fed : c.put_feed.new.out ≡ feed_at place old = rw c.new-out.ensures at (c.in_ok-put_feed.ensures.feed t) in
+    let same : connection_of bytes c.feed.new.connection ≡ old = same_connection bytes now c.feed.new.connection c.feed.ensures.rest (c.feed.ensures.same t) in
+    let fed : c.in_ok-out.out ≡ feed_at place old = c.in_ok-out.ensures.feed t in
     let limit : c.modes.result.now.recl ≡ at.modes.recl = ap (λ (m : Modes). m.recl) (c.modes.ensures.value ∙ sym (placed_modes place old)) in
-    let shown : c.bytes.result.now ≡ out = cc (c.bytes.ensures, c.out-2.view_is) in
-    let is : text_written (connection_of bytes c.put_feed.new.connection) (at_place place (connection_of bytes c.put_feed.new.connection)) c.ends_record-ends.result cells c.bytes.result.now count
+    let shown : c.bytes.result.now ≡ out = cc c.bytes.ensures in
+    let is : text_written (connection_of bytes c.feed.new.connection) (at_place place (connection_of bytes c.feed.new.connection)) c.ends_record-ends.result cells c.bytes.result.now count
     ≡ lines_written old at (feed_at place old) ends cells (printed_by at.modes.recl (begun at) actions) =
     ap (λ (m : Connection). text_written m (at_place place m) c.ends_record-ends.result cells c.bytes.result.now count) same
     ∙ ap (λ (b : Bool). text_written old at b cells c.bytes.result.now count) c.ends_record-ends.ensures
     ∙ ap (λ (l : List ℕ). text_written old at ends cells l count) shown
-    ∙ lines_printed old at (feed_at place old) ends cells actions c.put_feed.new.out out count c.begun_at-begun.result c.modes.result.now.recl c.begun_at-begun.ensures.begun limit fed c.in-Ok.ensures in
-    let P : Done → Type 0 = λ d. OnErr c.put_text.result (KeepsUpToChange (bytes c.put_feed.new.connection.file) d.connection.bytes (bytes c.put_text.new.connection.file)) in
+    ∙ lines_printed old at (feed_at place old) ends cells actions c.in_ok-out.out out count c.begun_at-begun.result c.modes.result.now.recl c.begun_at-begun.ensures.begun limit fed c.in-Ok.ensures in
+    let P : Done → Type 0 = λ d. OnErr c.put_text.result (KeepsUpToChange (bytes c.feed.new.connection.file) d.connection.bytes (bytes c.put_text.new.connection.file)) in
     let Q : List ℕ → Type 0 = λ b. OnErr c.put_text.result (KeepsUpToChange b (lines_written old at (feed_at place old) ends cells (printed_by at.modes.recl (begun at) actions)).connection.bytes (bytes c.put_text.new.connection.file)) in
-    subst Q (c.put_feed.ensures.same t) (subst P is (c.put_text.ensures.stopped (c.put_feed.ensures.telling.0 t) cells))
+    subst Q (c.feed.ensures.same t) (subst P is (c.put_text.ensures.stopped (c.feed.ensures.telling.0 t) cells))

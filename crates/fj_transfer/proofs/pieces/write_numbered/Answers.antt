@@ -24,8 +24,8 @@ returns-in-Ok-clause-written g c = λ t.
     let run = c.bytes.result.now in
     let limit : c.modes.result.now.recl ≡ recl = ap (λ (m : Modes). m.recl) c.modes.ensures.value in
     let there : items_left c.items-items.result ≡ items = c.items-items.ensures in
-    let h = filled_as c.args.modes c.args.format.now c.modes.result.now.recl recl c.begun_at-begun.result (begun old) (items_left c.items-items.result) items c.new-run.result c.fill_records.new.run run limit
-    c.begun_at-begun.ensures.begun there c.new-run.ensures c.bytes.ensures c.in-Ok.ensures in
+    let h = filled_as c.args.modes c.args.format.now c.modes.result.now.recl recl c.begun_at-begun.result (begun old) (items_left c.items-items.result) items c.in_ok-run.run' c.fill_records.new.run run limit
+    c.begun_at-begun.ensures.begun there c.in_ok-run.ensures c.bytes.ensures c.in-Ok.ensures in
     let P : Done → Type 0 = λ d. IfOk c.put_pieces.result (λ condition. told_with (connection_of bytes c.put_pieces.new.connection) cells condition ≡ d) in
     subst P (written_filled recl (printed_by recl (begun old) (explicit_actions c.args.modes true c.args.format.now items)) old at cells run h) (c.put_pieces.ensures.written t cells h.p.records h.has)
 
@@ -40,7 +40,7 @@ returns-in-Ok-clause-stopped g c = λ t.
     let run = c.bytes.result.now in
     let limit : c.modes.result.now.recl ≡ recl = ap (λ (m : Modes). m.recl) c.modes.ensures.value in
     let there : items_left c.items-items.result ≡ items = c.items-items.ensures in
-    let h = filled_as c.args.modes c.args.format.now c.modes.result.now.recl recl c.begun_at-begun.result (begun old) (items_left c.items-items.result) items c.new-run.result c.fill_records.new.run run limit
-    c.begun_at-begun.ensures.begun there c.new-run.ensures c.bytes.ensures c.in-Ok.ensures in
+    let h = filled_as c.args.modes c.args.format.now c.modes.result.now.recl recl c.begun_at-begun.result (begun old) (items_left c.items-items.result) items c.in_ok-run.run' c.fill_records.new.run run limit
+    c.begun_at-begun.ensures.begun there c.in_ok-run.ensures c.bytes.ensures c.in-Ok.ensures in
     let P : Done → Type 0 = λ d. OnErr c.put_pieces.result (KeepsUpToChange (bytes c.args.connection.now.file) d.connection.bytes (bytes c.put_pieces.new.connection.file)) in
     subst P (written_filled recl (printed_by recl (begun old) (explicit_actions c.args.modes true c.args.format.now items)) old at cells run h) (c.put_pieces.ensures.stopped t cells h.p.records h.has)
