@@ -31,7 +31,7 @@ pub(crate) fn copied(
     ensures causes { (result ≢ Err Lost.Disk) × (result ≢ Err Lost.Sink) }
 {
     if let Some(run) = only_run(variables, t) {
-        return Ok(store.copy_alone(alloc, run)?);
+        return Ok(store.copy_of_run(alloc, run)?);
     }
     let gathered = gather(alloc, variables, t)?;
     let moved = store.copy_of(alloc, gathered.pieces, gathered.size)?;
@@ -53,7 +53,7 @@ pub(crate) fn size_copied(
     let Some(place) = size else {
         return Ok(None);
     };
-    let mut load = store.copy_alone(alloc, Run::of_place(place))?;
+    let mut load = store.copy_of_run(alloc, Run::of_place(place))?;
     let moved = load.take(alloc)?;
     Ok(Some(moved))
 }

@@ -1,5 +1,5 @@
 // The variables of a deck: what their places hold, and taking values out and giving them back.
-ghost use Rattle.std.specs.Prelude.{◌≡◌, ◌<◌, ◌≤◌, ◌∷◌, [], true, length, map, replicate, IfSome, IfNone, IfOk, OnOk, OnErr};
+ghost use Rattle.std.specs.Prelude.{◌≡◌, ◌<◌, ◌≤◌, true, length, map, replicate, IfSome, IfNone, IfOk, OnOk, OnErr};
 ghost use Rattle.std.specs.List.{list_any};
 ghost use Rattle.std.specs.Option.{option_copied};
 ghost use Rattle.fj_list.specs.Load.{moved_row};
@@ -10,7 +10,6 @@ ghost use Rattle.fj_store.specs.Storage.{all_undefined, value_at, cell_at, with_
 ghost use Rattle.fj_store.specs.Variables.{moved_of, is_undefined, value_at as plain_value};
 ghost use Rattle.fj_store.specs.Pieces.{cells_in, sizes};
 ghost use Rattle.fj_store.specs.Taking.{home};
-ghost use Rattle.fj_store.specs.declared.piece.Piece.TheVariants.{Places};
 ghost use Rattle.fj_store.specs.declared.slot.Slot.TheVariants.{Home};
 ghost use Rattle.fj_value.specs.declared.value.Value.TheVariants.{Undefined};
 
@@ -79,19 +78,6 @@ fn put_row(slots: &mut Slots, kinds: &[Kind], row: Row)
         };
         slots.put(place, Slot::Home(0, of_kind(kind, value)));
         at += 1u64;
-    }
-}
-
-/// The run that the items are, where they are one run that has places.
-fn only_run(pieces: &VecDeque<Piece>) -> Option<Run>
-    ensures { IfSome result (λ run. pieces.now.items ≡ Places run ∷ []) }
-{
-    if pieces.len() != 1 {
-        return None;
-    }
-    match pieces.front() {
-        Some(Piece::Places(run)) => Some(*run),
-        Some(Piece::Own(_, _)) | None => None,
     }
 }
 
@@ -191,42 +177,13 @@ impl Store {
     }
 
     /// Copies the values of a run, whose places are distinct, in their order; none where the variable has not all of them.
-    fn copy_of_run(&self, alloc: Global, run: Run) -> Result<Option<Load>, AllocError>
+    fn copied_run(&self, alloc: Global, run: Run) -> Result<Option<Load>, AllocError>
         ensures { IfOk result (λ o. IfSome o (λ load. load ≡ moved_of (map (cell_at self.now) (places_of run)))) }
     {
         let Some(row) = self.row(run) else {
             return Ok(None);
         };
         Ok(Some(row.copied(alloc)?))
-    }
-
-    /// Copies the values of so many items, each place once, in the order of the items. It changes nothing.
-    fn copy_of_pieces(
-        &mut self,
-        alloc: Global,
-        pieces: VecDeque<Piece>,
-        size: u32,
-    ) -> Result<Moved, AllocError>
-        requires { sizes pieces.items ≤ size }
-        ensures moved { IfOk result (λ moved. moved ≡ moved_of (cells_in self.old pieces.items)) }
-        ensures same { self.new ≡ self.old }
-    {
-        let mut taken = room_for(alloc, size as usize)?;
-        copy_pieces(&mut self.slots, &self.kinds, pieces, &mut taken)?;
-        Ok(taken.into_moved())
-    }
-
-    /// Copies the values of one run, in their order. One that is moved out has an undefined value. It changes nothing.
-    pub fn copy_alone(&mut self, alloc: Global, run: Run) -> Result<Load, AllocError>
-        ensures moved { IfOk result (λ load. load ≡ moved_of (map (cell_at self.old) (places_of run))) }
-        ensures same { self.new ≡ self.old }
-    {
-        if let Some(load) = self.copy_of_run(alloc, run)? {
-            return Ok(load);
-        }
-        let mut pieces = VecDeque::new(alloc);
-        pieces.push_back(Piece::Places(run))?;
-        Ok(Load::of_cells(self.copy_of_pieces(alloc, pieces, run.count)?))
     }
 
     /// Copies the values of so many items, each place once, in the order of the items. One that is moved out has an undefined
@@ -241,15 +198,25 @@ impl Store {
         ensures moved { IfOk result (λ load. load ≡ moved_of (cells_in self.old pieces.items)) }
         ensures same { self.new ≡ self.old }
     {
-        if let Some(run) = only_run(&pieces) {
-            if let Some(load) = self.shared_run(alloc, run)? {
-                return Ok(load);
-            }
-            if let Some(load) = self.copy_of_run(alloc, run)? {
-                return Ok(load);
-            }
+        let mut taken = room_for(alloc, size as usize)?;
+        copy_pieces(&mut self.slots, &self.kinds, pieces, &mut taken)?;
+        Ok(Load::of_cells(taken.into_moved()))
+    }
+
+    /// The same of one run. Where that is all of a long variable, the variable and the copy share the values.
+    pub fn copy_of_run(&mut self, alloc: Global, run: Run) -> Result<Load, AllocError>
+        ensures moved { IfOk result (λ load. load ≡ moved_of (map (cell_at self.old) (places_of run))) }
+        ensures same { self.new ≡ self.old }
+    {
+        if let Some(load) = self.shared_run(alloc, run)? {
+            return Ok(load);
         }
-        Ok(Load::of_cells(self.copy_of_pieces(alloc, pieces, size)?))
+        if let Some(load) = self.copied_run(alloc, run)? {
+            return Ok(load);
+        }
+        let mut pieces = VecDeque::new(alloc);
+        pieces.push_back(Piece::Places(run))?;
+        self.copy_of(alloc, pieces, run.count)
     }
 
     /// Puts the values of cells back to their places. One of another kind than its place leaves that undefined.

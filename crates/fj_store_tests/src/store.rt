@@ -174,27 +174,16 @@ fn items_are_copied(rt: HostRuntime) -> Result<(), Fail> {
 /// An array of integers that is long enough to be shared.
 static LONG: [(Kind, u32); 1] = [(Kind::Int4, 64)];
 
-/// The whole of it as an item.
-fn whole(alloc: Global) -> Result<VecDeque<Piece>, AllocError>
-    ensures { IfOk result (λ pieces. sizes pieces.items ≡ 64) }
-{
+/// Copies the whole of it, once more where memory was refused.
+fn copy_whole(store: &mut Store, alloc: Global) -> Option<Load> {
     let run = Run {
         var: 0,
         first: 1,
         count: 64,
     };
-    let mut pieces = VecDeque::new(alloc);
-    pieces.push_back(Piece::Places(run))?;
-    Ok(pieces)
-}
-
-/// Copies it, once more where memory was refused.
-fn copy_whole(store: &mut Store, alloc: Global) -> Option<Load> {
     for _ in 0..2u8 {
-        if let Ok(pieces) = whole(alloc) {
-            if let Ok(load) = store.copy_of(alloc, pieces, 64) {
-                return Some(load);
-            }
+        if let Ok(load) = store.copy_of_run(alloc, run) {
+            return Some(load);
         }
     }
     None

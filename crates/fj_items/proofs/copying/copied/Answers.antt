@@ -14,7 +14,7 @@ returns-clause-numbered c =
     numbered (cells_in c.args.store.now c.in_ok-gathered.gathered.pieces.items) c.in_ok-moved.moved c.in_ok-moved.ensures.moved (omega (arith, size, cells))
 
 pub returns-in-Some-clause-moved : goal.returns-in-Some-clause-moved
-returns-in-Some-clause-moved c = c.in_ok-copy_alone.ensures.moved ∙ alone_is c.args.variables.now c.args.store.now c.args.t.now c.in-Some.run' c.requires c.in-Some.ensures
+returns-in-Some-clause-moved c = c.in_ok-copy_of_run.ensures.moved ∙ alone_is c.args.variables.now c.args.store.now c.args.t.now c.in-Some.run' c.requires c.in-Some.ensures
 
 pub returns-in-Some-clause-numbered : goal.returns-in-Some-clause-numbered
-returns-in-Some-clause-numbered c = run_numbered c.args.store.now c.in-Some.run' c.in_ok-copy_alone.value c.in_ok-copy_alone.ensures.moved (omega arith)
+returns-in-Some-clause-numbered c = run_numbered c.args.store.now c.in-Some.run' c.in_ok-copy_of_run.value c.in_ok-copy_of_run.ensures.moved (omega arith)
