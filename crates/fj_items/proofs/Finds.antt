@@ -105,6 +105,13 @@ numbered cells moved made few =
     let low : length (moved_of cells).cells < 2 ^ 32 = let e = c.cells in omega (arith, e, few) in
     subst IsNumbered (sym made) (record { distinct = all_distinct cells (record { cells = []; order = [] }) refl; ordered = c.ordered; few = items; cells = low })
 
+-- those of one run
+pub run_numbered : (s : Storage) (run : Run) (moved : Moved) → moved ≡ moved_of (map (cell_at s) (run_places_of run)) → run.count < 2 ^ 32 → IsNumbered moved
+run_numbered s run moved made few =
+    let mapped : length (map (cell_at s) (run_places_of run)) ≡ length (run_places_of run) = length-map (run_places_of run) (cell_at s) in
+    let count : length (run_places_of run) ≡ run.count = length-counted_from run.var run.first run.count in
+    numbered (map (cell_at s) (run_places_of run)) moved made (omega (arith, mapped, count, few))
+
 pub length-cells : (s : Storage) (n : ℕ) (pieces : List Piece) → length (cells_from s n pieces) ≡ sizes pieces
 length-cells s n [] = refl
 length-cells s n (Own kind v ∷ pieces) = let rest = length-cells s (n + 1) pieces in omega (arith, rest)

@@ -26,7 +26,6 @@ use Rattle.fj_plain.specs.Needs.{group_places}
 use Rattle.fj_plain.specs.Transfers.{moved_in}
 use Rattle.fj_items.specs.Gathering.{IsPiece, ArePieces, IsGathered, all_items, members_in}
 use Rattle.fj_items.specs.Kinds.{kinds_of}
-use Rattle.fj_items.specs.Shown.{IsOfItems}
 use Rattle.fj_items.specs.declared.gathering.Gathered.{Gathered}
 use Rattle.fj_items.proofs.Values.{kind_is, read_is}
 
@@ -141,12 +140,6 @@ alone variables t slice item run same one is none h =
     only [] x one = absurd (omega (arith, one))
     only (y ∷ []) x one = refl
     only (y ∷ z ∷ zs) x one = absurd (omega (arith, one))
-
-pub no_group : (c : Control) → IsOfItems c → members_in c ≡ []
-no_group control.Unformatted h = refl
-no_group (control.Explicit f) h = refl
-no_group control.Listed h = refl
-no_group (control.Group name vars) h = absurd h
 
 pub alone_is : (variables : List Variable) (s : Storage) (t : Transfer) (run : Run) → s.kinds ≡ kinds_of variables → ArePieces variables (all_items t) (Places run ∷ []) → moved_of (map (cell_at s) (places_of run)) ≡ moved_in variables (values_of s) t
 alone_is variables s t run kinds h =

@@ -128,18 +128,8 @@ pub one_cell : (variables : List Variable) (vars : Variables) (at : Option Place
 one_cell variables vars None size e = ap (λ o. option_map_or (λ (m : Moved). length m.cells) o 1) e
 one_cell variables vars (Some p) size e = ap (λ o. option_map_or (λ (m : Moved). length m.cells) o 1) e
 
-pub pushed_alone : (run : Run) (old new : List Piece) → old ≡ [] → new ≡ old ++ Places run ∷ [] → new ≡ Places run ∷ []
-pushed_alone run old new none put = put ∙ ap (λ ps. ps ++ Places run ∷ []) none
-
-pub among_size : (run : Run) (place : Place) (pieces : List Piece) → places_of run ≡ place ∷ [] → pieces ≡ Places run ∷ [] → sizes pieces ≤ 1
-among_size run place pieces e is =
-    let count : length (places_of run) ≡ run.count = length-counted_from run.var run.first run.count in
-    let one : length (places_of run) ≡ 1 = ap length e in
-    let all : sizes pieces ≡ run.count + 0 = ap sizes is in
-    omega (arith, count, one, all)
-
-pub among_cell : (s : Storage) (run : Run) (place : Place) (pieces : List Piece) (moved : Moved) → places_of run ≡ place ∷ [] → pieces ≡ Places run ∷ [] → moved ≡ moved_of (cells_in s pieces) → moved ≡ moved_of (cell_at s place ∷ [])
-among_cell s run place pieces moved e is made = made ∙ ap (λ ps. moved_of (cells_in s ps)) is ∙ ap (λ ps. moved_of (map (cell_at s) ps ++ [])) e
+pub place_alone : (s : Storage) (run : Run) (place : Place) (moved : Moved) → places_of run ≡ place ∷ [] → moved ≡ moved_of (map (cell_at s) (places_of run)) → moved ≡ moved_of (cell_at s place ∷ [])
+place_alone s run place moved e made = made ∙ ap (λ ps. moved_of (map (cell_at s) ps)) e
 
 -- ---- the job
 

@@ -8,14 +8,13 @@ ghost use Rattle.fj_store.specs.Storage.{values_of};
 ghost use Rattle.fj_items.specs.Gathering.{IsNumbered};
 ghost use Rattle.fj_items.specs.Kinds.{kinds_of};
 
-use crate::gathering::gather;
+use crate::gathering::{gather, only_run};
 use crate::lost::Lost;
 use fj_list::{Load, Moved};
 use fj_statement::{Transfer, Variables};
-use fj_store::{Piece, Run, Store};
+use fj_store::{Run, Store};
 use fj_value::Place;
 use std::alloc::{AllocError, Global};
-use std::collections::VecDeque;
 
 /// The values of the items, copied. `Unfit`: they are too many. It changes nothing.
 pub(crate) fn copied(
@@ -31,6 +30,9 @@ pub(crate) fn copied(
     ensures fits { IsTransfer variables.now t.now → result ≢ Err Lost.Unfit }
     ensures causes { (result ≢ Err Lost.Disk) × (result ≢ Err Lost.Sink) }
 {
+    if let Some(run) = only_run(variables, t) {
+        return Ok(store.copy_alone(alloc, run)?);
+    }
     let gathered = gather(alloc, variables, t)?;
     let moved = store.copy_of(alloc, gathered.pieces, gathered.size)?;
     Ok(moved)
@@ -51,10 +53,7 @@ pub(crate) fn size_copied(
     let Some(place) = size else {
         return Ok(None);
     };
-    let run = Run::of_place(place);
-    let mut pieces = VecDeque::new(alloc);
-    pieces.push_back(Piece::Places(run))?;
-    let mut load = store.copy_of(alloc, pieces, 1)?;
+    let mut load = store.copy_alone(alloc, Run::of_place(place))?;
     let moved = load.take(alloc)?;
     Ok(Some(moved))
 }

@@ -1,5 +1,5 @@
 // The items of a transfer, gathered.
-ghost use Rattle.std.specs.Prelude.{◌≡◌, ◌≢◌, ◌+◌, ◌<◌, ◌^◌, ◌∷◌, [], ◌++◌, ◌↔◌, length, map, List, Err, IsTrue, IfSome, IfOk, OnOk};
+ghost use Rattle.std.specs.Prelude.{◌≡◌, ◌≢◌, ◌+◌, ◌<◌, ◌^◌, ◌∷◌, [], ◌++◌, length, map, List, Err, false, IfSome, IfOk, OnOk};
 ghost use Rattle.std.specs.List.{flat_map, sum_by};
 ghost use Rattle.fj_plain.specs.Items.{places_of as places_in};
 ghost use Rattle.fj_statement.specs.Sound.{IsTransfer};
@@ -7,8 +7,7 @@ ghost use Rattle.fj_statement.specs.declared.statement.Operand.{Operand};
 ghost use Rattle.fj_statement.specs.declared.statement.Operand.TheVariants.{Whole};
 ghost use Rattle.fj_store.specs.Pieces.{size_of};
 ghost use Rattle.fj_store.specs.Places.{places_of};
-ghost use Rattle.fj_items.specs.Gathering.{IsPiece, ArePieces, IsGathered, all_items, count_of};
-ghost use Rattle.fj_items.specs.Shown.{IsOfItems};
+ghost use Rattle.fj_items.specs.Gathering.{IsPiece, ArePieces, IsGathered, all_items, count_of, members_in};
 ghost use Rattle.fj_store.specs.declared.piece.Piece.TheVariants.{Places};
 
 use crate::assigning::elements_of;
@@ -36,22 +35,21 @@ fn whole(variables: &Variables, var: u32) -> Run
     }
 }
 
-/// Whether a transfer is formatted and has items, and no group.
-fn is_of_items(control: &Control) -> bool
-    ensures { IsTrue result ↔ IsOfItems control.now }
+/// Whether a transfer is of a group.
+fn is_of_group(control: &Control) -> bool
+    ensures { result ≡ false → members_in control.now ≡ [] }
 {
     match control {
-        Control::Explicit(_) | Control::Listed => true,
-        Control::Unformatted | Control::Group { .. } => false,
+        Control::Explicit(_) | Control::Listed | Control::Unformatted => false,
+        Control::Group { .. } => true,
     }
 }
 
 /// The run of places that the items are, where they are one operand that has places, and no group's.
 pub(crate) fn only_run(variables: &Variables, t: &Transfer) -> Option<Run>
-    ensures gathered { IfSome result (λ run. ArePieces variables.now (all_items t.now) (Places run ∷ [])) }
-    ensures items { IfSome result (λ run. IsOfItems t.now.control) }
+    ensures { IfSome result (λ run. ArePieces variables.now (all_items t.now) (Places run ∷ [])) }
 {
-    if !is_of_items(&t.control) {
+    if is_of_group(&t.control) {
         return None;
     }
     let items = t.items.as_slice();

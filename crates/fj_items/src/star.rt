@@ -1,5 +1,5 @@
 // The output on unit `*`: its records go to a sink as they end.
-ghost use Rattle.std.specs.Prelude.{◌≡◌, ◌≢◌, ◌≤◌, ◌++◌, ◌||◌, [], ◌↔◌, not, false, Err, IfSome, IfOk, OnOk, OnErr, length};
+ghost use Rattle.std.specs.Prelude.{◌≡◌, ◌≢◌, ◌≤◌, ◌++◌, ◌||◌, [], ◌↔◌, not, false, Err, IsTrue, IfSome, IfOk, OnOk, OnErr, length};
 ghost use Rattle.fj_outside.specs.Faults.{Rose};
 ghost use Rattle.fj_store.specs.Storage.{values_of};
 ghost use Rattle.fj_plain.specs.Transfers.{moved_in, printed_to, star_limit};
@@ -85,12 +85,25 @@ impl<'a> Shown<'a> {
     }
 }
 
-/// The items of a WRITE where they stand, where they are one run of a variable and no group.
+/// Whether a transfer is formatted and has items, and no group.
+fn is_of_items(control: &Control) -> bool
+    ensures { IsTrue result ↔ IsOfItems control.now }
+{
+    match control {
+        Control::Explicit(_) | Control::Listed => true,
+        Control::Unformatted | Control::Group { .. } => false,
+    }
+}
+
+/// The items of a formatted WRITE where they stand, where they are one run of a variable and no group.
 fn lent<'a>(variables: &Variables, store: &'a Store, t: &Transfer) -> Option<Lent<'a>>
     requires { store.now.kinds ≡ kinds_of variables.now }
     ensures moved { IfSome result (λ row. row ≡ moved_in variables.now (values_of store.now) t.now) }
     ensures items { IfSome result (λ row. IsOfItems t.now.control) }
 {
+    if !is_of_items(&t.control) {
+        return None;
+    }
     let run = only_run(variables, t)?;
     store.row(run)
 }

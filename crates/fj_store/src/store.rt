@@ -191,6 +191,19 @@ impl Store {
         Ok(taken.into_moved())
     }
 
+    /// Copies the values of one run, in their order. One that is moved out has an undefined value. It changes nothing.
+    pub fn copy_alone(&mut self, alloc: Global, run: Run) -> Result<Load, AllocError>
+        ensures moved { IfOk result (λ load. load ≡ moved_of (map (cell_at self.old) (places_of run))) }
+        ensures same { self.new ≡ self.old }
+    {
+        if let Some(load) = self.copy_of_run(alloc, run)? {
+            return Ok(load);
+        }
+        let mut pieces = VecDeque::new(alloc);
+        pieces.push_back(Piece::Places(run))?;
+        Ok(Load::of_cells(self.copy_of_pieces(alloc, pieces, run.count)?))
+    }
+
     /// Copies the values of so many items, each place once, in the order of the items. One that is moved out has an undefined
     /// value. It changes nothing.
     pub fn copy_of(

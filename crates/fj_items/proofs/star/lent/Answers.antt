@@ -7,4 +7,4 @@ use Rattle.fj_items.proofs.star.lent.Goals as goal
 pub returns-clause-moved : goal.returns-clause-moved
 returns-clause-moved c =
     let P : Moved → Type 0 = λ m. IfSome c.row.result (λ row. row ≡ m) in
-    subst P (alone_is c.args.variables.now c.args.store.now c.args.t.now c.in_ok-run.run' c.requires c.in_ok-run.ensures.gathered) c.row.ensures.some
+    subst P (alone_is c.args.variables.now c.args.store.now c.args.t.now c.in_ok-run.run' c.requires c.in_ok-run.ensures) c.row.ensures.some
