@@ -2,12 +2,11 @@
 ghost use Rattle.std.specs.Prelude.{◌≡◌, ◌+◌, ◌-◌, ◌<◌, ◌++◌, min, IfOk, OnOk};
 ghost use Rattle.std.specs.List.Sorted.{IsNonDecreasingBy, IsPermutation};
 ghost use Rattle.fj_value.specs.declared.place.Place.{Place};
-ghost use Rattle.fj_store.specs.Places.{counted_from, is_among, places_in};
+ghost use Rattle.fj_store.specs.Places.{counted_from, is_among, places_in, places_of};
 ghost use Rattle.fj_acts.specs.Places.{key_of, reached_at};
 
 use fj_book::Places;
-use fj_store::Run;
-use fj_value::Items;
+use fj_store::{Run, Runs};
 use std::alloc::{AllocError, Global};
 
 /// Runs in the order of their variables and, of one variable, of their first elements.
@@ -40,7 +39,7 @@ fn skipped(run: Run, end: u64) -> u32
 }
 
 /// Adds the places of a run but so many of the first.
-fn add_rest(places: &mut Items<Run>, run: Run, skipped: u32) -> Result<(), AllocError>
+fn add_rest(places: &mut Runs, run: Run, skipped: u32) -> Result<(), AllocError>
     ensures { OnOk result (places_in places.new ≡ places_in places.old ++ counted_from run.var (run.first + skipped) (run.count - skipped)) }
 {
     if skipped >= run.count {
@@ -54,12 +53,24 @@ fn add_rest(places: &mut Items<Run>, run: Run, skipped: u32) -> Result<(), Alloc
     Ok(())
 }
 
+/// The places of one run.
+fn places_of_one(alloc: Global, run: Run) -> Result<Places, AllocError>
+    ensures { IfOk result (λ places. places ≡ places_of run) }
+{
+    let mut places = Runs::new(alloc);
+    places.push(run)?;
+    Ok(Places::of_runs(places))
+}
+
 /// The places of runs, each once. It looks at each run once.
 pub(crate) fn distinct_places(alloc: Global, runs: &[Run]) -> Result<Places, AllocError>
     ensures { IfOk result (λ places. (p : Place) → is_among places p ≡ is_among (places_in runs.now) p) }
 {
+    if runs.len() == 1 {
+        return places_of_one(alloc, runs[0]);
+    }
     let ordered = in_order(alloc, runs)?;
-    let mut places = Items::new(alloc);
+    let mut places = Runs::new(alloc);
     let mut var = 0;
     let mut end = 0;
     for at in 0..ordered.len() {

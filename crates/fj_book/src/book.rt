@@ -118,6 +118,13 @@ fn count_out(inputs: &mut Counts, outputs: &mut Counts, pending: &Pending)
     }
 }
 
+/// Counts a transfer no more that is let go.
+fn count_off(inputs: &mut Counts, outputs: &mut Counts, pending: Pending)
+    ensures { (entries : List Pending) (at : ℕ) → at < length entries → length entries < 2 ^ 64 → HoldsAt (λ e. e ≡ pending) entries at → AreCounted entries inputs.old outputs.old → AreCounted (remove entries at) inputs.new outputs.new }
+{
+    count_out(inputs, outputs, &pending);
+}
+
 /// Goes over so many of the first transfers. Those of the unit are taken off, and the others go behind all that are left.
 fn sift(
     entries: &mut VecDeque<Pending>,
@@ -135,7 +142,7 @@ fn sift(
             return;
         };
         if is_of(unit, &entry) {
-            count_out(inputs, outputs, &entry);
+            count_off(inputs, outputs, entry);
         } else {
             entries.push_back_reserved(entry);
         }

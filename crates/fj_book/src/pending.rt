@@ -4,14 +4,14 @@ ghost use Rattle.std.specs.List.{list_any};
 ghost use Rattle.fj_store.specs.Places.{is_among, has_twice, places_in, places_of};
 
 use crate::place_test::{Among, RunTest};
-use fj_store::Run;
-use fj_value::{Items, Tag};
+use fj_store::{Run, Runs};
+use fj_value::Tag;
 use std::marker::Model;
 
 /// Places of which no two are the same, as runs.
 #[derive(Drop)]
 pub struct Places {
-    runs: Items<Run>,
+    runs: Runs,
 }
 
 impl Model for Places {
@@ -28,7 +28,7 @@ impl Model for Places {
 
 impl Places {
     /// The places of these runs.
-    pub fn of_runs(runs: Items<Run>) -> Places
+    pub fn of_runs(runs: Runs) -> Places
         requires { has_twice (places_in runs) ≡ false }
         ensures { result ≡ places_in runs }
     {

@@ -1,8 +1,8 @@
 // A pending transfer, with what its job brought once that was told.
 
 use fj_list::Load;
-use fj_store::Run;
-use fj_value::{Condition, Items, Place, Tag};
+use fj_store::Runs;
+use fj_value::{Condition, Place, Tag};
 
 /// What the job of a transfer brought: its items with their values, none where the job was no transfer, a count of characters, and
 /// its condition.
@@ -21,7 +21,7 @@ pub struct Held {
     /// READ.
     pub input: bool,
     /// The places of its items or its group, each as often as it stands there, and of an input SIZE=.
-    pub runs: Items<Run>,
+    pub runs: Runs,
     pub size: Option<Place>,
     pub slot: u32,
     /// The number of its job among those of the slot.

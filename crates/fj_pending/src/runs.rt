@@ -10,8 +10,7 @@ ghost use Rattle.fj_plain.specs.Needs.{group_places, transfer_places};
 ghost use Rattle.fj_plain.specs.Transfers.{held_places};
 
 use fj_statement::{Control, Operand, Transfer, Variable};
-use fj_store::Run;
-use fj_value::Items;
+use fj_store::{Run, Runs};
 use std::alloc::{AllocError, Global};
 
 /// The number of a variable's elements.
@@ -42,7 +41,7 @@ pub(crate) fn run_of(variables: &[Variable], var: u32) -> Run
 
 /// Adds the places of an operand.
 fn push_operand(
-    runs: &mut Items<Run>,
+    runs: &mut Runs,
     variables: &[Variable],
     operand: &Operand,
 ) -> Result<(), AllocError>
@@ -57,7 +56,7 @@ fn push_operand(
 
 /// Adds the places of operands.
 fn push_operands(
-    runs: &mut Items<Run>,
+    runs: &mut Runs,
     variables: &[Variable],
     operands: &[Operand],
 ) -> Result<(), AllocError>
@@ -70,18 +69,14 @@ fn push_operands(
 }
 
 /// Adds the places of a variable.
-fn push_variable(runs: &mut Items<Run>, variables: &[Variable], var: u32) -> Result<(), AllocError>
+fn push_variable(runs: &mut Runs, variables: &[Variable], var: u32) -> Result<(), AllocError>
     ensures { OnOk result (places_in runs.new ≡ places_in runs.old ++ plain.places_of variables.now var) }
 {
     runs.push(run_of(variables, var))
 }
 
 /// Adds the places of variables.
-fn push_variables(
-    runs: &mut Items<Run>,
-    variables: &[Variable],
-    vars: &[u32],
-) -> Result<(), AllocError>
+fn push_variables(runs: &mut Runs, variables: &[Variable], vars: &[u32]) -> Result<(), AllocError>
     ensures { OnOk result (places_in runs.new ≡ places_in runs.old ++ flat_map (plain.places_of variables.now) vars.now) }
 {
     for var in vars {
@@ -91,11 +86,7 @@ fn push_variables(
 }
 
 /// Adds the members of a group.
-fn push_group(
-    runs: &mut Items<Run>,
-    variables: &[Variable],
-    control: &Control,
-) -> Result<(), AllocError>
+fn push_group(runs: &mut Runs, variables: &[Variable], control: &Control) -> Result<(), AllocError>
     ensures { OnOk result (places_in runs.new ≡ places_in runs.old ++ group_places variables.now control.now) }
 {
     match control {
@@ -106,7 +97,7 @@ fn push_group(
 
 /// Adds the places of the items or of the group of a transfer.
 fn push_transfer(
-    runs: &mut Items<Run>,
+    runs: &mut Runs,
     variables: &[Variable],
     transfer: &Transfer,
 ) -> Result<(), AllocError>
@@ -121,10 +112,10 @@ pub fn runs_held(
     alloc: Global,
     variables: &[Variable],
     transfer: &Transfer,
-) -> Result<Items<Run>, AllocError>
+) -> Result<Runs, AllocError>
     ensures { IfOk result (λ runs. places_in runs ≡ held_places variables.now transfer.now) }
 {
-    let mut runs = Items::new(alloc);
+    let mut runs = Runs::new(alloc);
     push_transfer(&mut runs, variables, transfer)?;
     if transfer.input {
         if let Some(size) = transfer.size {

@@ -3,7 +3,7 @@ use Came::{At, Done, Is, Refused, Said, Waited};
 use Step::{Answered, EndsHalt, Enter, Has, Next, Reads, Waits};
 use fj_book::Places;
 use fj_pending::{Held, Lost, Pendings, Tell, Told, Whose};
-use fj_store::Store;
+use fj_store::{Runs, Store};
 use fj_value::{Condition, Items, Tag};
 use std::alloc::{AllocError, Global};
 use std::test::Fail;
@@ -49,13 +49,13 @@ fn enter(
         tag: Tag(id),
         unit,
         input: false,
-        runs: Items::new(alloc),
+        runs: Runs::new(alloc),
         size: None,
         slot,
         number,
         answer: None,
     };
-    pendings.enter(held, Places::of_runs(Items::new(alloc)))
+    pendings.enter(held, Places::of_runs(Runs::new(alloc)))
 }
 
 /// What answers a job.

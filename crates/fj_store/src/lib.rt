@@ -8,6 +8,7 @@ mod laws;
 mod lent;
 mod piece;
 mod run;
+mod runs;
 mod slot;
 mod slots;
 mod store;
@@ -21,6 +22,7 @@ pub use laws::{
 pub use lent::Lent;
 pub use piece::Piece;
 pub use run::Run;
+pub use runs::Runs;
 pub use store::Store;
 pub use table::Table;
 pub use taken::position;

@@ -12,6 +12,17 @@ pub struct Run {
     ghost fits: { first + count < 4294967297 },
 }
 
+/// A run of no places.
+impl Default for Run {
+    fn default() -> Run {
+        Run {
+            var: 0,
+            first: 1,
+            count: 0,
+        }
+    }
+}
+
 impl Run {
     ghost use Rattle.std.specs.Prelude.{◌≡◌, ◌+◌, ◌<◌, ◌∷◌, []};
     ghost use Rattle.std.specs.List.{list_any};

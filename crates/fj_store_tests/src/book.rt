@@ -3,8 +3,8 @@ ghost use Rattle.std.specs.Prelude.{◌≡◌, ◌≤◌, IfOk};
 ghost use Rattle.fj_book.specs.Entries.{tag_of};
 
 use fj_book::{Book, Need, Pending, Places};
-use fj_store::{Run, Store};
-use fj_value::{Items, Kind, Place, Rule, Tag, Value};
+use fj_store::{Run, Runs, Store};
+use fj_value::{Kind, Place, Rule, Tag, Value};
 use std::alloc::{AllocError, Global};
 use std::test::Fail;
 
@@ -37,7 +37,7 @@ fn pending(
 ) -> Result<Pending, AllocError>
     ensures { IfOk result (λ p. tag_of p ≡ id) }
 {
-    let mut runs = Items::new(alloc);
+    let mut runs = Runs::new(alloc);
     runs.push(Run::of_place(place))?;
     Ok(Pending {
         tag: Tag(id),

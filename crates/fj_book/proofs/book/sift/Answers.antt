@@ -32,8 +32,8 @@ loop-preserved c =
           let gone : left e ≡ false = ap not (sym c.is_of.ensures ∙ w.if-is_of.true) in
           record {
             left = ap (λ d. d.items) w.entries-is ∙ leaves left xs c.loop.entries.items next i e low c.loop.invariant.left popped gone;
-            counted = λ before. counted_as next c.if-is_of.entries.items w.count_out.new.inputs c.if-is_of.inputs w.count_out.new.outputs c.if-is_of.outputs (ap (λ d. d.items) w.entries-is) w.inputs-is w.outputs-is
-                (w.count_out.ensures (e ∷ next) 0 (omega arith) (omega (arith, ap length popped, c.loop.entries.ok, c.loop.entries.small)) (λ d. refl) (subst (λ l. AreCounted l c.loop.inputs c.loop.outputs) popped (c.loop.invariant.counted before)));
+            counted = λ before. counted_as next c.if-is_of.entries.items w.count_off.new.inputs c.if-is_of.inputs w.count_off.new.outputs c.if-is_of.outputs (ap (λ d. d.items) w.entries-is) w.inputs-is w.outputs-is
+                (w.count_off.ensures (e ∷ next) 0 (omega arith) (omega (arith, ap length popped, c.loop.entries.ok, c.loop.entries.small)) (λ d. refl) (subst (λ l. AreCounted l c.loop.inputs c.loop.outputs) popped (c.loop.invariant.counted before)));
           }
       | else-is_of w ↦
           let stays : left e ≡ true = ap not (sym c.is_of.ensures ∙ w.if-is_of.false) in
