@@ -1,6 +1,6 @@
 -- Places of runs, each once.
-use Rattle.std.proofs.Common.{◌≡◌, ℕ, zero, suc, ◌+◌, ◌-◌, ◌<◌, ◌≤◌, ◌⊎◌, max, length, take, get_or, All, ◌||◌, ◌&&◌, inl, inr, Bool, true, false, List, [], ◌∷◌, ◌++◌, refl, sym, ap, subst, ◌∙◌, arith, append-nil}
-use Rattle.std.specs.Prelude.{◌==◌, min, nat_lt, if◌then◌else◌}
+use Rattle.std.proofs.Common.{◌≡◌, ℕ, zero, suc, ◌+◌, ◌-◌, ◌<◌, ◌≤◌, ◌⊎◌, max, length, take, get_or, All, ◌||◌, ◌&&◌, inl, inr, Bool, true, false, List, [], ◌∷◌, ◌++◌, Result, Ok, Err, refl, sym, ap, subst, ◌∙◌, arith, append-nil}
+use Rattle.std.specs.Prelude.{◌==◌, min, nat_lt, if◌then◌else◌, IfOk}
 use Rattle.std.specs.List.{sum_by}
 use Rattle.std.specs.List.Sorted.{IsNonDecreasingBy, IsPermutation}
 use Rattle.std.proofs.lemmas.Bool.{eq-eqb, ne_eqb, eqb-true, lt-ltb}
@@ -85,6 +85,11 @@ pub alone_same : (runs : List Run) (run : Run) (places : List Place) (p : Place)
 alone_same [] run places p one first is = absurd (omega (arith, one))
 alone_same (r ∷ []) run places p one first is = ap (λ l. is_among l p) (is ∙ ap places_of first ∙ sym (append-nil (places_of r)))
 alone_same (r ∷ s ∷ rest) run places p one first is = absurd (omega (arith, one))
+
+pub alone_told : {E : Type 0} → (runs : List Run) (run : Run) (r : Result (List Place) E) → length runs ≡ 1 → run ≡ get_or runs 0 run → IfOk r (λ places. places ≡ places_of run)
+    → IfOk r (λ places. (p : Place) → is_among places p ≡ is_among (places_in runs) p)
+alone_told runs run (Ok places) one first is = λ p. alone_same runs run places p one first is
+alone_told runs run (Err e) one first is = tt
 
 -- ---- which places a run has
 

@@ -1,6 +1,6 @@
 use Rattle.std.proofs.Common.{◌≡◌, ℕ, ◌+◌, ◌<◌, ◌≤◌, max, length, ap, arith, ◌∙◌}
 use Rattle.fj_store.specs.Places.{places_in}
-use Rattle.fj_acts.proofs.PlaceLemmas.{gathered_more, gathered_all}
+use Rattle.fj_acts.proofs.PlaceLemmas.{gathered_more, gathered_all, alone_told}
 use Rattle.fj_acts.proofs.places.distinct_places.Goals as goal
 
 pub loop-at-preserved : goal.loop-at-preserved
@@ -22,3 +22,6 @@ returns c =
     let past : length c.in_ok-ordered.ordered.items ≤ c.loop-at.at = omega arith in
     gathered_all c.of_runs.result c.args.runs.now c.in_ok-ordered.ordered.items c.loop-at.at c.loop-at.var c.loop-at.end (places_in c.loop-at.places)
     c.in_ok-ordered.ensures.same past c.loop-at.invariant c.of_runs.ensures
+
+pub returns-then-runs-eq1 : goal.returns-then-runs-eq1
+returns-then-runs-eq1 c = alone_told c.args.runs.now c.index-runs-0.result c.places_of_one.result c.if-runs-eq1.true c.index-runs-0.is c.places_of_one.ensures

@@ -17,4 +17,4 @@ pub returns-in-Some-clause-moved : goal.returns-in-Some-clause-moved
 returns-in-Some-clause-moved c = c.in_ok-copy_of_run.ensures.moved ∙ alone_is c.args.variables.now c.args.store.now c.args.t.now c.in-Some.run' c.requires c.in-Some.ensures
 
 pub returns-in-Some-clause-numbered : goal.returns-in-Some-clause-numbered
-returns-in-Some-clause-numbered c = run_numbered c.args.store.now c.in-Some.run' c.in_ok-copy_of_run.value c.in_ok-copy_of_run.ensures.moved (omega arith)
+returns-in-Some-clause-numbered c = run_numbered c.args.store.now c.in-Some.run' c.in_ok-copy_of_run.field-0 c.in_ok-copy_of_run.ensures.moved (omega arith)
