@@ -26,6 +26,7 @@ pub mod CutRuns
 pub mod Fronts
 pub mod Reported
 pub mod Wanting
+pub mod RunsSend
 pub mod Sends
 pub mod SomeReplies
 pub mod Giving

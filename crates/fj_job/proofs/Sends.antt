@@ -6,6 +6,7 @@ use denote.Param.Send.{IsSend, IsSync, view_send, sendable}
 use denote.Param.SendFields.{as_row_send, declared_send, variants_send}
 use Rattle.std.proofs.Crossing.{crosses}
 use Rattle.fj_bay.proofs.Sends.{text_sends, items_sends, value_sends, value_sync, elements_sends, file_name_sends, modes_sends, format_sends, load_sends, answer_sends, connection_sends, job_sends}
+use Rattle.fj_job.proofs.RunsSend.{runs_sends}
 use Rattle.fj_list.specs.declared.elements.PlainCopy as plain_copies
 use Rattle.fj_outside.specs.declared.outside.Disk as disk
 use Rattle.fj_outside.specs.declared.outside.FileStore as files
@@ -20,7 +21,6 @@ use Rattle.fj_statement.specs.contracts.statement.Control as Control
 use Rattle.fj_statement.specs.contracts.statement.Operand as Operand
 use Rattle.fj_statement.specs.contracts.statement.Statement as Statement
 use Rattle.fj_statement.specs.contracts.statement.Transfer as Transfer
-use Rattle.fj_store.specs.contracts.run.Run as Run
 use Rattle.fj_store.specs.contracts.slot.Mark as PlaceMark
 use Rattle.fj_store.specs.contracts.slots.Slots as Slots
 use Rattle.fj_store.specs.contracts.slots.Slots.TheInside as SlotsInside
@@ -80,9 +80,6 @@ deck_sends : IsSend Deck.the_row
 deck_sends = declared_send Deck.the_type (search (as_row_send, variable_sends, lined_sends, items_sends, crosses, sendable) depth 20)
 
 -- ---- what a run keeps
-run_sends : IsSend Run.the_row
-run_sends = declared_send Run.the_type (search (as_row_send, crosses, sendable) depth 20)
-
 table_sends : (T : RattleType) (g : plain_copies.Ghosts T.Denot) → IsSend T → IsSync T → IsSend (Table.the_row T g)
 table_sends T g s y = search (elements_sends, crosses, sendable) depth 20
 
@@ -102,7 +99,7 @@ store_sends : IsSend Store.the_row
 store_sends = search (slots_sends, crosses, sendable) depth 20
 
 places_sends : IsSend Places.the_row
-places_sends = search (items_sends, crosses, sendable) depth 20
+places_sends = search (runs_sends, crosses, sendable) depth 20
 
 pending_sends : IsSend Pending.the_row
 pending_sends = declared_send Pending.the_type (search (as_row_send, places_sends, crosses, sendable) depth 20)
@@ -129,7 +126,7 @@ told_sends : IsSend Told.the_row
 told_sends = declared_send Told.the_type (search (as_row_send, load_sends, crosses, sendable) depth 20)
 
 held_sends : IsSend Held.the_row
-held_sends = declared_send Held.the_type (search (as_row_send, told_sends, run_sends, items_sends, crosses, sendable) depth 20)
+held_sends = declared_send Held.the_type (search (as_row_send, told_sends, runs_sends, crosses, sendable) depth 20)
 
 mark_sends : IsSend Mark.the_row
 mark_sends = declared_send Mark.the_type (search (as_row_send, crosses, sendable) depth 20)
