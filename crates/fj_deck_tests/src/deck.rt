@@ -9,15 +9,24 @@ use std::alloc::{AllocError, Global};
 enum Outcome {
     Deck(usize),
     Refused(u32, Reason),
+    Memory,
 }
 
 use Outcome::{Deck, Refused};
 
-fn answer_on(alloc: Global, text: &[u8]) -> Result<Outcome, AllocError> {
+fn answer_on(alloc: Global, text: &[u8]) -> Outcome {
     match parse_deck(alloc, text) {
-        Ok(deck) => Ok(Deck(deck.statements().len())),
-        Err(DeckFault::Refused { line, reason }) => Ok(Refused(line, reason)),
-        Err(DeckFault::Memory(error)) => Err(error),
+        Ok(deck) => Deck(deck.statements().len()),
+        Err(DeckFault::Refused { line, reason }) => Refused(line, reason),
+        Err(DeckFault::Memory(_)) => Outcome::Memory,
+    }
+}
+
+/// What a text is that was to be made.
+fn answer_on_made(alloc: Global, text: Result<Text, AllocError>) -> Outcome {
+    match text {
+        Ok(text) => answer_on(alloc, text.bytes()),
+        Err(_) => Outcome::Memory,
     }
 }
 
@@ -76,36 +85,36 @@ static MEANINGLESS: &[u8] = b"\
 static BEYOND: &[u8] = b"\
     INTEGER X(1000000)\nCHARACTER(65536) X(256)\nWRITE(10,'(1000(1001(I1)))') I\nREAD(10,'(1000(1001(I1)))') I";
 
-/// What a line is, behind declarations and before END.
-fn of_line(alloc: Global, line: &[u8]) -> Result<Outcome, AllocError> {
+/// A line behind declarations and before END.
+fn with_declarations(alloc: Global, line: &[u8]) -> Result<Text, AllocError> {
     let mut text = Text::from_bytes(alloc, DECLARED)?;
     text.push_all(line)?;
     text.push_all(b"\nEND\n")?;
-    answer_on(alloc, text.bytes())
+    Ok(text)
 }
 
-/// The number of the first line that is something else.
-fn differs(alloc: Global, lines: &[u8], answer: Outcome) -> Result<Option<usize>, AllocError> {
+/// The number of the first line that is something else, behind declarations and before END.
+fn differs(alloc: Global, lines: &[u8], answer: Outcome) -> Option<usize> {
     for (number, line) in lines.split(|byte| *byte == b'\n').enumerate() {
-        if of_line(alloc, line)? != answer {
-            return Ok(Some(number));
+        if answer_on_made(alloc, with_declarations(alloc, line)) != answer {
+            return Some(number);
         }
     }
-    Ok(None)
+    None
 }
 
 #[test]
-fn lines_are_read(rt: HostRuntime) -> Result<(), AllocError> {
-    let alloc = rt.alloc();
-    assert_eq!(rt; differs(alloc, NO_STATEMENTS, Deck(1))?, None);
-    assert_eq!(rt; differs(alloc, STATEMENTS, Deck(2))?, None);
-    assert_eq!(rt; differs(alloc, GARBLED, Refused(7, Reason::Syntax))?, None);
-    assert_eq!(rt;
-        differs(alloc, MEANINGLESS, Refused(7, Reason::Meaning))?,
-        None
-    );
-    assert_eq!(rt; differs(alloc, BEYOND, Refused(7, Reason::TooMany))?, None);
-    Ok(())
+fn lines_are_read(rt: HostRuntime) {
+    let tables = [
+        (NO_STATEMENTS, Deck(1)),
+        (STATEMENTS, Deck(2)),
+        (GARBLED, Refused(7, Reason::Syntax)),
+        (MEANINGLESS, Refused(7, Reason::Meaning)),
+        (BEYOND, Refused(7, Reason::TooMany)),
+    ];
+    for (table, (lines, answer)) in tables.iter().enumerate() {
+        assert_eq!(rt; differs(rt.alloc(), lines, *answer), None, "table {table}");
+    }
 }
 
 /// Whole texts.
@@ -180,27 +189,31 @@ static TEXTS: [(&[u8], Outcome); 31] = [
 ];
 
 #[test]
-fn texts_are_read(rt: HostRuntime) -> Result<(), AllocError> {
+fn texts_are_read(rt: HostRuntime) {
     for (number, (text, answer)) in TEXTS.iter().enumerate() {
-        assert!(rt; answer_on(rt.alloc(), text)? == *answer, "row {number}");
+        assert!(rt; answer_on(rt.alloc(), text) == *answer, "row {number}");
     }
-    Ok(())
 }
 
-/// What a text is in which something stands so often between two others.
-fn answer_on_many(
+/// A text in which something stands so often between two others.
+fn many(
     alloc: Global,
     first: &[u8],
     part: &[u8],
     times: u32,
     last: &[u8],
-) -> Result<Outcome, AllocError> {
+) -> Result<Text, AllocError> {
     let mut text = Text::from_bytes(alloc, first)?;
     for _ in 0..times {
         text.push_all(part)?;
     }
     text.push_all(last)?;
-    answer_on(alloc, text.bytes())
+    Ok(text)
+}
+
+/// What such a text is.
+fn answer_on_many(alloc: Global, first: &[u8], part: &[u8], times: u32, last: &[u8]) -> Outcome {
+    answer_on_made(alloc, many(alloc, first, part, times, last))
 }
 
 /// Texts at the limits of bytes and beyond.
@@ -222,12 +235,11 @@ static LENGTHS: [(&[u8], &[u8], u32, &[u8], Outcome); 8] = [
 ];
 
 #[test]
-fn lengths_are_limited(rt: HostRuntime) -> Result<(), AllocError> {
+fn lengths_are_limited(rt: HostRuntime) {
     for (number, (first, part, times, last, answer)) in LENGTHS.iter().enumerate() {
-        let read = answer_on_many(rt.alloc(), first, part, *times, last)?;
+        let read = answer_on_many(rt.alloc(), first, part, *times, last);
         assert!(rt; read == *answer, "row {number}");
     }
-    Ok(())
 }
 
 /// How many assignments stand behind a declaration, what stands behind them, and the answer.
@@ -238,12 +250,11 @@ static COUNTS: [(u32, &[u8], Outcome); 3] = [
 ];
 
 #[test]
-fn statements_are_limited(rt: HostRuntime) -> Result<(), AllocError> {
+fn statements_are_limited(rt: HostRuntime) {
     for (number, (times, last, answer)) in COUNTS.iter().enumerate() {
-        let read = answer_on_many(rt.alloc(), b"INTEGER A\n", b"A=1\n", *times, last)?;
+        let read = answer_on_many(rt.alloc(), b"INTEGER A\n", b"A=1\n", *times, last);
         assert!(rt; read == *answer, "row {number}");
     }
-    Ok(())
 }
 
 fn last_digit(number: u32) -> u8 {
@@ -259,20 +270,24 @@ fn declare(number: u32, text: &mut Text) -> Result<(), AllocError> {
     text.push_all(b"\n")
 }
 
-/// What a text is that declares so many variables, up to 10,000.
-fn answer_on_variables(alloc: Global, count: u32) -> Result<Outcome, AllocError> {
+/// A text that declares so many variables, up to 10,000.
+fn many_variables(alloc: Global, count: u32) -> Result<Text, AllocError> {
     let mut text = Text::new(alloc);
     for number in 0..count {
         declare(number, &mut text)?;
     }
     text.push_all(b"END\n")?;
-    answer_on(alloc, text.bytes())
+    Ok(text)
+}
+
+/// What such a text is.
+fn answer_on_variables(alloc: Global, count: u32) -> Outcome {
+    answer_on_made(alloc, many_variables(alloc, count))
 }
 
 #[test]
-fn variables_are_limited(rt: HostRuntime) -> Result<(), AllocError> {
+fn variables_are_limited(rt: HostRuntime) {
     let beyond = Refused(4097, Reason::TooMany);
-    assert!(rt; answer_on_variables(rt.alloc(), 4096)? == Deck(1));
-    assert!(rt; answer_on_variables(rt.alloc(), 4097)? == beyond);
-    Ok(())
+    assert!(rt; answer_on_variables(rt.alloc(), 4096) == Deck(1));
+    assert!(rt; answer_on_variables(rt.alloc(), 4097) == beyond);
 }

@@ -3,7 +3,7 @@ use fj_meaning::{Fault, Names, statement};
 use fj_statement::{Control, Operand, Statement, Transfer};
 use fj_syntax::{Written, parse_line};
 use fj_value::{Kind, Place, Value};
-use std::alloc::{AllocError, Global};
+use std::alloc::Global;
 use std::test::*;
 
 #[derive(Clone, Copy, PartialEq, Eq)]
@@ -96,12 +96,13 @@ static FORMATS: [(&str, u32); 6] = [
     ("WRITE(10,'(I5',NML=G)", 3),
 ];
 
-fn outcome_of(fault: Fault) -> Outcome {
-    match fault {
-        Fault::Memory(_) => Outcome::Other,
-        Fault::Format { at } => Format(at),
-        Fault::NoMeaning => Meaning,
-        Fault::TooMany => TooMany,
+fn outcome_of<T: Drop>(answer: Result<T, Fault>) -> Outcome {
+    match answer {
+        Ok(_) => Fine,
+        Err(Fault::Memory(_)) => Outcome::Other,
+        Err(Fault::Format { at }) => Format(at),
+        Err(Fault::NoMeaning) => Meaning,
+        Err(Fault::TooMany) => TooMany,
     }
 }
 
@@ -110,26 +111,31 @@ fn written(alloc: Global, line: &str) -> Option<Written> {
 }
 
 fn declared(alloc: Global, names: &mut Names, number: u32, line: &str) -> Outcome {
-    let answer = match written(alloc, line) {
-        Some(Written::Declaration(declaration)) => names.declare(number, declaration),
-        Some(Written::Group(group)) => names.group(number, group),
-        _ => return Outcome::Other,
-    };
-    match answer {
-        Ok(()) => Fine,
-        Err(fault) => outcome_of(fault),
+    match written(alloc, line) {
+        Some(Written::Declaration(declaration)) => outcome_of(names.declare(number, declaration)),
+        Some(Written::Group(group)) => outcome_of(names.group(number, group)),
+        other => {
+            drop(other);
+            Outcome::Other
+        }
     }
 }
 
 /// The outcome of the last line; those before it are to be fine.
 fn last_declared(alloc: Global, lines: &str) -> Outcome {
     let mut names = Names::new(alloc);
+    let outcome = last_outcome(alloc, &mut names, lines);
+    drop(names);
+    outcome
+}
+
+fn last_outcome(alloc: Global, names: &mut Names, lines: &str) -> Outcome {
     let mut outcome = Fine;
     for line in lines.split(';') {
         if outcome != Fine {
             return Outcome::Other;
         }
-        outcome = declared(alloc, &mut names, 1, line);
+        outcome = declared(alloc, names, 1, line);
     }
     outcome
 }
@@ -146,51 +152,77 @@ fn other_declared(alloc: Global, cases: &str, wanted: Outcome) -> Option<usize> 
 
 #[test]
 fn declarations(rt: HostRuntime) {
-    let alloc = rt.alloc();
-    assert_eq!(rt; other_declared(alloc, DECLARED_FINE, Fine), None);
-    assert_eq!(rt; other_declared(alloc, DECLARED_MEANINGLESS, Meaning), None);
-    assert_eq!(rt; other_declared(alloc, DECLARED_TOO_MANY, TooMany), None);
+    let tables = [
+        (DECLARED_FINE, Fine),
+        (DECLARED_MEANINGLESS, Meaning),
+        (DECLARED_TOO_MANY, TooMany),
+    ];
+    for (table, (cases, wanted)) in tables.iter().enumerate() {
+        assert_eq!(rt;
+            other_declared(rt.alloc(), cases, *wanted),
+            None,
+            "table {table}"
+        );
+    }
+}
+
+/// Declares the variable of a number.
+fn declared_one(alloc: Global, names: &mut Names, number: u32) -> Outcome {
+    match format!(in alloc; "INTEGER V{number}") {
+        Ok(line) => declared(alloc, names, number, line.as_str()),
+        Err(_) => Outcome::Other,
+    }
 }
 
 /// Declares so many variables, and answers how many were fine before one was not.
-fn declared_of(alloc: Global, names: &mut Names, count: u32) -> Result<u32, AllocError> {
-    for n in 0..count {
-        let line = format!(in alloc; "INTEGER V{n}")?;
-        if declared(alloc, names, n, line.as_str()) != Fine {
-            return Ok(n);
+fn declared_of(alloc: Global, names: &mut Names, count: u32) -> u32 {
+    for number in 0..count {
+        if declared_one(alloc, names, number) != Fine {
+            return number;
         }
     }
-    Ok(count)
+    count
+}
+
+/// How many of 4,096 variables are declared, how many there are then, and whether another one is too many.
+fn declared_many(alloc: Global) -> (u32, usize, bool) {
+    let mut names = Names::new(alloc);
+    let fine = declared_of(alloc, &mut names, 4096);
+    let held = names.variables().len();
+    let beyond = declared(alloc, &mut names, 1, "INTEGER V4096");
+    drop(names);
+    (fine, held, beyond == TooMany)
 }
 
 /// 4,096 variables are declared, and no more.
 #[test]
-fn many_variables(rt: HostRuntime) -> Result<(), AllocError> {
-    let alloc = rt.alloc();
-    let mut names = Names::new(alloc);
-    assert_eq!(rt; declared_of(alloc, &mut names, 4096)?, 4096);
-    assert_eq!(rt; names.variables().len(), 4096);
-    assert!(rt; declared(alloc, &mut names, 1, "INTEGER V4096") == TooMany);
-    Ok(())
+fn many_variables(rt: HostRuntime) {
+    assert_eq!(rt; declared_many(rt.alloc()), (4096, 4096, true));
+}
+
+/// Declares what the statements are about, and answers whether all was fine.
+fn declare_common(alloc: Global, names: &mut Names) -> bool {
+    for (line, text) in DECLARED.iter().enumerate() {
+        if declared(alloc, names, line as u32, text) != Fine {
+            return false;
+        }
+    }
+    true
 }
 
 fn common_names(alloc: Global) -> Option<Names> {
     let mut names = Names::new(alloc);
-    for (line, text) in DECLARED.iter().enumerate() {
-        if declared(alloc, &mut names, line as u32, text) != Fine {
-            return None;
-        }
+    if declare_common(alloc, &mut names) {
+        return Some(names);
     }
-    Some(names)
+    drop(names);
+    None
 }
 
 fn stated(alloc: Global, names: &Names, line: &str) -> Outcome {
-    let Some(written) = written(alloc, line) else {
-        return Outcome::Other;
-    };
-    match statement(alloc, names, written) {
-        Ok(_) => Fine,
-        Err(fault) => outcome_of(fault),
+    match written(alloc, line) {
+        Some(written) => outcome_of(statement(alloc, names, written)),
+        None => Outcome::Other,
     }
 }
 
@@ -204,29 +236,67 @@ fn other_stated(alloc: Global, names: &Names, lines: &str, wanted: Outcome) -> O
     None
 }
 
-#[test]
-fn statements(rt: HostRuntime) {
-    let alloc = rt.alloc();
-    let Some(names) = common_names(alloc) else {
-        panic!(rt; "no names");
-    };
-    assert_eq!(rt; other_stated(alloc, &names, FINE, Fine), None);
-    assert_eq!(rt; other_stated(alloc, &names, MEANINGLESS, Meaning), None);
-    assert_eq!(rt; other_stated(alloc, &names, TOO_MANY, TooMany), None);
+/// The first table, and the number of its first statement with another outcome.
+fn other_in_tables(alloc: Global, names: &Names) -> Option<(usize, usize)> {
+    let tables = [(FINE, Fine), (MEANINGLESS, Meaning), (TOO_MANY, TooMany)];
+    for (table, (lines, wanted)) in tables.iter().enumerate() {
+        if let Some(number) = other_stated(alloc, names, lines, *wanted) {
+            return Some((table, number));
+        }
+    }
+    None
+}
+
+/// The first statement whose format has its fault elsewhere.
+fn other_format(alloc: Global, names: &Names) -> Option<&'static str> {
     for (line, at) in FORMATS.iter() {
-        assert!(rt; stated(alloc, &names, line) == Format(*at), "{line}");
+        if stated(alloc, names, line) != Format(*at) {
+            return Some(*line);
+        }
+    }
+    None
+}
+
+/// Both among the common names, and whether these are there.
+fn others(alloc: Global) -> (Option<(usize, usize)>, Option<&'static str>, bool) {
+    match common_names(alloc) {
+        Some(names) => {
+            let in_tables = other_in_tables(alloc, &names);
+            let format = other_format(alloc, &names);
+            drop(names);
+            (in_tables, format, true)
+        }
+        None => (None, None, false),
     }
 }
 
 #[test]
-fn lines_of_declarations(rt: HostRuntime) {
-    let Some(names) = common_names(rt.alloc()) else {
-        panic!(rt; "no names");
-    };
+fn statements(rt: HostRuntime) {
+    let (in_tables, format, there) = others(rt.alloc());
+    assert_eq!(rt; in_tables, None);
+    assert_eq!(rt; format, None);
+    assert!(rt; there, "no names");
+}
+
+/// How many variables there are, and whether one of them and the line of the group are as declared.
+fn parts(names: Names) -> (usize, bool, bool) {
     let (variables, lines) = names.into_parts();
-    assert_eq!(rt; variables.len(), 11);
-    assert!(rt; matches!(variables.get(3), Some(k) if k.line == 1 && k.kind == Kind::Int8));
-    assert!(rt; matches!(lines.get(0), Some(7)));
+    let is_declared = matches!(variables.get(3), Some(k) if k.line == 1 && k.kind == Kind::Int8);
+    (
+        variables.len(),
+        is_declared,
+        matches!(lines.get(0), Some(7)),
+    )
+}
+
+/// The same of the common names.
+fn common_parts(alloc: Global) -> Option<(usize, bool, bool)> {
+    Some(parts(common_names(alloc)?))
+}
+
+#[test]
+fn lines_of_declarations(rt: HostRuntime) {
+    assert_eq!(rt; common_parts(rt.alloc()), Some((11, true, true)));
 }
 
 fn is_array(item: Option<&Operand>) -> bool {
@@ -267,16 +337,39 @@ fn is_write(transfer: &Transfer) -> bool {
         && are_two_characters(transfer.items.get(3))
 }
 
+fn is_stated_write(answer: &Result<Statement, Fault>) -> bool {
+    match answer {
+        Ok(Statement::Transfer(transfer)) => is_write(transfer),
+        _ => false,
+    }
+}
+
+/// Whether a line is the WRITE with these items.
+fn has_items(alloc: Global, names: &Names, line: &str) -> bool {
+    let Some(written) = written(alloc, line) else {
+        return false;
+    };
+    let answer = statement(alloc, names, written);
+    let is_so = is_stated_write(&answer);
+    drop(answer);
+    is_so
+}
+
+/// The same among the common names.
+fn has_common_items(alloc: Global, line: &str) -> bool {
+    match common_names(alloc) {
+        Some(names) => {
+            let is_so = has_items(alloc, &names, line);
+            drop(names);
+            is_so
+        }
+        None => false,
+    }
+}
+
 /// The items of a WRITE.
 #[test]
 fn items(rt: HostRuntime) {
-    let alloc = rt.alloc();
     let line = "WRITE(10,'(I5)') A,A(2),5000000000,'ab'";
-    let (Some(names), Some(written)) = (common_names(alloc), written(alloc, line)) else {
-        panic!(rt; "no statement");
-    };
-    match statement(alloc, &names, written) {
-        Ok(Statement::Transfer(transfer)) => assert!(rt; is_write(&transfer)),
-        _ => panic!(rt; "no transfer"),
-    }
+    assert!(rt; has_common_items(rt.alloc(), line));
 }

@@ -58,27 +58,65 @@ static REFUSED: &str = "\
     READ(UNIT,*)A|READ 10|READ(10,FMT=5)A|READ(10,*,'(I1)')A|READ(10,NML='G')|READ(10,SIGN='PLUS')A|\
     WRITE(UNIT=10,'(I1)')A|WRITE(10,IOSTAT=S,'(I1)')A|WRITE(10,*)A,|WRITE(10,*)A B";
 
+/// What a line is to be read as.
+#[derive(Clone, Copy)]
+enum Wanted {
+    /// Any statement.
+    Any,
+    Open,
+    Write,
+    Endfile,
+    Close,
+    Declaration,
+    Inquiry,
+}
+
 #[derive(Clone, Copy, PartialEq, Eq)]
 enum Outcome {
     Blank,
+    /// The statement that is wanted.
     Statement,
+    /// A statement that is not wanted.
+    Other,
     Refused,
     Memory,
 }
 
-fn outcome_of(alloc: Global, line: &[u8]) -> Outcome {
-    match parse_line(alloc, line) {
+fn outcome_of(alloc: Global, line: &[u8], wanted: Wanted) -> Outcome {
+    let read = parse_line(alloc, line);
+    let outcome = outcome_so(&read, wanted);
+    drop(read);
+    outcome
+}
+
+/// The outcome of a line that was read so.
+fn outcome_so(read: &Result<Option<Written>, SyntaxFault>, wanted: Wanted) -> Outcome {
+    match read {
         Ok(None) => Outcome::Blank,
-        Ok(Some(_)) => Outcome::Statement,
+        Ok(Some(statement)) if is_wanted(statement, wanted) => Outcome::Statement,
+        Ok(Some(_)) => Outcome::Other,
         Err(SyntaxFault::NotAStatement) => Outcome::Refused,
         Err(SyntaxFault::Memory(_)) => Outcome::Memory,
+    }
+}
+
+fn is_wanted(statement: &Written, wanted: Wanted) -> bool {
+    match (wanted, statement) {
+        (Wanted::Any, _) => true,
+        (Wanted::Open, Written::Open(open)) => is_open(open),
+        (Wanted::Write, Written::Transfer(write)) => is_write(write),
+        (Wanted::Endfile, Written::Move(motion)) => is_endfile(motion),
+        (Wanted::Close, Written::Close(close)) => is_close(close),
+        (Wanted::Declaration, Written::Declaration(one)) => is_declaration(one),
+        (Wanted::Inquiry, Written::Inquire(one)) => is_inquiry(one),
+        _ => false,
     }
 }
 
 /// The number of the first line with another outcome.
 fn differs(alloc: Global, lines: &str, wanted: Outcome) -> Option<usize> {
     for (number, line) in lines.as_bytes().split(|byte| *byte == b'|').enumerate() {
-        if outcome_of(alloc, line) != wanted {
+        if outcome_of(alloc, line, Wanted::Any) != wanted {
             return Some(number);
         }
     }
@@ -87,9 +125,14 @@ fn differs(alloc: Global, lines: &str, wanted: Outcome) -> Option<usize> {
 
 #[test]
 fn outcomes(rt: HostRuntime) {
-    assert_eq!(rt; differs(rt.alloc(), BLANK, Outcome::Blank), None);
-    assert_eq!(rt; differs(rt.alloc(), STATEMENTS, Outcome::Statement), None);
-    assert_eq!(rt; differs(rt.alloc(), REFUSED, Outcome::Refused), None);
+    let tables = [
+        (BLANK, Outcome::Blank),
+        (STATEMENTS, Outcome::Statement),
+        (REFUSED, Outcome::Refused),
+    ];
+    for (table, (lines, wanted)) in tables.iter().enumerate() {
+        assert_eq!(rt; differs(rt.alloc(), lines, *wanted), None, "table {table}");
+    }
 }
 
 #[test]
@@ -105,13 +148,6 @@ fn lines_of_a_text(rt: HostRuntime) {
         }
     }
     assert!(rt; next_line(rest).is_none());
-}
-
-fn written(alloc: Global, line: &str) -> Written {
-    match parse_line(alloc, line.as_bytes()) {
-        Ok(Some(written)) => written,
-        _ => Written::End,
-    }
 }
 
 fn is_element(place: Option<&Designator>, name: &[u8], number: u32) -> bool {
@@ -132,13 +168,6 @@ fn is_open(open: &OnUnit<OpenSpec>) -> bool {
         && spec.recl == Some(80)
         && spec.position.is_none()
         && spec.asynchronous.is_none()
-}
-
-#[test]
-fn opens(rt: HostRuntime) {
-    let line =
-        "open(10,file='x.Y  ',status='old ',access='Direct',form='FORMATTED',recl=+80,iostat=s(2))";
-    assert!(rt; matches!(&written(rt.alloc(), line), Written::Open(open) if is_open(open)));
 }
 
 fn are_items(items: &[Operand]) -> bool {
@@ -166,12 +195,6 @@ fn is_write(write: &Transfer) -> bool {
         && write.advance == Some(false)
 }
 
-#[test]
-fn transfers(rt: HostRuntime) {
-    let line = "WRITE(*,'(''a'',I5)',DELIM='quote',SIGN='PLUS',ADVANCE='NO',ID=N) 5,'it''s',B(3)";
-    assert!(rt; matches!(&written(rt.alloc(), line), Written::Transfer(write) if is_write(write)));
-}
-
 fn is_endfile(motion: &OnUnit<Motion>) -> bool {
     motion.what == Motion::Endfile && motion.unit == UnitRef::Number(7) && motion.iostat.is_none()
 }
@@ -192,14 +215,35 @@ fn is_inquiry(inquire: &Inquire) -> bool {
         && matches!(inquire.asked.get(0), Some(asking) if asking.what == Question::Size)
 }
 
+/// Whether a line is read as the statement that is wanted.
+fn is_read(alloc: Global, line: &str, wanted: Wanted) -> bool {
+    outcome_of(alloc, line.as_bytes(), wanted) == Outcome::Statement
+}
+
+#[test]
+fn opens(rt: HostRuntime) {
+    let line =
+        "open(10,file='x.Y  ',status='old ',access='Direct',form='FORMATTED',recl=+80,iostat=s(2))";
+    assert!(rt; is_read(rt.alloc(), line, Wanted::Open));
+}
+
+#[test]
+fn transfers(rt: HostRuntime) {
+    let line = "WRITE(*,'(''a'',I5)',DELIM='quote',SIGN='PLUS',ADVANCE='NO',ID=N) 5,'it''s',B(3)";
+    assert!(rt; is_read(rt.alloc(), line, Wanted::Write));
+}
+
+/// Other statements whose parts are looked at.
+static OTHERS: [(&str, Wanted); 4] = [
+    ("END FILE 7", Wanted::Endfile),
+    ("CLOSE(7,STATUS='keep')", Wanted::Close),
+    ("CHARACTER(7) C(2),D", Wanted::Declaration),
+    ("INQUIRE(SIZE=N,FILE='X',EXIST=L)", Wanted::Inquiry),
+];
+
 #[test]
 fn others(rt: HostRuntime) {
-    let motion = written(rt.alloc(), "END FILE 7");
-    assert!(rt; matches!(&motion, Written::Move(motion) if is_endfile(motion)));
-    let close = written(rt.alloc(), "CLOSE(7,STATUS='keep')");
-    assert!(rt; matches!(&close, Written::Close(close) if is_close(close)));
-    let kind = written(rt.alloc(), "CHARACTER(7) C(2),D");
-    assert!(rt; matches!(&kind, Written::Declaration(one) if is_declaration(one)));
-    let inquire = written(rt.alloc(), "INQUIRE(SIZE=N,FILE='X',EXIST=L)");
-    assert!(rt; matches!(&inquire, Written::Inquire(one) if is_inquiry(one)));
+    for (line, wanted) in OTHERS.iter() {
+        assert!(rt; is_read(rt.alloc(), line, *wanted), "{line}");
+    }
 }

@@ -4,7 +4,7 @@ ghost use Rattle.fj_outside.specs.Faults.{Rose};
 
 use fj_outside::{Buffered, Failed, FileStore, MemoryFile, Stop};
 use std::alloc::{AllocError, Global};
-use std::test::Fail;
+use std::test::*;
 
 /// A file in memory that counts its reads, writes and cuts, of which one fails. A write that fails writes one byte.
 #[derive(Drop)]
@@ -201,26 +201,32 @@ fn go(
     Ok(agreed)
 }
 
-/// Whether a file with a window goes through all acts as one without; the k-th call on it fails.
-fn goes_through(alloc: Global, bytes: &[u8], fails: u64) -> Result<bool, AllocError> {
-    let mut file = sent(buffered(alloc, bytes, fails)?);
-    let mut plain = MemoryFile::from_bytes(alloc, bytes)?;
-    let agreed = go(alloc, &mut file, &mut plain, fails == 0)?;
-    if !agreed || file.faults() != fails.min(1) {
-        return Ok(false);
-    }
+/// Whether both go through all acts with as many faults, and hold the same then.
+fn go_both(alloc: Global, file: Buffered<Counting>, plain: MemoryFile, fails: u64) -> bool {
+    let mut file = file;
+    let mut plain = plain;
+    let agreed = matches!(go(alloc, &mut file, &mut plain, fails == 0), Ok(true));
+    let faults = file.faults();
     let file = file.into_inner();
-    Ok(file.inner.bytes() == plain.bytes())
+    agreed && faults == fails.min(1) && file.inner.bytes() == plain.bytes()
+}
+
+/// Whether a file with a window goes through all acts as one without; the k-th call on it fails.
+fn goes_through(alloc: Global, fails: u64) -> Result<bool, AllocError> {
+    let bytes = numbered(alloc)?;
+    let plain = MemoryFile::from_bytes(alloc, &bytes)?;
+    match buffered(alloc, &bytes, fails) {
+        Ok(file) => Ok(go_both(alloc, sent(file), plain, fails)),
+        Err(error) => Err(error),
+    }
 }
 
 // The k-th call fails, for each k; 0 for none.
 #[test]
-fn a_window_answers_as_the_file(rt: HostRuntime) -> Result<(), Fail> {
-    let bytes = numbered(rt.alloc())?;
+fn a_window_answers_as_the_file(rt: HostRuntime) {
     for fails in 0..13 {
-        assert!(rt; goes_through(rt.alloc(), &bytes, fails)?, "{fails}");
+        assert_eq!(rt; goes_through(rt.alloc(), fails), Ok(true), "{fails}");
     }
-    Ok(())
 }
 
 /// Fills at a place, and answers how many bytes are at hand there then.
@@ -254,12 +260,21 @@ fn lends_the_last(file: &Buffered<Counting>) -> bool {
     file.at_hand(19_999).first() == Some(&170)
 }
 
+/// Whether nothing is at hand in the beginning, the first fill that comes to something else, whether the last byte is at hand, and
+/// the number of faults.
+fn lent(alloc: Global) -> Result<(bool, Option<usize>, bool, u64), AllocError> {
+    let bytes = numbered(alloc)?;
+    match buffered(alloc, &bytes, 3) {
+        Ok(mut file) => {
+            let is_empty = file.at_hand(0).is_empty();
+            let other = other_fill(&mut file);
+            Ok((is_empty, other, lends_the_last(&file), file.faults()))
+        }
+        Err(error) => Err(error),
+    }
+}
+
 #[test]
-fn a_window_lends_what_it_holds(rt: HostRuntime) -> Result<(), Fail> {
-    let bytes = numbered(rt.alloc())?;
-    let mut file = buffered(rt.alloc(), &bytes, 3)?;
-    assert!(rt; file.at_hand(0).is_empty());
-    assert_eq!(rt; other_fill(&mut file), None);
-    assert!(rt; lends_the_last(&file) && file.faults() == 1);
-    Ok(())
+fn a_window_lends_what_it_holds(rt: HostRuntime) {
+    assert_eq!(rt; lent(rt.alloc()), Ok((true, None, true, 1)));
 }

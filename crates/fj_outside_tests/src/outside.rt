@@ -34,30 +34,42 @@ static READS: [([u64; 2], &[u8], u64); 4] = [
 ];
 
 /// Whether reads come to this.
-fn come<S: Source>(
-    alloc: Global,
-    source: &mut S,
-    said: &[u8],
-    faults: u64,
-) -> Result<bool, AllocError> {
-    let got = reads(alloc, source)?;
-    Ok(got.as_slice() == said && source.faults() == faults)
+fn come<S: Source>(alloc: Global, source: &mut S, said: &[u8], faults: u64) -> bool {
+    match reads(alloc, source) {
+        Ok(got) => got.as_slice() == said && source.faults() == faults,
+        Err(_) => false,
+    }
 }
 
 fn planned_source(alloc: Global, fails: [u64; 2]) -> Result<FailingSource, AllocError> {
     FailingSource::new(alloc, MemorySource::new(alloc, b"abcde")?, &fails)
 }
 
-#[test]
-fn reads_fail_by_plan(rt: HostRuntime) -> Result<(), Fail> {
-    let alloc = rt.alloc();
-    for (fails, said, faults) in READS.iter() {
-        let mut source = planned_source(alloc, *fails)?;
-        assert!(rt; come(alloc, &mut source, said, *faults)?);
+/// Whether the reads that fail by a plan come to this.
+fn come_by_plan(alloc: Global, fails: [u64; 2], said: &[u8], faults: u64) -> bool {
+    match planned_source(alloc, fails) {
+        Ok(mut source) => come(alloc, &mut source, said, faults),
+        Err(_) => false,
     }
-    let mut source = MemorySource::new(alloc, b"abcde")?;
-    assert!(rt; come(alloc, &mut source, b"ab|cd|e|||", 0)?);
-    Ok(())
+}
+
+/// The same of a source of which none fails.
+fn come_from_memory(alloc: Global, said: &[u8]) -> bool {
+    match MemorySource::new(alloc, b"abcde") {
+        Ok(mut source) => come(alloc, &mut source, said, 0),
+        Err(_) => false,
+    }
+}
+
+#[test]
+fn reads_fail_by_plan(rt: HostRuntime) {
+    for (number, (fails, said, faults)) in READS.iter().enumerate() {
+        assert!(rt;
+            come_by_plan(rt.alloc(), *fails, said, *faults),
+            "row {number}"
+        );
+    }
+    assert!(rt; come_from_memory(rt.alloc(), b"ab|cd|e|||"));
 }
 
 /// How many bytes each of three writes took; `!` for one that failed.
@@ -82,23 +94,36 @@ static WRITES: [([u64; 2], &[u8], &[u8], u64); 4] = [
 ];
 
 /// Whether writes are answered so.
-fn go<S: Sink>(alloc: Global, sink: &mut S, said: &[u8], faults: u64) -> Result<bool, AllocError> {
-    let got = writes(alloc, sink)?;
-    Ok(got.as_slice() == said && sink.faults() == faults)
+fn go<S: Sink>(alloc: Global, sink: &mut S, said: &[u8], faults: u64) -> bool {
+    match writes(alloc, sink) {
+        Ok(got) => got.as_slice() == said && sink.faults() == faults,
+        Err(_) => false,
+    }
+}
+
+/// Whether the writes that fail by a plan are answered so, and that was taken.
+fn go_by_plan(alloc: Global, fails: &[u64], said: &[u8], taken: &[u8], faults: u64) -> bool {
+    match FailingSink::new(alloc, MemorySink::new(alloc), fails) {
+        Ok(mut sink) => go(alloc, &mut sink, said, faults) && sink.taken() == taken,
+        Err(_) => false,
+    }
+}
+
+/// The same of a sink of which none fails.
+fn go_to_memory(alloc: Global, said: &[u8], taken: &[u8]) -> bool {
+    let mut sink = MemorySink::new(alloc);
+    go(alloc, &mut sink, said, 0) && sink.taken() == taken
 }
 
 #[test]
-fn writes_fail_by_plan(rt: HostRuntime) -> Result<(), Fail> {
-    let alloc = rt.alloc();
-    for (fails, said, taken, faults) in WRITES.iter() {
-        let mut sink = FailingSink::new(alloc, MemorySink::new(alloc), fails)?;
-        assert!(rt; go(alloc, &mut sink, said, *faults)?);
-        assert_eq!(rt; sink.taken(), *taken);
+fn writes_fail_by_plan(rt: HostRuntime) {
+    for (number, (fails, said, taken, faults)) in WRITES.iter().enumerate() {
+        assert!(rt;
+            go_by_plan(rt.alloc(), fails, said, taken, *faults),
+            "row {number}"
+        );
     }
-    let mut sink = MemorySink::new(alloc);
-    assert!(rt; go(alloc, &mut sink, b"222", 0)?);
-    assert_eq!(rt; sink.taken(), b"abcdef".as_slice());
-    Ok(())
+    assert!(rt; go_to_memory(rt.alloc(), b"222", b"abcdef"));
 }
 
 /// What is done with a file that is out.
@@ -204,8 +229,17 @@ fn story<D: Disk>(alloc: Global, disk: &mut D) -> [u8; 6]
     [added, made, count, cut, removed, again]
 }
 
-/// A disk with a file `A`, of which these calls fail, and these on its files.
+/// A disk with a file `A`.
 #[tactic(auto, using(fj_outside::proofs::HoldingLaws::free_of_none))]
+fn disk_with_a(alloc: Global) -> Result<MemoryDisk, AllocError>
+    ensures { IfOk result (λ disk. disk.in_use ≡ set.empty) }
+{
+    let mut disk = MemoryDisk::new(alloc);
+    disk.add_file("A", b"abc")?;
+    Ok(disk)
+}
+
+/// A disk with a file `A`, of which these calls fail, and these on its files.
 fn planned(
     alloc: Global,
     disk_fails: [u64; 2],
@@ -214,9 +248,7 @@ fn planned(
 ) -> Result<FailingDisk, AllocError>
     ensures { IfOk result (λ disk. (disk_held disk).in_use ≡ set.empty) }
 {
-    let mut inner = MemoryDisk::new(alloc);
-    inner.add_file("A", b"abc")?;
-    let mut disk = FailingDisk::new(alloc, inner, &disk_fails)?;
+    let mut disk = FailingDisk::new(alloc, disk_with_a(alloc)?, &disk_fails)?;
     disk.fail_file("A", &a_fails)?;
     disk.fail_file("B", &b_fails)?;
     Ok(disk)
@@ -250,37 +282,47 @@ static ROWS: [Row; 12] = [
 ];
 
 /// Whether a row holds; A is gone.
-fn fails_by_plan(alloc: Global, row: &Row) -> Result<bool, AllocError> {
+fn fails_by_plan(alloc: Global, row: &Row) -> bool {
     let (disk_fails, a_fails, b_fails, said, b_bytes, faults) = *row;
-    let mut disk = planned(alloc, disk_fails, a_fails, b_fails)?;
-    let told = story(alloc, &mut disk);
-    Ok(
-        told == said
-            && disk.bytes_of("A").is_none()
-            && disk.bytes_of("B") == b_bytes
-            && disk.faults() == faults,
-    )
-}
-
-#[test]
-fn disks_fail_by_plan(rt: HostRuntime) -> Result<(), Fail> {
-    for (number, row) in ROWS.iter().enumerate() {
-        assert!(rt; fails_by_plan(rt.alloc(), row)?, "row {number}");
+    match planned(alloc, disk_fails, a_fails, b_fails) {
+        Ok(mut disk) => {
+            let told = story(alloc, &mut disk);
+            let is_so = told == said
+                && disk.bytes_of("A").is_none()
+                && disk.bytes_of("B") == b_bytes
+                && disk.faults() == faults;
+            drop(disk);
+            is_so
+        }
+        Err(_) => false,
     }
-    Ok(())
 }
 
 #[test]
-#[tactic(auto, using(fj_outside::proofs::HoldingLaws::free_of_none))]
-fn memory_disks_have_no_faults(rt: HostRuntime) -> Result<(), Fail> {
-    let alloc = rt.alloc();
-    let mut disk = MemoryDisk::new(alloc);
-    disk.add_file("A", b"abc")?;
-    assert_eq!(rt; story(alloc, &mut disk), *b"..4.r-");
-    assert_eq!(rt; disk.bytes_of("A"), None);
-    assert_eq!(rt; disk.bytes_of("B"), Some(b"de".as_slice()));
-    assert_eq!(rt; disk.faults(), 0);
-    Ok(())
+fn disks_fail_by_plan(rt: HostRuntime) {
+    for (number, row) in ROWS.iter().enumerate() {
+        assert!(rt; fails_by_plan(rt.alloc(), row), "row {number}");
+    }
+}
+
+/// What the story says on a disk in memory, whether A is gone and B has its bytes, and the number of faults.
+fn told_in_memory(alloc: Global) -> Result<([u8; 6], bool, bool, u64), AllocError> {
+    match disk_with_a(alloc) {
+        Ok(mut disk) => {
+            let said = story(alloc, &mut disk);
+            let gone = disk.bytes_of("A").is_none();
+            let added = disk.bytes_of("B") == Some(b"de".as_slice());
+            let faults = disk.faults();
+            drop(disk);
+            Ok((said, gone, added, faults))
+        }
+        Err(error) => Err(error),
+    }
+}
+
+#[test]
+fn memory_disks_have_no_faults(rt: HostRuntime) {
+    assert_eq!(rt; told_in_memory(rt.alloc()), Ok((*b"..4.r-", true, true, 0)));
 }
 
 /// Whether a file is at home with these bytes.
@@ -291,22 +333,49 @@ fn holds(disk: &FailingDisk, name: &str, bytes: &[u8]) -> bool {
     }
 }
 
+/// Adds to the file `A` and cuts it, of which the second call fails; what both answer, and whether it has its bytes.
+fn cut_in_vain(alloc: Global, disk: &mut FailingDisk) -> ([u8; 2], bool)
+    requires { (disk_held disk.old).in_use ≡ set.empty }
+    ensures { (disk_held disk.new).in_use ≡ set.empty }
+{
+    let added = act(alloc, disk, "A", Step::Add);
+    let is_planned = disk.fail_file("A", &[2]).is_ok();
+    let cut = act(alloc, disk, "A", Step::Cut);
+    ([added, cut], is_planned && holds(disk, "A", b"de"))
+}
+
+/// Removes the file `A` and adds to it, where its fourth call fails; what both answer, and whether it has no bytes.
+fn added_in_vain(alloc: Global, disk: &mut FailingDisk) -> ([u8; 2], bool)
+    requires { (disk_held disk.old).in_use ≡ set.empty }
+{
+    let is_planned = disk.fail_file("A", &[4]).is_ok();
+    let removed = remove(disk, "A");
+    let added = act(alloc, disk, "A", Step::Add);
+    ([removed, added], is_planned && holds(disk, "A", b""))
+}
+
+/// What calls on one file answer and whether it has its bytes: two, one, and two behind them; and the number of faults.
+type Counted = (([u8; 2], bool), (u8, bool), ([u8; 2], bool), u64);
+
+fn counted_on(alloc: Global) -> Result<Counted, AllocError> {
+    match FailingDisk::new(alloc, MemoryDisk::new(alloc), &[]) {
+        Ok(mut disk) => {
+            let first = cut_in_vain(alloc, &mut disk);
+            let cut = act(alloc, &mut disk, "A", Step::Cut);
+            let is_cut = holds(&disk, "A", b"d");
+            let last = added_in_vain(alloc, &mut disk);
+            let faults = disk.faults();
+            drop(disk);
+            Ok((first, (cut, is_cut), last, faults))
+        }
+        Err(error) => Err(error),
+    }
+}
+
 #[test]
-fn calls_on_a_file_count_on(rt: HostRuntime) -> Result<(), Fail> {
-    let alloc = rt.alloc();
-    let mut disk = FailingDisk::new(alloc, MemoryDisk::new(alloc), &[])?;
-    assert_eq!(rt; act(alloc, &mut disk, "A", Step::Add), b'.');
-    disk.fail_file("A", &[2])?;
-    assert_eq!(rt; act(alloc, &mut disk, "A", Step::Cut), b'!');
-    assert!(rt; holds(&disk, "A", b"de"));
-    assert_eq!(rt; act(alloc, &mut disk, "A", Step::Cut), b'.');
-    assert!(rt; holds(&disk, "A", b"d"));
-    disk.fail_file("A", &[4])?;
-    assert_eq!(rt; remove(&mut disk, "A"), b'r');
-    assert_eq!(rt; act(alloc, &mut disk, "A", Step::Add), b'!');
-    assert!(rt; holds(&disk, "A", b""));
-    assert_eq!(rt; disk.faults(), 2);
-    Ok(())
+fn calls_on_a_file_count_on(rt: HostRuntime) {
+    let due = ((*b".!", true), (b'.', true), (*b"r!", true), 2);
+    assert_eq!(rt; counted_on(rt.alloc()), Ok(due));
 }
 
 #[test]
@@ -323,27 +392,50 @@ fn has(disk: &GateDisk, name: &str, bytes: &[u8]) -> bool {
     }
 }
 
+/// What an addition to the file that waits answers, whether it has no bytes, and the number of faults; then what four more answer
+/// to files of which the third opens the gate, whether the one that waited has its bytes, and the number of faults.
+type Gated = (u8, bool, u64, [u8; 4], bool, u64);
+
+fn gated(alloc: Global) -> Result<Gated, AllocError> {
+    match GateDisk::new(alloc, "H", "J", 1000) {
+        Ok(mut disk) => {
+            let first = act(alloc, &mut disk, "H", Step::Add);
+            let (is_empty, met) = (has(&disk, "H", b""), disk.faults());
+            let other = act(alloc, &mut disk, "K", Step::Add);
+            let again = act(alloc, &mut disk, "H", Step::Add);
+            let opening = act(alloc, &mut disk, "J", Step::Add);
+            let opened = act(alloc, &mut disk, "H", Step::Add);
+            let four = [other, again, opening, opened];
+            let (is_added, faults) = (has(&disk, "H", b"de"), disk.faults());
+            drop(disk);
+            Ok((first, is_empty, met, four, is_added, faults))
+        }
+        Err(error) => Err(error),
+    }
+}
+
+/// What additions to the file that opens the gate and to the one that waits answer, where nobody waits; a story behind them, and
+/// the number of faults.
+fn ungated(alloc: Global) -> Result<([u8; 2], [u8; 6], u64), AllocError> {
+    match GateDisk::new(alloc, "H", "J", 0) {
+        Ok(mut disk) => {
+            let opening = act(alloc, &mut disk, "J", Step::Add);
+            let waiting = act(alloc, &mut disk, "H", Step::Add);
+            let said = story(alloc, &mut disk);
+            let faults = disk.faults();
+            drop(disk);
+            Ok(([opening, waiting], said, faults))
+        }
+        Err(error) => Err(error),
+    }
+}
+
 // What is written to the file that waits, and to the one that opens the gate, in both orders by one thread.
 #[test]
-#[tactic(auto, using(fj_outside::proofs::HoldingLaws::free_of_none))]
-fn a_gate_holds_one_file_until_another_is_written(rt: HostRuntime) -> Result<(), Fail> {
-    let alloc = rt.alloc();
-    let mut disk = GateDisk::new(alloc, "H", "J", 1000)?;
-    assert_eq!(rt; act(alloc, &mut disk, "H", Step::Add), b'!');
-    assert!(rt; has(&disk, "H", b""));
-    assert_eq!(rt; disk.faults(), 1);
-    assert_eq!(rt; act(alloc, &mut disk, "K", Step::Add), b'.');
-    assert_eq!(rt; act(alloc, &mut disk, "H", Step::Add), b'!');
-    assert_eq!(rt; act(alloc, &mut disk, "J", Step::Add), b'.');
-    assert_eq!(rt; act(alloc, &mut disk, "H", Step::Add), b'.');
-    assert!(rt; has(&disk, "H", b"de"));
-    assert_eq!(rt; disk.faults(), 2);
-    let mut disk = GateDisk::new(alloc, "H", "J", 0)?;
-    assert_eq!(rt; act(alloc, &mut disk, "J", Step::Add), b'.');
-    assert_eq!(rt; act(alloc, &mut disk, "H", Step::Add), b'!');
-    assert_eq!(rt; story(alloc, &mut disk), *b"..1.r-");
-    assert_eq!(rt; disk.faults(), 1);
-    Ok(())
+fn a_gate_holds_one_file_until_another_is_written(rt: HostRuntime) {
+    let due = (b'!', true, 1, *b".!..", true, 2);
+    assert_eq!(rt; gated(rt.alloc()), Ok(due));
+    assert_eq!(rt; ungated(rt.alloc()), Ok((*b".!", *b"..1.r-", 1)));
 }
 
 /// Whether a write of two bytes went through.
