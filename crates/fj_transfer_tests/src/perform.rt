@@ -48,15 +48,23 @@ enum Verb {
 /// A READ or WRITE of one item of type CHARACTER: with the number of REC= in direct access, else with that of POS=.
 type Said = (Verb, Form, Option<i64>, &'static [u8]);
 
-/// Records have at most six bytes, but in a stream.
-fn statement(access: Access, formatted: bool, action: Action) -> OpenSpec {
+/// How a file is opened that is there: its access, FORM='FORMATTED', ACTION=, and RECL= where the access has records.
+#[derive(Clone, Copy)]
+pub(crate) struct Opening {
+    pub(crate) access: Access,
+    pub(crate) formatted: bool,
+    pub(crate) action: Option<Action>,
+    pub(crate) recl: u32,
+}
+
+fn statement(opening: &Opening) -> OpenSpec {
     let mut spec = OpenSpec::default();
     spec.status = Some(FileStatus::Old);
-    spec.access = Some(access);
-    spec.formatted = Some(formatted);
-    spec.action = Some(action);
-    if access != Access::Stream {
-        spec.recl = Some(6);
+    spec.access = Some(opening.access);
+    spec.formatted = Some(opening.formatted);
+    spec.action = opening.action;
+    if opening.access != Access::Stream {
+        spec.recl = Some(opening.recl);
     }
     spec
 }
@@ -66,15 +74,16 @@ fn statement(access: Access, formatted: bool, action: Action) -> OpenSpec {
 pub(crate) fn connect<D: Disk>(
     alloc: Global,
     disk: &mut D,
-    spec: &OpenSpec,
+    opening: &Opening,
 ) -> Result<Connection<D::File>, OpenFault>
     requires { D.tells disk.old → (D.held disk.old).in_use ≡ set.empty }
     ensures telling { D.tells disk.old ↔ D.tells disk.new }
     ensures used { D.tells disk.old → IfOk result (λ c. IsInUse (D.held disk.new) c.name) }
 {
     let name = FileName::by_default(alloc, 10)?;
-    match settle_open(spec) {
-        Ok(modes) => open_file(alloc, disk, &name, spec, modes),
+    let spec = statement(opening);
+    match settle_open(&spec) {
+        Ok(modes) => open_file(alloc, disk, &name, &spec, modes),
         Err(condition) => Err(OpenFault::Refused(condition)),
     }
 }
@@ -216,17 +225,35 @@ fn carried_on<F: FileStore>(
 fn carried_out<D: Disk>(
     alloc: Global,
     disk: &mut D,
-    spec: &OpenSpec,
+    opening: &Opening,
     place: u64,
     more: u32,
     job: &mut Transfer,
 ) -> Result<Came, OpenFault>
     requires { D.tells disk.old → (D.held disk.old).in_use ≡ set.empty }
 {
-    let mut c = connect(alloc, disk, spec)?;
+    let mut c = connect(alloc, disk, opening)?;
     let came = carried_on(alloc, &mut c, place, more, job);
     c.close_file(disk, true).map_err(Stop::from)?;
     Ok(came)
+}
+
+/// What a statement with how often it is carried out once more comes to, and whether SIZE= gets this count and the item is this
+/// one then.
+fn leaves<D: Disk>(
+    alloc: Global,
+    disk: &mut D,
+    opening: &Opening,
+    place: u64,
+    carried: (Said, u32),
+    left: (Option<u64>, Option<&[u8]>),
+) -> Result<(Came, bool), Fail>
+    requires { D.tells disk.old → (D.held disk.old).in_use ≡ set.empty }
+{
+    let ((said, more), (count, item)) = (carried, left);
+    let mut job = transfer(alloc, said, opening.access)?;
+    let came = carried_out(alloc, disk, opening, place, more, &mut job)?;
+    Ok((came, job.count == count && is_text(&job.moved, item)))
 }
 
 /// Whether the item has a text; none stands for no value.
@@ -528,18 +555,16 @@ static ROWS: [Row; 42] = [
 
 /// Whether a statement comes to what its row says.
 fn holds(alloc: Global, row: &Row) -> Result<bool, Fail> {
-    let ((access, formatted, action, before), (said, more), (condition, count), (after, at, item)) =
-        *row;
+    let ((access, formatted, action, before), said, (condition, count), (after, at, item)) = *row;
+    let opening = Opening {
+        access,
+        formatted,
+        action: Some(action),
+        recl: 6,
+    };
     let mut disk = disk_of(alloc, before)?;
-    let mut job = transfer(alloc, said, access)?;
-    let spec = statement(access, formatted, action);
-    let came = carried_out(alloc, &mut disk, &spec, 0, more, &mut job)?;
-    Ok(
-        came == (Ok(condition), at)
-            && job.count == count
-            && is_text(&job.moved, item)
-            && disk.bytes_of(NAME) == Some(after),
-    )
+    let came = leaves(alloc, &mut disk, &opening, 0, said, (count, item))?;
+    Ok(came == ((Ok(condition), at), true) && disk.bytes_of(NAME) == Some(after))
 }
 
 #[test]

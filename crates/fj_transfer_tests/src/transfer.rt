@@ -9,7 +9,7 @@ mod files;
 mod listed;
 
 use crate::transfer::listed::members;
-use fj_format::parse;
+use fj_format::{Format, parse};
 use fj_list::{Load, Moved, OutputItems, Run, Values};
 use fj_transfer::{EditChange, Layout, Transfer, TransferSpec, print_explicit, print_records};
 use fj_value::{Cell, Condition, Delim, EditModes, Items, Kind, Place, Tag, Text, Value};
@@ -329,10 +329,9 @@ fn added(
     Ok((condition, out))
 }
 
-/// Whether it is what is wanted.
-fn is_added(got: (Condition, Text), want: Result<&[u8], u8>) -> bool {
-    let (condition, out) = got;
-    match (want, out.bytes()) {
+/// Whether a condition and the bytes then are what is wanted.
+fn is_added(condition: Condition, out: &[u8], want: Result<&[u8], u8>) -> bool {
+    match (want, out) {
         (Ok(text), [b'=', added @ ..]) => condition == Condition::Fine && added == text,
         (Err(error), bytes) => condition == Condition::Error(error) && bytes == b"=".as_slice(),
         (Ok(_), _) => false,
@@ -361,11 +360,60 @@ fn output(
     Ok(transfer(layout, items, advance, edit))
 }
 
+/// How an output is written: so many of each item, under ADVANCE=, the modes of the statement and the sign mode of the
+/// connection, to a record that has so many characters and may have so many.
+#[derive(Clone, Copy)]
+struct Way {
+    times: u32,
+    advance: bool,
+    edit: EditChange,
+    plus: bool,
+    begun: u32,
+    recl: u32,
+}
+
+const WAY: Way = Way {
+    times: 1,
+    advance: true,
+    edit: NO_CHANGE,
+    plus: false,
+    begun: 0,
+    recl: 80,
+};
+
+/// What an output adds to `=`.
+fn printed(
+    alloc: Global,
+    format: &str,
+    items: &[Item],
+    way: &Way,
+) -> Result<(Condition, Text), Fail> {
+    let job = output(alloc, format, items, way.times, way.advance, way.edit)?;
+    Ok(added(alloc, &job, way.plus, way.recl, way.begun)?)
+}
+
+/// Whether an output comes to what is wanted.
+fn prints(
+    alloc: Global,
+    format: &str,
+    items: &[Item],
+    way: &Way,
+    want: Result<&[u8], u8>,
+) -> Result<bool, Fail> {
+    let (condition, out) = printed(alloc, format, items, way)?;
+    Ok(is_added(condition, out.bytes(), want))
+}
+
 /// Whether a row holds.
 fn writes(alloc: Global, advance: bool, row: &Row) -> Result<bool, Fail> {
     let (format, items, begun, recl, want) = *row;
-    let job = output(alloc, format, items, 1, advance, NO_CHANGE)?;
-    Ok(is_added(added(alloc, &job, false, recl, begun)?, want))
+    let way = Way {
+        advance,
+        begun,
+        recl,
+        ..WAY
+    };
+    prints(alloc, format, items, &way, want)
 }
 
 #[test]
@@ -409,8 +457,19 @@ fn signs(alloc: Global, row: &Signed) -> Result<bool, Fail> {
         plus: change,
         ..NO_CHANGE
     };
-    let job = output(alloc, format, &[I4(1), I4(2)], 1, true, edit)?;
-    Ok(is_added(added(alloc, &job, plus, 80, 0)?, Ok(want)))
+    let way = Way { edit, plus, ..WAY };
+    prints(alloc, format, &[I4(1), I4(2)], &way, Ok(want))
+}
+
+/// Whether DELIM= of the statement holds.
+fn delimits(alloc: Global) -> Result<bool, Fail> {
+    let edit = EditChange {
+        delim: Some(Delim::Quote),
+        ..NO_CHANGE
+    };
+    let items = [A(b"a\"b"), A(b"'")];
+    let want = b" \"a\"\"b\" \"'\"\n";
+    prints(alloc, "*", &items, &Way { edit, ..WAY }, Ok(want))
 }
 
 /// The modes of the connection, those that the statement names, and those of the format.
@@ -419,13 +478,7 @@ fn modes(rt: HostRuntime) -> Result<(), Fail> {
     for (number, row) in SIGNED.iter().enumerate() {
         assert!(rt; signs(rt.alloc(), row)?, "row {number}");
     }
-    let edit = EditChange {
-        delim: Some(Delim::Quote),
-        ..NO_CHANGE
-    };
-    let job = output(rt.alloc(), "*", &[A(b"a\"b"), A(b"'")], 1, true, edit)?;
-    let got = added(rt.alloc(), &job, false, 80, 0)?;
-    assert!(rt; is_added(got, Ok(b" \"a\"\"b\" \"'\"\n")));
+    assert!(rt; delimits(rt.alloc())?);
     Ok(())
 }
 
@@ -449,8 +502,13 @@ static LIMITS: [Limit; 4] = [
 /// Whether a row holds.
 fn is_limit(alloc: Global, row: &Limit) -> Result<bool, Fail> {
     let (format, times, advance, recl, condition, bytes) = *row;
-    let job = output(alloc, format, &[A(b"x")], times, advance, NO_CHANGE)?;
-    let (told, out) = added(alloc, &job, false, recl, 0)?;
+    let way = Way {
+        times,
+        advance,
+        recl,
+        ..WAY
+    };
+    let (told, out) = printed(alloc, format, &[A(b"x")], &way)?;
     Ok(told == condition && out.len().checked_sub(1) == Some(bytes))
 }
 
@@ -475,20 +533,23 @@ fn group_of_two(alloc: Global) -> Result<Transfer, Fail>
     Ok(transfer(layout, items, true, NO_CHANGE))
 }
 
+/// Whether it comes to what is wanted in records of at most so many characters.
+fn prints_group(alloc: Global, recl: u32, want: Result<&[u8], u8>) -> Result<bool, Fail> {
+    let job = group_of_two(alloc)?;
+    let (condition, out) = added(alloc, &job, false, recl, 0)?;
+    Ok(is_added(condition, out.bytes(), want))
+}
+
 #[test]
 fn group(rt: HostRuntime) -> Result<(), Fail> {
-    let job = group_of_two(rt.alloc())?;
-    let got = added(rt.alloc(), &job, false, 80, 0)?;
-    assert!(rt; is_added(got, Ok(b" &G\n A=5\n B=-7\n /\n")));
-    let got = added(rt.alloc(), &job, false, 4, 0)?;
-    assert!(rt; is_added(got, Err(15)));
+    assert!(rt; prints_group(rt.alloc(), 80, Ok(b" &G\n A=5\n B=-7\n /\n"))?);
+    assert!(rt; prints_group(rt.alloc(), 4, Err(15))?);
     Ok(())
 }
 
-/// Values that are borrowed in runs.
-#[test]
-fn runs(rt: HostRuntime) -> Result<(), Fail> {
-    let alloc = rt.alloc();
+/// What values that are borrowed in runs add to `=`.
+fn printed_runs(alloc: Global, format: &Format) -> Result<(Condition, Text), AllocError> {
+    let mut out = Text::from_bytes(alloc, b"=")?;
     let numbers = [Value::Int(1), Value::Int(-2), Value::Int(3)];
     let truth = Value::Log(true);
     let runs = [
@@ -501,11 +562,21 @@ fn runs(rt: HostRuntime) -> Result<(), Fail> {
             values: Values::One(&truth),
         },
     ];
-    let format = parse(alloc, b"(3I3,L2)")?;
     let items = OutputItems::of_runs(&runs);
-    let mut out = Text::from_bytes(alloc, b"=")?;
-    let condition = print_explicit(&format, true, MODES, items, 80, 0, &mut out)?;
-    assert_eq!(rt; condition, Condition::Fine);
-    assert_eq!(rt; out.bytes(), b"=  1 -2  3 T\n".as_slice());
+    let condition = print_explicit(format, true, MODES, items, 80, 0, &mut out)?;
+    Ok((condition, out))
+}
+
+/// Whether they are what is wanted.
+fn prints_runs(alloc: Global) -> Result<bool, Fail> {
+    let format = parse(alloc, b"(3I3,L2)")?;
+    let (condition, out) = printed_runs(alloc, &format)?;
+    Ok(is_added(condition, out.bytes(), Ok(b"  1 -2  3 T\n")))
+}
+
+/// Values that are borrowed in runs.
+#[test]
+fn runs(rt: HostRuntime) -> Result<(), Fail> {
+    assert!(rt; prints_runs(rt.alloc())?);
     Ok(())
 }

@@ -4,13 +4,11 @@ ghost use Rattle.std.specs.FinSet as set;
 ghost use Rattle.fj_outside.specs.FailingDisk.{disk_held};
 
 use crate::perform::{
-    A, Form, NAME, Said, Verb, carried_out, connect, disk_of, is_text, perform_again, statement,
-    transfer,
+    A, Came, Form, NAME, Opening, Said, Verb, connect, disk_of, leaves, perform_again, transfer,
 };
 use fj_connect::Connection;
 use fj_modes::{Access, Action};
 use fj_outside::{Disk, FailingDisk, FileStore, Stop};
-use fj_transfer::Transfer;
 use fj_value::Condition;
 use std::alloc::{AllocError, Global};
 use std::test::Fail;
@@ -173,23 +171,39 @@ fn is_kept(now: Option<&[u8]>, before: &[u8], after: &[u8], kept: usize) -> bool
     }
 }
 
+fn opening(access: Access, formatted: bool) -> Opening {
+    Opening {
+        access,
+        formatted,
+        action: Some(Action::ReadWrite),
+        recl: 6,
+    }
+}
+
+/// Whether that is a stop by failure where a call with this number fails, and else what the row says.
+fn is_so(row: &Row, call: u64, came: (Came, bool), now: Option<&[u8]>) -> bool {
+    let ((_, _, before, _), _, (calls, kept), (_, after, at, _)) = *row;
+    if call <= u64::from(calls) {
+        let ((answer, _), _) = came;
+        return answer == Err(Stop::Failed) && is_kept(now, before, after, kept);
+    }
+    came == ((Ok(Condition::Fine), at), true) && now == Some(after)
+}
+
 /// Whether a statement stops by failure where a call with this number fails, and else comes to what its row says.
 fn holds(alloc: Global, row: &Row, call: u64) -> Result<bool, Fail> {
-    let ((access, formatted, before, place), said, (calls, kept), (count, after, at, item)) = *row;
-    let spec = statement(access, formatted, Action::ReadWrite);
+    let ((access, formatted, before, place), said, _, (count, _, _, item)) = *row;
+    let opening = opening(access, formatted);
     let mut disk = failing(alloc, before, call)?;
-    let mut job = transfer(alloc, said, access)?;
-    let came = carried_out(alloc, &mut disk, &spec, place, 0, &mut job)?;
-    if call <= u64::from(calls) {
-        let now = disk.bytes_of(NAME);
-        return Ok(came.0 == Err(Stop::Failed) && is_kept(now, before, after, kept));
-    }
-    Ok(
-        came == (Ok(Condition::Fine), at)
-            && job.count == count
-            && is_text(&job.moved, Some(item))
-            && disk.bytes_of(NAME) == Some(after),
-    )
+    let came = leaves(
+        alloc,
+        &mut disk,
+        &opening,
+        place,
+        (said, 0),
+        (count, Some(item)),
+    )?;
+    Ok(is_so(row, call, came, disk.bytes_of(NAME)))
 }
 
 #[test]
@@ -203,29 +217,38 @@ fn each_call_fails_in_turn(rt: HostRuntime) -> Result<(), Fail> {
     Ok(())
 }
 
-/// Carries out two statements, and answers the condition of the last.
-fn both<F: FileStore>(
+/// Carries out a statement.
+fn once<F: FileStore>(
     alloc: Global,
     c: &mut Connection<F>,
-    first: &mut Transfer,
-    second: &mut Transfer,
-) -> Result<Condition, Stop>
+    said: Said,
+) -> Result<Result<Condition, Stop>, Fail>
     ensures { c.new.name ≡ c.old.name }
 {
-    perform_again(alloc, c, 0, first)?;
-    perform_again(alloc, c, 0, second)
+    let mut job = transfer(alloc, said, Sequential)?;
+    Ok(perform_again(alloc, c, 0, &mut job))
 }
 
-/// Carries out an output that leaves a record open and then an input, and answers the condition of the last.
+/// Carries out an output that leaves a record open and then, where that went well, an input, and answers the last condition.
+fn both<F: FileStore>(alloc: Global, c: &mut Connection<F>) -> Result<Result<Condition, Stop>, Fail>
+    ensures { c.new.name ≡ c.old.name }
+{
+    let answer = once(alloc, c, (OpenOutput, A, None, b"ab"))?;
+    if answer.is_err() {
+        return Ok(answer);
+    }
+    once(alloc, c, (Input, A, None, b"_"))
+}
+
+/// The same on a new connection, which is closed then.
 fn one_by_one<D: Disk>(alloc: Global, disk: &mut D) -> Result<Result<Condition, Stop>, Fail>
     requires { D.tells disk.old → (D.held disk.old).in_use ≡ set.empty }
 {
-    let mut output = transfer(alloc, (OpenOutput, A, None, b"ab"), Sequential)?;
-    let mut input = transfer(alloc, (Input, A, None, b"_"), Sequential)?;
-    let spec = statement(Sequential, true, Action::ReadWrite);
-    let mut c = connect(alloc, disk, &spec)?;
-    let answer = both(alloc, &mut c, &mut output, &mut input);
-    c.close_file(disk, true).map_err(Stop::from)?;
+    let mut c = connect(alloc, disk, &opening(Sequential, true))?;
+    let answer = both(alloc, &mut c);
+    let closed = c.close_file(disk, true);
+    let answer = answer?;
+    closed.map_err(Stop::from)?;
     Ok(answer)
 }
 

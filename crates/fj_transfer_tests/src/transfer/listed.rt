@@ -5,7 +5,7 @@ ghost use Rattle.fj_list.specs.Moved.{IsOrdered};
 ghost use Rattle.fj_namelist.specs.GroupText.{IsWithin};
 
 use crate::perform::{NAME, connect, disk_of};
-use crate::transfer::files::{NOT_DONE, are_values, closed, statement};
+use crate::transfer::files::{NOT_DONE, are_values, closed, opening};
 use crate::transfer::{I4, Item, MODES, moved};
 use fj_connect::{Connection, OpenFault};
 use fj_list::{GroupMember, Moved};
@@ -55,6 +55,29 @@ fn begin<F: FileStore>(c: &mut Connection<F>, start: u64, count: u64)
     }
 }
 
+/// Reads the group G.
+fn grouped<F: FileStore>(
+    alloc: Global,
+    c: &mut Connection<F>,
+    place: Option<u64>,
+    moved: &mut Moved,
+) -> Result<Condition, Stop>
+    requires ordered { IsOrdered moved.old }
+    ensures { c.new.name ≡ c.old.name }
+{
+    let size = c.file_len();
+    let behind = match place {
+        Some(at) => at > size,
+        None => false,
+    };
+    if moved.cells.len() != 2 || behind || c.modes().access == Access::Direct {
+        return Ok(NOT_DONE);
+    }
+    let members = members(alloc)?;
+    let performed = read_grouped(alloc, c, place, b"G", members.as_slice(), MODES, moved)?;
+    Ok(performed.condition)
+}
+
 /// Reads items, or the group G.
 fn input<F: FileStore>(
     alloc: Global,
@@ -66,23 +89,18 @@ fn input<F: FileStore>(
     requires { IsOrdered moved.old }
     ensures { c.new.name ≡ c.old.name }
 {
-    let size = c.file_len();
-    if c.modes().access == Access::Direct {
-        return Ok(NOT_DONE);
+    if group {
+        return grouped(alloc, c, place, moved);
     }
+    let size = c.file_len();
     match place {
         Some(at) if at > size => return Ok(NOT_DONE),
         _ => {}
     }
-    if !group {
-        let performed = read_listed(alloc, c, place, MODES, moved)?;
-        return Ok(performed.condition);
-    }
-    let members = members(alloc)?;
-    if moved.cells.len() != 2 {
+    if c.modes().access == Access::Direct {
         return Ok(NOT_DONE);
     }
-    let performed = read_grouped(alloc, c, place, b"G", members.as_slice(), MODES, moved)?;
+    let performed = read_listed(alloc, c, place, MODES, moved)?;
     Ok(performed.condition)
 }
 
@@ -96,7 +114,7 @@ fn input_from<D: Disk>(
     requires home { D.tells disk.old → (D.held disk.old).in_use ≡ set.empty }
     requires ordered { IsOrdered moved.old }
 {
-    let mut c = connect(alloc, disk, &statement(row.access, true))?;
+    let mut c = connect(alloc, disk, &opening(row.access, true))?;
     begin(&mut c, row.start, row.count);
     let condition = input(alloc, &mut c, row.place, row.group, moved);
     closed(disk, c, condition)
