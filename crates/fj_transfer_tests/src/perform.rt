@@ -82,10 +82,13 @@ pub(crate) fn connect<D: Disk>(
 {
     let name = FileName::by_default(alloc, 10)?;
     let spec = statement(opening);
-    match settle_open(&spec) {
+    let opened = match settle_open(&spec) {
         Ok(modes) => open_file(alloc, disk, &name, &spec, modes),
         Err(condition) => Err(OpenFault::Refused(condition)),
-    }
+    };
+    drop(spec);
+    drop(name);
+    opened
 }
 
 /// A disk that holds that file with these bytes.
@@ -252,8 +255,10 @@ fn leaves<D: Disk>(
 {
     let ((said, more), (count, item)) = (carried, left);
     let mut job = transfer(alloc, said, opening.access)?;
-    let came = carried_out(alloc, disk, opening, place, more, &mut job)?;
-    Ok((came, job.count == count && is_text(&job.moved, item)))
+    let came = carried_out(alloc, disk, opening, place, more, &mut job);
+    let is_left = job.count == count && is_text(&job.moved, item);
+    drop(job);
+    Ok((came?, is_left))
 }
 
 /// Whether the item has a text; none stands for no value.
@@ -563,8 +568,10 @@ fn holds(alloc: Global, row: &Row) -> Result<bool, Fail> {
         recl: 6,
     };
     let mut disk = disk_of(alloc, before)?;
-    let came = leaves(alloc, &mut disk, &opening, 0, said, (count, item))?;
-    Ok(came == ((Ok(condition), at), true) && disk.bytes_of(NAME) == Some(after))
+    let came = leaves(alloc, &mut disk, &opening, 0, said, (count, item));
+    let is_left = disk.bytes_of(NAME) == Some(after);
+    drop(disk);
+    Ok(came? == ((Ok(condition), at), true) && is_left)
 }
 
 #[test]

@@ -352,11 +352,11 @@ fn output(
     if format.len() >= 100 || items.len() >= 100 {
         return Err("too much for a row".into());
     }
-    let layout = layout_of(alloc, format.as_bytes())?;
     let items = moved(alloc, items, times)?;
     if items.order.len() >= 1000 {
         return Err("too many items for a row".into());
     }
+    let layout = layout_of(alloc, format.as_bytes())?;
     Ok(transfer(layout, items, advance, edit))
 }
 
@@ -389,7 +389,9 @@ fn printed(
     way: &Way,
 ) -> Result<(Condition, Text), Fail> {
     let job = output(alloc, format, items, way.times, way.advance, way.edit)?;
-    Ok(added(alloc, &job, way.plus, way.recl, way.begun)?)
+    let came = added(alloc, &job, way.plus, way.recl, way.begun);
+    drop(job);
+    Ok(came?)
 }
 
 /// Whether an output comes to what is wanted.
@@ -525,18 +527,21 @@ fn limits(rt: HostRuntime) -> Result<(), Fail> {
 fn group_of_two(alloc: Global) -> Result<Transfer, Fail>
     ensures { IfOk result (λ job. IsRecords job.spec.layout) }
 {
+    let name = Text::from_bytes(alloc, b"g")?;
     let items = moved(alloc, &[I4(5), I4(-7)], 1)?;
-    let layout = Layout::Group(Text::from_bytes(alloc, b"g")?, members(alloc)?);
     if items.order.len() >= 1000 {
         return Err("too many items".into());
     }
+    let layout = Layout::Group(name, members(alloc)?);
     Ok(transfer(layout, items, true, NO_CHANGE))
 }
 
 /// Whether it comes to what is wanted in records of at most so many characters.
 fn prints_group(alloc: Global, recl: u32, want: Result<&[u8], u8>) -> Result<bool, Fail> {
     let job = group_of_two(alloc)?;
-    let (condition, out) = added(alloc, &job, false, recl, 0)?;
+    let came = added(alloc, &job, false, recl, 0);
+    drop(job);
+    let (condition, out) = came?;
     Ok(is_added(condition, out.bytes(), want))
 }
 
@@ -547,9 +552,8 @@ fn group(rt: HostRuntime) -> Result<(), Fail> {
     Ok(())
 }
 
-/// What values that are borrowed in runs add to `=`.
-fn printed_runs(alloc: Global, format: &Format) -> Result<(Condition, Text), AllocError> {
-    let mut out = Text::from_bytes(alloc, b"=")?;
+/// Writes values that are borrowed in runs.
+fn print_runs(format: &Format, out: &mut Text) -> Result<Condition, AllocError> {
     let numbers = [Value::Int(1), Value::Int(-2), Value::Int(3)];
     let truth = Value::Log(true);
     let runs = [
@@ -563,15 +567,16 @@ fn printed_runs(alloc: Global, format: &Format) -> Result<(Condition, Text), All
         },
     ];
     let items = OutputItems::of_runs(&runs);
-    let condition = print_explicit(format, true, MODES, items, 80, 0, &mut out)?;
-    Ok((condition, out))
+    print_explicit(format, true, MODES, items, 80, 0, out)
 }
 
-/// Whether they are what is wanted.
+/// Whether they come to what is wanted.
 fn prints_runs(alloc: Global) -> Result<bool, Fail> {
     let format = parse(alloc, b"(3I3,L2)")?;
-    let (condition, out) = printed_runs(alloc, &format)?;
-    Ok(is_added(condition, out.bytes(), Ok(b"  1 -2  3 T\n")))
+    let mut out = Text::from_bytes(alloc, b"=")?;
+    let condition = print_runs(&format, &mut out);
+    drop(format);
+    Ok(is_added(condition?, out.bytes(), Ok(b"  1 -2  3 T\n")))
 }
 
 /// Values that are borrowed in runs.

@@ -4,7 +4,7 @@ ghost use Rattle.std.specs.FinSet as set;
 ghost use Rattle.fj_outside.specs.FailingDisk.{disk_held};
 
 use crate::perform::{
-    A, Came, Form, NAME, Opening, Said, Verb, connect, disk_of, leaves, perform_again, transfer,
+    A, Form, NAME, Opening, Said, Verb, connect, disk_of, leaves, perform_again, transfer,
 };
 use fj_connect::Connection;
 use fj_modes::{Access, Action};
@@ -180,30 +180,29 @@ fn opening(access: Access, formatted: bool) -> Opening {
     }
 }
 
-/// Whether that is a stop by failure where a call with this number fails, and else what the row says.
-fn is_so(row: &Row, call: u64, came: (Came, bool), now: Option<&[u8]>) -> bool {
-    let ((_, _, before, _), _, (calls, kept), (_, after, at, _)) = *row;
+/// Whether the file is as the row says behind a statement of which a call with this number fails.
+fn is_left(row: &Row, call: u64, now: Option<&[u8]>) -> bool {
+    let ((_, _, before, _), _, (calls, kept), (_, after, _, _)) = *row;
     if call <= u64::from(calls) {
-        let ((answer, _), _) = came;
-        return answer == Err(Stop::Failed) && is_kept(now, before, after, kept);
+        return is_kept(now, before, after, kept);
     }
-    came == ((Ok(Condition::Fine), at), true) && now == Some(after)
+    now == Some(after)
 }
 
 /// Whether a statement stops by failure where a call with this number fails, and else comes to what its row says.
 fn holds(alloc: Global, row: &Row, call: u64) -> Result<bool, Fail> {
-    let ((access, formatted, before, place), said, _, (count, _, _, item)) = *row;
+    let ((access, formatted, before, place), said, (calls, _), (count, _, at, item)) = *row;
     let opening = opening(access, formatted);
+    let left = (count, Some(item));
     let mut disk = failing(alloc, before, call)?;
-    let came = leaves(
-        alloc,
-        &mut disk,
-        &opening,
-        place,
-        (said, 0),
-        (count, Some(item)),
-    )?;
-    Ok(is_so(row, call, came, disk.bytes_of(NAME)))
+    let came = leaves(alloc, &mut disk, &opening, place, (said, 0), left);
+    let is_left = is_left(row, call, disk.bytes_of(NAME));
+    drop(disk);
+    let (came, is_so) = came?;
+    if call <= u64::from(calls) {
+        return Ok(came.0 == Err(Stop::Failed) && is_left);
+    }
+    Ok(came == (Ok(Condition::Fine), at) && is_so && is_left)
 }
 
 #[test]
@@ -226,7 +225,9 @@ fn once<F: FileStore>(
     ensures { c.new.name ≡ c.old.name }
 {
     let mut job = transfer(alloc, said, Sequential)?;
-    Ok(perform_again(alloc, c, 0, &mut job))
+    let answer = perform_again(alloc, c, 0, &mut job);
+    drop(job);
+    Ok(answer)
 }
 
 /// Carries out an output that leaves a record open and then, where that went well, an input, and answers the last condition.
@@ -252,22 +253,30 @@ fn one_by_one<D: Disk>(alloc: Global, disk: &mut D) -> Result<Result<Condition, 
     Ok(answer)
 }
 
+/// The call that fails, the last condition, and the file then.
+type Cut = (u64, Result<Condition, Stop>, &'static [u8]);
+
 /// The input ends the record, which is one call more.
-static OPEN: [(u64, Result<Condition, Stop>, &[u8]); 3] = [
+static OPEN: [Cut; 3] = [
     (1, Err(Stop::Failed), b""),
     (2, Err(Stop::Failed), b"ab"),
     (3, Ok(Condition::EndOfFile), b"ab\n"),
 ];
 
+/// Whether both come to what their row says.
+fn come_so(alloc: Global, row: &Cut) -> Result<bool, Fail> {
+    let (call, answer, after) = *row;
+    let mut disk = failing(alloc, b"", call)?;
+    let came = one_by_one(alloc, &mut disk);
+    let is_left = disk.bytes_of(NAME) == Some(after);
+    drop(disk);
+    Ok(came? == answer && is_left)
+}
+
 #[test]
 fn an_input_writes_a_line_feed(rt: HostRuntime) -> Result<(), Fail> {
-    for (call, answer, after) in OPEN {
-        let mut disk = failing(rt.alloc(), b"", call)?;
-        let came = one_by_one(rt.alloc(), &mut disk)?;
-        assert!(rt;
-            came == answer && disk.bytes_of(NAME) == Some(after),
-            "call {call}"
-        );
+    for row in &OPEN {
+        assert!(rt; come_so(rt.alloc(), row)?, "call {}", row.0);
     }
     Ok(())
 }

@@ -114,7 +114,9 @@ fn write_items<F: FileStore>(
         return Ok(NOT_DONE);
     }
     let items = Load::of_cells(moved(alloc, items, 1)?);
-    write(alloc, c, at, &items)
+    let condition = write(alloc, c, at, &items);
+    drop(items);
+    condition
 }
 
 /// What an output of items comes to: the condition, and the position and the next record's number then.
@@ -248,8 +250,10 @@ static WRITES: [Written; 7] = [
 fn writes(alloc: Global, row: &Written) -> Result<bool, Fail> {
     let (access, before, at, items, condition, after, position, next) = *row;
     let mut disk = disk_of(alloc, before)?;
-    let came = written(alloc, &mut disk, access, at, items)?;
-    Ok(came == (condition, position, next) && disk.bytes_of(NAME) == Some(after))
+    let came = written(alloc, &mut disk, access, at, items);
+    let is_left = disk.bytes_of(NAME) == Some(after);
+    drop(disk);
+    Ok(came? == (condition, position, next) && is_left)
 }
 
 #[test]
@@ -350,12 +354,12 @@ fn reads(alloc: Global, row: &Read) -> Result<bool, Fail> {
     }
     let mut items = moved(alloc, items, 1)?;
     let mut disk = disk_of(alloc, bytes)?;
-    let came = read_from(alloc, &mut disk, access, at, &mut items)?;
-    Ok(
-        came == (condition, position, next)
-            && are_values(items.cells.as_slice(), after)
-            && disk.bytes_of(NAME) == Some(bytes),
-    )
+    let came = read_from(alloc, &mut disk, access, at, &mut items);
+    let is_left = disk.bytes_of(NAME) == Some(bytes);
+    drop(disk);
+    let is_read = are_values(items.cells.as_slice(), after);
+    drop(items);
+    Ok(came? == (condition, position, next) && is_left && is_read)
 }
 
 #[test]
@@ -414,9 +418,12 @@ fn put_items<F: FileStore>(
     let Ok(format) = parse(alloc, format.as_bytes()) else {
         return Ok(NOT_DONE);
     };
-    let layout = Layout::Explicit(format);
     let items = Load::of_cells(moved(alloc, items, 1)?);
-    put(alloc, c, place, &layout, advance, &items)
+    let layout = Layout::Explicit(format);
+    let condition = put(alloc, c, place, &layout, advance, &items);
+    drop(items);
+    drop(layout);
+    condition
 }
 
 /// What an output of records comes to that begins at a position or a place: the condition and the position then.
@@ -586,8 +593,11 @@ static PUTS: [Put; 10] = [
 fn puts(alloc: Global, row: &Put) -> Result<bool, Fail> {
     let (access, before, at, place, format, advance, items, condition, after, position) = *row;
     let mut disk = disk_of(alloc, before)?;
-    let (told, stands, _) = put_from(alloc, &mut disk, access, at, place, format, advance, items)?;
-    Ok(told == condition && stands == position && disk.bytes_of(NAME) == Some(after))
+    let came = put_from(alloc, &mut disk, access, at, place, format, advance, items);
+    let is_left = disk.bytes_of(NAME) == Some(after);
+    drop(disk);
+    let (told, stands, _) = came?;
+    Ok(told == condition && stands == position && is_left)
 }
 
 #[test]
@@ -617,8 +627,9 @@ fn get<F: FileStore>(
     let Ok(format) = parse(alloc, format.as_bytes()) else {
         return Ok(NOT_DONE);
     };
-    let performed = read_numbered(alloc, c, number, &format, MODES, items)?;
-    Ok(performed.condition)
+    let performed = read_numbered(alloc, c, number, &format, MODES, items);
+    drop(format);
+    Ok(performed?.condition)
 }
 
 /// What that comes to on a new connection.
@@ -681,8 +692,12 @@ fn gets(alloc: Global, row: &Got) -> Result<bool, Fail> {
         return Ok(false);
     }
     let mut disk = disk_of(alloc, bytes)?;
-    let (told, _, _) = get_from(alloc, &mut disk, number, format, &mut items)?;
-    Ok(told == condition && are_values(items.cells.as_slice(), after))
+    let came = get_from(alloc, &mut disk, number, format, &mut items);
+    drop(disk);
+    let is_read = are_values(items.cells.as_slice(), after);
+    drop(items);
+    let (told, _, _) = came?;
+    Ok(told == condition && is_read)
 }
 
 #[test]

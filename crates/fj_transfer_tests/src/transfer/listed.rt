@@ -74,8 +74,9 @@ fn grouped<F: FileStore>(
         return Ok(NOT_DONE);
     }
     let members = members(alloc)?;
-    let performed = read_grouped(alloc, c, place, b"G", members.as_slice(), MODES, moved)?;
-    Ok(performed.condition)
+    let performed = read_grouped(alloc, c, place, b"G", members.as_slice(), MODES, moved);
+    drop(members);
+    Ok(performed?.condition)
 }
 
 /// Reads items, or the group G.
@@ -286,13 +287,13 @@ fn reads(alloc: Global, row: &Row) -> Result<bool, Fail> {
     }
     let mut items = moved(alloc, row.items, 1)?;
     let mut disk = disk_of(alloc, row.bytes)?;
-    let (told, stands, _) = input_from(alloc, &mut disk, row, &mut items)?;
-    Ok(
-        told == row.condition
-            && stands == row.position
-            && are_values(items.cells.as_slice(), row.after)
-            && disk.bytes_of(NAME) == Some(row.bytes),
-    )
+    let came = input_from(alloc, &mut disk, row, &mut items);
+    let is_left = disk.bytes_of(NAME) == Some(row.bytes);
+    drop(disk);
+    let is_read = are_values(items.cells.as_slice(), row.after);
+    drop(items);
+    let (told, stands, _) = came?;
+    Ok(told == row.condition && stands == row.position && is_left && is_read)
 }
 
 #[test]
