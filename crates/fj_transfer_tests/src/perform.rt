@@ -18,7 +18,6 @@ use fj_perform::perform;
 use fj_transfer::{EditChange, Layout, Members, Transfer, TransferSpec};
 use fj_value::{Cell, Condition, Items, Kind, Place, Tag, Text, Value};
 use std::alloc::{AllocError, Global};
-use std::test::Fail;
 
 pub(crate) const NAME: &str = "fort.10";
 
@@ -135,7 +134,8 @@ fn members(alloc: Global, length: usize) -> Result<Members, AllocError>
     Ok(members)
 }
 
-fn layout_of(alloc: Global, form: Form, length: usize) -> Result<Layout, Fail>
+/// A format that is none is taken for `*`.
+fn layout_of(alloc: Global, form: Form, length: usize) -> Result<Layout, AllocError>
     ensures { IfOk result (λ layout. All (IsWithin 1) (members_of layout)) }
 {
     match form {
@@ -146,12 +146,15 @@ fn layout_of(alloc: Global, form: Form, length: usize) -> Result<Layout, Fail>
             if format.len() > 100 {
                 return Ok(Layout::Listed);
             }
-            Ok(Layout::Explicit(parse(alloc, format)?))
+            let Ok(format) = parse(alloc, format) else {
+                return Ok(Layout::Listed);
+            };
+            Ok(Layout::Explicit(format))
         }
     }
 }
 
-fn transfer(alloc: Global, said: Said, access: Access) -> Result<Transfer, Fail> {
+fn transfer(alloc: Global, said: Said, access: Access) -> Result<Transfer, AllocError> {
     let (verb, form, at, item) = said;
     let layout = layout_of(alloc, form, item.len())?;
     let moved = moved(alloc, item)?;
@@ -250,7 +253,7 @@ fn leaves<D: Disk>(
     place: u64,
     carried: (Said, u32),
     left: (Option<u64>, Option<&[u8]>),
-) -> Result<(Came, bool), Fail>
+) -> Result<(Came, bool), OpenFault>
     requires { D.tells disk.old → (D.held disk.old).in_use ≡ set.empty }
 {
     let ((said, more), (count, item)) = (carried, left);
@@ -559,7 +562,7 @@ static ROWS: [Row; 42] = [
 ];
 
 /// Whether a statement comes to what its row says.
-fn holds(alloc: Global, row: &Row) -> Result<bool, Fail> {
+fn holds(alloc: Global, row: &Row) -> Result<bool, OpenFault> {
     let ((access, formatted, action, before), said, (condition, count), (after, at, item)) = *row;
     let opening = Opening {
         access,
@@ -575,9 +578,8 @@ fn holds(alloc: Global, row: &Row) -> Result<bool, Fail> {
 }
 
 #[test]
-fn statements(rt: HostRuntime) -> Result<(), Fail> {
+fn statements(rt: HostRuntime) {
     for (number, row) in ROWS.iter().enumerate() {
-        assert!(rt; holds(rt.alloc(), row)?, "row {number}");
+        assert!(rt; holds(rt.alloc(), row) == Ok(true), "row {number}");
     }
-    Ok(())
 }

@@ -9,12 +9,11 @@ mod files;
 mod listed;
 
 use crate::transfer::listed::members;
-use fj_format::{Format, parse};
+use fj_format::parse;
 use fj_list::{Load, Moved, OutputItems, Run, Values};
 use fj_transfer::{EditChange, Layout, Transfer, TransferSpec, print_explicit, print_records};
 use fj_value::{Cell, Condition, Delim, EditModes, Items, Kind, Place, Tag, Text, Value};
 use std::alloc::{AllocError, Global};
-use std::test::Fail;
 
 /// An item of a table.
 #[derive(Clone, Copy)]
@@ -100,16 +99,16 @@ pub fn moved(alloc: Global, items: &[Item], times: u32) -> Result<Moved, AllocEr
     Ok(Moved { cells, order })
 }
 
-/// A format, or `*` for a list-directed output.
-fn layout_of(alloc: Global, format: &[u8]) -> Result<Layout, Fail>
+/// A format; what is none, as `*`, stands for a list-directed output.
+fn layout_of(alloc: Global, format: &[u8]) -> Layout
     requires { length format.now < 2 ^ 32 }
-    ensures records { IfOk result (λ layout. IsRecords layout) }
-    ensures alone { IfOk result (λ layout. members_of layout ≡ []) }
+    ensures records { IsRecords result }
+    ensures alone { members_of result ≡ [] }
 {
-    if format == b"*".as_slice() {
-        return Ok(Layout::Listed);
+    match parse(alloc, format) {
+        Ok(format) => Layout::Explicit(format),
+        Err(_) => Layout::Listed,
     }
-    Ok(Layout::Explicit(parse(alloc, format)?))
 }
 
 fn transfer(layout: Layout, moved: Moved, advance: bool, edit: EditChange) -> Transfer
@@ -346,17 +345,17 @@ fn output(
     times: u32,
     advance: bool,
     edit: EditChange,
-) -> Result<Transfer, Fail>
+) -> Result<Transfer, AllocError>
     ensures { IfOk result (λ job. IsRecords job.spec.layout) }
 {
     if format.len() >= 100 || items.len() >= 100 {
-        return Err("too much for a row".into());
+        return Err(AllocError);
     }
     let items = moved(alloc, items, times)?;
     if items.order.len() >= 1000 {
-        return Err("too many items for a row".into());
+        return Err(AllocError);
     }
-    let layout = layout_of(alloc, format.as_bytes())?;
+    let layout = layout_of(alloc, format.as_bytes());
     Ok(transfer(layout, items, advance, edit))
 }
 
@@ -387,11 +386,11 @@ fn printed(
     format: &str,
     items: &[Item],
     way: &Way,
-) -> Result<(Condition, Text), Fail> {
+) -> Result<(Condition, Text), AllocError> {
     let job = output(alloc, format, items, way.times, way.advance, way.edit)?;
     let came = added(alloc, &job, way.plus, way.recl, way.begun);
     drop(job);
-    Ok(came?)
+    came
 }
 
 /// Whether an output comes to what is wanted.
@@ -401,13 +400,13 @@ fn prints(
     items: &[Item],
     way: &Way,
     want: Result<&[u8], u8>,
-) -> Result<bool, Fail> {
+) -> Result<bool, AllocError> {
     let (condition, out) = printed(alloc, format, items, way)?;
     Ok(is_added(condition, out.bytes(), want))
 }
 
 /// Whether a row holds.
-fn writes(alloc: Global, advance: bool, row: &Row) -> Result<bool, Fail> {
+fn writes(alloc: Global, advance: bool, row: &Row) -> Result<bool, AllocError> {
     let (format, items, begun, recl, want) = *row;
     let way = Way {
         advance,
@@ -419,27 +418,24 @@ fn writes(alloc: Global, advance: bool, row: &Row) -> Result<bool, Fail> {
 }
 
 #[test]
-fn records(rt: HostRuntime) -> Result<(), Fail> {
+fn records(rt: HostRuntime) {
     for (number, row) in ROWS.iter().enumerate() {
-        assert!(rt; writes(rt.alloc(), true, row)?, "row {number}");
+        assert!(rt; writes(rt.alloc(), true, row) == Ok(true), "row {number}");
     }
-    Ok(())
 }
 
 #[test]
-fn open_records(rt: HostRuntime) -> Result<(), Fail> {
+fn open_records(rt: HostRuntime) {
     for (number, row) in OPEN.iter().enumerate() {
-        assert!(rt; writes(rt.alloc(), false, row)?, "row {number}");
+        assert!(rt; writes(rt.alloc(), false, row) == Ok(true), "row {number}");
     }
-    Ok(())
 }
 
 #[test]
-fn listed_records(rt: HostRuntime) -> Result<(), Fail> {
+fn listed_records(rt: HostRuntime) {
     for (number, row) in LISTED.iter().enumerate() {
-        assert!(rt; writes(rt.alloc(), false, row)?, "row {number}");
+        assert!(rt; writes(rt.alloc(), false, row) == Ok(true), "row {number}");
     }
-    Ok(())
 }
 
 /// A format, the sign mode of the connection and that of the statement, and what is written.
@@ -453,7 +449,7 @@ static SIGNED: [Signed; 4] = [
 ];
 
 /// Whether a row holds.
-fn signs(alloc: Global, row: &Signed) -> Result<bool, Fail> {
+fn signs(alloc: Global, row: &Signed) -> Result<bool, AllocError> {
     let (format, plus, change, want) = *row;
     let edit = EditChange {
         plus: change,
@@ -464,7 +460,7 @@ fn signs(alloc: Global, row: &Signed) -> Result<bool, Fail> {
 }
 
 /// Whether DELIM= of the statement holds.
-fn delimits(alloc: Global) -> Result<bool, Fail> {
+fn delimits(alloc: Global) -> Result<bool, AllocError> {
     let edit = EditChange {
         delim: Some(Delim::Quote),
         ..NO_CHANGE
@@ -476,12 +472,11 @@ fn delimits(alloc: Global) -> Result<bool, Fail> {
 
 /// The modes of the connection, those that the statement names, and those of the format.
 #[test]
-fn modes(rt: HostRuntime) -> Result<(), Fail> {
+fn modes(rt: HostRuntime) {
     for (number, row) in SIGNED.iter().enumerate() {
-        assert!(rt; signs(rt.alloc(), row)?, "row {number}");
+        assert!(rt; signs(rt.alloc(), row) == Ok(true), "row {number}");
     }
-    assert!(rt; delimits(rt.alloc())?);
-    Ok(())
+    assert!(rt; delimits(rt.alloc()) == Ok(true));
 }
 
 /// A format, how many items of one character, ADVANCE=, the limit of a record, and the condition and how many bytes are written.
@@ -502,7 +497,7 @@ static LIMITS: [Limit; 4] = [
 ];
 
 /// Whether a row holds.
-fn is_limit(alloc: Global, row: &Limit) -> Result<bool, Fail> {
+fn is_limit(alloc: Global, row: &Limit) -> Result<bool, AllocError> {
     let (format, times, advance, recl, condition, bytes) = *row;
     let way = Way {
         times,
@@ -516,28 +511,27 @@ fn is_limit(alloc: Global, row: &Limit) -> Result<bool, Fail> {
 
 /// Records of 65,536 bytes with their line feeds, of which 256 are the most that a statement may write.
 #[test]
-fn limits(rt: HostRuntime) -> Result<(), Fail> {
+fn limits(rt: HostRuntime) {
     for (number, row) in LIMITS.iter().enumerate() {
-        assert!(rt; is_limit(rt.alloc(), row)?, "row {number}");
+        assert!(rt; is_limit(rt.alloc(), row) == Ok(true), "row {number}");
     }
-    Ok(())
 }
 
 /// A namelist group of two.
-fn group_of_two(alloc: Global) -> Result<Transfer, Fail>
+fn group_of_two(alloc: Global) -> Result<Transfer, AllocError>
     ensures { IfOk result (λ job. IsRecords job.spec.layout) }
 {
     let name = Text::from_bytes(alloc, b"g")?;
     let items = moved(alloc, &[I4(5), I4(-7)], 1)?;
     if items.order.len() >= 1000 {
-        return Err("too many items".into());
+        return Err(AllocError);
     }
     let layout = Layout::Group(name, members(alloc)?);
     Ok(transfer(layout, items, true, NO_CHANGE))
 }
 
 /// Whether it comes to what is wanted in records of at most so many characters.
-fn prints_group(alloc: Global, recl: u32, want: Result<&[u8], u8>) -> Result<bool, Fail> {
+fn prints_group(alloc: Global, recl: u32, want: Result<&[u8], u8>) -> Result<bool, AllocError> {
     let job = group_of_two(alloc)?;
     let came = added(alloc, &job, false, recl, 0);
     drop(job);
@@ -546,14 +540,17 @@ fn prints_group(alloc: Global, recl: u32, want: Result<&[u8], u8>) -> Result<boo
 }
 
 #[test]
-fn group(rt: HostRuntime) -> Result<(), Fail> {
-    assert!(rt; prints_group(rt.alloc(), 80, Ok(b" &G\n A=5\n B=-7\n /\n"))?);
-    assert!(rt; prints_group(rt.alloc(), 4, Err(15))?);
-    Ok(())
+fn group(rt: HostRuntime) {
+    assert!(rt; prints_group(rt.alloc(), 80, Ok(b" &G\n A=5\n B=-7\n /\n")) == Ok(true));
+    assert!(rt; prints_group(rt.alloc(), 4, Err(15)) == Ok(true));
 }
 
-/// Writes values that are borrowed in runs.
-fn print_runs(format: &Format, out: &mut Text) -> Result<Condition, AllocError> {
+/// Whether values that are borrowed in runs come to what is wanted.
+fn prints_runs(alloc: Global) -> Result<bool, AllocError> {
+    let Ok(format) = parse(alloc, b"(3I3,L2)") else {
+        return Ok(false);
+    };
+    let mut out = Text::from_bytes(alloc, b"=")?;
     let numbers = [Value::Int(1), Value::Int(-2), Value::Int(3)];
     let truth = Value::Log(true);
     let runs = [
@@ -567,21 +564,14 @@ fn print_runs(format: &Format, out: &mut Text) -> Result<Condition, AllocError> 
         },
     ];
     let items = OutputItems::of_runs(&runs);
-    print_explicit(format, true, MODES, items, 80, 0, out)
-}
-
-/// Whether they come to what is wanted.
-fn prints_runs(alloc: Global) -> Result<bool, Fail> {
-    let format = parse(alloc, b"(3I3,L2)")?;
-    let mut out = Text::from_bytes(alloc, b"=")?;
-    let condition = print_runs(&format, &mut out);
+    let condition = print_explicit(&format, true, MODES, items, 80, 0, &mut out);
+    drop(truth);
+    drop(numbers);
     drop(format);
     Ok(is_added(condition?, out.bytes(), Ok(b"  1 -2  3 T\n")))
 }
 
-/// Values that are borrowed in runs.
 #[test]
-fn runs(rt: HostRuntime) -> Result<(), Fail> {
-    assert!(rt; prints_runs(rt.alloc())?);
-    Ok(())
+fn runs(rt: HostRuntime) {
+    assert!(rt; prints_runs(rt.alloc()) == Ok(true));
 }

@@ -6,12 +6,11 @@ ghost use Rattle.fj_outside.specs.FailingDisk.{disk_held};
 use crate::perform::{
     A, Form, NAME, Opening, Said, Verb, connect, disk_of, leaves, perform_again, transfer,
 };
-use fj_connect::Connection;
+use fj_connect::{Connection, OpenFault};
 use fj_modes::{Access, Action};
 use fj_outside::{Disk, FailingDisk, FileStore, Stop};
 use fj_value::Condition;
 use std::alloc::{AllocError, Global};
-use std::test::Fail;
 
 /// A disk that holds the file, of which the call with this number fails.
 fn failing(alloc: Global, bytes: &[u8], call: u64) -> Result<FailingDisk, AllocError>
@@ -190,7 +189,7 @@ fn is_left(row: &Row, call: u64, now: Option<&[u8]>) -> bool {
 }
 
 /// Whether a statement stops by failure where a call with this number fails, and else comes to what its row says.
-fn holds(alloc: Global, row: &Row, call: u64) -> Result<bool, Fail> {
+fn holds(alloc: Global, row: &Row, call: u64) -> Result<bool, OpenFault> {
     let ((access, formatted, before, place), said, (calls, _), (count, _, at, item)) = *row;
     let opening = opening(access, formatted);
     let left = (count, Some(item));
@@ -206,50 +205,43 @@ fn holds(alloc: Global, row: &Row, call: u64) -> Result<bool, Fail> {
 }
 
 #[test]
-fn each_call_fails_in_turn(rt: HostRuntime) -> Result<(), Fail> {
+fn each_call_fails_in_turn(rt: HostRuntime) {
     for (number, row) in ROWS.iter().enumerate() {
         let (calls, _) = row.2;
         for call in 1..u64::from(calls) + 2 {
-            assert!(rt; holds(rt.alloc(), row, call)?, "row {number}, call {call}");
+            assert!(rt;
+                holds(rt.alloc(), row, call) == Ok(true),
+                "row {number}, call {call}"
+            );
         }
     }
-    Ok(())
 }
 
 /// Carries out a statement.
-fn once<F: FileStore>(
-    alloc: Global,
-    c: &mut Connection<F>,
-    said: Said,
-) -> Result<Result<Condition, Stop>, Fail>
+fn once<F: FileStore>(alloc: Global, c: &mut Connection<F>, said: Said) -> Result<Condition, Stop>
     ensures { c.new.name ≡ c.old.name }
 {
     let mut job = transfer(alloc, said, Sequential)?;
     let answer = perform_again(alloc, c, 0, &mut job);
     drop(job);
-    Ok(answer)
+    answer
 }
 
-/// Carries out an output that leaves a record open and then, where that went well, an input, and answers the last condition.
-fn both<F: FileStore>(alloc: Global, c: &mut Connection<F>) -> Result<Result<Condition, Stop>, Fail>
+/// Carries out an output that leaves a record open and then an input, and answers the condition of the last.
+fn both<F: FileStore>(alloc: Global, c: &mut Connection<F>) -> Result<Condition, Stop>
     ensures { c.new.name ≡ c.old.name }
 {
-    let answer = once(alloc, c, (OpenOutput, A, None, b"ab"))?;
-    if answer.is_err() {
-        return Ok(answer);
-    }
+    once(alloc, c, (OpenOutput, A, None, b"ab"))?;
     once(alloc, c, (Input, A, None, b"_"))
 }
 
 /// The same on a new connection, which is closed then.
-fn one_by_one<D: Disk>(alloc: Global, disk: &mut D) -> Result<Result<Condition, Stop>, Fail>
+fn one_by_one<D: Disk>(alloc: Global, disk: &mut D) -> Result<Result<Condition, Stop>, OpenFault>
     requires { D.tells disk.old → (D.held disk.old).in_use ≡ set.empty }
 {
     let mut c = connect(alloc, disk, &opening(Sequential, true))?;
     let answer = both(alloc, &mut c);
-    let closed = c.close_file(disk, true);
-    let answer = answer?;
-    closed.map_err(Stop::from)?;
+    c.close_file(disk, true).map_err(Stop::from)?;
     Ok(answer)
 }
 
@@ -264,7 +256,7 @@ static OPEN: [Cut; 3] = [
 ];
 
 /// Whether both come to what their row says.
-fn come_so(alloc: Global, row: &Cut) -> Result<bool, Fail> {
+fn come_so(alloc: Global, row: &Cut) -> Result<bool, OpenFault> {
     let (call, answer, after) = *row;
     let mut disk = failing(alloc, b"", call)?;
     let came = one_by_one(alloc, &mut disk);
@@ -274,9 +266,8 @@ fn come_so(alloc: Global, row: &Cut) -> Result<bool, Fail> {
 }
 
 #[test]
-fn an_input_writes_a_line_feed(rt: HostRuntime) -> Result<(), Fail> {
-    for row in &OPEN {
-        assert!(rt; come_so(rt.alloc(), row)?, "call {}", row.0);
+fn an_input_writes_a_line_feed(rt: HostRuntime) {
+    for (number, row) in OPEN.iter().enumerate() {
+        assert!(rt; come_so(rt.alloc(), row) == Ok(true), "row {number}");
     }
-    Ok(())
 }

@@ -5,11 +5,11 @@ ghost use Rattle.std.specs.FinMap as map;
 ghost use Rattle.std.specs.FinSet as set;
 
 use crate::perform::{A, Form, Opening, Said, Verb, leaves};
+use fj_connect::OpenFault;
 use fj_modes::{Access, Action};
 use fj_outside::{Disk, Failed, FileStore, Stop};
 use fj_value::Condition;
 use std::alloc::{AllocError, Global};
-use std::test::Fail;
 
 /// A file of which only the length and the number of writes are kept. It tells nothing, and reads as zeros.
 #[derive(Clone, Copy, PartialEq, Eq)]
@@ -222,7 +222,7 @@ fn left_by(
     (access, formatted, recl): (Access, bool, u32),
     len: u64,
     said: Said,
-) -> Result<(Result<Condition, Stop>, Option<Plain>), Fail> {
+) -> Result<(Result<Condition, Stop>, Option<Plain>), OpenFault> {
     let opening = Opening {
         access,
         formatted,
@@ -237,7 +237,7 @@ fn left_by(
 }
 
 /// Whether a statement comes to what its row says.
-fn holds(alloc: Global, row: &Row) -> Result<bool, Fail> {
+fn holds(alloc: Global, row: &Row) -> Result<bool, OpenFault> {
     let ((access, formatted, fewer), said, (condition, after, writes)) = *row;
     let recl = if access == Direct { 8 } else { 6 };
     let len = LIMIT.saturating_sub(fewer);
@@ -250,11 +250,10 @@ fn holds(alloc: Global, row: &Row) -> Result<bool, Fail> {
 }
 
 #[test]
-fn the_limit_of_a_file(rt: HostRuntime) -> Result<(), Fail> {
+fn the_limit_of_a_file(rt: HostRuntime) {
     for (number, row) in ROWS.iter().enumerate() {
-        assert!(rt; holds(rt.alloc(), row)?, "row {number}");
+        assert!(rt; holds(rt.alloc(), row) == Ok(true), "row {number}");
     }
-    Ok(())
 }
 
 static LONG: [u8; 5_000] = [b'x'; 5_000];
@@ -276,7 +275,7 @@ static WRITTEN: [Written; 7] = [
 ];
 
 /// Whether an output comes to what its row says.
-fn is_written(alloc: Global, row: &Written) -> Result<bool, Fail> {
+fn is_written(alloc: Global, row: &Written) -> Result<bool, OpenFault> {
     let ((access, len), (at, count), (after, writes)) = *row;
     let said = (Output, Stored, at, &LONG[..count.min(5_000)]);
     let file = Plain { len: after, writes };
@@ -285,9 +284,8 @@ fn is_written(alloc: Global, row: &Written) -> Result<bool, Fail> {
 }
 
 #[test]
-fn one_write_for_a_statement(rt: HostRuntime) -> Result<(), Fail> {
+fn one_write_for_a_statement(rt: HostRuntime) {
     for (number, row) in WRITTEN.iter().enumerate() {
-        assert!(rt; is_written(rt.alloc(), row)?, "row {number}");
+        assert!(rt; is_written(rt.alloc(), row) == Ok(true), "row {number}");
     }
-    Ok(())
 }
