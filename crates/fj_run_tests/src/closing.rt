@@ -1,10 +1,10 @@
 // The end of a run over a disk in memory: a file with an open record, and a scratch file.
-ghost use Rattle.std.specs.Prelude.{◌≡◌, ◌≤◌, [], true, length, is_some, vec_capacity, IfSome};
+ghost use Rattle.std.specs.Prelude.{◌≡◌, true, is_some, IfSome};
 ghost use Rattle.fj_world.specs.Alone.{AllHome};
 ghost use Rattle.fj_units.specs.Names.{AreInUse};
 
 use fj_bay::{Bay, Boxed, Job};
-use fj_closing::{Remains, finish, room_for};
+use fj_closing::{finish, room_for};
 use fj_connect::{Connection, open_file};
 use fj_modes::{Access, FileName, FileStatus, OpenSpec, is_file_name, settle_open};
 use fj_outside::{MemoryDisk, MemoryFile};
@@ -38,20 +38,24 @@ fn connect(
     requires { AreInUse names.old disk.old.in_use }
     ensures { IfSome result (λ _. AreInUse names.new disk.new.in_use) }
 {
+    if names.holds(name) {
+        return None;
+    }
     let spec = OpenSpec {
         status,
         ..OpenSpec::default()
     };
     let Ok(modes) = settle_open(&spec) else {
+        drop(spec);
         return None;
     };
-    if names.holds(name) {
-        return None;
-    }
     let Ok(connection) = open_file(alloc, disk, name, &spec, modes) else {
+        drop(spec);
         return None;
     };
+    drop(spec);
     let Ok(()) = names.add(name) else {
+        drop(connection);
         return None;
     };
     Some(connection)
@@ -70,11 +74,12 @@ fn write(connection: &mut Connection<MemoryFile>) -> Option<()> {
 fn slot_of(alloc: Global, connection: Connection<MemoryFile>) -> Option<Slot<Bay<MemoryFile>>>
     ensures { IfSome result (λ slot. is_some slot.home ≡ true) }
 {
-    let mut slot = Slot::new(alloc, Bay::empty(alloc));
     let Ok(place) = Boxed::new(alloc, Some(connection)) else {
         return None;
     };
+    let mut slot = Slot::new(alloc, Bay::empty(alloc));
     let Ok(_) = slot.submit(Job::Attach(place)) else {
+        drop(slot);
         return None;
     };
     Some(slot)
@@ -91,9 +96,12 @@ fn two_slots(
 {
     let mut slots = Slots::new(alloc);
     let Ok(()) = slots.push(first) else {
+        drop(second);
+        drop(slots);
         return None;
     };
     let Ok(()) = slots.push(second) else {
+        drop(slots);
         return None;
     };
     Some(slots)
@@ -131,18 +139,129 @@ fn found(disk: &MemoryDisk) -> (bool, bool) {
 
 /// Whether all went well.
 fn is_finished(
+    alloc: Global,
     units: &Units,
     slots: Slots<Bay<MemoryFile>>,
-    room: Vec<Remains<MemoryFile>>,
     names: &mut Names,
     disk: &mut MemoryDisk,
-) -> bool
+) -> Option<bool>
     requires home { AllHome slots }
-    requires empty { room.items ≡ [] }
-    requires room { length slots.slots ≤ vec_capacity room }
     requires names { AreInUse names.old disk.old.in_use }
 {
-    finish(units, slots, room, names, disk).is_ok()
+    let Ok(room) = room_for(alloc, slots.len()) else {
+        drop(slots);
+        return None;
+    };
+    Some(finish(units, slots, room, names, disk).is_ok())
+}
+
+/// A unit, its slot and name, the STATUS= of its OPEN, and whether a record of it is left open.
+#[derive(Drop)]
+struct Opened {
+    number: u32,
+    slot: u32,
+    name: FileName,
+    status: Option<FileStatus>,
+    open: bool,
+}
+
+/// The slot of a unit that is connected to its file.
+fn slot_with(
+    alloc: Global,
+    opened: Opened,
+    units: &mut Units,
+    names: &mut Names,
+    disk: &mut MemoryDisk,
+) -> Option<Slot<Bay<MemoryFile>>>
+    requires { AreInUse names.old disk.old.in_use }
+    ensures home { IfSome result (λ slot. is_some slot.home ≡ true) }
+    ensures names { IfSome result (λ _. AreInUse names.new disk.new.in_use) }
+{
+    let mut connection = connect(alloc, &opened.name, opened.status, names, disk)?;
+    let is_written = !opened.open || write(&mut connection).is_some();
+    let (number, slot) = (opened.number, opened.slot);
+    let is_entered = insert(units, number, slot, opened.name, &connection).is_some();
+    if !is_written || !is_entered {
+        drop(connection);
+        return None;
+    }
+    slot_of(alloc, connection)
+}
+
+/// That of the scratch file.
+fn scratch_slot(
+    alloc: Global,
+    slot: u32,
+    units: &mut Units,
+    names: &mut Names,
+    disk: &mut MemoryDisk,
+) -> Option<Slot<Bay<MemoryFile>>>
+    requires { AreInUse names.old disk.old.in_use }
+    ensures home { IfSome result (λ slot. is_some slot.home ≡ true) }
+    ensures names { IfSome result (λ _. AreInUse names.new disk.new.in_use) }
+{
+    let opened = Opened {
+        number: 11,
+        slot,
+        name: FileName::scratch(alloc, 11).ok()?,
+        status: Some(FileStatus::Scratch),
+        open: false,
+    };
+    slot_with(alloc, opened, units, names, disk)
+}
+
+/// That of the file with an open record.
+fn text_slot(
+    alloc: Global,
+    units: &mut Units,
+    names: &mut Names,
+    disk: &mut MemoryDisk,
+) -> Option<Slot<Bay<MemoryFile>>>
+    requires { AreInUse names.old disk.old.in_use }
+    ensures home { IfSome result (λ slot. is_some slot.home ≡ true) }
+    ensures names { IfSome result (λ _. AreInUse names.new disk.new.in_use) }
+{
+    let opened = Opened {
+        number: 10,
+        slot: 1,
+        name: name_of(alloc, "a")?,
+        status: None,
+        open: true,
+    };
+    slot_with(alloc, opened, units, names, disk)
+}
+
+/// The slots of both.
+fn both_slots(
+    alloc: Global,
+    slot: u32,
+    units: &mut Units,
+    names: &mut Names,
+    disk: &mut MemoryDisk,
+) -> Option<Slots<Bay<MemoryFile>>>
+    requires { AreInUse names.old disk.old.in_use }
+    ensures home { IfSome result (λ slots. AllHome slots) }
+    ensures names { IfSome result (λ _. AreInUse names.new disk.new.in_use) }
+{
+    let first = scratch_slot(alloc, slot, units, names, disk)?;
+    let Some(second) = text_slot(alloc, units, names, disk) else {
+        drop(first);
+        return None;
+    };
+    two_slots(alloc, first, second)
+}
+
+/// Whether all went well at the end of both.
+fn ends_well(alloc: Global, slot: u32, names: &mut Names, disk: &mut MemoryDisk) -> Option<bool>
+    requires { AreInUse names.old disk.old.in_use }
+{
+    let mut units = Units::new(alloc);
+    let fine = match both_slots(alloc, slot, &mut units, names, disk) {
+        Some(slots) => is_finished(alloc, &units, slots, names, disk),
+        None => None,
+    };
+    drop(units);
+    fine
 }
 
 /// Whether all went well, whether the open record was ended in its file, whether the scratch file is there, and whether no name
@@ -150,19 +269,12 @@ fn is_finished(
 fn end_with(alloc: Global, slot: u32) -> Option<(bool, bool, bool, bool)> {
     let mut names = Names::new(alloc);
     let mut disk = MemoryDisk::new(alloc);
-    let mut units = Units::new(alloc);
-    let scratch = FileName::scratch(alloc, 11).ok()?;
-    let status = Some(FileStatus::Scratch);
-    let mut text = connect(alloc, &name_of(alloc, "a")?, None, &mut names, &mut disk)?;
-    let other = connect(alloc, &scratch, status, &mut names, &mut disk)?;
-    write(&mut text)?;
-    insert(&mut units, 11, slot, scratch, &other)?;
-    insert(&mut units, 10, 1, name_of(alloc, "a")?, &text)?;
-    let slots = two_slots(alloc, slot_of(alloc, other)?, slot_of(alloc, text)?)?;
-    let room = room_for(alloc, slots.len()).ok()?;
-    let fine = is_finished(&units, slots, room, &mut names, &mut disk);
+    let fine = ends_well(alloc, slot, &mut names, &mut disk);
     let (ended, stays) = found(&disk);
-    Some((fine, ended, stays, names.is_empty()))
+    let is_back = names.is_empty();
+    drop(disk);
+    drop(names);
+    Some((fine?, ended, stays, is_back))
 }
 
 #[test]

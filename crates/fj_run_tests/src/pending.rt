@@ -82,7 +82,9 @@ fn wait(
     let Ok(mut store) = Store::new(alloc, &[]) else {
         return Refused;
     };
-    match pendings.tell(alloc, whose, line, &mut store, tells) {
+    let told = pendings.tell(alloc, whose, line, &mut store, tells);
+    drop(store);
+    match told {
         Ok(condition) => Waited(condition, tells.len(), pendings.entries().len()),
         Err(_) => Refused,
     }
@@ -113,15 +115,28 @@ fn come_to(alloc: Global, pendings: &mut Pendings, tells: &mut Items<Tell>, step
 }
 
 /// The number of the first step that comes to something else.
+fn other_step(
+    alloc: Global,
+    pendings: &mut Pendings,
+    tells: &mut Items<Tell>,
+    rows: &[(Step, Came)],
+) -> Option<usize> {
+    for (number, (step, came)) in rows.iter().enumerate() {
+        if come_to(alloc, pendings, tells, *step) != *came {
+            return Some(number);
+        }
+    }
+    None
+}
+
+/// The same where there is no transfer before.
 fn differs(alloc: Global, rows: &[(Step, Came)]) -> Result<Option<usize>, AllocError> {
     let mut pendings = Pendings::new(alloc, &[])?;
     let mut tells = Items::new(alloc);
-    for (number, (step, came)) in rows.iter().enumerate() {
-        if come_to(alloc, &mut pendings, &mut tells, *step) != *came {
-            return Ok(Some(number));
-        }
-    }
-    Ok(None)
+    let other = other_step(alloc, &mut pendings, &mut tells, rows);
+    drop(tells);
+    drop(pendings);
+    Ok(other)
 }
 
 static ANSWERED: [(Step, Came); 25] = [

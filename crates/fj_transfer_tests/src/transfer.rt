@@ -14,7 +14,6 @@ use fj_list::{Load, Moved, OutputItems, Run, Values};
 use fj_transfer::{EditChange, Layout, Transfer, TransferSpec, print_explicit, print_records};
 use fj_value::{Cell, Condition, Delim, EditModes, Items, Kind, Place, Tag, Text, Value};
 use std::alloc::{AllocError, Global};
-use std::test::Fail;
 
 /// An item of a table.
 #[derive(Clone, Copy)]
@@ -100,16 +99,16 @@ pub fn moved(alloc: Global, items: &[Item], times: u32) -> Result<Moved, AllocEr
     Ok(Moved { cells, order })
 }
 
-/// A format, or `*` for a list-directed output.
-fn layout_of(alloc: Global, format: &[u8]) -> Result<Layout, Fail>
+/// A format; what is none, as `*`, stands for a list-directed output.
+fn layout_of(alloc: Global, format: &[u8]) -> Layout
     requires { length format.now < 2 ^ 32 }
-    ensures records { IfOk result (λ layout. IsRecords layout) }
-    ensures alone { IfOk result (λ layout. members_of layout ≡ []) }
+    ensures records { IsRecords result }
+    ensures alone { members_of result ≡ [] }
 {
-    if format == b"*".as_slice() {
-        return Ok(Layout::Listed);
+    match parse(alloc, format) {
+        Ok(format) => Layout::Explicit(format),
+        Err(_) => Layout::Listed,
     }
-    Ok(Layout::Explicit(parse(alloc, format)?))
 }
 
 fn transfer(layout: Layout, moved: Moved, advance: bool, edit: EditChange) -> Transfer
@@ -329,10 +328,9 @@ fn added(
     Ok((condition, out))
 }
 
-/// Whether it is what is wanted.
-fn is_added(got: (Condition, Text), want: Result<&[u8], u8>) -> bool {
-    let (condition, out) = got;
-    match (want, out.bytes()) {
+/// Whether a condition and the bytes then are what is wanted.
+fn is_added(condition: Condition, out: &[u8], want: Result<&[u8], u8>) -> bool {
+    match (want, out) {
         (Ok(text), [b'=', added @ ..]) => condition == Condition::Fine && added == text,
         (Err(error), bytes) => condition == Condition::Error(error) && bytes == b"=".as_slice(),
         (Ok(_), _) => false,
@@ -347,49 +345,97 @@ fn output(
     times: u32,
     advance: bool,
     edit: EditChange,
-) -> Result<Transfer, Fail>
+) -> Result<Transfer, AllocError>
     ensures { IfOk result (λ job. IsRecords job.spec.layout) }
 {
     if format.len() >= 100 || items.len() >= 100 {
-        return Err("too much for a row".into());
+        return Err(AllocError);
     }
-    let layout = layout_of(alloc, format.as_bytes())?;
     let items = moved(alloc, items, times)?;
     if items.order.len() >= 1000 {
-        return Err("too many items for a row".into());
+        return Err(AllocError);
     }
+    let layout = layout_of(alloc, format.as_bytes());
     Ok(transfer(layout, items, advance, edit))
 }
 
+/// How an output is written: so many of each item, under ADVANCE=, the modes of the statement and the sign mode of the
+/// connection, to a record that has so many characters and may have so many.
+#[derive(Clone, Copy)]
+struct Way {
+    times: u32,
+    advance: bool,
+    edit: EditChange,
+    plus: bool,
+    begun: u32,
+    recl: u32,
+}
+
+const WAY: Way = Way {
+    times: 1,
+    advance: true,
+    edit: NO_CHANGE,
+    plus: false,
+    begun: 0,
+    recl: 80,
+};
+
+/// What an output adds to `=`.
+fn printed(
+    alloc: Global,
+    format: &str,
+    items: &[Item],
+    way: &Way,
+) -> Result<(Condition, Text), AllocError> {
+    let job = output(alloc, format, items, way.times, way.advance, way.edit)?;
+    let came = added(alloc, &job, way.plus, way.recl, way.begun);
+    drop(job);
+    came
+}
+
+/// Whether an output comes to what is wanted.
+fn prints(
+    alloc: Global,
+    format: &str,
+    items: &[Item],
+    way: &Way,
+    want: Result<&[u8], u8>,
+) -> Result<bool, AllocError> {
+    let (condition, out) = printed(alloc, format, items, way)?;
+    Ok(is_added(condition, out.bytes(), want))
+}
+
 /// Whether a row holds.
-fn writes(alloc: Global, advance: bool, row: &Row) -> Result<bool, Fail> {
+fn writes(alloc: Global, advance: bool, row: &Row) -> Result<bool, AllocError> {
     let (format, items, begun, recl, want) = *row;
-    let job = output(alloc, format, items, 1, advance, NO_CHANGE)?;
-    Ok(is_added(added(alloc, &job, false, recl, begun)?, want))
+    let way = Way {
+        advance,
+        begun,
+        recl,
+        ..WAY
+    };
+    prints(alloc, format, items, &way, want)
 }
 
 #[test]
-fn records(rt: HostRuntime) -> Result<(), Fail> {
+fn records(rt: HostRuntime) {
     for (number, row) in ROWS.iter().enumerate() {
-        assert!(rt; writes(rt.alloc(), true, row)?, "row {number}");
+        assert!(rt; writes(rt.alloc(), true, row) == Ok(true), "row {number}");
     }
-    Ok(())
 }
 
 #[test]
-fn open_records(rt: HostRuntime) -> Result<(), Fail> {
+fn open_records(rt: HostRuntime) {
     for (number, row) in OPEN.iter().enumerate() {
-        assert!(rt; writes(rt.alloc(), false, row)?, "row {number}");
+        assert!(rt; writes(rt.alloc(), false, row) == Ok(true), "row {number}");
     }
-    Ok(())
 }
 
 #[test]
-fn listed_records(rt: HostRuntime) -> Result<(), Fail> {
+fn listed_records(rt: HostRuntime) {
     for (number, row) in LISTED.iter().enumerate() {
-        assert!(rt; writes(rt.alloc(), false, row)?, "row {number}");
+        assert!(rt; writes(rt.alloc(), false, row) == Ok(true), "row {number}");
     }
-    Ok(())
 }
 
 /// A format, the sign mode of the connection and that of the statement, and what is written.
@@ -403,30 +449,34 @@ static SIGNED: [Signed; 4] = [
 ];
 
 /// Whether a row holds.
-fn signs(alloc: Global, row: &Signed) -> Result<bool, Fail> {
+fn signs(alloc: Global, row: &Signed) -> Result<bool, AllocError> {
     let (format, plus, change, want) = *row;
     let edit = EditChange {
         plus: change,
         ..NO_CHANGE
     };
-    let job = output(alloc, format, &[I4(1), I4(2)], 1, true, edit)?;
-    Ok(is_added(added(alloc, &job, plus, 80, 0)?, Ok(want)))
+    let way = Way { edit, plus, ..WAY };
+    prints(alloc, format, &[I4(1), I4(2)], &way, Ok(want))
 }
 
-/// The modes of the connection, those that the statement names, and those of the format.
-#[test]
-fn modes(rt: HostRuntime) -> Result<(), Fail> {
-    for (number, row) in SIGNED.iter().enumerate() {
-        assert!(rt; signs(rt.alloc(), row)?, "row {number}");
-    }
+/// Whether DELIM= of the statement holds.
+fn delimits(alloc: Global) -> Result<bool, AllocError> {
     let edit = EditChange {
         delim: Some(Delim::Quote),
         ..NO_CHANGE
     };
-    let job = output(rt.alloc(), "*", &[A(b"a\"b"), A(b"'")], 1, true, edit)?;
-    let got = added(rt.alloc(), &job, false, 80, 0)?;
-    assert!(rt; is_added(got, Ok(b" \"a\"\"b\" \"'\"\n")));
-    Ok(())
+    let items = [A(b"a\"b"), A(b"'")];
+    let want = b" \"a\"\"b\" \"'\"\n";
+    prints(alloc, "*", &items, &Way { edit, ..WAY }, Ok(want))
+}
+
+/// The modes of the connection, those that the statement names, and those of the format.
+#[test]
+fn modes(rt: HostRuntime) {
+    for (number, row) in SIGNED.iter().enumerate() {
+        assert!(rt; signs(rt.alloc(), row) == Ok(true), "row {number}");
+    }
+    assert!(rt; delimits(rt.alloc()) == Ok(true));
 }
 
 /// A format, how many items of one character, ADVANCE=, the limit of a record, and the condition and how many bytes are written.
@@ -447,48 +497,60 @@ static LIMITS: [Limit; 4] = [
 ];
 
 /// Whether a row holds.
-fn is_limit(alloc: Global, row: &Limit) -> Result<bool, Fail> {
+fn is_limit(alloc: Global, row: &Limit) -> Result<bool, AllocError> {
     let (format, times, advance, recl, condition, bytes) = *row;
-    let job = output(alloc, format, &[A(b"x")], times, advance, NO_CHANGE)?;
-    let (told, out) = added(alloc, &job, false, recl, 0)?;
+    let way = Way {
+        times,
+        advance,
+        recl,
+        ..WAY
+    };
+    let (told, out) = printed(alloc, format, &[A(b"x")], &way)?;
     Ok(told == condition && out.len().checked_sub(1) == Some(bytes))
 }
 
 /// Records of 65,536 bytes with their line feeds, of which 256 are the most that a statement may write.
 #[test]
-fn limits(rt: HostRuntime) -> Result<(), Fail> {
+fn limits(rt: HostRuntime) {
     for (number, row) in LIMITS.iter().enumerate() {
-        assert!(rt; is_limit(rt.alloc(), row)?, "row {number}");
+        assert!(rt; is_limit(rt.alloc(), row) == Ok(true), "row {number}");
     }
-    Ok(())
 }
 
 /// A namelist group of two.
-fn group_of_two(alloc: Global) -> Result<Transfer, Fail>
+fn group_of_two(alloc: Global) -> Result<Transfer, AllocError>
     ensures { IfOk result (λ job. IsRecords job.spec.layout) }
 {
+    let name = Text::from_bytes(alloc, b"g")?;
     let items = moved(alloc, &[I4(5), I4(-7)], 1)?;
-    let layout = Layout::Group(Text::from_bytes(alloc, b"g")?, members(alloc)?);
     if items.order.len() >= 1000 {
-        return Err("too many items".into());
+        return Err(AllocError);
     }
+    let layout = Layout::Group(name, members(alloc)?);
     Ok(transfer(layout, items, true, NO_CHANGE))
 }
 
-#[test]
-fn group(rt: HostRuntime) -> Result<(), Fail> {
-    let job = group_of_two(rt.alloc())?;
-    let got = added(rt.alloc(), &job, false, 80, 0)?;
-    assert!(rt; is_added(got, Ok(b" &G\n A=5\n B=-7\n /\n")));
-    let got = added(rt.alloc(), &job, false, 4, 0)?;
-    assert!(rt; is_added(got, Err(15)));
-    Ok(())
+/// Whether it comes to what is wanted in records of at most so many characters.
+fn prints_group(alloc: Global, recl: u32, want: Result<&[u8], u8>) -> Result<bool, AllocError> {
+    let job = group_of_two(alloc)?;
+    let came = added(alloc, &job, false, recl, 0);
+    drop(job);
+    let (condition, out) = came?;
+    Ok(is_added(condition, out.bytes(), want))
 }
 
-/// Values that are borrowed in runs.
 #[test]
-fn runs(rt: HostRuntime) -> Result<(), Fail> {
-    let alloc = rt.alloc();
+fn group(rt: HostRuntime) {
+    assert!(rt; prints_group(rt.alloc(), 80, Ok(b" &G\n A=5\n B=-7\n /\n")) == Ok(true));
+    assert!(rt; prints_group(rt.alloc(), 4, Err(15)) == Ok(true));
+}
+
+/// Whether values that are borrowed in runs come to what is wanted.
+fn prints_runs(alloc: Global) -> Result<bool, AllocError> {
+    let Ok(format) = parse(alloc, b"(3I3,L2)") else {
+        return Ok(false);
+    };
+    let mut out = Text::from_bytes(alloc, b"=")?;
     let numbers = [Value::Int(1), Value::Int(-2), Value::Int(3)];
     let truth = Value::Log(true);
     let runs = [
@@ -501,11 +563,15 @@ fn runs(rt: HostRuntime) -> Result<(), Fail> {
             values: Values::One(&truth),
         },
     ];
-    let format = parse(alloc, b"(3I3,L2)")?;
     let items = OutputItems::of_runs(&runs);
-    let mut out = Text::from_bytes(alloc, b"=")?;
-    let condition = print_explicit(&format, true, MODES, items, 80, 0, &mut out)?;
-    assert_eq!(rt; condition, Condition::Fine);
-    assert_eq!(rt; out.bytes(), b"=  1 -2  3 T\n".as_slice());
-    Ok(())
+    let condition = print_explicit(&format, true, MODES, items, 80, 0, &mut out);
+    drop(truth);
+    drop(numbers);
+    drop(format);
+    Ok(is_added(condition?, out.bytes(), Ok(b"  1 -2  3 T\n")))
+}
+
+#[test]
+fn runs(rt: HostRuntime) {
+    assert!(rt; prints_runs(rt.alloc()) == Ok(true));
 }

@@ -4,16 +4,13 @@ ghost use Rattle.std.specs.FinSet as set;
 ghost use Rattle.fj_outside.specs.FailingDisk.{disk_held};
 
 use crate::perform::{
-    A, Form, NAME, Said, Verb, carried_out, connect, disk_of, is_text, perform_again, statement,
-    transfer,
+    A, Form, NAME, Opening, Said, Verb, connect, disk_of, leaves, perform_again, transfer,
 };
-use fj_connect::Connection;
+use fj_connect::{Connection, OpenFault};
 use fj_modes::{Access, Action};
 use fj_outside::{Disk, FailingDisk, FileStore, Stop};
-use fj_transfer::Transfer;
 use fj_value::Condition;
 use std::alloc::{AllocError, Global};
-use std::test::Fail;
 
 /// A disk that holds the file, of which the call with this number fails.
 fn failing(alloc: Global, bytes: &[u8], call: u64) -> Result<FailingDisk, AllocError>
@@ -173,78 +170,104 @@ fn is_kept(now: Option<&[u8]>, before: &[u8], after: &[u8], kept: usize) -> bool
     }
 }
 
-/// Whether a statement stops by failure where a call with this number fails, and else comes to what its row says.
-fn holds(alloc: Global, row: &Row, call: u64) -> Result<bool, Fail> {
-    let ((access, formatted, before, place), said, (calls, kept), (count, after, at, item)) = *row;
-    let spec = statement(access, formatted, Action::ReadWrite);
-    let mut disk = failing(alloc, before, call)?;
-    let mut job = transfer(alloc, said, access)?;
-    let came = carried_out(alloc, &mut disk, &spec, place, 0, &mut job)?;
-    if call <= u64::from(calls) {
-        let now = disk.bytes_of(NAME);
-        return Ok(came.0 == Err(Stop::Failed) && is_kept(now, before, after, kept));
+fn opening(access: Access, formatted: bool) -> Opening {
+    Opening {
+        access,
+        formatted,
+        action: Some(Action::ReadWrite),
+        recl: 6,
     }
-    Ok(
-        came == (Ok(Condition::Fine), at)
-            && job.count == count
-            && is_text(&job.moved, Some(item))
-            && disk.bytes_of(NAME) == Some(after),
-    )
+}
+
+/// Whether the file is as the row says behind a statement of which a call with this number fails.
+fn is_left(row: &Row, call: u64, now: Option<&[u8]>) -> bool {
+    let ((_, _, before, _), _, (calls, kept), (_, after, _, _)) = *row;
+    if call <= u64::from(calls) {
+        return is_kept(now, before, after, kept);
+    }
+    now == Some(after)
+}
+
+/// Whether a statement stops by failure where a call with this number fails, and else comes to what its row says.
+fn holds(alloc: Global, row: &Row, call: u64) -> Result<bool, OpenFault> {
+    let ((access, formatted, before, place), said, (calls, _), (count, _, at, item)) = *row;
+    let opening = opening(access, formatted);
+    let left = (count, Some(item));
+    let mut disk = failing(alloc, before, call)?;
+    let came = leaves(alloc, &mut disk, &opening, place, (said, 0), left);
+    let is_left = is_left(row, call, disk.bytes_of(NAME));
+    drop(disk);
+    let (came, is_so) = came?;
+    if call <= u64::from(calls) {
+        return Ok(came.0 == Err(Stop::Failed) && is_left);
+    }
+    Ok(came == (Ok(Condition::Fine), at) && is_so && is_left)
 }
 
 #[test]
-fn each_call_fails_in_turn(rt: HostRuntime) -> Result<(), Fail> {
+fn each_call_fails_in_turn(rt: HostRuntime) {
     for (number, row) in ROWS.iter().enumerate() {
         let (calls, _) = row.2;
         for call in 1..u64::from(calls) + 2 {
-            assert!(rt; holds(rt.alloc(), row, call)?, "row {number}, call {call}");
+            assert!(rt;
+                holds(rt.alloc(), row, call) == Ok(true),
+                "row {number}, call {call}"
+            );
         }
     }
-    Ok(())
 }
 
-/// Carries out two statements, and answers the condition of the last.
-fn both<F: FileStore>(
-    alloc: Global,
-    c: &mut Connection<F>,
-    first: &mut Transfer,
-    second: &mut Transfer,
-) -> Result<Condition, Stop>
+/// Carries out a statement.
+fn once<F: FileStore>(alloc: Global, c: &mut Connection<F>, said: Said) -> Result<Condition, Stop>
     ensures { c.new.name ≡ c.old.name }
 {
-    perform_again(alloc, c, 0, first)?;
-    perform_again(alloc, c, 0, second)
+    let mut job = transfer(alloc, said, Sequential)?;
+    let answer = perform_again(alloc, c, 0, &mut job);
+    drop(job);
+    answer
 }
 
 /// Carries out an output that leaves a record open and then an input, and answers the condition of the last.
-fn one_by_one<D: Disk>(alloc: Global, disk: &mut D) -> Result<Result<Condition, Stop>, Fail>
+fn both<F: FileStore>(alloc: Global, c: &mut Connection<F>) -> Result<Condition, Stop>
+    ensures { c.new.name ≡ c.old.name }
+{
+    once(alloc, c, (OpenOutput, A, None, b"ab"))?;
+    once(alloc, c, (Input, A, None, b"_"))
+}
+
+/// The same on a new connection, which is closed then.
+fn one_by_one<D: Disk>(alloc: Global, disk: &mut D) -> Result<Result<Condition, Stop>, OpenFault>
     requires { D.tells disk.old → (D.held disk.old).in_use ≡ set.empty }
 {
-    let mut output = transfer(alloc, (OpenOutput, A, None, b"ab"), Sequential)?;
-    let mut input = transfer(alloc, (Input, A, None, b"_"), Sequential)?;
-    let spec = statement(Sequential, true, Action::ReadWrite);
-    let mut c = connect(alloc, disk, &spec)?;
-    let answer = both(alloc, &mut c, &mut output, &mut input);
+    let mut c = connect(alloc, disk, &opening(Sequential, true))?;
+    let answer = both(alloc, &mut c);
     c.close_file(disk, true).map_err(Stop::from)?;
     Ok(answer)
 }
 
+/// The call that fails, the last condition, and the file then.
+type Cut = (u64, Result<Condition, Stop>, &'static [u8]);
+
 /// The input ends the record, which is one call more.
-static OPEN: [(u64, Result<Condition, Stop>, &[u8]); 3] = [
+static OPEN: [Cut; 3] = [
     (1, Err(Stop::Failed), b""),
     (2, Err(Stop::Failed), b"ab"),
     (3, Ok(Condition::EndOfFile), b"ab\n"),
 ];
 
+/// Whether both come to what their row says.
+fn come_so(alloc: Global, row: &Cut) -> Result<bool, OpenFault> {
+    let (call, answer, after) = *row;
+    let mut disk = failing(alloc, b"", call)?;
+    let came = one_by_one(alloc, &mut disk);
+    let is_left = disk.bytes_of(NAME) == Some(after);
+    drop(disk);
+    Ok(came? == answer && is_left)
+}
+
 #[test]
-fn an_input_writes_a_line_feed(rt: HostRuntime) -> Result<(), Fail> {
-    for (call, answer, after) in OPEN {
-        let mut disk = failing(rt.alloc(), b"", call)?;
-        let came = one_by_one(rt.alloc(), &mut disk)?;
-        assert!(rt;
-            came == answer && disk.bytes_of(NAME) == Some(after),
-            "call {call}"
-        );
+fn an_input_writes_a_line_feed(rt: HostRuntime) {
+    for (number, row) in OPEN.iter().enumerate() {
+        assert!(rt; come_so(rt.alloc(), row) == Ok(true), "row {number}");
     }
-    Ok(())
 }

@@ -4,12 +4,12 @@ ghost use Rattle.std.proofs.Common.{rules};
 ghost use Rattle.std.specs.FinMap as map;
 ghost use Rattle.std.specs.FinSet as set;
 
-use crate::perform::{A, Form, Said, Verb, carried_out, statement, transfer};
-use fj_modes::{Access, Action, OpenSpec};
+use crate::perform::{A, Form, Opening, Said, Verb, leaves};
+use fj_connect::OpenFault;
+use fj_modes::{Access, Action};
 use fj_outside::{Disk, Failed, FileStore, Stop};
 use fj_value::Condition;
 use std::alloc::{AllocError, Global};
-use std::test::Fail;
 
 /// A file of which only the length and the number of writes are kept. It tells nothing, and reads as zeros.
 #[derive(Clone, Copy, PartialEq, Eq)]
@@ -219,40 +219,41 @@ static ROWS: [Row; 18] = [
 /// What a statement behind the last byte of a file of that length answers, and the file then.
 fn left_by(
     alloc: Global,
-    access: Access,
-    spec: &OpenSpec,
+    (access, formatted, recl): (Access, bool, u32),
     len: u64,
     said: Said,
-) -> Result<(Result<Condition, Stop>, Option<Plain>), Fail> {
+) -> Result<(Result<Condition, Stop>, Option<Plain>), OpenFault> {
+    let opening = Opening {
+        access,
+        formatted,
+        action: Some(Action::ReadWrite),
+        recl,
+    };
     let mut disk = PlainDisk {
         home: Some(Plain { len, writes: 0 }),
     };
-    let mut job = transfer(alloc, said, access)?;
-    let (answer, _) = carried_out(alloc, &mut disk, spec, len, 0, &mut job)?;
+    let ((answer, _), _) = leaves(alloc, &mut disk, &opening, len, (said, 0), (None, None))?;
     Ok((answer, disk.home))
 }
 
 /// Whether a statement comes to what its row says.
-fn holds(alloc: Global, row: &Row) -> Result<bool, Fail> {
+fn holds(alloc: Global, row: &Row) -> Result<bool, OpenFault> {
     let ((access, formatted, fewer), said, (condition, after, writes)) = *row;
-    let mut spec = statement(access, formatted, Action::ReadWrite);
-    if access == Direct {
-        spec.recl = Some(8);
-    }
+    let recl = if access == Direct { 8 } else { 6 };
     let len = LIMIT.saturating_sub(fewer);
     let file = Plain {
         len: LIMIT.saturating_sub(after),
         writes,
     };
-    Ok(left_by(alloc, access, &spec, len, said)? == (Ok(condition), Some(file)))
+    let came = left_by(alloc, (access, formatted, recl), len, said)?;
+    Ok(came == (Ok(condition), Some(file)))
 }
 
 #[test]
-fn the_limit_of_a_file(rt: HostRuntime) -> Result<(), Fail> {
+fn the_limit_of_a_file(rt: HostRuntime) {
     for (number, row) in ROWS.iter().enumerate() {
-        assert!(rt; holds(rt.alloc(), row)?, "row {number}");
+        assert!(rt; holds(rt.alloc(), row) == Ok(true), "row {number}");
     }
-    Ok(())
 }
 
 static LONG: [u8; 5_000] = [b'x'; 5_000];
@@ -273,18 +274,18 @@ static WRITTEN: [Written; 7] = [
     ((Direct, 2_900), (Some(2), 5_000), (10_000, 4)),
 ];
 
+/// Whether an output comes to what its row says.
+fn is_written(alloc: Global, row: &Written) -> Result<bool, OpenFault> {
+    let ((access, len), (at, count), (after, writes)) = *row;
+    let said = (Output, Stored, at, &LONG[..count.min(5_000)]);
+    let file = Plain { len: after, writes };
+    let came = left_by(alloc, (access, false, 5_000), len, said)?;
+    Ok(came == (Ok(Fine), Some(file)))
+}
+
 #[test]
-fn one_write_for_a_statement(rt: HostRuntime) -> Result<(), Fail> {
+fn one_write_for_a_statement(rt: HostRuntime) {
     for (number, row) in WRITTEN.iter().enumerate() {
-        let ((access, len), (at, count), (after, writes)) = *row;
-        let mut spec = statement(access, false, Action::ReadWrite);
-        if access != Stream {
-            spec.recl = Some(5_000);
-        }
-        let said = (Output, Stored, at, &LONG[..count.min(5_000)]);
-        let file = Plain { len: after, writes };
-        let came = left_by(rt.alloc(), access, &spec, len, said)?;
-        assert!(rt; came == (Ok(Fine), Some(file)), "row {number}");
+        assert!(rt; is_written(rt.alloc(), row) == Ok(true), "row {number}");
     }
-    Ok(())
 }

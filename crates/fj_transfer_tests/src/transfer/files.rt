@@ -7,12 +7,12 @@ ghost use Rattle.fj_namelist.specs.GroupText.{IsWithin};
 ghost use Rattle.fj_transfer.specs.Moving.{members_of};
 ghost use Rattle.fj_transfer.specs.Printing.{IsRecords};
 
-use crate::perform::{NAME, connect, disk_of};
+use crate::perform::{NAME, Opening, connect, disk_of};
 use crate::transfer::{A, I4, I8, Item, L, MODES, moved};
 use fj_connect::{Connection, OpenFault};
-use fj_format::{Format, parse};
+use fj_format::parse;
 use fj_list::{Load, Moved};
-use fj_modes::{Access, FileStatus, OpenSpec};
+use fj_modes::Access;
 use fj_outside::{Disk, FileStore, Stop};
 use fj_transfer::{
     Layout, body_of, frame_of, read_direct, read_numbered, read_sequential, read_stream,
@@ -20,21 +20,18 @@ use fj_transfer::{
 };
 use fj_value::{Cell, Condition, Value};
 use std::alloc::Global;
-use std::test::Fail;
 
 /// A row that asks for what its access does not have.
 pub const NOT_DONE: Condition = Condition::Error(99);
 
-/// An OPEN statement; records have at most six bytes.
-pub fn statement(access: Access, formatted: bool) -> OpenSpec {
-    let mut spec = OpenSpec::default();
-    spec.status = Some(FileStatus::Old);
-    spec.access = Some(access);
-    spec.formatted = Some(formatted);
-    if access != Access::Stream {
-        spec.recl = Some(6);
+/// Records have at most six bytes.
+pub(crate) fn opening(access: Access, formatted: bool) -> Opening {
+    Opening {
+        access,
+        formatted,
+        action: None,
+        recl: 6,
     }
-    spec
 }
 
 /// Closes, and answers the condition, and the position and the next record's number.
@@ -114,7 +111,7 @@ fn written<D: Disk>(
     requires home { D.tells disk.old → (D.held disk.old).in_use ≡ set.empty }
     requires ordered { IsOrdered items.now }
 {
-    let mut c = connect(alloc, disk, &statement(access, false))?;
+    let mut c = connect(alloc, disk, &opening(access, false))?;
     let condition = write(alloc, &mut c, at, items);
     closed(disk, c, condition)
 }
@@ -130,7 +127,7 @@ fn read_from<D: Disk>(
     requires home { D.tells disk.old → (D.held disk.old).in_use ≡ set.empty }
     requires ordered { IsOrdered items.old }
 {
-    let mut c = connect(alloc, disk, &statement(access, false))?;
+    let mut c = connect(alloc, disk, &opening(access, false))?;
     let condition = read(alloc, &mut c, at, items);
     closed(disk, c, condition)
 }
@@ -232,23 +229,25 @@ static WRITES: [Written; 7] = [
 ];
 
 /// Whether an output comes to what its row says.
-fn writes(alloc: Global, row: &Written) -> Result<bool, Fail> {
+fn writes(alloc: Global, row: &Written) -> Result<bool, OpenFault> {
     let (access, before, at, items, condition, after, position, next) = *row;
     if items.len() >= 1000 {
         return Ok(false);
     }
-    let items = Load::of_cells(moved(alloc, items, 1)?);
     let mut disk = disk_of(alloc, before)?;
-    let came = written(alloc, &mut disk, access, at, &items)?;
-    Ok(came == (condition, position, next) && disk.bytes_of(NAME) == Some(after))
+    let items = Load::of_cells(moved(alloc, items, 1)?);
+    let came = written(alloc, &mut disk, access, at, &items);
+    drop(items);
+    let is_left = disk.bytes_of(NAME) == Some(after);
+    drop(disk);
+    Ok(came? == (condition, position, next) && is_left)
 }
 
 #[test]
-fn unformatted_output(rt: HostRuntime) -> Result<(), Fail> {
+fn unformatted_output(rt: HostRuntime) {
     for (number, row) in WRITES.iter().enumerate() {
-        assert!(rt; writes(rt.alloc(), row)?, "row {number}");
+        assert!(rt; writes(rt.alloc(), row) == Ok(true), "row {number}");
     }
-    Ok(())
 }
 
 /// Access, the file, the place or the record's number, items with other values, and the condition, the items then, the
@@ -334,27 +333,26 @@ static READS: [Read; 8] = [
 ];
 
 /// Whether an input comes to what its row says.
-fn reads(alloc: Global, row: &Read) -> Result<bool, Fail> {
+fn reads(alloc: Global, row: &Read) -> Result<bool, OpenFault> {
     let (access, bytes, at, items, condition, after, position, next) = *row;
     if items.len() >= 1000 {
         return Ok(false);
     }
     let mut items = moved(alloc, items, 1)?;
     let mut disk = disk_of(alloc, bytes)?;
-    let came = read_from(alloc, &mut disk, access, at, &mut items)?;
-    Ok(
-        came == (condition, position, next)
-            && are_values(items.cells.as_slice(), after)
-            && disk.bytes_of(NAME) == Some(bytes),
-    )
+    let came = read_from(alloc, &mut disk, access, at, &mut items);
+    let is_left = disk.bytes_of(NAME) == Some(bytes);
+    drop(disk);
+    let is_read = are_values(items.cells.as_slice(), after);
+    drop(items);
+    Ok(came? == (condition, position, next) && is_left && is_read)
 }
 
 #[test]
-fn unformatted_input(rt: HostRuntime) -> Result<(), Fail> {
+fn unformatted_input(rt: HostRuntime) {
     for (number, row) in READS.iter().enumerate() {
-        assert!(rt; reads(rt.alloc(), row)?, "row {number}");
+        assert!(rt; reads(rt.alloc(), row) == Ok(true), "row {number}");
     }
-    Ok(())
 }
 
 /// Writes records at the position or at a place.
@@ -388,6 +386,31 @@ fn put<F: FileStore>(
     }
 }
 
+/// Writes the items of a row so, under a format.
+fn put_items<F: FileStore>(
+    alloc: Global,
+    c: &mut Connection<F>,
+    place: Option<u64>,
+    format: &str,
+    advance: bool,
+    items: &[Item],
+) -> Result<Condition, Stop>
+    ensures { c.new.name ≡ c.old.name }
+{
+    if items.len() >= 1000 || format.len() >= 100 {
+        return Ok(NOT_DONE);
+    }
+    let Ok(format) = parse(alloc, format.as_bytes()) else {
+        return Ok(NOT_DONE);
+    };
+    let items = Load::of_cells(moved(alloc, items, 1)?);
+    let layout = Layout::Explicit(format);
+    let condition = put(alloc, c, place, &layout, advance, &items);
+    drop(items);
+    drop(layout);
+    condition
+}
+
 /// What an output of records comes to that begins at a position or a place: the condition and the position then.
 fn put_from<D: Disk>(
     alloc: Global,
@@ -395,19 +418,17 @@ fn put_from<D: Disk>(
     access: Access,
     at: u64,
     place: Option<u64>,
-    layout: &Layout,
+    format: &str,
     advance: bool,
-    items: &Load,
+    items: &[Item],
 ) -> Result<(Condition, u64, u64), OpenFault>
-    requires home { D.tells disk.old → (D.held disk.old).in_use ≡ set.empty }
-    requires records { IsRecords layout.now }
-    requires grouped { All (IsWithin (length items.now.cells)) (members_of layout.now) }
+    requires { D.tells disk.old → (D.held disk.old).in_use ≡ set.empty }
 {
-    let mut c = connect(alloc, disk, &statement(access, true))?;
+    let mut c = connect(alloc, disk, &opening(access, true))?;
     if at <= c.file_len() {
         c.go_between(at);
     }
-    let condition = put(alloc, &mut c, place, layout, advance, items);
+    let condition = put_items(alloc, &mut c, place, format, advance, items);
     closed(disk, c, condition)
 }
 
@@ -554,47 +575,59 @@ static PUTS: [Put; 10] = [
 ];
 
 /// Whether an output of records comes to what its row says.
-fn puts(alloc: Global, row: &Put) -> Result<bool, Fail> {
+fn puts(alloc: Global, row: &Put) -> Result<bool, OpenFault> {
     let (access, before, at, place, format, advance, items, condition, after, position) = *row;
-    if items.len() >= 1000 || format.len() >= 100 {
-        return Ok(false);
-    }
-    let items = Load::of_cells(moved(alloc, items, 1)?);
-    let layout = Layout::Explicit(parse(alloc, format.as_bytes())?);
     let mut disk = disk_of(alloc, before)?;
-    let (told, stands, _) = put_from(
-        alloc, &mut disk, access, at, place, &layout, advance, &items,
-    )?;
-    Ok(told == condition && stands == position && disk.bytes_of(NAME) == Some(after))
+    let came = put_from(alloc, &mut disk, access, at, place, format, advance, items);
+    let is_left = disk.bytes_of(NAME) == Some(after);
+    drop(disk);
+    let (told, stands, _) = came?;
+    Ok(told == condition && stands == position && is_left)
 }
 
 #[test]
-fn formatted_output(rt: HostRuntime) -> Result<(), Fail> {
+fn formatted_output(rt: HostRuntime) {
     for (number, row) in PUTS.iter().enumerate() {
-        assert!(rt; puts(rt.alloc(), row)?, "row {number}");
+        assert!(rt; puts(rt.alloc(), row) == Ok(true), "row {number}");
     }
-    Ok(())
 }
 
 /// Reads items from the record of a number on.
+fn get<F: FileStore>(
+    alloc: Global,
+    c: &mut Connection<F>,
+    number: u64,
+    format: &str,
+    items: &mut Moved,
+) -> Result<Condition, Stop>
+    requires ordered { IsOrdered items.old }
+    ensures { c.new.name ≡ c.old.name }
+{
+    let direct = c.modes().access == Direct && number > 0 && number < 100;
+    if !direct || format.len() >= 100 || items.order.len() >= 1000 {
+        return Ok(NOT_DONE);
+    }
+    let Ok(format) = parse(alloc, format.as_bytes()) else {
+        return Ok(NOT_DONE);
+    };
+    let performed = read_numbered(alloc, c, number, &format, MODES, items);
+    drop(format);
+    Ok(performed?.condition)
+}
+
+/// What that comes to on a new connection.
 fn get_from<D: Disk>(
     alloc: Global,
     disk: &mut D,
     number: u64,
-    format: &Format,
+    format: &str,
     items: &mut Moved,
 ) -> Result<(Condition, u64, u64), OpenFault>
     requires home { D.tells disk.old → (D.held disk.old).in_use ≡ set.empty }
     requires ordered { IsOrdered items.old }
-    requires few { length items.old.order < 2 ^ 32 }
 {
-    let mut c = connect(alloc, disk, &statement(Direct, true))?;
-    let direct = c.modes().access == Direct && number > 0 && number < 100;
-    let condition = if direct {
-        read_numbered(alloc, &mut c, number, format, MODES, items).map(|p| p.condition)
-    } else {
-        Ok(NOT_DONE)
-    };
+    let mut c = connect(alloc, disk, &opening(Direct, true))?;
+    let condition = get(alloc, &mut c, number, format, items);
     closed(disk, c, condition)
 }
 
@@ -631,25 +664,24 @@ static GETS: [Got; 3] = [
 ];
 
 /// Whether an input comes to what its row says.
-fn gets(alloc: Global, row: &Got) -> Result<bool, Fail> {
+fn gets(alloc: Global, row: &Got) -> Result<bool, OpenFault> {
     let (bytes, number, format, items, condition, after) = *row;
-    if items.len() >= 1000 || format.len() >= 100 {
+    if items.len() >= 1000 {
         return Ok(false);
     }
-    let mut items = moved(alloc, items, 1)?;
-    if items.order.len() >= 1000 {
-        return Ok(false);
-    }
-    let format = parse(alloc, format.as_bytes())?;
     let mut disk = disk_of(alloc, bytes)?;
-    let (told, _, _) = get_from(alloc, &mut disk, number, &format, &mut items)?;
-    Ok(told == condition && are_values(items.cells.as_slice(), after))
+    let mut items = moved(alloc, items, 1)?;
+    let came = get_from(alloc, &mut disk, number, format, &mut items);
+    drop(disk);
+    let is_read = are_values(items.cells.as_slice(), after);
+    drop(items);
+    let (told, _, _) = came?;
+    Ok(told == condition && is_read)
 }
 
 #[test]
-fn direct_input_under_a_format(rt: HostRuntime) -> Result<(), Fail> {
+fn direct_input_under_a_format(rt: HostRuntime) {
     for (number, row) in GETS.iter().enumerate() {
-        assert!(rt; gets(rt.alloc(), row)?, "row {number}");
+        assert!(rt; gets(rt.alloc(), row) == Ok(true), "row {number}");
     }
-    Ok(())
 }
