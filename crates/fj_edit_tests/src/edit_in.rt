@@ -2,7 +2,7 @@
 use fj_edit_in::{read_bits, read_field, read_int, read_logical, read_text};
 use fj_value::{Condition, Delim, Edit, EditModes, Kind, Text, Value};
 use std::alloc::{AllocError, Global};
-use std::test::Fail;
+use std::test::*;
 
 /// Base (10 for I), BLANK='ZERO', kind, field, and the value that gfortran reads or the error that stands for its own.
 static NUMBERS: [(u8, bool, Kind, &[u8], Result<i64, u8>); 75] = [
@@ -197,13 +197,29 @@ fn read_number(
     })
 }
 
-#[test]
-fn numbers(rt: HostRuntime) -> Result<(), Fail> {
-    for (base, blank_zero, kind, chars, expected) in NUMBERS.iter().chain(OWN_NUMBERS.iter()) {
-        let value = read_number(rt.alloc(), *base, *blank_zero, *kind, chars)?;
-        assert!(rt; value == Some(*expected), "base {base}, {chars:?}");
+/// Whether a field gives that.
+fn is_number(
+    alloc: Global,
+    base: u8,
+    blank_zero: bool,
+    kind: Kind,
+    chars: &[u8],
+    expected: Result<i64, u8>,
+) -> bool {
+    match read_number(alloc, base, blank_zero, kind, chars) {
+        Ok(value) => value == Some(expected),
+        Err(_) => false,
     }
-    Ok(())
+}
+
+#[test]
+fn numbers(rt: HostRuntime) {
+    for (base, blank_zero, kind, chars, expected) in NUMBERS.iter().chain(OWN_NUMBERS.iter()) {
+        assert!(rt;
+            is_number(rt.alloc(), *base, *blank_zero, *kind, chars, *expected),
+            "base {base}, {chars:?}"
+        );
+    }
 }
 
 /// What a field gives under L; nothing where it is refused and the variable is as it was.
@@ -218,96 +234,108 @@ fn read_truth(alloc: Global, chars: &[u8]) -> Result<Result<Option<bool>, ()>, A
     })
 }
 
-#[test]
-fn logicals(rt: HostRuntime) -> Result<(), Fail> {
-    for (chars, expected) in LOGICALS.iter() {
-        assert!(rt;
-            read_truth(rt.alloc(), chars)? == Ok(*expected),
-            "{chars:?}"
-        );
+/// Whether a field gives that under L.
+fn is_truth(alloc: Global, chars: &[u8], expected: Option<bool>) -> bool {
+    match read_truth(alloc, chars) {
+        Ok(truth) => truth == Ok(expected),
+        Err(_) => false,
     }
-    Ok(())
+}
+
+#[test]
+fn logicals(rt: HostRuntime) {
+    for (chars, expected) in LOGICALS.iter() {
+        assert!(rt; is_truth(rt.alloc(), chars, *expected), "{chars:?}");
+    }
 }
 
 /// Whether a field gives these characters under A.
-fn reads_text(
-    alloc: Global,
-    chars: &[u8],
-    length: u32,
-    expected: &[u8],
-) -> Result<bool, AllocError> {
+fn reads_text(alloc: Global, chars: &[u8], length: u32, expected: &[u8]) -> bool {
     let mut out = Value::Undefined;
     let edit = Edit::Chars { w: Some(9) };
     let kind = Kind::Chars(length);
-    let condition = read_field(alloc, edit, kind, modes(false), chars, &mut out)?;
-    Ok(
-        condition == Condition::Fine
-            && matches!(&out, Value::Chars(text) if text.bytes() == expected),
-    )
+    let condition = read_field(alloc, edit, kind, modes(false), chars, &mut out);
+    condition == Ok(Condition::Fine) && has_chars(&out, expected)
+}
+
+fn has_chars(value: &Value, expected: &[u8]) -> bool {
+    matches!(value, Value::Chars(text) if text.bytes() == expected)
 }
 
 #[test]
-fn texts(rt: HostRuntime) -> Result<(), Fail> {
+fn texts(rt: HostRuntime) {
     for (chars, length, expected) in TEXTS.iter() {
         assert!(rt;
-            reads_text(rt.alloc(), chars, *length, expected)?,
+            reads_text(rt.alloc(), chars, *length, expected),
             "{chars:?}"
         );
     }
-    Ok(())
 }
 
 /// Whether the descriptor is not for the kind, and the variable stays as it was.
-fn is_refused(alloc: Global, edit: Edit, kind: Kind) -> Result<bool, AllocError> {
+fn is_refused(alloc: Global, edit: Edit, kind: Kind) -> bool {
     let mut out = Value::Int(99);
-    let condition = read_field(alloc, edit, kind, modes(false), b"x", &mut out)?;
-    Ok(condition == Condition::Error(12) && matches!(out, Value::Int(99)))
+    let condition = read_field(alloc, edit, kind, modes(false), b"x", &mut out);
+    condition == Ok(Condition::Error(12)) && matches!(out, Value::Int(99))
+}
+
+/// Descriptors that are not for a kind.
+static REFUSED: [(Edit, Kind); 8] = [
+    (Edit::Int { w: 1, m: None }, Kind::Logical),
+    (Edit::Int { w: 1, m: None }, Kind::Chars(1)),
+    (
+        Edit::Bits {
+            base: 8,
+            w: 1,
+            m: None,
+        },
+        Kind::Logical,
+    ),
+    (
+        Edit::Bits {
+            base: 8,
+            w: 1,
+            m: None,
+        },
+        Kind::Chars(1),
+    ),
+    (Edit::Log { w: 1 }, Kind::Int4),
+    (Edit::Log { w: 1 }, Kind::Chars(1)),
+    (Edit::Chars { w: None }, Kind::Int8),
+    (Edit::Chars { w: None }, Kind::Logical),
+];
+
+const GENERAL: Edit = Edit::General { w: 3, d: 1 };
+
+/// Whether an integer and a logical value are read so, one behind the other.
+fn reads_int_and_logical(alloc: Global, out: &mut Value) -> bool {
+    read_int(alloc, GENERAL, Kind::Int8, modes(false), b" 42", out).is_ok()
+        && matches!(out, Value::Int(42))
+        && read_logical(alloc, GENERAL, Kind::Logical, modes(false), b" .t", out).is_ok()
+        && matches!(out, Value::Log(true))
+}
+
+/// Whether characters and bits are.
+fn reads_text_and_bits(alloc: Global, out: &mut Value) -> bool {
+    read_text(alloc, GENERAL, Kind::Chars(2), modes(false), b"abc", out).is_ok()
+        && has_chars(out, b"bc")
+        && read_bits(alloc, edit_of(16, 3), Kind::Int4, modes(false), b" fF", out).is_ok()
+        && matches!(out, Value::Int(255))
+}
+
+/// Whether each pair of calls reads what it is to.
+fn reads_each(alloc: Global) -> (bool, bool) {
+    let mut out = Value::Undefined;
+    let first = reads_int_and_logical(alloc, &mut out);
+    let second = reads_text_and_bits(alloc, &mut out);
+    (first, second)
 }
 
 /// Each call once, G by the kind, and the descriptors that are not for a kind, which come before bad characters.
 #[test]
-fn conditions(rt: HostRuntime) -> Result<(), Fail> {
-    let alloc = rt.alloc();
-    let general = Edit::General { w: 3, d: 1 };
-    let mut out = Value::Undefined;
-    let _ = read_int(alloc, general, Kind::Int8, modes(false), b" 42", &mut out)?;
-    assert!(rt; matches!(&out, Value::Int(42)));
-    let _ = read_logical(
-        alloc,
-        general,
-        Kind::Logical,
-        modes(false),
-        b" .t",
-        &mut out,
-    )?;
-    assert!(rt; matches!(&out, Value::Log(true)));
-    let _ = read_text(
-        alloc,
-        general,
-        Kind::Chars(2),
-        modes(false),
-        b"abc",
-        &mut out,
-    )?;
-    assert!(rt; matches!(&out, Value::Chars(text) if text.bytes() == b"bc".as_slice()));
-    let _ = read_bits(
-        alloc,
-        edit_of(16, 3),
-        Kind::Int4,
-        modes(false),
-        b" fF",
-        &mut out,
-    )?;
-    assert!(rt; matches!(&out, Value::Int(255)));
-    for kind in [Kind::Logical, Kind::Chars(1)] {
-        assert!(rt; is_refused(alloc, edit_of(10, 1), kind)?);
-        assert!(rt; is_refused(alloc, edit_of(8, 1), kind)?);
+fn conditions(rt: HostRuntime) {
+    assert_eq!(rt; reads_each(rt.alloc()), (true, true));
+    for (number, (edit, kind)) in REFUSED.iter().enumerate() {
+        assert!(rt; is_refused(rt.alloc(), *edit, *kind), "row {number}");
     }
-    for kind in [Kind::Int4, Kind::Chars(1)] {
-        assert!(rt; is_refused(alloc, Edit::Log { w: 1 }, kind)?);
-    }
-    for kind in [Kind::Int8, Kind::Logical] {
-        assert!(rt; is_refused(alloc, Edit::Chars { w: None }, kind)?);
-    }
-    Ok(())
 }

@@ -2,7 +2,7 @@
 use fj_edit_out::{bits_field, field, int_field, integer_fields, logical_field, text_field};
 use fj_value::{Condition, Delim, Edit, EditModes, Kind, Text, Value};
 use std::alloc::{AllocError, Global};
-use std::test::Fail;
+use std::test::*;
 
 /// Base (10 for I), width, least number of digits, value, kind, SIGN='PLUS', and the field that gfortran writes.
 static NUMBERS: [(u8, u32, Option<u32>, i64, Kind, bool, &[u8]); 80] = [
@@ -329,13 +329,6 @@ fn written(
     Ok(out)
 }
 
-/// Whether the item is refused, and nothing appended.
-fn is_refused(alloc: Global, edit: Edit, value: &Value, kind: Kind) -> Result<bool, AllocError> {
-    let mut out = Text::from_bytes(alloc, b"=")?;
-    let condition = field(edit, value, kind, modes(false), &mut out)?;
-    Ok(condition == Condition::Error(12) && out.bytes() == b"=".as_slice())
-}
-
 /// Whether an item is written as this field.
 fn is_written(
     alloc: Global,
@@ -344,100 +337,102 @@ fn is_written(
     kind: Kind,
     plus: bool,
     expected: &[u8],
-) -> Result<bool, AllocError> {
-    let out = written(alloc, edit, value, kind, plus)?;
-    Ok(out.bytes() == expected)
+) -> bool {
+    match written(alloc, edit, value, kind, plus) {
+        Ok(out) => out.bytes() == expected,
+        Err(_) => false,
+    }
+}
+
+/// Whether an integer is written as this field.
+fn is_number(alloc: Global, edit: Edit, n: i64, kind: Kind, plus: bool, expected: &[u8]) -> bool {
+    let value = Value::Int(n);
+    is_written(alloc, edit, &value, kind, plus, expected)
 }
 
 #[test]
-fn numbers(rt: HostRuntime) -> Result<(), Fail> {
+fn numbers(rt: HostRuntime) {
     for (base, w, m, n, kind, plus, expected) in NUMBERS.iter() {
         let edit = edit_of(*base, *w, *m);
-        let value = Value::Int(*n);
         assert!(rt;
-            is_written(rt.alloc(), edit, &value, *kind, *plus, expected)?,
+            is_number(rt.alloc(), edit, *n, *kind, *plus, expected),
             "base {base}, width {w}, {n}"
         );
     }
-    Ok(())
+}
+
+fn value_of(alloc: Global, text: &[u8]) -> Result<Value, AllocError> {
+    Value::of_text(Text::from_bytes(alloc, text)?)
 }
 
 /// Whether characters are written as this field.
-fn is_text(
-    alloc: Global,
-    w: Option<u32>,
-    text: &[u8],
-    expected: &[u8],
-) -> Result<bool, AllocError> {
-    let value = Value::of_text(Text::from_bytes(alloc, text)?)?;
-    is_written(
-        alloc,
-        Edit::Chars { w },
-        &value,
-        Kind::Chars(3),
-        false,
-        expected,
-    )
+fn is_text(alloc: Global, w: Option<u32>, text: &[u8], expected: &[u8]) -> bool {
+    let edit = Edit::Chars { w };
+    match value_of(alloc, text) {
+        Ok(value) => is_written(alloc, edit, &value, Kind::Chars(3), false, expected),
+        Err(_) => false,
+    }
 }
 
 #[test]
-fn texts(rt: HostRuntime) -> Result<(), Fail> {
+fn texts(rt: HostRuntime) {
     for (number, (w, text, expected)) in TEXTS.iter().enumerate() {
-        assert!(rt; is_text(rt.alloc(), *w, text, expected)?, "row {number}");
+        assert!(rt; is_text(rt.alloc(), *w, text, expected), "row {number}");
     }
-    Ok(())
 }
 
 /// Whether a logical value is written as this field.
-fn is_logical(alloc: Global, w: u32, truth: bool, expected: &[u8]) -> Result<bool, AllocError> {
+fn is_logical(alloc: Global, w: u32, truth: bool, expected: &[u8]) -> bool {
     let value = Value::Log(truth);
-    is_written(
-        alloc,
-        Edit::Log { w },
-        &value,
-        Kind::Logical,
-        false,
-        expected,
-    )
+    let edit = Edit::Log { w };
+    is_written(alloc, edit, &value, Kind::Logical, false, expected)
 }
 
 #[test]
-fn logicals(rt: HostRuntime) -> Result<(), Fail> {
-    assert!(rt; is_logical(rt.alloc(), 3, false, b"  F")?);
-    assert!(rt; is_logical(rt.alloc(), 1, true, b"T")?);
-    Ok(())
+fn logicals(rt: HostRuntime) {
+    assert!(rt; is_logical(rt.alloc(), 3, false, b"  F"));
+    assert!(rt; is_logical(rt.alloc(), 1, true, b"T"));
+}
+
+/// Appends one value of each kind, characters among them.
+fn append_each(text: &Value, out: &mut Text) -> bool {
+    let general = Edit::General { w: 5, d: 1 };
+    let bits = edit_of(16, 3, None);
+    int_field(general, &Value::Int(42), Kind::Int4, modes(false), out).is_ok()
+        && logical_field(general, &Value::Log(true), Kind::Logical, modes(false), out).is_ok()
+        && text_field(general, text, Kind::Chars(3), modes(false), out).is_ok()
+        && bits_field(bits, &Value::Int(10), Kind::Int8, modes(false), out).is_ok()
+}
+
+/// Whether they are written so.
+fn are_written(alloc: Global, expected: &[u8]) -> bool {
+    let mut out = Text::new(alloc);
+    match value_of(alloc, b"abc") {
+        Ok(text) => append_each(&text, &mut out) && out.bytes() == expected,
+        Err(_) => false,
+    }
 }
 
 /// G by the kind, each appended to what is there, as gfortran writes it.
 #[test]
-fn general_fields(rt: HostRuntime) -> Result<(), Fail> {
-    let alloc = rt.alloc();
-    let general = Edit::General { w: 5, d: 1 };
-    let text = Value::of_text(Text::from_bytes(alloc, b"abc")?)?;
-    let mut out = Text::new(alloc);
-    let _ = int_field(general, &Value::Int(42), Kind::Int4, modes(false), &mut out)?;
-    let _ = logical_field(
-        general,
-        &Value::Log(true),
-        Kind::Logical,
-        modes(false),
-        &mut out,
-    )?;
-    let _ = text_field(general, &text, Kind::Chars(3), modes(false), &mut out)?;
-    let _ = bits_field(
-        edit_of(16, 3, None),
-        &Value::Int(10),
-        Kind::Int8,
-        modes(false),
-        &mut out,
-    )?;
-    assert_eq!(rt; out.bytes(), b"   42    T  abc  A".as_slice());
-    Ok(())
+fn general_fields(rt: HostRuntime) {
+    assert!(rt; are_written(rt.alloc(), b"   42    T  abc  A"));
 }
 
-/// Integers in a row, as gfortran writes them, up to a value that is none.
-#[test]
-fn rows(rt: HostRuntime) -> Result<(), Fail> {
+/// Whether so many of these values are appended, behind which the text is this.
+fn appends(values: &[Value], plus: bool, out: &mut Text, count: usize, text: &[u8]) -> bool {
+    match integer_fields(5, plus, Kind::Int8, values, out) {
+        Ok(appended) => appended == count && out.bytes() == text,
+        Err(_) => false,
+    }
+}
+
+static ROW: &[u8] = b"=    0 -12399999*****";
+
+static BOTH_ROWS: &[u8] = b"=    0 -12399999*****   +0 -123*****";
+
+/// Whether integers in a row are appended so, and the first three of them once more with signs.
+fn are_rows(out: &mut Text) -> (bool, bool) {
     let values = [
         Value::Int(0),
         Value::Int(-123),
@@ -446,23 +441,51 @@ fn rows(rt: HostRuntime) -> Result<(), Fail> {
         Value::Undefined,
         Value::Int(1),
     ];
+    let first = appends(&values, false, out, 4, ROW);
+    let second = appends(&values[..3], true, out, 3, BOTH_ROWS);
+    (first, second)
+}
+
+/// Integers in a row, as gfortran writes them, up to a value that is none.
+#[test]
+fn rows(rt: HostRuntime) -> Result<(), Fail> {
     let mut out = Text::from_bytes(rt.alloc(), b"=")?;
-    let count = integer_fields(5, false, Kind::Int8, &values, &mut out)?;
-    assert!(rt; count == 4);
-    assert_eq!(rt; out.bytes(), b"=    0 -12399999*****".as_slice());
-    let signed = integer_fields(5, true, Kind::Int8, &values[..3], &mut out)?;
-    assert!(rt; signed == 3);
-    assert_eq!(rt;
-        out.bytes(),
-        b"=    0 -12399999*****   +0 -123*****".as_slice()
-    );
+    assert_eq!(rt; are_rows(&mut out), (true, true));
     Ok(())
 }
 
+/// Whether the item is refused, and nothing appended.
+fn is_refused(alloc: Global, edit: Edit, value: &Value, kind: Kind) -> bool {
+    match Text::from_bytes(alloc, b"=") {
+        Ok(mut out) => {
+            field(edit, value, kind, modes(false), &mut out) == Ok(Condition::Error(12))
+                && out.bytes() == b"=".as_slice()
+        }
+        Err(_) => false,
+    }
+}
+
+/// The first of these by which the value is not refused.
+fn accepted(alloc: Global, edits: &[Edit], value: Value, kind: Kind) -> Option<Edit> {
+    for edit in edits {
+        if !is_refused(alloc, *edit, &value, kind) {
+            return Some(*edit);
+        }
+    }
+    None
+}
+
+/// The same of a value with no characters.
+fn accepted_text(alloc: Global, edits: &[Edit]) -> Result<Option<Edit>, AllocError> {
+    match value_of(alloc, b"") {
+        Ok(text) => Ok(accepted(alloc, edits, text, Kind::Chars(0))),
+        Err(error) => Err(error),
+    }
+}
+
 #[test]
-fn conditions(rt: HostRuntime) -> Result<(), Fail> {
+fn conditions(rt: HostRuntime) {
     let alloc = rt.alloc();
-    let text = Value::of_text(Text::new(alloc))?;
     let int = Edit::Int { w: 4, m: None };
     let bits = Edit::Bits {
         base: 16,
@@ -472,19 +495,18 @@ fn conditions(rt: HostRuntime) -> Result<(), Fail> {
     let log = Edit::Log { w: 4 };
     let chars = Edit::Chars { w: None };
     let general = Edit::General { w: 4, d: 1 };
-    for edit in [int, bits, log, chars, general] {
-        assert!(rt; is_refused(alloc, edit, &Value::Undefined, Kind::Int4)?);
-        assert!(rt; is_refused(alloc, edit, &Value::Undefined, Kind::Logical)?);
-        assert!(rt; is_refused(alloc, edit, &Value::Undefined, Kind::Chars(4))?);
+    for kind in [Kind::Int4, Kind::Logical, Kind::Chars(4)] {
+        let edits = [int, bits, log, chars, general];
+        assert_eq!(rt; accepted(alloc, &edits, Value::Undefined, kind), None);
     }
-    for edit in [int, bits, log] {
-        assert!(rt; is_refused(alloc, edit, &text, Kind::Chars(0))?);
-    }
-    for edit in [int, bits, chars] {
-        assert!(rt; is_refused(alloc, edit, &Value::Log(true), Kind::Logical)?);
-    }
-    for edit in [log, chars] {
-        assert!(rt; is_refused(alloc, edit, &Value::Int(1), Kind::Int8)?);
-    }
-    Ok(())
+    assert_eq!(rt; accepted_text(alloc, &[int, bits, log]), Ok(None));
+    let truth = Value::Log(true);
+    assert_eq!(rt;
+        accepted(alloc, &[int, bits, chars], truth, Kind::Logical),
+        None
+    );
+    assert_eq!(rt;
+        accepted(alloc, &[log, chars], Value::Int(1), Kind::Int8),
+        None
+    );
 }

@@ -7,8 +7,7 @@ use fj_list::{MemoryRecords, More, Moved, Records, read_list, write_list};
 use fj_outside::Stop;
 use fj_value::{Cell, Condition, Delim, EditModes, Items, Kind, Place, Text, Value};
 use std::alloc::{AllocError, Global};
-use std::process::Abort;
-use std::test::Fail;
+use std::test::*;
 
 /// A record of input, or several parted by line feeds; whether DECIMAL='COMMA'; the items' kinds (`i` and `j` for
 /// INTEGER(4) and INTEGER(8), `l` for LOGICAL, a digit for CHARACTER of that length); what they have afterwards; the
@@ -227,36 +226,58 @@ fn shown(alloc: Global, moved: &Moved) -> Result<String, AllocError> {
     Ok(out)
 }
 
-fn reads(rt: &impl Abort, alloc: Global, input: Input) -> Result<(), Fail> {
-    let (text, comma, kinds, wanted, code, looked_at) = input;
-    let mut records = records_of(alloc, text)?;
-    let mut moved = items_of(alloc, kinds)?;
-    assert!(rt; is_ordered(&moved));
-    let condition = read_list(
-        alloc,
-        &mut records,
-        &mut moved,
-        modes(comma, Delim::Plain, false),
-    );
-    let condition = condition.map_err(|_| "memory")?;
-    assert_eq!(rt; condition.code(), code, "{text:?}");
-    assert_eq!(rt; records.looked_at, looked_at, "{text:?}");
-    if condition == Condition::Fine {
-        assert_eq!(rt; shown(alloc, &moved)?.as_str(), wanted, "{text:?}");
+/// Whether the values are shown so.
+fn shows(alloc: Global, moved: &Moved, wanted: &str) -> bool {
+    match shown(alloc, moved) {
+        Ok(values) => values.as_str() == wanted,
+        Err(_) => false,
     }
-    Ok(())
+}
+
+/// Reads into items that are in an order; nothing where they are not.
+fn read_into<R: Records>(
+    alloc: Global,
+    records: &mut R,
+    moved: &mut Moved,
+    comma: bool,
+) -> Option<Result<Condition, Stop>> {
+    if !is_ordered(moved) {
+        return None;
+    }
+    let modes = modes(comma, Delim::Plain, false);
+    Some(read_list(alloc, records, moved, modes))
+}
+
+/// What reading comes to: the number of the condition, how many records were looked at, and whether the values are those that are
+/// wanted where the condition is fine.
+type Came = (Option<i32>, usize, bool);
+
+fn come(alloc: Global, records: MemoryRecords, moved: Moved, comma: bool, wanted: &str) -> Came {
+    let mut records = records;
+    let mut moved = moved;
+    match read_into(alloc, &mut records, &mut moved, comma) {
+        Some(Ok(Condition::Fine)) => (Some(0), records.looked_at, shows(alloc, &moved, wanted)),
+        Some(Ok(condition)) => (Some(condition.code()), records.looked_at, true),
+        _ => (None, records.looked_at, false),
+    }
+}
+
+fn reads(alloc: Global, input: Input) -> Result<Came, AllocError> {
+    let (text, comma, kinds, wanted, _, _) = input;
+    let records = records_of(alloc, text)?;
+    match items_of(alloc, kinds) {
+        Ok(moved) => Ok(come(alloc, records, moved, comma, wanted)),
+        Err(error) => Err(error),
+    }
 }
 
 #[test]
-fn inputs(rt: HostRuntime) -> Result<(), Fail> {
-    let alloc = rt.alloc();
-    for input in INPUTS.iter() {
-        reads(&rt, alloc, *input)?;
+fn inputs(rt: HostRuntime) {
+    for input in INPUTS.iter().chain(OWN_INPUTS.iter()) {
+        let (text, _, _, _, code, looked_at) = *input;
+        let due = (Some(code), looked_at, true);
+        assert_eq!(rt; reads(rt.alloc(), *input), Ok(due), "{text:?}");
     }
-    for input in OWN_INPUTS.iter() {
-        reads(&rt, alloc, *input)?;
-    }
-    Ok(())
 }
 
 /// A value to write.
@@ -421,30 +442,65 @@ fn moved_of(alloc: Global, items: &[Item]) -> Result<Moved, AllocError> {
     Ok(moved)
 }
 
-#[test]
-fn outputs(rt: HostRuntime) -> Result<(), Fail> {
-    let alloc = rt.alloc();
-    for (delim, plus, items, expected) in OUTPUTS.iter() {
-        let moved = moved_of(alloc, items)?;
-        assert!(rt; is_ordered(&moved));
-        let text = write_list(alloc, &moved, modes(false, *delim, *plus))?;
-        assert_eq!(rt; text.bytes(), expected.as_bytes());
+/// What items are written as; nothing where they are not in an order.
+fn written(alloc: Global, moved: &Moved, modes: EditModes) -> Option<Text> {
+    if !is_ordered(moved) {
+        return None;
     }
-    for (delim, items, lengths) in COLUMNS.iter() {
-        let moved = moved_of(alloc, items)?;
-        assert!(rt; is_ordered(&moved));
-        let text = write_list(alloc, &moved, modes(false, *delim, false))?;
-        let mut rest = text.bytes();
-        for length in lengths.iter() {
-            if *length > 0 {
-                assert!(rt; rest.len() > *length);
-                assert_eq!(rt; rest[*length], b'\n', "{lengths:?}");
-                rest = &rest[*length + 1..];
+    write_list(alloc, moved, modes).ok()
+}
+
+/// The records of these items.
+fn records_for(alloc: Global, items: &[Item], modes: EditModes) -> Option<Text> {
+    match moved_of(alloc, items) {
+        Ok(moved) => written(alloc, &moved, modes),
+        Err(_) => None,
+    }
+}
+
+/// Whether items have these records.
+fn writes(alloc: Global, items: &[Item], modes: EditModes, expected: &str) -> bool {
+    match records_for(alloc, items, modes) {
+        Some(text) => text.bytes() == expected.as_bytes(),
+        None => false,
+    }
+}
+
+/// Whether records have these lengths.
+fn have_lengths(records: &[u8], lengths: &[usize]) -> bool {
+    let mut rest = records;
+    for length in lengths {
+        if *length > 0 {
+            match rest.split_at_checked(*length) {
+                Some((_, [b'\n', behind @ ..])) => rest = behind,
+                _ => return false,
             }
         }
-        assert!(rt; rest.is_empty());
     }
-    Ok(())
+    rest.is_empty()
+}
+
+/// Whether items have records of these lengths.
+fn writes_columns(alloc: Global, items: &[Item], modes: EditModes, lengths: &[usize]) -> bool {
+    match records_for(alloc, items, modes) {
+        Some(text) => have_lengths(text.bytes(), lengths),
+        None => false,
+    }
+}
+
+#[test]
+fn outputs(rt: HostRuntime) {
+    for (number, (delim, plus, items, expected)) in OUTPUTS.iter().enumerate() {
+        let modes = modes(false, *delim, *plus);
+        assert!(rt; writes(rt.alloc(), items, modes, expected), "row {number}");
+    }
+    for (delim, items, lengths) in COLUMNS.iter() {
+        let modes = modes(false, *delim, false);
+        assert!(rt;
+            writes_columns(rt.alloc(), items, modes, lengths),
+            "{lengths:?}"
+        );
+    }
 }
 
 /// Records of which one call fails.
@@ -483,38 +539,45 @@ impl Records for FailingRecords {
     }
 }
 
-/// A failure at each record, and a condition that stands behind the records.
-#[test]
-fn ends(rt: HostRuntime) -> Result<(), Fail> {
-    let alloc = rt.alloc();
-    for before in 0..4u32 {
-        let mut records = FailingRecords {
-            records: records_of(alloc, "1\n'a\nb'\n2")?,
-            before,
-            faults: 0,
-        };
-        let mut moved = items_of(alloc, "i2i")?;
-        assert!(rt; is_ordered(&moved));
-        let result = read_list(
-            alloc,
-            &mut records,
-            &mut moved,
-            modes(false, Delim::Plain, false),
-        );
-        assert_eq!(rt; result, Err(Stop::Failed));
-        assert_eq!(rt; records.faults(), 1);
+/// What a list comes to where a call on its records fails behind others, and the number of faults.
+fn failed(
+    alloc: Global,
+    before: u32,
+) -> Result<(Option<Result<Condition, Stop>>, u64), AllocError> {
+    let mut records = FailingRecords {
+        records: records_of(alloc, "1\n'a\nb'\n2")?,
+        before,
+        faults: 0,
+    };
+    match items_of(alloc, "i2i") {
+        Ok(mut moved) => Ok((
+            read_into(alloc, &mut records, &mut moved, false),
+            records.faults(),
+        )),
+        Err(error) => Err(error),
     }
+}
+
+/// The same where a condition stands behind the records.
+fn ended(alloc: Global) -> Result<(Option<Result<Condition, Stop>>, u64), AllocError> {
     let mut records = records_of(alloc, "1\n'a")?;
     records.ending = Some(Condition::Error(15));
-    let mut moved = items_of(alloc, "i2")?;
-    assert!(rt; is_ordered(&moved));
-    let result = read_list(
-        alloc,
-        &mut records,
-        &mut moved,
-        modes(false, Delim::Plain, false),
-    );
-    assert_eq!(rt; result, Ok(Condition::Error(15)));
-    assert_eq!(rt; records.faults(), 0);
-    Ok(())
+    match items_of(alloc, "i2") {
+        Ok(mut moved) => Ok((
+            read_into(alloc, &mut records, &mut moved, false),
+            records.faults(),
+        )),
+        Err(error) => Err(error),
+    }
+}
+
+/// A failure at each record, and a condition that stands behind the records.
+#[test]
+fn ends(rt: HostRuntime) {
+    for before in 0..4u32 {
+        let due = (Some(Err(Stop::Failed)), 1);
+        assert_eq!(rt; failed(rt.alloc(), before), Ok(due));
+    }
+    let due = (Some(Ok(Condition::Error(15))), 0);
+    assert_eq!(rt; ended(rt.alloc()), Ok(due));
 }

@@ -3,11 +3,12 @@ ghost use Rattle.std.specs.Prelude.{◌≡◌, true, All, length};
 ghost use Rattle.fj_namelist.specs.GroupText.{IsWithin};
 
 use crate::given::{initial, kind_of, records_of};
-use fj_list::{Cells, GroupMember, Moved, Order};
+use fj_list::{Cells, GroupMember, MemoryRecords, Moved, Order};
 use fj_namelist::{read_group, write_group};
-use fj_value::{Cell, Condition, Delim, EditModes, Items, Kind, Place, Text, Value};
+use fj_value::{Cell, Delim, EditModes, Items, Kind, Place, Text, Value};
 use std::alloc::{AllocError, Global};
-use std::test::Fail;
+use std::slice;
+use std::test::*;
 
 /// Records parted by line feeds; whether DECIMAL='COMMA'; what the members have afterwards; the number of the condition;
 /// how many records were looked at.
@@ -207,65 +208,110 @@ fn are_within(members: &[GroupMember], cells: usize) -> bool
         .all(|m| m.first as usize + m.count as usize <= cells)
 }
 
-#[test]
-fn inputs(rt: HostRuntime) -> Result<(), Fail> {
-    let alloc = rt.alloc();
-    let members = members_of(alloc)?;
-    for (text, comma, expected, code, looked_at) in INPUTS.iter() {
-        let mut records = records_of(alloc, text)?;
-        let mut moved = Moved {
-            cells: cells_of(alloc)?,
-            order: Order::new(alloc),
-        };
-        assert!(rt; are_within(members.as_slice(), moved.cells.len()));
-        let condition = read_group(
-            alloc,
-            &mut records,
-            b"G",
-            members.as_slice(),
-            &mut moved,
-            modes(*comma, Delim::Plain),
-        )
-        .unwrap_or(Condition::Error(255));
-        assert_eq!(rt; condition.code(), *code, "{text}");
-        assert_eq!(rt; records.looked_at, *looked_at, "{text}");
-        if !expected.is_empty() {
-            let got = shown(alloc, &moved.cells)?;
-            assert_eq!(rt; got.bytes(), expected.as_bytes(), "{text}");
-        }
+/// Reads a group whose members are within the cells, and answers the number of the condition; nothing where they are not.
+fn read_into(
+    alloc: Global,
+    records: &mut MemoryRecords,
+    members: &[GroupMember],
+    moved: &mut Moved,
+    comma: bool,
+) -> Option<i32> {
+    if !are_within(members, moved.cells.len()) {
+        return None;
     }
-    Ok(())
+    let modes = modes(comma, Delim::Plain);
+    match read_group(alloc, records, b"G", members, moved, modes) {
+        Ok(condition) => Some(condition.code()),
+        Err(_) => None,
+    }
+}
+
+/// Whether the values are shown so; any are where nothing is expected.
+fn shows(alloc: Global, cells: &Cells, expected: &str) -> bool {
+    match shown(alloc, cells) {
+        Ok(values) => expected.is_empty() || values.bytes() == expected.as_bytes(),
+        Err(_) => false,
+    }
+}
+
+/// The number of the condition, how many records were looked at, and whether the values are those that are expected.
+type Came = (Option<i32>, usize, bool);
+
+/// What reading from a text comes to.
+fn come(alloc: Global, records: MemoryRecords, moved: Moved, comma: bool, expected: &str) -> Came {
+    let mut records = records;
+    let mut moved = moved;
+    let code = match members_of(alloc) {
+        Ok(members) => read_into(alloc, &mut records, members.as_slice(), &mut moved, comma),
+        Err(_) => None,
+    };
+    (
+        code,
+        records.looked_at,
+        shows(alloc, &moved.cells, expected),
+    )
+}
+
+fn reads(alloc: Global, text: &str, comma: bool, expected: &str) -> Result<Came, AllocError> {
+    let records = records_of(alloc, text)?;
+    match cells_of(alloc) {
+        Ok(cells) => {
+            let order = Order::new(alloc);
+            let moved = Moved { cells, order };
+            Ok(come(alloc, records, moved, comma, expected))
+        }
+        Err(error) => Err(error),
+    }
 }
 
 #[test]
-fn outputs(rt: HostRuntime) -> Result<(), Fail> {
-    let alloc = rt.alloc();
+fn inputs(rt: HostRuntime) {
+    for (text, comma, expected, code, looked_at) in INPUTS.iter() {
+        let due = (Some(*code), *looked_at, true);
+        assert_eq!(rt;
+            reads(rt.alloc(), text, *comma, expected),
+            Ok(due),
+            "{text}"
+        );
+    }
+}
+
+/// Whether a group whose members are within the cells is written so.
+fn writes(
+    alloc: Global,
+    members: &[GroupMember],
+    cells: &[Cell],
+    modes: EditModes,
+    expected: &[u8],
+) -> bool {
+    if !are_within(members, cells.len()) {
+        return false;
+    }
+    match write_group(alloc, b"g", members, cells, modes) {
+        Ok(text) => text.bytes() == expected,
+        Err(_) => false,
+    }
+}
+
+/// Whether the group G is written so.
+fn writes_all(alloc: Global, modes: EditModes, expected: &[u8]) -> Result<bool, AllocError> {
     let members = members_of(alloc)?;
-    let cells = cells_of(alloc)?;
-    assert!(rt; are_within(members.as_slice(), cells.len()));
-    let plain = write_group(
-        alloc,
-        b"g",
-        members.as_slice(),
-        cells.as_slice(),
-        modes(false, Delim::Plain),
-    )?;
-    assert_eq!(rt;
-        plain.bytes(),
-        b" &G\n A=1\n B=1,1,1\n L=F\n C=####\n D=##,##\n /\n".as_slice()
-    );
-    let marked = write_group(
-        alloc,
-        b"g",
-        members.as_slice(),
-        cells.as_slice(),
-        modes(true, Delim::Quote),
-    )?;
-    assert_eq!(rt;
-        marked.bytes(),
-        b" &G\n A=1\n B=1;1;1\n L=F\n C=\"####\"\n D=\"##\";\"##\"\n /\n".as_slice()
-    );
-    Ok(())
+    match cells_of(alloc) {
+        Ok(cells) => Ok(writes(alloc, members.as_slice(), cells.as_slice(), modes, expected)),
+        Err(error) => Err(error),
+    }
+}
+
+static PLAIN: &[u8] = b" &G\n A=1\n B=1,1,1\n L=F\n C=####\n D=##,##\n /\n";
+
+static MARKED: &[u8] = b" &G\n A=1\n B=1;1;1\n L=F\n C=\"####\"\n D=\"##\";\"##\"\n /\n";
+
+#[test]
+fn outputs(rt: HostRuntime) {
+    let plain = modes(false, Delim::Plain);
+    assert_eq!(rt; writes_all(rt.alloc(), plain, PLAIN), Ok(true));
+    let marked = modes(true, Delim::Quote);
+    assert_eq!(rt; writes_all(rt.alloc(), marked, MARKED), Ok(true));
 }
 
 /// One member of characters without delimiters: their length, how many there are, and the records. With the second value
@@ -288,29 +334,48 @@ static WIDE: [(u32, u32, &str); 3] = [
     ),
 ];
 
-#[test]
-fn wide_outputs(rt: HostRuntime) -> Result<(), Fail> {
-    let alloc = rt.alloc();
-    for (length, count, expected) in WIDE.iter() {
-        let kind = Kind::Chars(*length);
-        let mut cells = Items::new(alloc);
-        for i in 0..*count {
-            let place = Place { var: i, index: 1 };
-            let value = initial(alloc, kind)?;
-            cells.push(Cell { place, kind, value })?;
-        }
-        let mut members = Items::new(alloc);
-        members.push(GroupMember {
-            name: Text::from_bytes(alloc, b"v")?,
-            kind,
-            first: 0,
-            count: *count,
-            scalar: false,
-        })?;
-        assert!(rt; are_within(members.as_slice(), cells.len()));
-        let modes = modes(false, Delim::Plain);
-        let text = write_group(alloc, b"g", members.as_slice(), cells.as_slice(), modes)?;
-        assert_eq!(rt; text.bytes(), expected.as_bytes());
+/// So many cells of a kind.
+fn wide_cells(alloc: Global, kind: Kind, count: u32) -> Result<Cells, AllocError> {
+    let mut cells = Items::new(alloc);
+    for i in 0..count {
+        let place = Place { var: i, index: 1 };
+        let value = initial(alloc, kind)?;
+        cells.push(Cell { place, kind, value })?;
     }
-    Ok(())
+    Ok(cells)
+}
+
+/// The member that has them all.
+fn wide_member(alloc: Global, kind: Kind, count: u32) -> Result<GroupMember, AllocError> {
+    Ok(GroupMember {
+        name: Text::from_bytes(alloc, b"v")?,
+        kind,
+        first: 0,
+        count,
+        scalar: false,
+    })
+}
+
+/// Whether so many characters of a length are written so.
+fn writes_wide(alloc: Global, length: u32, count: u32, expected: &str) -> Result<bool, AllocError> {
+    let kind = Kind::Chars(length);
+    let member = wide_member(alloc, kind, count)?;
+    match wide_cells(alloc, kind, count) {
+        Ok(cells) => Ok(writes(
+            alloc,
+            slice::from_ref(&member),
+            cells.as_slice(),
+            modes(false, Delim::Plain),
+            expected.as_bytes(),
+        )),
+        Err(error) => Err(error),
+    }
+}
+
+#[test]
+fn wide_outputs(rt: HostRuntime) {
+    for (length, count, expected) in WIDE.iter() {
+        let written = writes_wide(rt.alloc(), *length, *count, expected);
+        assert_eq!(rt; written, Ok(true), "{count} of {length}");
+    }
 }
