@@ -1,5 +1,5 @@
 // A deck is carried out on slots, its files go back to the disk, and it is reported.
-ghost use Rattle.std.specs.Prelude.{◌≡◌, ◌⊎◌, ◌≤◌, ◌++◌, ◌↔◌, ℕ, [], Some, None, Ok, Err, IfOk, IfSome, OnOk, OnErr, true, false, length, slice_get, vec_capacity, List};
+ghost use Rattle.std.specs.Prelude.{◌≡◌, ◌⊎◌, ◌≤◌, ◌++◌, ◌↔◌, ℕ, [], Some, None, Ok, Err, IfOk, IfSome, IfNone, OnOk, OnErr, true, false, length, slice_get, vec_capacity, List};
 ghost use Rattle.std.specs.FinSet as set;
 ghost use Rattle.fj_outside.specs.Faults.{Rose};
 ghost use Rattle.fj_outside.specs.Holdings.{SameAt};
@@ -132,7 +132,8 @@ fn write_fault<W: Sink>(
 
 /// How a run ended; none where it was given up or told a stop.
 pub fn ending_of<F: FileStore>(left: &Left<F>) -> Option<Ending>
-    ensures { IfSome result (λ ending. (left.now.over ≡ false) × (left.now.ending ≡ Some ending)) }
+    ensures some { IfSome result (λ ending. (left.now.over ≡ false) × (left.now.ending ≡ Some ending)) }
+    ensures none { IfNone result ((left.now.over ≡ true) ⊎ (left.now.ending ≡ None)) }
 {
     if left.over { None } else { left.ending }
 }

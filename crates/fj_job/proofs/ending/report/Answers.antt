@@ -8,9 +8,9 @@ use Rattle.fj_job.proofs.ending.report.Goals as goal
 
 pub returns-in-Some-clause-ended : goal.returns-in-Some-clause-ended
 returns-in-Some-clause-ended g c = λ a. record {
-  going = c.in-Some.ensures.0;
+  going = c.in-Some.ensures.some.0;
   ending = c.in-Some.ending;
-  ends = c.in-Some.ensures.1;
+  ends = c.in-Some.ensures.some.1;
   status_is = answered c.write_run.result (status_of (ending_of c.in-Some.ending)) _ c.write_run.ensures.status a (λ e. e);
   output = λ t. rw (← c.as_slice.ensures) (c.write_run.ensures.output a t);
 }
@@ -18,18 +18,18 @@ returns-in-Some-clause-ended g c = λ a. record {
 pub returns-in-Some-clause-front : goal.returns-in-Some-clause-front
 returns-in-Some-clause-front g c = inr (inr (record {
   settled = c.in-Ok.is;
-  going = c.in-Some.ensures.0;
+  going = c.in-Some.ensures.some.0;
   ending = c.in-Some.ending;
-  ends = c.in-Some.ensures.1;
+  ends = c.in-Some.ensures.some.1;
   taken = λ w. rw (← c.as_slice.ensures) (c.write_run.ensures.front w);
 }))
 
 pub returns-in-Some-clause-written : goal.returns-in-Some-clause-written
 returns-in-Some-clause-written g c = λ e. inr (record {
   settled = c.in-Ok.is;
-  going = c.in-Some.ensures.0;
+  going = c.in-Some.ensures.some.0;
   ending = c.in-Some.ending;
-  ends = c.in-Some.ensures.1;
+  ends = c.in-Some.ensures.some.1;
   taken = λ w. rw (← c.as_slice.ensures) (c.write_run.ensures.part e w);
 })
 
