@@ -4,6 +4,7 @@ ghost use Rattle.fj_queue.specs.Cell.{IsNext};
 ghost use Rattle.fj_crew.specs.Seats.{SeatAt, Paired, Submits, Settles};
 
 use crate::signals::Signals;
+use crossbeam_utils::Backoff;
 use fj_queue::{Queue, Submitter};
 use fj_slot::{Engine, Refused, Told};
 use std::collections::VecDeque;
@@ -34,6 +35,25 @@ pub(crate) fn submit_at<E: Engine, R: Wait>(
     number
 }
 
+// Waits while the job that is told next is out: for a long one it gives its processor to the workers.
+fn wait_for<E: Engine, R: Wait>(rt: &R, queue: &Queue<E>, signals: &Signals, at: u64) {
+    let backoff = Backoff::new();
+    for _ in rt.forever() {
+        if !queue.seems_out() {
+            return;
+        }
+        if !backoff.is_completed() {
+            backoff.snooze();
+            continue;
+        }
+        let wait = signals.awaits(at);
+        if queue.seems_out() {
+            wait.wait(rt);
+        }
+    }
+    unreachable!()
+}
+
 /// Settles the next job of the slot at that place, and rings where more seem to be due there: it may have performed a job of which no worker knew.
 pub(crate) fn settle_at<E: Engine, R: Wait>(
     rt: &R,
@@ -52,6 +72,7 @@ pub(crate) fn settle_at<E: Engine, R: Wait>(
     let queue = &queues[at];
     let seat = &mut seats[at];
     signals.settling(at as u64);
+    wait_for(rt, queue, signals, at as u64);
     let told = queue.settle(rt, seat);
     signals.ring_if(queue.seems_due());
     told

@@ -1,4 +1,4 @@
-//! What idle workers wait for. No clause rests on it.
+//! What idle workers wait for, and the script's thread. No clause rests on it.
 use crossbeam_utils::sync::{EventCount, Key};
 use std::sync::atomic::Ordering::SeqCst;
 use std::sync::atomic::{AtomicBool, AtomicU64};
@@ -16,6 +16,9 @@ pub(crate) struct Signals {
     /// The slot of a short job of which no worker was told yet: the script itself performs it where it settles it next, and waking a
     /// worker would take longer.
     short: AtomicU64,
+    /// The slot of the job that the script's thread waits for.
+    awaited: AtomicU64,
+    ends: EventCount,
 }
 
 impl Signals {
@@ -25,6 +28,8 @@ impl Signals {
             work: EventCount::new(),
             looking: AtomicU64::new(0),
             short: AtomicU64::new(NONE),
+            awaited: AtomicU64::new(NONE),
+            ends: EventCount::new(),
         }
     }
 
@@ -59,6 +64,19 @@ impl Signals {
         if short != NONE {
             self.short.store(NONE, SeqCst);
             self.ring_if(short != slot);
+        }
+    }
+
+    /// The script's thread is about to wait for a job of a slot that is out, before it looks a last time.
+    pub(crate) fn awaits(&self, slot: u64) -> Key<'_> {
+        self.awaited.store(slot, SeqCst);
+        self.ends.prepare_wait()
+    }
+
+    /// A worker ended a job of a slot.
+    pub(crate) fn ended(&self, slot: u64) {
+        if self.awaited.load(SeqCst) == slot {
+            self.ends.notify_one();
         }
     }
 

@@ -98,6 +98,9 @@ fn work_at<E: Engine, R: Wait>(
     }
     let hand = &mut team[at];
     let worked = queues[at].work_where_due(rt, hand);
+    if worked {
+        signals.ended(at as u64);
+    }
     signals.looks();
     worked
 }

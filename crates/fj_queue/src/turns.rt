@@ -83,7 +83,7 @@ impl<E: Engine> QueueOf<Slot<E>, E, E::Task, Law<E>> {
     }
 
     /// Whether the job that is told next is out, as it looks without the turn. No clause rests on it.
-    pub(crate) fn seems_out(&self) -> bool {
+    pub fn seems_out(&self) -> bool {
         let shared = &self.table.shared;
         let progress = shared.peek(2);
         progress % 2 == 1 && progress / 2 == shared.peek(3)
