@@ -6,7 +6,6 @@ use Rattle.fj_format.specs.declared.item.FormatItem.{FormatItem}
 use Rattle.fj_format.specs.declared.item.FormatItem.TheVariants.{Field, Group, Skip, Slash, Colon}
 use Rattle.fj_format.specs.Unfolding.{Steps, edit, right, slash, colon, pass, again}
 use Rattle.fj_format.proofs.UnfoldingLaws.{written_out-Field, written_out-Group, written_out-Skip, written_out-Slash, written_out-Colon, is_group-Colon, is_group-Field, is_group-Skip}
-use Rattle.std.specs.Prelude.{codes}
 use Rattle.fj_control.specs.Steps.{gives, done, no_data, control, rounds, steps}
 use Rattle.fj_control.proofs.Reversion.{again_from_group, again_from_start}
 

@@ -1,5 +1,5 @@
 -- Each item has a data descriptor, in order, unless one is wanting.
-use Rattle.std.proofs.Common.{◌≡◌, ℕ, suc, Bool, true, false, List, [], ◌∷◌, length, refl, ap}
+use Rattle.std.proofs.Common.{◌≡◌, false, List, [], ◌∷◌, length, refl, ap}
 use Rattle.fj_value.specs.declared.edit.EditModes.{EditModes}
 use Rattle.fj_format.specs.Unfolding as step
 use Rattle.fj_format.specs.Unfolding.{Steps}

@@ -7,7 +7,7 @@ use Rattle.fj_format.specs.declared.item.FormatItem.{FormatItem, out-FormatItem}
 use Rattle.fj_format.specs.declared.item.FormatItem.TheVariants as item
 use Rattle.fj_format.specs.declared.item.FormatItem.TheOpen.{FormatItem-F}
 use Rattle.fj_format.specs.declared.item.FormatItem.TheFolds.{fold-FormatItem, fold_out-FormatItem, map-FormatItem}
-use Rattle.fj_format.specs.Unfolding.{Steps, repeated, pass, written_out, again, is_group, group_step, from_last_group, first_some, again_items, height}
+use Rattle.fj_format.specs.Unfolding.{Steps, repeated, pass, written_out, again, is_group, group_step, from_last_group, first_some, again_items, height, height_step}
 use Rattle.fj_format.proofs.UnfoldingLaws.{written_out-Group, is_group-Group}
 use Rattle.fj_control.specs.Steps.{is_data, has_data, parentheses_step, right_parentheses, RevertsToTheLastGroup, RevertsToTheStart}
 use Rattle.std.specs.List.{list_any}
@@ -100,11 +100,33 @@ height-again xs = by_case (from_last_group xs) (last_below xs)
     by_case None h = omega arith
     by_case (Some ys) h = h
 
--- ---- what is used again, by the last group
+-- ---- items without a group
 
 neither : (p q : Bool) → (p || q) ≡ false → (p ≡ false) × (q ≡ false)
 neither true q h = cc
 neither false q h = (refl, h)
+
+flat_layer : (d : FormatItem-F FormatItem) → group_step (map-FormatItem FormatItem Bool is_group d) ≡ false → height_step (map-FormatItem FormatItem ℕ (fold-FormatItem ℕ height_step) d) ≡ 0
+flat_layer (FormatItem-F.Field r e) h = refl
+flat_layer (FormatItem-F.Group r items) h = absurd (let z : true ≡ false = h in cc)
+flat_layer (FormatItem-F.Str s) h = refl
+flat_layer (FormatItem-F.Tab n) h = refl
+flat_layer (FormatItem-F.Left n) h = refl
+flat_layer (FormatItem-F.Right n) h = refl
+flat_layer (FormatItem-F.Skip n) h = refl
+flat_layer (FormatItem-F.Slash n) h = refl
+flat_layer FormatItem-F.Colon h = refl
+flat_layer (FormatItem-F.Mode m) h = refl
+
+-- no list is inside them
+pub flat : (xs : List FormatItem) → list_any is_group xs ≡ false → height xs ≡ 0
+flat [] h = refl
+flat (x ∷ xs) h =
+    let k = neither (is_group x) (list_any is_group xs) h in
+    let low : fold-FormatItem ℕ height_step x ≡ 0 = fold_out-FormatItem ℕ height_step x ∙ flat_layer (out-FormatItem x) (sym (fold_out-FormatItem Bool group_step x) ∙ k.0) in
+    omega (arith, low, flat xs k.1)
+
+-- ---- what is used again, by the last group
 
 none_found : (xs : List FormatItem) → list_any is_group xs ≡ false → from_last_group xs ≡ None
 none_found [] h = refl

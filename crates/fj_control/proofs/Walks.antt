@@ -1,6 +1,6 @@
 -- The walker's turns.
-use Rattle.std.proofs.Common.{ℕ, zero, suc, ◌+◌, ◌-◌, ◌*◌, ◌≡◌, ◌≤◌, ◌<◌, List, [], ◌∷◌, ◌++◌, length, take, drop, get_or, sym, subst, ap, ◌∙◌, arith, append_assoc, append-nil, add-one, set}
-use Rattle.std.proofs.lemmas.List.{drop_all, take_more_set, take_more, length-set, length-take}
+use Rattle.std.proofs.Common.{ℕ, zero, suc, ◌+◌, ◌-◌, ◌*◌, ◌≡◌, ◌≤◌, ◌<◌, List, [], ◌∷◌, ◌++◌, length, drop, get_or, refl, sym, subst, ap, ◌∙◌, arith, append_assoc, append-nil, add-one, vec_capacity}
+use Rattle.std.proofs.lemmas.List.{drop_all, length-append}
 use Rattle.fj_format.specs.declared.item.FormatItem.{FormatItem}
 use Rattle.fj_format.specs.Unfolding.{Elementary, Steps, repeated, pass, written_out, height, height_step, work, work_step}
 use Rattle.fj_format.proofs.UnfoldingLaws.{written_out-Group, height-Group, work-Group, work-positive}
@@ -8,7 +8,7 @@ use Rattle.fj_format.specs.declared.item.FormatItem.TheVariants as item
 use Rattle.fj_control.specs.declared.walker.Repeat.{Repeat}
 use Rattle.fj_format.specs.declared.item.FormatItem.TheFolds.{fold-FormatItem}
 use Rattle.fj_control.specs.declared.walker.Frame.{Frame}
-use Rattle.fj_control.specs.Walker.{frame_rest, outer_rest, frame_work, outer_work, HaveRoom, stack, rest_of, work_of, repeated_step, IsSound, Moved}
+use Rattle.fj_control.specs.Walker.{frame_rest, outer_rest, frame_work, outer_work, HaveRoom, stack, rest_of, work_of, repeated_step, IsSound, KeepsRoom, Moved}
 use Rattle.fj_control.specs.declared.walker.Walker.{Walker}
 use Rattle.std.proofs.Common.{Bor}
 
@@ -22,13 +22,13 @@ pub outer_work-snoc : (fs : List Frame) (f : Frame) → outer_work (fs ++ f ∷ 
 outer_work-snoc [] f = omega arith
 outer_work-snoc (g ∷ gs) f = omega (arith, outer_work-snoc gs f)
 
-pub HaveRoom-snoc : (n : ℕ) (fs : List Frame) (f : Frame) → HaveRoom n fs → (n + length fs) + height f.items.now ≤ 31 → HaveRoom n (fs ++ f ∷ [])
-HaveRoom-snoc n [] f h e = (omega arith, tt)
-HaveRoom-snoc n (g ∷ gs) f h e = (h.0, HaveRoom-snoc (suc n) gs f h.1 (omega arith))
+pub HaveRoom-snoc : (most n : ℕ) (fs : List Frame) (f : Frame) → HaveRoom most n fs → (n + length fs) + height f.items.now ≤ most → HaveRoom most n (fs ++ f ∷ [])
+HaveRoom-snoc most n [] f h e = (omega arith, tt)
+HaveRoom-snoc most n (g ∷ gs) f h e = (h.0, HaveRoom-snoc most (suc n) gs f h.1 (omega arith))
 
-pub HaveRoom-front : (n : ℕ) (fs : List Frame) (f : Frame) → HaveRoom n (fs ++ f ∷ []) → HaveRoom n fs × ((n + length fs) + height f.items.now ≤ 31)
-HaveRoom-front n [] f h = (tt, omega (arith, h.0))
-HaveRoom-front n (g ∷ gs) f h = let k = HaveRoom-front (suc n) gs f h.1 in ((h.0, k.0), omega (arith, k.1))
+pub HaveRoom-front : (most n : ℕ) (fs : List Frame) (f : Frame) → HaveRoom most n (fs ++ f ∷ []) → HaveRoom most n fs × ((n + length fs) + height f.items.now ≤ most)
+HaveRoom-front most n [] f h = (tt, omega (arith, h.0))
+HaveRoom-front most n (g ∷ gs) f h = let k = HaveRoom-front most (suc n) gs f h.1 in ((h.0, k.0), omega (arith, k.1))
 
 -- ---- one list
 
@@ -64,42 +64,37 @@ in_order f fs = frame_rest f ++ outer_rest fs
 rest_at_item : (w : Walker) → w.times ≡ 0 → rest_of w ≡ in_order w.top (stack w)
 rest_at_item w e = ap (λ n. repeated n (repeated_step w.repeat ∷ []) ++ in_order w.top (stack w)) e
 
-stack_entered : (w w' : Walker) → w.depth < length w.outer → w'.depth ≡ w.depth + 1 → w'.outer ≡ set w.outer w.depth w.top → stack w' ≡ stack w ++ w.top ∷ []
-stack_entered w w' lt d o = ap (λ n. take n w'.outer) d ∙ ap (λ l. take (w.depth + 1) l) o ∙ take_more_set w.outer w.depth w.top lt
-
-pub rest_entered : (w w' : Walker) (items : Bor (List FormatItem)) (left : ℕ) → w.times ≡ 0 → w.depth < length w.outer → w'.times ≡ w.times →
-    w'.top ≡ record { items = items; at = 0; left = left } → w'.depth ≡ w.depth + 1 → w'.outer ≡ set w.outer w.depth w.top →
+pub rest_entered : (w w' : Walker) (items : Bor (List FormatItem)) (left : ℕ) → w.times ≡ 0 → w'.times ≡ w.times →
+    w'.top ≡ record { items = items; at = 0; left = left } → stack w' ≡ stack w ++ w.top ∷ [] →
     rest_of w' ≡ repeated (suc left) (pass items.now) ++ rest_of w
-rest_entered w w' items left z lt t f d o =
+rest_entered w w' items left z t f o =
     rest_at_item w' (t ∙ z) ∙ ap (λ g. in_order g (stack w')) f
     ∙ ap (λ l. (pass items.now ++ repeated left (pass items.now)) ++ l)
-    (ap outer_rest (stack_entered w w' lt d o) ∙ outer_rest-snoc (stack w) w.top ∙ sym (rest_at_item w z))
+    (ap outer_rest o ∙ outer_rest-snoc (stack w) w.top ∙ sym (rest_at_item w z))
 
-pub work_entered : (w w' : Walker) (items : Bor (List FormatItem)) (left : ℕ) → w.depth < length w.outer →
-    w'.top ≡ record { items = items; at = 0; left = left } → w'.depth ≡ w.depth + 1 → w'.outer ≡ set w.outer w.depth w.top →
+pub work_entered : (w w' : Walker) (items : Bor (List FormatItem)) (left : ℕ) →
+    w'.top ≡ record { items = items; at = 0; left = left } → stack w' ≡ stack w ++ w.top ∷ [] →
     work_of w' ≡ (suc left) * (work items.now + 1) + work_of w
-work_entered w w' items left lt f d o =
+work_entered w w' items left f o =
     let e : work_of w' ≡ ((work items.now + left * (work items.now + 1)) + 1) + (frame_work w.top + outer_work (stack w)) =
     ap (λ g. frame_work g + outer_work (stack w')) f
-    ∙ ap (λ n. ((work items.now + left * (work items.now + 1)) + 1) + n) (ap outer_work (stack_entered w w' lt d o) ∙ outer_work-snoc (stack w) w.top) in
+    ∙ ap (λ n. ((work items.now + left * (work items.now + 1)) + 1) + n) (ap outer_work o ∙ outer_work-snoc (stack w) w.top) in
     omega arith
 
-stack_length : (w : Walker) → w.depth ≤ length w.outer → length (stack w) ≡ w.depth
-stack_length w h = omega (arith, length-take w.depth w.outer)
-
-pub sound_entered : (w w' : Walker) (items : Bor (List FormatItem)) (left : ℕ) → IsSound w → (w.depth + 1) + height items.now ≤ 31 →
-    w'.top ≡ record { items = items; at = 0; left = left } → w'.depth ≡ w.depth + 1 → w'.outer ≡ set w.outer w.depth w.top → IsSound w'
-sound_entered w w' items left s room f d o = record {
-  within = (let e : length w'.outer ≡ length w.outer = ap length o ∙ length-set w.outer w.depth w.top in omega (arith, s.size));
-  size = ap length o ∙ length-set w.outer w.depth w.top ∙ s.size;
-  top = (let e : height w'.top.items.now ≡ height items.now = ap (λ (g : Frame). height g.items.now) f in omega arith);
-  outer = subst (HaveRoom 0) (sym (stack_entered w w' (omega (arith, s.size)) d o))
-      (HaveRoom-snoc 0 (stack w) w.top s.outer (omega (arith, stack_length w s.within, s.top)));
+pub sound_entered : (w w' : Walker) (items : Bor (List FormatItem)) (left : ℕ) → IsSound w → (length (stack w) + 1) + height items.now ≤ vec_capacity w.outer →
+    w'.top ≡ record { items = items; at = 0; left = left } → stack w' ≡ stack w ++ w.top ∷ [] → KeepsRoom w w' → IsSound w'
+sound_entered w w' items left s room f o same = record {
+  top =
+      (let e : height w'.top.items.now ≡ height items.now = ap (λ (g : Frame). height g.items.now) f in
+      let n : length (stack w') ≡ length (stack w) + 1 = ap length o ∙ length-append (stack w) (w.top ∷ []) in
+      omega (arith, e, n, same, room));
+  outer = subst (λ n. HaveRoom n 0 (stack w')) (sym same) (subst (HaveRoom (vec_capacity w.outer) 0) (sym o)
+      (HaveRoom-snoc (vec_capacity w.outer) 0 (stack w) w.top s.outer (omega (arith, s.top))));
 }
 
 -- the walker behind its item
 abbrev pub behind : Walker → Walker
-behind w = record { times = w.times; repeat = w.repeat; top = record { items = w.top.items; at = w.top.at + 1; left = w.top.left }; outer = w.outer; depth = w.depth }
+behind w = record { times = w.times; repeat = w.repeat; top = record { items = w.top.items; at = w.top.at + 1; left = w.top.left }; outer = w.outer }
 
 -- what is known of the item at hand
 pub record IsAt (w : Walker) (x : FormatItem) : Type 0 where
@@ -130,7 +125,7 @@ many_steps w x y r q h k o = (
   (let e = work_at w x h in let p = work-positive x in omega (arith, e, p)),
 )
 
-pub group_room : (w : Walker) (x : FormatItem) (r : ℕ) (xs : List FormatItem) → IsSound w → IsAt w x → x ≡ item.Group r xs → (w.depth + 1) + height xs ≤ 31
+pub group_room : (w : Walker) (x : FormatItem) (r : ℕ) (xs : List FormatItem) → IsSound w → IsAt w x → x ≡ item.Group r xs → (length (stack w) + 1) + height xs ≤ vec_capacity w.outer
 group_room w x r xs s h k =
     let e : fold-FormatItem ℕ height_step x ≡ height xs + 1 = ap (fold-FormatItem ℕ height_step) k ∙ height-Group r xs in
     omega (arith, s.top, height-at w.top.at w.top.items.now x h.within h.here)
@@ -145,13 +140,13 @@ group_moved w w' x r xs h k a b = (
 )
 
 pub sound_behind : (w : Walker) → IsSound w → IsSound (behind w)
-sound_behind w s = record { within = s.within; size = s.size; top = s.top; outer = s.outer }
+sound_behind w s = record { top = s.top; outer = s.outer }
 
 -- ---- at the end of a list
 
 -- the walker at the start of its list again
 abbrev pub anew : Walker → Walker
-anew w = record { times = w.times; repeat = w.repeat; top = record { items = w.top.items; at = 0; left = w.top.left - 1 }; outer = w.outer; depth = w.depth }
+anew w = record { times = w.times; repeat = w.repeat; top = record { items = w.top.items; at = 0; left = w.top.left - 1 }; outer = w.outer }
 
 repeated-less : (n : ℕ) (s : Steps) → 0 < n → repeated n s ≡ s ++ repeated (n - 1) s
 repeated-less zero s h = absurd (omega arith)
@@ -167,43 +162,36 @@ again_moved w s z e l =
           (let f : work (drop w.top.at w.top.items.now) ≡ 0 = ap work gone in
           let g : w.top.left * (work w.top.items.now + 1) ≡ (work w.top.items.now + 1) + (w.top.left - 1) * (work w.top.items.now + 1) = times_less w.top.left (work w.top.items.now + 1) l in
           omega (arith, f, g));
-      sound = record { within = s.within; size = s.size; top = s.top; outer = s.outer };
+      sound = record { top = s.top; outer = s.outer };
       times = z;
+      room = refl;
     }
   where
     times_less : (n k : ℕ) → 0 < n → n * k ≡ k + (n - 1) * k
     times_less zero k h = absurd (omega arith)
     times_less (suc n) k h = (let e : suc n - 1 ≡ n = omega arith in rw e (omega arith))
 
--- the walker in the list around
-abbrev pub above : Walker → Frame → Walker
-above w f = record { times = w.times; repeat = w.repeat; top = f; outer = w.outer; depth = w.depth - 1 }
-
-stack_above : (w : Walker) (f : Frame) → IsSound w → 0 < w.depth → get_or w.outer (w.depth - 1) f ≡ f → stack w ≡ stack (above w f) ++ f ∷ []
-stack_above w f s p h =
-    let e : w.depth ≡ (w.depth - 1) + 1 = omega arith in
-    ap (λ n. take n w.outer) e ∙ take_more w.outer (w.depth - 1) f (omega (arith, s.within)) ∙ ap (λ g. take (w.depth - 1) w.outer ++ g ∷ []) h
-
-pub above_moved : (w : Walker) (f : Frame) → IsSound w → w.times ≡ 0 → length w.top.items.now ≤ w.top.at → w.top.left ≡ 0 → 0 < w.depth → get_or w.outer (w.depth - 1) f ≡ f → Moved w (above w f)
-above_moved w f s z e l p h =
+pub above_moved : (w w' : Walker) (f : Frame) → IsSound w → w.times ≡ 0 → length w.top.items.now ≤ w.top.at → w.top.left ≡ 0 →
+    w'.times ≡ w.times → w'.top ≡ f → stack w ≡ stack w' ++ f ∷ [] → KeepsRoom w w' → Moved w w'
+above_moved w w' f s z e l t up st same =
     let gone : drop w.top.at w.top.items.now ≡ [] = drop_all w.top.at w.top.items.now e in
-    let st = stack_above w f s p h in
-    let room = HaveRoom-front 0 (stack (above w f)) f (subst (HaveRoom 0) st s.outer) in
+    let most = vec_capacity w.outer in
+    let room = HaveRoom-front most 0 (stack w') f (subst (HaveRoom most 0) st s.outer) in
     record {
-      rest = rest_at_item (above w f) z ∙ sym (
+      rest = rest_at_item w' (t ∙ z) ∙ ap (λ g. in_order g (stack w')) up ∙ sym (
           rest_at_item w z
           ∙ ap (λ xs. (pass xs ++ repeated w.top.left (pass w.top.items.now)) ++ outer_rest (stack w)) gone
           ∙ ap (λ n. repeated n (pass w.top.items.now) ++ outer_rest (stack w)) l
-          ∙ ap outer_rest st ∙ outer_rest-snoc (stack (above w f)) f);
+          ∙ ap outer_rest st ∙ outer_rest-snoc (stack w') f);
       work =
           (let a : work (drop w.top.at w.top.items.now) ≡ 0 = ap work gone in
-          let b : outer_work (stack w) ≡ frame_work f + outer_work (stack (above w f)) = ap outer_work st ∙ outer_work-snoc (stack (above w f)) f in
-          omega (arith, a, b));
+          let b : outer_work (stack w) ≡ frame_work f + outer_work (stack w') = ap outer_work st ∙ outer_work-snoc (stack w') f in
+          let d : frame_work w'.top ≡ frame_work f = ap frame_work up in
+          omega (arith, a, b, d));
       sound = record {
-        within = omega (arith, s.within);
-        size = s.size;
-        top = (let n = stack_length (above w f) (omega (arith, s.within)) in omega (arith, n, room.1));
-        outer = room.0;
+        top = (let d : height w'.top.items.now ≡ height f.items.now = ap (λ (g : Frame). height g.items.now) up in omega (arith, d, same, room.1));
+        outer = subst (λ n. HaveRoom n 0 (stack w')) (sym same) room.0;
       };
-      times = z;
+      times = t ∙ z;
+      room = same;
     }

@@ -1,5 +1,5 @@
 -- The fields of a cursor as a walk.
-use Rattle.std.specs.Prelude.{◌≡◌, ◌≤◌}
+use Rattle.std.specs.Prelude.{◌≡◌, ◌≤◌, vec_capacity}
 use Rattle.fj_format.specs.Unfolding.{Steps, pass, height}
 use Rattle.fj_control.specs.declared.cursor.State.{State}
 use Rattle.fj_control.specs.declared.cursor.State.TheVariants.{Walking, Done, NoData}
@@ -18,5 +18,5 @@ walk_of c = record { at = position c.state (rest_of c.walker); again = pass c.ag
 
 pub record IsReady (c : Inside) : Type 0 where
   pub walker : WalkerIsSound c.walker
-  pub low : height c.again.now ≤ 31
+  pub low : height c.again.now ≤ vec_capacity c.walker.outer
   pub has_data : c.has_data ≡ has_data (pass c.again.now)

@@ -1,5 +1,5 @@
 -- What the code's walk of a list of items has still to give, and how much work that is.
-use Rattle.std.specs.Prelude.{ℕ, suc, ◌+◌, ◌*◌, ◌≡◌, ◌≤◌, ◌<◌, Bool, List, [], ◌∷◌, ◌++◌, length, take, drop, Option, Some, None}
+use Rattle.std.specs.Prelude.{ℕ, suc, ◌+◌, ◌*◌, ◌≡◌, ◌≤◌, ◌<◌, Bool, List, [], ◌∷◌, ◌++◌, length, drop, vec_capacity, Option, Some, None}
 use Rattle.fj_format.specs.Unfolding as step
 use Rattle.fj_format.specs.Unfolding.{Elementary, Steps, repeated, pass, height, work}
 use Rattle.fj_control.specs.declared.walker.Frame.{Frame}
@@ -37,7 +37,7 @@ outer_rest [] = []
 outer_rest (f ∷ fs) = outer_rest fs ++ frame_rest f
 
 abbrev pub stack : Walker → List Frame
-stack w = take w.depth w.outer
+stack w = w.outer.items
 
 abbrev pub rest_of : Walker → Steps
 rest_of w = repeated w.times (repeated_step w.repeat ∷ []) ++ (frame_rest w.top ++ outer_rest (stack w))
@@ -53,16 +53,14 @@ outer_work (f ∷ fs) = outer_work fs + frame_work f
 abbrev pub work_of : Walker → ℕ
 work_of w = frame_work w.top + outer_work (stack w)
 
--- each list is no deeper than the room above it
-abbrev pub HaveRoom : ℕ → List Frame → Type 0
-HaveRoom n [] = Unit {0}
-HaveRoom n (f ∷ fs) = (n + height f.items.now ≤ 31) × HaveRoom (suc n) fs
+-- each list is no deeper than the room for lists above it, of so many in all
+abbrev pub HaveRoom : ℕ → ℕ → List Frame → Type 0
+HaveRoom most n [] = Unit {0}
+HaveRoom most n (f ∷ fs) = (n + height f.items.now ≤ most) × HaveRoom most (suc n) fs
 
 pub record IsSound (w : Walker) : Type 0 where
-  pub within : w.depth ≤ length w.outer
-  pub size : length w.outer ≡ 31
-  pub top : w.depth + height w.top.items.now ≤ 31
-  pub outer : HaveRoom 0 (stack w)
+  pub top : length (stack w) + height w.top.items.now ≤ vec_capacity w.outer
+  pub outer : HaveRoom (vec_capacity w.outer) 0 (stack w)
 
 -- the walker gave this and goes on behind it, or gave nothing and is nearer to its end
 abbrev pub GaveOrMoved : Walker → Option Piece → Walker → Type 0
@@ -74,12 +72,17 @@ abbrev pub GaveOrEnded : Walker → Option Piece → Walker → Type 0
 GaveOrEnded old (Some p) new = rest_of old ≡ step_of p ∷ rest_of new
 GaveOrEnded old None new = rest_of old ≡ []
 
+-- there is room for as many lists as before
+abbrev pub KeepsRoom : Walker → Walker → Type 0
+KeepsRoom w w' = vec_capacity w'.outer ≡ vec_capacity w.outer
+
 -- the walker has the same to give, and is nearer to its end
 pub record Moved (w w' : Walker) : Type 0 where
   pub rest : rest_of w' ≡ rest_of w
   pub work : work_of w' < work_of w
   pub sound : IsSound w'
   pub times : w'.times ≡ 0
+  pub room : KeepsRoom w w'
 
 -- the walk gave a step, stopped, or came to the end of the list, whatever is used again there
 abbrev pub CameTo : Bool → Steps → Walked → Steps → Type 0

@@ -1,11 +1,12 @@
 // The part of a format that is used again at its end.
 ghost use Rattle.std.specs.Prelude.{◌≡◌, ◌≤◌};
+ghost use Rattle.std.specs.List.{list_any};
 ghost use Rattle.fj_format.specs.Unfolding.{again_items, is_group, pass, written_out, height};
 ghost use Rattle.fj_control.specs.Steps.{has_data};
 
 use fj_format::FormatItem;
 
-/// Whether an item is a group.
+/// Whether it is a group.
 fn is_group_item(item: &FormatItem) -> bool
     ensures { result ≡ is_group item.now }
 {
@@ -21,6 +22,13 @@ fn is_group_item(item: &FormatItem) -> bool
         | FormatItem::Colon
         | FormatItem::Mode(_) => false,
     }
+}
+
+/// Whether an item is a group.
+pub fn has_group(items: &[FormatItem]) -> bool
+    ensures { result ≡ list_any is_group items.now }
+{
+    items.iter().any(|item| is_group_item(item))
 }
 
 /// The items from the last group on, or all where there is none.

@@ -1,8 +1,8 @@
 // A walk of a format, one step a call.
-ghost use Rattle.std.specs.Prelude.{◌≡◌};
-ghost use Rattle.std.specs.Prelude.{ℕ, ◌-◌, ◌≤◌, ◌++◌, replicate, IfSome, IfNone};
+ghost use Rattle.std.specs.Prelude.{◌≡◌, ℕ, ◌-◌, ◌≤◌, ◌++◌, false, replicate, IfSome, IfNone, IfOk, IsOk};
+ghost use Rattle.std.specs.List.{list_any};
 ghost use Rattle.fj_value.specs.declared.edit.Edit.{Edit};
-ghost use Rattle.fj_format.specs.Unfolding.{again, edit};
+ghost use Rattle.fj_format.specs.Unfolding.{again, edit, is_group};
 ghost use Rattle.fj_control.specs.Steps.{steps, gives, RoundsAreEnough, RevertsToTheLastGroup, RevertsToTheStart};
 ghost use Rattle.fj_control.specs.Walk.{begun, given, due, next_of, GivesWhatIsDue, GivesTheSteps};
 
@@ -11,6 +11,7 @@ use crate::step::Step;
 use crate::walker::{Walked, Walker};
 use fj_format::{Format, FormatItem};
 use fj_value::Edit;
+use std::alloc::{AllocError, Global};
 use std::marker::Model;
 
 #[derive(Clone, Copy)]
@@ -20,7 +21,7 @@ enum State {
     NoData,
 }
 
-/// A walk of a format. It borrows the format and takes no memory.
+/// A walk of a format, which it borrows.
 #[derive(Drop)]
 pub struct Cursor<'a> {
     walker: Walker<'a>,
@@ -44,18 +45,20 @@ impl<'a> Model for Cursor<'a> {
 }
 
 impl<'a> Cursor<'a> {
-    pub fn new(format: &'a Format) -> Cursor<'a>
-        ensures { result ≡ begun format.entry.now }
+    /// A walk of a format from its start. Without groups it takes no memory.
+    pub fn new(alloc: Global, format: &'a Format) -> Result<Cursor<'a>, AllocError>
+        ensures flat { list_any is_group format.entry.now ≡ false → IsOk result }
+        ensures begun { IfOk result (λ cursor. cursor ≡ begun format.entry.now) }
     {
         let list = format.items();
         let items = list.as_slice();
         let again = again_of(items);
-        Cursor {
-            walker: Walker::new(items),
+        Ok(Cursor {
+            walker: Walker::new(alloc, items)?,
             again,
             has_data: have_data(again),
             state: State::Walking,
-        }
+        })
     }
 
     /// The next step, where an item is left or not. After `Done` or `NoData` it is the same again.

@@ -1,14 +1,15 @@
 // A walk of a list of items with its repeats written out.
-ghost use Rattle.std.specs.Prelude.{◌≡◌, ◌≤◌, ◌<◌, ◌+◌, ◌*◌, ◌++◌, [], false, length, IsTrue};
-ghost use Rattle.std.specs.Prelude.{slice_set as set, slice_index_or};
-ghost use Rattle.std.specs.Prelude.{ℕ, ◌∷◌, IfSome, IfNone};
+ghost use Rattle.std.specs.Prelude.{◌≡◌, ◌≤◌, ◌<◌, ◌+◌, ◌*◌, ◌++◌, ℕ, [], ◌∷◌, false, length, vec_capacity, IsTrue, IfSome, IfNone, IfOk, IsOk};
 ghost use Rattle.fj_value.specs.declared.edit.Edit.{Edit};
-ghost use Rattle.fj_format.specs.Unfolding.{edit, height, pass, repeated, work};
-ghost use Rattle.fj_control.specs.Walker.{step_of, repeated_step, rest_of, work_of, IsSound, Moved, GaveOrMoved, GaveOrEnded, CameTo};
+ghost use Rattle.std.specs.List.{list_any};
+ghost use Rattle.fj_format.specs.Unfolding.{edit, height, is_group, pass, repeated, work};
+ghost use Rattle.fj_control.specs.Walker.{step_of, repeated_step, rest_of, work_of, IsSound, KeepsRoom, Moved, GaveOrMoved, GaveOrEnded, CameTo};
 
+use crate::again::has_group;
 use crate::step::Step;
 use fj_format::{FormatItem, ModeStep};
 use fj_value::Edit;
+use std::alloc::{AllocError, Global};
 
 /// A list of items that is being walked.
 #[derive(Clone, Copy)]
@@ -45,23 +46,18 @@ pub struct Walker<'a> {
     pub times: u32,
     pub repeat: Repeat,
     pub top: Frame<'a>,
-    /// The lists that hold it, the outermost first.
-    pub outer: [Frame<'a>; 31],
-    pub depth: usize,
+    /// The lists that hold it, the outermost first. It has room for all that hold a list of the format.
+    pub outer: Vec<Frame<'a>>,
 }
 
-fn put<'a>(frames: &mut [Frame<'a>], at: usize, frame: Frame<'a>)
-    requires { at < length frames.old }
-    ensures { frames.new ≡ set frames.old at frame.entry }
+/// How many lists may hold a list of these: none, or as many as there ever are.
+#[tactic(auto, using(crate::proofs::Reversion::flat))]
+fn most_outer(items: &[FormatItem]) -> usize
+    requires { height items.now ≤ 31 }
+    ensures room { height items.now ≤ result }
+    ensures flat { list_any is_group items.now ≡ false → result ≡ 0 }
 {
-    frames[at] = frame;
-}
-
-fn frame_at<'a>(frames: &[Frame<'a>], at: usize) -> Frame<'a>
-    requires { at < length frames.now }
-    ensures { slice_index_or frames.now at result ≡ result }
-{
-    frames[at]
+    if has_group(items) { 31 } else { 0 }
 }
 
 fn piece_of<'a>(repeat: Repeat) -> Piece<'a>
@@ -74,34 +70,38 @@ fn piece_of<'a>(repeat: Repeat) -> Piece<'a>
 }
 
 impl<'a> Walker<'a> {
-    pub fn new(items: &'a [FormatItem]) -> Walker<'a>
+    /// A walk of a list. Without groups it takes no memory.
+    pub fn new(alloc: Global, items: &'a [FormatItem]) -> Result<Walker<'a>, AllocError>
         requires { height items.now ≤ 31 }
-        ensures rest { rest_of result ≡ pass items.entry.now }
-        ensures sound { IsSound result }
+        ensures flat { list_any is_group items.now ≡ false → IsOk result }
+        ensures rest { IfOk result (λ walker. rest_of walker ≡ pass items.entry.now) }
+        ensures sound { IfOk result IsSound }
+        ensures room { IfOk result (λ walker. height items.entry.now ≤ vec_capacity walker.outer) }
     {
+        let mut outer = Vec::new(alloc);
+        outer.reserve(most_outer(items))?;
         let top = Frame {
             items,
             at: 0,
             left: 0,
         };
-        Walker {
+        Ok(Walker {
             times: 0,
             repeat: Repeat::Slash,
             top,
-            outer: [top; 31],
-            depth: 0,
-        }
+            outer,
+        })
     }
 
     /// Begins to walk another list.
     pub fn restart(&mut self, items: &'a [FormatItem])
-        requires sound { IsSound self.old }
-        requires low { height items.now ≤ 31 }
+        requires low { height items.now ≤ vec_capacity self.old.outer }
         ensures rest { rest_of self.new ≡ pass items.entry.now }
         ensures sound { IsSound self.new }
+        ensures room { KeepsRoom self.old self.new }
     {
         self.times = 0;
-        self.depth = 0;
+        self.outer.clear();
         self.top = Frame {
             items,
             at: 0,
@@ -111,17 +111,14 @@ impl<'a> Walker<'a> {
 
     /// Begins to walk an inner list.
     fn enter(&mut self, items: &'a [FormatItem], left: u32)
-        requires { self.old.depth < length self.old.outer }
+        requires { length self.old.outer.items < vec_capacity self.old.outer }
         ensures times { self.new.times ≡ self.old.times }
         ensures repeat { self.new.repeat ≡ self.old.repeat }
         ensures top { self.new.top ≡ record { items = items.entry; at = 0; left = left } }
-        ensures depth { self.new.depth ≡ self.old.depth + 1 }
-        ensures outer { self.new.outer ≡ set self.old.outer self.old.depth self.old.top }
+        ensures outer { self.new.outer.items ≡ self.old.outer.items ++ self.old.top ∷ [] }
+        ensures room { KeepsRoom self.old self.new }
     {
-        let depth = self.depth;
-        let top = self.top;
-        put(&mut self.outer, depth, top);
-        self.depth = depth + 1;
+        self.outer.push_reserved(self.top);
         self.top = Frame { items, at: 0, left };
     }
 
@@ -129,10 +126,11 @@ impl<'a> Walker<'a> {
     fn group(&mut self, r: u32, items: &'a [FormatItem])
         requires sound { IsSound self.old }
         requires times { self.old.times ≡ 0 }
-        requires room { (self.old.depth + 1) + height items.now ≤ 31 }
+        requires room { (length self.old.outer.items + 1) + height items.now ≤ vec_capacity self.old.outer }
         ensures rest { rest_of self.new ≡ repeated r (pass items.entry.now) ++ rest_of self.old }
         ensures work { work_of self.new ≤ r * (work items.entry.now + 1) + work_of self.old }
         ensures sound { IsSound self.new }
+        ensures room { KeepsRoom self.old self.new }
     {
         if r > 0 {
             self.enter(items, r - 1);
@@ -151,13 +149,14 @@ impl<'a> Walker<'a> {
             self.top.left -= 1;
             self.top.at = 0;
             true
-        } else if self.depth > 0 {
-            let depth = self.depth - 1;
-            self.top = frame_at(&self.outer, depth);
-            self.depth = depth;
-            true
-        } else {
+        } else if self.outer.is_empty() {
             false
+        } else {
+            let Some(frame) = self.outer.pop() else {
+                unreachable!();
+            };
+            self.top = frame;
+            true
         }
     }
 
@@ -168,6 +167,7 @@ impl<'a> Walker<'a> {
         requires at { self.old.top.at < length self.old.top.items.now }
         ensures gave { GaveOrMoved self.old result self.new }
         ensures sound { IsSound self.new }
+        ensures room { KeepsRoom self.old self.new }
     {
         let items = self.top.items;
         let at = self.top.at;
@@ -204,6 +204,7 @@ impl<'a> Walker<'a> {
         requires { IsSound self.old }
         ensures gave { GaveOrEnded self.old result self.new }
         ensures sound { IsSound self.new }
+        ensures room { KeepsRoom self.old self.new }
     {
         loop {
             if self.times > 0 {
@@ -228,6 +229,7 @@ impl<'a> Walker<'a> {
         requires times { self.old.times ≡ 0 }
         ensures rest { rest_of self.new ≡ rest_of self.old }
         ensures sound { IsSound self.new }
+        ensures room { KeepsRoom self.old self.new }
     {
         let items = self.top.items;
         let at = self.top.at;
@@ -248,6 +250,7 @@ impl<'a> Walker<'a> {
         ensures few { IfSome result (λ (run : Edit × ℕ). (1 ≤ run.1) × (run.1 ≤ most)) }
         ensures none { IfNone result (rest_of self.new ≡ rest_of self.old) }
         ensures sound { IsSound self.new }
+        ensures room { KeepsRoom self.old self.new }
     {
         if self.times == 0 {
             self.begin_repeat();
@@ -262,6 +265,7 @@ impl<'a> Walker<'a> {
         ensures few { IfSome result (λ (run : Edit × ℕ). (1 ≤ run.1) × (run.1 ≤ most)) }
         ensures none { IfNone result (self.new ≡ self.old) }
         ensures sound { IsSound self.new }
+        ensures room { KeepsRoom self.old self.new }
     {
         let count = most.min(self.times as usize);
         match self.repeat {
@@ -288,6 +292,7 @@ impl<'a> Walker<'a> {
         requires { IsSound self.old }
         ensures came { CameTo left (rest_of self.old) result (rest_of self.new) }
         ensures sound { IsSound self.new }
+        ensures room { KeepsRoom self.old self.new }
     {
         if left && let Some((edit, _)) = self.repeats(1) {
             return Walked::Gave(Step::Edit(edit));

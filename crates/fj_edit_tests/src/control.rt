@@ -64,7 +64,7 @@ fn steps_of(alloc: Global, format: &[u8], items: u32) -> Result<String, Fail>
     requires { length format.now < 2 ^ 32 }
 {
     let format = parse(alloc, format)?;
-    let mut cursor = Cursor::new(&format);
+    let mut cursor = Cursor::new(alloc, &format)?;
     let mut left = items;
     let mut out = String::new(alloc);
     for _ in 0..500u32 {
@@ -208,7 +208,7 @@ fn nested_counts(rt: HostRuntime) -> Result<(), Fail> {
 #[test]
 fn runs(rt: HostRuntime) -> Result<(), Fail> {
     let format = parse(rt.alloc(), b"(3I8,A)")?;
-    let mut cursor = Cursor::new(&format);
+    let mut cursor = Cursor::new(rt.alloc(), &format)?;
     assert!(rt; cursor.run(0).is_none());
     assert!(rt; matches!(cursor.run(1), Some((Edit::Int { w: 8, m: None }, 1))));
     assert!(rt; matches!(cursor.next(true), Step::Edit(Edit::Int { w: 8, m: None })));

@@ -69,7 +69,8 @@ fn read_from<F: FileStore>(
         order: moved.order.as_slice(),
         next: 0,
     };
-    let condition = reader.read_steps(alloc, connection, &mut moved.cells, Cursor::new(format))?;
+    let mut cursor = Cursor::new(alloc, format)?;
+    let condition = reader.read_steps(alloc, connection, &mut moved.cells, &mut cursor)?;
     finish(connection, &reader, &mut moved.cells, condition)
 }
 

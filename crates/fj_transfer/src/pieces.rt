@@ -47,17 +47,17 @@ impl<'a> Writer<'a> {
     fn write_pieces(
         &mut self,
         text: &mut Text,
-        mut cursor: Cursor,
+        cursor: &mut Cursor,
         recl: u32,
         run: &mut Text,
     ) -> Result<(), Unwritten>
         requires { IsIn self.old.page text.old }
         ensures done { Carries (at_hand self.old.page text.old)
-            (actions_left self.old (due cursor.entry (length (items_of_writer self.old))) ++ end_record ∷ []) result (at_hand self.new.page text.new) }
-        ensures run { OnOk result (run.new ≡ run.old ++ run_of recl 32 (texts_left text.old self.old (due cursor.entry (length (items_of_writer self.old))))) }
+            (actions_left self.old (due cursor.old (length (items_of_writer self.old))) ++ end_record ∷ []) result (at_hand self.new.page text.new) }
+        ensures run { OnOk result (run.new ≡ run.old ++ run_of recl 32 (texts_left text.old self.old (due cursor.old (length (items_of_writer self.old))))) }
     {
         loop {
-            self.write_run(text, &mut cursor)?;
+            self.write_run(text, cursor)?;
             match cursor.next(self.items.is_some_left()) {
                 Step::Done => {
                     add_piece(&self.page, text, recl, run)?;
@@ -92,7 +92,8 @@ fn fill_records(
         items,
         field: Text::new(run.allocator()),
     };
-    writer.write_pieces(&mut text, Cursor::new(format), recl, run)
+    let mut cursor = Cursor::new(run.allocator(), format)?;
+    writer.write_pieces(&mut text, &mut cursor, recl, run)
 }
 
 /// Puts records that are filled up into the file, from the record of a number on. Error 25, where they would take the file

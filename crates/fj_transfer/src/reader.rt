@@ -250,14 +250,14 @@ impl<'a> Reader<'a> {
         alloc: Global,
         connection: &mut Connection<F>,
         cells: &mut Cells,
-        mut cursor: Cursor,
+        cursor: &mut Cursor,
     ) -> Result<Condition, Stop>
         requires ready { IsReady self.old (length cells.old) }
         requires hand { IsIn connection.old.modes.access (size_ended connection.old.spot (F.size connection.old.file)) self.old.hand self.old.text }
         ensures file { StaysTheSame F.tells F.bytes F.size F.count connection.old connection.new }
         ensures done { F.tells connection.old.file → let c = ended (connection_of F.bytes connection.old) in IsHand c self.old.hand →
             IfOk result (λ condition.
-            carried_out self.old.advance (parts_left self.old (due cursor.entry (length (items_left self.old)))) (progress_of c self.old cells.old)
+            carried_out self.old.advance (parts_left self.old (due cursor.old (length (items_left self.old)))) (progress_of c self.old cells.old)
             ≡ stopped condition (progress_of c self.new cells.new)) }
         ensures hand { F.tells connection.old.file → IsHand (ended (connection_of F.bytes connection.old)) self.old.hand → IsHand (ended (connection_of F.bytes connection.old)) self.new.hand }
 
@@ -268,7 +268,7 @@ impl<'a> Reader<'a> {
         ensures failed { result ≡ Err Stop.Failed → Rose (F.count connection.old.file) (F.count connection.new.file) }
     {
         loop {
-            if let Some(condition) = self.step_on(alloc, connection, cells, &mut cursor)? {
+            if let Some(condition) = self.step_on(alloc, connection, cells, cursor)? {
                 return Ok(condition);
             }
         }

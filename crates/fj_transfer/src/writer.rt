@@ -135,15 +135,15 @@ impl<'a> Writer<'a> {
     }
 
     /// Carries out all steps of format control.
-    pub fn write_steps(&mut self, text: &mut Text, mut cursor: Cursor) -> Result<(), Unwritten>
+    pub fn write_steps(&mut self, text: &mut Text, cursor: &mut Cursor) -> Result<(), Unwritten>
         requires { IsIn self.old.page text.old }
         ensures done { Carries (at_hand self.old.page text.old)
-            (actions_left self.old (due cursor.entry (length (items_of_writer self.old)))) result (at_hand self.new.page text.new) }
+            (actions_left self.old (due cursor.old (length (items_of_writer self.old)))) result (at_hand self.new.page text.new) }
         ensures within { OnOk result (IsIn self.new.page text.new) }
         ensures kept { Keeps self.old.page text.old self.new.page text.new }
     {
         loop {
-            self.write_run(text, &mut cursor)?;
+            self.write_run(text, cursor)?;
             match cursor.next(self.items.is_some_left()) {
                 Step::Done => return Ok(()),
                 step => self.carry_out(text, step)?,
@@ -164,7 +164,8 @@ impl<'a> Writer<'a> {
         ensures within { OnOk result (IsIn self.new.page text.new) }
         ensures kept { Keeps self.old.page text.old self.new.page text.new }
     {
-        self.write_steps(text, Cursor::new(format))?;
+        let mut cursor = Cursor::new(text.allocator(), format)?;
+        self.write_steps(text, &mut cursor)?;
         if advance {
             return self.page.end_record(text);
         }

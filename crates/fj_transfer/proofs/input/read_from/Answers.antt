@@ -29,7 +29,7 @@ returns-clause-done g c = λ t h.
     let first = begins (ended old) c.args.hand c.args.text c.args.moved.now.cells in
     let went : explicit_input advance modes (steps format (length order)) order first ≡ stopped condition (progress_of (ended old) after cells) =
     ap (λ (l : List ℕ). carried_out advance (paired modes (steps format (length l)) l) first) (sym c.as_slice.ensures)
-    ∙ ap (λ (w : Walk). carried_out advance (paired modes (due w (length c.as_slice.result.now)) c.as_slice.result.now) first) (sym c.new.ensures)
+    ∙ ap (λ (w : Walk). carried_out advance (paired modes (due w (length c.as_slice.result.now)) c.as_slice.result.now) first) (sym c.in_ok-cursor.ensures.begun)
     ∙ c.in_ok-condition.ensures.done t h in
     let is : explicit_ended (connection_of bytes mid) (ended (connection_of bytes mid)) after.advance (stopped condition (progress_of (ended (connection_of bytes mid)) after cells))
     ≡ explicit_ended old (ended old) advance (explicit_input advance modes (steps format (length order)) order first) =

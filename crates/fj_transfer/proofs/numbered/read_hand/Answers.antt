@@ -32,10 +32,10 @@ returns-clause-done g c = λ t.
     let order = c.args.moved.now.order in
     let first = begins old (Numbered number) c.args.text c.args.moved.now.cells in
     let read = explicit_input true modes (steps format (length order)) order first in
-    let T : Connection → Type 0 = λ m. carried_out true (paired modes (due c.new.result (length c.as_slice.result.now)) c.as_slice.result.now) (begins m (Numbered number) c.args.text c.args.moved.now.cells) ≡ stopped condition (progress_of m after cells) in
+    let T : Connection → Type 0 = λ m. carried_out true (paired modes (due c.in_ok-cursor.cursor (length c.as_slice.result.now)) c.as_slice.result.now) (begins m (Numbered number) c.args.text c.args.moved.now.cells) ≡ stopped condition (progress_of m after cells) in
     let went : read ≡ stopped condition (progress_of old after cells) =
     ap (λ (l : List ℕ). carried_out true (paired modes (steps format (length l)) l) first) (sym c.as_slice.ensures)
-    ∙ ap (λ (w : Walk). carried_out true (paired modes (due w (length c.as_slice.result.now)) c.as_slice.result.now) first) (sym c.new.ensures)
+    ∙ ap (λ (w : Walk). carried_out true (paired modes (due w (length c.as_slice.result.now)) c.as_slice.result.now) first) (sym c.in_ok-cursor.ensures.begun)
     ∙ subst T closed (c.in_ok-condition.ensures.done t tt) in
     let hand : hand_of old after.hand after.text ≡ hand_of (before_number old number) after.hand after.text =
     numbered_hand now.modes.access _ number old after.hand after.text c.requires.access c.read_steps.ensures.within in

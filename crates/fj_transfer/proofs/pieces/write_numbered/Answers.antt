@@ -1,11 +1,10 @@
-use Rattle.std.proofs.Common.{◌≡◌, List, ap, ◌∙◌, subst, true}
+use Rattle.std.proofs.Common.{◌≡◌, ap, subst, true}
 use Rattle.std.specs.Prelude.{IfOk, OnErr}
-use Rattle.fj_value.specs.declared.value.Cell.{Cell}
 use Rattle.fj_span.specs.Change.{KeepsUpToChange}
 use Rattle.fj_modes.specs.declared.modes.Modes.{Modes}
 use Rattle.fj_connect.specs.Connection.{begun}
 use Rattle.fj_connect.specs.Linked.{connection_of}
-use Rattle.fj_list.specs.Items.{items_left, items_of, in_cells}
+use Rattle.fj_list.specs.Items.{items_left, items_of}
 use Rattle.fj_transfer.specs.Explicit.{explicit_actions}
 use Rattle.fj_transfer.specs.Places.{before_number}
 use Rattle.fj_transfer.specs.Printing.{printed_by}

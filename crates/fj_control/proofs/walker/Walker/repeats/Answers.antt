@@ -1,5 +1,5 @@
-use Rattle.std.proofs.Common.{◌≡◌, ℕ, zero, suc, ◌-◌, ◌≤◌, List, [], ◌∷◌, ◌++◌, refl, sym, ap, ◌∙◌, arith, append_assoc}
-use Rattle.fj_format.specs.Unfolding.{Steps, repeated, edit}
+use Rattle.std.proofs.Common.{◌≡◌, ℕ, zero, suc, ◌-◌, ◌≤◌, [], ◌∷◌, ◌++◌, sym, ap, ◌∙◌, arith, append_assoc}
+use Rattle.fj_format.specs.Unfolding.{Steps, repeated}
 use Rattle.fj_control.specs.Walker.{repeated_step, frame_rest, outer_rest, stack}
 use Rattle.fj_control.proofs.walker.Walker.repeats.Goals as goal
 

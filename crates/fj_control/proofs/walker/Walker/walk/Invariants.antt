@@ -1,12 +1,13 @@
 use Rattle.std.proofs.Common.{◌≡◌, length}
 use Rattle.fj_format.specs.Unfolding.{Steps}
 use Rattle.fj_control.specs.Walk.{next_in}
-use Rattle.fj_control.specs.Walker.{rest_of, IsSound}
+use Rattle.fj_control.specs.Walker.{rest_of, IsSound, KeepsRoom}
 use Rattle.fj_control.proofs.walker.Walker.walk.Given as goal
 
 abbrev pub invariant-loop-piece : goal.invariant-loop-piece
 invariant-loop-piece l = record {
   sound : IsSound l.self;
+  room : KeepsRoom l.initial.self l.self;
   same : (more : Steps) → next_in more l.left (rest_of l.initial.self) ≡ next_in more l.left (rest_of l.self);
 }
 
