@@ -1,5 +1,5 @@
 -- A transfer and a motion leave the connection under its name, with its modes.
-use Rattle.std.proofs.Common.{◌≡◌, ℕ, ℤ, pos, negsuc, ◌+◌, ◌-◌, ◌==◌, Bool, true, false, List, [], ◌∷◌, length, Option, Some, None, Result, Ok, Err, refl, sym, ap, ◌∙◌, if◌then◌else◌, ◌||◌, not, nat_lt, drop, replicate, ◌++◌}
+use Rattle.std.proofs.Common.{◌≡◌, ℕ, ℤ, pos, negsuc, ◌+◌, ◌-◌, ◌==◌, Bool, true, false, List, [], ◌∷◌, length, Option, Some, None, Result, Ok, Err, refl, ◌∙◌, if◌then◌else◌, ◌||◌, nat_lt, drop, replicate, ◌++◌}
 use Rattle.std.specs.Prelude.{IfOk, is_some}
 use Rattle.fj_value.specs.declared.edit.EditModes.{EditModes}
 use Rattle.fj_value.specs.declared.value.Cell.{Cell}
@@ -7,7 +7,6 @@ use Rattle.fj_value.specs.declared.value.Value.{Value}
 use Rattle.fj_value.specs.declared.value.Value.TheVariants.{Undefined}
 use Rattle.fj_value.specs.declared.condition.Condition.{Condition}
 use Rattle.fj_value.specs.declared.condition.Condition.TheVariants.{Fine, EndOfFile, EndOfRecord, Error}
-use Rattle.fj_modes.specs.declared.modes.Modes.{Modes}
 use Rattle.fj_modes.specs.declared.specifiers.Access.{Access}
 use Rattle.fj_modes.specs.declared.specifiers.Access.TheVariants.{Sequential, Direct, Stream}
 use Rattle.fj_modes.specs.Words.{same_access}
@@ -36,7 +35,7 @@ use Rattle.fj_transfer.specs.AtHand.{AtHand, behind, line_at, numbered, record_n
 use Rattle.fj_transfer.specs.Change.{changed}
 use Rattle.fj_transfer.specs.Input.{Progress, Ended, width_for, characters_for, without_padding, stopped, with_field, field_read, with_record, carried_out, left_at, explicit_input}
 use Rattle.fj_transfer.specs.Printing.{Printed, printed, open_count}
-use Rattle.fj_transfer.specs.Transfer.{Done, Ways, in_error, input_done, output_done, explicit_read, past_records, records_read, records_to_come, condition_to_come, frame_read, body_read, bytes_needed, values_from, body_of, piece_read, bytes_read, unformatted_read, unformatted_written, with_pieces, pieces_written, with_text, lines_written, ends_record, records_written, read_by, written_by, from_place, begins_at, placed, if_fit, unfit, transfer_by, is_explicit, with_undefined}
+use Rattle.fj_transfer.specs.Transfer.{Done, Ways, in_error, input_done, output_done, explicit_read, past_records, records_read, records_to_come, condition_to_come, frame_read, body_read, bytes_needed, values_from, body_of, piece_read, bytes_read, unformatted_read, unformatted_written, with_pieces, pieces_written, with_text, lines_written, ends_record, records_written, read_by, written_by, from_place, begins_at, placed, if_fit, unfit, transfer_by, with_undefined}
 
 pub record Kept (old new : Connection) : Type 0 where
   pub named : new.name ≡ old.name

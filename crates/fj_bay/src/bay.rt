@@ -1,5 +1,5 @@
 // A place for one connection, with its halt.
-ghost use Rattle.std.specs.Prelude.{◌≡◌, None, Some, Err, IsSome};
+ghost use Rattle.std.specs.Prelude.{◌≡◌, None, Some, Err, IsSome, IfOk};
 ghost use Rattle.fj_outside.specs.Faults.{Rose};
 ghost use Rattle.fj_connect.specs.Connection.{Connection as Connected};
 ghost use Rattle.fj_perform.specs.Performing.{comes_to, LeavesStatement};
@@ -7,6 +7,7 @@ ghost use Rattle.fj_transfer.specs.Transfer.{in_error};
 ghost use Rattle.fj_slot.specs.Serving.{Serves};
 ghost use Rattle.fj_bay.specs.Halt.{halt_behind};
 
+use crate::boxed::Boxed;
 use crate::job::{Answer, Job};
 use crate::plain::{PlainAnswer, PlainBay, PlainJob};
 use fj_connect::{Connection, Look, Positioning};
@@ -15,7 +16,7 @@ use fj_perform::perform;
 use fj_slot::Engine;
 use fj_transfer::Transfer;
 use fj_value::{Condition, EditModes};
-use std::alloc::Global;
+use std::alloc::{AllocError, Global};
 
 /// So many cells take longer to transfer than a thread takes to wake.
 const MANY_CELLS: usize = 256;
@@ -24,7 +25,8 @@ const MANY_CELLS: usize = 256;
 #[derive(Drop)]
 pub struct Bay<F: FileStore> {
     alloc: Global,
-    connection: Option<Connection<F>>,
+    /// On the heap, so that a bay is moved by few words.
+    connection: Boxed<Option<Connection<F>>>,
     /// The condition that halted it, until the halt is ended.
     halt: Option<Condition>,
     /// How many of its jobs the outside failed.
@@ -64,22 +66,22 @@ impl<F: FileStore> Bay<F> {
     ghost use Rattle.fj_bay.specs.Meaning.{bay_meaning, file_faults};
 
     /// A bay with no connection, which is not halted.
-    pub fn empty(alloc: Global) -> Bay<F>
-        ensures { result ≡ record { alloc = alloc; connection = None; halt = None; faults = 0 } }
+    pub fn empty(alloc: Global) -> Result<Bay<F>, AllocError>
+        ensures { IfOk result (λ bay. bay ≡ record { alloc = alloc; connection = None; halt = None; faults = 0 }) }
     {
-        Bay {
+        Ok(Bay {
             alloc,
-            connection: None,
+            connection: Boxed::new(alloc, None)?,
             halt: None,
             faults: 0,
-        }
+        })
     }
 
     /// The connection, if it has one. It takes no memory.
     pub fn into_connection(self) -> Option<Connection<F>>
         ensures { result ≡ self.connection }
     {
-        self.connection
+        self.connection.into_inner()
     }
 
     /// Takes a connection in. Where there is one, the other stays where it is.
@@ -87,10 +89,10 @@ impl<F: FileStore> Bay<F> {
         ensures refused { IsSome self.old.connection → (self.new ≡ self.old) × (brought.new ≡ brought.old) × (result ≡ Condition.Error 7) }
         ensures taken { self.old.connection ≡ None → (self.new ≡ record self.old { connection = brought.old }) × (brought.new ≡ None) × (result ≡ Condition.Fine) }
     {
-        if self.connection.is_some() {
+        if self.connection.get().is_some() {
             return Condition::Error(7);
         }
-        self.connection = brought.take();
+        *self.connection.get_mut() = brought.take();
         Condition::Fine
     }
 
@@ -101,9 +103,10 @@ impl<F: FileStore> Bay<F> {
         ensures failed { result ≡ Err Stop.Failed → Rose (file_faults F.count self.old.connection) (file_faults F.count self.new.connection) }
         ensures faults { self.new.faults ≡ self.old.faults }
     {
-        if let Some(connection) = &mut self.connection {
+        let here = self.connection.get_mut();
+        if let Some(connection) = here {
             connection.end_record()?;
-            *place = self.connection.take();
+            *place = here.take();
         }
         Ok(Answer::Done(Condition::Fine))
     }
@@ -115,10 +118,11 @@ impl<F: FileStore> Bay<F> {
         ensures failed { result ≡ Err Stop.Failed → Rose (file_faults F.count self.old.connection) (file_faults F.count self.new.connection) }
         ensures faults { self.new.faults ≡ self.old.faults }
     {
-        let Some(connection) = &mut self.connection else {
+        let halt = self.halt;
+        let Some(connection) = self.connection.get_mut() else {
             return Ok(Answer::Done(Condition::Error(1)));
         };
-        if let Some(cause) = self.halt {
+        if let Some(cause) = halt {
             return Ok(skip(job, cause));
         }
         let condition = perform(self.alloc, connection, job)?;
@@ -133,7 +137,7 @@ impl<F: FileStore> Bay<F> {
         ensures failed { result ≡ Err Stop.Failed → Rose (file_faults F.count self.old.connection) (file_faults F.count self.new.connection) }
         ensures faults { self.new.faults ≡ self.old.faults }
     {
-        let Some(connection) = &mut self.connection else {
+        let Some(connection) = self.connection.get_mut() else {
             return Ok(Answer::Done(Condition::Error(1)));
         };
         let condition = connection.move_to(how)?;
@@ -146,7 +150,7 @@ impl<F: FileStore> Bay<F> {
             → Serves (bay_meaning F.told F.bytes F.count) s (change edit) (Ok (Answer.Done result)) self.new (Job.Change edit) }
         ensures faults { self.new.faults ≡ self.old.faults }
     {
-        let Some(connection) = &mut self.connection else {
+        let Some(connection) = self.connection.get_mut() else {
             return Condition::Error(1);
         };
         connection.change(edit);
@@ -158,7 +162,7 @@ impl<F: FileStore> Bay<F> {
         ensures serves { (s : PlainState) → state_of F.told F.bytes self.now ≡ Some s
             → Serves (bay_meaning F.told F.bytes F.count) s (look (option_map looked_of place.old)) (Ok (Answer.Done result)) self.now (Job.Look place.new) }
     {
-        let Some(connection) = &self.connection else {
+        let Some(connection) = self.connection.get() else {
             return Condition::Error(1);
         };
         *place = Some(connection.look());

@@ -215,7 +215,7 @@ fn differs(
     alloc: Global,
     rows: &[(Step, Answer, Option<u64>)],
 ) -> Result<Option<usize>, OpenFault> {
-    let mut bay = Bay::empty(alloc);
+    let mut bay = Bay::empty(alloc)?;
     for (number, (step, answer, brought)) in rows.iter().enumerate() {
         if done(&mut bay, job_of(alloc, *step)?) != (Ok(*answer), *brought) {
             return Ok(Some(number));
@@ -238,7 +238,7 @@ fn jobs_on_empty_full_and_halted_bays(rt: HostRuntime) -> Result<(), Fail> {
 type Came = (bool, Result<Answer, Stop>, u64, bool);
 
 fn come_to(alloc: Global, steps: &[Step]) -> Result<Came, OpenFault> {
-    let mut bay = Bay::empty(alloc);
+    let mut bay = Bay::empty(alloc)?;
     let mut fine = true;
     let mut last = Ok(Done(Fine));
     for step in steps {

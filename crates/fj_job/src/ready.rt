@@ -24,10 +24,10 @@ pub struct Ready<F: FileStore> {
     pub room: Vec<Remains<F>>,
 }
 
-fn fresh_slot<F: FileStore>(alloc: Global) -> Slot<Bay<F>>
-    ensures { IsFresh (bay_meaning F.told F.bytes F.count) result }
+fn fresh_slot<F: FileStore>(alloc: Global) -> Result<Slot<Bay<F>>, AllocError>
+    ensures { IfOk result (IsFresh (bay_meaning F.told F.bytes F.count)) }
 {
-    Slot::new(alloc, Bay::empty(alloc))
+    Ok(Slot::new(alloc, Bay::empty(alloc)?))
 }
 
 /// Slots over bays with nothing.
@@ -36,7 +36,7 @@ fn fresh_slots<F: FileStore>(alloc: Global) -> Result<Slots<Bay<F>>, AllocError>
 {
     let mut slots = Slots::new(alloc);
     'filling: while slots.len() < MOST_SLOTS {
-        match slots.push(fresh_slot::<F>(alloc)) {
+        match slots.push(fresh_slot::<F>(alloc)?) {
             Ok(()) => {}
             Err(refused) => return Err(refused.error),
         }

@@ -77,7 +77,10 @@ fn slot_of(alloc: Global, connection: Connection<MemoryFile>) -> Option<Slot<Bay
     let Ok(place) = Boxed::new(alloc, Some(connection)) else {
         return None;
     };
-    let mut slot = Slot::new(alloc, Bay::empty(alloc));
+    let Ok(bay) = Bay::empty(alloc) else {
+        return None;
+    };
+    let mut slot = Slot::new(alloc, bay);
     let Ok(_) = slot.submit(Job::Attach(place)) else {
         drop(slot);
         return None;
