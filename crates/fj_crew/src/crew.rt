@@ -85,7 +85,7 @@ where
     }
     match open(alloc, &*script, &mut slots, &mut queues, &mut seats) {
         Ok(()) => {
-            let (queues, done) = employ(rt, alloc, script, queues, &mut seats, workers as usize);
+            let (queues, done) = employ(rt, alloc, script, queues, &mut seats, workers);
             shut(&mut slots, queues, seats);
             match done {
                 Ok(()) => Ok(slots),

@@ -6,7 +6,7 @@ ghost use Rattle.fj_crew.specs.Team.{AllServe, HandsAre, SeatsLike, CanServe, Ha
 
 use crate::serve::serve;
 use crate::signals::Signals;
-use crate::workers::{dismiss, staff, work};
+use crate::workers::{dismiss, fold, staff, work};
 use fj_queue::{Hand, Queue, Submitter};
 use fj_slot::Engine;
 use fj_world::Script;
@@ -18,35 +18,44 @@ use std::thread::{Threads, for_each_mut, join_mut};
 // What threads do over what they share: one leads, the others help. Its parts are type parameters, since a closure that holds a
 // reference to a type of several parameters cannot be joined.
 pub(crate) trait Shared<X, Y, Z> {
-    ghost can_help: { Self → X → Type 0 };
-
-    ghost has_helped: { Self → X → X → Type 0 };
+    ghost serves: { Self → X → Type 0 };
 
     ghost can_lead: { Self → Y → Z → Type 0 };
 
     ghost has_led: { Self → Y → Z → Y → Z → Type 0 };
 
-    fn help<R: Wait>(&self, rt: &R, x: &mut X)
-        requires { can_help self.now x.old }
-        ensures { has_helped self.now x.old x.new };
+    // Helps until all is done, or more are to help; tells whether they are.
+    fn begin<R: Wait>(&self, rt: &R, x: &mut X) -> bool
+        requires { serves self.now x.old }
+        ensures { serves self.now x.new };
 
-    fn lead<R: Wait>(&self, rt: &R, y: &mut Y, z: &mut Z)
-        requires { can_lead self.now y.old z.old }
-        ensures { has_led self.now y.old z.old y.new z.new };
+    fn help<R: Wait>(&self, rt: &R, x: &mut X)
+        requires { serves self.now x.old }
+        ensures { serves self.now x.new };
+
+    // It helps while it waits for others.
+    fn lead<R: Wait>(&self, rt: &R, x: &mut X, y: &mut Y, z: &mut Z)
+        requires lead { can_lead self.now y.old z.old }
+        requires serves { serves self.now x.old }
+        ensures lead { has_led self.now y.old z.old y.new z.new }
+        ensures serves { serves self.now x.new };
 }
 
-// Each helps in a thread of its own.
+// The first helps, and once more are to help, each does in a thread of its own.
 fn help_all<X: Send, Y, Z, Q: Shared<X, Y, Z> + Sync, R: Threads + Wait + Sync>(
     rt: &R,
     shared: &Q,
     xs: &mut [X],
 )
     requires some { 0 < length xs.old }
-    requires help { (i : ℕ) (d : X) → i < length xs.old → Q.can_help shared.now (slice_index_or xs.old i d) }
-    ensures help { (i : ℕ) (d : X) → i < length xs.old → Q.has_helped shared.now (slice_index_or xs.old i d) (slice_index_or xs.new i d) }
+    requires help { (i : ℕ) (d : X) → i < length xs.old → Q.serves shared.now (slice_index_or xs.old i d) }
+    ensures help { (i : ℕ) (d : X) → i < length xs.old → Q.serves shared.now (slice_index_or xs.new i d) }
+    ensures long { length xs.new ≡ length xs.old }
 {
-    let helpers = xs.len();
-    for_each_mut(rt, xs, helpers, &|_, x| shared.help(rt, x));
+    if shared.begin(rt, &mut xs[0]) {
+        let helpers = xs.len();
+        for_each_mut(rt, xs, helpers, &|_, x| shared.help(rt, x));
+    }
 }
 
 // Where no thread can be made, the one leads before the others help.
@@ -54,22 +63,26 @@ fn all<X: Send, Y, Z, Q: Shared<X, Y, Z> + Sync, R: Threads + Wait + Sync>(
     rt: &R,
     shared: &Q,
     xs: &mut [X],
+    x: &mut X,
     y: &mut Y,
     z: &mut Z,
 )
     requires some { 0 < length xs.old }
-    requires help { (i : ℕ) (d : X) → i < length xs.old → Q.can_help shared.now (slice_index_or xs.old i d) }
+    requires help { (i : ℕ) (d : X) → i < length xs.old → Q.serves shared.now (slice_index_or xs.old i d) }
+    requires serves { Q.serves shared.now x.old }
     requires lead { Q.can_lead shared.now y.old z.old }
-    ensures help { (i : ℕ) (d : X) → i < length xs.old → Q.has_helped shared.now (slice_index_or xs.old i d) (slice_index_or xs.new i d) }
+    ensures help { (i : ℕ) (d : X) → i < length xs.old → Q.serves shared.now (slice_index_or xs.new i d) }
+    ensures long { length xs.new ≡ length xs.old }
+    ensures serves { Q.serves shared.now x.new }
     ensures lead { Q.has_led shared.now y.old z.old y.new z.new }
 {
     join_mut(
         rt,
         &mut ||
-            requires { IsSync R.row × IsSync Q.row × IsSend X.row × (0 < length xs.now) × ((i : ℕ) (d : X) → i < length xs.now → Q.can_help shared.now (slice_index_or xs.now i d)) }
-            ensures { (i : ℕ) (d : X) → i < length xs.entry.now → Q.has_helped shared.entry.now (slice_index_or xs.entry.now i d) (slice_index_or xs.exit.now i d) }
+            requires { IsSync R.row × IsSync Q.row × IsSend X.row × (0 < length xs.now) × ((i : ℕ) (d : X) → i < length xs.now → Q.serves shared.now (slice_index_or xs.now i d)) }
+            ensures { ((i : ℕ) (d : X) → i < length xs.entry.now → Q.serves shared.entry.now (slice_index_or xs.exit.now i d)) × (length xs.exit.now ≡ length xs.entry.now) }
         { help_all(rt, shared, xs) },
-        &mut || shared.lead(rt, y, z),
+        &mut || shared.lead(rt, x, y, z),
     );
 }
 
@@ -82,20 +95,29 @@ pub(crate) struct Floor<Q> {
 
 impl<S: Script> Shared<VecDeque<Hand<S::Gear>>, S, VecDeque<Submitter<S::Gear>>>
     for Floor<Queue<S::Gear>> {
-    ghost can_help = { λ floor team. AllServe floor.queues.items team.items };
-
-    ghost has_helped = { λ floor _ team. AllServe floor.queues.items team.items };
+    ghost serves = { λ floor team. AllServe floor.queues.items team.items };
 
     ghost can_lead = { λ floor script seats. CanServe S.Gear.meaning S.conduct floor.queues.items script seats.items };
 
     ghost has_led = { λ floor script seats script' seats'. HasServed S.Gear.meaning S.conduct floor.queues.items script seats.items script' seats'.items };
 
-    fn help<R: Wait>(&self, rt: &R, team: &mut VecDeque<Hand<S::Gear>>) {
-        work(rt, &self.queues, team, &self.signals);
+    fn begin<R: Wait>(&self, rt: &R, team: &mut VecDeque<Hand<S::Gear>>) -> bool {
+        work(rt, &self.queues, team, &self.signals, true);
+        !self.signals.is_over()
     }
 
-    fn lead<R: Wait>(&self, rt: &R, script: &mut S, seats: &mut VecDeque<Submitter<S::Gear>>) {
-        serve(rt, script, &self.queues, seats, &self.signals);
+    fn help<R: Wait>(&self, rt: &R, team: &mut VecDeque<Hand<S::Gear>>) {
+        work(rt, &self.queues, team, &self.signals, false);
+    }
+
+    fn lead<R: Wait>(
+        &self,
+        rt: &R,
+        own: &mut VecDeque<Hand<S::Gear>>,
+        script: &mut S,
+        seats: &mut VecDeque<Submitter<S::Gear>>,
+    ) {
+        serve(rt, script, &self.queues, seats, own, &self.signals);
         self.signals.finish();
     }
 }
@@ -106,6 +128,7 @@ fn serve_beside<S: Script + Send, R: Threads + Wait + Sync>(
     script: &mut S,
     floor: &Floor<Queue<S::Gear>>,
     seats: &mut VecDeque<Submitter<S::Gear>>,
+    own: &mut VecDeque<Hand<S::Gear>>,
     crew: &mut [VecDeque<Hand<S::Gear>>],
 )
 where
@@ -114,15 +137,17 @@ where
     <S::Gear as Engine>::Answer: Send,
     requires can { CanServe S.Gear.meaning S.conduct floor.now.queues.items script.old seats.old.items }
     requires serves { (i : ℕ) (d : _) → i < length crew.old → AllServe floor.now.queues.items (slice_index_or crew.old i d).items }
+    requires own { AllServe floor.now.queues.items own.old.items }
+    ensures own { AllServe floor.now.queues.items own.new.items }
     ensures served { HasServed S.Gear.meaning S.conduct floor.now.queues.items script.old seats.old.items script.new seats.new.items }
     ensures long { length crew.new ≡ length crew.old }
     ensures serves { (i : ℕ) (d : _) → i < length crew.old → AllServe floor.now.queues.items (slice_index_or crew.new i d).items }
 {
     if crew.is_empty() {
-        floor.lead(rt, script, seats);
+        floor.lead(rt, own, script, seats);
         return;
     }
-    all(rt, floor, crew, script, seats);
+    all(rt, floor, crew, own, script, seats);
 }
 
 // Serves the script, with that crew beside it.
@@ -131,6 +156,7 @@ fn serve_with<S: Script + Send, R: Threads + Wait + Sync>(
     script: &mut S,
     floor: &Floor<Queue<S::Gear>>,
     seats: &mut VecDeque<Submitter<S::Gear>>,
+    own: &mut VecDeque<Hand<S::Gear>>,
     crew: &mut Vec<VecDeque<Hand<S::Gear>>>,
 )
 where
@@ -139,21 +165,23 @@ where
     <S::Gear as Engine>::Answer: Send,
     requires can { CanServe S.Gear.meaning S.conduct floor.now.queues.items script.old seats.old.items }
     requires serves { (i : ℕ) (d : _) → i < length crew.old.items → AllServe floor.now.queues.items (slice_index_or crew.old.items i d).items }
+    requires own { AllServe floor.now.queues.items own.old.items }
+    ensures own { AllServe floor.now.queues.items own.new.items }
     ensures served { HasServed S.Gear.meaning S.conduct floor.now.queues.items script.old seats.old.items script.new seats.new.items }
     ensures long { length crew.new.items ≡ length crew.old.items }
     ensures serves { (i : ℕ) (d : _) → i < length crew.old.items → AllServe floor.now.queues.items (slice_index_or crew.new.items i d).items }
 {
-    serve_beside(rt, script, floor, seats, crew.as_mut_slice());
+    serve_beside(rt, script, floor, seats, own, crew.as_mut_slice());
 }
 
-/// Hires the workers, serves the script, and folds all hands in. Without memory for the workers nothing is asked.
+/// Hires the workers, and the script's thread besides, serves the script, and folds all hands in. Without memory for the workers nothing is asked.
 pub(crate) fn employ<S: Script + Send, R: Threads + Wait + Sync>(
     rt: &R,
     alloc: Global,
     script: &mut S,
     queues: VecDeque<Queue<S::Gear>>,
     seats: &mut VecDeque<Submitter<S::Gear>>,
-    workers: usize,
+    workers: u32,
 ) -> (VecDeque<Queue<S::Gear>>, Result<(), AllocError>)
 where
     S::Gear: Send,
@@ -167,11 +195,12 @@ where
     ensures not_served { OnErr result.1 ((script.new ≡ script.old) × SeatsLike seats.old.items seats.new.items) }
 {
     let mut crew = Vec::new(alloc);
-    if let Err(error) = crew.reserve(workers) {
+    let teams = workers as usize + 1;
+    if let Err(error) = crew.reserve(teams) {
         crew.destroy_empty();
         return (queues, Err(error));
     }
-    if let Err(error) = staff(alloc, &queues, seats, &mut crew, workers) {
+    if let Err(error) = staff(alloc, &queues, seats, &mut crew, teams) {
         dismiss(&queues, seats, crew);
         return (queues, Err(error));
     }
@@ -179,7 +208,11 @@ where
         queues,
         signals: Signals::new(),
     };
-    serve_with(rt, script, &floor, seats, &mut crew);
+    let Some(mut own) = crew.pop() else {
+        unreachable!();
+    };
+    serve_with(rt, script, &floor, seats, &mut own, &mut crew);
+    fold(&floor.queues, seats, own);
     dismiss(&floor.queues, seats, crew);
     let Floor { queues, signals: _ } = floor;
     (queues, Ok(()))

@@ -2,10 +2,12 @@
 ghost use Rattle.std.specs.Prelude.{◌≡◌, ◌<◌, ◌≤◌, ◌^◌, length, IfOk, IfErr};
 ghost use Rattle.fj_queue.specs.Cell.{IsNext};
 ghost use Rattle.fj_crew.specs.Seats.{SeatAt, Paired, Submits, Settles};
+ghost use Rattle.fj_crew.specs.Team.{AllServe};
 
 use crate::signals::Signals;
+use crate::workers::first_due;
 use crossbeam_utils::Backoff;
-use fj_queue::{Queue, Submitter};
+use fj_queue::{Hand, Queue, Submitter};
 use fj_slot::{Engine, Refused, Told};
 use std::collections::VecDeque;
 use std::sync::Wait;
@@ -35,20 +37,50 @@ pub(crate) fn submit_at<E: Engine, R: Wait>(
     number
 }
 
-// Waits while the job that is told next is out: for a long one it gives its processor to the workers.
-fn wait_for<E: Engine, R: Wait>(rt: &R, queue: &Queue<E>, signals: &Signals, at: u64) {
+// Works once on another queue, or, where no job seems to be due, waits while the job is out that is told next at that place.
+fn help_or_wait<E: Engine, R: Wait>(
+    rt: &R,
+    queues: &VecDeque<Queue<E>>,
+    own: &mut VecDeque<Hand<E>>,
+    signals: &Signals,
+    at: usize,
+)
+    requires within { at < length queues.now.items }
+    requires serves { AllServe queues.now.items own.old.items }
+    ensures serves { AllServe queues.now.items own.new.items }
+{
+    if let Some(other) = first_due(queues, 0, queues.len()) {
+        let hand = &mut own[other];
+        let _worked = queues[other].work_where_due(rt, hand);
+        return;
+    }
+    let wait = signals.awaits(at as u64);
+    if queues[at].seems_out() {
+        wait.wait(rt);
+    }
+}
+
+// While the job is out that is told next at that place, it works on other queues, or gives its processor to the workers.
+fn wait_for<E: Engine, R: Wait>(
+    rt: &R,
+    queues: &VecDeque<Queue<E>>,
+    own: &mut VecDeque<Hand<E>>,
+    signals: &Signals,
+    at: usize,
+)
+    requires within { at < length queues.now.items }
+    requires serves { AllServe queues.now.items own.old.items }
+    ensures serves { AllServe queues.now.items own.new.items }
+{
     let backoff = Backoff::new();
     for _ in rt.forever() {
-        if !queue.seems_out() {
+        if !queues[at].seems_out() {
             return;
         }
-        if !backoff.is_completed() {
+        if backoff.is_completed() {
+            help_or_wait(rt, queues, own, signals, at);
+        } else {
             backoff.snooze();
-            continue;
-        }
-        let wait = signals.awaits(at);
-        if queue.seems_out() {
-            wait.wait(rt);
         }
     }
     unreachable!()
@@ -59,6 +91,7 @@ pub(crate) fn settle_at<E: Engine, R: Wait>(
     rt: &R,
     queues: &VecDeque<Queue<E>>,
     seats: &mut VecDeque<Submitter<E>>,
+    own: &mut VecDeque<Hand<E>>,
     signals: &Signals,
     at: usize,
 ) -> Told<E>
@@ -66,13 +99,15 @@ pub(crate) fn settle_at<E: Engine, R: Wait>(
     requires paired { Paired queues.now.items seats.old.items }
     requires waits { SeatAt seats.old.items at (λ v. v.heard < v.sent) }
     requires room { SeatAt seats.old.items at (λ v. v.sent ≤ 2 ^ 62) }
+    requires serves { AllServe queues.now.items own.old.items }
+    ensures serves { AllServe queues.now.items own.new.items }
     ensures paired { Paired queues.now.items seats.new.items }
     ensures settles { Settles E.meaning seats.old.items at result seats.new.items }
 {
+    signals.settling(at as u64);
+    wait_for(rt, queues, own, signals, at);
     let queue = &queues[at];
     let seat = &mut seats[at];
-    signals.settling(at as u64);
-    wait_for(rt, queue, signals, at as u64);
     let told = queue.settle(rt, seat);
     signals.ring_if(queue.seems_due());
     told

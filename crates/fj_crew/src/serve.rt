@@ -5,11 +5,12 @@ ghost use Rattle.fj_world.specs.Leading.{LeadsTo};
 ghost use Rattle.fj_world.specs.declared.ask.Ask.TheVariants.{Finished};
 ghost use Rattle.fj_world.specs.Plain.{asked_next};
 ghost use Rattle.fj_crew.specs.Seats.{Paired};
+ghost use Rattle.fj_crew.specs.Team.{AllServe};
 ghost use Rattle.fj_crew.specs.Fits.{NoJobs, SeatsSame, OwesAsSaid, FewJobs, AllAnswered, SomeTold, Begun, CrewGoes, CrewGaveUp};
 
 use crate::seats::{settle_at, submit_at};
 use crate::signals::Signals;
-use fj_queue::{Queue, Submitter};
+use fj_queue::{Hand, Queue, Submitter};
 use fj_world::{Ask, Script};
 use std::collections::VecDeque;
 use std::mem;
@@ -21,6 +22,7 @@ pub(crate) fn serve<S: Script, R: Wait>(
     script: &mut S,
     queues: &VecDeque<Queue<S::Gear>>,
     seats: &mut VecDeque<Submitter<S::Gear>>,
+    own: &mut VecDeque<Hand<S::Gear>>,
     signals: &Signals,
 )
     requires idle { S.conduct.due script.old ≡ Idle }
@@ -28,7 +30,9 @@ pub(crate) fn serve<S: Script, R: Wait>(
     requires few { FewJobs S.conduct script.old seats.old.items }
     requires owed { OwesAsSaid S.conduct script.old seats.old.items }
     requires paired { Paired queues.now.items seats.old.items }
+    requires serves { AllServe queues.now.items own.old.items }
     requires planned { NoJobs seats.old.items ⊎ Begun S.Gear.meaning S.conduct script.old seats.old.items }
+    ensures serves { AllServe queues.now.items own.new.items }
     ensures paired { Paired queues.now.items seats.new.items }
     ensures same { SeatsSame seats.old.items seats.new.items }
     ensures owed { OwesAsSaid S.conduct script.new seats.new.items }
@@ -50,7 +54,7 @@ pub(crate) fn serve<S: Script, R: Wait>(
                 continue;
             }
             Ask::Settle { slot } => {
-                let told = settle_at(rt, queues, seats, signals, slot as usize);
+                let told = settle_at(rt, queues, seats, own, signals, slot as usize);
                 script.told(told);
                 hand = script.ask();
                 continue;

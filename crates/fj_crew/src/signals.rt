@@ -6,6 +6,9 @@ use std::sync::atomic::{AtomicBool, AtomicU64};
 /// No slot.
 const NONE: u64 = u64::MAX;
 
+/// So many short jobs take longer than a thread takes to begin.
+const MANY: u64 = 64;
+
 /// The script's thread tells the workers that there is work, and that it has finished.
 #[derive(Drop)]
 pub(crate) struct Signals {
@@ -18,7 +21,11 @@ pub(crate) struct Signals {
     short: AtomicU64,
     /// The slot of the job that the script's thread waits for.
     awaited: AtomicU64,
-    ends: EventCount,
+    ended: EventCount,
+    /// How many short jobs were submitted.
+    count: AtomicU64,
+    /// Whether all workers are to work: there was a long job, or many. Until then one does.
+    all: AtomicBool,
 }
 
 impl Signals {
@@ -29,7 +36,9 @@ impl Signals {
             looking: AtomicU64::new(0),
             short: AtomicU64::new(NONE),
             awaited: AtomicU64::new(NONE),
-            ends: EventCount::new(),
+            ended: EventCount::new(),
+            count: AtomicU64::new(0),
+            all: AtomicBool::new(false),
         }
     }
 
@@ -50,8 +59,12 @@ impl Signals {
     /// There is a job more at a slot. Of a short one the workers hear by the next ask that is not its settling.
     pub(crate) fn submitted(&self, slot: u64, is_long: bool) {
         if is_long {
+            self.all.store(true, SeqCst);
             self.ring();
             return;
+        }
+        if self.count.fetch_add(1, SeqCst) == MANY {
+            self.all.store(true, SeqCst);
         }
         let earlier = self.short.load(SeqCst);
         self.short.store(slot, SeqCst);
@@ -70,13 +83,13 @@ impl Signals {
     /// The script's thread is about to wait for a job of a slot that is out, before it looks a last time.
     pub(crate) fn awaits(&self, slot: u64) -> Key<'_> {
         self.awaited.store(slot, SeqCst);
-        self.ends.prepare_wait()
+        self.ended.prepare_wait()
     }
 
     /// A worker ended a job of a slot.
     pub(crate) fn ended(&self, slot: u64) {
         if self.awaited.load(SeqCst) == slot {
-            self.ends.notify_one();
+            self.ended.notify_one();
         }
     }
 
@@ -103,5 +116,10 @@ impl Signals {
 
     pub(crate) fn is_over(&self) -> bool {
         self.over.load(SeqCst)
+    }
+
+    /// Whether a worker ends: the first one, for now, also where all are to work.
+    pub(crate) fn ends(&self, first: bool) -> bool {
+        self.is_over() || (first && self.all.load(SeqCst))
     }
 }

@@ -34,8 +34,8 @@ fn hire<E: Engine>(
     }
 }
 
-// Folds the hands in, each at its queue.
-fn fold<E: Engine>(
+/// Folds the hands in, each at its queue.
+pub(crate) fn fold<E: Engine>(
     queues: &VecDeque<Queue<E>>,
     seats: &mut VecDeque<Submitter<E>>,
     mut team: VecDeque<Hand<E>>,
@@ -58,7 +58,11 @@ fn fold<E: Engine>(
 }
 
 // The first of these queues of which a job seems due.
-fn first_due<E: Engine>(queues: &VecDeque<Queue<E>>, from: usize, to: usize) -> Option<usize>
+pub(crate) fn first_due<E: Engine>(
+    queues: &VecDeque<Queue<E>>,
+    from: usize,
+    to: usize,
+) -> Option<usize>
     requires { to ≤ length queues.now.items }
     ensures { IfSome result (λ at. at < length queues.now.items) }
 {
@@ -106,21 +110,22 @@ fn work_at<E: Engine, R: Wait>(
 }
 
 // Waits for work, unless there is some at the last look. It is not counted as looking then: a job that comes later is rung for.
-fn pause<E: Engine, R: Wait>(rt: &R, queues: &VecDeque<Queue<E>>, signals: &Signals) {
+fn pause<E: Engine, R: Wait>(rt: &R, queues: &VecDeque<Queue<E>>, signals: &Signals, first: bool) {
     let wait = signals.prepare();
     let _last = signals.found();
-    if first_due(queues, 0, queues.len()).is_none() && !signals.is_over() {
+    if first_due(queues, 0, queues.len()).is_none() && !signals.ends(first) {
         wait.wait(rt);
     }
     signals.looks();
 }
 
-/// Works until the script has finished.
+/// Works until the script has finished; the first worker at first until others are to work besides.
 pub(crate) fn work<E: Engine, R: Wait>(
     rt: &R,
     queues: &VecDeque<Queue<E>>,
     team: &mut VecDeque<Hand<E>>,
     signals: &Signals,
+    first: bool,
 )
     requires serves { AllServe queues.now.items team.old.items }
     ensures serves { AllServe queues.now.items team.new.items }
@@ -129,7 +134,8 @@ pub(crate) fn work<E: Engine, R: Wait>(
     let backoff = Backoff::new();
     let mut from = 0usize;
     for _ in rt.forever() {
-        if signals.is_over() {
+        if signals.ends(first) {
+            let _last = signals.found();
             return;
         }
         match next_due(queues, from, from.min(queues.len())) {
@@ -143,7 +149,7 @@ pub(crate) fn work<E: Engine, R: Wait>(
             }
             None => {
                 if backoff.is_completed() {
-                    pause(rt, queues, signals);
+                    pause(rt, queues, signals, first);
                     backoff.reset();
                 } else {
                     backoff.snooze();

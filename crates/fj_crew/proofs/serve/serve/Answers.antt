@@ -16,6 +16,7 @@ loop-slot-init g c =
     let m = g.S.Gear.Engine.meaning in let k = g.S.Script.conduct in
     let asks = c.ask-hand.ensures.asks in
     record {
+      serves = c.requires.serves;
       due = asks.due;
       keeps_to = asks.keeps_to;
       gives = c.ask-hand.ensures.gives;
@@ -58,6 +59,7 @@ loop-slot-preserved-in-Submit g c =
     let sends = did.sends found.0 found.1 in
     let kept = kept_by (knows found.0) (knows did.seat) c.submit_at-number.result sends in
     record {
+      serves = inv.serves;
       due = asks.due;
       keeps_to = asks.keeps_to;
       gives = c.ask-hand-in-Submit.ensures.gives;
@@ -94,6 +96,7 @@ loop-slot-preserved g c =
     let numbers = did.numbers found.0 found.1 in
     let owes = inv.owed c.in-Settle.slot found.0 keeps.0 found.1 in
     record {
+      serves = c.settle_at-told.ensures.serves;
       due = asks.due;
       keeps_to = asks.keeps_to;
       gives = c.ask-hand-in-Settle.ensures.gives;

@@ -5,6 +5,7 @@ use Rattle.fj_world.specs.declared.ask.Ask.TheVariants.{Finished}
 use Rattle.fj_world.specs.Leading.{LeadsTo}
 use Rattle.fj_world.specs.Plain.{asked_next}
 use Rattle.fj_crew.specs.Seats.{Paired}
+use Rattle.fj_crew.specs.Team.{AllServe}
 use Rattle.fj_crew.specs.Fits.{SeatsSame, OwesAsSaid, FewJobs, AllAnswered, SomeTold, Begun, CrewGoes, CrewGaveUp}
 use Rattle.fj_crew.proofs.serve.serve.Given as goal
 
@@ -18,6 +19,7 @@ invariant-loop-slot g l = record {
   few : FewJobs g.S.Script.conduct l.script l.seats.items;
   owed : OwesAsSaid g.S.Script.conduct l.script l.seats.items;
   paired : Paired l.queues.items l.seats.items;
+  serves : AllServe l.queues.items l.own.items;
   same : SeatsSame l.fn.seats.items l.seats.items;
   answered : AllAnswered l.fn.seats.items → g.S.Script.conduct.over l.script ≡ false → AllAnswered l.seats.items;
   stopped : g.S.Script.conduct.stopped l.fn.script ≡ false → g.S.Script.conduct.stopped l.script ≡ true → (g.S.Script.conduct.over l.script ≡ true) × SomeTold l.seats.items;
