@@ -3,7 +3,9 @@ ghost use Rattle.std.specs.Prelude.{◌≡◌, ◌<◌, ◌≤◌, [], Some, tru
 ghost use Rattle.std.specs.List.{list_all};
 ghost use Rattle.std.specs.Option.{option_copied};
 ghost use Rattle.fj_list.specs.Copies.{takes_no_memory};
-ghost use Rattle.fj_list.specs.Elements.{elements_of, IsKept};
+ghost use Rattle.std.specs.Borrow.{Lends, sem};
+ghost use Rattle.fj_list.specs.Elements.{elements_of, is_own, IsKept};
+ghost use Rattle.fj_list.specs.declared.elements.Kept.TheVariants.{Own};
 
 use fj_value::{Items, Value};
 use std::alloc::{AllocError, Global};
@@ -47,12 +49,32 @@ impl PlainCopy for Value {
     }
 }
 
-/// Elements of one owner, and whether they are known to be plain; or those that others share, with room for copies of them all: where
-/// they change while others have them, they are copied there, which takes no memory. That room costs next to nothing until then, as
-/// none of it is touched.
+/// Elements of one owner, and whether they are known to be plain. Contracts see them as a list.
 #[derive(Debug, Drop)]
-enum Kept<T> {
-    Own(Items<T>, bool),
+pub struct Owned<T: PlainCopy> {
+    items: Items<T>,
+    plain: bool,
+}
+
+impl<T: PlainCopy> Model for Owned<T> {
+    ghost use Rattle.std.specs.Prelude.{◌≡◌, List, true};
+    ghost use Rattle.std.specs.Coded.{coded_list};
+    ghost use Rattle.std.specs.List.{list_all};
+
+    ghost Value = { List T };
+
+    ghost coded = { coded_list T.code };
+
+    ghost view = { λ owned. owned.items };
+
+    ghost invariant = { λ owned. owned.plain ≡ true → list_all T.plain owned.items ≡ true };
+}
+
+/// Elements of one owner; or those that others share, with room for copies of them all: where they change while others have them,
+/// they are copied there, which takes no memory. That room costs next to nothing until then, as none of it is touched.
+#[derive(Debug, Drop)]
+enum Kept<T: PlainCopy> {
+    Own(Owned<T>),
     Shared(Arc<Items<T>, Global>, Vec<T>),
 }
 
@@ -113,40 +135,145 @@ fn copied<T: PlainCopy + Drop>(items: &[T], room: Vec<T>) -> Items<T>
     Items::from_vec(copies)
 }
 
-/// Puts an element into the place of another, which it answers. They stay plain where it is.
-#[inline(always)]
-fn replace_own<T: PlainCopy + Drop>(items: &mut Items<T>, plain: &mut bool, at: usize, item: T) -> T
-    requires at { at < length items.old }
-    requires plain { plain.old ≡ true → list_all T.plain items.old ≡ true }
-    ensures item { slice_get items.old at ≡ Some result }
-    ensures rest { items.new ≡ slice_set items.old at item }
-    ensures plain { plain.new ≡ true → list_all T.plain items.new ≡ true }
-{
-    if !item.is_plain() {
-        *plain = false;
+impl<T: PlainCopy> Owned<T> {
+    /// These elements, which are not known to be plain.
+    fn of(items: Items<T>) -> Owned<T>
+        ensures { result ≡ items }
+    {
+        Owned {
+            items,
+            plain: false,
+        }
     }
-    items.replace(at, item)
+
+    fn as_slice(&self) -> &[T]
+        ensures { result.now ≡ self.now }
+    {
+        self.items.as_slice()
+    }
+
+    #[inline(always)]
+    pub fn len(&self) -> usize
+        ensures { result ≡ length self.now }
+    {
+        self.items.len()
+    }
+
+    #[inline(always)]
+    pub fn get(&self, at: usize) -> Option<&T>
+        ensures { option_copied result ≡ slice_get self.now at }
+    {
+        self.items.get(at)
+    }
+}
+
+impl<T: PlainCopy + Drop> Owned<T> {
+    /// Puts an element into the place of another, which it answers. They stay plain where it is.
+    #[inline(always)]
+    pub fn replace(&mut self, at: usize, item: T) -> T
+        requires { at < length self.old }
+        ensures item { slice_get self.old at ≡ Some result }
+        ensures rest { self.new ≡ slice_set self.old at item }
+    {
+        if !item.is_plain() {
+            self.plain = false;
+        }
+        self.items.replace(at, item)
+    }
+}
+
+impl<T: PlainCopy> Kept<T> {
+    fn allocator(&self) -> Global {
+        match self {
+            Kept::Own(owned) => owned.items.allocator(),
+            Kept::Shared(_, spare) => *spare.allocator(),
+        }
+    }
+}
+
+impl<T: PlainCopy> Kept<T> {
+    ghost use Rattle.fj_list.specs.contracts.elements.Kept.{the_row};
+    ghost use Rattle.fj_list.specs.contracts.elements.Owned.{the_row as owned_row};
+
+    /// The elements of one owner.
+    #[inline(always)]
+    fn owned_mut(&mut self) -> &mut Owned<T>
+        requires { is_own self.old ≡ true }
+        ensures* writes_back { sem 𝓛 (Lends (the_row T.row T.PlainCopy) (owned_row T.row T.PlainCopy) self.entry result Own) }
+        ensures value { result.now ≡ elements_of self.old }
+    {
+        match self {
+            Kept::Own(owned) => owned,
+            Kept::Shared(_, _) => unreachable!(),
+        }
+    }
+}
+
+impl<T: PlainCopy + Drop> Kept<T> {
+    /// The elements by themselves. It takes no memory.
+    fn apart(self) -> Owned<T>
+        requires { IsKept T.plain self }
+        ensures { result ≡ elements_of self }
+    {
+        match self {
+            Kept::Own(owned) => owned,
+            Kept::Shared(items, spare) => {
+                let items = match Arc::try_unwrap(items) {
+                    Ok(items) => items,
+                    Err(items) => copied(items.as_slice(), spare),
+                };
+                Owned { items, plain: true }
+            }
+        }
+    }
+
+    /// Takes the elements out, which leaves none.
+    #[inline(never)]
+    fn take(&mut self) -> Owned<T>
+        requires { IsKept T.plain self.old }
+        ensures taken { result ≡ elements_of self.old }
+        ensures left { IsKept T.plain self.new }
+    {
+        let nothing = Kept::Own(Owned::of(Items::new(self.allocator())));
+        std::mem::replace(self, nothing).apart()
+    }
+
+    /// Makes elements that may be shared those of one owner. It takes no memory.
+    #[inline(always)]
+    fn unshare(&mut self)
+        requires { IsKept T.plain self.old }
+        ensures same { elements_of self.new ≡ elements_of self.old }
+        ensures own { is_own self.new ≡ true }
+    {
+        if let Kept::Shared(_, _) = self {
+            *self = Kept::Own(self.take());
+        }
+    }
 }
 
 /// What is kept of elements that are to be shared; where they are not plain they are not.
 fn kept_to_share<T: PlainCopy + Drop>(
     alloc: Global,
-    items: Items<T>,
-    plain: bool,
+    owned: Owned<T>,
     spare: Vec<T>,
 ) -> (Kept<T>, Result<(), AllocError>)
-    requires plain { plain ≡ true → list_all T.plain items ≡ true }
     requires none { spare.items ≡ [] }
-    requires room { length items ≤ vec_capacity spare }
-    ensures items { elements_of result.0 ≡ items }
+    requires room { length owned ≤ vec_capacity spare }
+    ensures items { elements_of result.0 ≡ owned }
     ensures kept { IsKept T.plain result.0 }
 {
-    if !plain {
-        return (Kept::Own(items, plain), Ok(()));
+    if !owned.plain {
+        return (Kept::Own(owned), Ok(()));
     }
-    match Arc::new(alloc, items) {
+    match Arc::new(alloc, owned.items) {
         Ok(items) => (Kept::Shared(items, spare), Ok(())),
-        Err(refused) => (Kept::Own(refused.value, plain), Err(AllocError)),
+        Err(refused) => (
+            Kept::Own(Owned {
+                items: refused.value,
+                plain: true,
+            }),
+            Err(AllocError),
+        ),
     }
 }
 
@@ -156,7 +283,7 @@ impl<T: PlainCopy> Elements<T> {
         ensures { result ≡ items }
     {
         Elements {
-            kept: Kept::Own(items, false),
+            kept: Kept::Own(Owned::of(items)),
         }
     }
 
@@ -166,7 +293,7 @@ impl<T: PlainCopy> Elements<T> {
     {
         let plain = are_plain(items.as_slice());
         Elements {
-            kept: Kept::Own(items, plain),
+            kept: Kept::Own(Owned { items, plain }),
         }
     }
 
@@ -189,60 +316,32 @@ impl<T: PlainCopy> Elements<T> {
         ensures { result.now ≡ self.now }
     {
         match &self.kept {
-            Kept::Own(items, _) => items.as_slice(),
+            Kept::Own(owned) => owned.as_slice(),
             Kept::Shared(items, _) => items.as_slice(),
         }
     }
 }
 
 impl<T: PlainCopy + Drop> Elements<T> {
-    /// The elements by themselves, and whether they are known to be plain. It takes no memory.
-    fn apart(self) -> (Items<T>, bool)
-        ensures items { result.0 ≡ self }
-        ensures plain { result.1 ≡ true → list_all T.plain result.0 ≡ true }
-    {
-        match self.kept {
-            Kept::Own(items, plain) => (items, plain),
-            Kept::Shared(items, spare) => match Arc::try_unwrap(items) {
-                Ok(items) => (items, true),
-                Err(items) => (copied(items.as_slice(), spare), true),
-            },
-        }
-    }
+    ghost use Rattle.fj_list.specs.contracts.elements.Elements.{the_row};
+    ghost use Rattle.fj_list.specs.contracts.elements.Owned.{the_row as owned_row};
 
     /// The elements by themselves. It takes no memory.
     pub fn into_items(self) -> Items<T>
         ensures { result ≡ self }
     {
-        self.apart().0
+        self.kept.apart().items
     }
 
-    /// Takes the elements out, which leaves none.
-    fn take(&mut self) -> (Items<T>, bool)
-        ensures items { result.0 ≡ self.old }
-        ensures plain { result.1 ≡ true → list_all T.plain result.0 ≡ true }
+    /// The elements as those of one owner, which may be changed. It takes no memory.
+    #[inline(always)]
+    pub fn owned_mut(&mut self) -> &mut Owned<T>
+        ensures* writes_back { sem 𝓛 (Lends (the_row T.row T.PlainCopy) (owned_row T.row T.PlainCopy) self.entry result (λ w. w)) }
+        ensures value { result.now ≡ self.old }
     {
-        let alloc = match &self.kept {
-            Kept::Own(items, _) => items.allocator(),
-            Kept::Shared(_, spare) => *spare.allocator(),
-        };
-        let nothing = Elements::of(Items::new(alloc));
-        std::mem::replace(self, nothing).apart()
-    }
-
-    /// Puts an element into the place of another, which it answers, where they may be shared. It takes no memory.
-    #[inline(never)]
-    fn replace_shared(&mut self, at: usize, item: T) -> T
-        requires { at < length self.old }
-        ensures item { slice_get self.old at ≡ Some result }
-        ensures rest { self.new ≡ slice_set self.old at item }
-    {
-        let (mut items, mut plain) = self.take();
-        let old = replace_own(&mut items, &mut plain, at, item);
-        *self = Elements {
-            kept: Kept::Own(items, plain),
-        };
-        old
+        let kept = &mut self.kept;
+        kept.unshare();
+        kept.owned_mut()
     }
 
     /// Puts an element into the place of another, which it answers. It takes no memory.
@@ -252,10 +351,7 @@ impl<T: PlainCopy + Drop> Elements<T> {
         ensures item { slice_get self.old at ≡ Some result }
         ensures rest { self.new ≡ slice_set self.old at item }
     {
-        match &mut self.kept {
-            Kept::Own(items, plain) => replace_own(items, plain, at, item),
-            Kept::Shared(_, _) => self.replace_shared(at, item),
-        }
+        self.owned_mut().replace(at, item)
     }
 
     /// The same elements once more, which have this room for copies; none where they are not shared, or have too many owners.
@@ -265,7 +361,7 @@ impl<T: PlainCopy + Drop> Elements<T> {
         ensures { IfSome result (λ elements. elements ≡ self.now) }
     {
         match &self.kept {
-            Kept::Own(_, _) => None,
+            Kept::Own(_) => None,
             Kept::Shared(items, _) => match Arc::try_clone(items) {
                 Ok(items) => Some(Elements {
                     kept: Kept::Shared(items, spare),
@@ -283,9 +379,8 @@ impl<T: PlainCopy + Drop> Elements<T> {
             return Ok(());
         }
         let spare = room_for(alloc, self.len())?;
-        let (items, plain) = self.take();
-        let (kept, done) = kept_to_share(alloc, items, plain, spare);
-        *self = Elements { kept };
+        let (kept, done) = kept_to_share(alloc, self.kept.take(), spare);
+        self.kept = kept;
         done
     }
 
@@ -294,8 +389,10 @@ impl<T: PlainCopy + Drop> Elements<T> {
         ensures same { self.new ≡ self.old }
         ensures shared { IfOk result (λ o. IfSome o (λ elements. elements ≡ self.old)) }
     {
-        if let Kept::Own(_, false) = &self.kept {
-            return Ok(None);
+        if let Kept::Own(owned) = &self.kept {
+            if !owned.plain {
+                return Ok(None);
+            }
         }
         let spare = room_for(alloc, self.len())?;
         self.prepare(alloc)?;

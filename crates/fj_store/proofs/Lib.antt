@@ -2,6 +2,7 @@ pub mod CopyLemmas
 pub mod LawLemmas
 pub mod ListLemmas
 pub mod PlaceLemmas
+pub mod RowLemmas
 pub mod RunLemmas
 pub mod SlotLemmas
 pub mod StoreLemmas

@@ -1,32 +1,14 @@
 -- Tables read at a place, after a write.
-use Rattle.std.proofs.Common.{◌≡◌, ◌⊎◌, ℕ, zero, suc, ◌<◌, ◌≤◌, get_or, true, false, List, length, map, Option, Some, None, slice_get, set, refl, sym, ap, subst, ◌∙◌, inl, inr}
+use Rattle.std.proofs.Common.{◌≡◌, ◌⊎◌, ℕ, zero, suc, ◌<◌, ltb, get_or, true, false, List, length, map, Option, Some, None, slice_get, set, refl, sym, ap, subst, ◌∙◌, inl, inr, arith}
 use Rattle.std.proofs.lemmas.List.{map-set}
 use Rattle.std.proofs.lemmas.Option.{slice_get-map, slice_get_past, slice_get_read}
 use Rattle.std.proofs.lemmas.Bool.{false≢true}
-use Rattle.std.proofs.lemmas.Bool.Decides.{eqb_tells}
+use Rattle.std.proofs.lemmas.Bool.Decides.{eqb_tells, nat_tests}
 use Rattle.std.specs.Option.{option_map, option_map_or, option_and_then}
 use Rattle.fj_value.specs.declared.place.Place.{Place}
 use Rattle.fj_store.specs.Places.{same_place}
 use Rattle.fj_store.specs.Tables.{element_in, element_at, row_with, with_element}
 use Rattle.fj_store.proofs.ListLemmas.{set_same, set_other, set_missing, set_itself, set_twice, set_swap}
-
--- ---- what `Table::replace` does, by cases
-
-pub no_index : {T : Type 0} → (rows : List (List T)) (p : Place) (x : T) → p.index ≡ 0 → (element_at rows p ≡ None) × (with_element rows p x ≡ rows)
-no_index {T} rows p x zeroth =
-    let go : (o : Option (List T)) → slice_get rows p.var ≡ o → (option_and_then (element_in p.index) o ≡ None) × (option_map_or (λ row. set rows p.var (row_with p.index x row)) o rows ≡ rows) =
-    λ o. elim o as (λ z. slice_get rows p.var ≡ z → (option_and_then (element_in p.index) z ≡ None) × (option_map_or (λ row. set rows p.var (row_with p.index x row)) z rows ≡ rows)) [
-      | None ↦ λ e. (refl, refl)
-      | Some row ↦ λ e. (rw zeroth refl, rw zeroth (set_itself rows p.var row e))
-    ] in
-    go (slice_get rows p.var) refl
-
-pub no_variable : {T : Type 0} → (rows : List (List T)) (p : Place) (x : T) → slice_get rows p.var ≡ None → (element_at rows p ≡ None) × (with_element rows p x ≡ rows)
-no_variable rows p x e = (rw e refl, rw e refl)
-
-pub found : {T : Type 0} → (rows : List (List T)) (row : List T) (p : Place) (x : T) (at : ℕ) → slice_get rows p.var ≡ Some row → p.index ≡ suc at
-    → (element_at rows p ≡ slice_get row at) × (with_element rows p x ≡ set rows p.var (set row at x))
-found rows row p x at e is = (rw (e, is) refl, rw (e, is) refl)
 
 -- ---- rows
 
@@ -44,7 +26,7 @@ row_itself : {T : Type 0} → (n : ℕ) (row : List T) (x : T) → element_in n 
 row_itself zero row x e = refl
 row_itself (suc n) row x e = set_itself row n x e
 
-row_missing : {T : Type 0} → (n : ℕ) (row : List T) (x : T) → element_in n row ≡ None → row_with n x row ≡ row
+pub row_missing : {T : Type 0} → (n : ℕ) (row : List T) (x : T) → element_in n row ≡ None → row_with n x row ≡ row
 row_missing zero row x e = refl
 row_missing (suc n) row x e = set_missing row n x e
 
@@ -163,29 +145,20 @@ mapped_with {T} {U} f rows p x =
 
 -- ---- the same, of the rows that were read
 
-pub past_rows : {T : Type 0} → (items rows : List (List T)) (p : Place) → items ≡ rows → length items ≤ p.var → None ≡ element_at rows p
-past_rows items rows p same past =
-    let e : slice_get rows p.var ≡ None = ap (λ z. slice_get z p.var) (sym same) ∙ slice_get_past items p.var past in
-    rw e refl
+pub past_rows : {T : Type 0} → (rows : List T) (var : ℕ) → false ≡ ltb var (length rows) → slice_get rows var ≡ None
+past_rows rows var past = slice_get_past rows var (grind (arith, nat_tests))
 
 pub row_read : {T : Type 0} → (items rows : List (List T)) (p : Place) (row : List T) → items ≡ rows → p.var < length items → row ≡ get_or items p.var row → slice_get rows p.var ≡ Some row
 row_read {T} items rows p row same in_rows e =
     let P : List (List T) → Type 0 = λ z. slice_get z p.var ≡ Some row in
     subst P same (slice_get_read items (length items) p.var row refl in_rows e)
 
-pub past_row : {T : Type 0} → (rows : List (List T)) (row : List T) (p : Place) (x : T) (at : ℕ) → slice_get rows p.var ≡ Some row → p.index ≡ suc at → length row ≤ at
-    → (None ≡ element_at rows p) × (rows ≡ with_element rows p x)
-past_row rows row p x at e is past =
-    let none : slice_get row at ≡ None = slice_get_past row at past in
-    let missing : element_at rows p ≡ None = (found rows row p x at e is).0 ∙ none in
-    (sym missing, sym (with_missing rows p x missing))
-
 -- ---- two writes
 
-with_found : {T : Type 0} → (rows : List (List T)) (p : Place) (x : T) (row : List T) → slice_get rows p.var ≡ Some row → with_element rows p x ≡ set rows p.var (row_with p.index x row)
+pub with_found : {T : Type 0} → (rows : List (List T)) (p : Place) (x : T) (row : List T) → slice_get rows p.var ≡ Some row → with_element rows p x ≡ set rows p.var (row_with p.index x row)
 with_found rows p x row e = rw e refl
 
-with_lost : {T : Type 0} → (rows : List (List T)) (p : Place) (x : T) → slice_get rows p.var ≡ None → with_element rows p x ≡ rows
+pub with_lost : {T : Type 0} → (rows : List (List T)) (p : Place) (x : T) → slice_get rows p.var ≡ None → with_element rows p x ≡ rows
 with_lost rows p x e = rw e refl
 
 pub row_tells : {R : Type 0} → (o : Option R) → (o ≡ None) ⊎ ((r : R) × (o ≡ Some r))

@@ -25,7 +25,7 @@ use Rattle.fj_store.specs.Tables.{element_at, with_element}
 use Rattle.fj_store.specs.Variables.{is_at, with_item, moved_from, moved_of}
 use Rattle.fj_store.specs.Storage.{Storage, storage, value_in, cell_at, emptied, without}
 use Rattle.fj_store.specs.declared.taken.Taken.{Taken}
-use Rattle.fj_store.specs.Taking.{Taking, HasRoom, IsMarked, IsMarkedAt, mark_of, cell_read, value_read, values_in, items_in, taking, take_one, take_all, take_runs}
+use Rattle.fj_store.specs.Taking.{Taking, HasRoom, IsMarked, IsMarkedAt, MarkTells, mark_of, cell_read, value_read, values_in, items_in, taking, take_one, take_all, take_runs}
 use Rattle.fj_list.proofs.MovedLemmas.{same_back}
 use Rattle.fj_store.proofs.TableLemmas.{same_fields, at_same, at_other, places_tell, with_missing, mapped_at, mapped_with}
 
@@ -76,26 +76,29 @@ marked_here slots cells p mark m var is found =
     ] in
     go (element_at slots p) refl is
 
-pub marked_found : (slots : List (List Slot)) (cells : List Cell) (p : Place) (mark : ℕ) (cell : Cell) → IsMarked slots cells → (p.var ≡ no_variable → ⊥) → Some mark ≡ option_map mark_of (element_at slots p) → mark < length cells
-    → same_place p (get_or cells mark cell).place ≡ true → mark ≡ position_or_len (is_at p) cells
-marked_found slots cells p mark cell m var there low same =
-    let first : position_or_len (is_at p) cells ≤ mark = position_before (is_at p) cells mark cell same in
-    marked_here slots cells p mark m var there (omega (arith, first, low))
+pub marked_tells : (slots : List (List Slot)) (cells : List Cell) (p : Place) (mark : Option ℕ) → IsMarked slots cells → mark ≡ option_map mark_of (element_at slots p) → MarkTells mark cells p
+marked_tells slots cells p mark m is = λ k some var found. marked_here slots cells p k m var (sym some ∙ is) found
 
-pub marked_other : (slots : List (List Slot)) (cells : List Cell) (p : Place) (mark : ℕ) (cell : Cell) → IsMarked slots cells → (p.var ≡ no_variable → ⊥) → Some mark ≡ option_map mark_of (element_at slots p) → mark < length cells
-    → same_place p (get_or cells mark cell).place ≡ false → length cells ≡ position_or_len (is_at p) cells
-marked_other slots cells p mark cell m var there low differ = elim (cases_lt (position_or_len (is_at p) cells) (length cells)) [
+pub marked_found : (cells : List Cell) (p : Place) (mark : Option ℕ) (k : ℕ) (cell : Cell) → MarkTells mark cells p → (p.var ≡ no_variable → ⊥) → mark ≡ Some k → k < length cells
+    → same_place p (get_or cells k cell).place ≡ true → k ≡ position_or_len (is_at p) cells
+marked_found cells p mark k cell tells var there low same =
+    let first : position_or_len (is_at p) cells ≤ k = position_before (is_at p) cells k cell same in
+    tells k there var (omega (arith, first, low))
+
+pub marked_other : (cells : List Cell) (p : Place) (mark : Option ℕ) (k : ℕ) (cell : Cell) → MarkTells mark cells p → (p.var ≡ no_variable → ⊥) → mark ≡ Some k → k < length cells
+    → same_place p (get_or cells k cell).place ≡ false → length cells ≡ position_or_len (is_at p) cells
+marked_other cells p mark k cell tells var there low differ = elim (cases_lt (position_or_len (is_at p) cells) (length cells)) [
   | inl found ↦
-      let is : mark ≡ position_or_len (is_at p) cells = marked_here slots cells p mark m var there found in
-      let passes : is_at p (get_or cells mark cell) ≡ true = ap (λ k. is_at p (get_or cells k cell)) is ∙ passes_at_first (is_at p) cells cell found in
+      let is : k ≡ position_or_len (is_at p) cells = tells k there var found in
+      let passes : is_at p (get_or cells k cell) ≡ true = ap (λ i. is_at p (get_or cells i cell)) is ∙ passes_at_first (is_at p) cells cell found in
       absurd (false≢true (sym differ ∙ passes))
   | inr past ↦ let low : position_or_len (is_at p) cells ≤ length cells = position_low (is_at p) cells in omega (arith, past, low)
 ]
 
-pub marked_past : (slots : List (List Slot)) (cells : List Cell) (p : Place) (mark : ℕ) → IsMarked slots cells → (p.var ≡ no_variable → ⊥) → Some mark ≡ option_map mark_of (element_at slots p) → length cells ≤ mark
+pub marked_past : (cells : List Cell) (p : Place) (mark : Option ℕ) (k : ℕ) → MarkTells mark cells p → (p.var ≡ no_variable → ⊥) → mark ≡ Some k → length cells ≤ k
     → length cells ≡ position_or_len (is_at p) cells
-marked_past slots cells p mark m var there past = elim (cases_lt (position_or_len (is_at p) cells) (length cells)) [
-  | inl found ↦ let is : mark ≡ position_or_len (is_at p) cells = marked_here slots cells p mark m var there found in absurd (omega (arith, is, found, past))
+marked_past cells p mark k tells var there past = elim (cases_lt (position_or_len (is_at p) cells) (length cells)) [
+  | inl found ↦ let is : k ≡ position_or_len (is_at p) cells = tells k there var found in absurd (omega (arith, is, found, past))
   | inr high ↦ let low : position_or_len (is_at p) cells ≤ length cells = position_low (is_at p) cells in omega (arith, high, low)
 ]
 

@@ -3,6 +3,7 @@ pub mod Kinds
 pub mod Laws
 pub mod Pieces
 pub mod Places
+pub mod Rows
 pub mod Slots
 pub mod Storage
 pub mod Tables

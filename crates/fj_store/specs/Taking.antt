@@ -66,6 +66,10 @@ mark_of (Out mark) = mark
 pub record IsMarked (slots : List (List Slot)) (cells : List Cell) : Type 0 where
   pub marked : (p : Place) (x : Slot) → (p.var ≡ no_variable → ⊥) → element_at slots p ≡ Some x → position_or_len (is_at p) cells < length cells → mark_of x ≡ position_or_len (is_at p) cells
 
+-- the mark of a place is the number of its cell, if it has one
+abbrev pub MarkTells : Option ℕ → List Cell → Place → Type 0
+MarkTells mark cells p = (m : ℕ) → mark ≡ Some m → (p.var ≡ no_variable → ⊥) → position_or_len (is_at p) cells < length cells → m ≡ position_or_len (is_at p) cells
+
 -- one place is marked, and nothing else has changed but its value
 pub record IsMarkedAt (old new : List (List Slot)) (place : Place) (at : ℕ) : Type 0 where
   pub here : (x : Slot) → element_at new place ≡ Some x → mark_of x ≡ at

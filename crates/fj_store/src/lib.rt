@@ -7,6 +7,7 @@ mod kinds;
 mod laws;
 mod lent;
 mod piece;
+mod rows;
 mod run;
 mod runs;
 mod slot;

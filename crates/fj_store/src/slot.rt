@@ -73,9 +73,32 @@ impl Slot {
     }
 }
 
+/// How many values are looked at before the answer is.
+const LOOKED_AT: usize = 64;
+
+/// Whether one of some values is undefined. It looks at all of them.
+#[inline(always)]
+fn any_of_few(values: &[Value]) -> bool
+    ensures { result ≡ list_any is_undefined values.now }
+{
+    let mut any = false;
+    for value in values {
+        any |= matches!(value, Value::Undefined);
+    }
+    any
+}
+
 /// Whether one of some values is undefined.
 pub(crate) fn any_undefined(values: &[Value]) -> bool
     ensures { result ≡ list_any is_undefined values.now }
 {
-    values.iter().any(|value| matches!(value, Value::Undefined))
+    let mut rest = values;
+    'looking: while rest.len() > LOOKED_AT {
+        let (few, others) = rest.split_at(LOOKED_AT);
+        if any_of_few(few) {
+            return true;
+        }
+        rest = others;
+    }
+    any_of_few(rest)
 }

@@ -1,23 +1,28 @@
 // What stands at the places of the variables: the values of each one behind the other, and apart from them the marks.
-ghost use Rattle.std.specs.Prelude.{◌≡◌, ◌<◌, ℕ, true, map, is_none, replicate, Some, IfSome, IfNone, IfOk};
+ghost use Rattle.std.specs.Prelude.{◌≡◌, ◌+◌, ◌<◌, ◌≤◌, ◌∷◌, ◌++◌, [], ℕ, List, true, length, map, is_none, replicate, Some, IfSome, IfNone, IfOk};
 ghost use Rattle.std.specs.List.{list_any};
-ghost use Rattle.std.specs.Option.{option_copied, option_flatten, option_map, option_map_or};
+ghost use Rattle.std.specs.Option.{option_copied, option_flatten, option_map, option_to_list};
 ghost use Rattle.fj_value.specs.declared.kind.Kind.{Kind as AnyKind};
 ghost use Rattle.fj_value.specs.declared.value.Value.TheVariants.{Undefined};
 ghost use Rattle.fj_store.specs.Places.{places_of};
 ghost use Rattle.fj_store.specs.Slots.{all_read};
 ghost use Rattle.fj_store.specs.Storage.{value_in};
-ghost use Rattle.fj_store.specs.Tables.{element_at, with_element};
-ghost use Rattle.fj_store.specs.Taking.{mark_of, value_read};
+ghost use Rattle.fj_list.specs.Load.{row_cells};
+ghost use Rattle.fj_store.specs.Kinds.{kind_at};
+ghost use Rattle.fj_store.specs.Tables.{element_at, with_cells, with_element};
+ghost use Rattle.fj_store.specs.Taking.{HasRoom, IsMarked, home, mark_of, take_all, taking};
 ghost use Rattle.fj_store.specs.declared.slot.Mark.TheVariants as marked;
-ghost use Rattle.fj_store.specs.declared.slot.Slot.TheVariants.{Home, Out};
+ghost use Rattle.fj_store.specs.declared.slot.Slot.TheVariants.{Home};
 
+use crate::rows::{put_cells, put_values, take_run};
 use crate::run::Run;
 use crate::slot::{Mark, Slot};
 use crate::table::Table;
+use crate::taken::{Taken, take_missing};
 use fj_list::Elements;
-use fj_value::{Items, Kind, Place, Value};
+use fj_value::{Cell, Items, Kind, Place, Value};
 use std::alloc::{AllocError, Global};
+use std::collections::VecDeque;
 use std::marker::Model;
 
 /// By variable, what stands at each of its places. Contracts see it as a list of lists.
@@ -136,19 +141,54 @@ impl Slots {
         self.marks.put(place, mark);
     }
 
-    /// Moves the value of a place out, and marks the place. Where there is no such place nothing changes; the value is undefined then, and
-    /// where it is moved out already.
-    #[inline(always)]
-    pub(crate) fn take(&mut self, place: Place, number: u32) -> Value
-        ensures value { result ≡ option_map_or value_read (element_at self.old place) Undefined }
-        ensures new { self.new ≡ with_element self.old place (Out number) }
+    /// Takes the places of a run out, one behind the other.
+    pub(crate) fn take_run(&mut self, kind: Kind, run: Run, taken: &mut Taken)
+        requires room { HasRoom taken.old run.count }
+        requires marked { IsMarked self.old taken.old.cells.items }
+        ensures taken { taking self.new taken.new ≡ take_all kind (taking self.old taken.old) (places_of run) }
+        ensures marked { IsMarked self.new taken.new.cells.items }
+        ensures room { (n : ℕ) → HasRoom taken.old (run.count + n) → HasRoom taken.new n }
     {
-        match self.values.replace(place, Value::Undefined) {
-            Some(value) => {
-                self.marks.put(place, Mark::Out(number));
-                value
-            }
-            None => Value::Undefined,
+        if !self.marks.has(run.var) {
+            take_missing(kind, run, taken);
+            return;
         }
+        let marks = self.marks.row_mut(run.var);
+        let values = self.values.row_mut(run.var);
+        take_run(marks, values, kind, run, taken);
+    }
+
+    /// Puts the value of a cell back, and those of cells behind it that are of the same variable. Answers the first one that was not put
+    /// back.
+    pub(crate) fn put_cells(
+        &mut self,
+        kind: Kind,
+        cell: Cell,
+        rest: &mut VecDeque<Cell>,
+    ) -> Option<Cell>
+        ensures put { (kinds : List AnyKind) → kind ≡ kind_at kinds cell.place.var → with_cells (home kinds) (option_to_list result ++ rest.new.items) self.new ≡ with_cells (home kinds) (cell ∷ rest.old.items) self.old }
+        ensures last { IfNone result (rest.new.items ≡ []) }
+        ensures fewer { length (option_to_list result) + length rest.new.items ≤ length rest.old.items }
+    {
+        let var = cell.place.var;
+        if !self.marks.has(var) {
+            return rest.pop_front();
+        }
+        let marks = self.marks.row_mut(var);
+        let values = self.values.row_mut(var);
+        put_cells(marks, values, kind, cell, rest)
+    }
+
+    /// Puts values back, one behind the other from a place on.
+    pub(crate) fn put_values(&mut self, kind: Kind, first: Place, row: Items<Value>)
+        requires { first.index + length row < 4294967297 }
+        ensures { (kinds : List AnyKind) (of : AnyKind) → kind ≡ kind_at kinds first.var → self.new ≡ with_cells (home kinds) (row_cells first of row) self.old }
+    {
+        if !self.marks.has(first.var) {
+            return;
+        }
+        let marks = self.marks.row_mut(first.var);
+        let values = self.values.row_mut(first.var);
+        put_values(marks, values, kind, first, row);
     }
 }

@@ -49,14 +49,10 @@ impl Model for Store {
 fn put_back(slots: &mut Slots, kinds: &[Kind], cells: Vec<Cell>)
     ensures { slots.new ≡ with_cells (home kinds.now) cells.items slots.old }
 {
-    for cell in cells {
-        let Cell {
-            place,
-            kind: _,
-            value,
-        } = cell;
-        let value = of_kind(kind_in(kinds, place.var), value);
-        slots.put(place, Slot::Home(0, value));
+    let mut rest = VecDeque::from_vec(cells);
+    let mut next = rest.pop_front();
+    'putting: while let Some(cell) = next {
+        next = slots.put_cells(kind_in(kinds, cell.place.var), cell, &mut rest);
     }
 }
 
@@ -69,16 +65,7 @@ fn put_row(slots: &mut Slots, kinds: &[Kind], row: Row)
         kind: _,
         values,
     } = row;
-    let kind = kind_in(kinds, first.var);
-    let mut at = 0;
-    for value in values.into_items().into_vec() {
-        let place = Place {
-            var: first.var,
-            index: first.index + at as u32,
-        };
-        slots.put(place, Slot::Home(0, of_kind(kind, value)));
-        at += 1u64;
-    }
+    slots.put_values(kind_in(kinds, first.var), first, values.into_items());
 }
 
 impl Store {

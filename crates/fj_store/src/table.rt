@@ -1,12 +1,15 @@
 // Tables with an element at each place of each variable.
-ghost use Rattle.std.specs.Prelude.{◌≡◌, ◌<◌, [], ◌∷◌, ◌++◌, true, length, map, is_none, Some, IfSome, IfNone, IfOk, OnOk, OnErr};
+ghost use Rattle.std.specs.Prelude.{◌≡◌, ◌<◌, suc, ltb, [], ◌∷◌, ◌++◌, true, length, map, is_none, Some, None, IfSome, IfNone, IfOk, OnOk, OnErr, slice_get, slice_set};
+ghost use Rattle.std.specs.Borrow.{Lends, sem};
+ghost use Rattle.fj_list.specs.contracts.elements.Owned.{the_row as owned_row};
+ghost use Rattle.fj_store.specs.contracts.table.Table.{the_row};
 ghost use Rattle.std.specs.List.{list_any};
 ghost use Rattle.std.specs.Option.{option_copied};
 ghost use Rattle.fj_store.specs.Places.{places_of};
-ghost use Rattle.fj_store.specs.Tables.{element_at, with_element};
+ghost use Rattle.fj_store.specs.Tables.{element_at, element_in, row_with, with_element};
 
 use crate::run::Run;
-use fj_list::{Elements, PlainCopy};
+use fj_list::{Elements, Owned, PlainCopy};
 use fj_value::Place;
 use std::alloc::{AllocError, Global};
 use std::marker::Model;
@@ -28,6 +31,52 @@ impl<T: PlainCopy> Model for Table<T> {
     ghost view = { λ table. table.rows.items };
 }
 
+/// What stands at an index of a row, of which the first is 1.
+#[inline(always)]
+pub(crate) fn get_in<T: PlainCopy>(row: &Owned<T>, index: u32) -> Option<&T>
+    ensures { option_copied result ≡ element_in index row.now }
+{
+    let at = index.checked_sub(1)?;
+    row.get(at as usize)
+}
+
+/// Where an index is in a row, if there is such an index.
+#[inline(always)]
+pub(crate) fn position_in<T: PlainCopy>(row: &Owned<T>, index: u32) -> Option<usize>
+    ensures some { IfSome result (λ at. (at < length row.now) × (index ≡ suc at)) }
+    ensures none { IfNone result (element_in index row.now ≡ None) }
+{
+    let at = index.checked_sub(1)? as usize;
+    if at < row.len() { Some(at) } else { None }
+}
+
+/// Puts an element at an index of a row, and answers the one that stood there. Where there is no such index nothing changes.
+#[inline(always)]
+pub(crate) fn replace_in<T: PlainCopy + Drop>(
+    row: &mut Owned<T>,
+    index: u32,
+    element: T,
+) -> Option<T>
+    ensures old { result ≡ element_in index row.old }
+    ensures new { row.new ≡ row_with index element row.old }
+{
+    match position_in(row, index) {
+        Some(at) => Some(row.replace(at, element)),
+        None => None,
+    }
+}
+
+/// Puts an element at an index of a row, and drops the one that stood there. Where there is no such index nothing changes.
+#[inline(always)]
+pub(crate) fn put_in<T: PlainCopy + Drop>(row: &mut Owned<T>, index: u32, element: T)
+    ensures { row.new ≡ row_with index element row.old }
+{
+    let _ = match position_in(row, index) {
+        Some(at) => row.replace(at, element),
+        None => element,
+    };
+}
+
 impl<T: PlainCopy> Table<T> {
     /// A table of no variables.
     pub fn new(alloc: Global) -> Table<T>
@@ -36,6 +85,13 @@ impl<T: PlainCopy> Table<T> {
         Table {
             rows: Vec::new(alloc),
         }
+    }
+
+    /// Whether it has a variable.
+    pub(crate) fn has(&self, var: u32) -> bool
+        ensures { result ≡ ltb var (length self.now) }
+    {
+        (var as usize) < self.rows.len()
     }
 
     /// What stands at a place, if it has such a place.
@@ -72,23 +128,25 @@ impl<T: PlainCopy + Drop> Table<T> {
         Ok(())
     }
 
+    /// What stands at the places of a variable, to be changed. It takes no memory.
+    #[inline(always)]
+    pub(crate) fn row_mut(&mut self, var: u32) -> &mut Owned<T>
+        requires { var < length self.old }
+        ensures* writes_back { sem 𝓛 (Lends (the_row T.row T.PlainCopy) (owned_row T.row T.PlainCopy) self.entry result (slice_set self.old var)) }
+        ensures value { slice_get self.old var ≡ Some result.now }
+    {
+        self.rows[var as usize].owned_mut()
+    }
+
     /// Puts an element at a place, and answers the one that stood there. Where there is no such place nothing changes.
     pub fn replace(&mut self, place: Place, element: T) -> Option<T>
         ensures old { result ≡ element_at self.old place }
         ensures new { self.new ≡ with_element self.old place element }
     {
-        if place.index == 0 {
+        if !self.has(place.var) {
             return None;
         }
-        let var = place.var as usize;
-        if var >= self.rows.len() {
-            return None;
-        }
-        let at = (place.index - 1) as usize;
-        if at >= self.rows[var].len() {
-            return None;
-        }
-        Some(self.rows[var].replace(at, element))
+        replace_in(self.row_mut(place.var), place.index, element)
     }
 
     /// Puts an element at a place, and drops the one that stood there. Where there is no such place nothing changes.

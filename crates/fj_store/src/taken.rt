@@ -1,14 +1,15 @@
 // The items that are taken out of a table: each place has one cell, and each item the number of its cell.
-ghost use Rattle.std.specs.Prelude.{◌≡◌, ◌+◌, ◌<◌, ◌≤◌, ℕ, [], length, IfOk, vec_capacity};
+ghost use Rattle.std.specs.Prelude.{◌≡◌, ◌+◌, ◌<◌, ◌≤◌, ℕ, List, [], length, None, slice_get, IfOk, vec_capacity};
 ghost use Rattle.std.specs.List.{position_or_len};
 ghost use Rattle.fj_store.specs.Places.{same_place, places_of, places_in};
-ghost use Rattle.fj_store.specs.Taking.{taking, items_in, HasRoom, IsMarked, take_one, take_all, take_runs};
+ghost use Rattle.fj_store.specs.Taking.{taking, items_in, HasRoom, IsMarked, MarkTells, take_all, take_runs};
 ghost use Rattle.fj_store.specs.Variables.{is_at, with_item};
+ghost use Rattle.fj_store.specs.declared.slot.Slot.{Slot as AnySlot};
 
 use crate::kinds::kind_in;
 use crate::run::Run;
 use crate::slots::Slots;
-use fj_value::{Cell, Kind, Place};
+use fj_value::{Cell, Kind, Place, Value};
 use std::alloc::{AllocError, Global};
 
 /// The variable of values that have no place.
@@ -53,16 +54,16 @@ pub fn position(cells: &[Cell], place: Place) -> usize
     cells.len()
 }
 
-/// The same by the mark of the place. One that cannot be marked is looked for.
-pub(crate) fn cell_of(slots: &Slots, cells: &[Cell], place: Place) -> usize
-    requires { IsMarked slots.now cells.now }
-    ensures at { result ≡ position_or_len (is_at place) cells.now }
+/// The same by the mark of the place, if it has one. One that cannot be marked is looked for.
+#[inline(always)]
+pub(crate) fn cell_marked(mark: Option<u32>, cells: &[Cell], place: Place) -> usize
+    ensures at { MarkTells mark cells.now place → result ≡ position_or_len (is_at place) cells.now }
     ensures low { result ≤ length cells.now }
 {
     if place.var == NO_VARIABLE {
         return position(cells, place);
     }
-    let Some(mark) = slots.mark(place) else {
+    let Some(mark) = mark else {
         return position(cells, place);
     };
     let at = mark as usize;
@@ -76,12 +77,21 @@ pub(crate) fn cell_of(slots: &Slots, cells: &[Cell], place: Place) -> usize
     }
 }
 
+/// The same by the mark that the place has among others.
+pub(crate) fn cell_of(slots: &Slots, cells: &[Cell], place: Place) -> usize
+    requires { IsMarked slots.now cells.now }
+    ensures at { result ≡ position_or_len (is_at place) cells.now }
+    ensures low { result ≤ length cells.now }
+{
+    cell_marked(slots.mark(place), cells, place)
+}
+
 /// Adds an item whose place has the cell of a number, or, where that is the number of cells, gets one.
+#[inline(always)]
 pub(crate) fn add_item(at: usize, cell: Cell, taken: &mut Taken)
     requires room { HasRoom taken.old 1 }
-    requires at { at ≡ position_or_len (is_at cell.place) taken.old.cells.items }
     requires low { at ≤ length taken.old.cells.items }
-    ensures item { items_in taken.new ≡ with_item (items_in taken.old) cell }
+    ensures item { at ≡ position_or_len (is_at cell.place) taken.old.cells.items → items_in taken.new ≡ with_item (items_in taken.old) cell }
     ensures room { (n : ℕ) → HasRoom taken.old (n + 1) → HasRoom taken.new n }
 {
     taken.order.push_reserved(at as u32);
@@ -90,29 +100,25 @@ pub(crate) fn add_item(at: usize, cell: Cell, taken: &mut Taken)
     }
 }
 
-/// Takes one place out, where it was not taken before.
-fn take_place(slots: &mut Slots, kind: Kind, place: Place, taken: &mut Taken)
-    requires room { HasRoom taken.old 1 }
-    requires marked { IsMarked slots.old taken.old.cells.items }
-    ensures taken { taking slots.new taken.new ≡ take_one kind (taking slots.old taken.old) place }
-    ensures marked { IsMarked slots.new taken.new.cells.items }
-    ensures room { (n : ℕ) → HasRoom taken.old (n + 1) → HasRoom taken.new n }
-{
-    let at = cell_of(slots, &taken.cells, place);
-    let value = slots.take(place, at as u32);
-    add_item(at, Cell { place, kind, value }, taken);
-}
-
-/// Takes the places of a run out, one behind the other.
-fn take_run(slots: &mut Slots, kind: Kind, run: Run, taken: &mut Taken)
-    requires room { HasRoom taken.old run.count }
-    requires marked { IsMarked slots.old taken.old.cells.items }
-    ensures taken { taking slots.new taken.new ≡ take_all kind (taking slots.old taken.old) (places_of run) }
-    ensures marked { IsMarked slots.new taken.new.cells.items }
+/// Takes the places of a run out whose variable there is not: each is undefined.
+pub(crate) fn take_missing(kind: Kind, run: Run, taken: &mut Taken)
+    requires { HasRoom taken.old run.count }
+    ensures taken { (slots : List (List AnySlot)) → slice_get slots run.var ≡ None → IsMarked slots taken.old.cells.items → taking slots taken.new ≡ take_all kind (taking slots taken.old) (places_of run) }
+    ensures marked { (slots : List (List AnySlot)) → slice_get slots run.var ≡ None → IsMarked slots taken.old.cells.items → IsMarked slots taken.new.cells.items }
     ensures room { (n : ℕ) → HasRoom taken.old (run.count + n) → HasRoom taken.new n }
 {
     for at in 0..run.count {
-        take_place(slots, kind, run.place_at(at), taken);
+        let place = run.place_at(at);
+        let number = position(&taken.cells, place);
+        add_item(
+            number,
+            Cell {
+                place,
+                kind,
+                value: Value::Undefined,
+            },
+            taken,
+        );
     }
 }
 
@@ -123,7 +129,7 @@ pub(crate) fn take_places(slots: &mut Slots, kinds: &[Kind], runs: &[Run], taken
     ensures { taking slots.new taken.new ≡ take_runs kinds.now (taking slots.old taken.old) runs.now }
 {
     for run in runs {
-        take_run(slots, kind_in(kinds, run.var), *run, taken);
+        slots.take_run(kind_in(kinds, run.var), *run, taken);
     }
 }
 

@@ -1,6 +1,10 @@
-use Rattle.fj_store.proofs.StoreLemmas.{put_is}
+use Rattle.std.proofs.Common.{sym, ap, ◌∙◌}
+use Rattle.fj_store.specs.Tables.{with_cells}
+use Rattle.fj_store.specs.Taking.{home}
+use Rattle.fj_store.proofs.RowLemmas.{none_left}
 use Rattle.fj_store.proofs.store.put_back.Goals as goal
 
-pub loop-cell-preserved : goal.loop-cell-preserved
-loop-cell-preserved c =
-    put_is c.args.kinds.now c.args.slots.now c.loop-cell.slots c.put.new.self c.loop-cell.yielded c.in-Some.cell c.of_kind-value.result c.kind_in.result c.loop-cell.invariant c.kind_in.ensures c.of_kind-value.ensures c.put.ensures
+pub returns : goal.returns
+returns c =
+    let none = none_left c.putting.next c.putting.rest.items c.in_default.is c.putting.invariant.last in
+    sym (ap (λ cs. with_cells (home c.args.kinds.now) cs c.putting.slots) none) ∙ c.putting.invariant.put

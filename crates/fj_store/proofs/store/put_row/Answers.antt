@@ -1,15 +1,11 @@
-use Rattle.std.proofs.Common.{◌≡◌, ◌+◌, [], ◌∷◌, length, refl, arith, length-append}
-use Rattle.fj_value.specs.declared.place.Place.{Place}
-use Rattle.fj_store.proofs.CopyLemmas.{row_put}
+use Rattle.std.proofs.Common.{ap, ◌∙◌}
+use Rattle.fj_list.specs.Load.{row_cells}
+use Rattle.fj_store.specs.Tables.{with_cells}
+use Rattle.fj_store.specs.Taking.{home}
 use Rattle.fj_store.proofs.store.put_row.Goals as goal
 
-pub loop-value-preserved : goal.loop-value-preserved
-loop-value-preserved c =
-    let l = c.loop-value in
+pub returns : goal.returns
+returns c =
     let row = c.args.row in
-    let place : Place = record { var = row.first.var; index = row.first.index + l.at } in
-    let index : place.index ≡ row.first.index + length l.yielded = omega (arith, l.invariant.at) in
-    record {
-      slots = row_put c.args.kinds.now c.args.slots.now l.slots c.put.new.self row.first place row.kind l.yielded c.in-Some.value c.of_kind.result c.kind_in-kind.result l.invariant.slots refl index c.kind_in-kind.ensures c.of_kind.ensures c.put.ensures;
-      at = omega (arith, l.invariant.at, length-append l.yielded (c.in-Some.value ∷ []));
-    }
+    c.put_values.ensures c.args.kinds.now row.kind c.kind_in.ensures
+    ∙ ap (λ values. with_cells (home c.args.kinds.now) (row_cells row.first row.kind values) c.args.slots.now) c.into_items.ensures
