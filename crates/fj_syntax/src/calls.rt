@@ -29,7 +29,7 @@ fn on_unit<T: Drop>(what: T, arguments: &[Argument]) -> Read<OnUnit<T>>
 }
 
 #[tactic(auto, unfolding(crate::specs::Calls::open_of))]
-pub fn make_open(alloc: Global, tokens: &[Token]) -> Read<OnUnit<OpenSpec>>
+pub fn make_open(alloc: Global, tokens: &[Token<'_>]) -> Read<OnUnit<OpenSpec>>
     ensures { Gives (λ x. x) result (open_of tokens.now) }
 {
     let arguments = whole_call(alloc, Keyword::Open, tokens)?;
@@ -52,7 +52,7 @@ pub fn make_open(alloc: Global, tokens: &[Token]) -> Read<OnUnit<OpenSpec>>
     on_unit(spec, arguments)
 }
 
-pub fn make_close(alloc: Global, tokens: &[Token]) -> Read<OnUnit<Option<bool>>>
+pub fn make_close(alloc: Global, tokens: &[Token<'_>]) -> Read<OnUnit<Option<bool>>>
     ensures { Gives (λ x. x) result (close_of tokens.now) }
 {
     let arguments = whole_call(alloc, Keyword::Close, tokens)?;
@@ -60,7 +60,7 @@ pub fn make_close(alloc: Global, tokens: &[Token]) -> Read<OnUnit<Option<bool>>>
     on_unit(keep, arguments.as_slice())
 }
 
-pub fn make_wait(alloc: Global, tokens: &[Token]) -> Read<OnUnit<Option<Operand>>>
+pub fn make_wait(alloc: Global, tokens: &[Token<'_>]) -> Read<OnUnit<Option<Operand>>>
     ensures { Gives (λ x. x) result (wait_of tokens.now) }
 {
     let arguments = whole_call(alloc, Keyword::Wait, tokens)?;
@@ -68,7 +68,7 @@ pub fn make_wait(alloc: Global, tokens: &[Token]) -> Read<OnUnit<Option<Operand>
     on_unit(id, arguments.as_slice())
 }
 
-pub fn make_move(alloc: Global, how: Motion, tokens: &[Token]) -> Read<OnUnit<Motion>>
+pub fn make_move(alloc: Global, how: Motion, tokens: &[Token<'_>]) -> Read<OnUnit<Motion>>
     ensures { Gives (λ x. x) result (move_of how tokens.now) }
 {
     let arguments = whole_call(alloc, Keyword::Move(how), tokens)?;
@@ -117,7 +117,7 @@ fn subject(alloc: Global, arguments: &[Argument]) -> Read<Subject>
 }
 
 #[tactic(auto, unfolding(crate::specs::Calls::inquire_of))]
-pub fn make_inquire(alloc: Global, tokens: &[Token]) -> Read<Inquire>
+pub fn make_inquire(alloc: Global, tokens: &[Token<'_>]) -> Read<Inquire>
     ensures { Gives (λ x. x) result (inquire_of tokens.now) }
 {
     let arguments = whole_call(alloc, Keyword::Inquire, tokens)?;

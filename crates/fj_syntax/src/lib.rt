@@ -8,12 +8,14 @@ mod fault;
 mod given;
 mod laws;
 mod lines;
+mod literal;
 mod operand;
 mod parse;
 mod parts;
 mod scanner;
 mod statement;
 mod token;
+mod word;
 mod words;
 mod written;
 
