@@ -1,5 +1,5 @@
 // A line as tokens.
-ghost use Rattle.std.specs.Prelude.{◌≡◌, ◌≤◌, ◌==◌, ◌||◌, Bool, length, take, map, IfOk, Ok, slice_index, option_map, drop};
+ghost use Rattle.std.specs.Prelude.{◌≡◌, ◌≤◌, ◌==◌, ◌||◌, Bool, length, take, map, IfOk, OnOk, Ok, slice_index, option_map, drop, ◌++◌, ◌∷◌, []};
 ghost use Rattle.fj_syntax.specs.Class.{is_of};
 ghost use Rattle.fj_syntax.specs.Tokens.{behind_blanks, ends_line, IsDelimiter, Scanned};
 ghost use Rattle.std.specs.Char.{is_ascii_digit};
@@ -14,8 +14,7 @@ use crate::fault::{Read, SyntaxFault, must, some};
 use crate::literal::Literal;
 use crate::token::{Mark, Sign, Token};
 use crate::word::Word;
-use fj_value::Items;
-use std::alloc::Global;
+use std::alloc::{AllocError, Global};
 
 /// The most characters of a name or keyword.
 const MAX_WORD: usize = 63;
@@ -188,13 +187,25 @@ fn ends_line(line: &[u8]) -> bool
     }
 }
 
+/// Adds a token at the end, where there is mostly room for it.
+#[inline]
+fn add<'a>(found: &mut Vec<Token<'a>>, token: Token<'a>) -> Result<(), AllocError>
+    ensures { OnOk result (found.new.items ≡ found.old.items ++ token.entry ∷ []) }
+{
+    if found.len() < found.capacity() {
+        found.push_reserved(token);
+        return Ok(());
+    }
+    found.push(token)?;
+    Ok(())
+}
+
 /// The tokens of a line, first to last.
 #[tactic(auto, using(crate::proofs::ParseLemmas::scans_token, crate::proofs::ParseLemmas::scans_done, crate::proofs::ParseLemmas::scans_fault, crate::proofs::ParseLemmas::shorter))]
-pub fn scanned(alloc: Global, line: &[u8]) -> Read<Items<Token<'_>>>
-    ensures { Scanned line.now result (λ tokens. tokens) }
+pub fn scanned(alloc: Global, line: &[u8]) -> Read<Vec<Token<'_>>>
+    ensures { Scanned line.now result (λ tokens. tokens.items) }
 {
-    let mut found = Items::new(alloc);
-    found.reserve(ROOM)?;
+    let mut found = Vec::with_capacity(alloc, ROOM)?;
     let mut rest = line;
     loop {
         rest = behind_blanks(rest);
@@ -202,7 +213,7 @@ pub fn scanned(alloc: Global, line: &[u8]) -> Read<Items<Token<'_>>>
             return Ok(found);
         }
         let (token, behind) = first_token(rest)?;
-        found.push(token)?;
+        add(&mut found, token)?;
         rest = behind;
     }
 }

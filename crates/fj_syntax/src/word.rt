@@ -24,9 +24,13 @@ impl<'a> Model for Word<'a> {
 
 /// Whether bytes in upper case are a text.
 #[inline]
+#[tactic(auto, using(crate::proofs::WordLemmas::other_length))]
 fn is_in_upper_case(bytes: &[u8], text: &[u8]) -> bool
     ensures { result ≡ bytes_eq (map to_ascii_uppercase bytes.now) text.now }
 {
+    if bytes.len() != text.len() {
+        return false;
+    }
     let mut rest = bytes;
     let mut other = text;
     loop {
