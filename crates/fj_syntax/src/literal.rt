@@ -57,9 +57,13 @@ fn parted(delimiter: u8, text: &[u8]) -> Option<(&[u8], &[u8])>
 }
 
 /// The text that is written with each delimiter in it doubled.
+#[tactic(auto, using(crate::proofs::LiteralLemmas::no_delimiter))]
 fn undoubled(alloc: Global, delimiter: u8, inside: &[u8]) -> Result<Text, AllocError>
     ensures { IfOk result (λ text. text ≡ undoubled delimiter inside.now) }
 {
+    if place_of(delimiter, inside).is_none() {
+        return Text::from_bytes(alloc, inside);
+    }
     let mut text = Text::new(alloc);
     text.reserve(inside.len())?;
     let mut rest = inside;
