@@ -68,7 +68,10 @@ impl Draft {
     fn state(&mut self, alloc: Global, number: u32, written: Written) -> Result<(), LineFault>
         ensures { Takes (Stating (begun_of self.old) number written) (begun_of self.new) result }
     {
-        let what = statement(alloc, &self.names, written)?;
+        let what = match statement(alloc, &self.names, written) {
+            Ok(what) => what,
+            Err(fault) => return Err(LineFault::from(fault)),
+        };
         if self.statements.len() >= MAX_STATEMENTS {
             return Err(LineFault::Refused(Reason::TooMany));
         }

@@ -104,7 +104,7 @@ fn is_wanted(statement: &Written, wanted: Wanted) -> bool {
     match (wanted, statement) {
         (Wanted::Any, _) => true,
         (Wanted::Open, Written::Open(open)) => is_open(open),
-        (Wanted::Write, Written::Transfer(write)) => is_write(write),
+        (Wanted::Write, Written::Transfer(write)) => is_write(write.get()),
         (Wanted::Endfile, Written::Move(motion)) => is_endfile(motion),
         (Wanted::Close, Written::Close(close)) => is_close(close),
         (Wanted::Declaration, Written::Declaration(one)) => is_declaration(one),

@@ -24,7 +24,7 @@ pub fn statement(alloc: Global, names: &Names, written: Written) -> Result<State
         Written::Wait(wait) => awaited(names, wait),
         Written::Move(motion) => moved(names, motion),
         Written::Inquire(inquire) => inquired(alloc, names, inquire),
-        Written::Transfer(transfer) => transferred(alloc, names, transfer),
+        Written::Transfer(transfer) => transferred(alloc, names, transfer.get()),
         Written::End => Ok(Statement::End),
     }
 }

@@ -135,17 +135,30 @@ fn control_of(
     }
 }
 
+fn copied_name(group: &Option<Text>) -> Result<Option<Text>, AllocError>
+    ensures { IfOk result (λ copy. copy ≡ group.now) }
+{
+    match group {
+        None => Ok(None),
+        Some(name) => {
+            let name = name.try_clone()?;
+            Ok(Some(name))
+        }
+    }
+}
+
 /// The statement of these parts, unless its format is too long.
 fn assembled(
     alloc: Global,
-    transfer: fj_syntax::Transfer,
+    transfer: &fj_syntax::Transfer,
     parts: Parts,
     items: Option<FormatItems>,
 ) -> Result<Statement, Fault>
     requires { AreWritten items }
-    ensures { Assembles items transfer parts result }
+    ensures { Assembles items transfer.now parts result }
 {
-    let control = control_of(alloc, transfer.group, parts.group, &transfer.format, items)?;
+    let group = copied_name(&transfer.group)?;
+    let control = control_of(alloc, group, parts.group, &transfer.format, items)?;
     Ok(Statement::Transfer(Transfer {
         input: transfer.input,
         unit: transfer.unit,
@@ -170,16 +183,16 @@ fn assembled(
 pub fn transferred(
     alloc: Global,
     names: &Names,
-    transfer: fj_syntax::Transfer,
+    transfer: &fj_syntax::Transfer,
 ) -> Result<Statement, Fault>
-    ensures { Means names.now (written.Transfer transfer) result }
+    ensures { Means names.now (written.Transfer transfer.now) result }
 {
     let items = format_items(alloc, &transfer.format)?;
-    if !is_allowed(&items, &transfer) {
+    if !is_allowed(&items, transfer) {
         return Err(Fault::NoMeaning);
     }
     let (operands, few) = choose(alloc, names, transfer.items.as_slice())?;
-    let parts = parts_with(names, &transfer, operands)?;
+    let parts = parts_with(names, transfer, operands)?;
     if !few {
         return Err(Fault::TooMany);
     }

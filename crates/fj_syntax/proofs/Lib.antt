@@ -1,7 +1,9 @@
 pub mod DigitLemmas
 pub mod Holding
 pub mod KnownLemmas
+pub mod LiteralLemmas
 pub mod NameLemmas
 pub mod ParseLemmas
 pub mod SplitLemmas
 pub mod TokenLemmas
+pub mod WordLemmas

@@ -11,10 +11,10 @@ use Rattle.std.proofs.lemmas.List.Sums.{fails_before_first}
 abbrev pub behind : {X : Type 0} → ℕ → List X → List X
 behind n xs = take (length xs - (n + 1)) (drop (n + 1) xs)
 
-at_first : (at len n : ℕ) → cond (ltb at len) (Some at) None ≡ Some n → (n ≡ at) × (at < len)
+pub at_first : (at len n : ℕ) → cond (ltb at len) (Some at) None ≡ Some n → (n ≡ at) × (at < len)
 at_first at len n h = (grind (arith, nat_tests), grind (arith, nat_tests))
 
-no_first : (at len : ℕ) → cond (ltb at len) (Some at) None ≡ None → len ≤ at
+pub no_first : (at len : ℕ) → cond (ltb at len) (Some at) None ≡ None → len ≤ at
 no_first at len h = grind (arith, nat_tests)
 
 pub first_split : {X : Type 0} (p : X → Bool) (xs : List X) (n : ℕ) → position p xs ≡ Some n → slice_split p xs ≡ take n xs ∷ slice_split p (behind n xs)
@@ -22,6 +22,10 @@ first_split p [] n h = cc
 first_split p (x ∷ xs) n h =
     let at = at_first _ _ n h in
     rw (at.0, take_rest) (slice_split_first p (x ∷ xs) x at.1)
+
+pub first_cut : {X : Type 0} (p : X → Bool) (xs : List X) (n : ℕ) → position p xs ≡ Some n → slice_split p xs ≡ take n xs ∷ slice_split p (drop (n + 1) xs)
+first_cut p [] n h = cc
+first_cut p (x ∷ xs) n h = let at = at_first _ _ n h in rw at.0 (slice_split_first p (x ∷ xs) x at.1)
 
 pub no_split : {X : Type 0} (p : X → Bool) (xs : List X) → position p xs ≡ None → slice_split p xs ≡ xs ∷ []
 no_split p xs h = slice_split_none p xs (λ k d below. fails_before_first p xs k d (omega (arith, no_first _ _ h)))

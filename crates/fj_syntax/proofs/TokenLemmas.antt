@@ -1,5 +1,6 @@
 -- The token that is read first is the one that is written first.
-use Rattle.std.proofs.Common.{◌≡◌, ℕ, ◌<◌, ◌≤◌, Bool, true, false, List, [], ◌∷◌, ◌++◌, length, take, drop, map, Option, Some, None, eqb, ltb, ◌||◌, refl, sym, ap, ◌∙◌, subst, inl, inr, arith, add_comm, add-one, append_assoc, cond, ◌&&◌, slice_index, codes}
+use Rattle.std.proofs.Common.{◌≡◌, ℕ, ◌+◌, ◌-◌, ◌<◌, ◌≤◌, Bool, true, false, List, [], ◌∷◌, ◌++◌, length, length-append, take, drop, map, Option, Some, None, eqb, ltb, ◌||◌, refl, sym, ap, ◌∙◌, subst, inl, inr, arith, add_comm, add-one, append_assoc, cond, ◌&&◌, slice_index, codes}
+use Rattle.std.specs.Prelude.{option_map}
 use Rattle.std.specs.List.{AllPass, prefix_len}
 use Rattle.std.specs.Char.{is_ascii_alphabetic, to_ascii_uppercase, is_ascii_digit, to_ascii_lowercase}
 use Rattle.std.specs.Str.Parse.{digits_value}
@@ -13,7 +14,9 @@ use Rattle.std.proofs.lemmas.List.Sums.{prefix_len_passes}
 use Rattle.fj_syntax.specs.Class.{is_of, InWord, InLiteral, Digit}
 use Rattle.fj_syntax.specs.FirstToken.{run_at, word_at, number_at, closed_by, behind_delimiter, literal_at, truth_at, mark_of, mark_at, first_token}
 use Rattle.fj_syntax.specs.Tokens.{Token, Word, Number, Literal, Sign, begins, doubled, IsDelimiter, IsRun, IsWritten, sign_bytes, Truth, Mark, AMark, LeftParenthesis, RightParenthesis, Comma, Equals, Slash, Asterisk, DoubleColon, Unsigned, Plus, Minus, mark_bytes, truth_bytes}
-use Rattle.fj_syntax.proofs.Holding.{Holds, either_holds, map_holds, held}
+use Rattle.fj_syntax.specs.Undoubled.{undoubled}
+use Rattle.fj_syntax.proofs.Holding.{Holds, either_holds, map_holds, mapped, held}
+use Rattle.fj_syntax.proofs.LiteralLemmas.{undoubled_again}
 use Rattle.std.specs.Str.{bytes_eq, str_to_ascii_lowercase}
 use Rattle.std.proofs.lemmas.Slice.Eq.{bytes_eq-Decides}
 
@@ -141,6 +144,26 @@ literal_is q line is = map_holds (IsClosed q line) (StandsFirst (q ∷ line)) (�
   ap (λ l. q ∷ l) (closes.written ∙ sym (append_assoc (doubled q r.0) (q ∷ []) r.1)),
   record { delimiter = q; is_delimiter = is; all = closes.all; written = refl; ends = closes.ends },
 ))
+
+-- what stands between the delimiters, where this stands behind the closing one
+pub record IsLiteral (q : ℕ) (line behind : List ℕ) : Type 0 where
+  pub within : length behind + 1 ≤ length line
+  pub is : closed_by q line ≡ Some (undoubled q (take (length line - length behind - 1) line), behind)
+
+literal_with : (q : ℕ) (text line behind : List ℕ) → IsDelimiter q → closed_by q line ≡ Some (text, behind) → IsLiteral q line behind
+literal_with q text line behind is h =
+    let closes : Closes q text line behind = held (IsClosed q line) (closed_by q line) (text, behind) (closed_is q line is) h in
+    let long : length line ≡ length (doubled q text) + (1 + length behind) = omega (arith, ap length closes.written, length-append (doubled q text) (q ∷ behind)) in
+    let count : length line - length behind - 1 ≡ length (doubled q text) = omega (arith, long) in
+    let inside : take (length line - length behind - 1) line ≡ doubled q text =
+    ap (λ n. take n line) count ∙ ap (take (length (doubled q text))) closes.written ∙ take-append_seam (doubled q text) (q ∷ behind) in
+    record {
+      within = omega (arith, long);
+      is = h ∙ ap (λ l. Some (l, behind)) (sym (ap (undoubled q) inside ∙ undoubled_again q text));
+    }
+
+pub literal_closed : (q : ℕ) (line behind : List ℕ) → IsDelimiter q → option_map (λ r. r.1) (closed_by q line) ≡ Some behind → IsLiteral q line behind
+literal_closed q line behind is h = let m = mapped (λ r. r.1) (closed_by q line) behind h in subst (IsLiteral q line) (sym m.2) (literal_with q m.0.0 line m.0.1 is m.1)
 
 -- ---- truth values
 

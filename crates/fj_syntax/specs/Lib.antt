@@ -9,4 +9,5 @@ pub mod Parts
 pub mod Reading
 pub mod Statement
 pub mod Tokens
+pub mod Undoubled
 pub mod Words

@@ -15,30 +15,33 @@ use crate::words::{Keyword, Specifier, specifier_of, takes};
 use fj_value::Items;
 use std::alloc::Global;
 
-fn given(tokens: &[Token]) -> Read<Given>
+fn given(alloc: Global, tokens: &[Token<'_>]) -> Read<Given>
     ensures { Gives (λ x. x) result (given_of tokens.now) }
 {
     match tokens {
         [Token::Mark(Asterisk)] => Ok(Given::Asterisk),
-        _ => Ok(Given::Operand(Operand::read(tokens)?)),
+        _ => Ok(Given::Operand(Operand::read(alloc, tokens)?)),
     }
 }
 
 /// A specifier and its value, or a value alone where it may stand for a specifier.
-fn argument(bare: Option<Specifier>, tokens: &[Token]) -> Read<Argument>
+fn argument(alloc: Global, bare: Option<Specifier>, tokens: &[Token<'_>]) -> Read<Argument>
     ensures { Gives (λ x. x) result (argument_of bare tokens.now) }
 {
     let (specifier, value) = match tokens {
-        [Token::Word(word), Token::Mark(Equals), value @ ..] => (specifier_of(word.bytes()), value),
+        [first, Token::Mark(Equals), value @ ..] => match first {
+            Token::Word(word) => (specifier_of(word), value),
+            _ => (bare, tokens),
+        },
         _ => (bare, tokens),
     };
     let specifier = some(specifier)?;
-    let value = given(value)?;
+    let value = given(alloc, value)?;
     Ok(Argument { specifier, value })
 }
 
 /// What a bare argument stands for behind this one.
-fn next_bare(bare: Option<Specifier>, tokens: &[Token]) -> Option<Specifier>
+fn next_bare(bare: Option<Specifier>, tokens: &[Token<'_>]) -> Option<Specifier>
     ensures { result ≡ next_bare bare tokens.now }
 {
     match (bare, tokens) {
@@ -49,18 +52,19 @@ fn next_bare(bare: Option<Specifier>, tokens: &[Token]) -> Option<Specifier>
 }
 
 /// The arguments between commas. A bare one may stand first, as the unit, and behind it another, as the format.
-fn arguments(alloc: Global, tokens: &[Token]) -> Read<Arguments>
+fn arguments(alloc: Global, tokens: &[Token<'_>]) -> Read<Arguments>
     ensures { Gives (λ x. x) result (arguments_of tokens.now) }
 {
     let mut arguments = Items::new(alloc);
     let mut bare = Some(Specifier::Unit);
-    let mut rest = tokens;
+    let mut from = 0;
     loop {
-        let (part, behind) = first_part(rest);
-        arguments.push(argument(bare, part)?)?;
+        let (part, next) = first_part(tokens.split_at(from).1);
+        let argument = argument(alloc, bare, part)?;
+        arguments.push(argument)?;
         bare = next_bare(bare, part);
-        match behind {
-            Some(behind) => rest = behind,
+        match next {
+            Some(next) => from += next,
             None => return Ok(arguments),
         }
     }
@@ -98,7 +102,7 @@ fn are_once(arguments: &[Argument]) -> bool
 }
 
 /// How many parentheses are open behind a token.
-fn depth_behind(depth: usize, token: &Token) -> usize
+fn depth_behind(depth: usize, token: &Token<'_>) -> usize
     requires { depth < usize.MAX }
     ensures { result ≡ depth_behind depth token.now }
 {
@@ -112,7 +116,7 @@ fn depth_behind(depth: usize, token: &Token) -> usize
 }
 
 /// How many tokens stand before the right parenthesis that closes what was opened before them.
-fn closing(tokens: &[Token]) -> Option<usize>
+fn closing(tokens: &[Token<'_>]) -> Option<usize>
     ensures at { result ≡ closing 0 tokens.now }
     ensures within { IfSome result (λ at. at < length tokens.now) }
 {
@@ -136,7 +140,11 @@ fn are_taken(keyword: Keyword, arguments: &[Argument]) -> bool
 }
 
 /// The arguments of a statement in parentheses, and the tokens behind them.
-pub fn call(alloc: Global, keyword: Keyword, tokens: &[Token]) -> Read<(Arguments, &[Token])>
+pub fn call<'a, 'b>(
+    alloc: Global,
+    keyword: Keyword,
+    tokens: &'a [Token<'b>],
+) -> Read<(Arguments, &'a [Token<'b>])>
     ensures { Gives (λ x. (x.0, x.1.now)) result (call_of keyword tokens.now) }
 {
     let [Token::Mark(LeftParenthesis), inside @ ..] = tokens else {
@@ -149,7 +157,7 @@ pub fn call(alloc: Global, keyword: Keyword, tokens: &[Token]) -> Read<(Argument
 }
 
 /// The same, with nothing behind them.
-pub fn whole_call(alloc: Global, keyword: Keyword, tokens: &[Token]) -> Read<Arguments>
+pub fn whole_call(alloc: Global, keyword: Keyword, tokens: &[Token<'_>]) -> Read<Arguments>
     ensures { Gives (λ x. x) result (whole_call_of keyword tokens.now) }
 {
     let (arguments, behind) = call(alloc, keyword, tokens)?;

@@ -11,7 +11,7 @@ use crate::operand::{Argument, Given, Operand};
 use crate::token::Token;
 use crate::words::Keyword;
 use crate::words::Specifier::{self, Property};
-use crate::written::{Asking, Inquire, OnUnit, Transfer};
+use crate::written::{Asking, BoxedTransfer, Inquire, OnUnit, Transfer};
 use fj_modes::{
     Access, Action, Answer, Blank, Decimal, Disposition, FileStatus, Form, Motion, OpenSpec,
     Question, Sign, Start, Subject,
@@ -29,7 +29,7 @@ fn on_unit<T: Drop>(what: T, arguments: &[Argument]) -> Read<OnUnit<T>>
 }
 
 #[tactic(auto, unfolding(crate::specs::Calls::open_of))]
-pub fn make_open(alloc: Global, tokens: &[Token]) -> Read<OnUnit<OpenSpec>>
+pub fn make_open(alloc: Global, tokens: &[Token<'_>]) -> Read<OnUnit<OpenSpec>>
     ensures { Gives (λ x. x) result (open_of tokens.now) }
 {
     let arguments = whole_call(alloc, Keyword::Open, tokens)?;
@@ -52,7 +52,7 @@ pub fn make_open(alloc: Global, tokens: &[Token]) -> Read<OnUnit<OpenSpec>>
     on_unit(spec, arguments)
 }
 
-pub fn make_close(alloc: Global, tokens: &[Token]) -> Read<OnUnit<Option<bool>>>
+pub fn make_close(alloc: Global, tokens: &[Token<'_>]) -> Read<OnUnit<Option<bool>>>
     ensures { Gives (λ x. x) result (close_of tokens.now) }
 {
     let arguments = whole_call(alloc, Keyword::Close, tokens)?;
@@ -60,7 +60,7 @@ pub fn make_close(alloc: Global, tokens: &[Token]) -> Read<OnUnit<Option<bool>>>
     on_unit(keep, arguments.as_slice())
 }
 
-pub fn make_wait(alloc: Global, tokens: &[Token]) -> Read<OnUnit<Option<Operand>>>
+pub fn make_wait(alloc: Global, tokens: &[Token<'_>]) -> Read<OnUnit<Option<Operand>>>
     ensures { Gives (λ x. x) result (wait_of tokens.now) }
 {
     let arguments = whole_call(alloc, Keyword::Wait, tokens)?;
@@ -68,7 +68,7 @@ pub fn make_wait(alloc: Global, tokens: &[Token]) -> Read<OnUnit<Option<Operand>
     on_unit(id, arguments.as_slice())
 }
 
-pub fn make_move(alloc: Global, how: Motion, tokens: &[Token]) -> Read<OnUnit<Motion>>
+pub fn make_move(alloc: Global, how: Motion, tokens: &[Token<'_>]) -> Read<OnUnit<Motion>>
     ensures { Gives (λ x. x) result (move_of how tokens.now) }
 {
     let arguments = whole_call(alloc, Keyword::Move(how), tokens)?;
@@ -117,7 +117,7 @@ fn subject(alloc: Global, arguments: &[Argument]) -> Read<Subject>
 }
 
 #[tactic(auto, unfolding(crate::specs::Calls::inquire_of))]
-pub fn make_inquire(alloc: Global, tokens: &[Token]) -> Read<Inquire>
+pub fn make_inquire(alloc: Global, tokens: &[Token<'_>]) -> Read<Inquire>
     ensures { Gives (λ x. x) result (inquire_of tokens.now) }
 {
     let arguments = whole_call(alloc, Keyword::Inquire, tokens)?;
@@ -132,10 +132,15 @@ pub fn make_inquire(alloc: Global, tokens: &[Token]) -> Read<Inquire>
 
 /// READ or WRITE.
 #[tactic(auto, unfolding(crate::specs::Calls::transfer_of))]
-pub fn make_transfer(input: bool, arguments: &[Argument], items: Items<Operand>) -> Read<Transfer>
+pub fn make_transfer(
+    alloc: Global,
+    input: bool,
+    arguments: &[Argument],
+    items: Items<Operand>,
+) -> Read<BoxedTransfer>
     ensures { Gives (λ x. x) result (transfer_of input arguments.now items) }
 {
-    Ok(Transfer {
+    let transfer = Transfer {
         input,
         unit: unit(!input, arguments)?,
         format: format(arguments)?,
@@ -153,5 +158,6 @@ pub fn make_transfer(input: bool, arguments: &[Argument], items: Items<Operand>)
         size: place(arguments, Property(Question::Size))?,
         iostat: place(arguments, Specifier::Iostat)?,
         items,
-    })
+    };
+    Ok(BoxedTransfer::new(alloc, transfer)?)
 }

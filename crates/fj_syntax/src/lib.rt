@@ -8,12 +8,14 @@ mod fault;
 mod given;
 mod laws;
 mod lines;
+mod literal;
 mod operand;
 mod parse;
 mod parts;
 mod scanner;
 mod statement;
 mod token;
+mod word;
 mod words;
 mod written;
 
@@ -24,5 +26,6 @@ pub use operand::{Designator, Operand};
 pub use parse::parse_line;
 pub use token::Sign;
 pub use written::{
-    Asking, Assignment, Declaration, Format, Group, Inquire, OnUnit, Transfer, Written,
+    Asking, Assignment, BoxedTransfer, Declaration, Format, Group, Inquire, OnUnit, Transfer,
+    Written,
 };

@@ -18,5 +18,8 @@ pub fn parse_line(alloc: Global, line: &[u8]) -> Read<Option<Written>>
     if tokens.is_empty() {
         return Ok(None);
     }
-    Ok(Some(written(alloc, tokens.as_slice())?))
+    match written(alloc, tokens.as_slice()) {
+        Ok(statement) => Ok(Some(statement)),
+        Err(fault) => Err(fault),
+    }
 }

@@ -1,7 +1,7 @@
 // A line as tokens.
-ghost use Rattle.std.specs.Prelude.{◌≡◌, ◌≤◌, ◌==◌, ◌||◌, Bool, length, take, map, IfOk, Ok, slice_index, option_map, drop};
+ghost use Rattle.std.specs.Prelude.{◌≡◌, ◌≤◌, ◌==◌, ◌||◌, Bool, length, take, map, IfOk, OnOk, Ok, slice_index, option_map, drop, ◌++◌, ◌∷◌, []};
 ghost use Rattle.fj_syntax.specs.Class.{is_of};
-ghost use Rattle.fj_syntax.specs.Tokens.{behind_blanks, ends_line, Scanned};
+ghost use Rattle.fj_syntax.specs.Tokens.{behind_blanks, ends_line, IsDelimiter, Scanned};
 ghost use Rattle.std.specs.Char.{is_ascii_digit};
 ghost use Rattle.std.specs.List.{prefix_len, AllPass};
 ghost use Rattle.std.specs.Str.{bytes_eq, str_to_ascii_lowercase};
@@ -11,12 +11,16 @@ ghost use Rattle.fj_syntax.specs.Reading.{Gives};
 
 use crate::class::{Class, is_of, run_len};
 use crate::fault::{Read, SyntaxFault, must, some};
+use crate::literal::Literal;
 use crate::token::{Mark, Sign, Token};
-use fj_value::{Items, Text};
-use std::alloc::Global;
+use crate::word::Word;
+use std::alloc::{AllocError, Global};
 
 /// The most characters of a name or keyword.
 const MAX_WORD: usize = 63;
+
+/// Room for the tokens of most lines.
+const ROOM: usize = 24;
 
 /// The most digits of a number.
 const MAX_DIGITS: usize = 19;
@@ -33,12 +37,11 @@ fn run(class: Class, most: usize, line: &[u8]) -> Read<(&[u8], &[u8])>
     Ok(line.split_at(len))
 }
 
-fn word(alloc: Global, line: &[u8]) -> Read<(Token, &[u8])>
+fn word(line: &[u8]) -> Read<(Token<'_>, &[u8])>
     ensures { Gives (λ x. (x.0, x.1.now)) result (word_at line.now) }
 {
     let (front, behind) = run(Class::InWord, MAX_WORD, line)?;
-    let word = Text::from_vec(front.to_ascii_uppercase(alloc)?);
-    Ok((Token::Word(word), behind))
+    Ok((Token::Word(Word::new(front)), behind))
 }
 
 /// The number that digits write.
@@ -56,18 +59,17 @@ fn amount(digits: &[u8]) -> u64
     amount
 }
 
-fn number(sign: Sign, line: &[u8]) -> Read<(Token, &[u8])>
+fn number(sign: Sign, line: &[u8]) -> Read<(Token<'_>, &[u8])>
     ensures { Gives (λ x. (x.0, x.1.now)) result (number_at sign line.now) }
 {
     let (front, behind) = run(Class::Digit, MAX_DIGITS, line)?;
     Ok((Token::Number(sign, amount(front)), behind))
 }
 
-/// The text up to the closing delimiter, and what stands behind that.
-fn closed(alloc: Global, delimiter: u8, line: &[u8]) -> Read<(Items<u8>, &[u8])>
-    ensures { Gives (λ x. (x.0, x.1.now)) result (closed_by delimiter line.now) }
+/// What stands behind the closing delimiter.
+fn behind_closing(delimiter: u8, line: &[u8]) -> Read<&[u8]>
+    ensures { Gives (λ x. x.now) result (option_map (λ r. r.1) (closed_by delimiter line.now)) }
 {
-    let mut text = Items::new(alloc);
     let mut rest = line;
     loop {
         let [byte, behind @ ..] = rest else {
@@ -75,24 +77,26 @@ fn closed(alloc: Global, delimiter: u8, line: &[u8]) -> Read<(Items<u8>, &[u8])>
         };
         if *byte != delimiter {
             must(is_of(Class::InLiteral, *byte))?;
-            text.push(*byte)?;
             rest = behind;
         } else if let [second, after @ ..] = behind
             && *second == delimiter
         {
-            text.push(delimiter)?;
             rest = after;
         } else {
-            return Ok((text, behind));
+            return Ok(behind);
         }
     }
 }
 
-fn literal(alloc: Global, delimiter: u8, line: &[u8]) -> Read<(Token, &[u8])>
+/// A literal behind its first delimiter.
+#[tactic(auto, using(crate::proofs::TokenLemmas::literal_closed))]
+fn literal(delimiter: u8, line: &[u8]) -> Read<(Token<'_>, &[u8])>
+    requires { IsDelimiter delimiter }
     ensures { Gives (λ x. (x.0, x.1.now)) result (literal_at delimiter line.now) }
 {
-    let (text, behind) = closed(alloc, delimiter, line)?;
-    Ok((Token::Literal(Text::from_vec(text.into_vec())), behind))
+    let behind = behind_closing(delimiter, line)?;
+    let inside = &line[..line.len() - behind.len() - 1];
+    Ok((Token::Literal(Literal::new(delimiter, inside)), behind))
 }
 
 /// Whether a line begins with a text, which is in lower case, in either case.
@@ -106,7 +110,7 @@ fn begins_with(line: &[u8], front: &[u8]) -> bool
     line[..front.len()].eq_ignore_ascii_case(front)
 }
 
-fn truth(line: &[u8]) -> Read<(Token, &[u8])>
+fn truth(line: &[u8]) -> Read<(Token<'_>, &[u8])>
     ensures { Gives (λ x. (x.0, x.1.now)) result (truth_at line.now) }
 {
     if begins_with(line, b".true.") {
@@ -133,7 +137,7 @@ fn mark_of(byte: u8) -> Option<Mark>
 }
 
 #[tactic(auto, unfolding(crate::specs::FirstToken::mark_at))]
-fn mark(line: &[u8]) -> Read<(Token, &[u8])>
+fn mark(line: &[u8]) -> Read<(Token<'_>, &[u8])>
     ensures { Gives (λ x. (x.0, x.1.now)) result (mark_at line.now) }
 {
     match line {
@@ -144,7 +148,7 @@ fn mark(line: &[u8]) -> Read<(Token, &[u8])>
 }
 
 #[tactic(auto, unfolding(crate::specs::FirstToken::first_token))]
-fn first_token(alloc: Global, line: &[u8]) -> Read<(Token, &[u8])>
+fn first_token(line: &[u8]) -> Read<(Token<'_>, &[u8])>
     ensures { Gives (λ x. (x.0, x.1.now)) result (first_token line.now) }
 {
     let [first, behind @ ..] = line else {
@@ -152,7 +156,7 @@ fn first_token(alloc: Global, line: &[u8]) -> Read<(Token, &[u8])>
     };
     let first = *first;
     if first.is_ascii_alphabetic() {
-        return word(alloc, line);
+        return word(line);
     }
     if first.is_ascii_digit() {
         return number(Sign::Unsigned, line);
@@ -160,7 +164,7 @@ fn first_token(alloc: Global, line: &[u8]) -> Read<(Token, &[u8])>
     match first {
         b'+' => number(Sign::Plus, behind),
         b'-' => number(Sign::Minus, behind),
-        b'\'' | b'"' => literal(alloc, first, behind),
+        b'\'' | b'"' => literal(first, behind),
         b'.' => truth(line),
         _ => mark(line),
     }
@@ -183,20 +187,33 @@ fn ends_line(line: &[u8]) -> bool
     }
 }
 
+/// Adds a token at the end, where there is mostly room for it.
+#[inline]
+fn add<'a>(found: &mut Vec<Token<'a>>, token: Token<'a>) -> Result<(), AllocError>
+    ensures { OnOk result (found.new.items ≡ found.old.items ++ token.entry ∷ []) }
+{
+    if found.len() < found.capacity() {
+        found.push_reserved(token);
+        return Ok(());
+    }
+    found.push(token)?;
+    Ok(())
+}
+
 /// The tokens of a line, first to last.
 #[tactic(auto, using(crate::proofs::ParseLemmas::scans_token, crate::proofs::ParseLemmas::scans_done, crate::proofs::ParseLemmas::scans_fault, crate::proofs::ParseLemmas::shorter))]
-pub fn scanned(alloc: Global, line: &[u8]) -> Read<Items<Token>>
-    ensures { Scanned line.now result (λ tokens. tokens) }
+pub fn scanned(alloc: Global, line: &[u8]) -> Read<Vec<Token<'_>>>
+    ensures { Scanned line.now result (λ tokens. tokens.items) }
 {
-    let mut found = Items::new(alloc);
+    let mut found = Vec::with_capacity(alloc, ROOM)?;
     let mut rest = line;
     loop {
         rest = behind_blanks(rest);
         if ends_line(rest) {
             return Ok(found);
         }
-        let (token, behind) = first_token(alloc, rest)?;
-        found.push(token)?;
+        let (token, behind) = first_token(rest)?;
+        add(&mut found, token)?;
         rest = behind;
     }
 }

@@ -1,6 +1,7 @@
 // The tokens of a line.
 
-use fj_value::Text;
+use crate::literal::Literal;
+use crate::word::Word;
 
 /// A mark of the grammar.
 #[derive(Clone, Copy, PartialEq, Eq)]
@@ -23,13 +24,13 @@ pub enum Sign {
 }
 
 #[derive(Drop)]
-pub enum Token {
+pub enum Token<'a> {
     /// A name or keyword, in upper case.
-    Word(Text),
+    Word(Word<'a>),
     /// An integer literal of up to 19 digits.
     Number(Sign, u64),
     /// A character literal: the characters between its delimiters, a doubled delimiter being one.
-    Literal(Text),
+    Literal(Literal<'a>),
     /// `.TRUE.` or `.FALSE.`.
     Truth(bool),
     Mark(Mark),

@@ -2,6 +2,7 @@
 ghost use Rattle.std.specs.Prelude.{◌≡◌, map};
 ghost use Rattle.fj_syntax.specs.Words.{meaning_of, keyword_of, specifier_of, takes};
 
+use crate::word::Word;
 use fj_modes::{Motion, Question};
 
 /// A word that begins a statement or declaration. None of them is a name.
@@ -89,11 +90,11 @@ pub const SPECIFIERS: [(&str, Specifier); 29] = [
 ];
 
 /// What stands beside a word in a table. Words of the grammar are in upper case here.
-fn meaning_of<T: Copy>(words: &[(&str, T)], word: &[u8]) -> Option<T>
+fn meaning_of<T: Copy>(words: &[(&str, T)], word: &Word<'_>) -> Option<T>
     ensures { result ≡ meaning_of (map (λ row. (row.0.now, row.1)) words.now) word.now }
 {
     for row in words {
-        if row.0.as_bytes() == word {
+        if word.is(row.0.as_bytes()) {
             return Some(row.1);
         }
     }
@@ -101,14 +102,14 @@ fn meaning_of<T: Copy>(words: &[(&str, T)], word: &[u8]) -> Option<T>
 }
 
 #[tactic(auto, unfolding(crate::specs::Words::keyword_of))]
-pub fn keyword_of(word: &[u8]) -> Option<Keyword>
+pub fn keyword_of(word: &Word<'_>) -> Option<Keyword>
     ensures { result ≡ keyword_of word.now }
 {
     meaning_of(&KEYWORDS, word)
 }
 
 #[tactic(auto, unfolding(crate::specs::Words::specifier_of))]
-pub fn specifier_of(word: &[u8]) -> Option<Specifier>
+pub fn specifier_of(word: &Word<'_>) -> Option<Specifier>
     ensures { result ≡ specifier_of word.now }
 {
     meaning_of(&SPECIFIERS, word)
