@@ -17,12 +17,12 @@ ghost use Rattle.fj_acts.specs.Having.{HaveNext};
 
 use crate::doing::{After, Doing, Then};
 use crate::state::Core;
-use fj_bay::{Boxed, Job};
+use fj_bay::Job;
 use fj_items::Lost;
 use fj_modes::UnitRef;
 use fj_outside::FileStore;
 use fj_units::Connected;
-use fj_value::Condition;
+use fj_value::{Boxed, Condition};
 use std::alloc::Global;
 
 /// The connection of a unit goes out, and its file is kept or removed. Want of memory changes nothing.

@@ -29,7 +29,7 @@ ghost use Rattle.fj_acts.specs.Having.{HaveNext};
 
 use crate::doing::{Doing, Then};
 use crate::state::Core;
-use fj_bay::{Boxed, Job};
+use fj_bay::Job;
 use fj_connect::Look;
 use fj_inquire::{Connected, inquire_file, inquire_unit};
 use fj_items::{Lost, give_back, number_given};
@@ -39,7 +39,7 @@ use fj_outside::{Disk, FileStore};
 use fj_pending::{Held, Pendings};
 use fj_statement::{Operand, Variables};
 use fj_units::{Connected as Unit, Names, Units};
-use fj_value::{Condition, Items};
+use fj_value::{Boxed, Condition, Items};
 use std::alloc::{AllocError, Global};
 use std::collections::VecDeque;
 

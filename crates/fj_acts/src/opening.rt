@@ -34,13 +34,13 @@ use crate::doing::{After, Doing, Then};
 use crate::file_names::{file_due, keeps_name};
 use crate::lost::lost_by_stop;
 use crate::state::Core;
-use fj_bay::{Boxed, Job};
+use fj_bay::Job;
 use fj_connect::{Connection, OpenFault, open_file};
 use fj_items::Lost;
 use fj_modes::{FileName, Modes, OpenSpec, UnitRef, settle_open};
 use fj_outside::{Disk, FileStore};
 use fj_units::{Connected, Units};
-use fj_value::Condition;
+use fj_value::{Boxed, Condition};
 use std::alloc::Global;
 
 /// A new connection, whose file is out, goes to a slot; the units are these once it is there.

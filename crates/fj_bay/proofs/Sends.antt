@@ -37,7 +37,7 @@ use Rattle.fj_connect.specs.contracts.connection.Connection.TheInside as Inside
 use Rattle.fj_connect.specs.contracts.connection.Looked as Looked
 use Rattle.fj_connect.specs.contracts.spot.Look as Look
 use Rattle.fj_connect.specs.contracts.spot.Spot as Spot
-use Rattle.fj_bay.specs.contracts.boxed.Boxed as Boxed
+use Rattle.fj_value.specs.contracts.boxed.Boxed as Boxed
 use Rattle.fj_bay.specs.contracts.job.Answer as Answer
 use Rattle.fj_bay.specs.contracts.job.Job as Job
 

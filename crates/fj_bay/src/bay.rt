@@ -7,7 +7,6 @@ ghost use Rattle.fj_transfer.specs.Transfer.{in_error};
 ghost use Rattle.fj_slot.specs.Serving.{Serves};
 ghost use Rattle.fj_bay.specs.Halt.{halt_behind};
 
-use crate::boxed::Boxed;
 use crate::job::{Answer, Job};
 use crate::plain::{PlainAnswer, PlainBay, PlainJob};
 use fj_connect::{Connection, Look, Positioning};
@@ -15,7 +14,7 @@ use fj_outside::{FileStore, Stop};
 use fj_perform::perform;
 use fj_slot::Engine;
 use fj_transfer::Transfer;
-use fj_value::{Condition, EditModes};
+use fj_value::{Boxed, Condition, EditModes};
 use std::alloc::{AllocError, Global};
 
 /// So many cells take longer to transfer than a thread takes to wake.

@@ -1,9 +1,8 @@
 // What a bay may be given to do, and what it answers.
-use crate::boxed::Boxed;
 use fj_connect::{Connection, Look, Positioning};
 use fj_outside::FileStore;
 use fj_transfer::Transfer;
-use fj_value::{Condition, EditModes};
+use fj_value::{Boxed, Condition, EditModes};
 
 /// A job on the connection of a bay.
 #[derive(Drop)]

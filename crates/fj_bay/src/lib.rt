@@ -3,14 +3,12 @@
 #![tactic(auto)]
 
 mod bay;
-mod boxed;
 mod cases;
 mod job;
 mod laws;
 mod plain;
 
 pub use bay::Bay;
-pub use boxed::Boxed;
 pub use cases::{
     first_changes, on_a_full_bay, on_a_halted_bay, on_an_empty_bay, open_record_goes_out_ended,
 };

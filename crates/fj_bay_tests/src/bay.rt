@@ -4,7 +4,7 @@ ghost use Rattle.std.specs.FinSet as set;
 ghost use Rattle.fj_outside.specs.FailingDisk.{disk_held};
 
 use fj_bay::Answer::{Done, Skipped};
-use fj_bay::{Answer, Bay, Boxed, Job};
+use fj_bay::{Answer, Bay, Job};
 use fj_connect::{Connection, OpenFault, Positioning, open_file};
 use fj_format::parse;
 use fj_list::{Load, Moved};
@@ -13,7 +13,7 @@ use fj_outside::{FailingDisk, FailingFile, FileStore, MemoryDisk, Stop};
 use fj_slot::Engine;
 use fj_transfer::{EditChange, Layout, Transfer, TransferSpec};
 use fj_value::Condition::{EndOfFile, Error, Fine};
-use fj_value::{Delim, EditModes, Items, Tag};
+use fj_value::{Boxed, Delim, EditModes, Items, Tag};
 use std::alloc::{AllocError, Global};
 use std::test::Fail;
 

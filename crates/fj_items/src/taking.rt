@@ -24,12 +24,11 @@ use crate::lost::Lost;
 use crate::number::number_given;
 use crate::star::edit_of;
 use crate::undefining::undefine_size;
-use fj_bay::Boxed;
 use fj_list::{Load, Moved};
 use fj_statement::{Transfer, Variables};
 use fj_store::{Piece, Run, Store};
 use fj_transfer::{Transfer as Moving, TransferSpec};
-use fj_value::{Items, Tag};
+use fj_value::{Boxed, Items, Tag};
 use std::alloc::Global;
 use std::collections::VecDeque;
 

@@ -36,7 +36,8 @@ fn fresh_slots<F: FileStore>(alloc: Global) -> Result<Slots<Bay<F>>, AllocError>
 {
     let mut slots = Slots::new(alloc);
     'filling: while slots.len() < MOST_SLOTS {
-        match slots.push(fresh_slot::<F>(alloc)?) {
+        let slot = fresh_slot::<F>(alloc)?;
+        match slots.push(slot) {
             Ok(()) => {}
             Err(refused) => return Err(refused.error),
         }

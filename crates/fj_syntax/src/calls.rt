@@ -11,12 +11,12 @@ use crate::operand::{Argument, Given, Operand};
 use crate::token::Token;
 use crate::words::Keyword;
 use crate::words::Specifier::{self, Property};
-use crate::written::{Asking, BoxedTransfer, Inquire, OnUnit, Transfer};
+use crate::written::{Asking, Inquire, OnUnit, Transfer};
 use fj_modes::{
     Access, Action, Answer, Blank, Decimal, Disposition, FileStatus, Form, Motion, OpenSpec,
     Question, Sign, Start, Subject,
 };
-use fj_value::{Delim, Items};
+use fj_value::{Boxed, Delim, Items};
 use std::alloc::Global;
 
 /// UNIT= and IOSTAT= beside what else a statement says.
@@ -137,7 +137,7 @@ pub fn make_transfer(
     input: bool,
     arguments: &[Argument],
     items: Items<Operand>,
-) -> Read<BoxedTransfer>
+) -> Read<Boxed<Transfer>>
     ensures { Gives (λ x. x) result (transfer_of input arguments.now items) }
 {
     let transfer = Transfer {
@@ -159,5 +159,5 @@ pub fn make_transfer(
         iostat: place(arguments, Specifier::Iostat)?,
         items,
     };
-    Ok(BoxedTransfer::new(alloc, transfer)?)
+    Ok(Boxed::new(alloc, transfer)?)
 }

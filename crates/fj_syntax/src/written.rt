@@ -1,11 +1,8 @@
 // One statement as it is written: what its tokens say, before any name has a meaning.
-ghost use Rattle.std.specs.Prelude.{◌≡◌, IfOk};
 
 use crate::operand::{Designator, Operand};
 use fj_modes::{Motion, OpenSpec, Question, Subject, UnitRef};
-use fj_value::{Delim, Items, Kind, Text};
-use std::alloc::{AllocError, Global};
-use std::marker::Model;
+use fj_value::{Boxed, Delim, Items, Kind, Text};
 
 /// A type declaration. The attribute ASYNCHRONOUS has no effect.
 #[derive(Drop)]
@@ -94,37 +91,6 @@ pub struct Transfer {
     pub items: Items<Operand>,
 }
 
-/// READ or WRITE behind one pointer, so that a statement is small where it is handed on. Seen as what it says.
-#[derive(Drop)]
-pub struct BoxedTransfer {
-    place: Box<Transfer>,
-}
-
-impl Model for BoxedTransfer {
-    ghost use Rattle.fj_syntax.specs.declared.written.Transfer.{Transfer};
-
-    ghost Value = { Transfer };
-
-    ghost view = { λ boxed. boxed.place.value };
-}
-
-impl BoxedTransfer {
-    /// Moves it behind a pointer. Want of memory drops it.
-    pub fn new(alloc: Global, transfer: Transfer) -> Result<BoxedTransfer, AllocError>
-        ensures { IfOk result (λ boxed. boxed ≡ transfer) }
-    {
-        Ok(BoxedTransfer {
-            place: Box::new(alloc, transfer)?,
-        })
-    }
-
-    pub fn get(&self) -> &Transfer
-        ensures { result.now ≡ self.now }
-    {
-        &*self.place
-    }
-}
-
 /// A declaration or statement.
 #[derive(Drop)]
 pub enum Written {
@@ -139,6 +105,7 @@ pub enum Written {
     /// BACKSPACE, REWIND, ENDFILE or FLUSH.
     Move(OnUnit<Motion>),
     Inquire(Inquire),
-    Transfer(BoxedTransfer),
+    /// Behind one pointer, so that a statement is small where it is handed on.
+    Transfer(Boxed<Transfer>),
     End,
 }

@@ -1,6 +1,7 @@
-//! Values, kinds, places, conditions and edit descriptors of a deck, and the list that all list types are.
+//! Values, kinds, places, conditions and edit descriptors of a deck, the list that all list types are, and a value on the heap.
 #![tactic(auto)]
 
+mod boxed;
 mod characters;
 mod condition;
 mod digits;
@@ -13,6 +14,7 @@ mod shown;
 mod text;
 mod value;
 
+pub use boxed::Boxed;
 pub use characters::Characters;
 pub use condition::{Condition, Rule};
 pub use digits::{digits_are_unique, numerals_are_read, twos_complement_is_exact};

@@ -8,8 +8,8 @@ use Rattle.fj_job.proofs.ready.fresh_slots.Goals as goal
 pub filling-preserved : goal.filling-preserved
 filling-preserved g c =
     let meaning = bay_meaning g.F.FileStore.told g.F.FileStore.bytes g.F.FileStore.count in
-    let grown : length c.push.new.self.slots ≡ length c.filling.slots.slots + 1 = ap (λ ls. length ls) c.in-Ok.ensures.ok ∙ length_push c.filling.slots.slots c.fresh_slot.result in
+    let grown : length c.push.new.self.slots ≡ length c.filling.slots.slots + 1 = ap (λ ls. length ls) c.in-Ok.ensures.ok ∙ length_push c.filling.slots.slots c.in_ok-slot.slot in
     record {
-      each = subst (λ ls. All (IsFresh meaning) ls) (sym c.in-Ok.ensures.ok) (All-push (IsFresh meaning) c.filling.slots.slots c.fresh_slot.result c.filling.invariant.each c.fresh_slot.ensures);
+      each = subst (λ ls. All (IsFresh meaning) ls) (sym c.in-Ok.ensures.ok) (All-push (IsFresh meaning) c.filling.slots.slots c.in_ok-slot.slot c.filling.invariant.each c.in_ok-slot.ensures);
       few = omega arith;
     }

@@ -1,7 +1,7 @@
 // A value on the heap.
 ghost use Rattle.std.specs.Prelude.{◌≡◌, IfOk};
 ghost use Rattle.std.specs.Borrow.{Lends, sem};
-ghost use Rattle.fj_bay.specs.contracts.boxed.Boxed.{the_row};
+ghost use Rattle.fj_value.specs.contracts.boxed.Boxed.{the_row};
 
 use std::alloc::{AllocError, Global};
 use std::marker::Model;
