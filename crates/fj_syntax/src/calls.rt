@@ -11,7 +11,7 @@ use crate::operand::{Argument, Given, Operand};
 use crate::token::Token;
 use crate::words::Keyword;
 use crate::words::Specifier::{self, Property};
-use crate::written::{Asking, BoxedTransfer, Inquire, OnUnit, Transfer};
+use crate::written::{Asking, Inquire, OnUnit, Transfer};
 use fj_modes::{
     Access, Action, Answer, Blank, Decimal, Disposition, FileStatus, Form, Motion, OpenSpec,
     Question, Sign, Start, Subject,
@@ -132,15 +132,10 @@ pub fn make_inquire(alloc: Global, tokens: &[Token<'_>]) -> Read<Inquire>
 
 /// READ or WRITE.
 #[tactic(auto, unfolding(crate::specs::Calls::transfer_of))]
-pub fn make_transfer(
-    alloc: Global,
-    input: bool,
-    arguments: &[Argument],
-    items: Items<Operand>,
-) -> Read<BoxedTransfer>
+pub fn make_transfer(input: bool, arguments: &[Argument], items: Items<Operand>) -> Read<Transfer>
     ensures { Gives (λ x. x) result (transfer_of input arguments.now items) }
 {
-    let transfer = Transfer {
+    Ok(Transfer {
         input,
         unit: unit(!input, arguments)?,
         format: format(arguments)?,
@@ -158,6 +153,5 @@ pub fn make_transfer(
         size: place(arguments, Property(Question::Size))?,
         iostat: place(arguments, Specifier::Iostat)?,
         items,
-    };
-    Ok(BoxedTransfer::new(alloc, transfer)?)
+    })
 }

@@ -13,7 +13,7 @@ use crate::parts::{Part, is_name, list, parted};
 use crate::token::Mark::{Comma, DoubleColon, Equals, LeftParenthesis, RightParenthesis, Slash};
 use crate::token::{Sign, Token};
 use crate::words::{Keyword, keyword_of};
-use crate::written::{Assignment, Declaration, Group, OnUnit, Written};
+use crate::written::{Assignment, BoxedTransfer, Declaration, Group, OnUnit, Written};
 use fj_modes::Motion;
 use fj_value::{Items, Kind, Text};
 use std::alloc::Global;
@@ -150,8 +150,8 @@ fn transfer(alloc: Global, input: bool, tokens: &[Token<'_>]) -> Read<Written>
 {
     let (arguments, behind) = call(alloc, Keyword::Transfer { input }, tokens)?;
     let items = items(alloc, behind)?;
-    let transfer = make_transfer(alloc, input, arguments.as_slice(), items)?;
-    Ok(Written::Transfer(transfer))
+    let transfer = make_transfer(input, arguments.as_slice(), items)?;
+    Ok(Written::Transfer(BoxedTransfer::new(alloc, transfer)?))
 }
 
 /// A motion, behind its words: a bare unit, or arguments in parentheses.
