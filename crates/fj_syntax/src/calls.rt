@@ -16,7 +16,7 @@ use fj_modes::{
     Access, Action, Answer, Blank, Decimal, Disposition, FileStatus, Form, Motion, OpenSpec,
     Question, Sign, Start, Subject,
 };
-use fj_value::{Boxed, Delim, Items};
+use fj_value::{Delim, Items};
 use std::alloc::Global;
 
 /// UNIT= and IOSTAT= beside what else a statement says.
@@ -132,15 +132,10 @@ pub fn make_inquire(alloc: Global, tokens: &[Token<'_>]) -> Read<Inquire>
 
 /// READ or WRITE.
 #[tactic(auto, unfolding(crate::specs::Calls::transfer_of))]
-pub fn make_transfer(
-    alloc: Global,
-    input: bool,
-    arguments: &[Argument],
-    items: Items<Operand>,
-) -> Read<Boxed<Transfer>>
+pub fn make_transfer(input: bool, arguments: &[Argument], items: Items<Operand>) -> Read<Transfer>
     ensures { Gives (λ x. x) result (transfer_of input arguments.now items) }
 {
-    let transfer = Transfer {
+    Ok(Transfer {
         input,
         unit: unit(!input, arguments)?,
         format: format(arguments)?,
@@ -158,6 +153,5 @@ pub fn make_transfer(
         size: place(arguments, Property(Question::Size))?,
         iostat: place(arguments, Specifier::Iostat)?,
         items,
-    };
-    Ok(Boxed::new(alloc, transfer)?)
+    })
 }

@@ -15,7 +15,7 @@ use crate::token::{Sign, Token};
 use crate::words::{Keyword, keyword_of};
 use crate::written::{Assignment, Declaration, Group, OnUnit, Written};
 use fj_modes::Motion;
-use fj_value::{Items, Kind, Text};
+use fj_value::{Boxed, Items, Kind, Text};
 use std::alloc::Global;
 
 /// The largest length of characters.
@@ -150,8 +150,8 @@ fn transfer(alloc: Global, input: bool, tokens: &[Token<'_>]) -> Read<Written>
 {
     let (arguments, behind) = call(alloc, Keyword::Transfer { input }, tokens)?;
     let items = items(alloc, behind)?;
-    let transfer = make_transfer(alloc, input, arguments.as_slice(), items)?;
-    Ok(Written::Transfer(transfer))
+    let transfer = make_transfer(input, arguments.as_slice(), items)?;
+    Ok(Written::Transfer(Boxed::new(alloc, transfer)?))
 }
 
 /// A motion, behind its words: a bare unit, or arguments in parentheses.
