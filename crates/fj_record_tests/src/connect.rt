@@ -212,7 +212,7 @@ fn come_to<D: Disk>(
     }
 }
 
-/// The same on a disk that holds the file with these bytes, or no file, and whether it holds those then, or none.
+/// The same on a disk that holds the file with these bytes, or none, and whether it is left with those or, removed, with none.
 fn come_and_leave(
     alloc: Global,
     opening: Statement,
