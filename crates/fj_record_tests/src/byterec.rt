@@ -2,8 +2,8 @@
 use fj_byterec::{read_direct, read_stream, write_direct, write_stream};
 use fj_outside::{FileStore, MemoryFile, Stop};
 use fj_value::Text;
-use std::alloc::Global;
-use std::test::Fail;
+use std::alloc::{AllocError, Global};
+use std::test::*;
 
 // The length and the number of a record of ten bytes, whether it is there, and what it has.
 static RECORDS: [(u32, u64, bool, &[u8]); 8] = [
@@ -30,18 +30,34 @@ fn read_at_number<F: FileStore>(
     read_direct(file, recl, number, into)
 }
 
-#[test]
-fn reads_records(rt: HostRuntime) -> Result<(), Fail> {
-    let mut into = Text::new(rt.alloc());
-    let mut file = MemoryFile::from_bytes(rt.alloc(), b"abcdefghij")?;
-    for (recl, number, there, record) in RECORDS.iter() {
-        let found = read_at_number(&mut file, *recl, *number, &mut into)?;
-        assert!(rt;
-            found == *there && into.bytes() == *record,
-            "{number} of {recl}"
-        );
+/// Whether that is what was to be found, with these bytes.
+fn is_found(found: Result<bool, Stop>, there: bool, into: &Text, bytes: &[u8]) -> bool {
+    found == Ok(there) && into.bytes() == bytes
+}
+
+/// How many rows of that table hold, up to the first that does not.
+fn rows_read<F: FileStore>(file: &mut F, into: &mut Text) -> usize {
+    for (row, (recl, number, there, record)) in RECORDS.iter().enumerate() {
+        let found = read_at_number(file, *recl, *number, into);
+        if !is_found(found, *there, into, record) {
+            return row;
+        }
     }
-    Ok(())
+    RECORDS.len()
+}
+
+/// The same in a file of ten bytes.
+fn rows_read_in_file(alloc: Global) -> usize {
+    let mut into = Text::new(alloc);
+    match MemoryFile::from_bytes(alloc, b"abcdefghij") {
+        Ok(mut file) => rows_read(&mut file, &mut into),
+        Err(_) => 0,
+    }
+}
+
+#[test]
+fn reads_records(rt: HostRuntime) {
+    assert_eq!(rt; rows_read_in_file(rt.alloc()), RECORDS.len());
 }
 
 // A file, the number of a record of four bytes, what is put there and what fills it up, and the file then.
@@ -69,19 +85,22 @@ fn put_at_number<F: FileStore>(
 }
 
 /// Whether a row of that table holds.
-fn puts(alloc: Global, row: &(&[u8], u64, &[u8], u8, &[u8])) -> Result<bool, Stop> {
+fn puts(alloc: Global, row: &(&[u8], u64, &[u8], u8, &[u8])) -> bool {
     let (bytes, number, piece, fill, after) = *row;
-    let mut file = MemoryFile::from_bytes(alloc, bytes)?;
-    put_at_number(&mut file, number, piece, fill)?;
-    Ok(file.bytes() == after)
+    match MemoryFile::from_bytes(alloc, bytes) {
+        Ok(mut file) => {
+            let put = put_at_number(&mut file, number, piece, fill);
+            put.is_ok() && file.bytes() == after
+        }
+        Err(_) => false,
+    }
 }
 
 #[test]
-fn writes_records(rt: HostRuntime) -> Result<(), Fail> {
+fn writes_records(rt: HostRuntime) {
     for (row, put) in PUT.iter().enumerate() {
-        assert!(rt; puts(rt.alloc(), put)?, "row {row}");
+        assert!(rt; puts(rt.alloc(), put), "row {row}");
     }
-    Ok(())
 }
 
 /// Puts the second record of 3,000 bytes, and answers whether it is there then.
@@ -90,16 +109,21 @@ fn put_long<F: FileStore>(file: &mut F, into: &mut Text) -> Result<bool, Stop> {
     read_direct(file, 3000, 2, into)
 }
 
-// Records that are not gathered, behind a gap of several pieces.
+/// Whether that record is there, behind a gap of several pieces; it is not gathered.
+fn puts_long(alloc: Global) -> bool {
+    let mut into = Text::new(alloc);
+    match MemoryFile::from_bytes(alloc, b"ab") {
+        Ok(mut file) => {
+            let there = put_long(&mut file, &mut into) == Ok(true);
+            there && file.len() == 6000 && into.len() == 3000 && into.bytes().starts_with(b"cd.")
+        }
+        Err(_) => false,
+    }
+}
+
 #[test]
-fn writes_long_records(rt: HostRuntime) -> Result<(), Fail> {
-    let mut into = Text::new(rt.alloc());
-    let mut file = MemoryFile::from_bytes(rt.alloc(), b"ab")?;
-    assert!(rt; put_long(&mut file, &mut into)?);
-    assert_eq!(rt; file.len(), 6000);
-    assert_eq!(rt; into.len(), 3000);
-    assert!(rt; into.bytes().starts_with(b"cd."));
-    Ok(())
+fn writes_long_records(rt: HostRuntime) {
+    assert!(rt; puts_long(rt.alloc()));
 }
 
 // A place in a stream of six bytes and how many are wanted, whether they are there, and what they are.
@@ -133,17 +157,35 @@ fn write_from<F: FileStore>(file: &mut F, at: u64, piece: &[u8]) -> Result<u64, 
     write_stream(file, at, piece)
 }
 
-#[test]
-fn reads_and_writes_bytes(rt: HostRuntime) -> Result<(), Fail> {
-    let mut into = Text::new(rt.alloc());
-    let mut file = MemoryFile::from_bytes(rt.alloc(), b"abcdef")?;
-    assert_eq!(rt; write_from(&mut file, 2, b"XY")?, 4);
-    for (at, want, there, bytes) in PIECES.iter() {
-        let found = read_from(&mut file, *at, *want, &mut into)?;
-        assert!(rt; found == *there && into.bytes() == *bytes, "{want} at {at}");
+/// How many rows of that table hold, up to the first that does not.
+fn pieces_read<F: FileStore>(file: &mut F, into: &mut Text) -> usize {
+    for (row, (at, want, there, bytes)) in PIECES.iter().enumerate() {
+        let found = read_from(file, *at, *want, into);
+        if !is_found(found, *there, into, bytes) {
+            return row;
+        }
     }
-    assert_eq!(rt; file.bytes(), b"abXYef".as_slice());
-    assert_eq!(rt; write_from(&mut file, 6, b"gh")?, 8);
-    assert_eq!(rt; file.bytes(), b"abXYefgh".as_slice());
-    Ok(())
+    PIECES.len()
+}
+
+/// Whether two bytes are written at a place, up to another, and the file is this then.
+fn writes(file: &mut MemoryFile, at: u64, piece: &[u8], behind: u64, after: &[u8]) -> bool {
+    write_from(file, at, piece) == Ok(behind) && file.bytes() == after
+}
+
+/// How many rows hold behind a first write, and whether that and one behind the rows are as they are to be.
+fn written_and_read(alloc: Global) -> Result<(bool, usize, bool), AllocError> {
+    let mut into = Text::new(alloc);
+    let mut file = MemoryFile::from_bytes(alloc, b"abcdef")?;
+    let first = writes(&mut file, 2, b"XY", 4, b"abXYef");
+    let rows = pieces_read(&mut file, &mut into);
+    let unchanged = file.bytes() == b"abXYef".as_slice();
+    let second = writes(&mut file, 6, b"gh", 8, b"abXYefgh");
+    Ok((first, rows, unchanged && second))
+}
+
+#[test]
+fn reads_and_writes_bytes(rt: HostRuntime) {
+    let due = (true, PIECES.len(), true);
+    assert_eq!(rt; written_and_read(rt.alloc()), Ok(due));
 }

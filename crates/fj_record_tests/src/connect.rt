@@ -1,5 +1,5 @@
 // What the tables of the tests share: connections of each access and form to the file of unit 10, and steps on them.
-ghost use Rattle.std.specs.Prelude.{◌≡◌, ◌↔◌, IfOk, IfErr};
+ghost use Rattle.std.specs.Prelude.{◌≡◌, ◌↔◌, IfOk};
 ghost use Rattle.std.specs.FinSet as set;
 ghost use Rattle.fj_outside.specs.Holdings.{IsInUse};
 
@@ -9,16 +9,19 @@ mod motions;
 mod opening;
 mod sizes;
 
+use crate::disks::{NAME, disk_of};
 use fj_connect::{Connection, OpenFault, Positioning, open_file};
 use fj_modes::{Access, Action, FileName, FileStatus, OpenSpec, Start, settle_open};
-use fj_outside::{Disk, FileStore, MemoryDisk, Stop};
+use fj_outside::{Disk, FileStore, Stop};
 use fj_value::Condition;
-use std::alloc::{AllocError, Global};
+use std::alloc::Global;
 
 /// A connection by access and form.
 #[derive(Clone, Copy)]
 enum Kind {
     Lines,
+    /// Lines of four characters at most.
+    ShortLines,
     Frames,
     Direct,
     DirectLines,
@@ -26,19 +29,48 @@ enum Kind {
     StreamLines,
 }
 
-use Kind::{Direct, DirectLines, Frames, Lines, Stream, StreamLines};
+use Kind::{Direct, DirectLines, Frames, Lines, ShortLines, Stream, StreamLines};
 
 static KINDS: [Kind; 6] = [Lines, Frames, Direct, DirectLines, Stream, StreamLines];
 
-/// An OPEN statement; direct records have four characters.
-fn statement(kind: Kind, status: FileStatus, start: Option<Start>, action: Action) -> OpenSpec {
+/// An OPEN statement.
+#[derive(Clone, Copy)]
+struct Statement {
+    kind: Kind,
+    status: FileStatus,
+    start: Option<Start>,
+    action: Action,
+}
+
+/// To read and write, without POSITION=.
+fn read_and_write(kind: Kind, status: FileStatus) -> Statement {
+    Statement {
+        kind,
+        status,
+        start: None,
+        action: Action::ReadWrite,
+    }
+}
+
+/// Its specifiers; direct records have four characters.
+fn specifiers(opening: Statement) -> OpenSpec {
+    let Statement {
+        kind,
+        status,
+        start,
+        action,
+    } = opening;
     let mut spec = OpenSpec::default();
     spec.status = Some(status);
     spec.position = start;
     spec.action = Some(action);
-    spec.formatted = Some(matches!(kind, Lines | DirectLines | StreamLines));
+    spec.formatted = Some(matches!(kind, Lines | ShortLines | DirectLines | StreamLines));
     match kind {
         Lines | Frames => spec.access = Some(Access::Sequential),
+        ShortLines => {
+            spec.access = Some(Access::Sequential);
+            spec.recl = Some(4);
+        }
         Stream | StreamLines => spec.access = Some(Access::Stream),
         Direct | DirectLines => {
             spec.access = Some(Access::Direct);
@@ -53,32 +85,20 @@ fn statement(kind: Kind, status: FileStatus, start: Option<Start>, action: Actio
 fn connect<D: Disk>(
     alloc: Global,
     disk: &mut D,
-    spec: &OpenSpec,
+    opening: Statement,
 ) -> Result<Connection<D::File>, OpenFault>
     requires { D.tells disk.old → (D.held disk.old).in_use ≡ set.empty }
     ensures telling { D.tells disk.old ↔ D.tells disk.new }
     ensures used { D.tells disk.old → IfOk result (λ c. IsInUse (D.held disk.new) c.name) }
 {
     let name = FileName::by_default(alloc, 10)?;
-    match settle_open(spec) {
-        Ok(modes) => open_file(alloc, disk, &name, spec, modes),
+    let spec = specifiers(opening);
+    let opened = match settle_open(&spec) {
+        Ok(modes) => open_file(alloc, disk, &name, &spec, modes),
         Err(condition) => Err(OpenFault::Refused(condition)),
-    }
-}
-
-/// The name of the file of unit 10.
-const NAME: &str = "fort.10";
-
-/// A disk that holds that file with these bytes, or no file.
-#[tactic(auto, using(fj_outside::proofs::HoldingLaws::free_of_empty))]
-fn disk_of(alloc: Global, bytes: Option<&[u8]>) -> Result<MemoryDisk, AllocError>
-    ensures { IfOk result (λ disk. disk.in_use ≡ set.empty) }
-{
-    let mut disk = MemoryDisk::new(alloc);
-    if let Some(bytes) = bytes {
-        disk.add_file(NAME, bytes)?;
-    }
-    Ok(disk)
+    };
+    drop(spec);
+    opened
 }
 
 /// What is done with a connection.
@@ -101,6 +121,22 @@ use Step::{At, End, Go, In, Open, PastEnd, Put};
 /// The code of a step that cannot be done there.
 const NOT_DONE: u8 = 99;
 
+/// The code of what was done, or why it was not.
+fn code_where_done(done: Result<(), Stop>) -> Result<u8, Stop> {
+    match done {
+        Ok(()) => Ok(0),
+        Err(stop) => Err(stop),
+    }
+}
+
+/// The code of a motion, or why there was none.
+fn code_where_moved(done: Result<Condition, Stop>) -> Result<u8, Stop> {
+    match done {
+        Ok(condition) => Ok(code_of(condition)),
+        Err(stop) => Err(stop),
+    }
+}
+
 fn code_of(condition: Condition) -> u8 {
     match condition {
         Condition::Fine => 0,
@@ -119,10 +155,9 @@ fn put<F: FileStore>(c: &mut Connection<F>, text: &[u8], left_open: Option<u64>)
         return Ok(NOT_DONE);
     }
     match left_open {
-        Some(count) if count <= at => c.put_open_record(text, count)?,
-        _ => c.put_records(text)?,
+        Some(count) if count <= at => code_where_done(c.put_open_record(text, count)),
+        _ => code_where_done(c.put_records(text)),
     }
-    Ok(0)
 }
 
 /// Does it, and answers the code.
@@ -136,8 +171,8 @@ fn done<F: FileStore>(c: &mut Connection<F>, step: Step) -> Result<u8, Stop>
         PastEnd => c.go_past_end(),
         Open(text, count) => return put(c, text, Some(count)),
         Put(text) => return put(c, text, None),
-        End => c.end_record()?,
-        Go(how) => return Ok(code_of(c.move_to(how)?)),
+        End => return code_where_done(c.end_record()),
+        Go(how) => return code_where_moved(c.move_to(how)),
         _ => return Ok(NOT_DONE),
     }
     Ok(0)
@@ -157,23 +192,41 @@ fn all_done<F: FileStore>(c: &mut Connection<F>, steps: &[Step]) -> Result<u8, S
 /// What steps come to: the last code, the position, and whether that is behind the endfile record.
 type Came = (u8, u64, bool);
 
-/// Opens, does the steps, and closes.
+/// Opens, does the steps, and closes; the file is kept or removed.
 fn come_to<D: Disk>(
     alloc: Global,
     disk: &mut D,
-    spec: &OpenSpec,
+    opening: Statement,
     steps: &[Step],
+    keep: bool,
 ) -> Result<Came, OpenFault>
     requires { D.tells disk.old → (D.held disk.old).in_use ≡ set.empty }
 {
-    let mut c = connect(alloc, disk, spec)?;
+    let mut c = connect(alloc, disk, opening)?;
     let last = all_done(&mut c, steps);
     let spot = c.spot();
-    c.close_file(disk, true).map_err(Stop::from)?;
-    Ok((last?, spot.at, spot.after_end))
+    match (c.close_file(disk, keep), last) {
+        (Ok(()), Ok(code)) => Ok((code, spot.at, spot.after_end)),
+        (Err(failed), _) => Err(OpenFault::Stop(Stop::from(failed))),
+        (_, Err(stop)) => Err(OpenFault::Stop(stop)),
+    }
 }
 
-/// Whether the file of unit 10 is at home with these bytes, or there is none.
-fn holds(disk: &MemoryDisk, bytes: Option<&[u8]>) -> bool {
-    disk.bytes_of(NAME) == bytes
+/// The same on a disk that holds the file with these bytes, or none, and whether it is left with those or, removed, with none.
+fn come_and_leave(
+    alloc: Global,
+    opening: Statement,
+    there: Option<&[u8]>,
+    steps: &[Step],
+    left: Option<&[u8]>,
+) -> (Result<Came, OpenFault>, bool) {
+    match disk_of(alloc, there) {
+        Ok(mut disk) => {
+            let came = come_to(alloc, &mut disk, opening, steps, left.is_some());
+            let holds = disk.bytes_of(NAME) == left;
+            drop(disk);
+            (came, holds)
+        }
+        Err(error) => (Err(OpenFault::Stop(Stop::Memory(error))), false),
+    }
 }

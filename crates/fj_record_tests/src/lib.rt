@@ -6,6 +6,8 @@ mod byterec;
 #[cfg(test)]
 mod connect;
 #[cfg(test)]
+mod disks;
+#[cfg(test)]
 mod records;
 #[cfg(test)]
 mod seqrec;

@@ -1,15 +1,15 @@
 // Each call on records, over a file whose k-th call fails.
-ghost use Rattle.std.specs.Prelude.{◌≡◌, IfOk};
+ghost use Rattle.std.specs.Prelude.{◌≡◌};
 ghost use Rattle.std.specs.FinSet as set;
-ghost use Rattle.fj_outside.specs.FailingDisk.{disk_held};
 
+use crate::disks::{NAME, begin_alike, failed, failing};
 use fj_byterec::{read_direct, read_stream, write_direct, write_stream};
-use fj_outside::{Disk, FailingDisk, FileStore, MemoryDisk, Stop};
+use fj_outside::{Disk, FileStore, Stop};
 use fj_seqrec::{append_records, backspace_line, read_record};
 use fj_unfrec::{append_frame, backspace_frame, read_frame};
 use fj_value::Text;
-use std::alloc::{AllocError, Global};
-use std::test::Fail;
+use std::alloc::Global;
+use std::test::*;
 
 // Two frames, which are one line and six records of four bytes.
 const WHOLE: [u8; 24] = [
@@ -37,66 +37,43 @@ enum Call {
     WriteStream,
 }
 
-/// Calls on lines.
-fn run_on_lines<F: FileStore>(file: &mut F, call: Call, into: &mut Text) -> Result<(), Stop> {
+/// Makes a call on lines, and answers whether the outside failed.
+fn run_on_lines<F: FileStore>(file: &mut F, call: Call, into: &mut Text) -> bool {
     let len = file.len();
     match call {
-        ReadRecord => {
-            read_record(file, 0, 99, into)?;
-        }
-        BackspaceLine if 24 <= len => {
-            backspace_line(file, 24)?;
-        }
-        AppendRecords if 12 <= len => {
-            append_records(file, 12, b"ab\n", true)?;
-        }
-        _ => {}
+        ReadRecord => failed(read_record(file, 0, 99, into)),
+        BackspaceLine if 24 <= len => backspace_line(file, 24).is_err(),
+        AppendRecords if 12 <= len => failed(append_records(file, 12, b"ab\n", true)),
+        _ => false,
     }
-    Ok(())
 }
 
-/// Calls on frames.
-fn run_on_frames<F: FileStore>(file: &mut F, call: Call, into: &mut Text) -> Result<(), Stop> {
+/// A call on frames.
+fn run_on_frames<F: FileStore>(file: &mut F, call: Call, into: &mut Text) -> bool {
     let len = file.len();
     match call {
-        ReadFrame if 12 <= len => {
-            read_frame(file, 12, 99, into)?;
-        }
-        BackspaceFrame if 24 <= len => {
-            backspace_frame(file, 24)?;
-        }
-        AppendShortFrame if 12 <= len => {
-            append_frame(file, 12, b"ab")?;
-        }
-        AppendLongFrame if 12 <= len => {
-            append_frame(file, 12, &[7; 1500])?;
-        }
-        _ => {}
+        ReadFrame if 12 <= len => failed(read_frame(file, 12, 99, into)),
+        BackspaceFrame if 24 <= len => backspace_frame(file, 24).is_err(),
+        AppendShortFrame if 12 <= len => failed(append_frame(file, 12, b"ab")),
+        AppendLongFrame if 12 <= len => failed(append_frame(file, 12, &[7; 1500])),
+        _ => false,
     }
-    Ok(())
 }
 
-/// Calls on direct records and on bytes.
-fn run_on_bytes<F: FileStore>(file: &mut F, call: Call, into: &mut Text) -> Result<(), Stop> {
+/// A call on direct records or on bytes.
+fn run_on_bytes<F: FileStore>(file: &mut F, call: Call, into: &mut Text) -> bool {
     let len = file.len();
     match call {
-        ReadDirect => {
-            read_direct(file, 4, 2, into)?;
-        }
-        WriteDirectInside => write_direct(file, 4, 2, b"x", b' ')?,
-        WriteDirectBehindGap => write_direct(file, 4, 9, b"x", b' ')?,
-        ReadStream if 3 <= len => {
-            read_stream(file, 3, 5, into)?;
-        }
-        WriteStream if 5 <= len => {
-            write_stream(file, 5, b"xyz")?;
-        }
-        _ => {}
+        ReadDirect => failed(read_direct(file, 4, 2, into)),
+        WriteDirectInside => failed(write_direct(file, 4, 2, b"x", b' ')),
+        WriteDirectBehindGap => failed(write_direct(file, 4, 9, b"x", b' ')),
+        ReadStream if 3 <= len => failed(read_stream(file, 3, 5, into)),
+        WriteStream if 5 <= len => failed(write_stream(file, 5, b"xyz")),
+        _ => false,
     }
-    Ok(())
 }
 
-fn run<F: FileStore>(file: &mut F, call: Call, into: &mut Text) -> Result<(), Stop> {
+fn run<F: FileStore>(file: &mut F, call: Call, into: &mut Text) -> bool {
     match call {
         ReadRecord | BackspaceLine | AppendRecords => run_on_lines(file, call, into),
         ReadFrame | BackspaceFrame | AppendShortFrame | AppendLongFrame => {
@@ -108,47 +85,31 @@ fn run<F: FileStore>(file: &mut F, call: Call, into: &mut Text) -> Result<(), St
     }
 }
 
-/// A disk that holds one file, on which the k-th call fails.
-#[tactic(auto, using(fj_outside::proofs::HoldingLaws::free_of_empty))]
-fn failing(alloc: Global, k: u64) -> Result<FailingDisk, AllocError>
-    ensures { IfOk result (λ disk. (disk_held disk).in_use ≡ set.empty) }
-{
-    let mut disk = MemoryDisk::new(alloc);
-    disk.add_file("R", &WHOLE)?;
-    let mut disk = FailingDisk::new(alloc, disk, &[])?;
-    disk.fail_file("R", &[k])?;
-    Ok(disk)
-}
-
 /// Runs a call on the file, and answers whether it failed and how many faults the file counts; none where there is no file.
 fn run_on<D: Disk>(alloc: Global, disk: &mut D, call: Call) -> Result<(bool, u64), Stop>
     requires { D.tells disk.old → (D.held disk.old).in_use ≡ set.empty }
 {
-    let mut file = match disk.take(alloc, "R") {
+    let mut file = match disk.take(alloc, NAME) {
         Ok(Some(file)) => file,
         Ok(None) => return Ok((false, 99)),
         Err(stop) => return Err(stop),
     };
-    let mut into = Text::new(alloc);
-    let failed = run(&mut file, call, &mut into) == Err(Stop::Failed);
+    let failed = run(&mut file, call, &mut Text::new(alloc));
     let faults = file.faults();
-    disk.give("R", file);
+    disk.give(NAME, file);
     Ok((failed, faults))
-}
-
-/// Whether the file begins as it was, so many bytes.
-fn begins(bytes: Option<&[u8]>, count: usize) -> bool {
-    match bytes {
-        Some(bytes) => bytes.len() >= count && bytes.get(..count) == WHOLE.get(..count),
-        None => false,
-    }
 }
 
 /// Whether a call failed at the k-th call on the file, how many faults the file counts, and whether it begins as it was.
 fn fails(alloc: Global, call: Call, kept: usize, k: u64) -> Result<(bool, u64, bool), Stop> {
-    let mut disk = failing(alloc, k)?;
-    let (failed, faults) = run_on(alloc, &mut disk, call)?;
-    Ok((failed, faults, begins(disk.bytes_of("R"), kept)))
+    let mut disk = failing(alloc, Some(&WHOLE), 0, k)?;
+    let ran = run_on(alloc, &mut disk, call);
+    let alike = begin_alike(disk.bytes_of(NAME), &WHOLE, kept);
+    drop(disk);
+    match ran {
+        Ok((failed, faults)) => Ok((failed, faults, alike)),
+        Err(stop) => Err(stop),
+    }
 }
 
 // How many calls on the file each makes, and up to where it leaves the file as it was.
@@ -168,19 +129,15 @@ static CALLS: [(Call, u64, usize); 12] = [
 ];
 
 #[test]
-fn the_kth_call_fails(rt: HostRuntime) -> Result<(), Fail> {
+fn the_kth_call_fails(rt: HostRuntime) {
     for (number, (call, count, kept)) in CALLS.iter().enumerate() {
         for k in 1..5 {
-            let due = if k <= *count {
-                (true, 1, true)
-            } else {
-                (false, 0, true)
-            };
+            let fails_then = k <= *count;
+            let due = (fails_then, u64::from(fails_then), true);
             assert!(rt;
-                fails(rt.alloc(), *call, *kept, k)? == due,
+                fails(rt.alloc(), *call, *kept, k) == Ok(due),
                 "row {number}, call {k}"
             );
         }
     }
-    Ok(())
 }

@@ -1,10 +1,13 @@
 // Worked cases of unformatted records. The bytes of `WRITTEN` are those that gfortran writes.
+ghost use Rattle.std.specs.Prelude.{◌≡◌};
+ghost use Rattle.fj_unfrec.specs.Stored.{stored_width};
+
 use fj_outside::{FileStore, MemoryFile, Stop};
 use fj_unfrec::FrameRead::{Broken, End, Frame, TooLong};
 use fj_unfrec::{FrameRead, append_frame, backspace_frame, get_value, put_value, read_frame};
 use fj_value::{Kind, Text, Value};
 use std::alloc::{AllocError, Global};
-use std::test::Fail;
+use std::test::*;
 
 // WRITE(10) 5 / WRITE(10) -2_8 / WRITE(10) .TRUE. / WRITE(10) .FALSE., 'abc' / WRITE(10)
 const WRITTEN: [u8; 63] = [
@@ -54,38 +57,50 @@ fn back_from<F: FileStore>(file: &mut F, at: u64) -> Result<Option<u64>, Stop> {
     Ok(backspace_frame(file, at)?)
 }
 
-#[test]
-fn reads_frames(rt: HostRuntime) -> Result<(), Fail> {
-    let mut into = Text::new(rt.alloc());
-    let mut file = MemoryFile::from_bytes(rt.alloc(), &WRITTEN)?;
-    for (at, limit, answer, from, to) in READS.iter() {
-        let read = read_at(&mut file, *at, *limit, &mut into)?;
-        assert!(rt;
-            read == *answer && into.bytes() == written(*from, *to),
-            "at {at} to {limit}"
-        );
+/// How many rows of that table hold, up to the first that does not.
+fn rows_read<F: FileStore>(file: &mut F, into: &mut Text) -> usize {
+    for (row, (at, limit, answer, from, to)) in READS.iter().enumerate() {
+        let read = read_at(file, *at, *limit, into);
+        if read != Ok(*answer) || into.bytes() != written(*from, *to) {
+            return row;
+        }
     }
-    Ok(())
+    READS.len()
 }
 
-/// What a file that begins with a frame, or is to, is read as.
-fn read_first(alloc: Global, bytes: &[u8]) -> Result<FrameRead, Stop> {
+/// The same in that file.
+fn rows_read_in_file(alloc: Global) -> usize {
     let mut into = Text::new(alloc);
-    let mut file = MemoryFile::from_bytes(alloc, bytes)?;
-    read_at(&mut file, 0, 99, &mut into)
+    match MemoryFile::from_bytes(alloc, &WRITTEN) {
+        Ok(mut file) => rows_read(&mut file, &mut into),
+        Err(_) => 0,
+    }
+}
+
+#[test]
+fn reads_frames(rt: HostRuntime) {
+    assert_eq!(rt; rows_read_in_file(rt.alloc()), READS.len());
+}
+
+/// Whether a file that begins with a frame, or is to, is read as that.
+fn is_read_as(alloc: Global, bytes: &[u8], answer: FrameRead) -> bool {
+    let mut into = Text::new(alloc);
+    match MemoryFile::from_bytes(alloc, bytes) {
+        Ok(mut file) => read_at(&mut file, 0, 99, &mut into) == Ok(answer),
+        Err(_) => false,
+    }
 }
 
 // Each cut of the first frame.
 #[test]
-fn reads_cut_frames(rt: HostRuntime) -> Result<(), Fail> {
-    assert!(rt; read_first(rt.alloc(), b"")? == End);
-    for end in 1..12 {
+fn reads_cut_frames(rt: HostRuntime) {
+    for end in 0..12 {
+        let answer = if end == 0 { End } else { Broken };
         assert!(rt;
-            read_first(rt.alloc(), written(0, end))? == Broken,
+            is_read_as(rt.alloc(), written(0, end), answer),
             "cut to {end}"
         );
     }
-    Ok(())
 }
 
 // The first frame with another first or last length.
@@ -95,19 +110,22 @@ static WRONG: [[u8; 12]; 3] = [
     [4, 0, 0, 0x80, 5, 0, 0, 0, 4, 0, 0, 0x80],
 ];
 
-/// Where the frame before a place begins.
-fn before(alloc: Global, bytes: &[u8], at: u64) -> Result<Option<u64>, Stop> {
-    let mut file = MemoryFile::from_bytes(alloc, bytes)?;
-    back_from(&mut file, at)
+/// Whether the frame before a place begins there.
+fn begins_at(alloc: Global, bytes: &[u8], at: u64, start: Option<u64>) -> bool {
+    match MemoryFile::from_bytes(alloc, bytes) {
+        Ok(mut file) => back_from(&mut file, at) == Ok(start),
+        Err(_) => false,
+    }
 }
 
 #[test]
-fn wrong_lengths_are_no_frame(rt: HostRuntime) -> Result<(), Fail> {
+fn wrong_lengths_are_no_frame(rt: HostRuntime) {
     for (number, bytes) in WRONG.iter().enumerate() {
-        assert!(rt; read_first(rt.alloc(), bytes)? == Broken, "row {number}");
-        assert!(rt; before(rt.alloc(), bytes, 12)?.is_none(), "row {number}");
+        assert!(rt;
+            is_read_as(rt.alloc(), bytes, Broken) && begins_at(rt.alloc(), bytes, 12, None),
+            "row {number}"
+        );
     }
-    Ok(())
 }
 
 // A place, and where the frame before it begins.
@@ -126,11 +144,10 @@ static BACK: [(u64, Option<u64>); 11] = [
 ];
 
 #[test]
-fn goes_back(rt: HostRuntime) -> Result<(), Fail> {
+fn goes_back(rt: HostRuntime) {
     for (at, start) in BACK.iter() {
-        assert!(rt; before(rt.alloc(), &WRITTEN, *at)? == *start, "at {at}");
+        assert!(rt; begins_at(rt.alloc(), &WRITTEN, *at, *start), "at {at}");
     }
-    Ok(())
 }
 
 /// Appends a frame at a place that is in the file, near its start.
@@ -144,72 +161,154 @@ fn append_at<F: FileStore>(file: &mut F, at: u64, body: &[u8]) -> Result<u64, St
 // The bodies of `WRITTEN`, from one place to another.
 static BODIES: [(usize, usize); 5] = [(4, 8), (16, 24), (32, 36), (44, 51), (0, 0)];
 
-#[test]
-fn appends_frames(rt: HostRuntime) -> Result<(), Fail> {
-    let mut file = MemoryFile::new(rt.alloc());
+/// Appends them one behind the other.
+fn append_all<F: FileStore>(file: &mut F) -> Result<(), Stop> {
     let mut at = 0;
     for (from, to) in BODIES.iter() {
-        at = append_at(&mut file, at, written(*from, *to))?;
+        at = append_at(file, at, written(*from, *to))?;
     }
-    assert_eq!(rt; file.bytes(), WRITTEN.as_slice());
     Ok(())
+}
+
+/// Whether they are that file then.
+fn are_appended(alloc: Global) -> bool {
+    let mut file = MemoryFile::new(alloc);
+    append_all(&mut file).is_ok() && file.bytes() == WRITTEN.as_slice()
+}
+
+#[test]
+fn appends_frames(rt: HostRuntime) {
+    assert!(rt; are_appended(rt.alloc()));
 }
 
 const LONG: [u8; 3000] = [7; 3000];
 
-// A body that is not gathered, over the second frame, and back to a short one.
-#[test]
-fn appends_long_frames(rt: HostRuntime) -> Result<(), Fail> {
-    let mut into = Text::new(rt.alloc());
-    let mut file = MemoryFile::from_bytes(rt.alloc(), &WRITTEN)?;
-    assert_eq!(rt; append_at(&mut file, 12, &LONG)?, 3020);
-    assert_eq!(rt; file.len(), 3020);
-    assert!(rt; read_at(&mut file, 12, 3000, &mut into)? == Frame { next: 3020 });
-    assert_eq!(rt; into.bytes(), LONG.as_slice());
-    assert_eq!(rt; append_at(&mut file, 12, b"ab")?, 22);
-    assert_eq!(rt;
-        file.bytes(),
-        b"\x04\0\0\0\x05\0\0\0\x04\0\0\0\x02\0\0\0ab\x02\0\0\0".as_slice()
-    );
-    Ok(())
+/// Whether a body that is not gathered is put over the second frame, and read there.
+fn puts_long<F: FileStore>(file: &mut F, into: &mut Text) -> bool {
+    append_at(file, 12, &LONG) == Ok(3020)
+        && file.len() == 3020
+        && read_at(file, 12, 3000, into) == Ok(Frame { next: 3020 })
+        && into.bytes() == LONG.as_slice()
 }
 
-/// Puts values of each kind one behind the other.
-fn put_values(alloc: Global) -> Result<Text, AllocError> {
+// The first frame, and a short one over the second.
+const SHORT: &[u8] = b"\x04\0\0\0\x05\0\0\0\x04\0\0\0\x02\0\0\0ab\x02\0\0\0";
+
+/// Whether that is done in that file, and a short body put over the long one then.
+fn puts_long_and_short(alloc: Global) -> bool {
+    let mut into = Text::new(alloc);
+    match MemoryFile::from_bytes(alloc, &WRITTEN) {
+        Ok(mut file) => {
+            puts_long(&mut file, &mut into)
+                && append_at(&mut file, 12, b"ab") == Ok(22)
+                && file.bytes() == SHORT
+        }
+        Err(_) => false,
+    }
+}
+
+#[test]
+fn appends_long_frames(rt: HostRuntime) {
+    assert!(rt; puts_long_and_short(rt.alloc()));
+}
+
+/// What a value is to be.
+#[derive(Clone, Copy)]
+enum Due {
+    Int(i64),
+    Log(bool),
+    Chars(&'static [u8]),
+}
+
+// Values of each kind, and the bytes that they are put as one behind the other.
+static PUTS: [(Kind, Due); 4] = [
+    (Kind::Int4, Due::Int(5)),
+    (Kind::Int8, Due::Int(-2)),
+    (Kind::Logical, Due::Log(true)),
+    (Kind::Chars(3), Due::Chars(b"abc")),
+];
+
+const STORED: &[u8] = b"\x05\0\0\0\xfe\xff\xff\xff\xff\xff\xff\xff\x01\0\0\0abc";
+
+fn value_of(alloc: Global, due: Due) -> Result<Value, AllocError> {
+    match due {
+        Due::Int(number) => Ok(Value::Int(number)),
+        Due::Log(truth) => Ok(Value::Log(truth)),
+        Due::Chars(text) => Value::of_text(Text::from_bytes(alloc, text)?),
+    }
+}
+
+/// Whether a value is put behind others.
+fn puts_one(alloc: Global, kind: Kind, due: Due, out: &mut Text) -> bool {
+    match value_of(alloc, due) {
+        Ok(value) => put_value(kind, &value, out).is_ok(),
+        Err(_) => false,
+    }
+}
+
+/// Whether they are put so.
+fn puts_all(alloc: Global) -> bool {
     let mut out = Text::new(alloc);
-    put_value(Kind::Int4, &Value::Int(5), &mut out)?;
-    put_value(Kind::Int8, &Value::Int(-2), &mut out)?;
-    put_value(Kind::Logical, &Value::Log(true), &mut out)?;
-    let chars = Value::of_text(Text::from_bytes(alloc, b"abc")?)?;
-    put_value(Kind::Chars(3), &chars, &mut out)?;
-    Ok(out)
+    let mut put = true;
+    for (kind, due) in PUTS.iter() {
+        put &= puts_one(alloc, *kind, *due, &mut out);
+    }
+    put && out.bytes() == STORED
 }
 
 #[test]
-fn puts_values(rt: HostRuntime) -> Result<(), Fail> {
-    let out = put_values(rt.alloc())?;
-    assert_eq!(rt;
-        out.bytes(),
-        b"\x05\0\0\0\xfe\xff\xff\xff\xff\xff\xff\xff\x01\0\0\0abc".as_slice()
-    );
-    Ok(())
+fn puts_values(rt: HostRuntime) {
+    assert!(rt; puts_all(rt.alloc()));
 }
 
-#[test]
-fn gets_values(rt: HostRuntime) -> Result<(), Fail> {
+// A kind, the bytes of a value, and the value.
+static GETS: [(Kind, &[u8], Due); 5] = [
+    (Kind::Int4, b"\xff\xff\xff\xff", Due::Int(-1)),
+    (Kind::Int8, b"\0\0\0\0\x01\0\0\0", Due::Int(4294967296)),
+    (Kind::Logical, b"\0\x02\0\0", Due::Log(true)),
+    (Kind::Logical, b"\0\0\0\0", Due::Log(false)),
+    (Kind::Chars(2), b"ab", Due::Chars(b"ab")),
+];
+
+/// How many bytes a value takes.
+fn width(kind: Kind) -> usize
+    ensures { result ≡ stored_width kind }
+{
+    match kind {
+        Kind::Int4 | Kind::Logical => 4,
+        Kind::Int8 => 8,
+        Kind::Chars(count) => count as usize,
+    }
+}
+
+fn is_due(value: &Value, due: Due) -> bool {
+    match (value, due) {
+        (Value::Int(number), Due::Int(other)) => *number == other,
+        (Value::Log(truth), Due::Log(other)) => *truth == other,
+        (Value::Chars(text), Due::Chars(other)) => text.bytes() == other,
+        _ => false,
+    }
+}
+
+/// How many rows of that table hold, up to the first that does not, where each value comes over the one before.
+fn rows_gotten(alloc: Global, value: &mut Value) -> usize {
+    for (row, (kind, bytes, due)) in GETS.iter().enumerate() {
+        if bytes.len() != width(*kind)
+            || get_value(alloc, *kind, bytes, value).is_err()
+            || !is_due(value, *due)
+        {
+            return row;
+        }
+    }
+    GETS.len()
+}
+
+fn all_gotten(alloc: Global) -> usize {
     let mut value = Value::Undefined;
-    get_value(rt.alloc(), Kind::Int4, b"\xff\xff\xff\xff", &mut value)?;
-    assert!(rt; matches!(&value, Value::Int(-1)));
-    get_value(rt.alloc(), Kind::Int8, b"\0\0\0\0\x01\0\0\0", &mut value)?;
-    assert!(rt; matches!(&value, Value::Int(4294967296)));
-    get_value(rt.alloc(), Kind::Logical, b"\0\x02\0\0", &mut value)?;
-    assert!(rt; matches!(&value, Value::Log(true)));
-    get_value(rt.alloc(), Kind::Logical, b"\0\0\0\0", &mut value)?;
-    assert!(rt; matches!(&value, Value::Log(false)));
-    get_value(rt.alloc(), Kind::Chars(2), b"ab", &mut value)?;
-    let Value::Chars(text) = value else {
-        return Err("no text".into());
-    };
-    assert_eq!(rt; text.bytes(), b"ab".as_slice());
-    Ok(())
+    rows_gotten(alloc, &mut value)
+}
+
+#[test]
+fn gets_values(rt: HostRuntime) {
+    assert_eq!(rt; all_gotten(rt.alloc()), GETS.len());
 }

@@ -1,13 +1,13 @@
 // BACKSPACE, REWIND and ENDFILE from each place, on each access and form, and with an open record (9.7).
 use crate::connect::{
-    At, Came, Direct, DirectLines, End, Frames, Go, In, Kind, Lines, Open, PastEnd, Step, Stream,
-    StreamLines, come_to, disk_of, holds, statement,
+    At, Came, Direct, DirectLines, End, Frames, Go, In, Kind, Lines, Open, PastEnd, Statement,
+    Step, Stream, StreamLines, come_and_leave, read_and_write,
 };
+use fj_connect::Positioning;
 use fj_connect::Positioning::{Backspace, Endfile, Rewind};
-use fj_connect::{OpenFault, Positioning};
 use fj_modes::{Action, FileStatus};
 use std::alloc::Global;
-use std::test::Fail;
+use std::test::*;
 
 const LINES: &[u8] = b"ab\ncd\n";
 // Two records of one byte, and a byte behind them.
@@ -310,16 +310,13 @@ static MOTIONS: [(Kind, &[u8], Step, Came, Came, Came, usize); 32] = [
 /// Whether steps from the start of a file come to that, and leave these bytes of it.
 fn comes(
     alloc: Global,
-    spec: (Kind, Action),
+    opening: Statement,
     bytes: &[u8],
     steps: &[Step],
     came: Came,
     left: &[u8],
-) -> Result<bool, OpenFault> {
-    let mut disk = disk_of(alloc, Some(bytes))?;
-    let spec = statement(spec.0, FileStatus::Old, None, spec.1);
-    let got = come_to(alloc, &mut disk, &spec, steps)?;
-    Ok(got == came && holds(&disk, Some(left)))
+) -> bool {
+    come_and_leave(alloc, opening, Some(bytes), steps, Some(left)) == (Ok(came), true)
 }
 
 /// The same of one motion, which leaves so many bytes.
@@ -327,7 +324,7 @@ fn moves(
     alloc: Global,
     row: &(Kind, &[u8], Step, Came, Came, Came, usize),
     how: Positioning,
-) -> Result<bool, OpenFault> {
+) -> bool {
     let (kind, bytes, from, back, rewind, endfile, size) = *row;
     let (came, left) = match how {
         Backspace => (back, bytes),
@@ -335,17 +332,17 @@ fn moves(
         Endfile => (endfile, bytes.get(..size).unwrap_or(&[])),
     };
     let steps = [from, Go(how)];
-    comes(alloc, (kind, Action::ReadWrite), bytes, &steps, came, left)
+    let opening = read_and_write(kind, FileStatus::Old);
+    comes(alloc, opening, bytes, &steps, came, left)
 }
 
 #[test]
-fn each_motion_from_each_place(rt: HostRuntime) -> Result<(), Fail> {
+fn each_motion_from_each_place(rt: HostRuntime) {
     for (number, row) in MOTIONS.iter().enumerate() {
         for how in [Backspace, Rewind, Endfile] {
-            assert_eq!(rt; moves(rt.alloc(), row, how), Ok(true), "{number} {how:?}");
+            assert!(rt; moves(rt.alloc(), row, how), "{number} {how:?}");
         }
     }
-    Ok(())
 }
 
 // ENDFILE of a file that is only read: 28 is told before 10, and 10 before 20.
@@ -360,21 +357,18 @@ static ONLY_READ: [(Kind, Step, Came); 8] = [
     (DirectLines, At(0), (28, 0, false)),
 ];
 
+/// Whether a row of that table holds.
+fn is_only_read(alloc: Global, kind: Kind, from: Step, came: Came) -> bool {
+    let mut opening = read_and_write(kind, FileStatus::Old);
+    opening.action = Action::Read;
+    comes(alloc, opening, LINES, &[from, Go(Endfile)], came, LINES)
+}
+
 #[test]
-fn endfile_where_only_read(rt: HostRuntime) -> Result<(), Fail> {
+fn endfile_where_only_read(rt: HostRuntime) {
     for (number, (kind, from, came)) in ONLY_READ.iter().enumerate() {
-        let steps = [*from, Go(Endfile)];
-        let fine = comes(
-            rt.alloc(),
-            (*kind, Action::Read),
-            LINES,
-            &steps,
-            *came,
-            LINES,
-        );
-        assert_eq!(rt; fine, Ok(true), "{number}");
+        assert!(rt; is_only_read(rt.alloc(), *kind, *from, *came), "{number}");
     }
-    Ok(())
 }
 
 // An open record, what ends it, where the connection is then, and the file.
@@ -462,14 +456,12 @@ static ENDED: [(Kind, &[Step], Came, &[u8]); 15] = [
 ];
 
 #[test]
-fn what_ends_an_open_record(rt: HostRuntime) -> Result<(), Fail> {
+fn what_ends_an_open_record(rt: HostRuntime) {
     for (number, (kind, steps, came, left)) in ENDED.iter().enumerate() {
-        let spec = (*kind, Action::ReadWrite);
-        assert_eq!(rt;
-            comes(rt.alloc(), spec, LINES, steps, *came, left),
-            Ok(true),
+        let opening = read_and_write(*kind, FileStatus::Old);
+        assert!(rt;
+            comes(rt.alloc(), opening, LINES, steps, *came, left),
             "{number}"
         );
     }
-    Ok(())
 }

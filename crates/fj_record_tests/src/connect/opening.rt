@@ -1,19 +1,18 @@
 // OPEN and CLOSE: each status, each position, scratch files.
 use crate::connect::{
-    Came, Direct, DirectLines, KINDS, Kind, Lines, Put, come_to, connect, disk_of, done, holds,
-    statement,
+    Came, Direct, DirectLines, KINDS, Kind, Lines, Put, come_and_leave, read_and_write,
 };
 use fj_connect::OpenFault;
 use fj_modes::{Action, FileStatus, Start};
 use fj_value::Condition;
-use std::alloc::{AllocError, Global};
-use std::test::Fail;
+use std::alloc::Global;
+use std::test::*;
 
 /// A status, the file that is there, and the bytes that OPEN connects to or its error.
-type Opening = (FileStatus, Option<&'static [u8]>, Result<&'static [u8], u8>);
+type Row = (FileStatus, Option<&'static [u8]>, Result<&'static [u8], u8>);
 
 // (9.4.5.15)
-static STATUSES: [Opening; 10] = [
+static STATUSES: [Row; 10] = [
     (FileStatus::Old, None, Err(5)),
     (FileStatus::Old, Some(b"abcd\n"), Ok(b"abcd\n")),
     (FileStatus::New, None, Ok(b"")),
@@ -27,53 +26,47 @@ static STATUSES: [Opening; 10] = [
 ];
 
 /// Whether OPEN by that status does so, and leaves the file where it is in error.
-fn opens(alloc: Global, row: Opening, kind: Kind, action: Action) -> Result<bool, AllocError> {
+fn opens(alloc: Global, row: Row, kind: Kind, action: Action) -> bool {
     let (status, there, want) = row;
-    let mut disk = disk_of(alloc, there)?;
-    let spec = statement(kind, status, None, action);
-    let got = come_to(alloc, &mut disk, &spec, &[]);
-    Ok(match (got, want) {
-        (Ok(_), Ok(bytes)) => holds(&disk, Some(bytes)),
-        (Err(OpenFault::Refused(Condition::Error(code))), Err(due)) => {
-            code == due && holds(&disk, there)
-        }
+    let mut opening = read_and_write(kind, status);
+    opening.action = action;
+    let left = match want {
+        Ok(bytes) => Some(bytes),
+        Err(_) => there,
+    };
+    let (came, holds) = come_and_leave(alloc, opening, there, &[], left);
+    match (came, want) {
+        (Ok(_), Ok(_)) => holds,
+        (Err(OpenFault::Refused(Condition::Error(code))), Err(due)) => code == due && holds,
         _ => false,
-    })
+    }
 }
 
 #[test]
-fn each_status(rt: HostRuntime) -> Result<(), Fail> {
+fn each_status(rt: HostRuntime) {
     for (number, row) in STATUSES.iter().enumerate() {
         for kind in KINDS.iter() {
-            assert!(rt; opens(rt.alloc(), *row, *kind, Action::Read)?, "{number}");
             assert!(rt;
-                opens(rt.alloc(), *row, *kind, Action::ReadWrite)?,
+                opens(rt.alloc(), *row, *kind, Action::Read)
+                    && opens(rt.alloc(), *row, *kind, Action::ReadWrite),
                 "{number}"
             );
         }
     }
-    Ok(())
 }
 
-/// Whether a file that is written on a new connection is kept, or gone, at CLOSE.
-fn is_kept(alloc: Global, status: FileStatus, keep: bool) -> Result<bool, OpenFault> {
-    let mut disk = disk_of(alloc, None)?;
-    let spec = statement(Lines, status, None, Action::ReadWrite);
-    let mut c = connect(alloc, &mut disk, &spec)?;
-    done(&mut c, Put(b"ab\n"))?;
-    match c.close_file(&mut disk, keep) {
-        Ok(()) if keep => Ok(holds(&disk, Some(b"ab\n"))),
-        _ => Ok(!holds(&disk, None)),
-    }
+/// Whether a file that is written on a new connection holds this, or is gone, behind CLOSE.
+fn leaves(alloc: Global, status: FileStatus, left: Option<&[u8]>) -> bool {
+    let opening = read_and_write(Lines, status);
+    come_and_leave(alloc, opening, None, &[Put(b"ab\n")], left) == (Ok((0, 3, false)), true)
 }
 
 #[test]
-fn kept_or_gone(rt: HostRuntime) -> Result<(), Fail> {
+fn kept_or_gone(rt: HostRuntime) {
     for status in [FileStatus::Scratch, FileStatus::Unknown] {
-        assert_eq!(rt; is_kept(rt.alloc(), status, true), Ok(true));
-        assert_eq!(rt; is_kept(rt.alloc(), status, false), Ok(false));
+        assert!(rt; leaves(rt.alloc(), status, Some(b"ab\n")));
+        assert!(rt; leaves(rt.alloc(), status, None));
     }
-    Ok(())
 }
 
 // POSITION=, the file, and where a connection stands then (9.4.5.11).
@@ -95,24 +88,22 @@ fn due(kind: Kind, start: Option<Start>, place: u64) -> Result<Came, OpenFault> 
     Ok((0, place, false))
 }
 
-fn stands(
-    alloc: Global,
-    kind: Kind,
-    start: Option<Start>,
-    bytes: &[u8],
-) -> Result<Came, OpenFault> {
-    let mut disk = disk_of(alloc, Some(bytes))?;
-    let spec = statement(kind, FileStatus::Old, start, Action::ReadWrite);
-    come_to(alloc, &mut disk, &spec, &[])
+/// Whether it comes to that, and leaves the file.
+fn stands(alloc: Global, kind: Kind, start: Option<Start>, bytes: &[u8], place: u64) -> bool {
+    let mut opening = read_and_write(kind, FileStatus::Old);
+    opening.start = start;
+    let came = come_and_leave(alloc, opening, Some(bytes), &[], Some(bytes));
+    came == (due(kind, start, place), true)
 }
 
 #[test]
-fn each_position(rt: HostRuntime) -> Result<(), Fail> {
-    for (start, bytes, place) in STARTS.iter() {
+fn each_position(rt: HostRuntime) {
+    for (number, (start, bytes, place)) in STARTS.iter().enumerate() {
         for kind in KINDS.iter() {
-            let got = stands(rt.alloc(), *kind, *start, bytes);
-            assert_eq!(rt; got, due(*kind, *start, *place));
+            assert!(rt;
+                stands(rt.alloc(), *kind, *start, bytes, *place),
+                "{number}"
+            );
         }
     }
-    Ok(())
 }

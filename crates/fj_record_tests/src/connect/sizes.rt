@@ -4,14 +4,14 @@ ghost use Rattle.std.proofs.Common.{rules};
 ghost use Rattle.std.specs.FinMap as map;
 ghost use Rattle.std.specs.FinSet as set;
 
-use crate::connect::{Came, KINDS, Kind, Lines, come_to, connect, statement};
+use crate::connect::{Came, KINDS, Kind, Lines, come_to, connect, read_and_write};
 use fj_connect::{Connection, OpenFault};
-use fj_modes::{Action, FileStatus};
+use fj_modes::FileStatus;
 use fj_outside::{Disk, Failed, FileStore, Stop};
 use fj_seqrec::RecordRead;
 use fj_value::{Condition, Text};
 use std::alloc::{AllocError, Global};
-use std::test::Fail;
+use std::test::*;
 
 /// A file of which only the length and the number of reads are kept. It tells nothing.
 #[derive(Clone, Copy, PartialEq, Eq)]
@@ -118,7 +118,7 @@ fn of_length(len: u64) -> PlainDisk {
     }
 }
 
-/// What OPEN of a file of that length comes to, and the file that is at home then.
+/// What OPEN of a file of that length comes to, and the length of the file that is at home then.
 fn opens(
     alloc: Global,
     kind: Kind,
@@ -126,26 +126,36 @@ fn opens(
     len: u64,
 ) -> (Result<Came, OpenFault>, u64) {
     let mut disk = of_length(len);
-    let spec = statement(kind, status, None, Action::ReadWrite);
-    let got = come_to(alloc, &mut disk, &spec, &[]);
-    (got, disk.home.map_or(0, |file| file.len))
+    let came = come_to(alloc, &mut disk, read_and_write(kind, status), &[], true);
+    match disk.home {
+        Some(file) => (came, file.len),
+        None => (came, 0),
+    }
 }
 
+/// A status and the length of a file, what OPEN comes to, and the length then.
+type Length = (FileStatus, u64, Result<Came, OpenFault>, u64);
+
+const REFUSED: OpenFault = OpenFault::Refused(Condition::Error(27));
+
 // The longest file is connected to; a longer one is not, and stays as it is.
+static LENGTHS: [Length; 4] = [
+    (FileStatus::Old, 268_435_456, Ok((0, 0, false)), 268_435_456),
+    (FileStatus::Old, 268_435_457, Err(REFUSED), 268_435_457),
+    (FileStatus::Unknown, 268_435_457, Err(REFUSED), 268_435_457),
+    (FileStatus::Replace, 268_435_457, Ok((0, 0, false)), 0),
+];
+
 #[test]
-fn the_longest_file(rt: HostRuntime) -> Result<(), Fail> {
-    let refused = OpenFault::Refused(Condition::Error(27));
+fn the_longest_file(rt: HostRuntime) {
     for kind in KINDS.iter() {
-        let longest = opens(rt.alloc(), *kind, FileStatus::Old, 268_435_456);
-        assert!(rt; longest == (Ok((0, 0, false)), 268_435_456));
-        for status in [FileStatus::Old, FileStatus::Unknown] {
-            let longer = opens(rt.alloc(), *kind, status, 268_435_457);
-            assert!(rt; longer == (Err(refused), 268_435_457));
+        for (number, (status, len, came, left)) in LENGTHS.iter().enumerate() {
+            assert!(rt;
+                opens(rt.alloc(), *kind, *status, *len) == (*came, *left),
+                "{number}"
+            );
         }
-        let replaced = opens(rt.alloc(), *kind, FileStatus::Replace, 268_435_457);
-        assert!(rt; replaced == (Ok((0, 0, false)), 0));
     }
-    Ok(())
 }
 
 /// Looks at the record at the start from so many positions inside it, and answers how often it was there.
@@ -166,25 +176,32 @@ fn sent<T: Send>(value: T) -> T {
     value
 }
 
-/// How often a record of 65,536 characters was there, and how many reads of the file that took.
-fn read_in_pieces(alloc: Global) -> Result<(u64, u64), OpenFault> {
+/// How often a record of 65,536 characters was there, and the file with the number of its reads then.
+fn read_in_pieces(alloc: Global) -> Option<(Result<u64, Stop>, Option<Plain>)> {
     let mut disk = of_length(65_536);
-    let spec = statement(Lines, FileStatus::Old, None, Action::ReadWrite);
-    let mut c = sent(connect(alloc, &mut disk, &spec)?);
-    let found = looked_at(&mut c, 65_536)?;
-    c.close_file(&mut disk, true).map_err(Stop::from)?;
-    Ok((found, disk.home.map_or(0, |file| file.reads)))
+    let Ok(c) = connect(alloc, &mut disk, read_and_write(Lines, FileStatus::Old)) else {
+        return None;
+    };
+    let mut c = sent(c);
+    let found = looked_at(&mut c, 65_536);
+    match c.close_file(&mut disk, true) {
+        Ok(()) => Some((found, disk.home)),
+        Err(_) => None,
+    }
 }
 
 // A record that is read in as many pieces as it has characters is taken from the file once: 8,192 bytes by a read.
 #[test]
-fn a_record_is_read_once(rt: HostRuntime) -> Result<(), Fail> {
-    assert_eq!(rt; read_in_pieces(rt.alloc()), Ok((65_536, 8)));
-    Ok(())
+fn a_record_is_read_once(rt: HostRuntime) {
+    let file = Plain {
+        len: 65_536,
+        reads: 8,
+    };
+    assert!(rt; read_in_pieces(rt.alloc()) == Some((Ok(65_536), Some(file))));
 }
 
-/// Puts records one behind the other, and looks behind each at the last byte of the file.
-fn put_and_look<F: FileStore>(c: &mut Connection<F>, byte: &mut Text) -> Result<(), Stop> {
+/// Puts records one behind the other, looks behind each at the last byte of the file, and answers the last of those.
+fn put_and_look<F: FileStore>(c: &mut Connection<F>, byte: &mut Text) -> Result<Option<u8>, Stop> {
     for _ in 0..3 {
         if c.spot().at < 1000 {
             c.put_records(b"ab\n")?;
@@ -194,24 +211,25 @@ fn put_and_look<F: FileStore>(c: &mut Connection<F>, byte: &mut Text) -> Result<
             c.read_bytes(end - 1, 1, byte)?;
         }
     }
-    Ok(())
+    Ok(byte.bytes().first().copied())
 }
 
-/// The last byte that was looked at, the length of the file, and how often it was read.
-fn reads_between(alloc: Global) -> Result<(Option<u8>, u64, u64), OpenFault> {
+/// The last byte that was looked at, and the file with the number of its reads then.
+fn reads_between(alloc: Global) -> Option<(Result<Option<u8>, Stop>, Option<Plain>)> {
     let mut disk = of_length(0);
-    let spec = statement(Lines, FileStatus::Old, None, Action::ReadWrite);
-    let mut c = connect(alloc, &mut disk, &spec)?;
-    let mut byte = Text::new(alloc);
-    put_and_look(&mut c, &mut byte)?;
-    c.close_file(&mut disk, true).map_err(Stop::from)?;
-    let (len, reads) = disk.home.map_or((0, 0), |file| (file.len, file.reads));
-    Ok((byte.bytes().first().copied(), len, reads))
+    let Ok(mut c) = connect(alloc, &mut disk, read_and_write(Lines, FileStatus::Old)) else {
+        return None;
+    };
+    let last = put_and_look(&mut c, &mut Text::new(alloc));
+    match c.close_file(&mut disk, true) {
+        Ok(()) => Some((last, disk.home)),
+        Err(_) => None,
+    }
 }
 
 // What was written last stands at hand: the next record finds the line feed before it without a read.
 #[test]
-fn a_record_behind_another_reads_nothing(rt: HostRuntime) -> Result<(), Fail> {
-    assert_eq!(rt; reads_between(rt.alloc()), Ok((Some(b'\n'), 9, 0)));
-    Ok(())
+fn a_record_behind_another_reads_nothing(rt: HostRuntime) {
+    let file = Plain { len: 9, reads: 0 };
+    assert!(rt; reads_between(rt.alloc()) == Some((Ok(Some(b'\n')), Some(file))));
 }
