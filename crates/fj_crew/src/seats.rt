@@ -32,6 +32,7 @@ pub(crate) fn submit_at<E: Engine, R: Wait>(
     let queue = &queues[at];
     let seat = &mut seats[at];
     let is_long = E::is_long(&job);
+    signals.submitting(is_long);
     let number = queue.submit(rt, seat, job);
     signals.submitted(at as u64, is_long);
     number

@@ -56,10 +56,16 @@ impl Signals {
         }
     }
 
+    /// A job is about to be submitted: a long one is for all workers, and they know it before the job is there.
+    pub(crate) fn submitting(&self, is_long: bool) {
+        if is_long {
+            self.all.store(true, SeqCst);
+        }
+    }
+
     /// There is a job more at a slot. Of a short one the workers hear by the next ask that is not its settling.
     pub(crate) fn submitted(&self, slot: u64, is_long: bool) {
         if is_long {
-            self.all.store(true, SeqCst);
             self.ring();
             return;
         }

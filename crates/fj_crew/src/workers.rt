@@ -134,11 +134,12 @@ pub(crate) fn work<E: Engine, R: Wait>(
     let backoff = Backoff::new();
     let mut from = 0usize;
     for _ in rt.forever() {
+        let due = next_due(queues, from, from.min(queues.len()));
         if signals.ends(first) {
             let _last = signals.found();
             return;
         }
-        match next_due(queues, from, from.min(queues.len())) {
+        match due {
             Some(at) => {
                 from = at + 1;
                 if work_at(rt, queues, team, signals, at) {
