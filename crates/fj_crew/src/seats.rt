@@ -38,30 +38,8 @@ pub(crate) fn submit_at<E: Engine, R: Wait>(
     number
 }
 
-// Works once on another queue, or, where no job seems to be due, waits while the job is out that is told next at that place.
-fn help_or_wait<E: Engine, R: Wait>(
-    rt: &R,
-    queues: &VecDeque<Queue<E>>,
-    own: &mut VecDeque<Hand<E>>,
-    signals: &Signals,
-    at: usize,
-)
-    requires within { at < length queues.now.items }
-    requires serves { AllServe queues.now.items own.old.items }
-    ensures serves { AllServe queues.now.items own.new.items }
-{
-    if let Some(other) = first_due(queues, 0, queues.len()) {
-        let hand = &mut own[other];
-        let _worked = queues[other].work_where_due(rt, hand);
-        return;
-    }
-    let wait = signals.awaits(at as u64);
-    if queues[at].seems_out() {
-        wait.wait(rt);
-    }
-}
-
-// While the job is out that is told next at that place, it works on other queues, or gives its processor to the workers.
+// While the job is out that is told next at that place: works on queues where a job seems to be due, or else gives its processor to the
+// workers.
 fn wait_for<E: Engine, R: Wait>(
     rt: &R,
     queues: &VecDeque<Queue<E>>,
@@ -78,10 +56,18 @@ fn wait_for<E: Engine, R: Wait>(
         if !queues[at].seems_out() {
             return;
         }
-        if backoff.is_completed() {
-            help_or_wait(rt, queues, own, signals, at);
-        } else {
+        if !backoff.is_completed() {
             backoff.snooze();
+            continue;
+        }
+        if let Some(other) = first_due(queues, 0, queues.len()) {
+            let hand = &mut own[other];
+            let _worked = queues[other].work_where_due(rt, hand);
+            continue;
+        }
+        let wait = signals.awaits(at as u64);
+        if queues[at].seems_out() {
+            wait.wait(rt);
         }
     }
     unreachable!()
