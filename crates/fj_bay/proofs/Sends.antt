@@ -18,7 +18,7 @@ use Rattle.fj_format.proofs.item.FormatItem.TheLaws.TheKnot as knot
 use Rattle.fj_format.specs.contracts.format.Format as Format
 use Rattle.fj_format.specs.contracts.format.Format.TheInside as FormatInside
 use Rattle.fj_format.specs.contracts.item.FormatItem as FormatItem
-use Rattle.fj_list.specs.declared.elements.PlainCopy as plain_copies
+use Rattle.fj_list.specs.declared.elements.Element as element
 use Rattle.fj_list.specs.contracts.elements.Elements as Elements
 use Rattle.fj_list.specs.contracts.elements.Elements.TheInside as ElementsInside
 use Rattle.fj_list.specs.contracts.elements.Kept as Kept
@@ -95,20 +95,20 @@ group_member_sends = declared_send GroupMember.the_type (search (as_row_send, te
 moved_sends : IsSend Moved.the_row
 moved_sends = declared_send Moved.the_type (search (as_row_send, cell_sends, items_sends, crosses, sendable) depth 20)
 
-inside_owned_sends : (T : RattleType) (g : plain_copies.Ghosts T.Denot) → IsSend T → IsSend (OwnedInside.the_row T g)
+inside_owned_sends : (T : RattleType) (g : element.Ghosts T.Denot) → IsSend T → IsSend (OwnedInside.the_row T g)
 inside_owned_sends T g s = declared_send (OwnedInside.the_type T g) (search (as_row_send, items_sends, crosses, sendable) depth 20)
 
-owned_sends : (T : RattleType) (g : plain_copies.Ghosts T.Denot) → IsSend T → IsSend (Owned.the_row T g)
+owned_sends : (T : RattleType) (g : element.Ghosts T.Denot) → IsSend T → IsSend (Owned.the_row T g)
 owned_sends T g s = view_send _ _ _ _ _ (inside_owned_sends T g s)
 
 -- elements that are shared are looked at by two threads
-kept_sends : (T : RattleType) (g : plain_copies.Ghosts T.Denot) → IsSend T → IsSync T → IsSend (Kept.the_row T g)
+kept_sends : (T : RattleType) (g : element.Ghosts T.Denot) → IsSend T → IsSync T → IsSend (Kept.the_row T g)
 kept_sends T g s y = variants_send (Kept.enum T g) (search (as_row_send, owned_sends, items_sends, items_sync, crosses, sendable) depth 20)
 
-inside_elements_sends : (T : RattleType) (g : plain_copies.Ghosts T.Denot) → IsSend T → IsSync T → IsSend (ElementsInside.the_row T g)
+inside_elements_sends : (T : RattleType) (g : element.Ghosts T.Denot) → IsSend T → IsSync T → IsSend (ElementsInside.the_row T g)
 inside_elements_sends T g s y = declared_send (ElementsInside.the_type T g) (search (as_row_send, kept_sends, crosses, sendable) depth 20)
 
-pub elements_sends : (T : RattleType) (g : plain_copies.Ghosts T.Denot) → IsSend T → IsSync T → IsSend (Elements.the_row T g)
+pub elements_sends : (T : RattleType) (g : element.Ghosts T.Denot) → IsSend T → IsSync T → IsSend (Elements.the_row T g)
 elements_sends T g s y = view_send _ _ _ _ _ (inside_elements_sends T g s y)
 
 row_sends : IsSend Row.the_row

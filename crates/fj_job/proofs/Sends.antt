@@ -7,7 +7,7 @@ use denote.Param.SendFields.{as_row_send, declared_send, variants_send}
 use Rattle.std.proofs.Crossing.{crosses}
 use Rattle.fj_bay.proofs.Sends.{text_sends, items_sends, value_sends, value_sync, elements_sends, file_name_sends, modes_sends, format_sends, load_sends, answer_sends, connection_sends, job_sends}
 use Rattle.fj_job.proofs.RunsSend.{runs_sends}
-use Rattle.fj_list.specs.declared.elements.PlainCopy as plain_copies
+use Rattle.fj_list.specs.declared.elements.Element as element
 use Rattle.fj_outside.specs.declared.outside.Disk as disk
 use Rattle.fj_outside.specs.declared.outside.FileStore as files
 use Rattle.fj_outside.specs.declared.outside.Sink as sink
@@ -80,7 +80,7 @@ deck_sends : IsSend Deck.the_row
 deck_sends = declared_send Deck.the_type (search (as_row_send, variable_sends, lined_sends, items_sends, crosses, sendable) depth 20)
 
 -- ---- what a run keeps
-table_sends : (T : RattleType) (g : plain_copies.Ghosts T.Denot) → IsSend T → IsSync T → IsSend (Table.the_row T g)
+table_sends : (T : RattleType) (g : element.Ghosts T.Denot) → IsSend T → IsSync T → IsSend (Table.the_row T g)
 table_sends T g s y = search (elements_sends, crosses, sendable) depth 20
 
 place_mark_sends : IsSend PlaceMark.the_row

@@ -3,7 +3,8 @@ pub mod Moved
 pub mod ListText
 pub mod Items
 pub mod Load
-pub mod Copies
+pub mod Values
+pub mod Counted
 pub mod Elements
 pub mod Listing
 pub mod Stream

@@ -1,10 +1,11 @@
 // The elements of a variable, which a copy shares until either of the two changes.
-ghost use Rattle.std.specs.Prelude.{◌≡◌, ◌<◌, ◌≤◌, [], Some, true, length, slice_get, slice_set, vec_capacity, IfOk, IfSome, IsTrue};
-ghost use Rattle.std.specs.List.{list_all};
+ghost use Rattle.std.specs.Prelude.{◌≡◌, ◌<◌, ◌≤◌, [], Some, true, false, length, slice_get, slice_set, vec_capacity, IfOk, IfSome, IfNone, IsTrue};
+ghost use Rattle.std.specs.List.{list_all, list_any};
 ghost use Rattle.std.specs.Option.{option_copied};
-ghost use Rattle.fj_list.specs.Copies.{takes_no_memory};
+ghost use Rattle.fj_list.specs.Values.{is_undefined, takes_no_memory};
 ghost use Rattle.std.specs.Borrow.{Lends, sem};
 ghost use Rattle.fj_list.specs.Elements.{elements_of, is_own, IsKept};
+ghost use Rattle.fj_list.specs.Counted.{AreCounted};
 ghost use Rattle.fj_list.specs.declared.elements.Kept.TheVariants.{Own};
 
 use fj_value::{Items, Value};
@@ -12,24 +13,32 @@ use std::alloc::{AllocError, Global};
 use std::marker::Model;
 use std::sync::Arc;
 
-/// What may be copied without taking memory.
-pub trait PlainCopy {
+/// What may stand in a variable.
+pub trait Element {
     ghost use Rattle.std.specs.Prelude.{◌≡◌, Bool, true};
 
     ghost plain: { Self → Bool };
+
+    ghost undefined: { Self → Bool };
 
     /// Whether a copy of it takes no memory.
     fn is_plain(&self) -> bool
         ensures { result ≡ plain self.now };
 
-    /// The same once more.
+    /// Whether it is undefined.
+    fn is_undefined(&self) -> bool
+        ensures { result ≡ undefined self.now };
+
+    /// The same once more, which takes no memory.
     fn plain_copy(&self) -> Self
         requires { plain self.now ≡ true }
         ensures { result ≡ self.now };
 }
 
-impl PlainCopy for Value {
+impl Element for Value {
     ghost plain = { takes_no_memory };
+
+    ghost undefined = { is_undefined };
 
     #[inline(always)]
     fn is_plain(&self) -> bool {
@@ -37,6 +46,11 @@ impl PlainCopy for Value {
             Value::Undefined | Value::Int(_) | Value::Log(_) => true,
             Value::Chars(_) => false,
         }
+    }
+
+    #[inline(always)]
+    fn is_undefined(&self) -> bool {
+        matches!(self, Value::Undefined)
     }
 
     #[inline(always)]
@@ -49,17 +63,17 @@ impl PlainCopy for Value {
     }
 }
 
-/// Elements of one owner, and whether they are known to be plain. Contracts see them as a list.
+/// Elements of one owner, and how many of them are undefined where all are known to be plain. Contracts see them as a list.
 #[derive(Debug, Drop)]
-pub struct Owned<T: PlainCopy> {
+pub struct Owned<T: Element> {
     items: Items<T>,
-    plain: bool,
+    undefined: Option<usize>,
 }
 
-impl<T: PlainCopy> Model for Owned<T> {
-    ghost use Rattle.std.specs.Prelude.{◌≡◌, List, true};
+impl<T: Element> Model for Owned<T> {
+    ghost use Rattle.std.specs.Prelude.{List, IfSome};
     ghost use Rattle.std.specs.Coded.{coded_list};
-    ghost use Rattle.std.specs.List.{list_all};
+    ghost use Rattle.fj_list.specs.Counted.{AreCounted};
 
     ghost Value = { List T };
 
@@ -67,24 +81,25 @@ impl<T: PlainCopy> Model for Owned<T> {
 
     ghost view = { λ owned. owned.items };
 
-    ghost invariant = { λ owned. owned.plain ≡ true → list_all T.plain owned.items ≡ true };
+    ghost invariant = { λ owned. IfSome owned.undefined (AreCounted T.plain T.undefined owned.items) };
 }
 
-/// Elements of one owner; or those that others share, with room for copies of them all: where they change while others have them,
-/// they are copied there, which takes no memory. That room costs next to nothing until then, as none of it is touched.
+/// Elements of one owner; or those that others share, with room for copies of them all, and how many of them are undefined: where they
+/// change while others have them, they are copied there, which takes no memory. That room costs next to nothing until then, as none of
+/// it is touched.
 #[derive(Debug, Drop)]
-enum Kept<T: PlainCopy> {
+enum Kept<T: Element> {
     Own(Owned<T>),
-    Shared(Arc<Items<T>, Global>, Vec<T>),
+    Shared(Arc<Items<T>, Global>, Vec<T>, usize),
 }
 
 /// The elements of a variable. Contracts see them as a list.
 #[derive(Debug, Drop)]
-pub struct Elements<T: PlainCopy> {
+pub struct Elements<T: Element> {
     kept: Kept<T>,
 }
 
-impl<T: PlainCopy> Model for Elements<T> {
+impl<T: Element> Model for Elements<T> {
     ghost use Rattle.std.specs.Prelude.{List};
     ghost use Rattle.std.specs.Coded.{coded_list};
     ghost use Rattle.fj_list.specs.Elements.{elements_of, IsKept};
@@ -95,19 +110,22 @@ impl<T: PlainCopy> Model for Elements<T> {
 
     ghost view = { λ elements. elements_of elements.kept };
 
-    ghost invariant = { λ elements. IsKept T.plain elements.kept };
+    ghost invariant = { λ elements. IsKept T.plain T.undefined elements.kept };
 }
 
-/// Whether no copy of these takes memory.
-fn are_plain<T: PlainCopy>(items: &[T]) -> bool
-    ensures { result ≡ list_all T.plain items.now }
+/// How many of these are undefined; none where not all of them are plain.
+fn undefined_in<T: Element>(items: &[T]) -> Option<usize>
+    ensures some { IfSome result (AreCounted T.plain T.undefined items.now) }
+    ensures none { IfNone result (list_all T.plain items.now ≡ false) }
 {
+    let mut count = 0;
     for item in items {
         if !item.is_plain() {
-            return false;
+            return None;
         }
+        count += item.is_undefined() as usize;
     }
-    true
+    Some(count)
 }
 
 /// Room for so many.
@@ -122,7 +140,7 @@ fn room_for<T: Drop>(alloc: Global, count: usize) -> Result<Vec<T>, AllocError>
 
 /// Copies of these, where there is room for them.
 #[inline(never)]
-fn copied<T: PlainCopy + Drop>(items: &[T], room: Vec<T>) -> Items<T>
+fn copied<T: Element + Drop>(items: &[T], room: Vec<T>) -> Items<T>
     requires plain { list_all T.plain items.now ≡ true }
     requires none { room.items ≡ [] }
     requires room { length items.now ≤ vec_capacity room }
@@ -135,14 +153,14 @@ fn copied<T: PlainCopy + Drop>(items: &[T], room: Vec<T>) -> Items<T>
     Items::from_vec(copies)
 }
 
-impl<T: PlainCopy> Owned<T> {
+impl<T: Element> Owned<T> {
     /// These elements, which are not known to be plain.
     fn of(items: Items<T>) -> Owned<T>
         ensures { result ≡ items }
     {
         Owned {
             items,
-            plain: false,
+            undefined: None,
         }
     }
 
@@ -167,7 +185,7 @@ impl<T: PlainCopy> Owned<T> {
     }
 }
 
-impl<T: PlainCopy + Drop> Owned<T> {
+impl<T: Element + Drop> Owned<T> {
     /// Puts an element into the place of another, which it answers. They stay plain where it is.
     #[inline(always)]
     pub fn replace(&mut self, at: usize, item: T) -> T
@@ -175,23 +193,29 @@ impl<T: PlainCopy + Drop> Owned<T> {
         ensures item { slice_get self.old at ≡ Some result }
         ensures rest { self.new ≡ slice_set self.old at item }
     {
-        if !item.is_plain() {
-            self.plain = false;
-        }
-        self.items.replace(at, item)
+        let plain = item.is_plain();
+        let undefined = item.is_undefined();
+        let before = self.items.replace(at, item);
+        self.undefined = match self.undefined {
+            Some(count) if plain => {
+                (count - before.is_undefined() as usize).checked_add(undefined as usize)
+            }
+            _ => None,
+        };
+        before
     }
 }
 
-impl<T: PlainCopy> Kept<T> {
+impl<T: Element> Kept<T> {
     fn allocator(&self) -> Global {
         match self {
             Kept::Own(owned) => owned.items.allocator(),
-            Kept::Shared(_, spare) => *spare.allocator(),
+            Kept::Shared(_, spare, _) => *spare.allocator(),
         }
     }
 }
 
-impl<T: PlainCopy> Kept<T> {
+impl<T: Element> Kept<T> {
     ghost use Rattle.fj_list.specs.contracts.elements.Kept.{the_row};
     ghost use Rattle.fj_list.specs.contracts.elements.Owned.{the_row as owned_row};
 
@@ -199,30 +223,33 @@ impl<T: PlainCopy> Kept<T> {
     #[inline(always)]
     fn owned_mut(&mut self) -> &mut Owned<T>
         requires { is_own self.old ≡ true }
-        ensures* writes_back { sem 𝓛 (Lends (the_row T.row T.PlainCopy) (owned_row T.row T.PlainCopy) self.entry result Own) }
+        ensures* writes_back { sem 𝓛 (Lends (the_row T.row T.Element) (owned_row T.row T.Element) self.entry result Own) }
         ensures value { result.now ≡ elements_of self.old }
     {
         match self {
             Kept::Own(owned) => owned,
-            Kept::Shared(_, _) => unreachable!(),
+            Kept::Shared(_, _, _) => unreachable!(),
         }
     }
 }
 
-impl<T: PlainCopy + Drop> Kept<T> {
+impl<T: Element + Drop> Kept<T> {
     /// The elements by themselves. It takes no memory.
     fn apart(self) -> Owned<T>
-        requires { IsKept T.plain self }
+        requires { IsKept T.plain T.undefined self }
         ensures { result ≡ elements_of self }
     {
         match self {
             Kept::Own(owned) => owned,
-            Kept::Shared(items, spare) => {
+            Kept::Shared(items, spare, count) => {
                 let items = match Arc::try_unwrap(items) {
                     Ok(items) => items,
                     Err(items) => copied(items.as_slice(), spare),
                 };
-                Owned { items, plain: true }
+                Owned {
+                    items,
+                    undefined: Some(count),
+                }
             }
         }
     }
@@ -230,9 +257,9 @@ impl<T: PlainCopy + Drop> Kept<T> {
     /// Takes the elements out, which leaves none.
     #[inline(never)]
     fn take(&mut self) -> Owned<T>
-        requires { IsKept T.plain self.old }
+        requires { IsKept T.plain T.undefined self.old }
         ensures taken { result ≡ elements_of self.old }
-        ensures left { IsKept T.plain self.new }
+        ensures left { IsKept T.plain T.undefined self.new }
     {
         let nothing = Kept::Own(Owned::of(Items::new(self.allocator())));
         std::mem::replace(self, nothing).apart()
@@ -241,18 +268,18 @@ impl<T: PlainCopy + Drop> Kept<T> {
     /// Makes elements that may be shared those of one owner. It takes no memory.
     #[inline(always)]
     fn unshare(&mut self)
-        requires { IsKept T.plain self.old }
+        requires { IsKept T.plain T.undefined self.old }
         ensures same { elements_of self.new ≡ elements_of self.old }
         ensures own { is_own self.new ≡ true }
     {
-        if let Kept::Shared(_, _) = self {
+        if let Kept::Shared(_, _, _) = self {
             *self = Kept::Own(self.take());
         }
     }
 }
 
 /// What is kept of elements that are to be shared; where they are not plain they are not.
-fn kept_to_share<T: PlainCopy + Drop>(
+fn kept_to_share<T: Element + Drop>(
     alloc: Global,
     owned: Owned<T>,
     spare: Vec<T>,
@@ -260,24 +287,24 @@ fn kept_to_share<T: PlainCopy + Drop>(
     requires none { spare.items ≡ [] }
     requires room { length owned ≤ vec_capacity spare }
     ensures items { elements_of result.0 ≡ owned }
-    ensures kept { IsKept T.plain result.0 }
+    ensures kept { IsKept T.plain T.undefined result.0 }
 {
-    if !owned.plain {
+    let Some(count) = owned.undefined else {
         return (Kept::Own(owned), Ok(()));
-    }
+    };
     match Arc::new(alloc, owned.items) {
-        Ok(items) => (Kept::Shared(items, spare), Ok(())),
+        Ok(items) => (Kept::Shared(items, spare, count), Ok(())),
         Err(refused) => (
             Kept::Own(Owned {
                 items: refused.value,
-                plain: true,
+                undefined: Some(count),
             }),
             Err(AllocError),
         ),
     }
 }
 
-impl<T: PlainCopy> Elements<T> {
+impl<T: Element> Elements<T> {
     /// These elements, which are not shared.
     pub fn of(items: Items<T>) -> Elements<T>
         ensures { result ≡ items }
@@ -291,9 +318,9 @@ impl<T: PlainCopy> Elements<T> {
     pub fn to_share(items: Items<T>) -> Elements<T>
         ensures { result ≡ items }
     {
-        let plain = are_plain(items.as_slice());
+        let undefined = undefined_in(items.as_slice());
         Elements {
-            kept: Kept::Own(Owned { items, plain }),
+            kept: Kept::Own(Owned { items, undefined }),
         }
     }
 
@@ -317,12 +344,26 @@ impl<T: PlainCopy> Elements<T> {
     {
         match &self.kept {
             Kept::Own(owned) => owned.as_slice(),
-            Kept::Shared(items, _) => items.as_slice(),
+            Kept::Shared(items, _, _) => items.as_slice(),
+        }
+    }
+
+    /// Whether it is known that none of them is undefined.
+    pub fn is_filled(&self) -> bool
+        ensures { result ≡ true → list_any T.undefined self.now ≡ false }
+    {
+        let undefined = match &self.kept {
+            Kept::Own(owned) => owned.undefined,
+            Kept::Shared(_, _, count) => Some(*count),
+        };
+        match undefined {
+            Some(count) => count == 0,
+            None => false,
         }
     }
 }
 
-impl<T: PlainCopy + Drop> Elements<T> {
+impl<T: Element + Drop> Elements<T> {
     ghost use Rattle.fj_list.specs.contracts.elements.Elements.{the_row};
     ghost use Rattle.fj_list.specs.contracts.elements.Owned.{the_row as owned_row};
 
@@ -336,7 +377,7 @@ impl<T: PlainCopy + Drop> Elements<T> {
     /// The elements as those of one owner, which may be changed. It takes no memory.
     #[inline(always)]
     pub fn owned_mut(&mut self) -> &mut Owned<T>
-        ensures* writes_back { sem 𝓛 (Lends (the_row T.row T.PlainCopy) (owned_row T.row T.PlainCopy) self.entry result (λ w. w)) }
+        ensures* writes_back { sem 𝓛 (Lends (the_row T.row T.Element) (owned_row T.row T.Element) self.entry result (λ w. w)) }
         ensures value { result.now ≡ self.old }
     {
         let kept = &mut self.kept;
@@ -362,9 +403,9 @@ impl<T: PlainCopy + Drop> Elements<T> {
     {
         match &self.kept {
             Kept::Own(_) => None,
-            Kept::Shared(items, _) => match Arc::try_clone(items) {
+            Kept::Shared(items, _, count) => match Arc::try_clone(items) {
                 Ok(items) => Some(Elements {
-                    kept: Kept::Shared(items, spare),
+                    kept: Kept::Shared(items, spare, *count),
                 }),
                 Err(_) => None,
             },
@@ -375,7 +416,7 @@ impl<T: PlainCopy + Drop> Elements<T> {
     fn prepare(&mut self, alloc: Global) -> Result<(), AllocError>
         ensures { self.new ≡ self.old }
     {
-        if let Kept::Shared(_, _) = &self.kept {
+        if let Kept::Shared(_, _, _) = &self.kept {
             return Ok(());
         }
         let spare = room_for(alloc, self.len())?;
@@ -390,7 +431,7 @@ impl<T: PlainCopy + Drop> Elements<T> {
         ensures shared { IfOk result (λ o. IfSome o (λ elements. elements ≡ self.old)) }
     {
         if let Kept::Own(owned) = &self.kept {
-            if !owned.plain {
+            if owned.undefined.is_none() {
                 return Ok(None);
             }
         }

@@ -154,3 +154,14 @@ any_lost {T} rows (p ∷ places) test g lost passes there =
 pub run_long : {T : Type 0} → (rows : List (List T)) (row : List T) (var first n : ℕ) → map Some row ≡ map (element_at rows) (counted_from var first n) → length row ≡ n
 run_long {T} rows row var first n read =
     sym (length-map row (λ (y : T). Some y)) ∙ ap length read ∙ length-map (counted_from var first n) (element_at rows) ∙ length-counted_from var first n
+
+-- none of them passes a test that no element of the variable passes
+pub none_in_run : {T : Type 0} → (p : T → Bool) (rows : List (List T)) (values : List T) (var first n : ℕ) → ((place : Place) → place.var ≡ var → IfSome (element_at rows place) (λ x. p x ≡ false))
+    → map Some values ≡ map (element_at rows) (counted_from var first n) → list_any p values ≡ false
+none_in_run p rows [] var first n none read = refl
+none_in_run p rows (x ∷ values) var first zero none read = absurd (let never : ⊥ = cc in never)
+none_in_run p rows (x ∷ values) var first (suc n) none read =
+    let place : Place = record { var = var; index = first } in
+    let here : Some x ≡ element_at rows place = cc in
+    let rest : map Some values ≡ map (element_at rows) (counted_from var (first + 1) n) = cc in
+    ap (λ b. b || list_any p values) (subst (λ o. IfSome o (λ y. p y ≡ false)) (sym here) (none place refl)) ∙ none_in_run p rows values var (first + 1) n none rest

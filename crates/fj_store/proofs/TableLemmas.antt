@@ -1,9 +1,10 @@
 -- Tables read at a place, after a write.
-use Rattle.std.proofs.Common.{◌≡◌, ◌⊎◌, ℕ, zero, suc, ◌<◌, ltb, get_or, true, false, List, length, map, Option, Some, None, slice_get, set, refl, sym, ap, subst, ◌∙◌, inl, inr, arith}
+use Rattle.std.proofs.Common.{◌≡◌, ◌⊎◌, ℕ, zero, suc, ◌<◌, ltb, get_or, ◌||◌, Bool, true, false, List, [], ◌∷◌, length, map, Option, Some, None, IfSome, slice_get, set, refl, sym, ap, subst, ◌∙◌, inl, inr, arith}
 use Rattle.std.proofs.lemmas.List.{map-set}
 use Rattle.std.proofs.lemmas.Option.{slice_get-map, slice_get_past, slice_get_read}
 use Rattle.std.proofs.lemmas.Bool.{false≢true}
 use Rattle.std.proofs.lemmas.Bool.Decides.{eqb_tells, nat_tests}
+use Rattle.std.specs.List.{list_any}
 use Rattle.std.specs.Option.{option_map, option_map_or, option_and_then}
 use Rattle.fj_value.specs.declared.place.Place.{Place}
 use Rattle.fj_store.specs.Places.{same_place}
@@ -221,3 +222,22 @@ with_swap rows p q x y (inr one) =
     let same : here ≡ q = same_fields here q (sym one.0) refl in
     let P : Place → Type 0 = λ z. with_element (with_element rows p x) z y ≡ with_element (with_element rows z y) p x in
     subst P same (swap_in_row rows p.var p.index q.index x y one.1)
+
+-- ---- rows of which no element passes a test
+
+neither : (a b : Bool) → (a || b) ≡ false → (a ≡ false) × (b ≡ false)
+neither true b e = absurd (false≢true (sym e))
+neither false b e = (refl, e)
+
+none_in : {T : Type 0} → (p : T → Bool) (row : List T) (n : ℕ) → list_any p row ≡ false → IfSome (slice_get row n) (λ x. p x ≡ false)
+none_in p [] n none = tt
+none_in p (x ∷ row) zero none = (neither (p x) (list_any p row) none).0
+none_in p (x ∷ row) (suc n) none = none_in p row n (neither (p x) (list_any p row) none).1
+
+none_at : {T : Type 0} → (p : T → Bool) (row : List T) (index : ℕ) → list_any p row ≡ false → IfSome (element_in index row) (λ x. p x ≡ false)
+none_at p row zero none = tt
+none_at p row (suc n) none = none_in p row n none
+
+pub none_of_row : {T : Type 0} → (p : T → Bool) (rows : List (List T)) (row : List T) (place : Place) → slice_get rows place.var ≡ Some row → list_any p row ≡ false
+    → IfSome (element_at rows place) (λ x. p x ≡ false)
+none_of_row p rows row place here none = subst (λ o. IfSome (option_and_then (element_in place.index) o) (λ x. p x ≡ false)) (sym here) (none_at p row place.index none)

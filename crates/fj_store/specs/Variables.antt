@@ -1,11 +1,12 @@
 -- Variables: a value at each place.
-use Rattle.std.specs.Prelude.{◌==◌, Bool, true, false, List, [], ◌∷◌, ◌++◌, length, if◌then◌else◌, unwrap_or}
+use Rattle.std.specs.Prelude.{◌==◌, Bool, List, [], ◌∷◌, ◌++◌, length, if◌then◌else◌, unwrap_or}
 use Rattle.std.specs.List.{position_or_len}
 use Rattle.fj_value.specs.declared.place.Place.{Place}
 use Rattle.fj_value.specs.declared.value.Cell.{Cell}
 use Rattle.fj_value.specs.declared.value.Value.{Value}
 use Rattle.fj_value.specs.declared.value.Value.TheVariants as value
 use Rattle.fj_list.specs.declared.moved.Moved.{Moved}
+pub use Rattle.fj_list.specs.Values.{is_undefined}
 use Rattle.fj_store.specs.Places.{same_place}
 use Rattle.fj_store.specs.Tables.{element_at, with_element, with_cells}
 
@@ -20,10 +21,6 @@ value_at vars place = unwrap_or (element_at vars place) value.Undefined
 -- the place gets a value
 abbrev pub with_value : Variables → Place → Value → Variables
 with_value vars place v = with_element vars place v
-
-abbrev pub is_undefined : Value → Bool
-is_undefined value.Undefined = true
-is_undefined _ = false
 
 -- the places of cells, with no value
 abbrev pub undefined_at : List Cell → Variables → Variables

@@ -1,12 +1,12 @@
 // What stands at a place of the store.
-ghost use Rattle.std.specs.Prelude.{◌≡◌, true};
+ghost use Rattle.std.specs.Prelude.{◌≡◌, true, false};
 ghost use Rattle.std.specs.List.{list_any};
 ghost use Rattle.fj_store.specs.Slots.{mark_in, slot_of};
 ghost use Rattle.fj_store.specs.Taking.{mark_of, value_read};
 ghost use Rattle.fj_store.specs.Variables.{is_undefined};
 ghost use Rattle.fj_store.specs.declared.slot.Slot.{Slot as AnySlot};
 
-use fj_list::PlainCopy;
+use fj_list::Element;
 use fj_value::Value;
 use std::mem::size_of;
 
@@ -28,11 +28,17 @@ pub(crate) enum Mark {
 // With a value of 16 bytes a place takes 24.
 const _: () = prove!(size_of::<Mark>() <= 8);
 
-impl PlainCopy for Mark {
+impl Element for Mark {
     ghost plain = { λ mark. true };
+
+    ghost undefined = { λ mark. false };
 
     fn is_plain(&self) -> bool {
         true
+    }
+
+    fn is_undefined(&self) -> bool {
+        false
     }
 
     fn plain_copy(&self) -> Mark {
@@ -73,32 +79,13 @@ impl Slot {
     }
 }
 
-/// How many values are looked at before the answer is.
-const LOOKED_AT: usize = 64;
-
 /// Whether one of some values is undefined. It looks at all of them.
-#[inline(always)]
-fn any_of_few(values: &[Value]) -> bool
+pub(crate) fn any_undefined(values: &[Value]) -> bool
     ensures { result ≡ list_any is_undefined values.now }
 {
     let mut any = false;
     for value in values {
-        any |= matches!(value, Value::Undefined);
+        any |= value.is_undefined();
     }
     any
-}
-
-/// Whether one of some values is undefined.
-pub(crate) fn any_undefined(values: &[Value]) -> bool
-    ensures { result ≡ list_any is_undefined values.now }
-{
-    let mut rest = values;
-    'looking: while rest.len() > LOOKED_AT {
-        let (few, others) = rest.split_at(LOOKED_AT);
-        if any_of_few(few) {
-            return true;
-        }
-        rest = others;
-    }
-    any_of_few(rest)
 }

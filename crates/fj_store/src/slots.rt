@@ -1,8 +1,9 @@
 // What stands at the places of the variables: the values of each one behind the other, and apart from them the marks.
-ghost use Rattle.std.specs.Prelude.{◌≡◌, ◌+◌, ◌<◌, ◌≤◌, ◌∷◌, ◌++◌, [], ℕ, List, true, length, map, is_none, replicate, Some, IfSome, IfNone, IfOk};
+ghost use Rattle.std.specs.Prelude.{◌≡◌, ◌+◌, ◌<◌, ◌≤◌, ◌∷◌, ◌++◌, [], ℕ, List, true, false, length, map, is_none, replicate, Some, IfSome, IfNone, IfOk};
 ghost use Rattle.std.specs.List.{list_any};
 ghost use Rattle.std.specs.Option.{option_copied, option_flatten, option_map, option_to_list};
 ghost use Rattle.fj_value.specs.declared.kind.Kind.{Kind as AnyKind};
+ghost use Rattle.fj_value.specs.declared.place.Place.{Place as AnyPlace};
 ghost use Rattle.fj_value.specs.declared.value.Value.TheVariants.{Undefined};
 ghost use Rattle.fj_store.specs.Places.{places_of};
 ghost use Rattle.fj_store.specs.Slots.{all_read};
@@ -11,6 +12,7 @@ ghost use Rattle.fj_list.specs.Load.{row_cells};
 ghost use Rattle.fj_store.specs.Kinds.{kind_at};
 ghost use Rattle.fj_store.specs.Tables.{element_at, with_cells, with_element};
 ghost use Rattle.fj_store.specs.Taking.{HasRoom, IsMarked, home, mark_of, take_all, taking};
+ghost use Rattle.fj_store.specs.Variables.{is_undefined};
 ghost use Rattle.fj_store.specs.declared.slot.Mark.TheVariants as marked;
 ghost use Rattle.fj_store.specs.declared.slot.Slot.TheVariants.{Home};
 
@@ -106,6 +108,13 @@ impl Slots {
         ensures none { IfNone result (0 < run.count → list_any (λ place. is_none (element_at (all_read self.now) place)) (places_of run) ≡ true) }
     {
         self.values.at_run(run)
+    }
+
+    /// Whether it is known of a variable that none of its values is undefined. One that is moved out is.
+    pub(crate) fn is_filled(&self, var: u32) -> bool
+        ensures { result ≡ true → ((place : AnyPlace) → place.var ≡ var → IfSome (element_at (all_read self.now) place) (λ value. is_undefined value ≡ false)) }
+    {
+        self.values.is_filled(var)
     }
 
     /// The values of a run, shared with the variable, where these are all of it; none where they are not shared. It changes nothing.

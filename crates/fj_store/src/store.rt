@@ -96,7 +96,7 @@ impl Store {
             return false;
         }
         match self.slots.at_run(run) {
-            Some(values) => any_undefined(values),
+            Some(values) => !self.slots.is_filled(run.var) && any_undefined(values),
             None => true,
         }
     }

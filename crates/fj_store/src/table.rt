@@ -1,26 +1,27 @@
 // Tables with an element at each place of each variable.
-ghost use Rattle.std.specs.Prelude.{◌≡◌, ◌<◌, suc, ltb, [], ◌∷◌, ◌++◌, true, length, map, is_none, Some, None, IfSome, IfNone, IfOk, OnOk, OnErr, slice_get, slice_set};
+ghost use Rattle.std.specs.Prelude.{◌≡◌, ◌<◌, suc, ltb, [], ◌∷◌, ◌++◌, true, false, length, map, is_none, Some, None, IfSome, IfNone, IfOk, OnOk, OnErr, slice_get, slice_set};
 ghost use Rattle.std.specs.Borrow.{Lends, sem};
 ghost use Rattle.fj_list.specs.contracts.elements.Owned.{the_row as owned_row};
 ghost use Rattle.fj_store.specs.contracts.table.Table.{the_row};
 ghost use Rattle.std.specs.List.{list_any};
 ghost use Rattle.std.specs.Option.{option_copied};
+ghost use Rattle.fj_value.specs.declared.place.Place.{Place as AnyPlace};
 ghost use Rattle.fj_store.specs.Places.{places_of};
 ghost use Rattle.fj_store.specs.Tables.{element_at, element_in, row_with, with_element};
 
 use crate::run::Run;
-use fj_list::{Elements, Owned, PlainCopy};
+use fj_list::{Element, Elements, Owned};
 use fj_value::Place;
 use std::alloc::{AllocError, Global};
 use std::marker::Model;
 
 /// By variable, what stands at each of its places. Contracts see it as a list of lists.
 #[derive(Drop)]
-pub struct Table<T: PlainCopy> {
+pub struct Table<T: Element> {
     rows: Vec<Elements<T>>,
 }
 
-impl<T: PlainCopy> Model for Table<T> {
+impl<T: Element> Model for Table<T> {
     ghost use Rattle.std.specs.Prelude.{List};
     ghost use Rattle.std.specs.Coded.{coded_list};
 
@@ -33,7 +34,7 @@ impl<T: PlainCopy> Model for Table<T> {
 
 /// What stands at an index of a row, of which the first is 1.
 #[inline(always)]
-pub(crate) fn get_in<T: PlainCopy>(row: &Owned<T>, index: u32) -> Option<&T>
+pub(crate) fn get_in<T: Element>(row: &Owned<T>, index: u32) -> Option<&T>
     ensures { option_copied result ≡ element_in index row.now }
 {
     let at = index.checked_sub(1)?;
@@ -42,7 +43,7 @@ pub(crate) fn get_in<T: PlainCopy>(row: &Owned<T>, index: u32) -> Option<&T>
 
 /// Where an index is in a row, if there is such an index.
 #[inline(always)]
-pub(crate) fn position_in<T: PlainCopy>(row: &Owned<T>, index: u32) -> Option<usize>
+pub(crate) fn position_in<T: Element>(row: &Owned<T>, index: u32) -> Option<usize>
     ensures some { IfSome result (λ at. (at < length row.now) × (index ≡ suc at)) }
     ensures none { IfNone result (element_in index row.now ≡ None) }
 {
@@ -52,11 +53,7 @@ pub(crate) fn position_in<T: PlainCopy>(row: &Owned<T>, index: u32) -> Option<us
 
 /// Puts an element at an index of a row, and answers the one that stood there. Where there is no such index nothing changes.
 #[inline(always)]
-pub(crate) fn replace_in<T: PlainCopy + Drop>(
-    row: &mut Owned<T>,
-    index: u32,
-    element: T,
-) -> Option<T>
+pub(crate) fn replace_in<T: Element + Drop>(row: &mut Owned<T>, index: u32, element: T) -> Option<T>
     ensures old { result ≡ element_in index row.old }
     ensures new { row.new ≡ row_with index element row.old }
 {
@@ -68,7 +65,7 @@ pub(crate) fn replace_in<T: PlainCopy + Drop>(
 
 /// Puts an element at an index of a row, and drops the one that stood there. Where there is no such index nothing changes.
 #[inline(always)]
-pub(crate) fn put_in<T: PlainCopy + Drop>(row: &mut Owned<T>, index: u32, element: T)
+pub(crate) fn put_in<T: Element + Drop>(row: &mut Owned<T>, index: u32, element: T)
     ensures { row.new ≡ row_with index element row.old }
 {
     let _ = match position_in(row, index) {
@@ -77,7 +74,7 @@ pub(crate) fn put_in<T: PlainCopy + Drop>(row: &mut Owned<T>, index: u32, elemen
     };
 }
 
-impl<T: PlainCopy> Table<T> {
+impl<T: Element> Table<T> {
     /// A table of no variables.
     pub fn new(alloc: Global) -> Table<T>
         ensures { result ≡ [] }
@@ -92,6 +89,16 @@ impl<T: PlainCopy> Table<T> {
         ensures { result ≡ ltb var (length self.now) }
     {
         (var as usize) < self.rows.len()
+    }
+
+    /// Whether it is known of a variable that none of its elements is undefined.
+    pub(crate) fn is_filled(&self, var: u32) -> bool
+        ensures { result ≡ true → ((place : AnyPlace) → place.var ≡ var → IfSome (element_at self.now place) (λ element. T.undefined element ≡ false)) }
+    {
+        match self.rows.get(var as usize) {
+            Some(row) => row.is_filled(),
+            None => false,
+        }
     }
 
     /// What stands at a place, if it has such a place.
@@ -118,7 +125,7 @@ impl<T: PlainCopy> Table<T> {
     }
 }
 
-impl<T: PlainCopy + Drop> Table<T> {
+impl<T: Element + Drop> Table<T> {
     /// Adds a variable, with what stands at its places. Want of memory changes nothing.
     pub fn push(&mut self, row: Elements<T>) -> Result<(), AllocError>
         ensures ok { OnOk result (self.new ≡ self.old ++ row ∷ []) }
@@ -132,7 +139,7 @@ impl<T: PlainCopy + Drop> Table<T> {
     #[inline(always)]
     pub(crate) fn row_mut(&mut self, var: u32) -> &mut Owned<T>
         requires { var < length self.old }
-        ensures* writes_back { sem 𝓛 (Lends (the_row T.row T.PlainCopy) (owned_row T.row T.PlainCopy) self.entry result (slice_set self.old var)) }
+        ensures* writes_back { sem 𝓛 (Lends (the_row T.row T.Element) (owned_row T.row T.Element) self.entry result (slice_set self.old var)) }
         ensures value { slice_get self.old var ≡ Some result.now }
     {
         self.rows[var as usize].owned_mut()
