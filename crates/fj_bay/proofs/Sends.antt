@@ -1,8 +1,8 @@
 -- A job and its answer may go to another thread, where the file may.
 -- A type that holds a format, or much else, is past the limits of one `search`. So each such type has a lemma here, from those of its parts.
 use denote.RattleType.{RattleType}
-use denote.Param.Send.{IsSend, IsSync, view_send, sendable}
-use denote.Param.SendFields.{as_row_send, declared_send, variants_send}
+use denote.Param.Send.{IsSend, IsSync, view_send, view_sync, sendable}
+use denote.Param.SendFields.{as_row_send, as_row_sync, declared_send, declared_sync, variants_send}
 use Rattle.std.proofs.Crossing.{crosses}
 use Rattle.std.specs.contracts.option.Option as Option
 use Rattle.fj_value.specs.contracts.edit.EditModes as EditModes
@@ -101,9 +101,15 @@ inside_owned_sends T g s = declared_send (OwnedInside.the_type T g) (search (as_
 owned_sends : (T : RattleType) (g : element.Ghosts T.Denot) → IsSend T → IsSend (Owned.the_row T g)
 owned_sends T g s = view_send _ _ _ _ _ (inside_owned_sends T g s)
 
+inside_owned_sync : (T : RattleType) (g : element.Ghosts T.Denot) → IsSync T → IsSync (OwnedInside.the_row T g)
+inside_owned_sync T g y = declared_sync (OwnedInside.the_type T g) (search (as_row_sync, items_sync, crosses, sendable) depth 20)
+
+owned_sync : (T : RattleType) (g : element.Ghosts T.Denot) → IsSync T → IsSync (Owned.the_row T g)
+owned_sync T g y = view_sync _ _ _ _ _ (inside_owned_sync T g y)
+
 -- elements that are shared are looked at by two threads
 kept_sends : (T : RattleType) (g : element.Ghosts T.Denot) → IsSend T → IsSync T → IsSend (Kept.the_row T g)
-kept_sends T g s y = variants_send (Kept.enum T g) (search (as_row_send, owned_sends, items_sends, items_sync, crosses, sendable) depth 20)
+kept_sends T g s y = variants_send (Kept.enum T g) (search (as_row_send, owned_sends, owned_sync, crosses, sendable) depth 20)
 
 inside_elements_sends : (T : RattleType) (g : element.Ghosts T.Denot) → IsSend T → IsSync T → IsSend (ElementsInside.the_row T g)
 inside_elements_sends T g s y = declared_send (ElementsInside.the_type T g) (search (as_row_send, kept_sends, crosses, sendable) depth 20)

@@ -1,8 +1,9 @@
 -- What all elements of a list pass, and how many pass it.
-use Rattle.std.proofs.Common.{◌≡◌, ℕ, zero, suc, ◌+◌, ◌-◌, ◌<◌, ◌≤◌, ◌&&◌, ◌||◌, Bool, true, false, cond, List, [], ◌∷◌, length, get_or, slice_get, slice_set, Option, Some, None, SomeIff, IfSome, nat_eq, refl, sym, ap, subst, ◌∙◌, arith}
+use Rattle.std.proofs.Common.{◌≡◌, ℕ, zero, suc, ◌+◌, ◌-◌, ◌%◌, ◌<◌, ◌≤◌, ◌&&◌, ◌||◌, not, Bool, true, false, cond, List, [], ◌∷◌, length, get_or, slice_get, slice_set, Some, nat_eq, refl, sym, ap, subst, ◌∙◌, arith}
+use Rattle.std.specs.Bool.{FalseIff}
 use Rattle.std.specs.List.{list_all, list_any, count_by}
 use Rattle.fj_list.specs.Counted.{AreCounted}
-use Rattle.std.proofs.lemmas.Bool.{false≢true, eqb-true}
+use Rattle.std.proofs.lemmas.Bool.{false≢true, eqb-true, not-true}
 use Rattle.std.proofs.lemmas.List.Sums.{sum_by-cons, sum_by-set, get_or-le-sum_by}
 use Rattle.std.proofs.lemmas.Option.{slice_get_within, get_or_from_slice_get}
 use mir.Val.{bool_byte}
@@ -34,6 +35,10 @@ number : (b : Bool) → bool_byte b ≡ cond b 1 0
 number true = refl
 number false = refl
 
+at_most_one : (b : Bool) → bool_byte b ≤ 1
+at_most_one true = omega arith
+at_most_one false = omega arith
+
 -- one of them is counted
 pub counted_at : {T : Type 0} → (p : T → Bool) (xs : List T) (i : ℕ) (x : T) → slice_get xs i ≡ Some x → bool_byte (p x) ≤ count_by p xs
 counted_at p xs i x at =
@@ -60,20 +65,31 @@ none_counted p (x ∷ xs) none =
     let step = none_step (p x) (count_by p xs) (count_by p (x ∷ xs)) (sum_by-cons (λ y. cond (p y) 1 0) x xs) none in
     ap (λ b. b || list_any p xs) step.0 ∙ none_counted p xs step.1
 
--- elements that are counted are so with another one in the place of one, where the new number is there
-pub counted_replaced : {T : Type 0} → (plain undefined : T → Bool) (xs : List T) (i : ℕ) (x a : T) (count : ℕ) (next : Option ℕ) (before here : Bool) (Small : Type 0)
-    → AreCounted plain undefined xs count → slice_get xs i ≡ Some x → true ≡ plain a → before ≡ undefined x → here ≡ undefined a
-    → SomeIff next Small ((count - bool_byte before) + bool_byte here) → IfSome next (AreCounted plain undefined (slice_set xs i a))
-counted_replaced plain undefined xs i x a count (Some n) before here Small known at fits b h next = record {
-  all_plain = all_set plain xs i a (sym fits) known.all_plain;
-  counted = next.1 ∙ ap (λ m. (m - bool_byte before) + bool_byte here) known.counted
-      ∙ ap (λ c. (count_by undefined xs - bool_byte c) + bool_byte here) b ∙ ap (λ c. (count_by undefined xs - bool_byte (undefined x)) + bool_byte c) h
-      ∙ counted_set undefined xs i x a at;
-}
-counted_replaced plain undefined xs i x a count None before here Small known at fits b h next = tt
+both_parts : (a b c : Bool) → ((a && b) && not c) ≡ true → (a ≡ true) × ((b ≡ true) × (c ≡ false))
+both_parts a b c e =
+    let outer = parts (a && b) (not c) e in
+    let inner = parts a b outer.0 in
+    (inner.0, (inner.1, not-true c outer.1))
 
-pub filled : {T : Type 0} → (plain undefined : T → Bool) (xs : List T) (known : Option ℕ) (count : ℕ) → IfSome known (AreCounted plain undefined xs) → known ≡ Some count
-    → nat_eq count 0 ≡ true → list_any undefined xs ≡ false
-filled plain undefined xs known count counted is none =
-    let known = (subst (λ o. IfSome o (AreCounted plain undefined xs)) is counted).counted in
-    none_counted undefined xs (sym known ∙ eqb-true count 0 none)
+-- another one in the place of one is counted too, where the number is not past the largest
+pub recounted : {T : Type 0} → (plain undefined : T → Bool) (xs : List T) (i : ℕ) (x a : T) (n count : ℕ) (known fits past before here : Bool)
+    → (known ≡ true → AreCounted plain undefined xs n) → slice_get xs i ≡ Some x → fits ≡ plain a → before ≡ undefined x → here ≡ undefined a
+    → count ≡ (n + bool_byte here) % 4294967296 → FalseIff past (n + bool_byte here < 4294967296) → ((known && fits) && not past) ≡ true
+    → AreCounted plain undefined (slice_set xs i a) ((count + (4294967296 - bool_byte before)) % 4294967296)
+recounted plain undefined xs i x a n count known fits past before here counted at is_plain b h value small all =
+    let flags = both_parts known fits past all in
+    let now = counted flags.0 in
+    let low : n + bool_byte here < 4294967296 = subst (λ p. FalseIff p (n + bool_byte here < 4294967296)) flags.1.1 small in
+    let least : bool_byte before ≤ n = subst (λ c. bool_byte c ≤ n) (sym b) (subst (λ m. bool_byte (undefined x) ≤ m) (sym now.counted) (counted_at undefined xs i x at)) in
+    let one : bool_byte before ≤ 1 = at_most_one before in
+    let next : (count + (4294967296 - bool_byte before)) % 4294967296 ≡ (n - bool_byte before) + bool_byte here = omega (arith, value, low, least, one) in
+    record {
+      all_plain = all_set plain xs i a (sym is_plain ∙ flags.1.0) now.all_plain;
+      counted = next ∙ ap (λ m. (m - bool_byte before) + bool_byte here) now.counted
+          ∙ ap (λ c. (count_by undefined xs - bool_byte c) + bool_byte here) b ∙ ap (λ c. (count_by undefined xs - bool_byte (undefined x)) + bool_byte c) h
+          ∙ counted_set undefined xs i x a at;
+    }
+
+-- those of which none is counted
+pub filled : {T : Type 0} → (plain undefined : T → Bool) (xs : List T) (n : ℕ) → AreCounted plain undefined xs n → nat_eq n 0 ≡ true → list_any undefined xs ≡ false
+filled plain undefined xs n known none = none_counted undefined xs (sym known.counted ∙ eqb-true n 0 none)

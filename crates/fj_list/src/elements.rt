@@ -63,15 +63,16 @@ impl Element for Value {
     }
 }
 
-/// Elements of one owner, and how many of them are undefined where all are known to be plain. Contracts see them as a list.
+/// Elements of one owner; whether all are known to be plain, and then how many of them are undefined. Contracts see them as a list.
 #[derive(Debug, Drop)]
 pub struct Owned<T: Element> {
     items: Items<T>,
-    undefined: Option<usize>,
+    plain: bool,
+    undefined: u32,
 }
 
 impl<T: Element> Model for Owned<T> {
-    ghost use Rattle.std.specs.Prelude.{List, IfSome};
+    ghost use Rattle.std.specs.Prelude.{◌≡◌, List, true};
     ghost use Rattle.std.specs.Coded.{coded_list};
     ghost use Rattle.fj_list.specs.Counted.{AreCounted};
 
@@ -81,16 +82,15 @@ impl<T: Element> Model for Owned<T> {
 
     ghost view = { λ owned. owned.items };
 
-    ghost invariant = { λ owned. IfSome owned.undefined (AreCounted T.plain T.undefined owned.items) };
+    ghost invariant = { λ owned. owned.plain ≡ true → AreCounted T.plain T.undefined owned.items owned.undefined };
 }
 
-/// Elements of one owner; or those that others share, with room for copies of them all, and how many of them are undefined: where they
-/// change while others have them, they are copied there, which takes no memory. That room costs next to nothing until then, as none of
-/// it is touched.
+/// Elements of one owner; or those that others share, with room for copies of them all: where they change while others have them,
+/// they are copied there, which takes no memory. That room costs next to nothing until then, as none of it is touched.
 #[derive(Debug, Drop)]
 enum Kept<T: Element> {
     Own(Owned<T>),
-    Shared(Arc<Items<T>, Global>, Vec<T>, usize),
+    Shared(Arc<Owned<T>, Global>, Vec<T>),
 }
 
 /// The elements of a variable. Contracts see them as a list.
@@ -110,20 +110,19 @@ impl<T: Element> Model for Elements<T> {
 
     ghost view = { λ elements. elements_of elements.kept };
 
-    ghost invariant = { λ elements. IsKept T.plain T.undefined elements.kept };
+    ghost invariant = { λ elements. IsKept T.plain elements.kept };
 }
 
-/// How many of these are undefined; none where not all of them are plain.
-fn undefined_in<T: Element>(items: &[T]) -> Option<usize>
-    ensures some { IfSome result (AreCounted T.plain T.undefined items.now) }
-    ensures none { IfNone result (list_all T.plain items.now ≡ false) }
+/// How many of these are undefined, where all are plain.
+fn undefined_in<T: Element>(items: &[T]) -> Option<u32>
+    ensures { IfSome result (AreCounted T.plain T.undefined items.now) }
 {
-    let mut count = 0;
+    let mut count = 0u32;
     for item in items {
         if !item.is_plain() {
             return None;
         }
-        count += item.is_undefined() as usize;
+        count = count.checked_add(item.is_undefined() as u32)?;
     }
     Some(count)
 }
@@ -160,8 +159,30 @@ impl<T: Element> Owned<T> {
     {
         Owned {
             items,
-            undefined: None,
+            plain: false,
+            undefined: 0,
         }
+    }
+
+    /// These elements, which are known to be plain where they are.
+    fn looked_at(items: Items<T>) -> Owned<T>
+        ensures { result ≡ items }
+    {
+        match undefined_in(items.as_slice()) {
+            Some(undefined) => Owned {
+                items,
+                plain: true,
+                undefined,
+            },
+            None => Owned::of(items),
+        }
+    }
+
+    /// Whether it is known that none of them is undefined.
+    fn is_filled(&self) -> bool
+        ensures { result ≡ true → list_any T.undefined self.now ≡ false }
+    {
+        self.plain && self.undefined == 0
     }
 
     fn as_slice(&self) -> &[T]
@@ -193,16 +214,25 @@ impl<T: Element + Drop> Owned<T> {
         ensures item { slice_get self.old at ≡ Some result }
         ensures rest { self.new ≡ slice_set self.old at item }
     {
-        let plain = item.is_plain();
-        let undefined = item.is_undefined();
+        let (count, past) = self.undefined.overflowing_add(item.is_undefined() as u32);
+        self.plain = self.plain & item.is_plain() & !past;
         let before = self.items.replace(at, item);
-        self.undefined = match self.undefined {
-            Some(count) if plain => {
-                (count - before.is_undefined() as usize).checked_add(undefined as usize)
-            }
-            _ => None,
-        };
+        self.undefined = count.wrapping_sub(before.is_undefined() as u32);
         before
+    }
+
+    /// Copies of these, where there is room for them.
+    fn copied(&self, room: Vec<T>) -> Owned<T>
+        requires plain { list_all T.plain self.now ≡ true }
+        requires none { room.items ≡ [] }
+        requires room { length self.now ≤ vec_capacity room }
+        ensures { result ≡ self.now }
+    {
+        Owned {
+            items: copied(self.as_slice(), room),
+            plain: self.plain,
+            undefined: self.undefined,
+        }
     }
 }
 
@@ -210,7 +240,7 @@ impl<T: Element> Kept<T> {
     fn allocator(&self) -> Global {
         match self {
             Kept::Own(owned) => owned.items.allocator(),
-            Kept::Shared(_, spare, _) => *spare.allocator(),
+            Kept::Shared(_, spare) => *spare.allocator(),
         }
     }
 }
@@ -228,7 +258,7 @@ impl<T: Element> Kept<T> {
     {
         match self {
             Kept::Own(owned) => owned,
-            Kept::Shared(_, _, _) => unreachable!(),
+            Kept::Shared(_, _) => unreachable!(),
         }
     }
 }
@@ -236,30 +266,24 @@ impl<T: Element> Kept<T> {
 impl<T: Element + Drop> Kept<T> {
     /// The elements by themselves. It takes no memory.
     fn apart(self) -> Owned<T>
-        requires { IsKept T.plain T.undefined self }
+        requires { IsKept T.plain self }
         ensures { result ≡ elements_of self }
     {
         match self {
             Kept::Own(owned) => owned,
-            Kept::Shared(items, spare, count) => {
-                let items = match Arc::try_unwrap(items) {
-                    Ok(items) => items,
-                    Err(items) => copied(items.as_slice(), spare),
-                };
-                Owned {
-                    items,
-                    undefined: Some(count),
-                }
-            }
+            Kept::Shared(shared, spare) => match Arc::try_unwrap(shared) {
+                Ok(owned) => owned,
+                Err(shared) => shared.copied(spare),
+            },
         }
     }
 
     /// Takes the elements out, which leaves none.
     #[inline(never)]
     fn take(&mut self) -> Owned<T>
-        requires { IsKept T.plain T.undefined self.old }
+        requires { IsKept T.plain self.old }
         ensures taken { result ≡ elements_of self.old }
-        ensures left { IsKept T.plain T.undefined self.new }
+        ensures left { IsKept T.plain self.new }
     {
         let nothing = Kept::Own(Owned::of(Items::new(self.allocator())));
         std::mem::replace(self, nothing).apart()
@@ -268,11 +292,11 @@ impl<T: Element + Drop> Kept<T> {
     /// Makes elements that may be shared those of one owner. It takes no memory.
     #[inline(always)]
     fn unshare(&mut self)
-        requires { IsKept T.plain T.undefined self.old }
+        requires { IsKept T.plain self.old }
         ensures same { elements_of self.new ≡ elements_of self.old }
         ensures own { is_own self.new ≡ true }
     {
-        if let Kept::Shared(_, _, _) = self {
+        if let Kept::Shared(_, _) = self {
             *self = Kept::Own(self.take());
         }
     }
@@ -287,20 +311,14 @@ fn kept_to_share<T: Element + Drop>(
     requires none { spare.items ≡ [] }
     requires room { length owned ≤ vec_capacity spare }
     ensures items { elements_of result.0 ≡ owned }
-    ensures kept { IsKept T.plain T.undefined result.0 }
+    ensures kept { IsKept T.plain result.0 }
 {
-    let Some(count) = owned.undefined else {
+    if !owned.plain {
         return (Kept::Own(owned), Ok(()));
-    };
-    match Arc::new(alloc, owned.items) {
-        Ok(items) => (Kept::Shared(items, spare, count), Ok(())),
-        Err(refused) => (
-            Kept::Own(Owned {
-                items: refused.value,
-                undefined: Some(count),
-            }),
-            Err(AllocError),
-        ),
+    }
+    match Arc::new(alloc, owned) {
+        Ok(shared) => (Kept::Shared(shared, spare), Ok(())),
+        Err(refused) => (Kept::Own(refused.value), Err(AllocError)),
     }
 }
 
@@ -318,9 +336,8 @@ impl<T: Element> Elements<T> {
     pub fn to_share(items: Items<T>) -> Elements<T>
         ensures { result ≡ items }
     {
-        let undefined = undefined_in(items.as_slice());
         Elements {
-            kept: Kept::Own(Owned { items, undefined }),
+            kept: Kept::Own(Owned::looked_at(items)),
         }
     }
 
@@ -344,7 +361,7 @@ impl<T: Element> Elements<T> {
     {
         match &self.kept {
             Kept::Own(owned) => owned.as_slice(),
-            Kept::Shared(items, _, _) => items.as_slice(),
+            Kept::Shared(shared, _) => shared.as_slice(),
         }
     }
 
@@ -352,13 +369,9 @@ impl<T: Element> Elements<T> {
     pub fn is_filled(&self) -> bool
         ensures { result ≡ true → list_any T.undefined self.now ≡ false }
     {
-        let undefined = match &self.kept {
-            Kept::Own(owned) => owned.undefined,
-            Kept::Shared(_, _, count) => Some(*count),
-        };
-        match undefined {
-            Some(count) => count == 0,
-            None => false,
+        match &self.kept {
+            Kept::Own(owned) => owned.is_filled(),
+            Kept::Shared(shared, _) => shared.is_filled(),
         }
     }
 }
@@ -403,9 +416,9 @@ impl<T: Element + Drop> Elements<T> {
     {
         match &self.kept {
             Kept::Own(_) => None,
-            Kept::Shared(items, _, count) => match Arc::try_clone(items) {
-                Ok(items) => Some(Elements {
-                    kept: Kept::Shared(items, spare, *count),
+            Kept::Shared(shared, _) => match Arc::try_clone(shared) {
+                Ok(shared) => Some(Elements {
+                    kept: Kept::Shared(shared, spare),
                 }),
                 Err(_) => None,
             },
@@ -416,7 +429,7 @@ impl<T: Element + Drop> Elements<T> {
     fn prepare(&mut self, alloc: Global) -> Result<(), AllocError>
         ensures { self.new ≡ self.old }
     {
-        if let Kept::Shared(_, _, _) = &self.kept {
+        if let Kept::Shared(_, _) = &self.kept {
             return Ok(());
         }
         let spare = room_for(alloc, self.len())?;
@@ -431,7 +444,7 @@ impl<T: Element + Drop> Elements<T> {
         ensures shared { IfOk result (λ o. IfSome o (λ elements. elements ≡ self.old)) }
     {
         if let Kept::Own(owned) = &self.kept {
-            if owned.undefined.is_none() {
+            if !owned.plain {
                 return Ok(None);
             }
         }
