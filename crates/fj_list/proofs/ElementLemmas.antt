@@ -1,12 +1,7 @@
--- What all elements of a list pass, and how many pass it.
-use Rattle.std.proofs.Common.{◌≡◌, ℕ, zero, suc, ◌+◌, ◌-◌, ◌%◌, ◌<◌, ◌≤◌, ◌&&◌, ◌||◌, not, Bool, true, false, cond, List, [], ◌∷◌, length, get_or, slice_get, slice_set, Some, nat_eq, refl, sym, ap, subst, ◌∙◌, arith}
-use Rattle.std.specs.Bool.{FalseIff}
-use Rattle.std.specs.List.{list_all, list_any, count_by}
-use Rattle.fj_list.specs.Counted.{AreCounted}
-use Rattle.std.proofs.lemmas.Bool.{false≢true, eqb-true, not-true}
-use Rattle.std.proofs.lemmas.List.Sums.{sum_by-cons, sum_by-set, get_or-le-sum_by}
-use Rattle.std.proofs.lemmas.Option.{slice_get_within, get_or_from_slice_get}
-use mir.Val.{bool_byte}
+-- What all elements of a list pass, and what none of them passes.
+use Rattle.std.proofs.Common.{◌≡◌, ℕ, zero, suc, ◌<◌, ◌&&◌, ◌||◌, not, Bool, true, false, List, [], ◌∷◌, length, get_or, slice_set, refl, sym, ap, ◌∙◌, arith}
+use Rattle.std.specs.List.{list_all, list_any}
+use Rattle.std.proofs.lemmas.Bool.{false≢true, not-true}
 
 parts : (a b : Bool) → (a && b) ≡ true → (a ≡ true) × (b ≡ true)
 parts true b e = (refl, e)
@@ -30,66 +25,29 @@ all_at p [] i x all low is = absurd (let never : ⊥ = omega (arith, low) in nev
 all_at p (y ∷ xs) zero x all low is = ap p is ∙ (parts (p y) (list_all p xs) all).0
 all_at p (y ∷ xs) (suc i) x all low is = all_at p xs i x (parts (p y) (list_all p xs) all).1 (omega arith) is
 
--- ---- how many pass
-number : (b : Bool) → bool_byte b ≡ cond b 1 0
-number true = refl
-number false = refl
+-- ---- what none of them passes
 
-at_most_one : (b : Bool) → bool_byte b ≤ 1
-at_most_one true = omega arith
-at_most_one false = omega arith
+neither : (a b : Bool) → (a || b) ≡ false → (a ≡ false) × (b ≡ false)
+neither true b e = absurd (false≢true (sym e))
+neither false b e = (refl, e)
 
--- one of them is counted
-pub counted_at : {T : Type 0} → (p : T → Bool) (xs : List T) (i : ℕ) (x : T) → slice_get xs i ≡ Some x → bool_byte (p x) ≤ count_by p xs
-counted_at p xs i x at =
-    subst (λ n. n ≤ count_by p xs) (ap (λ y. cond (p y) 1 0) (get_or_from_slice_get xs i x x at) ∙ sym (number (p x)))
-    (get_or-le-sum_by (λ y. cond (p y) 1 0) xs i x (slice_get_within xs i x at))
+-- another one that does not pass
+pub none_set : {T : Type 0} → (p : T → Bool) (xs : List T) (i : ℕ) (a : T) → p a ≡ false → list_any p xs ≡ false → list_any p (slice_set xs i a) ≡ false
+none_set p [] zero a here none = refl
+none_set p [] (suc i) a here none = refl
+none_set p (x ∷ xs) zero a here none = ap (λ b. b || list_any p xs) here ∙ (neither (p x) (list_any p xs) none).1
+none_set p (x ∷ xs) (suc i) a here none =
+    let old = neither (p x) (list_any p xs) none in
+    ap (λ b. b || list_any p (slice_set xs i a)) old.0 ∙ none_set p xs i a here old.1
 
--- another one in its place
-pub counted_set : {T : Type 0} → (p : T → Bool) (xs : List T) (i : ℕ) (x a : T) → slice_get xs i ≡ Some x
-    → (count_by p xs - bool_byte (p x)) + bool_byte (p a) ≡ count_by p (slice_set xs i a)
-counted_set p xs i x a at =
-    let before : bool_byte (p x) ≡ cond (p (get_or xs i x)) 1 0 = number (p x) ∙ sym (ap (λ y. cond (p y) 1 0) (get_or_from_slice_get xs i x x at)) in
-    let both = ap (λ n. count_by p (slice_set xs i a) + n) before ∙ sum_by-set (λ y. cond (p y) 1 0) xs i a x (slice_get_within xs i x at) ∙ ap (λ n. count_by p xs + n) (sym (number (p a))) in
-    let least = counted_at p xs i x at in
-    omega (arith, both, least)
+-- ---- what is known of elements, with another one in the place of one
 
-none_step : (b : Bool) (n m : ℕ) → m ≡ cond b 1 0 + n → m ≡ 0 → (b ≡ false) × (n ≡ 0)
-none_step true n m is none = absurd (let never : ⊥ = omega (arith, is, none) in never)
-none_step false n m is none = (refl, omega (arith, is, none))
+pub all_replaced : {T : Type 0} → (p : T → Bool) (xs : List T) (i : ℕ) (a : T) (known fits : Bool) → (known ≡ true → list_all p xs ≡ true) → fits ≡ p a → (known && fits) ≡ true → list_all p (slice_set xs i a) ≡ true
+all_replaced p xs i a known fits all is both =
+    let each = parts known fits both in
+    all_set p xs i a (sym is ∙ each.1) (all each.0)
 
--- where none is counted none passes
-pub none_counted : {T : Type 0} → (p : T → Bool) (xs : List T) → count_by p xs ≡ 0 → list_any p xs ≡ false
-none_counted p [] none = refl
-none_counted p (x ∷ xs) none =
-    let step = none_step (p x) (count_by p xs) (count_by p (x ∷ xs)) (sum_by-cons (λ y. cond (p y) 1 0) x xs) none in
-    ap (λ b. b || list_any p xs) step.0 ∙ none_counted p xs step.1
-
-both_parts : (a b c : Bool) → ((a && b) && not c) ≡ true → (a ≡ true) × ((b ≡ true) × (c ≡ false))
-both_parts a b c e =
-    let outer = parts (a && b) (not c) e in
-    let inner = parts a b outer.0 in
-    (inner.0, (inner.1, not-true c outer.1))
-
--- another one in the place of one is counted too, where the number is not past the largest
-pub recounted : {T : Type 0} → (plain undefined : T → Bool) (xs : List T) (i : ℕ) (x a : T) (n count : ℕ) (known fits past before here : Bool)
-    → (known ≡ true → AreCounted plain undefined xs n) → slice_get xs i ≡ Some x → fits ≡ plain a → before ≡ undefined x → here ≡ undefined a
-    → count ≡ (n + bool_byte here) % 4294967296 → FalseIff past (n + bool_byte here < 4294967296) → ((known && fits) && not past) ≡ true
-    → AreCounted plain undefined (slice_set xs i a) ((count + (4294967296 - bool_byte before)) % 4294967296)
-recounted plain undefined xs i x a n count known fits past before here counted at is_plain b h value small all =
-    let flags = both_parts known fits past all in
-    let now = counted flags.0 in
-    let low : n + bool_byte here < 4294967296 = subst (λ p. FalseIff p (n + bool_byte here < 4294967296)) flags.1.1 small in
-    let least : bool_byte before ≤ n = subst (λ c. bool_byte c ≤ n) (sym b) (subst (λ m. bool_byte (undefined x) ≤ m) (sym now.counted) (counted_at undefined xs i x at)) in
-    let one : bool_byte before ≤ 1 = at_most_one before in
-    let next : (count + (4294967296 - bool_byte before)) % 4294967296 ≡ (n - bool_byte before) + bool_byte here = omega (arith, value, low, least, one) in
-    record {
-      all_plain = all_set plain xs i a (sym is_plain ∙ flags.1.0) now.all_plain;
-      counted = next ∙ ap (λ m. (m - bool_byte before) + bool_byte here) now.counted
-          ∙ ap (λ c. (count_by undefined xs - bool_byte c) + bool_byte here) b ∙ ap (λ c. (count_by undefined xs - bool_byte (undefined x)) + bool_byte c) h
-          ∙ counted_set undefined xs i x a at;
-    }
-
--- those of which none is counted
-pub filled : {T : Type 0} → (plain undefined : T → Bool) (xs : List T) (n : ℕ) → AreCounted plain undefined xs n → nat_eq n 0 ≡ true → list_any undefined xs ≡ false
-filled plain undefined xs n known none = none_counted undefined xs (sym known.counted ∙ eqb-true n 0 none)
+pub none_replaced : {T : Type 0} → (p : T → Bool) (xs : List T) (i : ℕ) (a : T) (known passes : Bool) → (known ≡ true → list_any p xs ≡ false) → passes ≡ p a → (known && not passes) ≡ true → list_any p (slice_set xs i a) ≡ false
+none_replaced p xs i a known passes none is both =
+    let each = parts known (not passes) both in
+    none_set p xs i a (sym is ∙ not-true passes each.1) (none each.0)

@@ -4,7 +4,6 @@ pub mod ListText
 pub mod Items
 pub mod Load
 pub mod Values
-pub mod Counted
 pub mod Elements
 pub mod Listing
 pub mod Stream

@@ -1,11 +1,10 @@
 // The elements of a variable, which a copy shares until either of the two changes.
-ghost use Rattle.std.specs.Prelude.{◌≡◌, ◌<◌, ◌≤◌, [], Some, true, false, length, slice_get, slice_set, vec_capacity, IfOk, IfSome, IfNone, IsTrue};
+ghost use Rattle.std.specs.Prelude.{◌≡◌, ◌<◌, ◌≤◌, [], Some, true, false, length, slice_get, slice_set, vec_capacity, IfOk, IfSome};
 ghost use Rattle.std.specs.List.{list_all, list_any};
 ghost use Rattle.std.specs.Option.{option_copied};
 ghost use Rattle.fj_list.specs.Values.{is_undefined, takes_no_memory};
 ghost use Rattle.std.specs.Borrow.{Lends, sem};
 ghost use Rattle.fj_list.specs.Elements.{elements_of, is_own, IsKept};
-ghost use Rattle.fj_list.specs.Counted.{AreCounted};
 ghost use Rattle.fj_list.specs.declared.elements.Kept.TheVariants.{Own};
 
 use fj_value::{Items, Value};
@@ -63,18 +62,18 @@ impl Element for Value {
     }
 }
 
-/// Elements of one owner; whether all are known to be plain, and then how many of them are undefined. Contracts see them as a list.
+/// Elements of one owner; whether all are known to be plain, and whether none is known to be undefined. Contracts see them as a list.
 #[derive(Debug, Drop)]
 pub struct Owned<T: Element> {
     items: Items<T>,
     plain: bool,
-    undefined: u32,
+    filled: bool,
 }
 
 impl<T: Element> Model for Owned<T> {
-    ghost use Rattle.std.specs.Prelude.{◌≡◌, List, true};
+    ghost use Rattle.std.specs.Prelude.{◌≡◌, List, true, false};
     ghost use Rattle.std.specs.Coded.{coded_list};
-    ghost use Rattle.fj_list.specs.Counted.{AreCounted};
+    ghost use Rattle.std.specs.List.{list_all, list_any};
 
     ghost Value = { List T };
 
@@ -82,7 +81,7 @@ impl<T: Element> Model for Owned<T> {
 
     ghost view = { λ owned. owned.items };
 
-    ghost invariant = { λ owned. owned.plain ≡ true → AreCounted T.plain T.undefined owned.items owned.undefined };
+    ghost invariant = { λ owned. (owned.plain ≡ true → list_all T.plain owned.items ≡ true) × (owned.filled ≡ true → list_any T.undefined owned.items ≡ false) };
 }
 
 /// Elements of one owner; or those that others share, with room for copies of them all: where they change while others have them,
@@ -113,18 +112,27 @@ impl<T: Element> Model for Elements<T> {
     ghost invariant = { λ elements. IsKept T.plain elements.kept };
 }
 
-/// How many of these are undefined, where all are plain.
-fn undefined_in<T: Element>(items: &[T]) -> Option<u32>
-    ensures { IfSome result (AreCounted T.plain T.undefined items.now) }
+/// Whether no copy of these takes memory.
+fn are_plain<T: Element>(items: &[T]) -> bool
+    ensures { result ≡ list_all T.plain items.now }
 {
-    let mut count = 0u32;
     for item in items {
         if !item.is_plain() {
-            return None;
+            return false;
         }
-        count = count.checked_add(item.is_undefined() as u32)?;
     }
-    Some(count)
+    true
+}
+
+/// Whether one of these is undefined. It looks at all of them.
+pub fn any_undefined<T: Element>(items: &[T]) -> bool
+    ensures { result ≡ list_any T.undefined items.now }
+{
+    let mut any = false;
+    for item in items {
+        any |= item.is_undefined();
+    }
+    any
 }
 
 /// Room for so many.
@@ -160,29 +168,8 @@ impl<T: Element> Owned<T> {
         Owned {
             items,
             plain: false,
-            undefined: 0,
+            filled: false,
         }
-    }
-
-    /// These elements, which are known to be plain where they are.
-    fn looked_at(items: Items<T>) -> Owned<T>
-        ensures { result ≡ items }
-    {
-        match undefined_in(items.as_slice()) {
-            Some(undefined) => Owned {
-                items,
-                plain: true,
-                undefined,
-            },
-            None => Owned::of(items),
-        }
-    }
-
-    /// Whether it is known that none of them is undefined.
-    fn is_filled(&self) -> bool
-        ensures { result ≡ true → list_any T.undefined self.now ≡ false }
-    {
-        self.plain && self.undefined == 0
     }
 
     fn as_slice(&self) -> &[T]
@@ -214,11 +201,18 @@ impl<T: Element + Drop> Owned<T> {
         ensures item { slice_get self.old at ≡ Some result }
         ensures rest { self.new ≡ slice_set self.old at item }
     {
-        let (count, past) = self.undefined.overflowing_add(item.is_undefined() as u32);
-        self.plain = self.plain & item.is_plain() & !past;
-        let before = self.items.replace(at, item);
-        self.undefined = count.wrapping_sub(before.is_undefined() as u32);
-        before
+        self.plain = self.plain & item.is_plain();
+        self.filled = self.filled & !item.is_undefined();
+        self.items.replace(at, item)
+    }
+
+    /// Looks whether one of them is undefined, where none is not known to be.
+    fn look(&mut self)
+        ensures { self.new ≡ self.old }
+    {
+        if !self.filled {
+            self.filled = !any_undefined(self.items.as_slice());
+        }
     }
 
     /// Copies of these, where there is room for them.
@@ -231,7 +225,7 @@ impl<T: Element + Drop> Owned<T> {
         Owned {
             items: copied(self.as_slice(), room),
             plain: self.plain,
-            undefined: self.undefined,
+            filled: self.filled,
         }
     }
 }
@@ -336,8 +330,13 @@ impl<T: Element> Elements<T> {
     pub fn to_share(items: Items<T>) -> Elements<T>
         ensures { result ≡ items }
     {
+        let plain = are_plain(items.as_slice());
         Elements {
-            kept: Kept::Own(Owned::looked_at(items)),
+            kept: Kept::Own(Owned {
+                items,
+                plain,
+                filled: false,
+            }),
         }
     }
 
@@ -370,8 +369,8 @@ impl<T: Element> Elements<T> {
         ensures { result ≡ true → list_any T.undefined self.now ≡ false }
     {
         match &self.kept {
-            Kept::Own(owned) => owned.is_filled(),
-            Kept::Shared(shared, _) => shared.is_filled(),
+            Kept::Own(owned) => owned.filled,
+            Kept::Shared(shared, _) => shared.filled,
         }
     }
 }
@@ -433,7 +432,9 @@ impl<T: Element + Drop> Elements<T> {
             return Ok(());
         }
         let spare = room_for(alloc, self.len())?;
-        let (kept, done) = kept_to_share(alloc, self.kept.take(), spare);
+        let mut owned = self.kept.take();
+        owned.look();
+        let (kept, done) = kept_to_share(alloc, owned, spare);
         self.kept = kept;
         done
     }

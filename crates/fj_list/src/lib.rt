@@ -17,7 +17,7 @@ mod split;
 mod write;
 
 pub use constant::{Form, Read, number, read_as};
-pub use elements::{Element, Elements, Owned};
+pub use elements::{Element, Elements, Owned, any_undefined};
 pub use items::{Item, OutputItems, Run, Values};
 pub use laws::{
     cells_keep_kinds, constants_are_of_kind, constants_may_be_cut, integers_are_read,

@@ -1,9 +1,7 @@
 // What stands at a place of the store.
 ghost use Rattle.std.specs.Prelude.{◌≡◌, true, false};
-ghost use Rattle.std.specs.List.{list_any};
 ghost use Rattle.fj_store.specs.Slots.{mark_in, slot_of};
 ghost use Rattle.fj_store.specs.Taking.{mark_of, value_read};
-ghost use Rattle.fj_store.specs.Variables.{is_undefined};
 ghost use Rattle.fj_store.specs.declared.slot.Slot.{Slot as AnySlot};
 
 use fj_list::Element;
@@ -77,15 +75,4 @@ impl Slot {
             Slot::Out(number) => (Mark::Out(number), Value::Undefined),
         }
     }
-}
-
-/// Whether one of some values is undefined. It looks at all of them.
-pub(crate) fn any_undefined(values: &[Value]) -> bool
-    ensures { result ≡ list_any is_undefined values.now }
-{
-    let mut any = false;
-    for value in values {
-        any |= value.is_undefined();
-    }
-    any
 }
