@@ -192,47 +192,26 @@ fn slot_with(
     slot_of(alloc, connection)
 }
 
-/// That of the scratch file.
-fn scratch_slot(
-    alloc: Global,
-    slot: u32,
-    units: &mut Units,
-    names: &mut Names,
-    disk: &mut MemoryDisk,
-) -> Option<Slot<Bay<MemoryFile>>>
-    requires { AreInUse names.old disk.old.in_use }
-    ensures home { IfSome result (λ slot. is_some slot.home ≡ true) }
-    ensures names { IfSome result (λ _. AreInUse names.new disk.new.in_use) }
-{
-    let opened = Opened {
+/// The scratch file of unit 11.
+fn scratch_file(alloc: Global, slot: u32) -> Option<Opened> {
+    Some(Opened {
         number: 11,
         slot,
         name: FileName::scratch(alloc, 11).ok()?,
         status: Some(FileStatus::Scratch),
         open: false,
-    };
-    slot_with(alloc, opened, units, names, disk)
+    })
 }
 
-/// That of the file with an open record.
-fn text_slot(
-    alloc: Global,
-    units: &mut Units,
-    names: &mut Names,
-    disk: &mut MemoryDisk,
-) -> Option<Slot<Bay<MemoryFile>>>
-    requires { AreInUse names.old disk.old.in_use }
-    ensures home { IfSome result (λ slot. is_some slot.home ≡ true) }
-    ensures names { IfSome result (λ _. AreInUse names.new disk.new.in_use) }
-{
-    let opened = Opened {
+/// The file of unit 10, with an open record.
+fn text_file(alloc: Global) -> Option<Opened> {
+    Some(Opened {
         number: 10,
         slot: 1,
         name: name_of(alloc, "a")?,
         status: None,
         open: true,
-    };
-    slot_with(alloc, opened, units, names, disk)
+    })
 }
 
 /// The slots of both.
@@ -247,8 +226,9 @@ fn both_slots(
     ensures home { IfSome result (λ slots. AllHome slots) }
     ensures names { IfSome result (λ _. AreInUse names.new disk.new.in_use) }
 {
-    let first = scratch_slot(alloc, slot, units, names, disk)?;
-    let Some(second) = text_slot(alloc, units, names, disk) else {
+    let text = text_file(alloc)?;
+    let first = slot_with(alloc, scratch_file(alloc, slot)?, units, names, disk)?;
+    let Some(second) = slot_with(alloc, text, units, names, disk) else {
         drop(first);
         return None;
     };
