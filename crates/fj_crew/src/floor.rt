@@ -151,7 +151,7 @@ where
 }
 
 // Serves the script, with that crew beside it.
-fn serve_with<S: Script + Send, R: Threads + Wait + Sync>(
+fn serve_with_crew<S: Script + Send, R: Threads + Wait + Sync>(
     rt: &R,
     script: &mut S,
     floor: &Floor<Queue<S::Gear>>,
@@ -211,7 +211,7 @@ where
     let Some(mut own) = crew.pop() else {
         unreachable!();
     };
-    serve_with(rt, script, &floor, seats, &mut own, &mut crew);
+    serve_with_crew(rt, script, &floor, seats, &mut own, &mut crew);
     fold(&floor.queues, seats, own);
     dismiss(&floor.queues, seats, crew);
     let Floor { queues, signals: _ } = floor;

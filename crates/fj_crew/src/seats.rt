@@ -38,8 +38,29 @@ pub(crate) fn submit_at<E: Engine, R: Wait>(
     number
 }
 
-// While the job is out that is told next at that place: works on queues where a job seems to be due, or else gives its processor to the
-// workers.
+// Works once on the queue at that place, where a job is due and no one has taken it. A worker is to go on where more are.
+fn help_at<E: Engine, R: Wait>(
+    rt: &R,
+    queues: &VecDeque<Queue<E>>,
+    own: &mut VecDeque<Hand<E>>,
+    signals: &Signals,
+    at: usize,
+) -> bool
+    requires within { at < length queues.now.items }
+    requires serves { AllServe queues.now.items own.old.items }
+    ensures serves { AllServe queues.now.items own.new.items }
+{
+    let queue = &queues[at];
+    let hand = &mut own[at];
+    let worked = queue.work_where_due(rt, hand);
+    if worked {
+        signals.ring_if(queue.seems_due());
+    }
+    worked
+}
+
+// Until there is an answer to tell at that place: performs a job there where no one has taken it, and while one is out works on queues
+// where a job seems to be due, or else gives its processor to the workers.
 fn wait_for<E: Engine, R: Wait>(
     rt: &R,
     queues: &VecDeque<Queue<E>>,
@@ -53,27 +74,30 @@ fn wait_for<E: Engine, R: Wait>(
 {
     let backoff = Backoff::new();
     for _ in rt.forever() {
-        if !queues[at].seems_out() {
+        if queues[at].seems_ready() {
             return;
         }
-        if !backoff.is_completed() {
-            backoff.snooze();
+        if help_at(rt, queues, own, signals, at) {
             continue;
         }
-        if let Some(other) = first_due(queues, 0, queues.len()) {
-            let hand = &mut own[other];
-            let _worked = queues[other].work_where_due(rt, hand);
-            continue;
+        if backoff.is_completed() {
+            if let Some(other) = first_due(queues, 0, queues.len()) {
+                if help_at(rt, queues, own, signals, other) {
+                    continue;
+                }
+            } else {
+                let wait = signals.awaits(at as u64);
+                if queues[at].seems_out() {
+                    wait.wait(rt);
+                }
+            }
         }
-        let wait = signals.awaits(at as u64);
-        if queues[at].seems_out() {
-            wait.wait(rt);
-        }
+        backoff.snooze();
     }
     unreachable!()
 }
 
-/// Settles the next job of the slot at that place, and rings where more seem to be due there: it may have performed a job of which no worker knew.
+/// Settles the next job of the slot at that place.
 pub(crate) fn settle_at<E: Engine, R: Wait>(
     rt: &R,
     queues: &VecDeque<Queue<E>>,
@@ -95,7 +119,5 @@ pub(crate) fn settle_at<E: Engine, R: Wait>(
     wait_for(rt, queues, own, signals, at);
     let queue = &queues[at];
     let seat = &mut seats[at];
-    let told = queue.settle(rt, seat);
-    signals.ring_if(queue.seems_due());
-    told
+    queue.settle(rt, seat)
 }

@@ -9,7 +9,8 @@ const NONE: u64 = u64::MAX;
 /// So many short jobs take longer than a thread takes to begin.
 const MANY: u64 = 64;
 
-/// The script's thread tells the workers that there is work, and that it has finished.
+/// The script's thread tells the workers that there is work, and that it has finished; they tell it that a job ended of the slot that it
+/// waits for.
 #[derive(Drop)]
 pub(crate) struct Signals {
     over: AtomicBool,
@@ -105,7 +106,7 @@ impl Signals {
     }
 
     /// A worker looks for work no more. Tells whether it was the last one.
-    pub(crate) fn found(&self) -> bool {
+    pub(crate) fn looks_no_more(&self) -> bool {
         self.looking.fetch_sub(1, SeqCst) == 1
     }
 

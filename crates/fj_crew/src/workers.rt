@@ -97,7 +97,7 @@ fn work_at<E: Engine, R: Wait>(
     requires serves { AllServe queues.now.items team.old.items }
     ensures serves { AllServe queues.now.items team.new.items }
 {
-    if signals.found() {
+    if signals.looks_no_more() {
         signals.ring_if(next_due(queues, at + 1, at).is_some());
     }
     let hand = &mut team[at];
@@ -112,7 +112,7 @@ fn work_at<E: Engine, R: Wait>(
 // Waits for work, unless there is some at the last look. It is not counted as looking then: a job that comes later is rung for.
 fn pause<E: Engine, R: Wait>(rt: &R, queues: &VecDeque<Queue<E>>, signals: &Signals, first: bool) {
     let wait = signals.prepare();
-    let _last = signals.found();
+    let _last = signals.looks_no_more();
     if first_due(queues, 0, queues.len()).is_none() && !signals.ends(first) {
         wait.wait(rt);
     }
@@ -136,7 +136,7 @@ pub(crate) fn work<E: Engine, R: Wait>(
     for _ in rt.forever() {
         let due = next_due(queues, from, from.min(queues.len()));
         if signals.ends(first) {
-            let _last = signals.found();
+            let _last = signals.looks_no_more();
             return;
         }
         match due {

@@ -82,6 +82,12 @@ impl<E: Engine> QueueOf<Slot<E>, E, E::Task, Law<E>> {
         progress % 2 == 0 && progress / 2 < shared.peek(1) && shared.peek(4) == 0
     }
 
+    /// Whether there is an answer to tell, or none comes any more, as it looks without the turn. No clause rests on it.
+    pub fn seems_ready(&self) -> bool {
+        let shared = &self.table.shared;
+        shared.peek(3) < shared.peek(2) / 2 || shared.peek(4) != 0
+    }
+
     /// Whether the job that is told next is out, as it looks without the turn. No clause rests on it.
     pub fn seems_out(&self) -> bool {
         let shared = &self.table.shared;
