@@ -673,7 +673,7 @@ static TWO_UNITS: &[u8] =
 /// What both files are to hold.
 static SEVEN: &[u8] = b"7\n";
 
-/// What carrying that deck out with these words comes to, where the writes to one file wait for the first to the other.
+/// What carrying that deck out with these words comes to and leaves, where the writes to one file wait for the first to the other.
 fn gated<Rt: Threads + Wait + Sync>(
     rt: &Rt,
     alloc: Global,
@@ -681,10 +681,10 @@ fn gated<Rt: Threads + Wait + Sync>(
     held: &str,
     until: &str,
     turns: u64,
+    out: &mut MemorySink,
 ) -> Result<(Status, GateDisk), AllocError> {
-    let mut out = MemorySink::new(alloc);
     let mut disk = GateDisk::new(alloc, held, until, turns)?;
-    let answer = run_by(rt, alloc, words, TWO_UNITS, &mut out, &mut disk)?;
+    let answer = run_by(rt, alloc, words, TWO_UNITS, out, &mut disk)?;
     Ok((answer, disk))
 }
 
@@ -692,14 +692,26 @@ fn gated<Rt: Threads + Wait + Sync>(
 fn transfers_of_two_units_overlap(rt: HostRuntime) -> Result<(), Fail> {
     let alloc = rt.alloc();
     for (held, until) in [("H", "J"), ("J", "H")] {
-        let (answer, disk) = gated(&rt, alloc, "run --workers 2", held, until, 1_000_000_000)?;
+        let mut out = MemorySink::new(alloc);
+        let (answer, disk) = gated(
+            &rt,
+            alloc,
+            "run --workers 2",
+            held,
+            until,
+            1_000_000_000,
+            &mut out,
+        )?;
         assert!(rt; answer == Status::Ended);
+        assert!(rt; out.taken() == b"= ended\nA = 7\n".as_slice());
         assert_eq!(rt; disk.bytes_of("H"), Some(SEVEN));
         assert_eq!(rt; disk.bytes_of("J"), Some(SEVEN));
     }
     // One thread performs the first where the deck waits for it, before the other was begun.
-    let (answer, disk) = gated(&rt, alloc, "alone", "H", "J", 3)?;
+    let mut out = MemorySink::new(alloc);
+    let (answer, disk) = gated(&rt, alloc, "alone", "H", "J", 3, &mut out)?;
     assert!(rt; answer == Status::DiskFault { stmt: 7 });
+    assert!(rt; out.taken() == b"= disk fault at 7\n".as_slice());
     // The other file is as closing both units before that statement leaves it.
     assert_eq!(rt; disk.bytes_of("J"), Some(SEVEN));
     Ok(())
@@ -709,27 +721,30 @@ fn transfers_of_two_units_overlap(rt: HostRuntime) -> Result<(), Fail> {
 static FOUR_UNITS: &[u8] =
     b"INTEGER V(1000)\nOPEN(10,FILE='V',ASYNCHRONOUS='YES')\nREAD(10,*,ASYNCHRONOUS='YES') V\nWAIT(10)\nOPEN(11,FILE='A',STATUS='REPLACE',ASYNCHRONOUS='YES')\nOPEN(12,FILE='B',STATUS='REPLACE',ASYNCHRONOUS='YES')\nOPEN(13,FILE='C',STATUS='REPLACE',ASYNCHRONOUS='YES',FORM='UNFORMATTED')\nOPEN(14,FILE='D',STATUS='REPLACE',ASYNCHRONOUS='YES',ACCESS='STREAM')\nWRITE(11,'(10I8)',ASYNCHRONOUS='YES') V\nWRITE(12,*,ASYNCHRONOUS='YES') V\nWRITE(13,ASYNCHRONOUS='YES') V\nWRITE(14,ASYNCHRONOUS='YES') V\nCLOSE(11)\nCLOSE(12)\nCLOSE(13)\nCLOSE(14)\nEND\n";
 
-/// What carrying that deck out with these words comes to.
+/// What carrying that deck out with these words comes to and leaves.
 #[tactic(auto, using(fj_outside::proofs::HoldingLaws::free_of_empty))]
 fn four_units<Rt: Threads + Wait + Sync>(
     rt: &Rt,
     alloc: Global,
     words: &str,
+    out: &mut MemorySink,
 ) -> Result<(Status, MemoryDisk), AllocError> {
-    let mut out = MemorySink::new(alloc);
     let mut disk = MemoryDisk::new(alloc);
     disk.add_file("V", b"400*-7 1 2 598*123456\n")?;
-    let answer = run_by(rt, alloc, words, FOUR_UNITS, &mut out, &mut disk)?;
+    let answer = run_by(rt, alloc, words, FOUR_UNITS, out, &mut disk)?;
     Ok((answer, disk))
 }
 
 #[test]
 fn four_units_hold_what_one_thread_leaves(rt: HostRuntime) -> Result<(), Fail> {
     let alloc = rt.alloc();
-    let (answer, disk) = four_units(&rt, alloc, "run --workers 4")?;
-    let (alone, due) = four_units(&rt, alloc, "alone")?;
+    let mut out = MemorySink::new(alloc);
+    let (answer, disk) = four_units(&rt, alloc, "run --workers 4", &mut out)?;
+    let mut printed = MemorySink::new(alloc);
+    let (alone, due) = four_units(&rt, alloc, "alone", &mut printed)?;
     assert!(rt; answer == Status::Ended);
     assert!(rt; alone == Status::Ended);
+    assert!(rt; out.taken() == printed.taken());
     // A hundred records of ten fields; a record list-directed; a frame of four bytes a number; four bytes a number.
     for (name, length) in [("A", 8100), ("C", 4008), ("D", 4000)] {
         assert_eq!(rt; due.bytes_of(name).map(|bytes| bytes.len()), Some(length));
