@@ -183,8 +183,9 @@ pub record HasRun (task : Task) (status : Status) (source sink : Seen (List ℕ)
       × CutBySink deck trace (files_in disk.before.held.files) sink.tells sink.before sink.after disk.after.held disk.before.own disk.after.own)))
   -- Want of memory is met before a deck was begun; or at a statement of the deck that is carried out, or, where the deck stops at it, behind
   -- it, in closing or in the report. The sink took a front of what may be written there. Each file that the statement neither opens nor
-  -- removes is left as closing all units leaves it there; or a job that no statement before this one waits for was stopped in it, or
-  -- the end of its record, and its bytes are as before below the first one that this changes.
+  -- removes is left as closing all units leaves it there; or a job was stopped in it that stands behind each one of its slot which a
+  -- statement before this one waits for, or the end of its record: its bytes are as before below the first one that this changes, and a
+  -- scratch file is gone, unless the disk's own number rose.
   pub memory : source.tells → OfDisk task source.before disk.tells → IfMemory status (IfExecute task (λ trace. NoneBegun source sink disk
       ⊎ ((deck : Deck) × IsDeck source.before deck
       × CutByMemory deck trace (files_in disk.before.held.files) sink.tells sink.before sink.after disk.after.held disk.before.own disk.after.own)))

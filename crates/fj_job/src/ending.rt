@@ -341,7 +341,7 @@ pub fn execute<W: Sink, D: Disk>(
     conclude(alloc, trace, carried, out)
 }
 
-/// The same with so many threads besides, or with none where the deck leaves no transfer pending.
+/// The same with so many threads besides, or with none where no transfer of the deck has ASYNCHRONOUS='YES'.
 pub fn execute_with<Rt: Threads + Wait + Sync, W: Sink + Send, D: Disk + Send>(
     rt: &Rt,
     alloc: Global,

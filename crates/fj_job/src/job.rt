@@ -14,7 +14,7 @@ use std::alloc::Global;
 use std::sync::Wait;
 use std::thread::Threads;
 
-/// Runs or checks a deck on one thread. `stmt` of a fault is the line of the statement at hand.
+/// Runs, checks or makes a deck on one thread; `run` is no form here. `stmt` of a fault is the line of the statement at hand.
 pub fn alone_job<R: Source, W: Sink, D: Disk>(
     alloc: Global,
     words: &[String],
@@ -39,7 +39,7 @@ pub fn alone_job<R: Source, W: Sink, D: Disk>(
     }
 }
 
-/// Runs a deck with so many threads beside the calling one as the words ask for, or does what `alone_job` does. For every
+/// Runs a deck with so many threads beside the calling one as the words ask for, or does what `alone_job` does with the other words. For every
 /// number of them and every order of their steps it answers, prints and leaves the same.
 pub fn run_job<Rt: Threads + Wait + Sync, R: Source, W: Sink + Send, D: Disk + Send>(
     rt: &Rt,

@@ -26,7 +26,8 @@ pub fn lines_name_statements()
     decks_are_sound();
 }
 
-/// A fault of the sink is that of the first statement that ends a record which was not taken whole, or of the report behind the last one.
+/// A fault of the sink is that of the first statement that ends a record which was not taken whole; or, where all were, that of the report
+/// behind the statement at which the deck ended.
 pub fn write_faults_are_first()
     ensures { WriteFaultsAreFirst }
 {}
