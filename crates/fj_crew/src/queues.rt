@@ -32,7 +32,7 @@ fn resume_at<E: Engine>(
     Queue::resume(alloc, slot)
 }
 
-/// Makes a queue of each slot, the last one first, until there is no memory.
+/// Makes a queue of each slot, the last one first, until there is no memory. The script is for the contract alone, which speaks of its gear.
 pub(crate) fn open<S: Script>(
     alloc: Global,
     script: &S,

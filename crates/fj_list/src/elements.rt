@@ -62,7 +62,8 @@ impl Element for Value {
     }
 }
 
-/// Elements of one owner; whether all are known to be plain, and whether none is known to be undefined. Contracts see them as a list.
+/// Elements of one owner; whether it is known that all are plain, and whether it is known that none is undefined. Contracts see them as a
+/// list.
 #[derive(Debug, Drop)]
 pub struct Owned<T: Element> {
     items: Items<T>,
@@ -161,7 +162,7 @@ fn copied<T: Element + Drop>(items: &[T], room: Vec<T>) -> Items<T>
 }
 
 impl<T: Element> Owned<T> {
-    /// These elements, which are not known to be plain.
+    /// These elements, of which it is not known that they are plain or that none is undefined.
     fn of(items: Items<T>) -> Owned<T>
         ensures { result ≡ items }
     {
@@ -194,7 +195,8 @@ impl<T: Element> Owned<T> {
 }
 
 impl<T: Element + Drop> Owned<T> {
-    /// Puts an element into the place of another, which it answers. They stay plain where it is.
+    /// Puts an element into the place of another, which it answers. They stay known as plain where it is, and as filled
+    /// where it is not undefined.
     #[inline(always)]
     pub fn replace(&mut self, at: usize, item: T) -> T
         requires { at < length self.old }
@@ -206,7 +208,7 @@ impl<T: Element + Drop> Owned<T> {
         self.items.replace(at, item)
     }
 
-    /// Looks whether one of them is undefined, where none is not known to be.
+    /// Looks whether one of them is undefined, unless it is known that none is.
     fn look(&mut self)
         ensures { self.new ≡ self.old }
     {

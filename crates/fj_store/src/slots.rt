@@ -167,8 +167,8 @@ impl Slots {
         take_run(marks, values, kind, run, taken);
     }
 
-    /// Puts the value of a cell back, and those of cells behind it that are of the same variable. Answers the first one that was not put
-    /// back.
+    /// Puts the value of a cell back, and those of cells behind it that are of the same variable; a cell of a variable that is not there
+    /// is dropped. Answers the next cell that is due.
     pub(crate) fn put_cells(
         &mut self,
         kind: Kind,

@@ -88,7 +88,7 @@ impl Store {
         self.slots.value(place)
     }
 
-    /// Whether a place of a run is undefined. One that is moved out is.
+    /// Whether a place of a run is undefined. One that is moved out is, and one that is not there.
     pub fn has_undefined(&self, run: Run) -> bool
         ensures { result ≡ list_any (λ place. is_undefined (plain_value (values_of self.now) place)) (places_of run) }
     {
