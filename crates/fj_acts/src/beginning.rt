@@ -70,6 +70,7 @@ fn motion<F: FileStore>(how: Motion, unit: UnitRef, core: &Core) -> Doing<F>
 }
 
 /// The statement's own action.
+#[inline(always)]
 fn own<W: Sink, D: Disk>(
     alloc: Global,
     variables: &Variables,
@@ -190,6 +191,7 @@ fn instead<F: FileStore>(
 }
 
 /// What the statement of a line does first where that condition was told: its own action where it is fine.
+#[inline(always)]
 pub fn begin<W: Sink, D: Disk>(
     alloc: Global,
     variables: &Variables,

@@ -10,6 +10,7 @@ use fj_pending::Told;
 use fj_value::Condition;
 
 /// The condition that an answer tells.
+#[inline(always)]
 pub(crate) fn condition_in(answer: Answer) -> Condition
     ensures { result ≡ condition_in (reply_of answer) }
 {
@@ -19,6 +20,7 @@ pub(crate) fn condition_in(answer: Answer) -> Condition
 }
 
 /// The values and the count of a transfer, with the condition of its answer. Another job has none.
+#[inline(always)]
 pub fn told_by<F: FileStore>(job: Job<F>, answer: Answer) -> Told
     ensures { result ≡ told_in job (condition_in (reply_of answer)) }
 {

@@ -251,6 +251,7 @@ fn looked<F: FileStore>(
 }
 
 /// The items of a transfer come back.
+#[inline(always)]
 fn carried<F: FileStore>(
     variables: &Variables,
     lined: &Lined,
@@ -290,6 +291,7 @@ fn look_in<F: FileStore>(job: Job<F>) -> Option<Look>
 }
 
 /// How the statement of a line goes on once its job came back with an answer.
+#[inline(always)]
 pub fn answered<D: Disk>(
     alloc: Global,
     variables: &Variables,

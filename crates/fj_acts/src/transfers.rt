@@ -75,6 +75,7 @@ pub(crate) fn refuse<F: FileStore>(
 
 /// A transfer on a connected unit: asynchronous, or carried out before the statement goes on.
 #[tactic(auto, using(crate::proofs::StateLemmas::answers_kept))]
+#[inline(always)]
 fn transfer<F: FileStore>(
     alloc: Global,
     variables: &Variables,
@@ -120,6 +121,7 @@ fn transfer<F: FileStore>(
 
 /// A transfer on the unit of a number: 1 where it is not connected, and what the statement itself tells.
 #[tactic(auto, using(crate::proofs::StateLemmas::answers_kept))]
+#[inline(always)]
 fn transfer_on<F: FileStore>(
     alloc: Global,
     variables: &Variables,
@@ -158,6 +160,7 @@ fn transfer_on<F: FileStore>(
 
 /// READ or WRITE, on `*` or a unit.
 #[tactic(auto, using(crate::proofs::StateLemmas::answers_kept))]
+#[inline(always)]
 pub(crate) fn read_or_write<F: FileStore, W: Sink>(
     alloc: Global,
     variables: &Variables,
@@ -276,6 +279,7 @@ pub(crate) fn enter(
 
 /// A transfer came back: its items have their values, and a halt that it set ends.
 #[tactic(auto, using(crate::proofs::StateLemmas::answers_kept))]
+#[inline(always)]
 pub(crate) fn carry<F: FileStore>(
     variables: &Variables,
     t: &Transfer,

@@ -111,6 +111,7 @@ impl<F: FileStore> Bay<F> {
     }
 
     /// Carries a transfer out, or skips it in a halt.
+    #[inline(always)]
     fn transfer(&mut self, job: &mut Transfer) -> Result<Answer, Stop>
         ensures serves { (s : PlainState) (t : PlainTask) → state_of F.told F.bytes self.old ≡ Some s → task_of F.told F.bytes (Job.Move job.old) ≡ Some t
             → Serves (bay_meaning F.told F.bytes F.count) s t result self.new (Job.Move job.new) }
@@ -169,6 +170,7 @@ impl<F: FileStore> Bay<F> {
     }
 
     /// Serves a job. A stop comes of a call on the file alone.
+    #[inline(always)]
     fn carry_out(&mut self, job: &mut Job<F>) -> Result<Answer, Stop>
         ensures serves { (s : PlainState) (t : PlainTask) → state_of F.told F.bytes self.old ≡ Some s → task_of F.told F.bytes job.old ≡ Some t
             → Serves (bay_meaning F.told F.bytes F.count) s t result self.new job.new }

@@ -17,6 +17,7 @@ use fj_value::Place;
 use std::alloc::{AllocError, Global};
 
 /// The values of the items, copied. `Unfit`: they are too many. It changes nothing.
+#[inline(always)]
 pub(crate) fn copied(
     alloc: Global,
     variables: &Variables,

@@ -61,6 +61,7 @@ fn set_size(variables: &Variables, store: &mut Store, size: Option<Place>, count
 
 /// The items of an input come back with their values, those that came back, and SIZE= gets its count, or is undefined where there
 /// is none. An output changes nothing.
+#[inline(always)]
 pub fn give_cells(
     variables: &Variables,
     store: &mut Store,

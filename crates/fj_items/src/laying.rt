@@ -88,6 +88,7 @@ pub(crate) fn layout_of_items(control: &Control) -> Result<Layout, AllocError>
 }
 
 /// The layout of a transfer with these cells.
+#[inline(always)]
 pub(crate) fn layout_for(
     alloc: Global,
     variables: &Variables,

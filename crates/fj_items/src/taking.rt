@@ -49,6 +49,7 @@ fn runs_of(alloc: Global, mut pieces: VecDeque<Piece>) -> Result<Items<Run>, Los
 }
 
 /// The items, moved out. `Unfit`: one is a literal, or they are too many.
+#[inline(always)]
 fn taken(
     alloc: Global,
     variables: &Variables,
@@ -79,6 +80,7 @@ struct Parts {
 }
 
 /// The job of these parts. `Unfit`: a variable of its group has no cells of its own.
+#[inline(always)]
 fn job_with(
     alloc: Global,
     variables: &Variables,
@@ -136,6 +138,7 @@ fn job_with(
 /// out of the variables, and SIZE= is undefined; the values of an output are copied. `Unfit`: the items are too many, one of an
 /// input is a literal, or a variable of the group has no cells of its own. After an `Err` the variables have their kinds, and
 /// nothing is said of their values.
+#[inline(always)]
 pub fn moving(
     alloc: Global,
     variables: &Variables,

@@ -39,6 +39,7 @@ fn keep(pending: &mut Pendings, slot: u32, number: u64, told: Told)
 
 /// The stage once the job of that slot and number came back: the answer of the statement's own job is taken, and that of another one
 /// is let go.
+#[inline(always)]
 fn own<F: FileStore>(
     stage: Stage<F>,
     slot: u32,
@@ -69,6 +70,7 @@ fn own<F: FileStore>(
 
 impl<F: FileStore> State<F> {
     /// Takes the answer of the first job of the slot that it waits for which was not told.
+    #[inline(always)]
     pub(crate) fn answer(&mut self, job: Job<F>, answer: Answer)
         requires room { HasRoom self.old.told.items }
         requires owed { get_or self.old.told.items self.old.due 0 < get_or self.old.sent.items self.old.due 0 }

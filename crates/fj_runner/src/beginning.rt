@@ -142,6 +142,7 @@ impl<F: FileStore> State<F> {
     }
 
     /// Waits for the next answer of a slot.
+    #[inline(always)]
     pub(crate) fn settle(&mut self, slot: u32, stage: Stage<F>) -> Turned<F>
         requires passed { is_passed self.old.core.pending stage ≡ true }
         requires slot { slot < most_slots }

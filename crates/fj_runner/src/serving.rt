@@ -49,6 +49,7 @@ impl<F: FileStore> Machine<F> {
     }
 
     /// Asks.
+    #[inline(always)]
     fn admit(&mut self, ask: Ask<Job<F>>) -> Ask<Job<F>>
         requires idle { self.old.tally.hand ≡ Idle }
         requires going { self.old.tally.over ≡ false }
@@ -134,6 +135,7 @@ impl<F: FileStore> Machine<F> {
     }
 
     /// Takes the answer that it waited for.
+    #[inline(always)]
     fn take_answer(&mut self, job: Job<F>, answer: Answer)
         requires room { HasRoom self.old.state.told.items }
         requires owed { get_or self.old.state.told.items self.old.state.due 0 < get_or self.old.state.sent.items self.old.state.due 0 }

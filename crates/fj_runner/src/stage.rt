@@ -43,6 +43,7 @@ pub(crate) enum Stage<F: FileStore> {
 }
 
 /// Goes on to a stage.
+#[inline(always)]
 pub(crate) fn put_stage<F: FileStore>(place: &mut Stage<F>, stage: Stage<F>)
     ensures { place.new ≡ stage }
 {
@@ -50,6 +51,7 @@ pub(crate) fn put_stage<F: FileStore>(place: &mut Stage<F>, stage: Stage<F>)
 }
 
 /// Goes back to the start.
+#[inline(always)]
 pub(crate) fn put_start<F: FileStore>(place: &mut Stage<F>)
     ensures { place.new ≡ Stage.Start }
 {

@@ -31,6 +31,7 @@ use std::mem;
 
 impl<F: FileStore> State<F> {
     /// Goes on with the statement at hand from its stage.
+    #[inline(always)]
     pub(crate) fn turn<W: Sink, D: Disk<File = F>>(
         &mut self,
         alloc: Global,

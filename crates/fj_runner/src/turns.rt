@@ -54,6 +54,7 @@ use std::alloc::Global;
 
 impl<F: FileStore> State<F> {
     /// Gives a job to a slot, and counts it.
+    #[inline(always)]
     pub(crate) fn submit(&mut self, slot: u32, job: Job<F>, stage: Stage<F>) -> Turned<F>
         requires passed { is_passed self.old.core.pending stage ≡ true }
         requires slot { slot < most_slots }
@@ -79,6 +80,7 @@ impl<F: FileStore> State<F> {
     }
 
     /// The number that the next job of a slot gets.
+    #[inline(always)]
     fn number_at(&self, slot: u32) -> u64
         ensures { result ≡ get_or self.now.sent.items slot 0 }
     {
@@ -89,6 +91,7 @@ impl<F: FileStore> State<F> {
     }
 
     /// Sets IOSTAT=, and ends the statement.
+    #[inline(always)]
     fn finish(&mut self, variables: &Variables, lined: &Lined, condition: Condition) -> Turned<F>
         requires { self.old.core.store.kinds ≡ kinds_of variables.now }
         ensures turn { (more : List Stated) (files : Files) (core : PlainCore) (book : List Held) (stage : PlainStage)
@@ -120,6 +123,7 @@ impl<F: FileStore> State<F> {
     }
 
     /// Does what the statement does next.
+    #[inline(always)]
     pub(crate) fn act(&mut self, variables: &Variables, lined: &Lined, doing: Doing<F>) -> Turned<F>
         requires kinds { self.old.core.store.kinds ≡ kinds_of variables.now }
         requires placed { IsPlaced doing }

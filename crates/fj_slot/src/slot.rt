@@ -97,6 +97,7 @@ impl<E: Engine> Slot<E> {
     }
 
     /// Appends a job and answers its number. It performs nothing.
+    #[inline(always)]
     pub fn submit(&mut self, job: E::Job) -> Result<u64, Refused<E::Job>>
         requires { length self.old.jobs < 2 ^ 62 }
         ensures number { IfOk result (λ n. n ≡ length self.old.jobs) }
@@ -124,6 +125,7 @@ impl<E: Engine> Slot<E> {
     }
 
     /// Hands out the engine and the first job that was not begun.
+    #[inline(always)]
     pub fn begin(&mut self) -> Option<Out<E>>
         ensures variant { is_some result ≡ can_begin self.old }
         ensures engine { IfSome result (λ out. self.old.home ≡ Some out.engine) }
@@ -150,6 +152,7 @@ impl<E: Engine> Slot<E> {
     }
 
     /// Takes the engine and the job back, with what performing the job gave.
+    #[inline(always)]
     pub fn end(&mut self, out: Out<E>, got: Result<E::Answer, Stop>, before: u64)
         requires number { out.number ≡ self.old.done }
         requires out { self.old.home ≡ None }
@@ -184,6 +187,7 @@ impl<E: Engine> Slot<E> {
     }
 
     /// Tells whether the next job can be told.
+    #[inline(always)]
     pub fn ready(&self) -> bool
         ensures { result ≡ can_tell self.now }
     {
@@ -195,6 +199,7 @@ impl<E: Engine> Slot<E> {
     }
 
     /// Tells the next job.
+    #[inline(always)]
     pub fn tell(&mut self) -> Told<E>
         requires { can_tell self.old ≡ true }
         ensures told { Tells self.old result }

@@ -11,6 +11,7 @@ pub const GATHERED: usize = 1024;
 
 /// Puts a piece at a place that is at most the length, over what stands there. Where `shorten` holds, the bytes behind
 /// the piece are cut. An empty piece is not written.
+#[inline(always)]
 pub fn write_span<F: FileStore>(
     file: &mut F,
     at: u64,
@@ -44,6 +45,7 @@ pub fn write_span<F: FileStore>(
 }
 
 /// Puts a piece at a place that is at most the length, over what stands there. An empty piece is not written.
+#[inline(always)]
 fn write_piece<F: FileStore>(file: &mut F, at: u64, piece: &[u8]) -> Result<(), Stop>
     requires { at ≤ F.size file.old }
     ensures none { length piece.now ≡ 0 → IsOk result × (file.new ≡ file.old) }

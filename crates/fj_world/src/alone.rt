@@ -63,6 +63,7 @@ pub fn run_alone<S: Script>(script: &mut S, slots: &mut Slots<S::Gear>)
     }
 }
 
+#[inline(always)]
 fn settle<S: Script>(slots: &mut Slots<S::Gear>, at: usize) -> Told<S::Gear>
     requires within { at < length slots.old.slots }
     requires home { At slots.old at (λ l. is_some l.home ≡ true) }
@@ -76,6 +77,7 @@ fn settle<S: Script>(slots: &mut Slots<S::Gear>, at: usize) -> Told<S::Gear>
     slots.tell(at)
 }
 
+#[inline(always)]
 fn serve_front<S: Script>(slots: &mut Slots<S::Gear>, at: usize)
     requires within { at < length slots.old.slots }
     requires begins { At slots.old at (λ l. can_begin l ≡ true) }
