@@ -65,7 +65,7 @@ fn motion<F: FileStore>(how: Motion, unit: UnitRef, core: &Core) -> Doing<F>
             job: job_of(how),
             then: Then::Finishes,
         },
-        None => Doing::Finishes(Condition::Error(1)),
+        None => Doing::Finishes(Condition::NOT_CONNECTED),
     }
 }
 

@@ -68,7 +68,7 @@ pub(crate) fn close<F: FileStore>(
     };
     let scratch = unit.modes.scratch;
     if keep.unwrap_or(false) && scratch {
-        return Ok(Doing::Finishes(Condition::Error(4)));
+        return Ok(Doing::Finishes(Condition::SCRATCH_KEPT));
     }
     closing(
         alloc,

@@ -178,7 +178,7 @@ pub(crate) fn connect<D: Disk>(
             let name = file_due(alloc, spec, number)?;
             attach(alloc, number, slot, name, spec, modes, core, disk)
         }
-        None => Ok(Doing::Finishes(Condition::Error(9))),
+        None => Ok(Doing::Finishes(Condition::TOO_MANY_UNITS)),
     }
 }
 
@@ -242,7 +242,7 @@ fn open_other<D: Disk>(
     };
     let name = file_due(alloc, spec, number)?;
     if core.units.is_taken(number, &name) {
-        return Ok(Doing::Finishes(Condition::Error(7)));
+        return Ok(Doing::Finishes(Condition::FILE_TAKEN));
     }
     if let Some(unit) = core.units.find(number) {
         let keep = !unit.modes.scratch;
@@ -291,7 +291,7 @@ pub(crate) fn open<D: Disk>(
     ensures vain { HaveFiles core.old.names core.old.units → OnErr result (HaveFiles core.new.names core.new.units) }
 {
     let UnitRef::Number(number) = unit else {
-        return Ok(Doing::Finishes(Condition::Error(1)));
+        return Ok(Doing::Finishes(Condition::NOT_CONNECTED));
     };
     if let Some(unit) = core.units.find(number) {
         if keeps_name(&unit.name, spec) {

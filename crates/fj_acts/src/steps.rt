@@ -203,7 +203,7 @@ fn closed<D: Disk>(
     ensures vain { HaveThen (Then.Closes number keep after) core.old.names core.old.units lined.now.what → OnErr result (HaveFiles core.new.names core.new.units) }
 {
     if !is_due(&connection, number, core) {
-        return Ok(Doing::Finishes(Condition::Error(1)));
+        return Ok(Doing::Finishes(Condition::NOT_CONNECTED));
     }
     if !core.names.holds(connection.name()) {
         return Err(Lost::Unfit);
@@ -346,7 +346,7 @@ pub fn answered<D: Disk>(
             after,
         } => {
             let Some(connection) = connection_in(job) else {
-                return Ok(Doing::Finishes(Condition::Error(1)));
+                return Ok(Doing::Finishes(Condition::NOT_CONNECTED));
             };
             closed(
                 alloc, variables, lined, number, keep, after, connection, core, disk,

@@ -149,7 +149,7 @@ fn transfer_on<F: FileStore>(
     ensures files { (what : Statement) → HaveFiles core.old.names core.old.units → IfOk result (λ next. HaveNext next core.new.names core.new.units what) }
 {
     let Some(unit) = core.units.find(number) else {
-        return refuse(variables, t, Condition::Error(1), core);
+        return refuse(variables, t, Condition::NOT_CONNECTED, core);
     };
     let slot = unit.slot;
     match refusal(&unit.modes, t) {

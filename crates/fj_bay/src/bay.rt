@@ -89,7 +89,7 @@ impl<F: FileStore> Bay<F> {
         ensures taken { self.old.connection ≡ None → (self.new ≡ record self.old { connection = brought.old }) × (brought.new ≡ None) × (result ≡ Condition.Fine) }
     {
         if self.connection.get().is_some() {
-            return Condition::Error(7);
+            return Condition::FILE_TAKEN;
         }
         *self.connection.get_mut() = brought.take();
         Condition::Fine
@@ -120,7 +120,7 @@ impl<F: FileStore> Bay<F> {
     {
         let halt = self.halt;
         let Some(connection) = self.connection.get_mut() else {
-            return Ok(Answer::Done(Condition::Error(1)));
+            return Ok(Answer::Done(Condition::NOT_CONNECTED));
         };
         if let Some(cause) = halt {
             return Ok(skip(job, cause));
@@ -138,7 +138,7 @@ impl<F: FileStore> Bay<F> {
         ensures faults { self.new.faults ≡ self.old.faults }
     {
         let Some(connection) = self.connection.get_mut() else {
-            return Ok(Answer::Done(Condition::Error(1)));
+            return Ok(Answer::Done(Condition::NOT_CONNECTED));
         };
         let condition = connection.move_to(how)?;
         Ok(Answer::Done(condition))
@@ -151,7 +151,7 @@ impl<F: FileStore> Bay<F> {
         ensures faults { self.new.faults ≡ self.old.faults }
     {
         let Some(connection) = self.connection.get_mut() else {
-            return Condition::Error(1);
+            return Condition::NOT_CONNECTED;
         };
         connection.change(edit);
         Condition::Fine
@@ -163,7 +163,7 @@ impl<F: FileStore> Bay<F> {
             → Serves (bay_meaning F.told F.bytes F.count) s (look (option_map looked_of place.old)) (Ok (Answer.Done result)) self.now (Job.Look place.new) }
     {
         let Some(connection) = self.connection.get() else {
-            return Condition::Error(1);
+            return Condition::NOT_CONNECTED;
         };
         *place = Some(connection.look());
         Condition::Fine

@@ -43,7 +43,7 @@ fn integer_of(bits: u32, base: u8, blank_zero: bool, field: &[u8]) -> Result<i64
     ensures { result ≡ bits_or_condition bits (unsigned_number base blank_zero field.now) }
 {
     let amount = amount_of(base, blank_zero, field)?;
-    signed_of(bits, amount).ok_or(Condition::Error(14))
+    signed_of(bits, amount).ok_or(Condition::OUT_OF_RANGE)
 }
 
 /// Reads an integer under B, O or Z. It takes no memory.
@@ -58,7 +58,7 @@ pub fn read_bits(
     ensures { IsOkAnd result (Reads (bits_input edit kind modes.blank_zero chars.now) out.old out.new) }
 {
     let (Some((base, _, _)), Some(bits)) = (edit.bits_widths(), kind.integer_bits()) else {
-        return Ok(Condition::Error(12));
+        return Ok(Condition::WRONG_DESCRIPTOR);
     };
     match integer_of(bits, base, modes.blank_zero, skip_blanks(chars)) {
         Ok(n) => {

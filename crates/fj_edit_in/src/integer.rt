@@ -22,7 +22,7 @@ fn signed_digits(
     ensures { result ≡ integer_or_condition bits (signed_digits negative blank_zero digits.now) }
 {
     let amount = number(10, blank_zero, digits)?;
-    signed(bits, negative, amount).ok_or(Condition::Error(14))
+    signed(bits, negative, amount).ok_or(Condition::OUT_OF_RANGE)
 }
 
 /// The number of a field without blanks in front.
@@ -50,7 +50,7 @@ pub fn read_int(
     ensures { IsOkAnd result (Reads (integer_input edit kind modes.blank_zero chars.now) out.old out.new) }
 {
     let (Some(_), Some(bits)) = (edit.integer_widths(), kind.integer_bits()) else {
-        return Ok(Condition::Error(12));
+        return Ok(Condition::WRONG_DESCRIPTOR);
     };
     match integer_of(bits, modes.blank_zero, skip_blanks(chars)) {
         Ok(n) => {

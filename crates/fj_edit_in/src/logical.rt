@@ -19,13 +19,13 @@ pub fn read_logical(
     ensures { IsOkAnd result (Reads (logical_input edit kind chars.now) out.old out.new) }
 {
     let (Some(_), Kind::Logical) = (edit.logical_width(), kind) else {
-        return Ok(Condition::Error(12));
+        return Ok(Condition::WRONG_DESCRIPTOR);
     };
     match truth_of(skip_blanks(chars)) {
         Some(truth) => {
             *out = Value::Log(truth);
             Ok(Condition::Fine)
         }
-        None => Ok(Condition::Error(13)),
+        None => Ok(Condition::NO_VALUE),
     }
 }

@@ -67,14 +67,14 @@ pub fn number(base: u8, blank_zero: bool, chars: &[u8]) -> Result<u64, Condition
         }
         let digit = digit_of(*c);
         if digit >= base {
-            return Err(Condition::Error(13));
+            return Err(Condition::NO_VALUE);
         }
         amount = one_more(amount, base, digit);
         some = true;
     }
     if some {
-        amount.ok_or(Condition::Error(14))
+        amount.ok_or(Condition::OUT_OF_RANGE)
     } else {
-        Err(Condition::Error(13))
+        Err(Condition::NO_VALUE)
     }
 }

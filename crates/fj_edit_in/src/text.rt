@@ -28,7 +28,7 @@ pub fn read_text(
     ensures only_characters_take_memory { OnErr result (IsSome (text_length kind)) }
 {
     let (Some(_), Kind::Chars(length)) = (edit.text_width(), kind) else {
-        return Ok(Condition::Error(12));
+        return Ok(Condition::WRONG_DESCRIPTOR);
     };
     let text = characters_of(alloc, length, chars)?;
     out.set_chars(text)?;

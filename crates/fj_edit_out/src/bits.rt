@@ -106,10 +106,10 @@ pub fn bits_field(
     ensures err { OnErr result (out.new ≡ out.old) }
 {
     let Some((base, w, m)) = edit.bits_widths() else {
-        return Ok(Condition::Error(12));
+        return Ok(Condition::WRONG_DESCRIPTOR);
     };
     let Some(bits) = bits_of(kind, value) else {
-        return Ok(Condition::Error(12));
+        return Ok(Condition::WRONG_DESCRIPTOR);
     };
     push_bits(out, base, w, m, bits)?;
     Ok(Condition::Fine)

@@ -62,10 +62,10 @@ pub fn int_field(
     ensures err { OnErr result (out.new ≡ out.old) }
 {
     let Some((w, m)) = edit.integer_widths() else {
-        return Ok(Condition::Error(12));
+        return Ok(Condition::WRONG_DESCRIPTOR);
     };
     let Some(n) = integer_of(kind, value) else {
-        return Ok(Condition::Error(12));
+        return Ok(Condition::WRONG_DESCRIPTOR);
     };
     push_integer(out, w, m, modes.plus, n)?;
     Ok(Condition::Fine)

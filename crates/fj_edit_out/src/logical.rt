@@ -28,10 +28,10 @@ pub fn logical_field(
     ensures err { OnErr result (out.new ≡ out.old) }
 {
     let Some(w) = edit.logical_width() else {
-        return Ok(Condition::Error(12));
+        return Ok(Condition::WRONG_DESCRIPTOR);
     };
     let Some(truth) = truth_of(kind, value) else {
-        return Ok(Condition::Error(12));
+        return Ok(Condition::WRONG_DESCRIPTOR);
     };
     push_behind_blanks(out, w.saturating_sub(1), letter_of(truth))?;
     Ok(Condition::Fine)

@@ -39,10 +39,10 @@ pub fn text_field(
     ensures err { OnErr result (out.new ≡ out.old) }
 {
     let Some(w) = edit.text_width() else {
-        return Ok(Condition::Error(12));
+        return Ok(Condition::WRONG_DESCRIPTOR);
     };
     let Some(characters) = characters_of(kind, value) else {
-        return Ok(Condition::Error(12));
+        return Ok(Condition::WRONG_DESCRIPTOR);
     };
     push_text(out, w, characters)?;
     Ok(Condition::Fine)

@@ -83,13 +83,13 @@ pub fn refusal(modes: &Modes, t: &Transfer) -> Condition
     ensures { (variables : List Variable) (cells : List Cell) → result ≡ refusal modes.now t.now (layout_of variables cells t.now.control) }
 {
     if t.asynchronous.unwrap_or(false) && !modes.asynchronous {
-        return Condition::Error(2);
+        return Condition::NOT_ASYNCHRONOUS;
     }
     if is_unfit(modes, t) {
-        return Condition::Error(16);
+        return Condition::UNFIT;
     }
     if is_forbidden(modes.action, t.input) {
-        return Condition::Error(10);
+        return Condition::FORBIDDEN_ACTION;
     }
     Condition::Fine
 }

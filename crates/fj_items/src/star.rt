@@ -275,10 +275,10 @@ pub fn write_star<W: Sink>(
 {
     output.open_is_part();
     if t.asynchronous.unwrap_or(false) {
-        return Ok(Condition::Error(2));
+        return Ok(Condition::NOT_ASYNCHRONOUS);
     }
     if !is_formatted(&t.control) {
-        return Ok(Condition::Error(16));
+        return Ok(Condition::UNFIT);
     }
     let modes = edit_of(t).change(usual_edit());
     let advance = t.advance.unwrap_or(true);

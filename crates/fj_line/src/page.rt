@@ -90,10 +90,10 @@ impl Page {
         };
         let limit = u64::from(limit);
         if width > limit || u64::from(self.start) + width > limit {
-            return Err(Unwritten::Met(Condition::Error(15)));
+            return Err(Unwritten::Met(Condition::RECORD_TOO_LONG));
         }
         if (self.line - self.begin) as u64 + width > MOST_BYTES {
-            return Err(Unwritten::Met(Condition::Error(26)));
+            return Err(Unwritten::Met(Condition::OUTPUT_TOO_LONG));
         }
         Ok(())
     }
@@ -105,7 +105,7 @@ impl Page {
         ensures { Tells (excess_of self.now.limit 0 ((length text.now - self.now.begin) + 1)) result }
     {
         if self.limit.is_some() && text.len() - self.begin >= MOST_BYTES as usize {
-            return Err(Unwritten::Met(Condition::Error(26)));
+            return Err(Unwritten::Met(Condition::OUTPUT_TOO_LONG));
         }
         Ok(())
     }

@@ -56,7 +56,7 @@ fn read_signed(bits: u32, negative: bool, amount: u64) -> Read
 {
     match signed(bits, negative, amount) {
         Some(n) => Read::Defined(Value::Int(n)),
-        None => Read::Wrong(Condition::Error(14)),
+        None => Read::Wrong(Condition::OUT_OF_RANGE),
     }
 }
 
@@ -66,7 +66,7 @@ fn signed_digits(bits: u32, negative: bool, digits: &[u8]) -> Read
 {
     match number(digits) {
         Some(amount) => read_signed(bits, negative, amount),
-        None => Read::Wrong(Condition::Error(13)),
+        None => Read::Wrong(Condition::NO_VALUE),
     }
 }
 
@@ -75,7 +75,7 @@ fn read_integer(bits: u32, chars: &[u8]) -> Read
     ensures { result ≡ integer_read bits (integer_in chars.now) }
 {
     match chars {
-        [] => Read::Wrong(Condition::Error(13)),
+        [] => Read::Wrong(Condition::NO_VALUE),
         [b'-', digits @ ..] => signed_digits(bits, true, digits),
         [b'+', digits @ ..] => signed_digits(bits, false, digits),
         _ => signed_digits(bits, false, chars),
@@ -87,7 +87,7 @@ fn read_logical(chars: &[u8]) -> Read
 {
     match truth_of(chars) {
         Some(truth) => Read::Defined(Value::Log(truth)),
-        None => Read::Wrong(Condition::Error(13)),
+        None => Read::Wrong(Condition::NO_VALUE),
     }
 }
 
@@ -115,7 +115,7 @@ fn read_delimited(alloc: Global, kind: Kind, chars: &[u8]) -> Result<Read, Alloc
 {
     match kind {
         Kind::Chars(length) => characters_of(alloc, length, chars),
-        _ => Ok(Read::Wrong(Condition::Error(13))),
+        _ => Ok(Read::Wrong(Condition::NO_VALUE)),
     }
 }
 

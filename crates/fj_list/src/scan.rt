@@ -267,7 +267,7 @@ impl Scan {
             repeated comma ending count (ahead self.old to_come) ≡ split_by comma ending result self.new to_come }
     {
         if count == 0 || count > u64::from(u32::MAX) {
-            return Token::Stopped(Condition::Error(13));
+            return Token::Stopped(Condition::NO_VALUE);
         }
         if self.has_ended(comma) {
             self.count = count as u32;

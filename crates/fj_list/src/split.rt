@@ -150,7 +150,7 @@ pub fn split_value<R: Records>(
                 return Ok(Some(condition));
             }
             if !scan.has_ended(comma) {
-                return Ok(Some(Condition::Error(13)));
+                return Ok(Some(Condition::NO_VALUE));
             }
             Ok(None)
         }

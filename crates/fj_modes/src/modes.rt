@@ -71,7 +71,7 @@ impl Modes {
         ensures unchanged { OnErr result (self.new ≡ self.old) }
     {
         if self.is_conflict(spec) {
-            return Err(Condition::Error(8));
+            return Err(Condition::FIXED_MODE);
         }
         self.edit = edit_asked(self.edit, spec);
         Ok(())

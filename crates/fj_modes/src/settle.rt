@@ -89,7 +89,7 @@ pub fn settle_open(spec: &OpenSpec) -> Result<Modes, Condition>
     ensures consistent { IfOk result IsConsistent }
 {
     if is_refused(spec) {
-        return Err(Condition::Error(3));
+        return Err(Condition::BAD_SPECIFIERS);
     }
     Ok(modes_asked(spec))
 }

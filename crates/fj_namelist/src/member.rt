@@ -52,7 +52,7 @@ fn constant_read(alloc: Global, kind: Kind, form: Form, chars: &[u8]) -> Result<
     ensures { IfOk result (λ read. read ≡ constant_read kind form chars.now) }
 {
     match (kind, form) {
-        (Kind::Chars(_), Form::Undelimited) => Ok(Read::Wrong(Condition::Error(13))),
+        (Kind::Chars(_), Form::Undelimited) => Ok(Read::Wrong(Condition::NO_VALUE)),
         _ => read_as(alloc, kind, form, chars),
     }
 }
@@ -101,7 +101,7 @@ fn fill(
     let mut at = i;
     for k in 0..count {
         if at >= e.count {
-            return Ok(Filled::Stopped(Condition::Error(23)));
+            return Ok(Filled::Stopped(Condition::NOT_IN_GROUP));
         }
         if let Some(condition) = give(alloc, cells, e, at, form, chars)? {
             return Ok(Filled::Stopped(condition));
@@ -127,7 +127,7 @@ fn give_word(
 {
     match repeat_in(word) {
         None => fill(alloc, cells, e, i, Form::Undelimited, word, 1),
-        Some(None) => Ok(Filled::Stopped(Condition::Error(13))),
+        Some(None) => Ok(Filled::Stopped(Condition::NO_VALUE)),
         Some(Some(count)) => match behind_star(word) {
             [] => fill(alloc, cells, e, i, Form::Null, b"", count),
             chars => fill(alloc, cells, e, i, Form::Undelimited, chars, count),
@@ -144,7 +144,7 @@ fn separated(e: Elements, i: u32, begins: bool) -> Taken
         return Taken::On(Place::At(e, i, true));
     }
     if i >= e.count {
-        return Taken::Stopped(Condition::Error(23));
+        return Taken::Stopped(Condition::NOT_IN_GROUP);
     }
     Taken::On(Place::At(e, i + 1, true))
 }
@@ -183,8 +183,8 @@ fn take_value(
             let to = fill(alloc, cells, e, i, Form::Delimited, chars.bytes(), *count)?;
             Ok(behind_value(e, to))
         }
-        Token::Equals if i >= e.count => Ok(Taken::Stopped(Condition::Error(23))),
-        Token::Equals | Token::Wrong => Ok(Taken::Stopped(Condition::Error(13))),
+        Token::Equals if i >= e.count => Ok(Taken::Stopped(Condition::NOT_IN_GROUP)),
+        Token::Equals | Token::Wrong => Ok(Taken::Stopped(Condition::NO_VALUE)),
         Token::Open(condition) | Token::End(condition) => Ok(Taken::Stopped(*condition)),
         Token::Slash => Ok(Taken::Stopped(Condition::Fine)),
     }
@@ -196,7 +196,7 @@ fn due_condition(token: &Token) -> Condition
     match token {
         Token::Slash => Condition::Fine,
         Token::End(condition) => *condition,
-        _ => Condition::Error(24),
+        _ => Condition::BAD_GROUP_TEXT,
     }
 }
 

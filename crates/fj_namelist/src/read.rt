@@ -100,7 +100,7 @@ fn take_next(
         return Ok(Next { taken, more: 0 });
     };
     let taken = match b.place {
-        None => Taken::Stopped(Condition::Error(23)),
+        None => Taken::Stopped(Condition::NOT_IN_GROUP),
         Some(to) => Taken::On(to),
     };
     Ok(Next {
@@ -243,7 +243,7 @@ pub fn read_group<R: Records>(
     let mut line = Text::new(alloc);
     match find_heading(records, &mut line, group)? {
         Found::Missing(condition) => Ok(condition),
-        Found::Misnamed => Ok(Condition::Error(22)),
+        Found::Misnamed => Ok(Condition::NO_GROUP),
         Found::At(at) => {
             let mut tokens = Items::new(alloc);
             read_tokens(alloc, records, &mut line, at, modes.comma, &mut tokens)?;

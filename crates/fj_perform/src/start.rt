@@ -97,10 +97,10 @@ pub fn unfit(modes: &Modes, spec: &TransferSpec) -> Condition
     ensures { result ≡ unfit modes.now spec.now }
 {
     if is_unfit(modes, spec) {
-        return Condition::Error(16);
+        return Condition::UNFIT;
     }
     if is_forbidden(modes.action, spec.input) {
-        return Condition::Error(10);
+        return Condition::FORBIDDEN_ACTION;
     }
     Condition::Fine
 }
@@ -120,7 +120,7 @@ fn at_byte(byte: i64, size: u64) -> Result<Start, Condition>
 {
     match counted(byte) {
         Some(byte) if byte <= size + 1 => Ok(Start::Byte(byte - 1)),
-        _ => Err(Condition::Error(21)),
+        _ => Err(Condition::NO_SUCH_PLACE),
     }
 }
 
@@ -162,12 +162,12 @@ pub fn begins_at<F: FileStore>(
     ensures named { IfOk result (λ start. IsNamed start (is_some spec.now.pos)) }
 {
     if connection.spot().after_end {
-        return Err(Condition::Error(20));
+        return Err(Condition::AFTER_ENDFILE);
     }
     if let Some(number) = spec.rec {
         return match counted(number) {
             Some(number) => Ok(Start::Record(number)),
-            None => Err(Condition::Error(21)),
+            None => Err(Condition::NO_SUCH_PLACE),
         };
     }
     match spec.pos {

@@ -66,7 +66,7 @@ impl<F: FileStore, B: Beginning> Records for RecordsAhead<'_, F, B> {
                 Ok(More::Record)
             }
             RecordRead::End => Ok(More::End),
-            RecordRead::TooLong => Ok(More::Refused(Condition::Error(15))),
+            RecordRead::TooLong => Ok(More::Refused(Condition::RECORD_TOO_LONG)),
         }
     }
 

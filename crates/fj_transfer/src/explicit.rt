@@ -277,7 +277,7 @@ fn rest_with(
     let skip = spot.at - spot.start;
     if skip > u64::from(recl) || text.len() as u64 > u64::from(recl) - skip {
         return Ok(Found::Met {
-            condition: Condition::Error(15),
+            condition: Condition::RECORD_TOO_LONG,
         });
     }
     let start = spot.start;
@@ -310,7 +310,7 @@ fn rest_at<F: FileStore>(alloc: Global, connection: &mut Connection<F>) -> Resul
         RecordRead::Line { next } => Ok(rest_with(alloc, connection.hand(), spot, next, recl)?),
         RecordRead::End => Ok(rest_with(alloc, connection.hand(), spot, size, recl)?),
         RecordRead::TooLong => Ok(Found::Met {
-            condition: Condition::Error(15),
+            condition: Condition::RECORD_TOO_LONG,
         }),
     }
 }

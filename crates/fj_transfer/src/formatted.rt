@@ -88,7 +88,7 @@ fn put_text<F: FileStore>(
     let behind = position(connection, place) + text.len() as u64;
     let feed = if ends { 0 } else { 1 };
     if behind + feed > LONGEST_FILE {
-        return Ok(Condition::Error(25));
+        return Ok(Condition::FILE_TOO_LONG);
     }
     go_to(connection, place);
     if ends {

@@ -66,7 +66,7 @@ pub fn line_at<F: FileStore>(
             condition: Condition::EndOfFile,
         }),
         RecordRead::TooLong => Ok(Found::Met {
-            condition: Condition::Error(15),
+            condition: Condition::RECORD_TOO_LONG,
         }),
     }
 }
@@ -104,7 +104,7 @@ pub fn record_numbered<F: FileStore>(
         });
     }
     Ok(Found::Met {
-        condition: Condition::Error(17),
+        condition: Condition::NO_SUCH_RECORD,
     })
 }
 

@@ -153,6 +153,6 @@ pub fn read_numbered<F: FileStore>(
     undefine(&mut moved.cells);
     Ok(Performed {
         count: None,
-        condition: Condition::Error(17),
+        condition: Condition::NO_SUCH_RECORD,
     })
 }

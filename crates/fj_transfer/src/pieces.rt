@@ -123,12 +123,12 @@ fn put_pieces<F: FileStore>(
     let size = connection.file_len();
     prove!(recl > 0 && size <= LONGEST_FILE);
     if number > LONGEST_FILE {
-        return Ok(Condition::Error(25));
+        return Ok(Condition::FILE_TOO_LONG);
     }
     let start = (number - 1) * recl;
     let long = run.len() as u64;
     if start + long > LONGEST_FILE {
-        return Ok(Condition::Error(25));
+        return Ok(Condition::FILE_TOO_LONG);
     }
     let last = number + long / recl - 1;
     connection.put_direct_run(start, run, last, b' ')?;

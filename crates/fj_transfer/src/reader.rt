@@ -67,7 +67,7 @@ impl<'a> Reader<'a> {
         let whole = taken == width as usize;
         if !whole && !self.modes.pad {
             if self.advance {
-                return Some(Condition::Error(30));
+                return Some(Condition::SHORT_RECORD);
             }
             define(cells, at as usize, Value::Undefined);
             return Some(Condition::EndOfRecord);
@@ -200,7 +200,7 @@ impl<'a> Reader<'a> {
         match step {
             Step::Edit(edit) => Ok(self.read_item(alloc, cells, edit)?),
             Step::Slash => self.read_next(alloc, connection),
-            Step::Str(_) => Ok(Some(Condition::Error(29))),
+            Step::Str(_) => Ok(Some(Condition::STRING_READ)),
             Step::Tab(n) => Ok(self.go(Move::To(n))),
             Step::Left(n) => Ok(self.go(Move::Back(n))),
             Step::Right(n) => Ok(self.go(Move::Ahead(n))),
@@ -209,7 +209,7 @@ impl<'a> Reader<'a> {
                 Ok(None)
             }
             Step::Done => Ok(None),
-            Step::NoData => Ok(Some(Condition::Error(11))),
+            Step::NoData => Ok(Some(Condition::NO_DESCRIPTOR)),
         }
     }
 

@@ -41,11 +41,11 @@ pub fn write_sequential<F: FileStore>(
     ensures failed { result ≡ Err Stop.Failed → Rose (F.count connection.old.file) (F.count connection.new.file) }
 {
     if frame.len() > connection.modes().recl as usize + 8 {
-        return Ok(Condition::Error(15));
+        return Ok(Condition::RECORD_TOO_LONG);
     }
     let at = connection.spot().at.min(connection.file_len());
     if at + frame.len() as u64 > LONGEST_FILE {
-        return Ok(Condition::Error(25));
+        return Ok(Condition::FILE_TOO_LONG);
     }
     connection.put_records(frame)?;
     Ok(Condition::Fine)
@@ -77,11 +77,11 @@ pub fn write_direct<F: FileStore>(
 {
     let recl = connection.modes().recl;
     if body.len() > recl as usize {
-        return Ok(Condition::Error(15));
+        return Ok(Condition::RECORD_TOO_LONG);
     }
     let size = connection.file_len();
     if number > LONGEST_FILE || size.max(number * u64::from(recl)) > LONGEST_FILE {
-        return Ok(Condition::Error(25));
+        return Ok(Condition::FILE_TOO_LONG);
     }
     body.fill_to(recl as usize, 0)?;
     let start = (number - 1) * u64::from(recl);
@@ -113,7 +113,7 @@ pub fn write_stream<F: FileStore>(
 {
     let size = connection.file_len();
     if size.max(place + body.len() as u64) > LONGEST_FILE {
-        return Ok(Condition::Error(25));
+        return Ok(Condition::FILE_TOO_LONG);
     }
     connection.go_between(place);
     connection.put_bytes(body)?;
@@ -173,14 +173,14 @@ pub fn read_sequential<F: FileStore>(
                 connection.go_between(next);
                 return Ok(Condition::Fine);
             }
-            return Ok(Condition::Error(19));
+            return Ok(Condition::RECORD_ENDS);
         }
         FrameRead::End => {
             connection.go_past_end();
             Condition::EndOfFile
         }
-        FrameRead::Broken => Condition::Error(18),
-        FrameRead::TooLong => Condition::Error(15),
+        FrameRead::Broken => Condition::BROKEN_RECORD,
+        FrameRead::TooLong => Condition::RECORD_TOO_LONG,
     };
     undefine(&mut moved.cells);
     Ok(condition)
@@ -214,10 +214,10 @@ pub fn read_direct<F: FileStore>(
     let mut body = Text::new(alloc);
     if !connection.read_direct(number, &mut body)? {
         undefine(&mut moved.cells);
-        return Ok(Condition::Error(17));
+        return Ok(Condition::NO_SUCH_RECORD);
     }
     if !take_body(alloc, moved, body.bytes())? {
-        return Ok(Condition::Error(19));
+        return Ok(Condition::RECORD_ENDS);
     }
     connection.set_number(number);
     Ok(Condition::Fine)

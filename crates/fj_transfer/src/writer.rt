@@ -130,7 +130,7 @@ impl<'a> Writer<'a> {
                 Ok(())
             }
             Step::Done => Ok(()),
-            Step::NoData => Err(Unwritten::Met(Condition::Error(11))),
+            Step::NoData => Err(Unwritten::Met(Condition::NO_DESCRIPTOR)),
         }
     }
 

@@ -114,7 +114,7 @@ impl<F: FileStore> Connection<F> {
                 self.go_between(place);
                 Ok(Condition::Fine)
             }
-            None => Ok(Condition::Error(18)),
+            None => Ok(Condition::BROKEN_RECORD),
         }
     }
 

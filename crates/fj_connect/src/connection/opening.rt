@@ -67,7 +67,7 @@ fn found<D: Disk>(
         Ok(Some(file)) => {
             if file.len() > LONGEST_FILE {
                 disk.give(name.as_str(), file);
-                return Err(OpenFault::Refused(Condition::Error(27)));
+                return Err(OpenFault::Refused(Condition::OPENED_TOO_LONG));
             }
             Ok(Some(file))
         }
@@ -106,7 +106,7 @@ fn old<D: Disk>(alloc: Global, disk: &mut D, name: &FileName) -> Result<D::File,
 {
     match found(alloc, disk, name)? {
         Some(file) => Ok(file),
-        None => Err(OpenFault::Refused(Condition::Error(5))),
+        None => Err(OpenFault::Refused(Condition::NO_SUCH_FILE)),
     }
 }
 
@@ -122,7 +122,7 @@ fn new<D: Disk>(alloc: Global, disk: &mut D, name: &FileName) -> Result<D::File,
     ensures failed { result ≡ Err (OpenFault.Stop Stop.Failed) → Rose (D.count disk.old) (D.count disk.new) }
 {
     if disk.exists(name.as_str()).map_err(Stop::from)? {
-        return Err(OpenFault::Refused(Condition::Error(6)));
+        return Err(OpenFault::Refused(Condition::FILE_EXISTS));
     }
     replaced(alloc, disk, name)
 }
