@@ -1,22 +1,22 @@
-# try: runs the deck of examples/first within three minutes, with a program of which nothing is proved yet
 # build: proves what changed, several crates at once, and leaves the program as ./fjob, also while an older one runs
+# try: runs the deck of examples/first within three minutes, with a program of which nothing is proved yet
 # install: puts the program, and nothing else, into PREFIX/bin
 # example: runs the deck of examples/first in a folder of its own
 # test: the gate
 # bench: the benchmarks, beside gfortran where it is on the machine
 # checks: what no gate asks for: refused allocations, failing calls, many runs with workers, random statements and decks beside gfortran,
 # the lines of docs/DECKS.md, worked decks, and the modules of docs/DEFINITIONS.md
-.PHONY: try build install example examples test bench checks
+.PHONY: build try install example examples test bench checks
 
 PREFIX ?= /usr/local
-
-try:
-	@tools/try first
 
 build:
 	tools/build fjob 4 check
 	cp crates/fjob/out/fjob fjob.new
 	mv -f fjob.new fjob
+
+try:
+	@tools/try first
 
 install: build
 	install -D fjob $(DESTDIR)$(PREFIX)/bin/fjob
