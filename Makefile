@@ -1,11 +1,12 @@
-# build: proves what changed, with a line for each crate as it begins, and leaves the program as ./fjob, also while an older one runs
+# build: proves what changed, several crates at once, and leaves the program as ./fjob, also while an older one runs
+# try: runs the deck of examples/first within three minutes, with a program of which nothing is proved yet
 # install: puts the program, and nothing else, into PREFIX/bin
 # example: runs the deck of examples/first in a folder of its own
 # test: the gate
 # bench: the benchmarks, beside gfortran where it is on the machine
 # checks: what no gate asks for: refused allocations, failing calls, many runs with workers, random statements and decks beside gfortran,
 # the lines of docs/DECKS.md, worked decks, and the modules of docs/DEFINITIONS.md
-.PHONY: build install example examples test bench checks
+.PHONY: build try install example examples test bench checks
 
 PREFIX ?= /usr/local
 
@@ -13,6 +14,9 @@ build:
 	tools/build fjob 4 check
 	cp crates/fjob/out/fjob fjob.new
 	mv -f fjob.new fjob
+
+try:
+	@tools/try first
 
 install: build
 	install -D fjob $(DESTDIR)$(PREFIX)/bin/fjob
