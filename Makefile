@@ -1,22 +1,25 @@
-# build: proves what changed, several crates at once, and leaves the program as ./fjob, also while an older one runs
-# try: runs the deck of examples/first within three minutes, with a program of which nothing is proved yet
-# install: puts the program, and nothing else, into PREFIX/bin
-# example: runs the deck of examples/first in a folder of its own
-# test: the gate
-# bench: the benchmarks, beside gfortran where it is on the machine
-# checks: what no gate asks for: refused allocations, failing calls, many runs with workers, random statements and decks beside gfortran,
-# the lines of docs/DECKS.md, worked decks, and the modules of docs/DEFINITIONS.md
-.PHONY: build try install example examples test bench checks
-
 PREFIX ?= /usr/local
+
+.PHONY: help try build install example examples pre-push test bench checks
+
+help:
+	@echo 'make try        run the first example from the sources, within three minutes; nothing is proved by it'
+	@echo 'make build      prove every crate below the program that is new or changed, and leave it as ./fjob'
+	@echo 'make install    put ./fjob, and nothing else, into PREFIX/bin ($(PREFIX)/bin)'
+	@echo 'make example    run the deck of examples/first in a folder of its own'
+	@echo 'make examples   run every example, alone and with 0, 1, 4 and 16 workers, and compare'
+	@echo 'make pre-push   build, examples, worked decks, and the pages against the program and the crates'
+	@echo 'make test       the gate, rt ci: every proof, wrong body, test and worked deck'
+	@echo 'make checks     what no gate asks for, the cheap checks first; checks/all NAME.. runs some'
+	@echo 'make bench      the benchmarks, beside gfortran where it is'
+
+try:
+	@tools/try first
 
 build:
 	tools/build fjob 4 check
 	cp crates/fjob/out/fjob fjob.new
 	mv -f fjob.new fjob
-
-try:
-	@tools/try first
 
 install: build
 	install -D fjob $(DESTDIR)$(PREFIX)/bin/fjob
@@ -27,6 +30,9 @@ example: build
 examples: build
 	examples/run
 
+pre-push: examples
+	checks/all definitions decks worked
+
 test:
 	rt ci
 
@@ -35,14 +41,4 @@ bench: build
 	bench/run
 
 checks: build
-	checks/memory
-	checks/faults
-	checks/soak
-	checks/formats
-	checks/reads
-	checks/groups
-	checks/questions
-	checks/random
-	checks/decks
-	checks/definitions
-	checks/worked
+	checks/all
