@@ -1,7 +1,7 @@
 use Rattle.std.proofs.Common.{◌≡◌, Bool, sym, ap, ◌∙◌}
 use Rattle.fj_format.specs.declared.item.FormatItem.TheFolds.{fold-FormatItem}
 use Rattle.fj_format.specs.Unfolding.{unbounded_step}
-use Rattle.fj_format.proofs.UnfoldingLaws.{has_width_zero-Group}
+use Rattle.fj_format.proofs.UnfoldingLaws.{has_width_zero-Group, has_width_zero-Unlimited}
 use Rattle.fj_format.proofs.item.+width.Goals as goal
 
 pub item_has_width_zero-returns-in-Group : goal.item_has_width_zero-returns-in-Group
