@@ -172,15 +172,15 @@ plain_back ls xs t f b = want_of ls xs b.item b.free t b.rest f (plain b.reads) 
 
 -- the unlimited item stands in the outermost parentheses
 last_closes : (ls : List Level) (xs : List FormatItem) (v : Marks) (f : List FormatItem) → length ls ≡ 0 → f ≡ xs → Closes ls xs v f
-last_closes [] xs v f none is = is
-last_closes (l ∷ ls) xs v f none is = absurd (omega arith)
+last_closes [] xs v f top is = is
+last_closes (l ∷ ls) xs v f top is = absurd (omega arith)
 
 star_back : (ls : List Level) (xs : List FormatItem) (t : Marks) (f : List FormatItem) → length ls ≡ 0 → InStar ls xs t f → Want ls xs (symbol Star ∷ t) f
-star_back ls xs t f none i = record {
+star_back ls xs t f top i = record {
   items = item.Unlimited i.inner ∷ [];
   rest = i.rest;
   reads = subst (λ l. Items (suc (length ls)) (item.Unlimited i.inner ∷ []) (symbol Star ∷ l) (symbol Close ∷ i.rest)) (sym i.opens) (unlimited (omega arith) i.reads i.data_there);
-  closes = last_closes ls (xs ++ item.Unlimited i.inner ∷ []) i.rest f none i.is;
+  closes = last_closes ls (xs ++ item.Unlimited i.inner ∷ []) i.rest f top i.is;
 }
 
 stars_back : (ls : List Level) (xs : List FormatItem) (t : Marks) (f : List FormatItem) → Moves (stars ls xs) t f → Want ls xs (symbol Star ∷ t) f

@@ -1,5 +1,5 @@
 -- From each place some text ends the format.
-use Rattle.std.proofs.Common.{ℕ, zero, suc, ◌+◌, ◌*◌, ◌≤◌, Bool, true, false, List, [], ◌∷◌, ◌++◌, length, Option, Some, None, inl, refl, arith, nat_lt, nat_le, lit≤}
+use Rattle.std.proofs.Common.{ℕ, zero, suc, ◌+◌, ◌*◌, ◌≤◌, Bool, true, false, List, [], ◌∷◌, ◌++◌, length, Option, Some, None, inl, refl, arith, nat_lt, nat_le, lit≤, ◌≡◌, eqb, inr, ap}
 use Rattle.std.proofs.lemmas.Bool.Decides.{nat_tests}
 use Rattle.fj_value.specs.declared.edit.Edit.TheVariants.{Log, Chars, General}
 use Rattle.fj_format.specs.declared.item.ModeStep.TheVariants as step
@@ -26,7 +26,7 @@ use Rattle.fj_format.specs.Grammar.{stop, digit, number, times, integer_edit, mo
 use Rattle.fj_format.specs.Unfolding.{pass, has_data}
 use Rattle.fj_format.proofs.UnfoldingLaws.{written_out-Field}
 use Rattle.fj_format.proofs.DataLemmas.{last_data}
-use Rattle.fj_format.specs.Reading.{smallest, greatest, at, alone, grown, closed_as, closed, closing, stars, starred, by_letter, body, start, between, ended, decimals_at, behind_general, behind_width, behind_decimals, behind, blank_letter, instead_of_width, instead, sign_letter, decimal_letter, next_at}
+use Rattle.fj_format.specs.Reading.{smallest, greatest, at, alone, grown, closed_as, closed, closing, starred, by_letter, body, start, between, ended, decimals_at, behind_width, behind_decimals, behind, blank_letter, instead_of_width, instead, sign_letter, decimal_letter, next_at}
 use Rattle.fj_format.proofs.Choices.{choose_by, at_most}
 use Rattle.fj_format.proofs.Rest.{Closes, ClosesAs, After, Want, WantBody, BehindWidth, BehindNumber, InDigits, InNumber, Rest}
 use Rattle.fj_format.proofs.Back.{IsValid}

@@ -12,11 +12,11 @@ use Rattle.fj_format.specs.declared.place.Radix.{Radix}
 use Rattle.fj_format.specs.declared.place.Radix.TheVariants.{Two, Eight, Ten, Sixteen}
 use Rattle.fj_format.specs.declared.place.Tabbing.{Tabbing}
 use Rattle.fj_format.specs.declared.place.Tabbing.TheVariants.{To, Left, Right}
-use Rattle.fj_format.specs.declared.symbol.Symbol.TheVariants.{Digit, Open, Close, Comma, Point, Star}
+use Rattle.fj_format.specs.declared.symbol.Symbol.TheVariants.{Digit, Close, Point}
 use Rattle.fj_format.specs.Symbols.{is_blank, is_quote, is_digit}
 use Rattle.fj_format.specs.Marks.{Marks, symbol, string, outside, inside}
 use Rattle.fj_format.specs.Grammar.{Digits, stop, digit, Number, number, times, integer_edit, moved, most, Least, no_least, least, Width, no_width, width, no_exponent, Sign, sign_usual, sign_plus, sign_suppress, Blank, blank_null, blank_zero, Decimal, decimal_comma, decimal_point, turn_to, turn_left, turn_right, comma, Item, plain, counted, Body, integer, logical, characters, general, general_alone, tab, skip, slash, colon, sign_mode, blank_mode, decimal_mode, quoted, group, Items, items, unlimited, More, none, some, IsFormatOf, empty, format}
-use Rattle.fj_format.specs.Printing.{count_text, least_text, decimals_text, edit_text, mode_text, doubled, in_parentheses, item_text, printed}
+use Rattle.fj_format.specs.Printing.{count_text, least_text, edit_text, mode_text, doubled, in_parentheses, item_text, printed}
 use Rattle.fj_format.specs.PrintingLaws.{item_text-Field, item_text-Group, item_text-Str, item_text-Tab, item_text-Left, item_text-Right, item_text-Skip, item_text-Slash, item_text-Colon, item_text-Mode, item_text-Unlimited}
 use Rattle.fj_format.proofs.Choices.{into_true, into_false, choose_by, positive_test}
 use Rattle.fj_format.proofs.Withins.{number_within}

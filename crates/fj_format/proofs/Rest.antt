@@ -25,17 +25,19 @@ use Rattle.fj_format.specs.Reading.{smallest, greatest}
 abbrev pub Ends : List FormatItem → Marks → List FormatItem → Type 0
 Ends xs t f = (u : Marks) × (t ≡ symbol Close ∷ u) × (f ≡ xs)
 
--- behind the parenthesis that ends the innermost items, to the end of the format
-abbrev mutual
-  pub Closes : List Level → List FormatItem → Marks → List FormatItem → Type 0
-  Closes [] xs t f = f ≡ xs
-  Closes (l ∷ ls) xs t f = ClosesAs l.r ls l.items xs t f
+-- behind the parenthesis that ends inner items, which stand behind others; without a count they are the unlimited item
+abbrev pub ClosesBy : (List FormatItem → Marks → Type 0) → ℕ → Option ℕ → List FormatItem → List FormatItem → Marks → List FormatItem → Type 0
+ClosesBy closes d (Some r) before xs t f =
+    (more : List FormatItem) × (v : Marks) × More d false more t (symbol Close ∷ v) × closes ((before ++ item.Group r xs ∷ []) ++ more) v
+ClosesBy closes d None before xs t f = (has_data (pass xs) ≡ true) × Ends (before ++ item.Unlimited xs ∷ []) t f
 
-  -- the same, where the innermost items stand behind others; without a count they are the unlimited item
-  pub ClosesAs : Option ℕ → List Level → List FormatItem → List FormatItem → Marks → List FormatItem → Type 0
-  ClosesAs (Some r) ls before xs t f =
-      (more : List FormatItem) × (v : Marks) × More (suc (length ls)) false more t (symbol Close ∷ v) × Closes ls ((before ++ item.Group r xs ∷ []) ++ more) v f
-  ClosesAs None ls before xs t f = (has_data (pass xs) ≡ true) × Ends (before ++ item.Unlimited xs ∷ []) t f
+-- behind the parenthesis that ends the innermost items, to the end of the format
+abbrev pub Closes : List Level → List FormatItem → Marks → List FormatItem → Type 0
+Closes [] xs t f = f ≡ xs
+Closes (l ∷ ls) xs t f = ClosesBy (λ ys v. Closes ls ys v f) (suc (length ls)) l.r l.items xs t f
+
+abbrev pub ClosesAs : Option ℕ → List Level → List FormatItem → List FormatItem → Marks → List FormatItem → Type 0
+ClosesAs r ls before xs t f = ClosesBy (λ ys v. Closes ls ys v f) (suc (length ls)) r before xs t f
 
 -- behind an item
 pub record After (ls : List Level) (xs : List FormatItem) (before : Bool) (t : Marks) (f : List FormatItem) : Type 0 where

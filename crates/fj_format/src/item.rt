@@ -70,7 +70,8 @@ fn item_has_width_zero(item: &FormatItem) -> bool
 {
     match item {
         FormatItem::Field { edit, .. } => is_unbounded(*edit),
-        FormatItem::Group { items, .. } | FormatItem::Unlimited { items } => has_width_zero(items),
+        FormatItem::Group { items, .. } => has_width_zero(items),
+        FormatItem::Unlimited { items } => has_width_zero(items),
         _ => false,
     }
 }

@@ -1,7 +1,7 @@
 use Rattle.std.proofs.Common.{◌+◌, ◌||◌, refl, sym, ap, ◌∙◌, arith, drop}
-use Rattle.fj_format.specs.declared.item.FormatItem.TheVariants.{Group}
+use Rattle.fj_format.specs.declared.item.FormatItem.TheVariants.{Group, Unlimited}
 use Rattle.fj_format.specs.Unfolding.{written_out, pass, has_data}
-use Rattle.fj_format.proofs.UnfoldingLaws.{written_out-Field, written_out-Slash}
+use Rattle.fj_format.proofs.UnfoldingLaws.{written_out-Field, written_out-Slash, written_out-Unlimited}
 use Rattle.fj_format.proofs.DataLemmas.{data_here, group_data, field_data, no_data_repeated}
 use Rattle.fj_format.proofs.data.+data.Goals as goal
 
@@ -24,3 +24,7 @@ item_has_data-returns-then-r-gt0 t c =
 
 pub item_has_data-returns-in-Slash : goal.item_has_data-returns-in-Slash
 item_has_data-returns-in-Slash t c = sym (ap has_data (ap written_out c.in-Slash.is ∙ written_out-Slash c.in-Slash.field-0) ∙ no_data_repeated c.in-Slash.field-0 _ refl)
+
+pub item_has_data-returns-in-Unlimited : goal.item_has_data-returns-in-Unlimited
+item_has_data-returns-in-Unlimited t c =
+    c.have_data-in-Unlimited.ensures ∙ sym (ap has_data (ap written_out (c.in-Unlimited.is ∙ ap (λ xs. Unlimited xs) (sym c.as_slice-in-Unlimited.ensures)) ∙ written_out-Unlimited c.as_slice-in-Unlimited.result.now))
