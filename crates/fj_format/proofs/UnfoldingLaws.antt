@@ -8,7 +8,7 @@ use Rattle.fj_format.specs.declared.item.FormatItem.TheVariants as item
 use Rattle.fj_format.specs.declared.item.FormatItem.TheVariants.{rolls-Group, rolls-Field, rolls-Str, rolls-Tab, rolls-Left, rolls-Right, rolls-Skip, rolls-Slash, rolls-Colon, rolls-Mode, rolls-Unlimited}
 use Rattle.fj_format.specs.declared.item.FormatItem.TheOpen.{FormatItem-F}
 use Rattle.fj_format.specs.declared.item.FormatItem.TheFolds.{fold-FormatItem, fold-roll-FormatItem, fold_out-FormatItem, map-FormatItem}
-use Rattle.fj_format.specs.Unfolding.{edit, string, tab, left, right, slash, colon, mode, is_group, group_step, deepest, height_step, height, unbounded_step, has_width_zero, total, work_step, work, Steps, repeated, joined, item_step, written_out, pass}
+use Rattle.fj_format.specs.Unfolding.{edit, string, tab, left, right, slash, colon, mode, is_group, group_step, is_unlimited, unlimited_step, deepest, height_step, height, unbounded_step, has_width_zero, total, work_step, work, Steps, repeated, joined, item_step, written_out, pass}
 
 joined-map : (xs : List FormatItem) → joined (map written_out xs) ≡ pass xs
 joined-map [] = refl
@@ -155,3 +155,36 @@ height-Right n = ap (fold-FormatItem ℕ height_step) (sym (rolls-Right n)) ∙ 
 
 pub height-Mode : (m : ModeStep) → fold-FormatItem ℕ height_step (item.Mode m) ≡ 0
 height-Mode m = ap (fold-FormatItem ℕ height_step) (sym (rolls-Mode m)) ∙ fold-roll-FormatItem ℕ height_step (FormatItem-F.Mode m)
+
+pub is_unlimited-Group : (r : ℕ) (xs : List FormatItem) → is_unlimited (item.Group r xs) ≡ false
+is_unlimited-Group r xs = ap is_unlimited (sym (rolls-Group r xs)) ∙ fold-roll-FormatItem Bool unlimited_step (FormatItem-F.Group r xs)
+
+pub is_unlimited-Field : (r : ℕ) (e : Edit) → is_unlimited (item.Field r e) ≡ false
+is_unlimited-Field r e = ap is_unlimited (sym (rolls-Field r e)) ∙ fold-roll-FormatItem Bool unlimited_step (FormatItem-F.Field r e)
+
+pub is_unlimited-Str : (s : List ℕ) → is_unlimited (item.Str s) ≡ false
+is_unlimited-Str s = ap is_unlimited (sym (rolls-Str s)) ∙ fold-roll-FormatItem Bool unlimited_step (FormatItem-F.Str s)
+
+pub is_unlimited-Tab : (n : ℕ) → is_unlimited (item.Tab n) ≡ false
+is_unlimited-Tab n = ap is_unlimited (sym (rolls-Tab n)) ∙ fold-roll-FormatItem Bool unlimited_step (FormatItem-F.Tab n)
+
+pub is_unlimited-Left : (n : ℕ) → is_unlimited (item.Left n) ≡ false
+is_unlimited-Left n = ap is_unlimited (sym (rolls-Left n)) ∙ fold-roll-FormatItem Bool unlimited_step (FormatItem-F.Left n)
+
+pub is_unlimited-Right : (n : ℕ) → is_unlimited (item.Right n) ≡ false
+is_unlimited-Right n = ap is_unlimited (sym (rolls-Right n)) ∙ fold-roll-FormatItem Bool unlimited_step (FormatItem-F.Right n)
+
+pub is_unlimited-Skip : (n : ℕ) → is_unlimited (item.Skip n) ≡ false
+is_unlimited-Skip n = ap is_unlimited (sym (rolls-Skip n)) ∙ fold-roll-FormatItem Bool unlimited_step (FormatItem-F.Skip n)
+
+pub is_unlimited-Slash : (n : ℕ) → is_unlimited (item.Slash n) ≡ false
+is_unlimited-Slash n = ap is_unlimited (sym (rolls-Slash n)) ∙ fold-roll-FormatItem Bool unlimited_step (FormatItem-F.Slash n)
+
+pub is_unlimited-Colon : is_unlimited item.Colon ≡ false
+is_unlimited-Colon = ap is_unlimited (sym rolls-Colon) ∙ fold-roll-FormatItem Bool unlimited_step FormatItem-F.Colon
+
+pub is_unlimited-Mode : (m : ModeStep) → is_unlimited (item.Mode m) ≡ false
+is_unlimited-Mode m = ap is_unlimited (sym (rolls-Mode m)) ∙ fold-roll-FormatItem Bool unlimited_step (FormatItem-F.Mode m)
+
+pub is_unlimited-Unlimited : (xs : List FormatItem) → is_unlimited (item.Unlimited xs) ≡ true
+is_unlimited-Unlimited xs = ap is_unlimited (sym (rolls-Unlimited xs)) ∙ fold-roll-FormatItem Bool unlimited_step (FormatItem-F.Unlimited xs)

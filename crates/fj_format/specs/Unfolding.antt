@@ -66,8 +66,11 @@ abbrev pub unlimited_step : FormatItem-F Bool → Bool
 unlimited_step (FormatItem-F.Unlimited items) = true
 unlimited_step _ = false
 
+abbrev pub is_unlimited : FormatItem → Bool
+is_unlimited = fold-FormatItem Bool unlimited_step
+
 abbrev pub has_unlimited : List FormatItem → Bool
-has_unlimited = list_any (fold-FormatItem Bool unlimited_step)
+has_unlimited = list_any is_unlimited
 
 -- the items from the last group on, or all of them where there is none; the unlimited item is a group here
 abbrev pub group_step : FormatItem-F Bool → Bool
