@@ -1,11 +1,16 @@
 -- Control over lists, and the steps that are due.
 use Rattle.std.specs.Prelude.{replicate, Option, Some, None, IfSome}
 use Rattle.fj_value.specs.declared.edit.Edit.{Edit}
-use Rattle.std.proofs.Common.{ℕ, zero, suc, ◌+◌, ◌-◌, ◌≡◌, ◌≤◌, Bool, true, false, cond, List, [], ◌∷◌, ◌++◌, refl, sym, ap, ◌∙◌, arith, append_assoc, append-nil}
+use Rattle.std.proofs.Common.{ℕ, zero, suc, ◌+◌, ◌-◌, ◌≡◌, ◌≤◌, Bool, true, false, cond, ◌<◌, ◌||◌, unwrap_or, List, [], ◌∷◌, ◌++◌, refl, sym, ap, ◌∙◌, arith, append_assoc, append-nil}
+use Rattle.std.proofs.lemmas.List.Folds.{list_any-append}
+use Rattle.fj_format.specs.declared.item.FormatItem.{FormatItem}
+use Rattle.fj_format.specs.declared.item.FormatItem.TheVariants as item
 use Rattle.fj_format.specs.Unfolding as step
-use Rattle.fj_format.specs.Unfolding.{Elementary, Steps, repeated, pass, again}
-use Rattle.fj_control.specs.Steps.{Given, gives, no_data, control, has_data, rounds, RoundsAreEnough}
-use Rattle.fj_control.specs.Walk.{Position, walking, ended, lacking, Walk, next_in, next_at, next_of, begun, due, due_at, is_left, is_end, items_behind, GivesWhatIsDue, IsRun, GivesTheSteps}
+use Rattle.fj_format.specs.Unfolding.{Elementary, Steps, repeated, pass, again, written_out, has_data, has_unlimited, is_unlimited}
+use Rattle.fj_format.proofs.UnfoldingLaws.{written_out-Unlimited, is_unlimited-Unlimited}
+use Rattle.fj_control.proofs.Reversion.{again_unlimited}
+use Rattle.fj_control.specs.Steps.{Given, gives, done, control, round_of, round, rounds, RoundsAreEnough, GoesOnInTheRecord}
+use Rattle.fj_control.specs.Walk.{Position, walking, ended, lacking, Walk, next_from, next_none, next_again, next_at, next_of, begun, due, due_at, is_left, is_end, items_behind, GivesWhatIsDue, IsRun, GivesTheSteps}
 
 -- how many data descriptors a list has
 abbrev data_count : Steps → ℕ
@@ -50,46 +55,103 @@ control_cut (step.right k ∷ a) n b h = ap (λ l. gives (step.right k) ∷ l) (
 control_cut (step.slash ∷ a) n b h = ap (λ l. gives step.slash ∷ l) (control_cut a n b h)
 control_cut (step.mode m ∷ a) n b h = ap (λ l. gives (step.mode m) ∷ l) (control_cut a n b h)
 
--- ---- rounds
+-- what follows more data descriptors than there are items is not reached
+control_end : (a : Steps) (n : ℕ) (b : Steps) → n < data_count a → control (a ++ b) n ≡ control a n
+control_end [] n b h = absurd (omega arith)
+control_end (step.edit e ∷ a) zero b h = refl
+control_end (step.edit e ∷ a) (suc n) b h = ap (λ l. gives (step.edit e) ∷ l) (control_end a n b (omega arith))
+control_end (step.colon ∷ a) zero b h = refl
+control_end (step.colon ∷ a) (suc n) b h = control_end a (suc n) b h
+control_end (step.string s ∷ a) n b h = ap (λ l. gives (step.string s) ∷ l) (control_end a n b h)
+control_end (step.tab k ∷ a) n b h = ap (λ l. gives (step.tab k) ∷ l) (control_end a n b h)
+control_end (step.left k ∷ a) n b h = ap (λ l. gives (step.left k) ∷ l) (control_end a n b h)
+control_end (step.right k ∷ a) n b h = ap (λ l. gives (step.right k) ∷ l) (control_end a n b h)
+control_end (step.slash ∷ a) n b h = ap (λ l. gives step.slash ∷ l) (control_end a n b h)
+control_end (step.mode m ∷ a) n b h = ap (λ l. gives (step.mode m) ∷ l) (control_end a n b h)
 
--- one round
-abbrev round : Steps → Steps
-round more = step.colon ∷ step.slash ∷ more
+-- ---- rounds
 
 repeated_last : (n : ℕ) (s : Steps) → s ++ repeated n s ≡ repeated n s ++ s
 repeated_last zero s = append-nil s
 repeated_last (suc n) s = ap (λ l. s ++ l) (repeated_last n s) ∙ sym (append_assoc s (repeated n s) s)
 
-data_count-rounds : (n : ℕ) (more : Steps) → has_data more ≡ true → n ≤ data_count (repeated n (round more))
+data_count-rounds : (n : ℕ) (more : Steps) → has_data more ≡ true → n ≤ data_count (repeated n more)
 data_count-rounds zero more h = omega arith
-data_count-rounds (suc n) more h = omega (arith, data_count-append more (repeated n (round more)), data_count-positive more h, data_count-rounds n more h)
+data_count-rounds (suc n) more h = omega (arith, data_count-append more (repeated n more), data_count-positive more h, data_count-rounds n more h)
+
+one_last : (a more : Steps) (k : ℕ) → a ++ repeated (suc k) more ≡ (a ++ repeated k more) ++ more
+one_last a more k = ap (λ l. a ++ l) (repeated_last k more) ∙ sym (append_assoc a (repeated k more) more)
 
 -- one round more, where there are enough
-one_more : (a more : Steps) (k n : ℕ) → n ≤ data_count (a ++ repeated k (round more)) → control (a ++ repeated (suc k) (round more)) n ≡ control (a ++ repeated k (round more)) n
-one_more a more k n h =
-    let e : a ++ repeated (suc k) (round more) ≡ (a ++ repeated k (round more)) ++ round more = ap (λ l. a ++ l) (repeated_last k (round more)) ∙ sym (append_assoc a (repeated k (round more)) (round more)) in
-    ap (λ l. control l n) e ∙ control_cut (a ++ repeated k (round more)) n (step.slash ∷ more) h
+one_more : (a more : Steps) (k n : ℕ) → n < data_count (a ++ repeated k more) → control (a ++ repeated (suc k) more) n ≡ control (a ++ repeated k more) n
+one_more a more k n h = ap (λ l. control l n) (one_last a more k) ∙ control_end (a ++ repeated k more) n more h
 
-enough_above : (a more : Steps) (n d : ℕ) → has_data more ≡ true → control (a ++ repeated (d + n) (round more)) n ≡ control (a ++ repeated n (round more)) n
-enough_above a more n zero h = let e : 0 + n ≡ n = omega arith in ap (λ k. control (a ++ repeated k (round more)) n) e
+enough_above : (a more : Steps) (n d : ℕ) → has_data more ≡ true → control (a ++ repeated (d + suc n) more) n ≡ control (a ++ repeated (suc n) more) n
+enough_above a more n zero h = let e : 0 + suc n ≡ suc n = omega arith in ap (λ k. control (a ++ repeated k more) n) e
 enough_above a more n (suc d) h =
-    let e : suc d + n ≡ suc (d + n) = omega arith in
-    ap (λ k. control (a ++ repeated k (round more)) n) e
-    ∙ one_more a more (d + n) n (omega (arith, data_count-append a (repeated (d + n) (round more)), data_count-rounds (d + n) more h))
+    let e : suc d + suc n ≡ suc (d + suc n) = omega arith in
+    ap (λ k. control (a ++ repeated k more) n) e
+    ∙ one_more a more (d + suc n) n (omega (arith, data_count-append a (repeated (d + suc n) more), data_count-rounds (d + suc n) more h))
     ∙ enough_above a more n d h
 
-rounds_with_data : (n : ℕ) (more : Steps) → has_data more ≡ true → rounds n more ≡ repeated n (round more)
-rounds_with_data n more h = ap (λ b. cond b (repeated n (round more)) []) h
+-- more rounds than items are enough
+pub enough : (a more : Steps) (n k : ℕ) → has_data more ≡ true → n < k → control (a ++ repeated k more) n ≡ control (a ++ repeated (suc n) more) n
+enough a more n k h above =
+    let e : (k - suc n) + suc n ≡ k = omega arith in ap (λ m. control (a ++ repeated m more) n) (sym e) ∙ enough_above a more n (k - suc n) h
 
-rounds_without_data : (n : ℕ) (more : Steps) → has_data more ≡ false → rounds n more ≡ []
-rounds_without_data n more h = ap (λ b. cond b (repeated n (round more)) []) h
+-- as many rounds as items are enough where each begins with a colon
+as_many : (a more : Steps) (n : ℕ) → has_data more ≡ true → control (a ++ repeated (suc n) (step.colon ∷ more)) n ≡ control (a ++ repeated n (step.colon ∷ more)) n
+as_many a more n h =
+    let all = repeated n (step.colon ∷ more) in
+    ap (λ l. control l n) (one_last a (step.colon ∷ more) n)
+    ∙ control_cut (a ++ all) n more (omega (arith, data_count-append a all, data_count-rounds n (step.colon ∷ more) h))
+
+pub enough_colons : (a more : Steps) (n k : ℕ) → has_data more ≡ true → n ≤ k → control (a ++ repeated k (step.colon ∷ more)) n ≡ control (a ++ repeated (suc n) (step.colon ∷ more)) n
+enough_colons a more n k h within = by_amount (k - n) k refl within
+  where
+    by_amount : (d k : ℕ) → k - n ≡ d → n ≤ k → control (a ++ repeated k (step.colon ∷ more)) n ≡ control (a ++ repeated (suc n) (step.colon ∷ more)) n
+    by_amount zero k e le = let same : k ≡ n = omega arith in ap (λ m. control (a ++ repeated m (step.colon ∷ more)) n) same ∙ sym (as_many a more n h)
+    by_amount (suc d) k e le = enough a (step.colon ∷ more) n k h (omega arith)
+
+pub rounds_with_data : (n : ℕ) (more : Steps) → has_data more ≡ true → rounds n more ≡ repeated (suc n) more
+rounds_with_data n more h = ap (λ b. cond b (repeated (suc n) more) []) h
+
+pub rounds_without_data : (n : ℕ) (more : Steps) → has_data more ≡ false → rounds n more ≡ []
+rounds_without_data n more h = ap (λ b. cond b (repeated (suc n) more) []) h
 
 pub rounds_are_enough : RoundsAreEnough
-rounds_are_enough f n k h le =
-    let e : (k - n) + n ≡ k = omega arith in
-    ap (λ m. control (pass f ++ repeated m (round (again f))) n) (sym e)
-    ∙ enough_above (pass f) (again f) n (k - n) h
-    ∙ ap (λ l. control (pass f ++ l) n) (sym (rounds_with_data n (again f) h))
+rounds_are_enough f n k none h le =
+    let is : round f ≡ step.colon ∷ step.slash ∷ again f = ap (λ b. round_of b (again f)) none in
+    enough_colons (pass f) (step.slash ∷ again f) n k h le
+    ∙ ap (λ l. control (pass f ++ l) n) (sym (rounds_with_data n (step.colon ∷ step.slash ∷ again f) h))
+    ∙ ap (λ m. control (pass f ++ rounds n m) n) (sym is)
+
+-- ---- behind an unlimited item
+
+pass-append : (f g : List FormatItem) → pass (f ++ g) ≡ pass f ++ pass g
+pass-append [] g = refl
+pass-append (x ∷ f) g = ap (λ l. written_out x ++ l) (pass-append f g) ∙ sym (append_assoc (written_out x) (pass f) (pass g))
+
+or_true : (b : Bool) → (b || true) ≡ true
+or_true true = refl
+or_true false = refl
+
+unlimited_there : (front inner : List FormatItem) → has_unlimited (front ++ item.Unlimited inner ∷ []) ≡ true
+unlimited_there front inner =
+    list_any-append is_unlimited front (item.Unlimited inner ∷ []) ∙ ap (λ b. has_unlimited front || (b || false)) (is_unlimited-Unlimited inner) ∙ or_true (has_unlimited front)
+
+pub goes_on_in_the_record : GoesOnInTheRecord
+goes_on_in_the_record front inner n k h above =
+    let f = front ++ item.Unlimited inner ∷ [] in
+    let is : round f ≡ pass inner = ap (λ b. round_of b (again f)) (unlimited_there front inner) ∙ again_unlimited front inner in
+    let first : pass f ≡ pass front ++ pass inner =
+    pass-append front (item.Unlimited inner ∷ []) ∙ ap (λ l. pass front ++ l) (append-nil (written_out (item.Unlimited inner)) ∙ written_out-Unlimited inner) in
+    ap (λ m. control (pass f ++ rounds n m) n) is
+    ∙ ap (λ l. control (pass f ++ l) n) (rounds_with_data n (pass inner) h)
+    ∙ ap (λ l. control (l ++ repeated (suc n) (pass inner)) n) first
+    ∙ ap (λ l. control l n) (append_assoc (pass front) (pass inner) (repeated (suc n) (pass inner)))
+    ∙ enough (pass front) (pass inner) n (suc (suc n)) h (omega arith)
+    ∙ sym (enough (pass front) (pass inner) n k h above)
 
 -- ---- one step
 
@@ -100,35 +162,50 @@ with_rest more n g at = g ∷ cond (is_end g) [] (due_at more at (items_behind g
 abbrev StepIsDue : Steps → ℕ → List Given → Given × Position → Type 0
 StepIsDue more n out o = out ≡ with_rest more n o.0 o.1
 
-no_rounds : (more : Steps) → rounds 0 more ≡ []
-no_rounds more = by_case (has_data more) []
-  where
-    by_case : (b : Bool) (l : Steps) → cond b l l ≡ l
-    by_case true l = refl
-    by_case false l = refl
-
 fewer_rounds : (a more : Steps) (n : ℕ) (b : Bool) → has_data more ≡ b → control (a ++ rounds (suc n) more) n ≡ control (a ++ rounds n more) n
 fewer_rounds a more n true e =
     ap (λ l. control (a ++ l) n) (rounds_with_data (suc n) more e)
-    ∙ one_more a more n n (omega (arith, data_count-append a (repeated n (round more)), data_count-rounds n more e))
+    ∙ enough a more n (suc (suc n)) e (omega arith)
     ∙ sym (ap (λ l. control (a ++ l) n) (rounds_with_data n more e))
 fewer_rounds a more n false e = ap (λ l. control (a ++ l) n) (rounds_without_data (suc n) more e ∙ sym (rounds_without_data n more e))
 
-at_the_end : (more : Steps) (n : ℕ) (b : Bool) → has_data more ≡ b → StepIsDue more (suc n) (control (rounds (suc n) more) (suc n)) (next_in more true [])
-at_the_end more n true e =
-    let next : next_in more true [] ≡ (gives step.slash, walking more) = ap (λ b. cond b (gives step.slash, walking more) (no_data, lacking)) e in
-    ap (λ l. control l (suc n)) (rounds_with_data (suc n) more e)
-    ∙ ap (λ l. gives step.slash ∷ l)
-    (sym (ap (λ l. control (more ++ l) (suc n)) (rounds_with_data (suc n) more e)
-    ∙ one_more more more n (suc n) (omega (arith, data_count-append more (repeated n (round more)), data_count-positive more e, data_count-rounds n more e))))
-    ∙ ap (λ (o : Given × Position). with_rest more (suc n) o.0 o.1) (sym next)
-at_the_end more n false e =
-    let next : next_in more true [] ≡ (no_data, lacking) = ap (λ b. cond b (gives step.slash, walking more) (no_data, lacking)) e in
-    ap (λ l. control l (suc n)) (rounds_without_data (suc n) more e) ∙ ap (λ (o : Given × Position). with_rest more (suc n) o.0 o.1) (sym next)
+-- in a round, behind which as many follow as there are items
+round_goes : (more rest : Steps) (n : ℕ) → has_data more ≡ true → has_data rest ≡ true → control (rest ++ repeated n more) n ≡ control (rest ++ rounds n more) n
+round_goes more rest n h there =
+    sym (ap (λ l. control (rest ++ l) n) (rounds_with_data n more h)
+    ∙ one_more rest more n n (omega (arith, data_count-append rest (repeated n more), data_count-positive rest there, data_count-rounds n more h)))
 
-step_in : (more rest : Steps) (n : ℕ) → StepIsDue more n (control (rest ++ rounds n more) n) (next_in more (is_left n) rest)
-step_in more [] zero = ap (λ l. control l 0) (no_rounds more)
-step_in more [] (suc n) = at_the_end more n (has_data more) refl
+step_of_round : (more rest : Steps) (n : ℕ) → has_data more ≡ true → has_data rest ≡ true →
+    StepIsDue more n (control (rest ++ repeated n more) n) (unwrap_or (next_from (is_left n) rest) (done, ended))
+step_of_round more [] n h there = absurd (let no : false ≡ true = there in cc)
+step_of_round more (step.edit e ∷ rest) zero h there = refl
+step_of_round more (step.edit e ∷ rest) (suc n) h there = ap (λ l. gives (step.edit e) ∷ control (rest ++ l) n) (sym (rounds_with_data n more h))
+step_of_round more (step.colon ∷ rest) zero h there = refl
+step_of_round more (step.colon ∷ rest) (suc n) h there = step_of_round more rest (suc n) h there
+step_of_round more (step.string s ∷ rest) n h there = ap (λ l. gives (step.string s) ∷ l) (round_goes more rest n h there)
+step_of_round more (step.tab k ∷ rest) n h there = ap (λ l. gives (step.tab k) ∷ l) (round_goes more rest n h there)
+step_of_round more (step.left k ∷ rest) n h there = ap (λ l. gives (step.left k) ∷ l) (round_goes more rest n h there)
+step_of_round more (step.right k ∷ rest) n h there = ap (λ l. gives (step.right k) ∷ l) (round_goes more rest n h there)
+step_of_round more (step.slash ∷ rest) n h there = ap (λ l. gives step.slash ∷ l) (round_goes more rest n h there)
+step_of_round more (step.mode m ∷ rest) n h there = ap (λ l. gives (step.mode m) ∷ l) (round_goes more rest n h there)
+
+none_left : (more : Steps) (n : ℕ) → StepIsDue more n (control [] n) (next_none (is_left n))
+none_left more zero = refl
+none_left more (suc n) = refl
+
+at_the_end : (more : Steps) (n : ℕ) (b : Bool) → has_data more ≡ b → StepIsDue more n (control (rounds n more) n) (next_again more (is_left n))
+at_the_end more n true e =
+    let at = unwrap_or (next_from (is_left n) more) (done, ended) in
+    let next : next_again more (is_left n) ≡ at = ap (λ b. cond b at (next_none (is_left n))) e in
+    ap (λ l. control l n) (rounds_with_data n more e) ∙ step_of_round more more n e e
+    ∙ ap (λ (o : Given × Position). with_rest more n o.0 o.1) (sym next)
+at_the_end more n false e =
+    let at = unwrap_or (next_from (is_left n) more) (done, ended) in
+    let next : next_again more (is_left n) ≡ next_none (is_left n) = ap (λ b. cond b at (next_none (is_left n))) e in
+    ap (λ l. control l n) (rounds_without_data n more e) ∙ none_left more n ∙ ap (λ (o : Given × Position). with_rest more n o.0 o.1) (sym next)
+
+step_in : (more rest : Steps) (n : ℕ) → StepIsDue more n (control (rest ++ rounds n more) n) (unwrap_or (next_from (is_left n) rest) (next_again more (is_left n)))
+step_in more [] n = at_the_end more n (has_data more) refl
 step_in more (step.edit e ∷ rest) zero = refl
 step_in more (step.edit e ∷ rest) (suc n) = ap (λ l. gives (step.edit e) ∷ l) (fewer_rounds rest more n (has_data more) refl)
 step_in more (step.colon ∷ rest) zero = refl

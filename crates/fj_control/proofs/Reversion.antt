@@ -1,38 +1,14 @@
 -- What is used again at the end of a pass.
-use Rattle.std.proofs.Common.{ℕ, zero, suc, ◌+◌, ◌≡◌, ◌≤◌, ◌<◌, Bool, true, false, ◌||◌, cond, List, [], ◌∷◌, ◌++◌, length, take, drop, get_or, ◌-◌, length-drop, nat_lt, Option, Some, None, refl, sym, subst, ap, ◌∙◌, arith, add-one, unwrap_or}
-use Rattle.std.proofs.lemmas.Bool.Decides.{nat_tests}
+use Rattle.std.proofs.Common.{ℕ, zero, suc, ◌+◌, ◌≡◌, ◌≤◌, ◌<◌, Bool, true, false, ◌||◌, cond, List, [], ◌∷◌, ◌++◌, length, take, drop, get_or, ◌-◌, length-drop, Option, Some, None, refl, sym, subst, ap, ◌∙◌, arith, add-one, unwrap_or, append-nil}
 use Rattle.std.proofs.lemmas.List.{take_all}
-use Rattle.std.proofs.lemmas.List.Folds.{list_any-append}
 use Rattle.fj_format.specs.declared.item.FormatItem.{FormatItem, out-FormatItem}
 use Rattle.fj_format.specs.declared.item.FormatItem.TheVariants as item
 use Rattle.fj_format.specs.declared.item.FormatItem.TheOpen.{FormatItem-F}
 use Rattle.fj_format.specs.declared.item.FormatItem.TheFolds.{fold-FormatItem, fold_out-FormatItem, map-FormatItem}
-use Rattle.fj_format.specs.Unfolding.{Steps, repeated, pass, written_out, again, is_group, group_step, from_last_group, first_some, again_items, height, height_step}
-use Rattle.fj_format.proofs.UnfoldingLaws.{written_out-Group, is_group-Group}
-use Rattle.fj_control.specs.Steps.{is_data, has_data, parentheses_step, right_parentheses, RevertsToTheLastGroup, RevertsToTheStart}
+use Rattle.fj_format.specs.Unfolding.{repeated, pass, written_out, again, is_group, group_step, from_last_group, first_some, again_items, height, height_step}
+use Rattle.fj_format.proofs.UnfoldingLaws.{written_out-Group, written_out-Unlimited, is_group-Group, is_group-Unlimited}
+use Rattle.fj_control.specs.Steps.{parentheses_step, right_parentheses, RevertsToTheLastGroup, RevertsToTheStart}
 use Rattle.std.specs.List.{list_any}
-use Rattle.fj_control.proofs.Walks.{pass-drop}
-
-pub no_data_repeated : (n : ℕ) (s : Steps) → has_data s ≡ false → has_data (repeated n s) ≡ false
-no_data_repeated zero s h = refl
-no_data_repeated (suc n) s h = list_any-append is_data s (repeated n s) ∙ ap (λ b. b || has_data (repeated n s)) h ∙ no_data_repeated n s h
-
-pub data_repeated : (n : ℕ) (s : Steps) → 0 < n → has_data (repeated n s) ≡ has_data s
-data_repeated zero s h = absurd (omega arith)
-data_repeated (suc n) s h = list_any-append is_data s (repeated n s) ∙ by_case (has_data s) refl
-  where
-    by_case : (b : Bool) → has_data s ≡ b → (has_data s || has_data (repeated n s)) ≡ has_data s
-    by_case true e = rw e refl
-    by_case false e = ap (λ b. b || has_data (repeated n s)) e ∙ no_data_repeated n s e ∙ sym e
-
-pub group_data : (r : ℕ) (xs : List FormatItem) → 0 < r → has_data (written_out (item.Group r xs)) ≡ has_data (pass xs)
-group_data r xs h = ap has_data (written_out-Group r xs) ∙ data_repeated r (pass xs) h
-
-pub none_of_zero : (xs : List FormatItem) → has_data (written_out (item.Group 0 xs)) ≡ false
-none_of_zero xs = ap has_data (written_out-Group 0 xs)
-
-pub data_here : (i : ℕ) (xs : List FormatItem) (x : FormatItem) → i < length xs → x ≡ get_or xs i x → has_data (pass (drop i xs)) ≡ (has_data (written_out x) || has_data (pass (drop (i + 1) xs)))
-data_here i xs x lt e = ap has_data (pass-drop i xs x lt e) ∙ list_any-append is_data (written_out x) (pass (drop (i + 1) xs))
 
 drop_here : (i : ℕ) (xs : List FormatItem) (x : FormatItem) → i < length xs → x ≡ get_or xs i x → drop i xs ≡ x ∷ drop (suc i) xs
 drop_here zero [] x lt e = absurd (omega arith)
@@ -66,13 +42,6 @@ again_found i xs x p le e h g =
     let k : i ≡ (i - 1) + 1 = omega arith in
     take_all (length xs - (i - 1)) (drop (i - 1) xs) (omega (arith, length-drop (i - 1) xs))
     ∙ group_here (i - 1) xs x (omega arith) e (subst (λ n. from_last_group (drop n xs) ≡ None) k h) g
-
-above_zero : (r : ℕ) → nat_lt 0 (suc r) ≡ true
-above_zero r = grind (arith, nat_tests)
-
-pub field_data : (r : ℕ) (s : Steps) → has_data s ≡ true → nat_lt 0 r ≡ has_data (repeated r s)
-field_data zero s h = refl
-field_data (suc r) s h = above_zero r ∙ sym (data_repeated (suc r) s (omega arith) ∙ h)
 
 -- ---- heights
 
@@ -117,6 +86,7 @@ flat_layer (FormatItem-F.Skip n) h = refl
 flat_layer (FormatItem-F.Slash n) h = refl
 flat_layer FormatItem-F.Colon h = refl
 flat_layer (FormatItem-F.Mode m) h = refl
+flat_layer (FormatItem-F.Unlimited items) h = absurd (let z : true ≡ false = h in cc)
 
 -- no list is inside them
 pub flat : (xs : List FormatItem) → list_any is_group xs ≡ false → height xs ≡ 0
@@ -148,6 +118,12 @@ again_from_group front r xs tail h =
 pub again_from_start : (f : List FormatItem) → list_any is_group f ≡ false → again f ≡ pass f
 again_from_start f h = ap (λ o. pass (unwrap_or o f)) (none_found f h)
 
+-- the items of an unlimited item that stands last
+pub again_unlimited : (front inner : List FormatItem) → again (front ++ item.Unlimited inner ∷ []) ≡ pass inner
+again_unlimited front inner =
+    ap (λ o. pass (unwrap_or o (front ++ item.Unlimited inner ∷ []))) (last_at front (item.Unlimited inner) [] (is_group-Unlimited inner) refl)
+    ∙ append-nil (written_out (item.Unlimited inner)) ∙ written_out-Unlimited inner
+
 -- ---- an item without a right parenthesis is no group
 
 no_group_layer : (d : FormatItem-F FormatItem) → parentheses_step (map-FormatItem FormatItem ℕ (fold-FormatItem ℕ parentheses_step) d) ≡ 0 → group_step (map-FormatItem FormatItem Bool is_group d) ≡ false
@@ -161,6 +137,7 @@ no_group_layer (FormatItem-F.Skip n) h = refl
 no_group_layer (FormatItem-F.Slash n) h = refl
 no_group_layer FormatItem-F.Colon h = refl
 no_group_layer (FormatItem-F.Mode m) h = refl
+no_group_layer (FormatItem-F.Unlimited items) h = absurd (omega (arith, h))
 
 no_group : (x : FormatItem) → fold-FormatItem ℕ parentheses_step x ≡ 0 → is_group x ≡ false
 no_group x h = fold_out-FormatItem Bool group_step x ∙ no_group_layer (out-FormatItem x) (sym (fold_out-FormatItem ℕ parentheses_step x) ∙ h)

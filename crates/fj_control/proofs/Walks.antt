@@ -3,7 +3,8 @@ use Rattle.std.proofs.Common.{ℕ, zero, suc, ◌+◌, ◌-◌, ◌*◌, ◌≡�
 use Rattle.std.proofs.lemmas.List.{drop_all, length-append}
 use Rattle.fj_format.specs.declared.item.FormatItem.{FormatItem}
 use Rattle.fj_format.specs.Unfolding.{Elementary, Steps, repeated, pass, written_out, height, height_step, work, work_step}
-use Rattle.fj_format.proofs.UnfoldingLaws.{written_out-Group, height-Group, work-Group, work-positive}
+use Rattle.fj_format.proofs.UnfoldingLaws.{written_out-Group, written_out-Unlimited, height-Group, height-Unlimited, work-Group, work-Unlimited, work-positive}
+use Rattle.fj_format.proofs.DataLemmas.{pass-drop}
 use Rattle.fj_format.specs.declared.item.FormatItem.TheVariants as item
 use Rattle.fj_control.specs.declared.walker.Repeat.{Repeat}
 use Rattle.fj_format.specs.declared.item.FormatItem.TheFolds.{fold-FormatItem}
@@ -32,12 +33,6 @@ HaveRoom-front most n (g ∷ gs) f h = let k = HaveRoom-front most (suc n) gs f 
 
 -- ---- one list
 
-pass-drop_suc : (at : ℕ) (xs : List FormatItem) (x : FormatItem) → at < length xs → x ≡ get_or xs at x → pass (drop at xs) ≡ written_out x ++ pass (drop (suc at) xs)
-pass-drop_suc zero [] x h e = absurd (omega arith)
-pass-drop_suc zero (y ∷ xs) x h e = ap (λ z. written_out z ++ pass xs) (sym e)
-pass-drop_suc (suc n) [] x h e = absurd (omega arith)
-pass-drop_suc (suc n) (y ∷ xs) x h e = pass-drop_suc n xs x (omega arith) e
-
 work-drop_suc : (at : ℕ) (xs : List FormatItem) (x : FormatItem) → at < length xs → x ≡ get_or xs at x → work (drop at xs) ≡ fold-FormatItem ℕ work_step x + work (drop (suc at) xs)
 work-drop_suc zero [] x h e = absurd (omega arith)
 work-drop_suc zero (y ∷ xs) x h e = ap (λ z. fold-FormatItem ℕ work_step z + work xs) (sym e)
@@ -49,9 +44,6 @@ height-at zero [] x h e = absurd (omega arith)
 height-at zero (y ∷ xs) x h e = let k : fold-FormatItem ℕ height_step x ≡ fold-FormatItem ℕ height_step y = ap (fold-FormatItem ℕ height_step) e in omega arith
 height-at (suc n) [] x h e = absurd (omega arith)
 height-at (suc n) (y ∷ xs) x h e = let k : fold-FormatItem ℕ height_step x ≤ height xs = height-at n xs x (omega arith) e in omega arith
-
-pub pass-drop : (at : ℕ) (xs : List FormatItem) (x : FormatItem) → at < length xs → x ≡ get_or xs at x → pass (drop at xs) ≡ written_out x ++ pass (drop (at + 1) xs)
-pass-drop at xs x h e = subst (λ n. pass (drop at xs) ≡ written_out x ++ pass (drop n xs)) (sym (add-one at)) (pass-drop_suc at xs x h e)
 
 pub work-drop : (at : ℕ) (xs : List FormatItem) (x : FormatItem) → at < length xs → x ≡ get_or xs at x → work (drop at xs) ≡ fold-FormatItem ℕ work_step x + work (drop (at + 1) xs)
 work-drop at xs x h e = subst (λ n. work (drop at xs) ≡ fold-FormatItem ℕ work_step x + work (drop n xs)) (sym (add-one at)) (work-drop_suc at xs x h e)
@@ -136,6 +128,22 @@ pub group_moved : (w w' : Walker) (x : FormatItem) (r : ℕ) (xs : List FormatIt
 group_moved w w' x r xs h k a b = (
   a ∙ ap (λ l. repeated r (pass xs) ++ l) (rest_at_item (behind w) h.times) ∙ sym (rest_at w x h ∙ ap (λ l. l ++ in_order (behind w).top (stack w)) (ap written_out k ∙ written_out-Group r xs)),
   (let e : fold-FormatItem ℕ work_step x ≡ 1 + r * (work xs + 1) = ap (fold-FormatItem ℕ work_step) k ∙ work-Group r xs in
+      let f = work_at w x h in omega (arith, e, f, b)),
+)
+
+-- the unlimited item is walked as a group that stands once
+pub unlimited_room : (w : Walker) (x : FormatItem) (xs : List FormatItem) → IsSound w → IsAt w x → x ≡ item.Unlimited xs → (length (stack w) + 1) + height xs ≤ vec_capacity w.outer
+unlimited_room w x xs s h k =
+    let e : fold-FormatItem ℕ height_step x ≡ height xs + 1 = ap (fold-FormatItem ℕ height_step) k ∙ height-Unlimited xs in
+    omega (arith, s.top, height-at w.top.at w.top.items.now x h.within h.here)
+
+pub unlimited_moved : (w w' : Walker) (x : FormatItem) (xs : List FormatItem) → IsAt w x → x ≡ item.Unlimited xs →
+    rest_of w' ≡ repeated 1 (pass xs) ++ rest_of (behind w) → work_of w' ≤ 1 * (work xs + 1) + work_of (behind w) →
+    (rest_of w' ≡ rest_of w) × (work_of w' < work_of w)
+unlimited_moved w w' x xs h k a b = (
+  a ∙ ap (λ l. (l ++ rest_of (behind w))) (append-nil (pass xs)) ∙ ap (λ l. pass xs ++ l) (rest_at_item (behind w) h.times)
+      ∙ sym (rest_at w x h ∙ ap (λ l. l ++ in_order (behind w).top (stack w)) (ap written_out k ∙ written_out-Unlimited xs)),
+  (let e : fold-FormatItem ℕ work_step x ≡ 1 + (work xs + 1) = ap (fold-FormatItem ℕ work_step) k ∙ work-Unlimited xs in
       let f = work_at w x h in omega (arith, e, f, b)),
 )
 

@@ -1,11 +1,11 @@
 -- A walk of a format, step by step, which is what contracts see of a cursor.
-use Rattle.std.specs.Prelude.{ℕ, zero, suc, ◌≡◌, ◌↔◌, Bool, true, false, if◌then◌else◌, List, [], ◌∷◌, ◌++◌}
+use Rattle.std.specs.Prelude.{ℕ, zero, suc, ◌≡◌, ◌↔◌, Bool, true, false, if◌then◌else◌, List, [], ◌∷◌, ◌++◌, Option, Some, None, unwrap_or}
 use Rattle.fj_format.specs.declared.item.FormatItem.{FormatItem}
 use Rattle.fj_format.specs.Unfolding as step
-use Rattle.fj_format.specs.Unfolding.{Steps, pass, again}
+use Rattle.fj_format.specs.Unfolding.{Steps, pass, has_data}
 use Rattle.fj_control.specs.declared.step.Step.{Step}
 use Rattle.fj_control.specs.declared.step.Step.TheVariants as told
-use Rattle.fj_control.specs.Steps.{Given, gives, done, no_data, control, has_data, rounds, steps}
+use Rattle.fj_control.specs.Steps.{Given, gives, done, no_data, control, round, rounds, steps}
 
 -- what the pass at hand has still to give, or how control ended
 pub data Position : Type 0 where
@@ -13,14 +13,14 @@ pub data Position : Type 0 where
   ended : Position
   lacking : Position
 
--- a walk, with the steps that are used again at the end of a pass
+-- a walk, with what follows the end of a pass
 pub record Walk : Type 0 where
   pub at : Position
   pub again : Steps
 
 -- the walk of a format that begins
 abbrev pub begun : List FormatItem → Walk
-begun f = record { at = walking (pass f); again = again f }
+begun f = record { at = walking (pass f); again = round f }
 
 -- a step as a value
 abbrev pub given : Step → Given
@@ -36,15 +36,23 @@ given told.NoData = no_data
 
 -- ---- one step
 
--- what comes next where the pass has this still to give, and how the walk goes on
-abbrev pub next_in : Steps → Bool → Steps → Given × Position
-next_in more left [] = if left then (if has_data more then (gives step.slash, walking more) else (no_data, lacking)) else (done, ended)
-next_in more left (step.edit e ∷ rest) = if left then (gives (step.edit e), walking rest) else (done, ended)
-next_in more left (step.colon ∷ rest) = if left then next_in more left rest else (done, ended)
-next_in more left (x ∷ rest) = (gives x, walking rest)
+-- what comes next where this is still to be given, and how the walk goes on; none at its end
+abbrev pub next_from : Bool → Steps → Option (Given × Position)
+next_from left [] = None
+next_from left (step.edit e ∷ rest) = Some (if left then (gives (step.edit e), walking rest) else (done, ended))
+next_from left (step.colon ∷ rest) = if left then next_from left rest else Some (done, ended)
+next_from left (x ∷ rest) = Some (gives x, walking rest)
+
+-- where there is nothing to go on with
+abbrev pub next_none : Bool → Given × Position
+next_none left = if left then (no_data, lacking) else (done, ended)
+
+-- behind the end of a pass
+abbrev pub next_again : Steps → Bool → Given × Position
+next_again more left = if has_data more then unwrap_or (next_from left more) (done, ended) else next_none left
 
 abbrev pub next_at : Steps → Bool → Position → Given × Position
-next_at more left (walking rest) = next_in more left rest
+next_at more left (walking rest) = unwrap_or (next_from left rest) (next_again more left)
 next_at more left ended = (done, ended)
 next_at more left lacking = (no_data, lacking)
 

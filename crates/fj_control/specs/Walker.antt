@@ -11,7 +11,7 @@ use Rattle.fj_control.specs.declared.walker.Walked.TheVariants.{Gave, Stopped, E
 use Rattle.fj_control.specs.declared.walker.Piece.{Piece}
 use Rattle.fj_control.specs.declared.walker.Piece.TheVariants as piece
 use Rattle.fj_control.specs.Steps.{done}
-use Rattle.fj_control.specs.Walk.{given, walking, ended, next_in}
+use Rattle.fj_control.specs.Walk.{given, walking, ended, next_from}
 
 abbrev pub step_of : Piece → Elementary
 step_of (piece.Edit e) = step.edit e
@@ -84,8 +84,8 @@ pub record Moved (w w' : Walker) : Type 0 where
   pub times : w'.times ≡ 0
   pub room : KeepsRoom w w'
 
--- the walk gave a step, stopped, or came to the end of the list, whatever is used again there
+-- the walk gave a step, stopped, or came to the end of the list
 abbrev pub CameTo : Bool → Steps → Walked → Steps → Type 0
-CameTo left old (Gave s) new = (more : Steps) → next_in more left old ≡ (given s, walking new)
-CameTo left old Stopped new = (more : Steps) → next_in more left old ≡ (done, ended)
-CameTo left old Ended new = (more : Steps) → next_in more left old ≡ next_in more left []
+CameTo left old (Gave s) new = next_from left old ≡ Some (given s, walking new)
+CameTo left old Stopped new = next_from left old ≡ Some (done, ended)
+CameTo left old Ended new = next_from left old ≡ None

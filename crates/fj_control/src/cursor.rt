@@ -2,14 +2,14 @@
 ghost use Rattle.std.specs.Prelude.{◌≡◌, ℕ, ◌-◌, ◌≤◌, ◌++◌, false, replicate, IfSome, IfNone, IfOk, IsOk};
 ghost use Rattle.std.specs.List.{list_any};
 ghost use Rattle.fj_value.specs.declared.edit.Edit.{Edit};
-ghost use Rattle.fj_format.specs.Unfolding.{again, edit, is_group};
-ghost use Rattle.fj_control.specs.Steps.{steps, gives, RoundsAreEnough, RevertsToTheLastGroup, RevertsToTheStart};
-ghost use Rattle.fj_control.specs.Walk.{begun, given, due, next_of, GivesWhatIsDue, GivesTheSteps};
+ghost use Rattle.fj_format.specs.Unfolding.{edit, is_group};
+ghost use Rattle.fj_control.specs.Steps.{steps, gives, RoundsAreEnough, RevertsToTheLastGroup, RevertsToTheStart, GoesOnInTheRecord};
+ghost use Rattle.fj_control.specs.Walk.{begun, given, due, next_of, next_again, GivesWhatIsDue, GivesTheSteps};
 
-use crate::again::{again_of, have_data};
+use crate::again::{again_of, is_endless};
 use crate::step::Step;
 use crate::walker::{Walked, Walker};
-use fj_format::{Format, FormatItem};
+use fj_format::{Format, FormatItem, have_data};
 use fj_value::Edit;
 use std::alloc::{AllocError, Global};
 use std::marker::Model;
@@ -27,6 +27,8 @@ pub struct Cursor<'a> {
     walker: Walker<'a>,
     /// The items that are used again at the end of a pass.
     again: &'a [FormatItem],
+    /// Whether they are used in the same record, as those of an unlimited item are.
+    endless: bool,
     /// Whether these have a data descriptor.
     has_data: bool,
     state: State,
@@ -56,6 +58,7 @@ impl<'a> Cursor<'a> {
         Ok(Cursor {
             walker: Walker::new(alloc, items)?,
             again,
+            endless: is_endless(items),
             has_data: have_data(again),
             state: State::Walking,
         })
@@ -98,20 +101,43 @@ impl<'a> Cursor<'a> {
                     self.state = State::Done;
                     Step::Done
                 }
-                Walked::Ended => {
-                    if !left {
-                        self.state = State::Done;
-                        return Step::Done;
-                    }
-                    if !self.has_data {
-                        self.state = State::NoData;
-                        return Step::NoData;
-                    }
-                    self.walker.restart(self.again);
-                    Step::Slash
-                }
+                Walked::Ended => self.go_on(left),
             },
         }
+    }
+
+    /// Goes on behind the end of a pass.
+    fn go_on(&mut self, left: bool) -> Step<'a>
+        ensures given { given result ≡ (next_again self.old.again left).0 }
+        ensures at { self.new.at ≡ (next_again self.old.again left).1 }
+        ensures again { self.new.again ≡ self.old.again }
+    {
+        if !self.has_data {
+            if left {
+                self.state = State::NoData;
+                return Step::NoData;
+            }
+            self.state = State::Done;
+            return Step::Done;
+        }
+        if self.endless {
+            self.state = State::Walking;
+            self.walker.restart(self.again);
+            return match self.walker.walk(left) {
+                Walked::Gave(step) => step,
+                Walked::Stopped | Walked::Ended => {
+                    self.state = State::Done;
+                    Step::Done
+                }
+            };
+        }
+        if !left {
+            self.state = State::Done;
+            return Step::Done;
+        }
+        self.state = State::Walking;
+        self.walker.restart(self.again);
+        Step::Slash
     }
 }
 
@@ -127,4 +153,10 @@ pub fn gives_the_steps()
 pub fn reverts_to_the_last_group()
     ensures group { RevertsToTheLastGroup }
     ensures start { RevertsToTheStart }
+{}
+
+/// Behind an unlimited item control goes on at its first item, in the same record, and ends at a data descriptor or a colon
+/// with no item left (ISO/IEC 1539-1:2010, 10.4).
+pub fn goes_on_in_the_record()
+    ensures { GoesOnInTheRecord }
 {}

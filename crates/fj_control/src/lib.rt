@@ -7,7 +7,7 @@ mod modes;
 mod step;
 mod walker;
 
-pub use cursor::{Cursor, gives_the_steps, reverts_to_the_last_group};
+pub use cursor::{Cursor, gives_the_steps, goes_on_in_the_record, reverts_to_the_last_group};
 pub use fj_line::{Line, Move};
 pub use modes::modes_behind;
 pub use step::Step;

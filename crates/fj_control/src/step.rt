@@ -2,8 +2,8 @@
 use fj_format::ModeStep;
 use fj_value::Edit;
 
-/// A step of format control (ISO/IEC 1539-1:2004, 10.3). `nX` is given as `Right`, and the end of the format as `Slash`
-/// where an item is left.
+/// A step of format control (ISO/IEC 1539-1:2004, 10.3). `nX` is given as `Right`, and the end of a format without an
+/// unlimited item as `Slash` where an item is left.
 #[derive(Clone, Copy, PartialEq, Eq)]
 pub enum Step<'a> {
     /// The next item is edited by this descriptor.

@@ -182,6 +182,10 @@ impl<'a> Walker<'a> {
                 self.group(*r, items.as_slice());
                 None
             }
+            FormatItem::Unlimited { items } => {
+                self.group(1, items.as_slice());
+                None
+            }
             FormatItem::Str(text) => Some(Piece::Str(text.bytes())),
             FormatItem::Tab(n) => Some(Piece::Tab(*n)),
             FormatItem::Left(n) => Some(Piece::Left(*n)),

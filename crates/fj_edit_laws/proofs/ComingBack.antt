@@ -174,6 +174,11 @@ text_in_width : (w : ℕ) (text : List ℕ) → length text ≤ w → characters
 text_in_width w text wide =
     ap (λ t. characters_read (length text) (replicate {A = ℕ} (w - length text) 32 ++ t)) (take_all w text wide) ∙ behind_blanks (w - length text) text
 
+-- under G0 without a width
+text_in_some_width : (b : Bool) (w : ℕ) (text : List ℕ) → length text ≤ w → characters_read (length text) (text_field (cond b None (Some w)) text) ≡ text
+text_in_some_width true w text wide = text_alone text
+text_in_some_width false w text wide = text_in_width w text wide
+
 field_of-none : {D V : Type 0} (write : D → V → List ℕ) (d : Option D) → field_of write d None ≡ None
 field_of-none write None = refl
 field_of-none write (Some d) = refl
@@ -186,7 +191,7 @@ characters_back (edit.Chars (Some w)) text plus blank_zero field wide written =
     let same : text_field (Some w) text ≡ field = cc in
     ap (λ t. Ok (value.Chars (characters_read (length text) t))) (sym same) ∙ ap (λ t. Ok (value.Chars t)) (text_in_width w text (wide w refl))
 characters_back (edit.General w d) text plus blank_zero field wide written =
-    let same : text_field (Some w) text ≡ field = cc in
-    ap (λ t. Ok (value.Chars (characters_read (length text) t))) (sym same) ∙ ap (λ t. Ok (value.Chars t)) (text_in_width w text (wide w refl))
+    let same : text_field (cond (eqb w 0) None (Some w)) text ≡ field = cc in
+    ap (λ t. Ok (value.Chars (characters_read (length text) t))) (sym same) ∙ ap (λ t. Ok (value.Chars t)) (text_in_some_width (eqb w 0) w text (wide w refl))
 characters_back (edit.Bits base w m) text plus blank_zero field wide written = let none = field_of-none bits_field (bits_widths (edit.Bits base w m)) in cc
 characters_back _ text plus blank_zero field wide written = cc

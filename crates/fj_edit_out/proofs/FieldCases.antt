@@ -18,8 +18,11 @@ pub record AreRight : Type 0 where
   pub cut : output_field (edit.Chars (Some 2)) (value.Chars (codes "abc")) (Chars 3) false ≡ Some (codes "ab")
   pub moved : output_field (edit.General 5 1) (value.Chars (codes "abc")) (Chars 3) false ≡ Some (codes "  abc")
   pub logical : output_field (edit.Log 3) (value.Log false) Logical false ≡ Some (codes "  F")
+  pub general : output_field (edit.General 0 0) (value.Int (negsuc 6)) Int4 false ≡ Some (codes "-7")
+  pub general_logical : output_field (edit.General 0 0) (value.Log true) Logical false ≡ Some (codes "T")
+  pub general_text : output_field (edit.General 0 0) (value.Chars (codes "ab")) (Chars 2) false ≡ Some (codes "ab")
   pub undefined : output_field (edit.Int 4 None) value.Undefined Int4 false ≡ None
 
 pub are_right : AreRight
 unfolding numeral twos_complement
-are_right = record { plus = refl; minus = refl; no_digits = refl; too_long = refl; octal = refl; hexadecimal = refl; cut = refl; moved = refl; logical = refl; undefined = refl }
+are_right = record { plus = refl; minus = refl; no_digits = refl; too_long = refl; octal = refl; hexadecimal = refl; cut = refl; moved = refl; logical = refl; general = refl; general_logical = refl; general_text = refl; undefined = refl }

@@ -1,5 +1,5 @@
 -- The reader's step leads to what was left to be read before it.
-use Rattle.std.proofs.Common.{ℕ, suc, ◌+◌, ◌*◌, ◌≡◌, ◌<◌, ◌≤◌, Bool, true, false, List, [], ◌∷◌, ◌++◌, length, Option, Some, None, inl, inr, refl, sym, subst, arith, append_assoc, append-nil, nat_lt, nat_le}
+use Rattle.std.proofs.Common.{ℕ, suc, ◌+◌, ◌*◌, ◌≡◌, ◌<◌, ◌≤◌, Bool, true, false, List, [], ◌∷◌, ◌++◌, length, Option, Some, None, inl, inr, refl, sym, subst, arith, append_assoc, append-nil, nat_lt, nat_le, eqb, lit≤}
 use Rattle.fj_value.specs.declared.edit.Edit.TheVariants.{Log, Chars, General}
 use Rattle.fj_format.specs.declared.item.ModeStep.TheVariants as step
 use Rattle.fj_format.specs.declared.item.FormatItem.{FormatItem}
@@ -17,13 +17,14 @@ use Rattle.fj_format.specs.declared.place.Place.TheVariants as place
 use Rattle.fj_format.specs.declared.symbol.Letter.{Letter}
 use Rattle.fj_format.specs.declared.symbol.Letter.TheVariants.{A, B, C, D, E, G, I, L, N, O, P, R, S, T, X, Z}
 use Rattle.fj_format.specs.declared.symbol.Symbol.{Symbol}
-use Rattle.fj_format.specs.declared.symbol.Symbol.TheVariants.{Digit, Open, Close, Comma, Point, Slash, Colon}
+use Rattle.fj_format.specs.declared.symbol.Symbol.TheVariants.{Digit, Open, Close, Comma, Point, Slash, Colon, Star}
 use Rattle.fj_format.specs.declared.symbol.Symbol.TheVariants as character
 use Rattle.fj_format.specs.Marks.{Marks, symbol, string}
-use Rattle.fj_format.specs.Grammar.{stop, digit, Number, number, times, letter, radix_letter, integer_edit, moved, no_least, least, no_width, width, no_exponent, exponent, sign_usual, sign_plus, sign_suppress, blank_null, blank_zero, decimal_comma, decimal_point, turn_to, turn_left, turn_right, Separator, comma, behind_free, before_slash, before_colon, plain, counted, integer, logical, characters, general, tab, skip, slash, colon, sign_mode, blank_mode, decimal_mode, quoted, group, items, none, one}
-use Rattle.fj_format.specs.Reading.{smallest, greatest, at, alone, grown, opens, closed, by_letter, body, start, between, ended, behind_width, behind_decimals, behind, blank_letter, tab_letter, instead_of_width, instead, sign_letter, decimal_letter, next_at, takes_text}
-use Rattle.fj_format.proofs.Choices.{either, less, not_less}
-use Rattle.fj_format.proofs.Rest.{Closes, After, Want, WantBody, BehindNumber, InDigits, InNumber, InBlank, InSign, InDecimal, InTurn, AloneBlank, Instead, Rest, Moves}
+use Rattle.fj_format.specs.Grammar.{stop, digit, Number, number, times, letter, radix_letter, integer_edit, moved, no_least, least, no_width, width, no_exponent, exponent, sign_usual, sign_plus, sign_suppress, blank_null, blank_zero, decimal_comma, decimal_point, turn_to, turn_left, turn_right, Separator, comma, behind_free, before_slash, before_colon, Item, Items, plain, counted, integer, logical, characters, general, general_alone, tab, skip, slash, colon, sign_mode, blank_mode, decimal_mode, quoted, group, items, unlimited, none, some}
+use Rattle.fj_format.specs.Unfolding.{pass, has_data}
+use Rattle.fj_format.specs.Reading.{smallest, greatest, at, alone, grown, opens, closed_as, closed, closing, stars, starred, by_letter, body, start, between, ended, decimals_at, behind_general, behind_width, behind_decimals, behind, blank_letter, tab_letter, instead_of_width, instead, sign_letter, decimal_letter, next_at, takes_text}
+use Rattle.fj_format.proofs.Choices.{either, less, not_less, is_zero, not_zero}
+use Rattle.fj_format.proofs.Rest.{Ends, Closes, ClosesAs, After, Want, WantBody, BehindGeneral, BehindWidth, BehindNumber, InDigits, InNumber, InBlank, InSign, InDecimal, InTurn, InStar, AloneBlank, Instead, Rest, Moves}
 
 -- the numbers stay within their limits
 abbrev pub IsValid : Place → Type 0
@@ -77,15 +78,34 @@ characters_back ls xs k t f (inl i) =
     record { item = item.Field (times k) (Chars (Some i.value)); free = false; rest = i.rest; reads = characters (width i.reads); after = i.behind }
 characters_back ls xs k t f (inr a) = record { item = item.Field (times k) (Chars None); free = false; rest = t; reads = characters no_width; after = a }
 
+narrowed : (greatest n : ℕ) (t u : Marks) → 1 ≤ n → Number 0 greatest n t u → Number 1 greatest n t u
+narrowed greatest n _ u positive (number d more enough within) = number d more positive within
+
+zeroed : (greatest n : ℕ) (t u : Marks) → n ≡ 0 → Number 0 greatest n t u → Number 0 0 0 t u
+zeroed greatest n t u is reads = alone_zero greatest t u (subst (λ m. Number 0 greatest m t u) is reads)
+  where
+    alone_zero : (greatest : ℕ) (t u : Marks) → Number 0 greatest 0 t u → Number 0 0 0 t u
+    alone_zero greatest _ u (number d more enough within) = number d more (lit≤ tt) (lit≤ tt)
+
 general_back : (ls : List Level) (xs : List FormatItem) (k : Option ℕ) (t : Marks) (f : List FormatItem) →
     InNumber (purpose.Width k Generalized) ls xs t f → WantBody ls xs k (letter G ∷ t) f
-general_back ls xs k t f i = record {
-  item = item.Field (times k) (General i.value i.behind.d);
-  free = false;
-  rest = i.behind.rest;
-  reads = general (subst (λ l. Number 1 65536 i.value t l) i.behind.point i.reads) i.behind.reads i.behind.exponent;
-  after = i.behind.after;
-}
+general_back ls xs k t f i = by_width i.value i.rest i.reads i.behind
+  where
+    by_width : (w : ℕ) (v : Marks) → Number 0 65536 w t v → BehindWidth Generalized k w ls xs v f → WantBody ls xs k (letter G ∷ t) f
+    by_width w v reads (inl b) = record {
+      item = item.Field (times k) (General w b.1.d);
+      free = false;
+      rest = b.1.rest;
+      reads = general (subst (λ l. Number 1 65536 w t l) b.1.point (narrowed 65536 w t v b.0 reads)) b.1.reads b.1.exponent;
+      after = b.1.after;
+    }
+    by_width w v reads (inr b) = record {
+      item = item.Field (times k) (General 0 0);
+      free = false;
+      rest = v;
+      reads = general_alone (zeroed 65536 w t v b.0 reads);
+      after = subst (λ n. After ls (xs ++ item.Field (times k) (General n 0) ∷ []) false v f) b.0 b.1;
+    }
 
 letter_back : (ls : List Level) (xs : List FormatItem) (k : Option ℕ) (l : Letter) (t : Marks) (f : List FormatItem) →
     Moves (by_letter ls xs k l) t f → WantBody ls xs k (letter l ∷ t) f
@@ -118,14 +138,14 @@ group_back : (ls : List Level) (xs : List FormatItem) (k : Option ℕ) (t : Mark
 group_back ls xs k t f h =
     elim (either (λ o. Moves o t f) (nat_lt (length ls) 31) _ _ h) [
       | inl p ↦
-          let w : Want (record { r = times k; items = xs } ∷ ls) [] t f = p.1 in
+          let w : Want (record { r = Some (times k); items = xs } ∷ ls) [] t f = p.1 in
           let deep : suc (length ls) < 32 = (let l : length ls < 31 = less (length ls) 31 p.0 in omega arith) in
           record {
-            item = item.Group (times k) (w.item ∷ w.after.more);
+            item = item.Group (times k) w.items;
             free = false;
-            rest = w.after.rest;
-            reads = group deep (items w.reads w.after.reads);
-            after = record { more = w.after.closes.0; rest = w.after.closes.1; reads = w.after.closes.2; closes = w.after.closes.3 };
+            rest = w.rest;
+            reads = group deep w.reads;
+            after = record { more = w.closes.0; rest = w.closes.1; reads = w.closes.2; closes = w.closes.3 };
           }
       | inr p ↦ absurd p.1
     ]
@@ -138,27 +158,53 @@ body_back ls xs k Open t f h = group_back ls xs k t f h
 body_back ls xs k Colon t f h = colon_back ls xs k t f h
 body_back ls xs k _ t f h = absurd h
 
+want_of : (ls : List Level) (xs : List FormatItem) (x : FormatItem) (free : Bool) (t rest : Marks) (f : List FormatItem) →
+    Item (suc (length ls)) x free t rest → After ls (xs ++ x ∷ []) free rest f → Want ls xs t f
+want_of ls xs x free t rest f i after = record {
+  items = x ∷ after.more;
+  rest = after.rest;
+  reads = items i after.reads;
+  closes = subst (λ ys. Closes ls ys after.rest f) (append_assoc xs (x ∷ []) after.more) after.closes;
+}
+
 plain_back : (ls : List Level) (xs : List FormatItem) (t : Marks) (f : List FormatItem) → WantBody ls xs None t f → Want ls xs t f
-plain_back ls xs t f b = record { item = b.item; free = b.free; rest = b.rest; reads = plain b.reads; after = b.after }
+plain_back ls xs t f b = want_of ls xs b.item b.free t b.rest f (plain b.reads) b.after
+
+-- the unlimited item stands in the outermost parentheses
+last_closes : (ls : List Level) (xs : List FormatItem) (v : Marks) (f : List FormatItem) → length ls ≡ 0 → f ≡ xs → Closes ls xs v f
+last_closes [] xs v f top is = is
+last_closes (l ∷ ls) xs v f top is = absurd (omega arith)
+
+star_back : (ls : List Level) (xs : List FormatItem) (t : Marks) (f : List FormatItem) → length ls ≡ 0 → InStar ls xs t f → Want ls xs (symbol Star ∷ t) f
+star_back ls xs t f top i = record {
+  items = item.Unlimited i.inner ∷ [];
+  rest = i.rest;
+  reads = subst (λ l. Items (suc (length ls)) (item.Unlimited i.inner ∷ []) (symbol Star ∷ l) (symbol Close ∷ i.rest)) (sym i.opens) (unlimited (omega arith) i.reads i.data_there);
+  closes = last_closes ls (xs ++ item.Unlimited i.inner ∷ []) i.rest f top i.is;
+}
+
+stars_back : (ls : List Level) (xs : List FormatItem) (t : Marks) (f : List FormatItem) → Moves (stars ls xs) t f → Want ls xs (symbol Star ∷ t) f
+stars_back ls xs t f h =
+    elim (either (λ o. Moves o t f) (eqb (length ls) 0) _ _ h) [ inl e ↦ star_back ls xs t f (is_zero (length ls) e.0) e.1 | inr e ↦ absurd e.1 ]
 
 start_back : (ls : List Level) (xs : List FormatItem) (s : Symbol) (t : Marks) (f : List FormatItem) →
     Moves (start ls xs s) t f → Want ls xs (symbol s ∷ t) f
 start_back ls xs (Digit d) t f h =
     let i = first_back purpose.Count d ls xs t f h in
-    record { item = i.behind.item; free = i.behind.free; rest = i.behind.rest; reads = counted i.reads i.behind.reads; after = i.behind.after }
+    want_of ls xs i.behind.item i.behind.free (symbol (Digit d) ∷ t) i.behind.rest f (counted i.reads i.behind.reads) i.behind.after
+start_back ls xs Star t f h = stars_back ls xs t f h
 start_back ls xs s t f h = plain_back ls xs (symbol s ∷ t) f (body_back ls xs None s t f h)
 
 closed_back : (ls : List Level) (xs : List FormatItem) (t : Marks) (f : List FormatItem) → Moves (closed ls xs) t f → Closes ls xs t f
 closed_back [] xs t f c = c
-closed_back (l ∷ ls) xs t f a = (a.more, a.rest, a.reads, a.closes)
+closed_back (l ∷ ls) xs t f h = by_count l.r ls l.items xs t f h
+  where
+    by_count : (r : Option ℕ) (ls : List Level) (before xs : List FormatItem) (t : Marks) (f : List FormatItem) → Moves (closed_as r ls before xs) t f → ClosesAs r ls before xs t f
+    by_count (Some r) ls before xs t f a = (a.more, a.rest, a.reads, a.closes)
+    by_count None ls before xs t f h = elim (either (λ o. Moves o t f) (has_data (pass xs)) _ _ h) [ inl e ↦ e | inr e ↦ absurd e.1 ]
 
 more_back : (ls : List Level) (xs : List FormatItem) (before : Bool) (t u : Marks) (f : List FormatItem) → Separator before t u → Want ls xs u f → After ls xs before t f
-more_back ls xs before t u f s w = record {
-  more = w.item ∷ w.after.more;
-  rest = w.after.rest;
-  reads = one s w.reads w.after.reads;
-  closes = subst (λ ys. Closes ls ys w.after.rest f) (append_assoc xs (w.item ∷ []) w.after.more) w.after.closes;
-}
+more_back ls xs before t u f s w = record { more = w.items; rest = w.rest; reads = some s w.reads; closes = w.closes }
 
 between_back : (ls : List Level) (xs : List FormatItem) (before : Bool) (s : Symbol) (t : Marks) (f : List FormatItem) →
     Moves (between before ls xs s) t f → After ls xs before (symbol s ∷ t) f
@@ -181,6 +227,21 @@ point_back : (k : Option ℕ) (x : Radix) (w : ℕ) (ls : List Level) (xs : List
 point_back k x w ls xs t f (inl i) = record { m = Some i.value; rest = i.rest; reads = least i.reads; after = i.behind }
 point_back k x w ls xs t f (inr i) = absurd i
 
+decimals_at_back : (k : Option ℕ) (n : ℕ) (ls : List Level) (xs : List FormatItem) (s : Symbol) (t : Marks) (f : List FormatItem) →
+    Moves (decimals_at (times k) n ls xs s) t f → BehindGeneral k n ls xs (symbol s ∷ t) f
+decimals_at_back k n ls xs Point t f (inl i) =
+    record { d = i.value; digits = t; letter = i.rest; rest = i.behind.rest; point = refl; reads = i.reads; exponent = i.behind.exponent; after = i.behind.after }
+decimals_at_back k n ls xs Point t f (inr i) = absurd i
+decimals_at_back k n ls xs _ t f h = absurd h
+
+general_width_back : (k : Option ℕ) (n : ℕ) (ls : List Level) (xs : List FormatItem) (s : Symbol) (t : Marks) (f : List FormatItem) →
+    Moves (behind_general (times k) n ls xs s) t f → BehindWidth Generalized k n ls xs (symbol s ∷ t) f
+general_width_back k n ls xs s t f h =
+    elim (either (λ o. Moves o t f) (eqb n 0) _ _ h) [
+      | inl e ↦ inr (is_zero n e.0, ended_back ls xs (item.Field (times k) (General n 0)) s t f e.1)
+      | inr e ↦ inl (not_zero n e.0, decimals_at_back k n ls xs s t f e.1)
+    ]
+
 width_back : (kind : FieldKind) (k : Option ℕ) (n : ℕ) (ls : List Level) (xs : List FormatItem) (s : Symbol) (t : Marks) (f : List FormatItem) →
     Moves (behind_width k kind n ls xs s) t f → BehindNumber (purpose.Width k kind) n ls xs (symbol s ∷ t) f
 width_back (Integer x) k n ls xs Point t f h = point_back k x n ls xs t f h
@@ -188,10 +249,7 @@ width_back (Integer x) k n ls xs s t f h =
     record { m = None; rest = symbol s ∷ t; reads = no_least; after = ended_back ls xs (item.Field (times k) (integer_edit x n None)) s t f h }
 width_back Logical k n ls xs s t f h = ended_back ls xs (item.Field (times k) (Log n)) s t f h
 width_back Characters k n ls xs s t f h = ended_back ls xs (item.Field (times k) (Chars (Some n))) s t f h
-width_back Generalized k n ls xs Point t f (inl i) =
-    record { d = i.value; digits = t; letter = i.rest; rest = i.behind.rest; point = refl; reads = i.reads; exponent = i.behind.exponent; after = i.behind.after }
-width_back Generalized k n ls xs Point t f (inr i) = absurd i
-width_back Generalized k n ls xs _ t f h = absurd h
+width_back Generalized k n ls xs s t f h = general_width_back k n ls xs s t f h
 
 exponent_back : (r w d : ℕ) (ls : List Level) (xs : List FormatItem) (t : Marks) (f : List FormatItem) →
     Rest (place.First (purpose.ExponentDigits r w d)) ls xs t f → BehindNumber (purpose.Decimals r w) d ls xs (letter E ∷ t) f
@@ -285,6 +343,23 @@ begin_back : (ls : List Level) (xs : List FormatItem) (s : Symbol) (t : Marks) (
 begin_back ls xs Open t f h = (t, refl, h)
 begin_back ls xs _ t f h = absurd h
 
+starred_back : (ls : List Level) (xs : List FormatItem) (s : Symbol) (t : Marks) (f : List FormatItem) →
+    Moves (starred ls xs s) t f → InStar ls xs (symbol s ∷ t) f
+starred_back ls xs Open t f w = record {
+  inner = w.items;
+  start = t;
+  rest = w.closes.1.0;
+  opens = refl;
+  reads = subst (λ l. Items (suc (suc (length ls))) w.items t (symbol Close ∷ l)) w.closes.1.1 w.reads;
+  data_there = w.closes.0;
+  is = w.closes.1.2;
+}
+starred_back ls xs _ t f h = absurd h
+
+closing_back : (ls : List Level) (xs : List FormatItem) (s : Symbol) (t : Marks) (f : List FormatItem) → Moves (closing ls xs s) t f → Ends xs (symbol s ∷ t) f
+closing_back ls xs Close t f h = (t, refl, h)
+closing_back ls xs _ t f h = absurd h
+
 -- The reader's step leads to what was left to be read before it.
 pub back : (p : Place) (ls : List Level) (xs : List FormatItem) (s : Symbol) (t : Marks) (f : List FormatItem) → IsValid p →
     Moves (next_at p ls xs s) t f → Rest p ls xs (symbol s ∷ t) f
@@ -296,11 +371,13 @@ back (place.First p) ls xs s t f v h = first_mark_back p ls xs s t f h
 back (place.More p n) ls xs s t f v h = number_back p n ls xs s t f v h
 back place.SignLetter ls xs s t f v h = sign_letter_back ls xs s t f h
 back place.DecimalLetter ls xs s t f v h = decimal_letter_back ls xs s t f h
+back place.Starred ls xs s t f v h = starred_back ls xs s t f h
+back place.Closing ls xs s t f v h = closing_back ls xs s t f h
 back place.Done ls xs s t f v h = absurd h
 
 string_back : (ls : List Level) (xs : List FormatItem) (s : List ℕ) (t : Marks) (f : List FormatItem) →
     After ls (xs ++ item.Str s ∷ []) false t f → Want ls xs (string s ∷ t) f
-string_back ls xs s t f a = record { item = item.Str s; free = false; rest = t; reads = plain (quoted s); after = a }
+string_back ls xs s t f a = want_of ls xs (item.Str s) false (string s ∷ t) t f (plain (quoted s)) a
 
 -- the same of a string
 pub back_string : (p : Place) (ls : List Level) (xs : List FormatItem) (s : List ℕ) (t : Marks) (f : List FormatItem) → takes_text p ≡ true →
@@ -314,4 +391,6 @@ back_string (place.First p) ls xs s t f e a = cc
 back_string (place.More p n) ls xs s t f e a = cc
 back_string place.SignLetter ls xs s t f e a = cc
 back_string place.DecimalLetter ls xs s t f e a = cc
+back_string place.Starred ls xs s t f e a = cc
+back_string place.Closing ls xs s t f e a = cc
 back_string place.Done ls xs s t f e a = cc

@@ -1,5 +1,5 @@
 -- Facts of tests, and of what they choose.
-use Rattle.std.proofs.Common.{ℕ, ◌≡◌, ◌<◌, ◌≤◌, Bool, true, false, cond, ◌⊎◌, inl, inr, refl, arith, nat_lt, nat_le}
+use Rattle.std.proofs.Common.{ℕ, ◌≡◌, ◌<◌, ◌≤◌, Bool, true, false, cond, ◌⊎◌, inl, inr, refl, arith, nat_lt, nat_le, eqb}
 use Rattle.std.proofs.lemmas.Bool.Decides.{nat_tests}
 
 pub into_true : {X : Type 0} (P : X → Type 0) (b : Bool) (x y : X) → b ≡ true → P x → P (cond b x y)
@@ -35,3 +35,15 @@ not_below m n h = grind (arith, nat_tests)
 
 pub not_less : (m n : ℕ) → nat_lt m n ≡ false → n ≤ m
 not_less m n h = grind (arith, nat_tests)
+
+pub is_zero : (n : ℕ) → eqb n 0 ≡ true → n ≡ 0
+is_zero n h = grind (arith, nat_tests)
+
+pub not_zero : (n : ℕ) → eqb n 0 ≡ false → 1 ≤ n
+not_zero n h = grind (arith, nat_tests)
+
+pub zero_test : (n : ℕ) → n ≡ 0 → eqb n 0 ≡ true
+zero_test n h = grind (arith, nat_tests)
+
+pub positive_test : (n : ℕ) → 1 ≤ n → eqb n 0 ≡ false
+positive_test n h = grind (arith, nat_tests)

@@ -36,6 +36,8 @@ is_done (place.First p) = inr (λ e. cc)
 is_done (place.More p n) = inr (λ e. cc)
 is_done place.SignLetter = inr (λ e. cc)
 is_done place.DecimalLetter = inr (λ e. cc)
+is_done place.Starred = inr (λ e. cc)
+is_done place.Closing = inr (λ e. cc)
 
 refused : (front rest : List ℕ) (c : ℕ) (s : Scanner) → s.reader.place ≢ place.Done → Stands front s → scan s c ≡ None → Decision (front ++ c ∷ rest)
 refused front rest c s q st e =

@@ -1,5 +1,5 @@
 -- From each place some text ends the format.
-use Rattle.std.proofs.Common.{ℕ, zero, suc, ◌+◌, ◌*◌, ◌≤◌, Bool, true, false, List, [], ◌∷◌, ◌++◌, length, Option, Some, None, inl, refl, arith, nat_lt, nat_le, lit≤}
+use Rattle.std.proofs.Common.{ℕ, zero, suc, ◌+◌, ◌*◌, ◌≤◌, Bool, true, false, List, [], ◌∷◌, ◌++◌, length, Option, Some, None, inl, refl, arith, nat_lt, nat_le, lit≤, ◌≡◌, eqb, inr, ap}
 use Rattle.std.proofs.lemmas.Bool.Decides.{nat_tests}
 use Rattle.fj_value.specs.declared.edit.Edit.TheVariants.{Log, Chars, General}
 use Rattle.fj_format.specs.declared.item.ModeStep.TheVariants as step
@@ -17,15 +17,18 @@ use Rattle.fj_format.specs.declared.place.Purpose.TheVariants as purpose
 use Rattle.fj_format.specs.declared.place.Place.{Place}
 use Rattle.fj_format.specs.declared.place.Place.TheVariants as place
 use Rattle.fj_format.specs.declared.symbol.Letter.{Letter}
-use Rattle.fj_format.specs.declared.symbol.Letter.TheVariants.{C, D, E, N, P, S, T, L, R, Z}
+use Rattle.fj_format.specs.declared.symbol.Letter.TheVariants.{A, C, D, E, N, P, S, T, L, R, Z}
 use Rattle.fj_format.specs.declared.symbol.Symbol.{Symbol}
-use Rattle.fj_format.specs.declared.symbol.Symbol.TheVariants.{Digit, Open, Close, Comma, Point, Slash, Colon}
+use Rattle.fj_format.specs.declared.symbol.Symbol.TheVariants.{Digit, Open, Close, Comma, Point, Slash, Colon, Star}
 use Rattle.fj_format.specs.declared.symbol.Symbol.TheVariants as character
 use Rattle.fj_format.specs.Marks.{Marks, symbol, outside}
-use Rattle.fj_format.specs.Grammar.{stop, digit, number, times, integer_edit, moved, most, no_least, no_exponent, sign_usual, decimal_comma, plain, skip, none}
-use Rattle.fj_format.specs.Reading.{smallest, greatest, at, alone, grown, closed, by_letter, body, start, between, ended, behind_width, behind_decimals, behind, blank_letter, instead_of_width, instead, sign_letter, decimal_letter, next_at}
+use Rattle.fj_format.specs.Grammar.{stop, digit, number, times, integer_edit, moved, most, no_least, no_exponent, sign_usual, decimal_comma, letter, comma, Items, More, items, some, characters, no_width, plain, skip, none}
+use Rattle.fj_format.specs.Unfolding.{pass, has_data}
+use Rattle.fj_format.proofs.UnfoldingLaws.{written_out-Field}
+use Rattle.fj_format.proofs.DataLemmas.{last_data}
+use Rattle.fj_format.specs.Reading.{smallest, greatest, at, alone, grown, closed_as, closed, closing, starred, by_letter, body, start, between, ended, decimals_at, behind_width, behind_decimals, behind, blank_letter, instead_of_width, instead, sign_letter, decimal_letter, next_at}
 use Rattle.fj_format.proofs.Choices.{choose_by, at_most}
-use Rattle.fj_format.proofs.Rest.{Closes, After, Want, WantBody, BehindWidth, BehindNumber, InDigits, InNumber, Rest}
+use Rattle.fj_format.proofs.Rest.{Closes, ClosesAs, After, Want, WantBody, BehindWidth, BehindNumber, InDigits, InNumber, Rest}
 use Rattle.fj_format.proofs.Back.{IsValid}
 
 -- ---- the numbers stay within their limits
@@ -55,11 +58,24 @@ body_valid ls xs k _ = tt
 
 start_valid : (ls : List Level) (xs : List FormatItem) (s : Symbol) → MovesValid (start ls xs s)
 start_valid ls xs (Digit d) = grown_valid purpose.Count d ls xs
+start_valid ls xs Star = choose_by MovesValid (eqb (length ls) 0) _ _ (λ _. tt) (λ _. tt)
 start_valid ls xs s = body_valid ls xs None s
 
 closed_valid : (ls : List Level) (xs : List FormatItem) → MovesValid (closed ls xs)
 closed_valid [] xs = tt
-closed_valid (l ∷ ls) xs = tt
+closed_valid (l ∷ ls) xs = by_count l.r ls l.items xs
+  where
+    by_count : (r : Option ℕ) (ls : List Level) (before xs : List FormatItem) → MovesValid (closed_as r ls before xs)
+    by_count (Some r) ls before xs = tt
+    by_count None ls before xs = choose_by MovesValid (has_data (pass xs)) _ _ (λ _. tt) (λ _. tt)
+
+starred_valid : (ls : List Level) (xs : List FormatItem) (s : Symbol) → MovesValid (starred ls xs s)
+starred_valid ls xs Open = tt
+starred_valid ls xs _ = tt
+
+closing_valid : (ls : List Level) (xs : List FormatItem) (s : Symbol) → MovesValid (closing ls xs s)
+closing_valid ls xs Close = tt
+closing_valid ls xs _ = tt
 
 between_valid : (free : Bool) (ls : List Level) (xs : List FormatItem) (s : Symbol) → MovesValid (between free ls xs s)
 between_valid free ls xs Comma = tt
@@ -72,13 +88,17 @@ between_valid false ls xs s = tt
 ended_valid : (ls : List Level) (xs : List FormatItem) (x : FormatItem) (s : Symbol) → MovesValid (ended ls xs x s)
 ended_valid ls xs x s = between_valid false ls (xs ++ x ∷ []) s
 
+decimals_at_valid : (r w : ℕ) (ls : List Level) (xs : List FormatItem) (s : Symbol) → MovesValid (decimals_at r w ls xs s)
+decimals_at_valid r w ls xs Point = tt
+decimals_at_valid r w ls xs _ = tt
+
 width_valid : (kind : FieldKind) (k : Option ℕ) (n : ℕ) (ls : List Level) (xs : List FormatItem) (s : Symbol) → MovesValid (behind_width k kind n ls xs s)
 width_valid (Integer x) k n ls xs Point = tt
 width_valid (Integer x) k n ls xs s = ended_valid ls xs (item.Field (times k) (integer_edit x n None)) s
 width_valid Logical k n ls xs s = ended_valid ls xs (item.Field (times k) (Log n)) s
 width_valid Characters k n ls xs s = ended_valid ls xs (item.Field (times k) (Chars (Some n))) s
-width_valid Generalized k n ls xs Point = tt
-width_valid Generalized k n ls xs _ = tt
+width_valid Generalized k n ls xs s =
+    choose_by MovesValid (eqb n 0) _ _ (λ _. ended_valid ls xs (item.Field (times k) (General n 0)) s) (λ _. decimals_at_valid (times k) n ls xs s)
 
 decimals_valid : (r w d : ℕ) (ls : List Level) (xs : List FormatItem) (s : Symbol) → MovesValid (behind_decimals r w d ls xs s)
 decimals_valid r w d ls xs (character.Letter E) = tt
@@ -148,6 +168,8 @@ valid (place.First p) ls xs s = first_valid p ls xs s
 valid (place.More p n) ls xs s = number_valid p n ls xs s
 valid place.SignLetter ls xs s = sign_valid ls xs s
 valid place.DecimalLetter ls xs s = decimal_valid ls xs s
+valid place.Starred ls xs s = starred_valid ls xs s
+valid place.Closing ls xs s = closing_valid ls xs s
 valid place.Done ls xs s = tt
 
 -- ---- each place can still lead to a format
@@ -158,21 +180,46 @@ pub record Ended (Left : Marks → List FormatItem → Type 0) : Type 0 where
   pub items : List FormatItem
   pub ends : Left (outside text) items
 
-pub closes_ended : (ls : List Level) (xs : List FormatItem) → Ended (Closes ls xs)
-closes_ended [] xs = record { text = []; items = xs; ends = refl }
-closes_ended (l ∷ ls) xs =
-    let e = closes_ended ls ((l.items ++ item.Group l.r xs ∷ []) ++ []) in
-    record { text = 41 ∷ e.text; items = e.items; ends = ([], outside e.text, none, e.ends) }
+-- A, which any parentheses may end with, those of the unlimited item too
+abbrev pub a_field : List FormatItem
+a_field = item.Field 1 (Chars None) ∷ []
+
+a_field_reads : (d : ℕ) (u : Marks) → Items d a_field (letter A ∷ u) u
+a_field_reads d u = items (plain (characters no_width)) none
+
+pub a_field_more : (d : ℕ) (before : Bool) (u : Marks) → More d before a_field (symbol Comma ∷ letter A ∷ u) u
+a_field_more d before u = some comma (a_field_reads d u)
+
+pub a_field_data : (xs : List FormatItem) → has_data (pass (xs ++ a_field)) ≡ true
+a_field_data xs = last_data xs (item.Field 1 (Chars None)) (ap has_data (written_out-Field 1 (Chars None)))
+
+pub closes_ended : (ls : List Level) (xs : List FormatItem) → has_data (pass xs) ≡ true → Ended (Closes ls xs)
+closes_ended [] xs h = record { text = []; items = xs; ends = refl }
+closes_ended (l ∷ ls) xs h = by_count l.r ls l.items xs h (closes_ended ls ((l.items ++ item.Group (times l.r) xs ∷ []) ++ a_field) (a_field_data (l.items ++ item.Group (times l.r) xs ∷ [])))
+  where
+    by_count : (r : Option ℕ) (ls : List Level) (before xs : List FormatItem) → has_data (pass xs) ≡ true →
+        Ended (Closes ls ((before ++ item.Group (times r) xs ∷ []) ++ a_field)) → Ended (ClosesAs r ls before xs)
+    by_count (Some r) ls before xs h e =
+        record { text = 44 ∷ 65 ∷ 41 ∷ e.text; items = e.items; ends = (a_field, outside e.text, a_field_more (suc (length ls)) false (symbol Close ∷ outside e.text), e.ends) }
+    by_count None ls before xs h e = record { text = 41 ∷ []; items = before ++ item.Unlimited xs ∷ []; ends = (h, ([], refl, refl)) }
 
 after_ended : (ls : List Level) (xs : List FormatItem) (free : Bool) → Ended (After ls xs free)
 after_ended ls xs free =
-    let e = closes_ended ls (xs ++ []) in
-    record { text = 41 ∷ e.text; items = e.items; ends = record { more = []; rest = outside e.text; reads = none; closes = e.ends } }
+    let e = closes_ended ls (xs ++ a_field) (a_field_data xs) in
+    record {
+      text = 44 ∷ 65 ∷ 41 ∷ e.text;
+      items = e.items;
+      ends = record { more = a_field; rest = outside e.text; reads = a_field_more (suc (length ls)) free (symbol Close ∷ outside e.text); closes = e.ends };
+    }
 
 want_ended : (ls : List Level) (xs : List FormatItem) → Ended (Want ls xs)
 want_ended ls xs =
-    let e = after_ended ls (xs ++ item.Skip 1 ∷ []) false in
-    record { text = 88 ∷ e.text; items = e.items; ends = record { item = item.Skip 1; free = false; rest = outside e.text; reads = plain skip; after = e.ends } }
+    let e = closes_ended ls (xs ++ a_field) (a_field_data xs) in
+    record {
+      text = 65 ∷ 41 ∷ e.text;
+      items = e.items;
+      ends = record { items = a_field; rest = outside e.text; reads = a_field_reads (suc (length ls)) (symbol Close ∷ outside e.text); closes = e.ends };
+    }
 
 want_body_ended : (ls : List Level) (xs : List FormatItem) (k : Option ℕ) → Ended (WantBody ls xs k)
 want_body_ended ls xs k =
@@ -185,21 +232,27 @@ behind_width_ended (Integer x) k n ls xs =
     record { text = e.text; items = e.items; ends = record { m = None; rest = outside e.text; reads = no_least; after = e.ends } }
 behind_width_ended Logical k n ls xs = after_ended ls (xs ++ item.Field (times k) (Log n) ∷ []) false
 behind_width_ended Characters k n ls xs = after_ended ls (xs ++ item.Field (times k) (Chars (Some n)) ∷ []) false
-behind_width_ended Generalized k n ls xs =
-    let e = after_ended ls (xs ++ item.Field (times k) (General n 0) ∷ []) false in
+behind_width_ended Generalized k zero ls xs =
+    let e = after_ended ls (xs ++ item.Field (times k) (General 0 0) ∷ []) false in
+    record { text = e.text; items = e.items; ends = inr (refl, e.ends) }
+behind_width_ended Generalized k (suc n) ls xs =
+    let e = after_ended ls (xs ++ item.Field (times k) (General (suc n) 0) ∷ []) false in
     record {
       text = 46 ∷ 48 ∷ e.text;
       items = e.items;
-      ends = record {
-        d = 0;
-        digits = symbol (Digit 0) ∷ outside e.text;
-        letter = outside e.text;
-        rest = outside e.text;
-        point = refl;
-        reads = number 0 stop (lit≤ tt) (lit≤ tt);
-        exponent = no_exponent;
-        after = e.ends;
-      };
+      ends = inl (
+        omega arith,
+        record {
+          d = 0;
+          digits = symbol (Digit 0) ∷ outside e.text;
+          letter = outside e.text;
+          rest = outside e.text;
+          point = refl;
+          reads = number 0 stop (lit≤ tt) (lit≤ tt);
+          exponent = no_exponent;
+          after = e.ends;
+        },
+      );
     }
 
 behind_ended : (p : Purpose) (n : ℕ) (ls : List Level) (xs : List FormatItem) → Ended (BehindNumber p n ls xs)
@@ -259,6 +312,21 @@ number_ended p ls xs =
 first_ended : (p : Purpose) (ls : List Level) (xs : List FormatItem) → Ended (Rest (place.First p) ls xs)
 first_ended p ls xs = let e = number_ended p ls xs in record { text = e.text; items = e.items; ends = inl e.ends }
 
+starred_ended : (ls : List Level) (xs : List FormatItem) → Ended (Rest place.Starred ls xs)
+starred_ended ls xs = record {
+  text = 40 ∷ 65 ∷ 41 ∷ 41 ∷ [];
+  items = xs ++ item.Unlimited a_field ∷ [];
+  ends = record {
+    inner = a_field;
+    start = letter A ∷ symbol Close ∷ symbol Close ∷ [];
+    rest = [];
+    opens = refl;
+    reads = a_field_reads (suc (suc (length ls))) (symbol Close ∷ symbol Close ∷ []);
+    data_there = a_field_data [];
+    is = refl;
+  };
+}
+
 pub place_ended : (p : Place) (ls : List Level) (xs : List FormatItem) → IsValid p → Ended (Rest p ls xs)
 place_ended place.Begin ls xs v = record { text = 40 ∷ 41 ∷ []; items = xs; ends = (symbol Close ∷ [], refl, inl ([], refl, refl)) }
 place_ended place.Opened ls xs v = record { text = 41 ∷ []; items = xs; ends = inl ([], refl, refl) }
@@ -272,4 +340,6 @@ place_ended place.SignLetter ls xs v =
 place_ended place.DecimalLetter ls xs v =
     let e = after_ended ls (xs ++ item.Mode step.Comma ∷ []) false in
     record { text = 67 ∷ e.text; items = e.items; ends = record { mode = step.Comma; rest = outside e.text; reads = decimal_comma; after = e.ends } }
+place_ended place.Starred ls xs v = starred_ended ls xs
+place_ended place.Closing ls xs v = record { text = 41 ∷ []; items = xs; ends = ([], refl, refl) }
 place_ended place.Done ls xs v = record { text = []; items = xs; ends = refl }

@@ -6,9 +6,9 @@ use Rattle.fj_format.specs.declared.item.FormatItem.TheFolds.{fold-FormatItem}
 use Rattle.fj_format.specs.declared.place.Tabbing.{Tabbing}
 use Rattle.fj_format.specs.declared.place.Tabbing.TheVariants.{To, Left, Right}
 use Rattle.fj_format.specs.Marks.{Marks}
-use Rattle.fj_format.specs.Grammar.{times, integer_edit, moved, Item, plain, counted, Body, integer, logical, characters, general, tab, skip, slash, colon, sign_mode, blank_mode, decimal_mode, quoted, group, Items, items, More, none, one, IsFormatOf, empty, format}
+use Rattle.fj_format.specs.Grammar.{times, integer_edit, moved, Item, plain, counted, Body, integer, logical, characters, general, general_alone, tab, skip, slash, colon, sign_mode, blank_mode, decimal_mode, quoted, group, Items, items, unlimited, More, none, some, IsFormatOf, empty, format}
 use Rattle.fj_format.specs.Unfolding.{height, height_step}
-use Rattle.fj_format.proofs.UnfoldingLaws.{height-Field, height-Group, height-Str, height-Tab, height-Left, height-Right, height-Skip, height-Slash, height-Colon, height-Mode}
+use Rattle.fj_format.proofs.UnfoldingLaws.{height-Field, height-Group, height-Str, height-Tab, height-Left, height-Right, height-Skip, height-Slash, height-Colon, height-Mode, height-Unlimited}
 
 height-moved : (direction : Tabbing) (n : ℕ) → fold-FormatItem ℕ height_step (moved direction n) ≡ 0
 height-moved To n = height-Tab n
@@ -25,6 +25,7 @@ mutual
   body_low d k _ _ _ u h (logical {w = w} n) = omega (arith, height-Field (times k) (Log w))
   body_low d k _ _ _ u h (characters {w = w} n) = omega (arith, height-Field (times k) (Chars w))
   body_low d k _ _ _ u h (general {w = w} {n = n} a b e) = omega (arith, height-Field (times k) (General w n))
+  body_low d k _ _ _ u h (general_alone n) = omega (arith, height-Field (times k) (General 0 0))
   body_low d _ _ _ _ u h (tab {n = n} direction turns a) = omega (arith, height-moved direction n)
   body_low d k _ _ _ u h skip = omega (arith, height-Skip (times k))
   body_low d k _ _ _ u h slash = omega (arith, height-Slash (times k))
@@ -37,10 +38,11 @@ mutual
 
   items_low : (d : ℕ) (xs : List FormatItem) (t u : Marks) → d ≤ 32 → Items d xs t u → height xs + d ≤ 32
   items_low d _ s u h (items {x = x} {free = free} {more = more} {t = t} i m) = omega (arith, item_low d x free s t h i, more_low d free more t u h m)
+  items_low d _ _ u h (unlimited {inner = inner} {t = t} top i there) = omega (arith, height-Unlimited inner, items_low (suc d) inner t _ (omega arith) i)
 
   more_low : (d : ℕ) (before : Bool) (xs : List FormatItem) (t u : Marks) → d ≤ 32 → More d before xs t u → height xs + d ≤ 32
   more_low d before _ _ u h none = omega arith
-  more_low d before _ r u h (one {free = free} {x = x} {more = more} {s = s} {t = t} p i m) = omega (arith, item_low d x free s t h i, more_low d free more t u h m)
+  more_low d before xs s u h (some {t = t} p i) = items_low d xs t u h i
 
 pub format_low : (xs : List FormatItem) (t : Marks) → IsFormatOf xs t → height xs ≤ 31
 format_low _ _ empty = omega arith

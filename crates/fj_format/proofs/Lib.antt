@@ -13,3 +13,4 @@ pub mod Decided
 pub mod Cases
 pub mod Withins
 pub mod UnfoldingLaws
+pub mod DataLemmas

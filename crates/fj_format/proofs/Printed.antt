@@ -12,13 +12,13 @@ use Rattle.fj_format.specs.declared.place.Radix.{Radix}
 use Rattle.fj_format.specs.declared.place.Radix.TheVariants.{Two, Eight, Ten, Sixteen}
 use Rattle.fj_format.specs.declared.place.Tabbing.{Tabbing}
 use Rattle.fj_format.specs.declared.place.Tabbing.TheVariants.{To, Left, Right}
-use Rattle.fj_format.specs.declared.symbol.Symbol.TheVariants.{Digit, Close, Comma, Point}
+use Rattle.fj_format.specs.declared.symbol.Symbol.TheVariants.{Digit, Close, Point}
 use Rattle.fj_format.specs.Symbols.{is_blank, is_quote, is_digit}
 use Rattle.fj_format.specs.Marks.{Marks, symbol, string, outside, inside}
-use Rattle.fj_format.specs.Grammar.{Digits, stop, digit, Number, number, times, integer_edit, moved, most, Least, no_least, least, Width, no_width, width, no_exponent, Sign, sign_usual, sign_plus, sign_suppress, Blank, blank_null, blank_zero, Decimal, decimal_comma, decimal_point, turn_to, turn_left, turn_right, comma, Item, plain, counted, Body, integer, logical, characters, general, tab, skip, slash, colon, sign_mode, blank_mode, decimal_mode, quoted, group, Items, items, More, none, one, IsFormatOf, empty, format}
+use Rattle.fj_format.specs.Grammar.{Digits, stop, digit, Number, number, times, integer_edit, moved, most, Least, no_least, least, Width, no_width, width, no_exponent, Sign, sign_usual, sign_plus, sign_suppress, Blank, blank_null, blank_zero, Decimal, decimal_comma, decimal_point, turn_to, turn_left, turn_right, comma, Item, plain, counted, Body, integer, logical, characters, general, general_alone, tab, skip, slash, colon, sign_mode, blank_mode, decimal_mode, quoted, group, Items, items, unlimited, More, none, some, IsFormatOf, empty, format}
 use Rattle.fj_format.specs.Printing.{count_text, least_text, edit_text, mode_text, doubled, in_parentheses, item_text, printed}
-use Rattle.fj_format.specs.PrintingLaws.{item_text-Field, item_text-Group, item_text-Str, item_text-Tab, item_text-Left, item_text-Right, item_text-Skip, item_text-Slash, item_text-Colon, item_text-Mode}
-use Rattle.fj_format.proofs.Choices.{into_true, into_false, choose_by}
+use Rattle.fj_format.specs.PrintingLaws.{item_text-Field, item_text-Group, item_text-Str, item_text-Tab, item_text-Left, item_text-Right, item_text-Skip, item_text-Slash, item_text-Colon, item_text-Mode, item_text-Unlimited}
+use Rattle.fj_format.proofs.Choices.{into_true, into_false, choose_by, positive_test}
 use Rattle.fj_format.proofs.Withins.{number_within}
 
 -- ---- numbers
@@ -181,7 +181,13 @@ characters_reads d k _ t u rest (width {w = w} n) =
 general_reads : (d : ℕ) (k : Option ℕ) (w n : ℕ) (rest : List ℕ) → 1 ≤ w → w ≤ 65536 → n ≤ 65536 →
     Body d k (item.Field (times k) (General w n)) false (outside (edit_text (General w n) ++ rest)) (outside rest)
 general_reads d k w n rest positive within small =
-    general (number_then 1 65536 w (codes "." ++ decimal n) rest positive within (lit≤ tt)) (number_reads 0 65536 n rest (omega arith) small (lit≤ tt)) no_exponent
+    let P : List ℕ → Type 0 = λ l. Body d k (item.Field (times k) (General w n)) false (outside ((codes "G" ++ (decimal w ++ l)) ++ rest)) (outside rest) in
+    into_false P (eqb w 0) _ _ (positive_test w positive)
+    (general (number_then 1 65536 w (codes "." ++ decimal n) rest positive within (lit≤ tt)) (number_reads 0 65536 n rest (omega arith) small (lit≤ tt)) no_exponent)
+
+general_alone_reads : (d : ℕ) (k : Option ℕ) (rest : List ℕ) →
+    Body d k (item.Field (times k) (General 0 0)) false (outside (edit_text (General 0 0) ++ rest)) (outside rest)
+general_alone_reads d k rest = general_alone (number_then 0 0 0 [] rest (lit≤ tt) (lit≤ tt) (lit≤ tt))
 
 -- ---- lists
 
@@ -202,6 +208,21 @@ list_text : (t : List ℕ) (ts : List (List ℕ)) (rest : List ℕ) → (join_wi
 list_text t ts rest =
     ap (λ l. (l ++ codes ")") ++ rest) (join_behind t ts) ∙ append_assoc (t ++ behind ts) (codes ")") rest ∙ append_assoc t (behind ts) (41 ∷ rest)
 
+-- a star and items in parentheses, before the last parenthesis
+unlimited_text : (inner : List FormatItem) (rest : List ℕ) →
+    (join_with_byte 44 (map item_text (item.Unlimited inner ∷ [])) ++ codes ")") ++ rest ≡ 42 ∷ 40 ∷ ((join_with_byte 44 (map item_text inner) ++ codes ")") ++ 41 ∷ rest)
+unlimited_text inner rest =
+    ap (λ l. (l ++ codes ")") ++ rest) (item_text-Unlimited inner)
+    ∙ ap (λ l. 42 ∷ 40 ∷ l) (append_assoc (join_with_byte 44 (map item_text inner) ++ codes ")") (codes ")") rest)
+
+-- one item and more, behind a comma
+behind_text : (d : ℕ) (xs : List FormatItem) (t u : Marks) (rest : List ℕ) → Items d xs t u →
+    behind (map item_text xs) ++ 41 ∷ rest ≡ 44 ∷ ((join_with_byte 44 (map item_text xs) ++ codes ")") ++ rest)
+behind_text d _ s u rest (items {x = x} {more = more} i m) =
+    ap (λ l. 44 ∷ l) (append_assoc (item_text x) (behind (map item_text more)) (41 ∷ rest) ∙ sym (list_text (item_text x) (map item_text more) rest))
+behind_text d _ _ u rest (unlimited {inner = inner} top i there) =
+    ap (λ l. 44 ∷ l) (append_assoc (item_text (item.Unlimited inner)) [] (41 ∷ rest) ∙ sym (list_text (item_text (item.Unlimited inner)) [] rest))
+
 mutual
   item_reads : (d : ℕ) (x : FormatItem) (free : Bool) (t u : Marks) (rest : List ℕ) → IsEnd rest → Item d x free t u → Item d x free (outside (item_text x ++ rest)) (outside rest)
   item_reads d x free t u rest e (plain b) = body_reads d None x free t u rest e (lit≤ tt) (lit≤ tt) b
@@ -221,6 +242,7 @@ mutual
   body_reads d k _ _ _ u rest e positive within (general {w = w} {n = n} {r = r} {s = s} {t = t} a b x) =
       field_reads d (times k) (General w n) rest positive within
       (λ k. general_reads d k w n rest (number_within 1 65536 w r (symbol Point ∷ s) a).0 (number_within 1 65536 w r (symbol Point ∷ s) a).1 (number_within 0 65536 n s t b).1)
+  body_reads d k _ _ _ u rest e positive within (general_alone n) = field_reads d (times k) (General 0 0) rest positive within (λ k. general_alone_reads d k rest)
   body_reads d _ _ _ _ u rest e positive within (tab {n = n} {t = t} direction turns a) =
       tab_reads d n direction rest (number_within 1 65536 n t u a).0 (number_within 1 65536 n t u a).1
   body_reads d k _ _ _ u rest e positive within skip =
@@ -247,13 +269,15 @@ mutual
   items_reads d _ s u rest (items {x = x} {free = free} {more = more} {t = t} i m) =
       subst (λ l. Items d (x ∷ more) (outside l) (symbol Close ∷ outside rest)) (sym (list_text (item_text x) (map item_text more) rest))
       (items (item_reads d x free s t (behind (map item_text more) ++ 41 ∷ rest) (behind_is_end (map item_text more) rest) i) (more_reads d free more t u rest m))
+  items_reads d _ _ u rest (unlimited {inner = inner} {t = t} top i there) =
+      subst (λ l. Items d (item.Unlimited inner ∷ []) (outside l) (symbol Close ∷ outside rest)) (sym (unlimited_text inner rest))
+      (unlimited top (items_reads (suc d) inner t (symbol Close ∷ u) (41 ∷ rest) i) there)
 
   more_reads : (d : ℕ) (before : Bool) (xs : List FormatItem) (t u : Marks) (rest : List ℕ) → More d before xs t u →
       More d before xs (outside (behind (map item_text xs) ++ 41 ∷ rest)) (symbol Close ∷ outside rest)
   more_reads d before _ _ u rest none = none
-  more_reads d before _ r u rest (one {free = free} {x = x} {more = more} {s = s} {t = t} p i m) =
-      subst (λ l. More d before (x ∷ more) (symbol Comma ∷ outside l) (symbol Close ∷ outside rest)) (sym (append_assoc (item_text x) (behind (map item_text more)) (41 ∷ rest)))
-      (one comma (item_reads d x free s t (behind (map item_text more) ++ 41 ∷ rest) (behind_is_end (map item_text more) rest) i) (more_reads d free more t u rest m))
+  more_reads d before xs s u rest (some {t = t} p i) =
+      subst (λ l. More d before xs (outside l) (symbol Close ∷ outside rest)) (sym (behind_text d xs t u rest i)) (some comma (items_reads d xs t u rest i))
 
 pub format_reads : (xs : List FormatItem) (t : Marks) → IsFormatOf xs t → IsFormatOf xs (outside (printed xs))
 format_reads _ _ empty = empty

@@ -1,5 +1,5 @@
 -- What is left to be read of a format, from each place of the reader.
-use Rattle.std.proofs.Common.{ℕ, suc, ◌≡◌, ◌≤◌, Bool, false, List, [], ◌∷◌, ◌++◌, length, Option, Some, None, ◌⊎◌}
+use Rattle.std.proofs.Common.{ℕ, suc, ◌≡◌, ◌≤◌, Bool, true, false, List, [], ◌∷◌, ◌++◌, length, Option, Some, None, ◌⊎◌}
 use Rattle.fj_value.specs.declared.edit.Edit.TheVariants.{Log, Chars, General}
 use Rattle.fj_format.specs.declared.item.ModeStep.{ModeStep}
 use Rattle.fj_format.specs.declared.item.FormatItem.{FormatItem}
@@ -18,14 +18,26 @@ use Rattle.fj_format.specs.declared.place.Place.{Place}
 use Rattle.fj_format.specs.declared.place.Place.TheVariants as place
 use Rattle.fj_format.specs.declared.symbol.Symbol.TheVariants.{Open, Close, Point}
 use Rattle.fj_format.specs.Marks.{Mark, Marks, symbol}
-use Rattle.fj_format.specs.Grammar.{Digits, Number, times, integer_edit, moved, Least, Exponent, Sign, Blank, Decimal, Turn, Item, Body, More}
+use Rattle.fj_format.specs.Grammar.{Digits, Number, times, integer_edit, moved, Least, Exponent, Sign, Blank, Decimal, Turn, Body, Items, More}
+use Rattle.fj_format.specs.Unfolding.{pass, has_data}
 use Rattle.fj_format.specs.Reading.{smallest, greatest}
+
+abbrev pub Ends : List FormatItem → Marks → List FormatItem → Type 0
+Ends xs t f = (u : Marks) × (t ≡ symbol Close ∷ u) × (f ≡ xs)
+
+-- behind the parenthesis that ends inner items, which stand behind others; without a count they are the unlimited item
+abbrev pub ClosesBy : (List FormatItem → Marks → Type 0) → ℕ → Option ℕ → List FormatItem → List FormatItem → Marks → List FormatItem → Type 0
+ClosesBy closes d (Some r) before xs t f =
+    (more : List FormatItem) × (v : Marks) × More d false more t (symbol Close ∷ v) × closes ((before ++ item.Group r xs ∷ []) ++ more) v
+ClosesBy closes d None before xs t f = (has_data (pass xs) ≡ true) × Ends (before ++ item.Unlimited xs ∷ []) t f
 
 -- behind the parenthesis that ends the innermost items, to the end of the format
 abbrev pub Closes : List Level → List FormatItem → Marks → List FormatItem → Type 0
 Closes [] xs t f = f ≡ xs
-Closes (l ∷ ls) xs t f =
-    (more : List FormatItem) × (v : Marks) × More (suc (length ls)) false more t (symbol Close ∷ v) × Closes ls ((l.items ++ item.Group l.r xs ∷ []) ++ more) v f
+Closes (l ∷ ls) xs t f = ClosesBy (λ ys v. Closes ls ys v f) (suc (length ls)) l.r l.items xs t f
+
+abbrev pub ClosesAs : Option ℕ → List Level → List FormatItem → List FormatItem → Marks → List FormatItem → Type 0
+ClosesAs r ls before xs t f = ClosesBy (λ ys v. Closes ls ys v f) (suc (length ls)) r before xs t f
 
 -- behind an item
 pub record After (ls : List Level) (xs : List FormatItem) (before : Bool) (t : Marks) (f : List FormatItem) : Type 0 where
@@ -36,11 +48,10 @@ pub record After (ls : List Level) (xs : List FormatItem) (before : Bool) (t : M
 
 -- an item has to come
 pub record Want (ls : List Level) (xs : List FormatItem) (t : Marks) (f : List FormatItem) : Type 0 where
-  pub item : FormatItem
-  pub free : Bool
+  pub items : List FormatItem
   pub rest : Marks
-  pub reads : Item (suc (length ls)) item free t rest
-  pub after : After ls (xs ++ item ∷ []) free rest f
+  pub reads : Items (suc (length ls)) items t (symbol Close ∷ rest)
+  pub closes : Closes ls (xs ++ items) rest f
 
 -- an item has to come, behind its count
 pub record WantBody (ls : List Level) (xs : List FormatItem) (k : Option ℕ) (t : Marks) (f : List FormatItem) : Type 0 where
@@ -78,7 +89,17 @@ abbrev pub BehindWidth : FieldKind → Option ℕ → ℕ → List Level → Lis
 BehindWidth (Integer x) k w ls xs t f = BehindInteger k x w ls xs t f
 BehindWidth Logical k w ls xs t f = After ls (xs ++ item.Field (times k) (Log w) ∷ []) false t f
 BehindWidth Characters k w ls xs t f = After ls (xs ++ item.Field (times k) (Chars (Some w)) ∷ []) false t f
-BehindWidth Generalized k w ls xs t f = BehindGeneral k w ls xs t f
+BehindWidth Generalized k w ls xs t f = ((1 ≤ w) × BehindGeneral k w ls xs t f) ⊎ ((w ≡ 0) × After ls (xs ++ item.Field (times k) (General w 0) ∷ []) false t f)
+
+-- behind the star
+pub record InStar (ls : List Level) (xs : List FormatItem) (t : Marks) (f : List FormatItem) : Type 0 where
+  pub inner : List FormatItem
+  pub start : Marks
+  pub rest : Marks
+  pub opens : t ≡ symbol Open ∷ start
+  pub reads : Items (suc (suc (length ls))) inner start (symbol Close ∷ symbol Close ∷ rest)
+  pub data_there : has_data (pass inner) ≡ true
+  pub is : f ≡ xs ++ item.Unlimited inner ∷ []
 
 -- behind a number
 abbrev pub BehindNumber : Purpose → ℕ → List Level → List FormatItem → Marks → List FormatItem → Type 0
@@ -148,9 +169,6 @@ Instead (purpose.Width k kind) ls xs t f = InsteadOfWidth kind k ls xs t f
 Instead (purpose.Tabs To) ls xs t f = InTurn ls xs t f
 Instead _ ls xs t f = ⊥
 
-abbrev pub Ends : List FormatItem → Marks → List FormatItem → Type 0
-Ends xs t f = (u : Marks) × (t ≡ symbol Close ∷ u) × (f ≡ xs)
-
 -- what is left to be read, and the format that it gives
 abbrev pub Rest : Place → List Level → List FormatItem → Marks → List FormatItem → Type 0
 Rest place.Begin ls xs t f = (t' : Marks) × (t ≡ symbol Open ∷ t') × (Ends xs t' f ⊎ Want ls xs t' f)
@@ -161,6 +179,8 @@ Rest (place.First p) ls xs t f = InNumber p ls xs t f ⊎ Instead p ls xs t f
 Rest (place.More p n) ls xs t f = InDigits p n ls xs t f
 Rest place.SignLetter ls xs t f = InSign ls xs t f
 Rest place.DecimalLetter ls xs t f = InDecimal ls xs t f
+Rest place.Starred ls xs t f = InStar ls xs t f
+Rest place.Closing ls xs t f = Ends xs t f
 Rest place.Done ls xs t f = f ≡ xs
 
 abbrev pub Moves : Option Reader → Marks → List FormatItem → Type 0

@@ -1,5 +1,5 @@
 -- What is left to be read of a text, from each state of the scanner.
-use Rattle.std.proofs.Common.{ℕ, ◌≡◌, ◌≢◌, Bool, true, false, eqb, List, [], ◌∷◌, ◌++◌, Option, Some, None, inl, inr, refl, sym, subst, ap, ◌∙◌, arith, append_assoc, nat_lt, append-nil}
+use Rattle.std.proofs.Common.{ℕ, ◌≡◌, ◌≢◌, Bool, true, false, eqb, List, [], ◌∷◌, ◌++◌, length, suc, Option, Some, None, inl, inr, refl, sym, subst, ap, ◌∙◌, arith, append_assoc, nat_lt, append-nil}
 use Rattle.std.proofs.lemmas.Bool.Decides.{nat_tests}
 use Rattle.fj_format.specs.declared.item.FormatItem.{FormatItem}
 use Rattle.fj_format.specs.declared.item.FormatItem.TheVariants.{Str}
@@ -18,17 +18,18 @@ use Rattle.fj_format.specs.declared.scanner.Quote.{Quote}
 use Rattle.fj_format.specs.declared.scanner.Quote.TheVariants.{Outside, Inside, Ended}
 use Rattle.fj_format.specs.declared.scanner.Scanner.{Scanner}
 use Rattle.fj_format.specs.declared.symbol.Symbol.{Symbol}
-use Rattle.fj_format.specs.declared.symbol.Symbol.TheVariants.{Open, Close, Other}
+use Rattle.fj_format.specs.declared.symbol.Symbol.TheVariants.{Open, Close, Comma, Other}
+use Rattle.fj_format.specs.declared.symbol.Letter.TheVariants.{A}
 use Rattle.fj_format.specs.Symbols.{is_blank, is_quote, symbol_of}
 use Rattle.fj_format.specs.Marks.{Marks, symbol, string, outside, inside, closing}
-use Rattle.fj_format.specs.Grammar.{IsFormatOf, IsFormat, BeginsFormat, empty, format, items, none}
+use Rattle.fj_format.specs.Grammar.{letter, IsFormatOf, IsFormat, BeginsFormat, empty, format}
 use Rattle.fj_format.specs.Reading.{smallest, behind, instead_of_width, next, next_at, next_text, takes_text}
 use Rattle.fj_format.specs.Scanning.{first, outside_with, outside_char, outside_from, scan_at, scan, IsClear}
 use Rattle.fj_format.proofs.Choices.{into_true, into_false, either, choose_by}
 use Rattle.fj_format.proofs.Rest.{Rest, Moves, MovesOn}
 use Rattle.fj_format.proofs.Forward.{next_mark, forward}
 use Rattle.fj_format.proofs.Back.{IsValid, back, back_string}
-use Rattle.fj_format.proofs.Ends.{MovesValid, valid, place_ended, closes_ended}
+use Rattle.fj_format.proofs.Ends.{MovesValid, valid, place_ended, closes_ended, a_field, a_field_more, a_field_data}
 
 abbrev pub marks_at : Quote → List ℕ → List ℕ → Marks
 marks_at Outside kept t = outside t
@@ -59,7 +60,7 @@ other_behind : (p : Purpose) (n : ℕ) (ls : List Level) (xs : List FormatItem) 
 other_behind (purpose.Width k (Integer x)) n ls xs t f h = h
 other_behind (purpose.Width k Logical) n ls xs t f h = h
 other_behind (purpose.Width k Characters) n ls xs t f h = h
-other_behind (purpose.Width k Generalized) n ls xs t f h = h
+other_behind (purpose.Width k Generalized) n ls xs t f h = elim (either (λ o. Moves o t f) (eqb n 0) _ _ h) [ inl e ↦ e.1 | inr e ↦ e.1 ]
 other_behind _ n ls xs t f h = h
 
 no_other : (p : Place) (ls : List Level) (xs : List FormatItem) (t : Marks) (f : List FormatItem) → Moves (next_at p ls xs Other) t f → ⊥
@@ -247,21 +248,21 @@ pub record CanEnd (s : Scanner) : Type 0 where
   pub items : List FormatItem
   pub ends : Left s text items
 
-no_parenthesis : (q : ℕ) → is_quote q ≡ true → eqb 41 q ≡ false
-no_parenthesis q h = grind (arith, nat_tests)
+no_comma : (q : ℕ) → is_quote q ≡ true → eqb 44 q ≡ false
+no_comma q h = grind (arith, nat_tests)
 
 is_itself : (q : ℕ) → eqb q q ≡ true
 is_itself q = grind (arith, nat_tests)
 
--- behind a string that may stand here, a parenthesis
+-- behind a string that may stand here, a comma and more
 string_ended : (s : Reader) (kept : List ℕ) → takes_text s.place ≡ true →
-    (text : List ℕ) × (items : List FormatItem) × Rest s.place s.levels s.items (string kept ∷ symbol Close ∷ outside text) items
+    (text : List ℕ) × (items : List FormatItem) × Rest s.place s.levels s.items (string kept ∷ symbol Comma ∷ outside text) items
 string_ended s kept may =
-    let e = closes_ended s.levels ((s.items ++ Str kept ∷ []) ++ []) in (
-      e.text,
+    let e = closes_ended s.levels ((s.items ++ Str kept ∷ []) ++ a_field) (a_field_data (s.items ++ Str kept ∷ [])) in (
+      65 ∷ 41 ∷ e.text,
       e.items,
-      back_string s.place s.levels s.items kept (symbol Close ∷ outside e.text) e.items may
-          (record { more = []; rest = outside e.text; reads = none; closes = e.ends }),
+      back_string s.place s.levels s.items kept (symbol Comma ∷ letter A ∷ symbol Close ∷ outside e.text) e.items may
+          (record { more = a_field; rest = outside e.text; reads = a_field_more (suc (length s.levels)) false (symbol Close ∷ outside e.text); closes = e.ends }),
     )
 
 pub scan_can_end : (s : Scanner) → IsScannerValid s → CanEnd s
@@ -273,14 +274,14 @@ scan_can_end s v = by_quote s.quote s.reader s.string v.place v.quote
         record { text = e.text; items = e.items; ends = e.ends }
     by_quote (Ended q) s kept v w =
         let e = string_ended s kept w.0 in
-        record { text = 41 ∷ e.0; items = e.1; ends = into_false (λ l. Rest s.place s.levels s.items l e.1) (eqb 41 q) _ _ (no_parenthesis q w.1) e.2 }
+        record { text = 44 ∷ e.0; items = e.1; ends = into_false (λ l. Rest s.place s.levels s.items l e.1) (eqb 44 q) _ _ (no_comma q w.1) e.2 }
     by_quote (Inside q) s kept v w =
         let e = string_ended s kept w.0 in
         record {
-          text = q ∷ 41 ∷ e.0;
+          text = q ∷ 44 ∷ e.0;
           items = e.1;
           ends = into_true (λ l. Rest s.place s.levels s.items l e.1) (eqb q q) _ _ (is_itself q)
-              (into_false (λ l. Rest s.place s.levels s.items l e.1) (eqb 41 q) _ _ (no_parenthesis q w.1) e.2);
+              (into_false (λ l. Rest s.place s.levels s.items l e.1) (eqb 44 q) _ _ (no_comma q w.1) e.2);
         }
 
 -- ---- from the front of the text
@@ -293,14 +294,13 @@ pub record Stands (front : List ℕ) (s : Scanner) : Type 0 where
 
 begin_there : (t : Marks) (f : List FormatItem) → IsFormatOf f t → Rest place.Begin [] [] t f
 begin_there _ _ (empty {u = u}) = (symbol Close ∷ u, refl, inl (u, refl, refl))
-begin_there _ _ (format {t = t} {u = u} (items {x = x} {free = free} {more = more} {t = behind} i m)) =
-    (t, refl, inr (record { item = x; free = free; rest = behind; reads = i; after = record { more = more; rest = u; reads = m; closes = refl } }))
+begin_there _ _ (format {xs = xs} {t = t} {u = u} i) = (t, refl, inr (record { items = xs; rest = u; reads = i; closes = refl }))
 
 begin_back : (t : Marks) (f : List FormatItem) → Rest place.Begin [] [] t f → IsFormatOf f t
 begin_back t f (t', e, inl (u, k, n)) =
     subst (λ l. IsFormatOf f l) (sym (e ∙ ap (λ l. symbol Open ∷ l) k)) (subst (λ g. IsFormatOf g (symbol Open ∷ symbol Close ∷ u)) (sym n) empty)
 begin_back t f (t', e, inr w) =
-    subst (λ l. IsFormatOf f l) (sym e) (subst (λ g. IsFormatOf g (symbol Open ∷ t')) (sym w.after.closes) (format (items w.reads w.after.reads)))
+    subst (λ l. IsFormatOf f l) (sym e) (subst (λ g. IsFormatOf g (symbol Open ∷ t')) (sym w.closes) (format w.reads))
 
 pub stands_first : Stands [] first
 stands_first = record {

@@ -5,10 +5,10 @@ use Rattle.fj_format.specs.declared.item.ModeStep.{ModeStep}
 use Rattle.fj_value.specs.declared.edit.Edit.{Edit}
 use Rattle.fj_format.specs.declared.item.FormatItem.{FormatItem, out-FormatItem}
 use Rattle.fj_format.specs.declared.item.FormatItem.TheVariants as item
-use Rattle.fj_format.specs.declared.item.FormatItem.TheVariants.{rolls-Group, rolls-Field, rolls-Str, rolls-Tab, rolls-Left, rolls-Right, rolls-Skip, rolls-Slash, rolls-Colon, rolls-Mode}
+use Rattle.fj_format.specs.declared.item.FormatItem.TheVariants.{rolls-Group, rolls-Field, rolls-Str, rolls-Tab, rolls-Left, rolls-Right, rolls-Skip, rolls-Slash, rolls-Colon, rolls-Mode, rolls-Unlimited}
 use Rattle.fj_format.specs.declared.item.FormatItem.TheOpen.{FormatItem-F}
 use Rattle.fj_format.specs.declared.item.FormatItem.TheFolds.{fold-FormatItem, fold-roll-FormatItem, fold_out-FormatItem, map-FormatItem}
-use Rattle.fj_format.specs.Unfolding.{edit, string, tab, left, right, slash, colon, mode, is_group, group_step, deepest, height_step, height, unbounded_step, has_width_zero, total, work_step, work, Steps, repeated, joined, item_step, written_out, pass}
+use Rattle.fj_format.specs.Unfolding.{edit, string, tab, left, right, slash, colon, mode, is_group, group_step, is_unlimited, unlimited_step, deepest, height_step, height, unbounded_step, has_width_zero, total, work_step, work, Steps, repeated, joined, item_step, written_out, pass}
 
 joined-map : (xs : List FormatItem) → joined (map written_out xs) ≡ pass xs
 joined-map [] = refl
@@ -44,12 +44,18 @@ written_out-Mode m = ap written_out (sym (rolls-Mode m)) ∙ fold-roll-FormatIte
 pub written_out-Group : (r : ℕ) (xs : List FormatItem) → written_out (item.Group r xs) ≡ repeated r (pass xs)
 written_out-Group r xs = ap written_out (sym (rolls-Group r xs)) ∙ fold-roll-FormatItem Steps item_step (FormatItem-F.Group r xs) ∙ ap (λ l. repeated r l) (joined-map xs)
 
+pub written_out-Unlimited : (xs : List FormatItem) → written_out (item.Unlimited xs) ≡ pass xs
+written_out-Unlimited xs = ap written_out (sym (rolls-Unlimited xs)) ∙ fold-roll-FormatItem Steps item_step (FormatItem-F.Unlimited xs) ∙ joined-map xs
+
 deepest-map : (xs : List FormatItem) → deepest (map (fold-FormatItem ℕ height_step) xs) ≡ height xs
 deepest-map [] = refl
 deepest-map (x ∷ xs) = ap (λ n. max (fold-FormatItem ℕ height_step x) n) (deepest-map xs)
 
 pub height-Group : (r : ℕ) (xs : List FormatItem) → fold-FormatItem ℕ height_step (item.Group r xs) ≡ height xs + 1
 height-Group r xs = ap (fold-FormatItem ℕ height_step) (sym (rolls-Group r xs)) ∙ fold-roll-FormatItem ℕ height_step (FormatItem-F.Group r xs) ∙ ap (λ n. n + 1) (deepest-map xs)
+
+pub height-Unlimited : (xs : List FormatItem) → fold-FormatItem ℕ height_step (item.Unlimited xs) ≡ height xs + 1
+height-Unlimited xs = ap (fold-FormatItem ℕ height_step) (sym (rolls-Unlimited xs)) ∙ fold-roll-FormatItem ℕ height_step (FormatItem-F.Unlimited xs) ∙ ap (λ n. n + 1) (deepest-map xs)
 
 any-map : (xs : List FormatItem) → list_any (λ b. b) (map (fold-FormatItem Bool unbounded_step) xs) ≡ has_width_zero xs
 any-map [] = refl
@@ -59,12 +65,19 @@ pub has_width_zero-Group : (r : ℕ) (xs : List FormatItem) → fold-FormatItem 
 has_width_zero-Group r xs =
     ap (fold-FormatItem Bool unbounded_step) (sym (rolls-Group r xs)) ∙ fold-roll-FormatItem Bool unbounded_step (FormatItem-F.Group r xs) ∙ any-map xs
 
+pub has_width_zero-Unlimited : (xs : List FormatItem) → fold-FormatItem Bool unbounded_step (item.Unlimited xs) ≡ has_width_zero xs
+has_width_zero-Unlimited xs =
+    ap (fold-FormatItem Bool unbounded_step) (sym (rolls-Unlimited xs)) ∙ fold-roll-FormatItem Bool unbounded_step (FormatItem-F.Unlimited xs) ∙ any-map xs
+
 total-map : (xs : List FormatItem) → total (map (fold-FormatItem ℕ work_step) xs) ≡ work xs
 total-map [] = refl
 total-map (x ∷ xs) = ap (λ n. fold-FormatItem ℕ work_step x + n) (total-map xs)
 
 pub work-Group : (r : ℕ) (xs : List FormatItem) → fold-FormatItem ℕ work_step (item.Group r xs) ≡ 1 + r * (work xs + 1)
 work-Group r xs = ap (fold-FormatItem ℕ work_step) (sym (rolls-Group r xs)) ∙ fold-roll-FormatItem ℕ work_step (FormatItem-F.Group r xs) ∙ ap (λ n. 1 + r * (n + 1)) (total-map xs)
+
+pub work-Unlimited : (xs : List FormatItem) → fold-FormatItem ℕ work_step (item.Unlimited xs) ≡ 1 + (work xs + 1)
+work-Unlimited xs = ap (fold-FormatItem ℕ work_step) (sym (rolls-Unlimited xs)) ∙ fold-roll-FormatItem ℕ work_step (FormatItem-F.Unlimited xs) ∙ ap (λ n. 1 + (n + 1)) (total-map xs)
 
 positive_layer : (d : FormatItem-F ℕ) → 1 ≤ work_step d
 positive_layer (FormatItem-F.Field r e) = omega arith
@@ -77,6 +90,7 @@ positive_layer (FormatItem-F.Skip n) = omega arith
 positive_layer (FormatItem-F.Slash n) = omega arith
 positive_layer FormatItem-F.Colon = omega arith
 positive_layer (FormatItem-F.Mode m) = omega arith
+positive_layer (FormatItem-F.Unlimited items) = omega arith
 
 -- each item is some work
 pub work-positive : (x : FormatItem) → 1 ≤ fold-FormatItem ℕ work_step x
@@ -112,6 +126,9 @@ is_group-Colon = ap is_group (sym rolls-Colon) ∙ fold-roll-FormatItem Bool gro
 pub is_group-Mode : (m : ModeStep) → is_group (item.Mode m) ≡ false
 is_group-Mode m = ap is_group (sym (rolls-Mode m)) ∙ fold-roll-FormatItem Bool group_step (FormatItem-F.Mode m)
 
+pub is_group-Unlimited : (xs : List FormatItem) → is_group (item.Unlimited xs) ≡ true
+is_group-Unlimited xs = ap is_group (sym (rolls-Unlimited xs)) ∙ fold-roll-FormatItem Bool group_step (FormatItem-F.Unlimited xs)
+
 pub height-Field : (r : ℕ) (e : Edit) → fold-FormatItem ℕ height_step (item.Field r e) ≡ 0
 height-Field r e = ap (fold-FormatItem ℕ height_step) (sym (rolls-Field r e)) ∙ fold-roll-FormatItem ℕ height_step (FormatItem-F.Field r e)
 
@@ -138,3 +155,36 @@ height-Right n = ap (fold-FormatItem ℕ height_step) (sym (rolls-Right n)) ∙ 
 
 pub height-Mode : (m : ModeStep) → fold-FormatItem ℕ height_step (item.Mode m) ≡ 0
 height-Mode m = ap (fold-FormatItem ℕ height_step) (sym (rolls-Mode m)) ∙ fold-roll-FormatItem ℕ height_step (FormatItem-F.Mode m)
+
+pub is_unlimited-Group : (r : ℕ) (xs : List FormatItem) → is_unlimited (item.Group r xs) ≡ false
+is_unlimited-Group r xs = ap is_unlimited (sym (rolls-Group r xs)) ∙ fold-roll-FormatItem Bool unlimited_step (FormatItem-F.Group r xs)
+
+pub is_unlimited-Field : (r : ℕ) (e : Edit) → is_unlimited (item.Field r e) ≡ false
+is_unlimited-Field r e = ap is_unlimited (sym (rolls-Field r e)) ∙ fold-roll-FormatItem Bool unlimited_step (FormatItem-F.Field r e)
+
+pub is_unlimited-Str : (s : List ℕ) → is_unlimited (item.Str s) ≡ false
+is_unlimited-Str s = ap is_unlimited (sym (rolls-Str s)) ∙ fold-roll-FormatItem Bool unlimited_step (FormatItem-F.Str s)
+
+pub is_unlimited-Tab : (n : ℕ) → is_unlimited (item.Tab n) ≡ false
+is_unlimited-Tab n = ap is_unlimited (sym (rolls-Tab n)) ∙ fold-roll-FormatItem Bool unlimited_step (FormatItem-F.Tab n)
+
+pub is_unlimited-Left : (n : ℕ) → is_unlimited (item.Left n) ≡ false
+is_unlimited-Left n = ap is_unlimited (sym (rolls-Left n)) ∙ fold-roll-FormatItem Bool unlimited_step (FormatItem-F.Left n)
+
+pub is_unlimited-Right : (n : ℕ) → is_unlimited (item.Right n) ≡ false
+is_unlimited-Right n = ap is_unlimited (sym (rolls-Right n)) ∙ fold-roll-FormatItem Bool unlimited_step (FormatItem-F.Right n)
+
+pub is_unlimited-Skip : (n : ℕ) → is_unlimited (item.Skip n) ≡ false
+is_unlimited-Skip n = ap is_unlimited (sym (rolls-Skip n)) ∙ fold-roll-FormatItem Bool unlimited_step (FormatItem-F.Skip n)
+
+pub is_unlimited-Slash : (n : ℕ) → is_unlimited (item.Slash n) ≡ false
+is_unlimited-Slash n = ap is_unlimited (sym (rolls-Slash n)) ∙ fold-roll-FormatItem Bool unlimited_step (FormatItem-F.Slash n)
+
+pub is_unlimited-Colon : is_unlimited item.Colon ≡ false
+is_unlimited-Colon = ap is_unlimited (sym rolls-Colon) ∙ fold-roll-FormatItem Bool unlimited_step FormatItem-F.Colon
+
+pub is_unlimited-Mode : (m : ModeStep) → is_unlimited (item.Mode m) ≡ false
+is_unlimited-Mode m = ap is_unlimited (sym (rolls-Mode m)) ∙ fold-roll-FormatItem Bool unlimited_step (FormatItem-F.Mode m)
+
+pub is_unlimited-Unlimited : (xs : List FormatItem) → is_unlimited (item.Unlimited xs) ≡ true
+is_unlimited-Unlimited xs = ap is_unlimited (sym (rolls-Unlimited xs)) ∙ fold-roll-FormatItem Bool unlimited_step (FormatItem-F.Unlimited xs)

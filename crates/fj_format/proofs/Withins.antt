@@ -12,10 +12,10 @@ use Rattle.fj_format.specs.declared.place.Tabbing.{Tabbing}
 use Rattle.fj_format.specs.declared.place.Tabbing.TheVariants.{To, Left, Right}
 use Rattle.fj_format.specs.declared.symbol.Symbol.TheVariants.{Close, Point}
 use Rattle.fj_format.specs.Marks.{Marks, symbol}
-use Rattle.fj_format.specs.Grammar.{Number, number, times, integer_edit, moved, Least, no_least, least, Width, no_width, width, Item, plain, counted, Body, integer, logical, characters, general, tab, skip, slash, colon, sign_mode, blank_mode, decimal_mode, quoted, group, Items, items, More, none, one, IsFormatOf, empty, format}
+use Rattle.fj_format.specs.Grammar.{Number, number, times, integer_edit, moved, Least, no_least, least, Width, no_width, width, Item, plain, counted, Body, integer, logical, characters, general, general_alone, tab, skip, slash, colon, sign_mode, blank_mode, decimal_mode, quoted, group, Items, items, unlimited, More, none, some, IsFormatOf, empty, format}
 use Rattle.fj_format.specs.Unfolding.{Elementary, edit, Steps, repeated, written_out, pass}
 use Rattle.fj_format.specs.Unfolding as step
-use Rattle.fj_format.proofs.UnfoldingLaws.{written_out-Field, written_out-Group, written_out-Str, written_out-Tab, written_out-Left, written_out-Right, written_out-Skip, written_out-Slash, written_out-Colon, written_out-Mode}
+use Rattle.fj_format.proofs.UnfoldingLaws.{written_out-Field, written_out-Group, written_out-Str, written_out-Tab, written_out-Left, written_out-Right, written_out-Skip, written_out-Slash, written_out-Colon, written_out-Mode, written_out-Unlimited}
 use Rattle.fj_format.specs.Within.{IsPositive, IsLeastWithin, IsEditWithin, IsStepWithin}
 
 abbrev AllWithin : Steps → Type 0
@@ -66,7 +66,8 @@ mutual
   body_within d k _ _ _ u p q (logical {w = w} {t = t} n) = field_within (times k) (Log w) (number_within 1 65536 w t u n)
   body_within d k _ _ _ u p q (characters {w = w} {t = t} n) = field_within (times k) (Chars w) (width_within w t u n)
   body_within d k _ _ _ u p q (general {w = w} {n = n} {r = r} {s = s} {t = t} a b e) =
-      field_within (times k) (General w n) (number_within 1 65536 w r (symbol Point ∷ s) a, (number_within 0 65536 n s t b).1)
+      field_within (times k) (General w n) (inl (number_within 1 65536 w r (symbol Point ∷ s) a, (number_within 0 65536 n s t b).1))
+  body_within d k _ _ _ u p q (general_alone n) = field_within (times k) (General 0 0) (inr (refl, refl))
   body_within d _ _ _ _ u p q (tab {n = n} {t = t} direction turns a) = moved_within direction n (number_within 1 65536 n t u a)
   body_within d k _ _ _ u p q skip = subst AllWithin (sym (written_out-Skip (times k))) (alone (step.right (times k)) (p, q))
   body_within d k _ _ _ u p q slash = subst AllWithin (sym (written_out-Slash (times k))) (repeated_within (times k) (step.slash ∷ []) (alone step.slash tt))
@@ -81,11 +82,12 @@ mutual
   items_within : (d : ℕ) (xs : List FormatItem) (t u : Marks) → Items d xs t u → AllWithin (pass xs)
   items_within d _ s u (items {x = x} {free = free} {more = more} {t = t} i m) =
       All-append IsStepWithin (written_out x) (pass more) (item_within d x free s t i) (more_within d free more t u m)
+  items_within d _ _ u (unlimited {inner = inner} {t = t} top i there) =
+      All-append IsStepWithin (written_out (item.Unlimited inner)) [] (subst AllWithin (sym (written_out-Unlimited inner)) (items_within (suc d) inner t (symbol Close ∷ u) i)) (All-nil IsStepWithin)
 
   more_within : (d : ℕ) (before : Bool) (xs : List FormatItem) (t u : Marks) → More d before xs t u → AllWithin (pass xs)
   more_within d before _ _ u none = All-nil IsStepWithin
-  more_within d before _ r u (one {free = free} {x = x} {more = more} {s = s} {t = t} p i m) =
-      All-append IsStepWithin (written_out x) (pass more) (item_within d x free s t i) (more_within d free more t u m)
+  more_within d before xs s u (some {t = t} p i) = items_within d xs t u i
 
 pub format_within : (xs : List FormatItem) (t : Marks) → IsFormatOf xs t → All IsStepWithin (pass xs)
 format_within _ _ empty = All-nil IsStepWithin

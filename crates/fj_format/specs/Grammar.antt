@@ -1,4 +1,4 @@
--- The grammar of formats (ISO/IEC 1539-1:2004, 10.1 and 10.2), as a relation between a text and a list of items. Each
+-- The grammar of formats (ISO/IEC 1539-1:2004, 10.1 and 10.2; G0 and the unlimited item: ISO/IEC 1539-1:2010, 10.3), as a relation between a text and a list of items. Each
 -- rule leads from a list of marks to what is left of it.
 use Rattle.std.specs.Prelude.{ℕ, suc, ◌+◌, ◌*◌, ◌≡◌, ◌<◌, ◌≤◌, Bool, true, false, if◌then◌else◌, ◌==◌, List, [], ◌∷◌, ◌++◌, Option, Some, None}
 use Rattle.fj_value.specs.declared.edit.Edit.{Edit}
@@ -13,8 +13,9 @@ use Rattle.fj_format.specs.declared.place.Tabbing.{Tabbing}
 use Rattle.fj_format.specs.declared.place.Tabbing.TheVariants.{To, Left, Right}
 use Rattle.fj_format.specs.declared.symbol.Letter.{Letter}
 use Rattle.fj_format.specs.declared.symbol.Letter.TheVariants.{A, B, C, D, E, G, I, L, N, O, P, R, S, T, X, Z}
-use Rattle.fj_format.specs.declared.symbol.Symbol.TheVariants.{Digit, Open, Close, Comma, Point, Slash, Colon}
+use Rattle.fj_format.specs.declared.symbol.Symbol.TheVariants.{Digit, Open, Close, Comma, Point, Slash, Colon, Star}
 use Rattle.fj_format.specs.declared.symbol.Symbol.TheVariants as symbol
+use Rattle.fj_format.specs.Unfolding.{pass, has_data}
 use Rattle.fj_format.specs.Marks.{Mark, Marks, symbol, string, outside}
 
 abbrev pub letter : Letter → Mark
@@ -120,6 +121,7 @@ mutual
     characters : {d : ℕ} {k w : Option ℕ} {t u : Marks} → Width w t u → Body d k (item.Field (times k) (Chars w)) false (letter A ∷ t) u
     general : {d w n : ℕ} {k : Option ℕ} {r s t u : Marks} → Number 1 65536 w r (symbol Point ∷ s) → Number 0 65536 n s t → Exponent t u →
         Body d k (item.Field (times k) (General w n)) false (letter G ∷ r) u
+    general_alone : {d : ℕ} {k : Option ℕ} {t u : Marks} → Number 0 0 0 t u → Body d k (item.Field (times k) (General 0 0)) false (letter G ∷ t) u
     tab : {d n : ℕ} {s t u : Marks} (direction : Tabbing) → Turn direction s t → Number 1 65536 n t u →
         Body d None (moved direction n) false (letter T ∷ s) u
     skip : {d : ℕ} {k : Option ℕ} {u : Marks} → Body d k (item.Skip (times k)) false (letter X ∷ u) u
@@ -132,16 +134,17 @@ mutual
     group : {d : ℕ} {k : Option ℕ} {inner : List FormatItem} {t u : Marks} → d < 32 → Items (suc d) inner t (symbol Close ∷ u) →
         Body d k (item.Group (times k) inner) false (symbol Open ∷ t) u
 
-  -- one item and more
+  -- One item and more. The unlimited item stands last in the outermost parentheses, and has a data edit descriptor.
   pub data Items : ℕ → List FormatItem → Marks → Marks → Type 0 where
     items : {d : ℕ} {x : FormatItem} {free : Bool} {more : List FormatItem} {s t u : Marks} →
         Item d x free s t → More d free more t u → Items d (x ∷ more) s u
+    unlimited : {d : ℕ} {inner : List FormatItem} {t u : Marks} → d ≡ 1 → Items (suc d) inner t (symbol Close ∷ u) → has_data (pass inner) ≡ true →
+        Items d (item.Unlimited inner ∷ []) (symbol Star ∷ symbol Open ∷ t) u
 
   -- the items behind an item
   pub data More : ℕ → Bool → List FormatItem → Marks → Marks → Type 0 where
     none : {d : ℕ} {before : Bool} {u : Marks} → More d before [] u u
-    one : {d : ℕ} {before free : Bool} {x : FormatItem} {more : List FormatItem} {r s t u : Marks} →
-        Separator before r s → Item d x free s t → More d free more t u → More d before (x ∷ more) r u
+    some : {d : ℕ} {before : Bool} {xs : List FormatItem} {s t u : Marks} → Separator before s t → Items d xs t u → More d before xs s u
 
 -- A format: parentheses around items, or around nothing, and anything behind.
 pub data IsFormatOf : List FormatItem → Marks → Type 0 where

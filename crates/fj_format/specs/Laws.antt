@@ -20,6 +20,7 @@ pub record Unfolds : Type 0 where
   pub records : (n : ℕ) (more : List FormatItem) → pass (item.Slash n ∷ more) ≡ repeated n (slash ∷ []) ++ pass more
   pub stop : (more : List FormatItem) → pass (item.Colon ∷ more) ≡ colon ∷ pass more
   pub change : (m : ModeStep) (more : List FormatItem) → pass (item.Mode m ∷ more) ≡ mode m ∷ pass more
+  pub unlimited : (items more : List FormatItem) → pass (item.Unlimited items ∷ more) ≡ pass items ++ pass more
 
 -- These equations leave no choice of `item_text`.
 pub record Prints : Type 0 where
@@ -33,3 +34,4 @@ pub record Prints : Type 0 where
   pub records : (n : ℕ) → item_text (item.Slash n) ≡ count_text n ++ codes "/"
   pub stop : item_text item.Colon ≡ codes ":"
   pub change : (m : ModeStep) → item_text (item.Mode m) ≡ mode_text m
+  pub unlimited : (items : List FormatItem) → item_text (item.Unlimited items) ≡ codes "*" ++ in_parentheses (map item_text items)

@@ -22,13 +22,17 @@ least_text (Some m) = codes "." ++ decimal m
 abbrev pub base_text : ℕ → List ℕ
 base_text base = if base == 2 then codes "B" else (if base == 8 then codes "O" else codes "Z")
 
+-- .d behind a width, which G0 has not
+abbrev pub decimals_text : ℕ → ℕ → List ℕ
+decimals_text w d = if w == 0 then [] else codes "." ++ decimal d
+
 abbrev pub edit_text : Edit → List ℕ
 edit_text (Int w m) = codes "I" ++ (decimal w ++ least_text m)
 edit_text (Bits base w m) = base_text base ++ (decimal w ++ least_text m)
 edit_text (Log w) = codes "L" ++ decimal w
 edit_text (Chars None) = codes "A"
 edit_text (Chars (Some w)) = codes "A" ++ decimal w
-edit_text (General w d) = codes "G" ++ (decimal w ++ (codes "." ++ decimal d))
+edit_text (General w d) = codes "G" ++ (decimal w ++ decimals_text w d)
 
 abbrev pub mode_text : ModeStep → List ℕ
 mode_text Plus = codes "SP"
@@ -64,6 +68,7 @@ item_text_step (FormatItem-F.Skip n) = decimal n ++ codes "X"
 item_text_step (FormatItem-F.Slash n) = count_text n ++ codes "/"
 item_text_step FormatItem-F.Colon = codes ":"
 item_text_step (FormatItem-F.Mode m) = mode_text m
+item_text_step (FormatItem-F.Unlimited items) = codes "*" ++ in_parentheses items
 
 abbrev pub item_text : FormatItem → List ℕ
 item_text = fold-FormatItem (List ℕ) item_text_step

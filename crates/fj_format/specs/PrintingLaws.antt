@@ -4,7 +4,7 @@ use Rattle.fj_value.specs.declared.edit.Edit.{Edit}
 use Rattle.fj_format.specs.declared.item.ModeStep.{ModeStep}
 use Rattle.fj_format.specs.declared.item.FormatItem.{FormatItem}
 use Rattle.fj_format.specs.declared.item.FormatItem.TheVariants as item
-use Rattle.fj_format.specs.declared.item.FormatItem.TheVariants.{rolls-Group, rolls-Field, rolls-Str, rolls-Tab, rolls-Left, rolls-Right, rolls-Skip, rolls-Slash, rolls-Colon, rolls-Mode}
+use Rattle.fj_format.specs.declared.item.FormatItem.TheVariants.{rolls-Group, rolls-Field, rolls-Str, rolls-Tab, rolls-Left, rolls-Right, rolls-Skip, rolls-Slash, rolls-Colon, rolls-Mode, rolls-Unlimited}
 use Rattle.fj_format.specs.declared.item.FormatItem.TheOpen.{FormatItem-F}
 use Rattle.fj_format.specs.declared.item.FormatItem.TheFolds.{fold-roll-FormatItem}
 use Rattle.fj_format.specs.Printing.{count_text, edit_text, mode_text, doubled, in_parentheses, item_text_step, item_text}
@@ -38,3 +38,6 @@ item_text-Colon = ap item_text (sym rolls-Colon) ∙ fold-roll-FormatItem (List 
 
 pub item_text-Mode : (m : ModeStep) → item_text (item.Mode m) ≡ mode_text m
 item_text-Mode m = ap item_text (sym (rolls-Mode m)) ∙ fold-roll-FormatItem (List ℕ) item_text_step (FormatItem-F.Mode m)
+
+pub item_text-Unlimited : (xs : List FormatItem) → item_text (item.Unlimited xs) ≡ codes "*" ++ in_parentheses (map item_text xs)
+item_text-Unlimited xs = ap item_text (sym (rolls-Unlimited xs)) ∙ fold-roll-FormatItem (List ℕ) item_text_step (FormatItem-F.Unlimited xs)

@@ -1,5 +1,5 @@
 -- The reader, one symbol at a time.
-use Rattle.std.specs.Prelude.{ℕ, ◌≡◌, ◌+◌, ◌*◌, Bool, true, false, nat_le, nat_lt, if◌then◌else◌, List, [], ◌∷◌, ◌++◌, length, Option, Some, None, Result, IfOk}
+use Rattle.std.specs.Prelude.{ℕ, ◌≡◌, ◌+◌, ◌*◌, Bool, true, false, nat_le, nat_lt, if◌then◌else◌, List, [], ◌∷◌, ◌++◌, length, ◌==◌, Option, Some, None, Result, IfOk}
 use Rattle.fj_value.specs.declared.edit.Edit.TheVariants.{Log, Chars, General}
 use Rattle.fj_format.specs.declared.item.ModeStep.TheVariants as step
 use Rattle.fj_format.specs.declared.item.FormatItem.{FormatItem}
@@ -13,17 +13,19 @@ use Rattle.fj_format.specs.declared.place.Tabbing.TheVariants.{To, Left, Right}
 use Rattle.fj_format.specs.declared.place.Purpose.{Purpose}
 use Rattle.fj_format.specs.declared.place.Purpose.TheVariants.{Count, Width, LeastDigits, Decimals, ExponentDigits, Tabs}
 use Rattle.fj_format.specs.declared.place.Place.{Place}
-use Rattle.fj_format.specs.declared.place.Place.TheVariants.{Begin, Opened, Wanted, Behind, First, More, SignLetter, DecimalLetter, Done}
+use Rattle.fj_format.specs.declared.place.Place.TheVariants.{Begin, Opened, Wanted, Behind, First, More, SignLetter, DecimalLetter, Starred, Closing, Done}
 use Rattle.fj_format.specs.declared.symbol.Letter.{Letter}
 use Rattle.fj_format.specs.declared.symbol.Letter.TheVariants.{A, B, C, D, E, G, I, L, N, O, P, R, S, T, X, Z}
 use Rattle.fj_format.specs.declared.symbol.Symbol.{Symbol}
-use Rattle.fj_format.specs.declared.symbol.Symbol.TheVariants.{Digit, Open, Close, Comma, Point, Slash, Colon}
+use Rattle.fj_format.specs.declared.symbol.Symbol.TheVariants.{Digit, Open, Close, Comma, Point, Slash, Colon, Star}
 use Rattle.fj_format.specs.declared.symbol.Symbol.TheVariants as symbol
+use Rattle.fj_format.specs.Unfolding.{pass, has_data}
 use Rattle.fj_format.specs.Grammar.{times, integer_edit, moved, most}
 
 -- the numbers that may stand for a purpose
 abbrev pub smallest : Purpose → ℕ
 smallest (Width k (Integer x)) = 0
+smallest (Width k Generalized) = 0
 smallest (LeastDigits r x w) = 0
 smallest (Decimals r w) = 0
 smallest _ = 1
@@ -44,12 +46,34 @@ alone (Some r) s = None
 abbrev pub grown : Purpose → ℕ → List Level → List FormatItem → Option Reader
 grown p n ls xs = if nat_le n (greatest p) then at ls xs (More p n) else None
 
+-- inner parentheses; those of the unlimited item have no count
+abbrev pub nested : List Level → List FormatItem → Option ℕ → Option Reader
+nested ls xs r = at (record { r = r; items = xs } ∷ ls) [] Wanted
+
 abbrev pub opens : List Level → List FormatItem → ℕ → Option Reader
-opens ls xs r = if nat_lt (length ls) 31 then at (record { r = r; items = xs } ∷ ls) [] Wanted else None
+opens ls xs r = if nat_lt (length ls) 31 then nested ls xs (Some r) else None
+
+-- the star of the unlimited item, which stands in the outermost parentheses alone
+abbrev pub stars : List Level → List FormatItem → Option Reader
+stars ls xs = if length ls == 0 then at ls xs Starred else None
+
+abbrev pub starred : List Level → List FormatItem → Symbol → Option Reader
+starred ls xs Open = nested ls xs None
+starred ls xs _ = None
+
+-- the inner items have ended, behind those round them
+abbrev pub closed_as : Option ℕ → List Level → List FormatItem → List FormatItem → Option Reader
+closed_as (Some r) ls xs inner = at ls (xs ++ item.Group r inner ∷ []) (Behind false)
+closed_as None ls xs inner = if has_data (pass inner) then at ls (xs ++ item.Unlimited inner ∷ []) Closing else None
 
 abbrev pub closed : List Level → List FormatItem → Option Reader
 closed [] xs = at [] xs Done
-closed (l ∷ ls) xs = at ls (l.items ++ item.Group l.r xs ∷ []) (Behind false)
+closed (l ∷ ls) xs = closed_as l.r ls l.items xs
+
+-- behind the unlimited item
+abbrev pub closing : List Level → List FormatItem → Symbol → Option Reader
+closing ls xs Close = at ls xs Done
+closing ls xs _ = None
 
 -- a letter begins an item behind its count
 abbrev pub by_letter : List Level → List FormatItem → Option ℕ → Letter → Option Reader
@@ -77,6 +101,7 @@ body ls xs k _ = None
 -- an item has to come
 abbrev pub start : List Level → List FormatItem → Symbol → Option Reader
 start ls xs (Digit d) = grown Count d ls xs
+start ls xs Star = stars ls xs
 start ls xs s = body ls xs None s
 
 -- an item has ended; the Bool says that it is a slash or a colon
@@ -91,14 +116,21 @@ between free ls xs s = if free then start ls xs s else None
 abbrev pub ended : List Level → List FormatItem → FormatItem → Symbol → Option Reader
 ended ls xs x s = between false ls (xs ++ x ∷ []) s
 
+abbrev pub decimals_at : ℕ → ℕ → List Level → List FormatItem → Symbol → Option Reader
+decimals_at r w ls xs Point = at ls xs (First (Decimals r w))
+decimals_at r w ls xs _ = None
+
+-- behind the width of G: d, or behind 0 nothing
+abbrev pub behind_general : ℕ → ℕ → List Level → List FormatItem → Symbol → Option Reader
+behind_general r w ls xs s = if w == 0 then ended ls xs (item.Field r (General w 0)) s else decimals_at r w ls xs s
+
 -- behind a width
 abbrev pub behind_width : Option ℕ → FieldKind → ℕ → List Level → List FormatItem → Symbol → Option Reader
 behind_width k (Integer x) w ls xs Point = at ls xs (First (LeastDigits (times k) x w))
 behind_width k (Integer x) w ls xs s = ended ls xs (item.Field (times k) (integer_edit x w None)) s
 behind_width k Logical w ls xs s = ended ls xs (item.Field (times k) (Log w)) s
 behind_width k Characters w ls xs s = ended ls xs (item.Field (times k) (Chars (Some w))) s
-behind_width k Generalized w ls xs Point = at ls xs (First (Decimals (times k) w))
-behind_width k Generalized w ls xs _ = None
+behind_width k Generalized w ls xs s = behind_general (times k) w ls xs s
 
 -- behind Gw.d
 abbrev pub behind_decimals : ℕ → ℕ → ℕ → List Level → List FormatItem → Symbol → Option Reader
@@ -159,6 +191,8 @@ next_at (More p n) ls xs (Digit d) = grown p (10 * n + d) ls xs
 next_at (More p n) ls xs s = if nat_lt n (smallest p) then None else behind p n ls xs s
 next_at SignLetter ls xs s = sign_letter ls xs s
 next_at DecimalLetter ls xs s = decimal_letter ls xs s
+next_at Starred ls xs s = starred ls xs s
+next_at Closing ls xs s = closing ls xs s
 next_at Done ls xs s = None
 
 -- the reader behind one more symbol, or none where no format goes on so

@@ -3,7 +3,7 @@ use Rattle.std.specs.Prelude.{ℕ, ◌-◌, Bool, ◌==◌, ◌||◌, ◌&&◌, 
 use Rattle.fj_format.specs.declared.symbol.Letter.{Letter}
 use Rattle.fj_format.specs.declared.symbol.Letter.TheVariants.{A, B, C, D, E, G, I, L, N, O, P, R, S, T, X, Z}
 use Rattle.fj_format.specs.declared.symbol.Symbol.{Symbol}
-use Rattle.fj_format.specs.declared.symbol.Symbol.TheVariants.{Digit, Open, Close, Comma, Point, Slash, Colon, Other}
+use Rattle.fj_format.specs.declared.symbol.Symbol.TheVariants.{Digit, Open, Close, Comma, Point, Slash, Colon, Star, Other}
 use Rattle.fj_format.specs.declared.symbol.Symbol.TheVariants as symbol
 
 -- a space or a tab
@@ -44,7 +44,7 @@ abbrev pub letter_symbol : Option Letter → Symbol
 letter_symbol None = Other
 letter_symbol (Some letter) = symbol.Letter letter
 
--- ( ) , . / : by their ASCII codes, or a letter of either case
+-- ( ) , . / : * by their ASCII codes, or a letter of either case
 abbrev pub sign_of : ℕ → Symbol
 sign_of c =
     if c == 40 then Open
@@ -52,7 +52,8 @@ sign_of c =
     else (if c == 44 then Comma
     else (if c == 46 then Point
     else (if c == 47 then Slash
-    else (if c == 58 then Colon else letter_symbol (letter_of (upper c)))))))
+    else (if c == 58 then Colon
+    else (if c == 42 then Star else letter_symbol (letter_of (upper c))))))))
 
 abbrev pub symbol_of : ℕ → Symbol
 symbol_of c = if is_digit c then Digit (c - 48) else sign_of c

@@ -19,7 +19,7 @@ IsEditWithin (Bits base w m) = ((base ≡ 2) ⊎ ((base ≡ 8) ⊎ (base ≡ 16)
 IsEditWithin (Log w) = IsPositive w
 IsEditWithin (Chars None) = Unit {0}
 IsEditWithin (Chars (Some w)) = IsPositive w
-IsEditWithin (General w d) = IsPositive w × (d ≤ 65536)
+IsEditWithin (General w d) = (IsPositive w × (d ≤ 65536)) ⊎ ((w ≡ 0) × (d ≡ 0))
 
 abbrev pub IsStepWithin : Elementary → Type 0
 IsStepWithin (edit e) = IsEditWithin e

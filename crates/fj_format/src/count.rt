@@ -23,6 +23,7 @@ fn item_count(item: &FormatItem) -> u64
         FormatItem::Field { r, .. } => repeated_count(*r, 1),
         FormatItem::Slash(n) => repeated_count(*n, 1),
         FormatItem::Group { r, items } => repeated_count(*r, pass_count(items)),
+        FormatItem::Unlimited { items } => pass_count(items),
         _ => 1,
     }
 }

@@ -47,17 +47,20 @@ pub enum FormatItem {
     Colon,
     /// `SP`, `SS`, `S`, `BN`, `BZ`, `DC` or `DP`.
     Mode(ModeStep),
+    /// `*` and items in parentheses, which are used as often as needed (ISO/IEC 1539-1:2010, 10.3.1): the last item of a
+    /// format, with a data edit descriptor inside.
+    Unlimited { items: Items<FormatItem> },
 }
 
 pub type FormatItems = Items<FormatItem>;
 
-/// Whether this is I, B, O or Z of width 0.
+/// Whether this is I, B, O, Z or G of width 0.
 fn is_unbounded(edit: Edit) -> bool
     ensures { result ≡ is_unbounded edit }
 {
     match edit {
-        Edit::Int { w, .. } | Edit::Bits { w, .. } => w == 0,
-        Edit::Log { .. } | Edit::Chars { .. } | Edit::General { .. } => false,
+        Edit::Int { w, .. } | Edit::Bits { w, .. } | Edit::General { w, .. } => w == 0,
+        Edit::Log { .. } | Edit::Chars { .. } => false,
     }
 }
 
@@ -68,11 +71,13 @@ fn item_has_width_zero(item: &FormatItem) -> bool
     match item {
         FormatItem::Field { edit, .. } => is_unbounded(*edit),
         FormatItem::Group { items, .. } => has_width_zero(items),
+        FormatItem::Unlimited { items } => has_width_zero(items),
         _ => false,
     }
 }
 
-/// Whether an edit descriptor for integers has width 0, at which the field is as wide as its value (10.6.1.1).
+/// Whether an edit descriptor has width 0, at which the field is as wide as its value (10.6.1.1, and of G0 ISO/IEC
+/// 1539-1:2010, 10.7.5.2).
 #[cycle(width)]
 pub fn has_width_zero(items: &FormatItems) -> bool
     ensures { result ≡ has_width_zero items.now }

@@ -6,10 +6,10 @@ use std::alloc::{AllocError, Global};
 use std::marker::Model;
 
 /// An outer pair of parentheses that is still open: what was read in it, and how often the inner one
-/// is repeated.
+/// is repeated; `None` where that is the one of the unlimited item.
 #[derive(Drop)]
 pub struct Level {
-    pub r: u32,
+    pub r: Option<u32>,
     pub items: FormatItems,
 }
 

@@ -68,6 +68,10 @@ pub enum Place {
     SignLetter,
     /// Behind the first letter of `DC` or `DP`.
     DecimalLetter,
+    /// Behind the star of the unlimited item, whose parenthesis has to come.
+    Starred,
+    /// Behind the unlimited item, where the last parenthesis has to come.
+    Closing,
     /// Behind the last parenthesis.
     Done,
 }
@@ -107,7 +111,7 @@ impl Purpose {
     {
         match self {
             Purpose::Width {
-                kind: FieldKind::Integer(_),
+                kind: FieldKind::Integer(_) | FieldKind::Generalized,
                 ..
             } => 0,
             Purpose::LeastDigits { .. } | Purpose::Decimals { .. } => 0,

@@ -1,7 +1,7 @@
 // The text of a format: upper case, no blanks, all commas.
 ghost use Rattle.std.specs.Prelude.{◌≡◌, [], ◌∷◌, ◌++◌, IfOk, OnOk, map, codes, decimal};
 ghost use Rattle.fj_format.specs.Parsing.{IsOnlyFormat};
-ghost use Rattle.fj_format.specs.Printing.{count_text, least_text, base_text, edit_text, mode_text, doubled, separator, in_parentheses, item_text, printed};
+ghost use Rattle.fj_format.specs.Printing.{count_text, least_text, base_text, decimals_text, edit_text, mode_text, doubled, separator, in_parentheses, item_text, printed};
 
 use crate::format::Format;
 use crate::item::{FormatItem, FormatItems, ModeStep};
@@ -56,6 +56,16 @@ fn push_lettered(letters: &[u8], n: u32, text: &mut Text) -> Result<(), AllocErr
     push_number(n, text)
 }
 
+/// `.d` behind a width, which G0 has not.
+fn push_decimals(w: u32, d: u32, text: &mut Text) -> Result<(), AllocError>
+    ensures { OnOk result (text.new ≡ text.old ++ decimals_text w d) }
+{
+    if w == 0 {
+        return Ok(());
+    }
+    push_lettered(b".", d, text)
+}
+
 fn push_edit(edit: Edit, text: &mut Text) -> Result<(), AllocError>
     ensures { OnOk result (text.new ≡ text.old ++ edit_text edit) }
 {
@@ -73,7 +83,7 @@ fn push_edit(edit: Edit, text: &mut Text) -> Result<(), AllocError>
         Edit::Chars { w: Some(w) } => push_lettered(b"A", w, text),
         Edit::General { w, d } => {
             push_lettered(b"G", w, text)?;
-            push_lettered(b".", d, text)
+            push_decimals(w, d, text)
         }
     }
 }
@@ -151,6 +161,10 @@ fn push_item(item: &FormatItem, text: &mut Text) -> Result<(), AllocError>
         }
         FormatItem::Colon => text.push_all(b":"),
         FormatItem::Mode(step) => text.push_all(mode_letters(*step)),
+        FormatItem::Unlimited { items } => {
+            text.push_all(b"*")?;
+            push_items(items, text)
+        }
     }
 }
 

@@ -1,10 +1,11 @@
 // A format that is being read, one character outside its strings at a time.
 ghost use Rattle.std.specs.Prelude.{◌≡◌, ◌+◌, ◌*◌, [], ◌∷◌, ◌++◌};
-ghost use Rattle.fj_format.specs.Reading.{at, alone, by_letter, body, start, opens, closed, between, ended, grown, behind_width, behind_decimals, behind, blank_letter, tab_letter, instead_of_width, instead, sign_letter, decimal_letter, next, Answers, Takes};
+ghost use Rattle.fj_format.specs.Reading.{at, alone, by_letter, body, start, nested, opens, stars, starred, closed_as, closed, closing, between, ended, grown, behind_general, behind_width, behind_decimals, behind, blank_letter, tab_letter, instead_of_width, instead, sign_letter, decimal_letter, next, Answers, Takes};
 ghost use Rattle.fj_format.specs.declared.item.FormatItem.TheVariants.{Field};
 ghost use Rattle.fj_format.specs.declared.place.Place.TheVariants.{Begin, Behind, First, More, SignLetter, DecimalLetter};
 ghost use Rattle.fj_format.specs.declared.place.Purpose.TheVariants.{Width};
 
+use crate::data::have_data;
 use crate::item::{FormatItem, FormatItems, ModeStep};
 use crate::level::{Level, Levels};
 use crate::place::{FieldKind, Place, Purpose, Radix, Tabbing};
@@ -86,17 +87,63 @@ impl Reader {
         }
     }
 
+    /// Goes on in inner parentheses.
+    fn nest(&mut self, r: Option<u32>) -> Result<bool, AllocError>
+        ensures { Takes result (nested self.old.levels self.old.items r) self.new }
+    {
+        let inner = Items::new(self.items.allocator());
+        let items = mem::replace(&mut self.items, inner);
+        self.levels.push(Level { r, items })?;
+        self.place = Place::Wanted;
+        Ok(true)
+    }
+
     fn open(&mut self, r: u32) -> Result<bool, AllocError>
         ensures { Takes result (opens self.old.levels self.old.items r) self.new }
     {
         if self.levels.len() < 31 {
-            let inner = Items::new(self.items.allocator());
-            let items = mem::replace(&mut self.items, inner);
-            self.levels.push(Level { r, items })?;
-            self.place = Place::Wanted;
-            Ok(true)
+            self.nest(Some(r))
         } else {
             Ok(false)
+        }
+    }
+
+    /// Takes the star of the unlimited item, which stands in no inner parentheses.
+    fn take_star(&mut self) -> bool
+        ensures { Answers (stars self.old.levels self.old.items) result self.new }
+    {
+        if self.levels.len() == 0 {
+            self.go(Place::Starred)
+        } else {
+            false
+        }
+    }
+
+    /// Takes what stands behind the star.
+    fn take_starred(&mut self, symbol: Symbol) -> Result<bool, AllocError>
+        ensures { Takes result (starred self.old.levels self.old.items symbol) self.new }
+    {
+        match symbol {
+            Symbol::Open => self.nest(None),
+            _ => Ok(false),
+        }
+    }
+
+    /// Puts the items of the innermost parentheses behind those round them.
+    fn close_as(&mut self, r: Option<u32>, inner: FormatItems) -> Result<bool, AllocError>
+        ensures { Takes result (closed_as r self.old.levels self.old.items inner) self.new }
+    {
+        match r {
+            Some(r) => self.put(FormatItem::Group { r, items: inner }, false),
+            None => {
+                if have_data(inner.as_slice()) {
+                    self.items.push(FormatItem::Unlimited { items: inner })?;
+                    self.place = Place::Closing;
+                    Ok(true)
+                } else {
+                    Ok(false)
+                }
+            }
         }
     }
 
@@ -111,8 +158,18 @@ impl Reader {
             Some(level) => {
                 let Level { r, items } = level;
                 let inner = mem::replace(&mut self.items, items);
-                self.put(FormatItem::Group { r, items: inner }, false)
+                self.close_as(r, inner)
             }
+        }
+    }
+
+    /// Takes what stands behind the unlimited item.
+    fn take_closing(&mut self, symbol: Symbol) -> bool
+        ensures { Answers (closing self.old.levels self.old.items symbol) result self.new }
+    {
+        match symbol {
+            Symbol::Close => self.go(Place::Done),
+            _ => false,
         }
     }
 
@@ -157,6 +214,7 @@ impl Reader {
     {
         match symbol {
             Symbol::Digit(d) => Ok(self.grow(Purpose::Count, u64::from(d))),
+            Symbol::Star => Ok(self.take_star()),
             _ => self.take_body(None, symbol),
         }
     }
@@ -189,6 +247,19 @@ impl Reader {
         self.end(FormatItem::Field { r, edit }, symbol)
     }
 
+    /// Takes what stands behind the width of G: `.d`, or behind 0 nothing.
+    fn take_behind_general(&mut self, r: u32, w: u32, symbol: Symbol) -> Result<bool, AllocError>
+        ensures { Takes result (behind_general r w self.old.levels self.old.items symbol) self.new }
+    {
+        if w == 0 {
+            return self.end_field(r, Edit::General { w, d: 0 }, symbol);
+        }
+        match symbol {
+            Symbol::Point => Ok(self.go(Place::First(Purpose::Decimals { r, w }))),
+            _ => Ok(false),
+        }
+    }
+
     /// Takes what stands behind a width.
     fn take_behind_width(
         &mut self,
@@ -207,10 +278,7 @@ impl Reader {
             (FieldKind::Integer(radix), _) => { self.end_field(r, radix.edit(w, None), symbol) }
             (FieldKind::Logical, _) => { self.end_field(r, Edit::Log { w }, symbol) }
             (FieldKind::Characters, _) => { self.end_field(r, Edit::Chars { w: Some(w) }, symbol) }
-            (FieldKind::Generalized, Symbol::Point) => {
-                Ok(self.go(Place::First(Purpose::Decimals { r, w })))
-            }
-            (FieldKind::Generalized, _) => Ok(false),
+            (FieldKind::Generalized, _) => self.take_behind_general(r, w, symbol),
         }
     }
 
@@ -351,6 +419,8 @@ impl Reader {
             }
             (Place::SignLetter, _) => self.take_sign_letter(symbol),
             (Place::DecimalLetter, _) => self.take_decimal_letter(symbol),
+            (Place::Starred, _) => self.take_starred(symbol),
+            (Place::Closing, _) => Ok(self.take_closing(symbol)),
         }
     }
 }

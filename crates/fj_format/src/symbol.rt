@@ -35,6 +35,7 @@ pub enum Symbol {
     Point,
     Slash,
     Colon,
+    Star,
     /// A character that stands in no format.
     Other,
 }
@@ -100,6 +101,7 @@ pub fn as_symbol(c: u8) -> Symbol
         b'.' => Symbol::Point,
         b'/' => Symbol::Slash,
         b':' => Symbol::Colon,
+        b'*' => Symbol::Star,
         _ => match as_letter(to_upper(c)) {
             Some(letter) => Symbol::Letter(letter),
             None => Symbol::Other,

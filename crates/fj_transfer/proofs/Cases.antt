@@ -14,9 +14,9 @@ use Rattle.fj_value.specs.declared.condition.Condition.TheVariants.{Error}
 use Rattle.fj_format.specs.declared.item.FormatItem.{FormatItem}
 use Rattle.fj_format.specs.declared.item.FormatItem.TheVariants.{Field, Group, Str, Skip, Tab}
 use Rattle.fj_format.specs.Unfolding as step
-use Rattle.fj_format.specs.Unfolding.{Steps, pass, again}
-use Rattle.fj_format.proofs.UnfoldingLaws.{written_out-Field, written_out-Group, written_out-Skip, written_out-Str, written_out-Tab, is_group-Field, is_group-Group, is_group-Str, is_group-Tab}
-use Rattle.fj_control.specs.Steps.{control, rounds}
+use Rattle.fj_format.specs.Unfolding.{Steps, pass, again, has_unlimited}
+use Rattle.fj_format.proofs.UnfoldingLaws.{written_out-Field, written_out-Group, written_out-Skip, written_out-Str, written_out-Tab, is_group-Field, is_group-Group, is_group-Str, is_group-Tab, is_unlimited-Field, is_unlimited-Group, is_unlimited-Str, is_unlimited-Tab}
+use Rattle.fj_control.specs.Steps.{control, round_of, rounds}
 use Rattle.fj_line.specs.Actions.{AtHand, first_record, output}
 use Rattle.fj_control.specs.Paired.{paired}
 use Rattle.fj_list.specs.Items.{Output}
@@ -26,11 +26,13 @@ use Rattle.fj_transfer.specs.Explicit.{action_of, ending, explicit_actions}
 abbrev usual : EditModes
 usual = record { blank_zero = false; comma = false; delim = Plain; pad = true; plus = false }
 
-by_steps : (hand : AtHand) (advance : Bool) (f : List FormatItem) (items : List Output) (p a : Steps) → pass f ≡ p → again f ≡ a
-    → output hand (explicit_actions usual advance f items) ≡ output hand (map action_of (paired usual (control (p ++ rounds (length items) a) (length items)) items) ++ ending advance)
-by_steps hand advance f items p a e h =
-    ap (λ l. output hand (map action_of (paired usual (control (l ++ rounds (length items) (again f)) (length items)) items) ++ ending advance)) e
-    ∙ ap (λ l. output hand (map action_of (paired usual (control (p ++ rounds (length items) l) (length items)) items) ++ ending advance)) h
+by_steps : (hand : AtHand) (advance : Bool) (f : List FormatItem) (items : List Output) (p a : Steps) → has_unlimited f ≡ false → pass f ≡ p → again f ≡ a
+    → output hand (explicit_actions usual advance f items)
+    ≡ output hand (map action_of (paired usual (control (p ++ rounds (length items) (step.colon ∷ step.slash ∷ a)) (length items)) items) ++ ending advance)
+by_steps hand advance f items p a none e h =
+    ap (λ l. output hand (map action_of (paired usual (control (l ++ rounds (length items) (round_of (has_unlimited f) (again f))) (length items)) items) ++ ending advance)) e
+    ∙ ap (λ b. output hand (map action_of (paired usual (control (p ++ rounds (length items) (round_of b (again f))) (length items)) items) ++ ending advance)) none
+    ∙ ap (λ l. output hand (map action_of (paired usual (control (p ++ rounds (length items) (step.colon ∷ step.slash ∷ l)) (length items)) items) ++ ending advance)) h
 
 abbrev integer : ℤ → Output
 integer n = (Int4, value.Int n)
@@ -49,6 +51,7 @@ pub reverts_to_the_group : output (first_record 80 0) (explicit_actions usual tr
     ≡ Ok (text_of (codes "  1  2  3" ∷ codes "  4  5" ∷ codes "  6" ∷ []))
 unfolding numeral
 reverts_to_the_group = by_steps _ true with_a_group (map (λ n. integer (pos n)) (1 ∷ 2 ∷ 3 ∷ 4 ∷ 5 ∷ 6 ∷ [])) (step.edit (edit.Int 3 None) ∷ group_steps) group_steps
+    (simp (is_unlimited-Field, is_unlimited-Group))
     (simp (written_out-Field, written_out-Group, written_out-Skip))
     (simp (is_group-Field, is_group-Group, written_out-Field, written_out-Group, written_out-Skip))
 
@@ -61,12 +64,14 @@ tab_steps = step.tab 4 ∷ step.edit (edit.Chars None) ∷ step.tab 1 ∷ step.e
 
 pub back_to_the_limit : output (first_record 80 0) (explicit_actions usual false with_tabs (text (codes "CD") ∷ text (codes "AB") ∷ [])) ≡ Ok (codes "AB CD")
 back_to_the_limit = by_steps _ false with_tabs (text (codes "CD") ∷ text (codes "AB") ∷ []) tab_steps tab_steps
+    (simp (is_unlimited-Field, is_unlimited-Tab))
     (simp (written_out-Field, written_out-Tab))
     (simp (is_group-Field, is_group-Tab, written_out-Field, written_out-Tab))
 
 -- the limit of a record, with one character that stood there
 pub past_the_limit : output (first_record 5 1) (explicit_actions usual false with_tabs (text (codes "CD") ∷ text (codes "AB") ∷ [])) ≡ Err (Error 15)
 past_the_limit = by_steps _ false with_tabs (text (codes "CD") ∷ text (codes "AB") ∷ []) tab_steps tab_steps
+    (simp (is_unlimited-Field, is_unlimited-Tab))
     (simp (written_out-Field, written_out-Tab))
     (simp (is_group-Field, is_group-Tab, written_out-Field, written_out-Tab))
 
@@ -76,6 +81,7 @@ without_data = Str (codes "x") ∷ []
 
 pub no_descriptor : output (first_record 80 0) (explicit_actions usual true without_data (integer (pos 5) ∷ [])) ≡ Err (Error 11)
 no_descriptor = by_steps _ true without_data (integer (pos 5) ∷ []) (step.string (codes "x") ∷ []) (step.string (codes "x") ∷ [])
+    (simp is_unlimited-Str)
     (simp written_out-Str) (simp (is_group-Str, written_out-Str))
 
 -- one descriptor and one item
@@ -83,8 +89,8 @@ abbrev one_field : Edit → List FormatItem
 one_field e = Field 1 e ∷ []
 
 alone : (e : Edit) (items : List Output) → output (first_record 80 0) (explicit_actions usual true (one_field e) items)
-    ≡ output (first_record 80 0) (map action_of (paired usual (control ((step.edit e ∷ []) ++ rounds (length items) (step.edit e ∷ [])) (length items)) items) ++ ending true)
-alone e items = by_steps _ true (one_field e) items (step.edit e ∷ []) (step.edit e ∷ []) (simp written_out-Field) (simp (is_group-Field, written_out-Field))
+    ≡ output (first_record 80 0) (map action_of (paired usual (control ((step.edit e ∷ []) ++ rounds (length items) (step.colon ∷ step.slash ∷ step.edit e ∷ [])) (length items)) items) ++ ending true)
+alone e items = by_steps _ true (one_field e) items (step.edit e ∷ []) (step.edit e ∷ []) (simp is_unlimited-Field) (simp written_out-Field) (simp (is_group-Field, written_out-Field))
 
 pub with_zeros : output (first_record 80 0) (explicit_actions usual true (one_field (edit.Int 5 (Some 3))) (integer (negsuc 6) ∷ [])) ≡ Ok (text_of (codes " -007" ∷ []))
 unfolding numeral

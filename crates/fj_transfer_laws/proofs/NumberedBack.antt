@@ -8,8 +8,8 @@ use Rattle.fj_modes.specs.declared.specifiers.Access.TheVariants.{Direct}
 use Rattle.fj_modes.specs.declared.specifiers.Action.{Action as Allowed}
 use Rattle.fj_modes.specs.Words.{same_access}
 use Rattle.fj_format.specs.declared.item.FormatItem.{FormatItem}
-use Rattle.fj_format.specs.Unfolding.{pass, again}
-use Rattle.fj_control.specs.Steps.{control, rounds, steps}
+use Rattle.fj_format.specs.Unfolding.{pass}
+use Rattle.fj_control.specs.Steps.{control, round, rounds, steps}
 use Rattle.fj_control.specs.Paired.{Part, paired}
 use Rattle.fj_line.specs.Line.{farthest, empty_line}
 use Rattle.fj_line.specs.Actions.{Action, end_record, AtHand as LineAtHand, first_record as line_begun, carried_out}
@@ -220,7 +220,7 @@ read_again c f number edit edit' from into stands long access action kinds can f
     let of_kinds = items_there from.cells into.cells from.order into.order kinds in
     let modes = changed edit c.modes.edit in
     let modes' = changed edit' c.modes.edit in
-    let s = pass f ++ rounds (length items) (again f) in
+    let s = pass f ++ rounds (length items) (round f) in
     let low : recl ≤ farthest = omega (arith, longest c.modes.formatted recl long.1) in
     let back = read_back (IsThere r last) (at_number r last) (known r last access low) s modes modes' items into.order empty_line (starting hand into.cells) t ts (record {
       of_kinds = of_kinds.0;
@@ -234,7 +234,7 @@ read_again c f number edit edit' from into stands long access action kinds can f
     }) in
     let e = read_out true (paired modes' (steps f (length into.order)) into.order) (starting hand into.cells) in
     let many : paired modes' (control s (length into.order)) into.order ≡ paired modes' (steps f (length into.order)) into.order =
-    ap (λ n. paired modes' (control (pass f ++ rounds n (again f)) (length into.order)) into.order) of_kinds.2 in
+    ap (λ n. paired modes' (control (pass f ++ rounds n (round f)) (length into.order)) into.order) of_kinds.2 in
     let R : List (Part ℕ) → Type 0 = λ l. Back (at_number r last) into.cells into.order (values_in items) 0 parts (read_out true l (starting hand into.cells)) in
     let all : Back (at_number r last) into.cells into.order (values_in items) 0 parts e = subst R many back in
     let ways : Ways = record { old = plain; end_of_file = past_end r; end_of_record = behind e.progress.hand; fine = left_at true e.progress } in

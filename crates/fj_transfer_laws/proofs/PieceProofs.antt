@@ -80,7 +80,7 @@ second_hand b h m is inside =
     ∙ ap (λ l. Ok (record { connection = s; text = l })) rest
 
 pub pieces_are_one : PiecesAreOneRead
-pieces_are_one c f g advance edit place cells order more stands alone count go many fine =
+pieces_are_one c f g advance edit place cells order more stands limited alone count go many fine =
     let r = fine_read c f edit place cells order fine in
     let b = r.b in
     let begun' = stands_at c b f edit place stands r.begins in
@@ -110,7 +110,7 @@ pieces_are_one c f g advance edit place cells order more stands alone count go m
     ∙ ap (λ (k : Modes). explicit_ended c' c' advance (carried_out advance (paired (changed edit k.edit) (steps g (length more)) more) (piece_of m 0 0 e.progress))) is.file.modes in
     let all = carried_out advance (paired modes (steps g (length more)) more) e.progress in
     let on : carried_out advance (paired modes (steps (f ++ g) (length (order ++ more))) (order ++ more)) start ≡ all =
-    ap (λ l. carried_out advance l start) (parts_split f g modes order more alone count many)
+    ap (λ l. carried_out advance l start) (parts_split f g modes order more limited alone count many)
     ∙ goes_on advance parts (paired modes (steps g (length more)) more) start (ap (λ (x : Ended). x.condition) (advancing advance parts start r.fine) ∙ r.fine)
     ∙ ap (λ (x : Ended). carried_out advance (paired modes (steps g (length more)) more) x.progress) (advancing advance parts start r.fine) in
     let both_is : transfer c (reading (f ++ g) advance edit place) (moving cells (order ++ more)) ≡ explicit_ended c b advance all =

@@ -9,8 +9,8 @@ use Rattle.fj_modes.specs.declared.specifiers.Action.{Action as Allowed}
 use Rattle.fj_modes.specs.declared.specifiers.Access.TheVariants.{Direct}
 use Rattle.fj_modes.specs.Words.{same_access}
 use Rattle.fj_format.specs.declared.item.FormatItem.{FormatItem}
-use Rattle.fj_format.specs.Unfolding.{pass, again}
-use Rattle.fj_control.specs.Steps.{control, rounds, steps}
+use Rattle.fj_format.specs.Unfolding.{pass}
+use Rattle.fj_control.specs.Steps.{control, round, rounds, steps}
 use Rattle.fj_control.specs.Paired.{Part, paired}
 use Rattle.fj_line.specs.Line.{farthest, empty_line}
 use Rattle.fj_line.specs.Actions.{Action, end_record, AtHand as LineAtHand, first_record as line_begun, carried_out}
@@ -118,7 +118,7 @@ records_back c f edit edit' from into stands long action kinds can plain fine =
     let of_kinds = items_there from.cells into.cells from.order into.order kinds in
     let modes = changed edit c.modes.edit in
     let modes' = changed edit' c.modes.edit in
-    let s = pass f ++ rounds (length items) (again f) in
+    let s = pass f ++ rounds (length items) (round f) in
     let low : c.modes.recl ≤ farthest = omega (arith, longest c.modes.formatted c.modes.recl long.1) in
     let known : AreThere (IsThere r) (between r (length r.bytes)) = record {
       text = line_text r w.sequential;
@@ -138,7 +138,7 @@ records_back c f edit edit' from into stands long action kinds can plain fine =
     }) in
     let e = read_out true (paired modes' (steps f (length into.order)) into.order) (starting hand into.cells) in
     let many : paired modes' (control s (length into.order)) into.order ≡ paired modes' (steps f (length into.order)) into.order =
-    ap (λ n. paired modes' (control (pass f ++ rounds n (again f)) (length into.order)) into.order) of_kinds.2 in
+    ap (λ n. paired modes' (control (pass f ++ rounds n (round f)) (length into.order)) into.order) of_kinds.2 in
     let R : List (Part ℕ) → Type 0 = λ l. Back (between r (length r.bytes)) into.cells into.order (values_in items) 0 parts (read_out true l (starting hand into.cells)) in
     let all : Back (between r (length r.bytes)) into.cells into.order (values_in items) 0 parts e = subst R many back in
     let ways : Ways = record { old = r; end_of_file = past_end r; end_of_record = behind e.progress.hand; fine = left_at true e.progress } in

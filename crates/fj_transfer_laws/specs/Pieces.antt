@@ -4,7 +4,7 @@ use Rattle.fj_value.specs.declared.value.Cell.{Cell}
 use Rattle.fj_value.specs.declared.condition.Condition.TheVariants.{Fine, Error}
 use Rattle.fj_format.specs.declared.item.FormatItem.{FormatItem}
 use Rattle.fj_format.specs.Unfolding as step
-use Rattle.fj_format.specs.Unfolding.{Steps, pass, from_last_group}
+use Rattle.fj_format.specs.Unfolding.{Steps, pass, from_last_group, has_unlimited}
 use Rattle.fj_connect.specs.Connection.{Connection}
 use Rattle.fj_connect.specs.PositionLaws.{Stands}
 use Rattle.fj_transfer.specs.declared.change.EditChange.{EditChange}
@@ -50,9 +50,9 @@ pub record IsOneRead (first second both : Done) : Type 0 where
   pub connection : ((n : ℕ) → both.condition ≢ Error n) → second.connection ≡ both.connection
 
 -- A READ under a format f with ADVANCE='NO' that is fine, and one under a format g behind it, are one READ under both formats, where f
--- has one data edit descriptor for each of its items.
+-- has one data edit descriptor for each of its items, and no unlimited item, which would go on behind them.
 abbrev pub PiecesAreOneRead : Type 0
 PiecesAreOneRead = (c : Connection) (f g : List FormatItem) (advance : Bool) (edit : EditChange) (place : Option ℤ) (cells : List Cell) (order more : List ℕ)
-    → Stands c → AreAlone (pass f) → data_count (pass f) ≡ length order → GoAhead (pass g) → IsEnough g (length more)
+    → Stands c → has_unlimited f ≡ false → AreAlone (pass f) → data_count (pass f) ≡ length order → GoAhead (pass g) → IsEnough g (length more)
     → let first = transfer c (reading f false edit place) (moving cells order) in first.condition ≡ Fine
     → IsOneRead first (transfer first.connection (reading g advance edit None) (moving first.cells more)) (transfer c (reading (f ++ g) advance edit place) (moving cells (order ++ more)))

@@ -24,10 +24,10 @@ logical_width (edit.Log w) = Some w
 logical_width (edit.General w d) = Some w
 logical_width _ = None
 
--- for characters, the width, where the descriptor names one
+-- for characters, the width, where the descriptor names one; G0 is A there (ISO/IEC 1539-1:2010, 10.7.5.2)
 abbrev pub text_width : Edit → Option (Option ℕ)
 text_width (edit.Chars w) = Some w
-text_width (edit.General w d) = Some (Some w)
+text_width (edit.General w d) = Some (if w == 0 then None else Some w)
 text_width _ = None
 
 -- the width that a descriptor names

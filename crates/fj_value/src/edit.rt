@@ -35,7 +35,7 @@ pub enum Edit {
     Log { w: u32 },
     /// `A` or `Aw`.
     Chars { w: Option<u32> },
-    /// `Gw.d`.
+    /// `Gw.d`, and `G0`, of which w and d are 0 (ISO/IEC 1539-1:2010, 10.7.5.2).
     General { w: u32, d: u32 },
 }
 
@@ -73,13 +73,13 @@ impl Edit {
         }
     }
 
-    /// Where it is for characters, its width, if it names one.
+    /// Where it is for characters, its width, if it names one; G0 is A there.
     pub fn text_width(self) -> Option<Option<u32>>
         ensures { result ≡ text_width self }
     {
         match self {
             Edit::Chars { w } => Some(w),
-            Edit::General { w, .. } => Some(Some(w)),
+            Edit::General { w, .. } => Some(if w == 0 { None } else { Some(w) }),
             Edit::Int { .. } | Edit::Bits { .. } | Edit::Log { .. } => None,
         }
     }

@@ -1,6 +1,6 @@
 use Rattle.std.proofs.Common.{◌++◌, refl, ap}
 use Rattle.fj_format.specs.Unfolding.{pass}
-use Rattle.fj_format.proofs.UnfoldingLaws.{written_out-Field, written_out-Group, written_out-Str, written_out-Tab, written_out-Left, written_out-Right, written_out-Skip, written_out-Slash, written_out-Colon, written_out-Mode}
+use Rattle.fj_format.proofs.UnfoldingLaws.{written_out-Field, written_out-Group, written_out-Str, written_out-Tab, written_out-Left, written_out-Right, written_out-Skip, written_out-Slash, written_out-Colon, written_out-Mode, written_out-Unlimited}
 use Rattle.fj_format.proofs.laws.passes_unfold.Goals as goal
 
 pub returns : goal.returns
@@ -16,4 +16,5 @@ returns c = record {
   records = λ n more. ap (λ l. l ++ pass more) (written_out-Slash n);
   stop = λ more. ap (λ l. l ++ pass more) written_out-Colon;
   change = λ m more. ap (λ l. l ++ pass more) (written_out-Mode m);
+  unlimited = λ items more. ap (λ l. l ++ pass more) (written_out-Unlimited items);
 }

@@ -1,6 +1,5 @@
 use Rattle.std.proofs.Common.{◌≡◌, length}
-use Rattle.fj_format.specs.Unfolding.{Steps}
-use Rattle.fj_control.specs.Walk.{next_in}
+use Rattle.fj_control.specs.Walk.{next_from}
 use Rattle.fj_control.specs.Walker.{rest_of, IsSound, KeepsRoom}
 use Rattle.fj_control.proofs.walker.Walker.walk.Given as goal
 
@@ -8,7 +7,7 @@ abbrev pub invariant-loop-piece : goal.invariant-loop-piece
 invariant-loop-piece l = record {
   sound : IsSound l.self;
   room : KeepsRoom l.initial.self l.self;
-  same : (more : Steps) → next_in more l.left (rest_of l.initial.self) ≡ next_in more l.left (rest_of l.self);
+  same : next_from l.left (rest_of l.initial.self) ≡ next_from l.left (rest_of l.self);
 }
 
 abbrev pub decreases-loop-piece : goal.decreases-loop-piece
