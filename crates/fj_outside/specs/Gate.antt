@@ -1,5 +1,7 @@
 -- The files and the disk at a gate.
-use Rattle.std.specs.Prelude.{ℕ, List, Bool, string_bytes}
+use Rattle.std.specs.Prelude.{◌≡◌, ℕ, List, Bool, string_bytes}
+use Rattle.std.specs.FinMap as map
+use Rattle.std.specs.FinSet as set
 use Rattle.fj_outside.specs.Holdings.{Holdings}
 use Rattle.fj_outside.specs.Table.{held_of}
 use Rattle.fj_outside.specs.declared.gate.Gate.{Gate}
@@ -43,3 +45,13 @@ disk_turns disk = turns_of disk.gate
 
 abbrev pub disk_count : GateDisk → ℕ
 disk_count disk = disk.faults
+
+-- An empty disk of which no call has failed, with those names and so many looks.
+pub record IsNew (disk : GateDisk) (held until : List ℕ) (turns : ℕ) : Type 0 where
+  pub files : (disk_held disk).files ≡ map.empty
+  pub in_use : (disk_held disk).in_use ≡ set.empty
+  pub hurt : (disk_held disk).hurt ≡ set.empty
+  pub waits : waiting_name disk ≡ held
+  pub opens : opening_name disk ≡ until
+  pub looks : disk_turns disk ≡ turns
+  pub count : disk_count disk ≡ 0

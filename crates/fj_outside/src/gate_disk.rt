@@ -28,23 +28,42 @@ pub struct GateDisk {
 }
 
 impl GateDisk {
-    ghost use Rattle.fj_outside.specs.Gate.{turns_of, file_waits, file_opens, file_bytes, file_turns, file_count, disk_held, waiting_name, opening_name, disk_turns, disk_count};
+    ghost use Rattle.fj_outside.specs.Gate.{turns_of, file_waits, file_opens, file_bytes, file_turns, file_count, disk_held, waiting_name, opening_name, disk_turns, disk_count, IsNew};
 
     /// An empty disk in which the writes to `held` wait for the first write to `until`, each for `turns` looks at most.
     pub fn new(alloc: Global, held: &str, until: &str, turns: u64) -> Result<GateDisk, AllocError>
-        ensures files { IfOk result (λ disk. (disk_held disk).files ≡ map.empty) }
-        ensures in_use { IfOk result (λ disk. (disk_held disk).in_use ≡ set.empty) }
-        ensures hurt { IfOk result (λ disk. (disk_held disk).hurt ≡ set.empty) }
-        ensures held { IfOk result (λ disk. waiting_name disk ≡ held.now) }
-        ensures until { IfOk result (λ disk. opening_name disk ≡ until.now) }
-        ensures turns { IfOk result (λ disk. disk_turns disk ≡ turns) }
-        ensures count { IfOk result (λ disk. disk_count disk ≡ 0) }
+        ensures { IfOk result (λ disk. IsNew disk held.now until.now turns) }
+    {
+        GateDisk::at(alloc, held, until, Gate::new(alloc, turns)?)
+    }
+
+    /// Two empty disks with one gate: the writes to `held` of the first wait for the first write to `until` of the second, each for `turns` looks at
+    /// most. No write to the first opens the gate, and none to the second waits: their other file is of the empty name, which no file of a deck has.
+    pub fn pair(
+        alloc: Global,
+        held: &str,
+        until: &str,
+        turns: u64,
+    ) -> Result<(GateDisk, GateDisk), AllocError>
+        ensures first { IfOk result (λ disks. IsNew disks.0 held.now [] turns) }
+        ensures second { IfOk result (λ disks. IsNew disks.1 [] until.now turns) }
+    {
+        let gate = Gate::new(alloc, turns)?;
+        let other = gate.try_clone()?;
+        let first = GateDisk::at(alloc, held, "", gate)?;
+        let second = GateDisk::at(alloc, "", until, other)?;
+        Ok((first, second))
+    }
+
+    /// An empty disk with these names at a gate.
+    fn at(alloc: Global, held: &str, until: &str, gate: Gate) -> Result<GateDisk, AllocError>
+        ensures { IfOk result (λ disk. IsNew disk held.now until.now (turns_of gate)) }
     {
         Ok(GateDisk {
             table: BTreeMap::new(alloc),
             held: String::from_str(alloc, held)?,
             until: String::from_str(alloc, until)?,
-            gate: Gate::new(alloc, turns)?,
+            gate,
             faults: 0,
         })
     }
