@@ -5,7 +5,7 @@
 # test: the gate
 # bench: the benchmarks, beside gfortran where it is on the machine
 # checks: what no gate asks for: refused allocations, failing calls, many runs with workers, random statements and decks beside gfortran,
-# the lines of docs/DECKS.md, worked decks, and the modules of docs/DEFINITIONS.md
+# the lines of docs/DECKS.md, worked decks, the modules of docs/DEFINITIONS.md, and whether the wrong bodies of checks/edits can be applied
 .PHONY: build try install example examples test bench checks
 
 PREFIX ?= /usr/local
@@ -45,4 +45,5 @@ checks: build
 	checks/random
 	checks/decks
 	checks/definitions
+	checks/edits --look
 	checks/worked
