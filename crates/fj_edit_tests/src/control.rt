@@ -20,6 +20,7 @@ fn show_edit(out: &mut String, edit: Edit) -> Result<(), AllocError> {
         Edit::Log { w } => write!(out, "L{w}"),
         Edit::Chars { w: None } => out.push_str("A"),
         Edit::Chars { w: Some(w) } => write!(out, "A{w}"),
+        Edit::General { w: 0, .. } => out.push_str("G0"),
         Edit::General { w, d } => write!(out, "G{w}.{d}"),
     }
 }
@@ -97,7 +98,7 @@ fn nested(alloc: Global, depth: u32, count: &str) -> Result<String, AllocError> 
 }
 
 /// A format, the number of items, and the steps.
-static RUNS: [(&str, u32, &str); 33] = [
+static RUNS: [(&str, u32, &str); 38] = [
     (
         "(I3,2(1X,I2))",
         6,
@@ -136,6 +137,15 @@ static RUNS: [(&str, u32, &str); 33] = [
     ("(3(2(I1)))", 7, " I1 I1 I1 I1 I1 I1 / I1 . ."),
     ("(//I1//)", 2, " / / I1 / / / / / I1 / / . ."),
     ("(3/,I1)", 1, " / / / I1 . ."),
+    ("(*(I0,:,','))", 3, " I0 ',' I0 ',' I0 . ."),
+    (
+        "('x',*('a',G0,'b'))",
+        2,
+        " 'x' 'a' G0 'b' 'a' G0 'b' 'a' . .",
+    ),
+    ("(I1,*('a',G0))", 0, " . ."),
+    ("(2(I1),*(I2,2(A)))", 6, " I1 I1 I2 A A I2 . ."),
+    ("(*(I1,/))", 2, " I1 / I1 / . ."),
     ("(':',:,'x',I1)", 0, " ':' . ."),
     ("(':',:,'x',I1)", 1, " ':' 'x' I1 . ."),
     ("(:)", 0, " . ."),

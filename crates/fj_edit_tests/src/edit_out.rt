@@ -394,9 +394,8 @@ fn logicals(rt: HostRuntime) {
     assert!(rt; is_logical(rt.alloc(), 1, true, b"T"));
 }
 
-/// Appends one value of each kind, characters among them.
-fn append_each(text: &Value, out: &mut Text) -> bool {
-    let general = Edit::General { w: 5, d: 1 };
+/// Appends one value of each kind under G, characters among them, and one under Z.
+fn append_each(general: Edit, text: &Value, out: &mut Text) -> bool {
     let bits = edit_of(16, 3, None);
     int_field(general, &Value::Int(42), Kind::Int4, modes(false), out).is_ok()
         && logical_field(general, &Value::Log(true), Kind::Logical, modes(false), out).is_ok()
@@ -405,10 +404,10 @@ fn append_each(text: &Value, out: &mut Text) -> bool {
 }
 
 /// Whether they are written so.
-fn are_written(alloc: Global, expected: &[u8]) -> bool {
+fn are_written(alloc: Global, general: Edit, expected: &[u8]) -> bool {
     let mut out = Text::new(alloc);
     match value_of(alloc, b"abc") {
-        Ok(text) => append_each(&text, &mut out) && out.bytes() == expected,
+        Ok(text) => append_each(general, &text, &mut out) && out.bytes() == expected,
         Err(_) => false,
     }
 }
@@ -416,7 +415,9 @@ fn are_written(alloc: Global, expected: &[u8]) -> bool {
 /// G by the kind, each appended to what is there, as gfortran writes it.
 #[test]
 fn general_fields(rt: HostRuntime) {
-    assert!(rt; are_written(rt.alloc(), b"   42    T  abc  A"));
+    let (wide, free) = (Edit::General { w: 5, d: 1 }, Edit::General { w: 0, d: 0 });
+    assert!(rt; are_written(rt.alloc(), wide, b"   42    T  abc  A"));
+    assert!(rt; are_written(rt.alloc(), free, b"42Tabc  A"));
 }
 
 /// Whether so many of these values are appended, behind which the text is this.

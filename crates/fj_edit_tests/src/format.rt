@@ -22,7 +22,15 @@ static CASES: &[u8] = b"\
     (\tI\t5\t)=(I5)|\
     (\n)=1|\
     (Q)=1|\
-    (*(I5))=1|\
+    (*(I5))=(*(I5))|\
+    (i5,*(2(a,x)))=(I5,*(2(A,1X)))|\
+    (/*(I5))=(/,*(I5))|\
+    (*(1X))=5|\
+    (*(I1),I2)=6|\
+    (*(*(I1)))=3|\
+    (2(*(I1)))=3|\
+    (2*(I1))=2|\
+    (I1*(I1))=3|\
     (I5,)=4|\
     (,I5)=1|\
     (I5,,I5)=4|\
@@ -91,8 +99,10 @@ static CASES: &[u8] = b"\
     (A0)=3|\
     (a,3a10)=(A,3A10)|\
     (A5.2)=3|\
-    (G0)=3|\
-    (G00)=4|\
+    (G0)=(G0)|\
+    (2g 0 0)=(2G0)|\
+    (G0.3)=3|\
+    (G0E3)=3|\
     (G01.2)=(G1.2)|\
     (G5)=3|\
     (G5.)=4|\
@@ -172,13 +182,15 @@ fn is_too_long(alloc: Global, text: &[u8]) -> bool {
     }
 }
 
-/// Formats with an integer field as wide as its value, and others.
-static WIDTHS: [(&str, bool); 7] = [
+/// Formats with a field as wide as its value, and others.
+static WIDTHS: [(&str, bool); 9] = [
     ("(I0)", true),
     ("(B0.5)", true),
     ("(A,2(X,3(O0)))", true),
     ("(1000(1000A),X,Z0)", true),
     ("(I10,B1,O2.0,Z3)", false),
+    ("(A,2G0)", true),
+    ("(*(2(G0)))", true),
     ("(L1,A,G1.0)", false),
     ("()", false),
 ];

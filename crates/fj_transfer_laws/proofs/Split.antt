@@ -94,9 +94,9 @@ some_group (x ∷ g) h = by (is_unlimited x) refl (from_last_group g) (λ is. so
     in_more b is no = sym (ap (λ c. c || has_unlimited g) (is ∙ no)) ∙ h
 
     by : (b : Bool) → is_unlimited x ≡ b → (o : Option (List FormatItem)) → (has_unlimited g ≡ true → IsSome o) → IsSome (first_some o (cond (is_group x) (Some (x ∷ g)) None))
-    by b is (Some found) more = tt
-    by true is None more = let P : Bool → Type 0 = λ c. IsSome (cond c (Some (x ∷ g)) None) in subst P (sym (group_of_unlimited x is)) tt
-    by false is None more = absurd (more (in_more false is refl))
+    by b is (Some found) more = refl
+    by true is None more = let P : Bool → Type 0 = λ c. IsSome (cond c (Some (x ∷ g)) None) in subst P (sym (group_of_unlimited x is)) refl
+    by false is None more = absurd (let no : false ≡ true = more (in_more false is refl) in cc)
 
 -- more rounds than there are items change nothing
 more_rounds : (a r : Steps) (n all : ℕ) (b : Bool) → has_data r ≡ b → n ≤ all → control (a ++ rounds all r) n ≡ control (a ++ rounds n r) n
@@ -235,12 +235,13 @@ round_goes a b n go =
 -- what is used again is the end of a pass
 found_behind : (g found : List FormatItem) → from_last_group g ≡ Some found → (front : List FormatItem) × (g ≡ front ++ found)
 found_behind [] found e = cc
-found_behind (x ∷ g) found e = by (from_last_group g) refl (is_group x) e
+found_behind (x ∷ g) found e = by (from_last_group g) refl (is_group x) (λ is. found_behind g found is) e
   where
-    by : (o : Option (List FormatItem)) → from_last_group g ≡ o → (b : Bool) → first_some o (cond b (Some (x ∷ g)) None) ≡ Some found → (front : List FormatItem) × (x ∷ g ≡ front ++ found)
-    by (Some ys) is b e = let more = found_behind g found (is ∙ e) in (x ∷ more.0, ap (λ l. x ∷ l) more.1)
-    by None is true e = ([], (let same : x ∷ g ≡ found = cc in same))
-    by None is false e = cc
+    by : (o : Option (List FormatItem)) → from_last_group g ≡ o → (b : Bool) → (from_last_group g ≡ Some found → (front : List FormatItem) × (g ≡ front ++ found))
+        → first_some o (cond b (Some (x ∷ g)) None) ≡ Some found → (front : List FormatItem) × (x ∷ g ≡ front ++ found)
+    by (Some ys) is b behind e = let more = behind (is ∙ e) in (x ∷ more.0, ap (λ l. x ∷ l) more.1)
+    by None is true behind e = ([], (let same : x ∷ g ≡ found = cc in same))
+    by None is false behind e = cc
 
 front_of : (g : List FormatItem) → (front : List FormatItem) × (g ≡ front ++ again_items g)
 front_of g = by (from_last_group g) refl
