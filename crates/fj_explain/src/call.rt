@@ -2,7 +2,7 @@
 
 use crate::rules::{Given, rules};
 use crate::specifiers::{Class, SPECIFIERS, Statement, Value};
-use crate::token::{Shape, Token, closed, cut, find};
+use crate::token::{Shape, Token, amount, closed, cut, last};
 use crate::told::{Look, Part, Told};
 use crate::value::{name, operand, place, single};
 use crate::words::look_up;
@@ -42,14 +42,14 @@ pub fn look_at<'a>(call: Call<'_, 'a>, tokens: &[Token<'a>]) -> Look<'a> {
     let [mark, inside @ ..] = tokens else {
         return Err(
             call.word
-                .told("% wants its arguments in parentheses, the unit first"),
+                .told("% needs its arguments in parentheses, the unit first"),
         );
     };
     if !mark.is("(") {
         return Err(unopened(call, mark, tokens));
     }
     let Some((inside, behind)) = closed(inside) else {
-        return Err(mark.told("this ( has no )"));
+        return Err(mark.told("this ( is never closed"));
     };
     arguments(call, mark, inside)?;
     items(call, behind)?;
@@ -60,36 +60,38 @@ pub fn look_at<'a>(call: Call<'_, 'a>, tokens: &[Token<'a>]) -> Look<'a> {
 fn unopened<'a>(call: Call<'_, 'a>, mark: &Token<'a>, tokens: &[Token<'a>]) -> Told<'a> {
     match (call.statement, mark.text) {
         (Statement::Read, b"*") => mark.told(
-            "decks read from files alone: READ(unit, format) items",
+            "decks read only from files: write READ(unit, format) items",
         ),
         (Statement::Motion, _) if mark.shape == Shape::Number => match tokens {
             [_, second, ..] => second.told(
-                "with more than a unit the arguments stand in parentheses",
+                "nothing may follow a bare unit: put all arguments in parentheses",
             ),
             _ => unit_told(mark),
         },
         (Statement::Motion, _) if mark.is_word() => unit_told(mark),
         _ => {
-            let told = mark.told("% wants its arguments in parentheses, the unit first");
+            let told = mark.told("% needs its arguments in parentheses, the unit first");
             told.with(Part::Word(call.word.text))
         }
     }
 }
 
 fn unit_told<'a>(token: &Token<'a>) -> Told<'a> {
-    token.told("a unit is a number of 0 to 2,147,483,647, and no variable")
+    token.told("a unit is written as a number from 0 to 2,147,483,647")
 }
 
 /// The arguments between commas.
 fn arguments<'a>(call: Call<'_, 'a>, mark: &Token<'a>, inside: &[Token<'a>]) -> Look<'a> {
     let mut rest = Some(inside);
     let mut bare = Some("UNIT");
+    let mut near = *mark;
     for _ in 0..=inside.len() {
         let Some(left) = rest else {
             break;
         };
         let (part, more) = cut(left);
-        bare = argument(call, mark, inside, part, bare)?;
+        bare = argument(call, &near, inside, part, bare)?;
+        near = last(left, part, near);
         rest = more;
     }
     subject(call, mark, inside)
@@ -104,7 +106,7 @@ fn argument<'a>(
     bare: Option<&'static str>,
 ) -> Result<Option<&'static str>, Told<'a>> {
     match part {
-        [] => Err(mark.told("an argument is missing behind % or a comma")),
+        [] => Err(mark.told("an argument is missing after %")),
         [key, equals, value @ ..] if key.is_word() && equals.is("=") => {
             once(inside, key)?;
             given(call, specifier(call, key)?, key, equals, value)?;
@@ -112,9 +114,7 @@ fn argument<'a>(
         }
         [first, ..] => {
             let Some(key) = bare else {
-                return Err(first.told(
-                    "% stands for no specifier: a unit stands first, a format behind it",
-                ));
+                return Err(unnamed(first));
             };
             let value = if key == "UNIT" {
                 Value::Unit
@@ -130,6 +130,16 @@ fn argument<'a>(
     }
 }
 
+/// What is told of an argument that stands for no specifier.
+fn unnamed<'a>(first: &Token<'a>) -> Told<'a> {
+    if first.shape == Shape::Literal || first.is("*") {
+        return first.told(
+            "write FMT=%: it may be left out only directly after a unit without UNIT=",
+        );
+    }
+    first.told("% has no specifier: only the unit and the format may come without one")
+}
+
 /// What a specifier of the statement is given.
 fn specifier<'a>(call: Call<'_, 'a>, key: &Token<'a>) -> Result<Value, Told<'a>> {
     for row in SPECIFIERS {
@@ -143,7 +153,7 @@ fn specifier<'a>(call: Call<'_, 'a>, key: &Token<'a>) -> Result<Value, Told<'a>>
                 .and(Part::Text(text)),
         ),
         None => Err(
-            key.told("%= is no specifier of this statement, which has%")
+            key.told("%= is not allowed here; these are:%")
                 .and(Part::Specifiers(call.statement)),
         ),
     }
@@ -152,8 +162,10 @@ fn specifier<'a>(call: Call<'_, 'a>, key: &Token<'a>) -> Result<Value, Told<'a>>
 /// Whether a specifier stands for the first time.
 fn once<'a>(inside: &[Token<'a>], key: &Token<'a>) -> Look<'a> {
     let given = Given::of(inside);
-    if let Some(first) = given.token(key.text)
-        && first.at < key.at
+    let twice = given.token(key.text).is_some_and(|first| first.at < key.at);
+    if twice
+        || (key.is("UNIT") && given.bare.is_some())
+        || (key.is("FMT") && given.bare_format.is_some())
     {
         return Err(key.told("%= is given twice"));
     }
@@ -169,7 +181,7 @@ fn given<'a>(
     part: &[Token<'a>],
 ) -> Look<'a> {
     let [first, rest @ ..] = part else {
-        return Err(near.told("a value is missing behind %"));
+        return Err(near.told("a value is missing after %"));
     };
     match value {
         Value::Integer => integer(call, near, part),
@@ -177,7 +189,7 @@ fn given<'a>(
             let seen = place(call.names, near, part)?;
             class_fits(class, single(seen, first)?, first)
         }
-        Value::Group => group(call, first, rest),
+        Value::Group => group(first, rest),
         Value::Unit => unit(call, first, rest),
         Value::Format => format(first, rest),
         Value::Length => length(key, first, rest),
@@ -210,36 +222,36 @@ fn class_fits<'a>(class: Class, kind: Option<Kind>, token: &Token<'a>) -> Look<'
     let Some(kind) = kind else {
         return Ok(());
     };
-    let told = token.told("% is wanted here, and this is %");
-    Err(told.with(Part::Text(wanted)).and(Part::Kind(kind)))
+    let told = token.told("this is %, but % is needed here");
+    Err(told.with(Part::Kind(kind)).and(Part::Text(wanted)))
 }
 
-fn group<'a>(call: Call<'_, 'a>, first: &Token<'a>, rest: &[Token<'a>]) -> Look<'a> {
+fn group<'a>(first: &Token<'a>, rest: &[Token<'a>]) -> Look<'a> {
     name(first)?;
     match rest {
         [] => Ok(()),
-        [second, ..] => Err(second.told("NML= is the name of a group, and nothing else")),
+        [second, ..] => Err(second.told("NML= takes the name of a group, and nothing else")),
     }
 }
 
 fn unit<'a>(call: Call<'_, 'a>, first: &Token<'a>, rest: &[Token<'a>]) -> Look<'a> {
     if let [second, ..] = rest {
-        return Err(second.told("a unit is a number alone, and % stands behind it"));
+        return Err(second.told("a unit is a single number: % may not follow it"));
     }
     match (first.amount(), call.statement) {
         (Some(amount), _) if amount <= MOST => Ok(()),
         (None, Statement::Write) if first.is("*") => Ok(()),
         (None, Statement::Read) if first.is("*") => {
-            Err(first.told("* stands in WRITE alone: decks read from files that they opened"))
+            Err(first.told("READ has no unit *: decks read only from files that they opened"))
         }
-        (None, _) if first.is("*") => Err(first.told("* stands for a unit in WRITE alone")),
+        (None, _) if first.is("*") => Err(first.told("* is a unit of WRITE only")),
         _ => Err(unit_told(first)),
     }
 }
 
 fn format<'a>(first: &Token<'a>, rest: &[Token<'a>]) -> Look<'a> {
     if let [second, ..] = rest {
-        return Err(second.told("a format is one literal or *, and % stands behind it"));
+        return Err(second.told("a format is a single literal or *: % may not follow it"));
     }
     match first.shape {
         Shape::Literal => Ok(()),
@@ -249,16 +261,16 @@ fn format<'a>(first: &Token<'a>, rest: &[Token<'a>]) -> Look<'a> {
         )),
         Shape::Word => Err(
             first
-                .told("% is no format: that is a literal or *; a group is written NML=%")
+                .told("% is not a format: write a literal or *, or NML=% for a group")
                 .and(Part::Word(first.text)),
         ),
-        _ => Err(first.told("% is no format: that is a literal, or * for list-directed")),
+        _ => Err(first.told("% is not a format: write a literal, or * for list-directed")),
     }
 }
 
 fn length<'a>(key: &Token<'a>, first: &Token<'a>, rest: &[Token<'a>]) -> Look<'a> {
     let amount = match first.text {
-        [b'+', digits @ ..] if first.shape == Shape::Number => Some(crate::token::amount(digits)),
+        [b'+', digits @ ..] if first.shape == Shape::Number => Some(amount(digits)),
         [b'-', b'0'] => Some(0),
         _ => first.amount(),
     };
@@ -266,7 +278,7 @@ fn length<'a>(key: &Token<'a>, first: &Token<'a>, rest: &[Token<'a>]) -> Look<'a
         (Some(amount), []) if amount <= MOST => Ok(()),
         _ => Err(
             first
-                .told("%= is a number of 0 to 2,147,483,647, and no variable")
+                .told("%= needs a number from 0 to 2,147,483,647, not a variable")
                 .with(Part::Word(key.text)),
         ),
     }
@@ -280,19 +292,25 @@ fn trimmed(text: &[u8]) -> &[u8] {
 
 fn file<'a>(first: &Token<'a>, rest: &[Token<'a>]) -> Look<'a> {
     let (Some(inside), []) = (first.inside(), rest) else {
-        return Err(first.told("FILE= is a literal, as FILE='data', and no variable"));
+        return Err(first.told("FILE= needs a literal, as in FILE='data', not a variable"));
     };
     let name = trimmed(inside);
     if is_file_name(name) {
         return Ok(());
     }
     if name.contains(&b'/') {
-        return Err(first.told("% is a path: a file is a name in the folder that the deck runs in"));
+        return Err(first.told(
+            "% is a path, but a file is only a name, in the folder where the deck runs",
+        ));
     }
     if name.starts_with(b"SCRATCH.") {
-        return Err(first.told("names with SCRATCH. in front are those of scratch files"));
+        return Err(first.told(
+            "file names that begin with SCRATCH. are reserved for scratch files",
+        ));
     }
-    Err(first.told("a file name is 1 to 64 letters, digits, dots, _ and -, with no dot in front"))
+    Err(first.told(
+        "a file name has 1 to 64 letters, digits, dots, _ and -, and does not begin with a dot",
+    ))
 }
 
 fn word<'a>(
@@ -302,7 +320,7 @@ fn word<'a>(
     rest: &[Token<'a>],
 ) -> Look<'a> {
     let (Some(inside), []) = (first.inside(), rest) else {
-        let told = key.told("%= is one of these, as a literal in quotes:%");
+        let told = key.told("%= must be one of these in quotes:%");
         return Err(Told {
             at: first.at,
             ..told
@@ -315,7 +333,7 @@ fn word<'a>(
             return Ok(());
         }
     }
-    let told = key.told("%= is one of these:%");
+    let told = key.told("%= must be one of these:%");
     Err(Told {
         at: first.at,
         ..told
@@ -330,17 +348,12 @@ fn subject<'a>(call: Call<'_, 'a>, mark: &Token<'a>, inside: &[Token<'a>]) -> Lo
     let unit = given.unit();
     match (call.statement, unit, file) {
         (Statement::Inquire, Some(_), Some(file)) => {
-            Err(file.told("INQUIRE has a unit or FILE=, and not both"))
+            Err(file.told("INQUIRE takes a unit or FILE=, not both"))
         }
-        (Statement::Inquire, None, None) => Err(mark.told("INQUIRE wants a unit or FILE=")),
+        (Statement::Inquire, None, None) => Err(mark.told("INQUIRE needs a unit or FILE=")),
         (Statement::Inquire, _, _) => Ok(()),
-        (_, None, _) => Err(mark.told("a unit is missing: it stands first, or as UNIT=")),
-        (_, Some(_), _) => match (given.bare, given.token(b"UNIT")) {
-            (Some(_), Some(twice)) => Err(twice.told(
-                "% is given twice: the unit stands first already",
-            )),
-            _ => Ok(()),
-        },
+        (_, None, _) => Err(mark.told("the unit is missing: it comes first, or as UNIT=")),
+        (_, Some(_), _) => Ok(()),
     }
 }
 
@@ -350,25 +363,25 @@ fn items<'a>(call: Call<'_, 'a>, behind: &[Token<'a>]) -> Look<'a> {
         return Ok(());
     };
     if !matches!(call.statement, Statement::Read | Statement::Write) {
-        return Err(first.told("% stands behind a statement that ends before it"));
+        return Err(first.told("the statement ends before %"));
     }
     if first.is(",") {
-        return Err(first.told("no comma stands before the first item"));
+        return Err(first.told("no comma comes before the first item"));
     }
+    let mut near = *first;
     let mut rest = Some(behind);
     for _ in 0..=behind.len() {
         let Some(left) = rest else {
             return Ok(());
         };
         let (part, more) = cut(left);
-        let seen = operand(call.names, first, part)?;
+        let seen = operand(call.names, &near, part)?;
         if let (Some(_), Statement::Read, [item, ..]) = (call.names, call.statement, part)
             && seen.literal
         {
-            return Err(item.told(
-                "% is a literal: what READ reads into is a variable or an element",
-            ));
+            return Err(item.told("% is a literal, but READ needs variables or elements"));
         }
+        near = last(left, part, near);
         rest = more;
     }
     Ok(())

@@ -1,24 +1,24 @@
 // Declarations: types with their names, and NAMELIST.
 
-use crate::token::{Token, closed, cut};
+use crate::token::{Token, closed, cut, last};
 use crate::told::{Look, Part};
 use crate::value::{name, subscript, variable};
 use crate::words::look_up;
 use fj_meaning::Names;
 
-const UNSET: &str = "a declaration sets no value: write an assignment behind the declarations";
+const UNSET: &str = "a declaration sets no value: write an assignment after the declarations";
 
-const SIZED: &str = "the number of elements stands behind the name, as INTEGER A(3)";
+const SIZED: &str = "the number of elements follows the name, as in INTEGER A(3)";
 
 /// Attributes of Fortran that a declaration here has not.
 static ATTRIBUTES: [(&str, &str); 12] = [
     ("PARAMETER", "write the value where it is wanted"),
     ("DIMENSION", SIZED),
     ("ALLOCATABLE", SIZED),
-    ("POINTER", "ASYNCHRONOUS is the one attribute"),
-    ("TARGET", "ASYNCHRONOUS is the one attribute"),
-    ("SAVE", "ASYNCHRONOUS is the one attribute"),
-    ("VOLATILE", "ASYNCHRONOUS is the one attribute"),
+    ("POINTER", "the only attribute is ASYNCHRONOUS"),
+    ("TARGET", "the only attribute is ASYNCHRONOUS"),
+    ("SAVE", "the only attribute is ASYNCHRONOUS"),
+    ("VOLATILE", "the only attribute is ASYNCHRONOUS"),
     ("INTENT", "a deck has no procedures"),
     ("OPTIONAL", "a deck has no procedures"),
     ("EXTERNAL", "a deck has no procedures"),
@@ -33,14 +33,24 @@ pub fn declaration<'a>(
     kind: &str,
     tokens: &[Token<'a>],
 ) -> Look<'a> {
+    look(names, word, kind, tokens)?;
+    match names {
+        Some(_) => Err(word.told("a name of this line is the name of a group already")),
+        None => Ok(()),
+    }
+}
+
+fn look<'a>(names: Option<&Names>, word: &Token<'a>, kind: &str, tokens: &[Token<'a>]) -> Look<'a> {
     match tokens {
-        [] => Err(word.told("% declares no name here")),
+        [] => Err(word.told("% needs a name after it")),
         [mark, ..] if mark.is("*") => {
-            Err(mark.told("a kind or length stands in parentheses, as INTEGER(8) and CHARACTER(5)"))
+            Err(mark.told(
+                "a kind or length is written in parentheses, as in INTEGER(8) and CHARACTER(5)",
+            ))
         }
         [mark, inside @ ..] if mark.is("(") => {
             let Some((inside, behind)) = closed(inside) else {
-                return Err(mark.told("this ( has no )"));
+                return Err(mark.told("this ( is never closed"));
             };
             selector(kind, mark, inside)?;
             attributes(names, mark, behind)
@@ -62,12 +72,14 @@ fn selector<'a>(kind: &str, mark: &Token<'a>, inside: &[Token<'a>]) -> Look<'a> 
     };
     match kind {
         "INTEGER" if !(named("KIND") && matches!(number, Some(4 | 8))) => {
-            Err(mark.told("the kinds of INTEGER are INTEGER(4) and INTEGER(8)"))
+            Err(mark.told("INTEGER has the kinds 4 and 8 only"))
         }
         "CHARACTER" if !(named("LEN") && matches!(number, Some(1..=65_536))) => {
-            Err(mark.told("a length of CHARACTER is a number of 1 to 65,536, as CHARACTER(LEN=80)"))
+            Err(mark.told(
+                "the length of CHARACTER is a number from 1 to 65,536, as in CHARACTER(LEN=80)",
+            ))
         }
-        "LOGICAL" => Err(mark.told("LOGICAL has one kind, and nothing in parentheses")),
+        "LOGICAL" => Err(mark.told("LOGICAL has only one kind: leave the parentheses out")),
         _ => Ok(()),
     }
 }
@@ -81,14 +93,16 @@ fn attributes<'a>(names: Option<&Names>, near: &Token<'a>, tokens: &[Token<'a>])
             entities(names, colons, behind)
         }
         [comma, word, ..] if comma.is(",") && word.is("ASYNCHRONOUS") => {
-            Err(word.told("% is the one attribute, and :: stands behind it"))
+            Err(word.told("% must be followed by ::"))
         }
         [comma, word, ..] if comma.is(",") => match look_up(&ATTRIBUTES, word.text) {
             Some(text) => Err(
                 word.told("% is not in the deck language: %")
                     .and(Part::Text(text)),
             ),
-            None => Err(word.told("% is no attribute of decks: ASYNCHRONOUS is the one")),
+            None => Err(word.told(
+                "% is not an attribute of the deck language: only ASYNCHRONOUS is",
+            )),
         },
         [word, _, ..] if word.is("FUNCTION") => {
             Err(word.told("% is not in the deck language: a deck has no procedures"))
@@ -100,15 +114,17 @@ fn attributes<'a>(names: Option<&Names>, near: &Token<'a>, tokens: &[Token<'a>])
 /// The names with the numbers of their elements.
 fn entities<'a>(names: Option<&Names>, near: &Token<'a>, tokens: &[Token<'a>]) -> Look<'a> {
     let mut rest = Some(tokens);
+    let mut near = *near;
     for _ in 0..=tokens.len() {
         let Some(left) = rest else {
             return Ok(());
         };
         let (part, more) = cut(left);
-        entity(near, part)?;
+        entity(&near, part)?;
         if let (Some(names), [word, ..]) = (names, part) {
             new_name(names, tokens, word)?;
         }
+        near = last(left, part, near);
         rest = more;
     }
     Ok(())
@@ -116,7 +132,7 @@ fn entities<'a>(names: Option<&Names>, near: &Token<'a>, tokens: &[Token<'a>]) -
 
 fn entity<'a>(near: &Token<'a>, part: &[Token<'a>]) -> Look<'a> {
     match part {
-        [] => Err(near.told("a name is missing behind % or a comma")),
+        [] => Err(near.told("a name is missing after %")),
         [word] => name(word),
         [word, mark, inside @ ..] if mark.is("(") => {
             name(word)?;
@@ -131,12 +147,12 @@ fn entity<'a>(near: &Token<'a>, part: &[Token<'a>]) -> Look<'a> {
         [_, mark, ..] if mark.is("=") => Err(mark.told(UNSET)),
         [_, mark, ..] if mark.is("*") => {
             Err(mark.told(
-                "a length stands behind CHARACTER, as CHARACTER(5), for all names of the line",
+                "give the length after CHARACTER, as in CHARACTER(5), for all names of the line",
             ))
         }
         [word, other, ..] => {
             name(word)?;
-            Err(other.told("% stands behind a name, where a comma or the end is wanted"))
+            Err(other.told("a comma or the end of the line is expected here, not %"))
         }
     }
 }
@@ -144,7 +160,7 @@ fn entity<'a>(near: &Token<'a>, part: &[Token<'a>]) -> Look<'a> {
 /// Whether a name is not declared yet.
 fn new_name<'a>(names: &Names, tokens: &[Token<'a>], word: &Token<'a>) -> Look<'a> {
     if let Some(variable) = variable(names, word.text) {
-        let told = word.told("% is declared twice: it stands in line % already");
+        let told = word.told("% is declared already, in line %");
         return Err(told.and(Part::Number(variable.line)));
     }
     for token in tokens {
@@ -166,33 +182,42 @@ pub fn group<'a>(names: Option<&Names>, word: &Token<'a>, tokens: &[Token<'a>]) 
     name(title)?;
     if let Some(names) = names {
         if variable(names, title.text).is_some() {
-            return Err(title.told("% is declared as a variable, and names no group"));
+            return Err(title.told("% is declared already, as a variable"));
         }
     }
     let mut rest = Some(members);
+    let mut near = *second;
     for _ in 0..=members.len() {
         let Some(left) = rest else {
-            return Ok(());
+            break;
         };
         let (part, more) = cut(left);
-        member(names, second, part)?;
+        member(names, &near, part)?;
+        near = last(left, part, near);
         rest = more;
     }
-    Ok(())
+    match names {
+        Some(_) => Err(title.told("% is the name of a group already")),
+        None => Ok(()),
+    }
 }
 
 fn member<'a>(names: Option<&Names>, near: &Token<'a>, part: &[Token<'a>]) -> Look<'a> {
     match part {
-        [] => Err(near.told("a name is missing behind % or a comma")),
+        [] => Err(near.told("a name is missing after %")),
         [word] => {
             name(word)?;
             match names {
                 Some(names) if variable(names, word.text).is_none() => {
-                    Err(word.told("% is not declared before the group"))
+                    Err(word.told(
+                        "% is not declared: the members of a group are declared before it",
+                    ))
                 }
                 _ => Ok(()),
             }
         }
-        [_, other, ..] => Err(other.told("a group has names alone, and % is none")),
+        [_, other, ..] => Err(other.told(
+            "% is not allowed here: the members of a group are whole variables",
+        )),
     }
 }

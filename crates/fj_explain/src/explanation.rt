@@ -74,7 +74,10 @@ fn of_reason<'a>(
         Reason::Format { at } => found(tokens, format::told(tokens, at)),
         Reason::Syntax if written => misplaced(before, tokens),
         Reason::Syntax => found(tokens, line(None, tokens).err()),
-        Reason::Meaning => found(tokens, line(Some(&before.names), tokens).err()),
+        Reason::Meaning => match line(Some(&before.names), tokens) {
+            Err(told) => told,
+            Ok(()) => Told::new(1, "the names and values of this line do not fit together"),
+        },
     }
 }
 
@@ -82,8 +85,10 @@ fn of_reason<'a>(
 fn found<'a>(tokens: &[Token<'a>], told: Option<Told<'a>>) -> Told<'a> {
     match (told, tokens) {
         (Some(told), _) => told,
-        (None, [first, ..]) => first.told("this is no statement that begins with %"),
-        (None, []) => Told::new(1, "this is no statement"),
+        (None, [first, ..]) => first.told(
+            "this is not a statement of the deck language: it begins with %",
+        ),
+        (None, []) => Told::new(1, "this is not a statement of the deck language"),
     }
 }
 
@@ -96,13 +101,13 @@ fn misplaced<'a>(before: &Before<'a>, tokens: &[Token<'a>]) -> Told<'a> {
     match (before.end, before.statement) {
         (Some(line), _) => Told::new(
             at,
-            "END stands in line % already, and nothing stands behind it",
+            "END is in line % already, and only comments may follow it",
         )
         .with(Part::Number(line)),
         (None, Some(line)) => {
             Told::new(
                 at,
-                "declarations stand before statements, and line % is a statement already",
+                "declarations come before all statements, and line % is a statement",
             )
             .with(Part::Number(line))
         }
@@ -117,12 +122,12 @@ fn too_many<'a>(tokens: &[Token<'a>]) -> Told<'a> {
     };
     if first.is("READ") || first.is("WRITE") {
         return first.told(
-            "too much: 1,000,000 items, 16,777,216 bytes of them, 1,000,000 steps of a format, 100,000 statements",
+            "over a limit: 1,000,000 items of 16,777,216 bytes, 1,000,000 steps of a format, or 100,000 statements of the deck",
         );
     }
     if first.is("INTEGER") || first.is("LOGICAL") || first.is("CHARACTER") {
         return first.told(
-            "too much is declared: 4,096 variables, 1,000,000 elements, 16,777,216 bytes of characters",
+            "more than 4,096 variables, 1,000,000 elements or 16,777,216 bytes of characters are declared",
         );
     }
     first.told("a deck has at most 100,000 statements")

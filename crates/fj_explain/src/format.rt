@@ -1,23 +1,19 @@
 // What is wrong with a format.
 
+use crate::rules::Given;
 use crate::token::{Shape, Token};
 use crate::told::Told;
 
 const EDITS: &str =
-    "% begins no edit descriptor here: there are I B O Z L A G, T TL TR X, S SP SS, BN BZ DC DP, / and :";
+    "no edit descriptor begins with %: there are I B O Z L A G, T TL TR X, S SP SS, BN BZ DC DP, / and :";
 
-/// The first literal that is a format: directly behind the unit, or behind FMT=.
+/// The format of READ or WRITE.
 fn format_token<'a>(tokens: &[Token<'a>]) -> Option<Token<'a>> {
-    let mut last = None;
-    for token in tokens {
-        let token: Token<'a> = *token;
-        let key: Option<Token<'a>> = last;
-        if token.shape == Shape::Literal && !key.is_some_and(|key| key.is("=")) {
-            return Some(token);
-        }
-        last = Some(token);
-    }
-    None
+    let given = match tokens {
+        [_, mark, inside @ ..] if mark.is("(") => Given::of(inside),
+        _ => return None,
+    };
+    given.format()
 }
 
 /// How many bytes stand before a character of a literal, whose delimiters are doubled in it.
@@ -51,15 +47,13 @@ pub fn told<'a>(tokens: &[Token<'a>], at: u32) -> Option<Told<'a>> {
         at: token.at.saturating_add(offset).saturating_add(1),
     };
     Some(match (front, found.text) {
-        ([], _) => found.told("a format stands in parentheses, as '(I5)'"),
-        (_, []) => found.told(
-            "the format ends here before it is complete: a ) or the end of a string is missing",
-        ),
+        ([], _) => found.told("a format is written in parentheses, as in '(I5)'"),
+        (_, []) => found.told("the format ends too early: a ) or the end of a string is missing"),
         (_, [b'F' | b'f' | b'E' | b'e' | b'P' | b'p' | b'Q' | b'q']) => {
-            found.told("% is an edit descriptor of REAL, which is not in the deck language")
+            found.told("% is an edit descriptor for REAL, which is not in the deck language")
         }
         (_, [b'A'..=b'Z' | b'a'..=b'z']) => found.told(EDITS),
         (_, [b')']) => found.told("an edit descriptor or its width is missing before )"),
-        _ => found.told("% does not go on the format here"),
+        _ => found.told("% is not allowed at this place of a format"),
     })
 }

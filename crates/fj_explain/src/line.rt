@@ -3,12 +3,15 @@
 use crate::call::{Call, look_at};
 use crate::declaration::{declaration, group};
 use crate::specifiers::Statement;
-use crate::token::{Shape, Token, closed, parted};
+use crate::token::{Shape, Token, closed, last, parted};
 use crate::told::{Look, Part, Told};
 use crate::value::{operand, place};
 use crate::words::{FOREIGN, KEYWORDS, Keyword, look_up};
 use fj_meaning::Names;
 use fj_value::Kind;
+
+const NO_STATEMENT: &str =
+    "no statement begins with %: there are assignments, OPEN, CLOSE, READ, WRITE, WAIT, INQUIRE, BACKSPACE, REWIND, ENDFILE, FLUSH and END";
 
 /// What is wrong with the tokens of a line: without names, why they are no statement, and with them why it means nothing.
 pub fn line<'a>(names: Option<&Names>, tokens: &[Token<'a>]) -> Look<'a> {
@@ -50,7 +53,7 @@ fn foreign<'a>(first: &Token<'a>, behind: &[Token<'a>]) -> Look<'a> {
                 .and(Part::Text(text)),
         ),
         None if first.at == 1 && first.is("C") && !behind.is_empty() => {
-            Err(first.told("% begins no statement: a comment begins with !"))
+            Err(first.told("a comment begins with !, not with %"))
         }
         None => Ok(()),
     }
@@ -61,21 +64,18 @@ fn whole<'a>(tokens: &[Token<'a>]) -> Look<'a> {
     for token in tokens {
         if token.shape == Shape::Endless {
             let told = Told::new(token.at, "this character literal has no closing %");
-            return Err(told.with(Part::Word(token.text.get(..1).unwrap_or(b""))));
+            return Err(told.with(Part::Written(token.text.get(..1).unwrap_or(b""))));
         }
         if token.is(";") {
-            return Err(token.told("a line is one statement, and % ends none"));
+            return Err(token.told("a line holds one statement: % does not separate statements"));
         }
         if token.is("&") {
-            return Err(token.told("a statement is one line: there are no continuation lines"));
+            return Err(token.told("a statement is one line: & does not continue it"));
         }
         if token.shape == Shape::Literal
             && token.text.iter().any(|byte| *byte < b' ' && *byte != b'\t')
         {
-            return Err(Told::new(
-                token.at,
-                "this character literal has a byte in it that is no text",
-            ));
+            return Err(Told::new(token.at, "this character literal contains a control byte"));
         }
     }
     Ok(())
@@ -84,12 +84,10 @@ fn whole<'a>(tokens: &[Token<'a>]) -> Look<'a> {
 /// What is told of a line that begins with no word.
 fn unnamed<'a>(first: &Token<'a>) -> Told<'a> {
     match (first.shape, first.text) {
-        (Shape::Number, _) => first.told(
-            "a statement has no label: labels are not in the deck language",
-        ),
-        (_, b"*" | b"#") => first.told("% begins no statement: a comment begins with !"),
-        (_, [b' '..=b'~', ..]) => first.told("a statement begins with a word, and % is none"),
-        _ => first.told("this byte may stand in a character literal or a comment alone"),
+        (Shape::Number, _) => first.told("labels are not in the deck language: leave % out"),
+        (_, b"*" | b"#") => first.told("a comment begins with !, not with %"),
+        (_, [b' '..=b'~', ..]) => first.told("a statement begins with a word, not with %"),
+        _ => first.told("this byte is allowed only in character literals and comments"),
     }
 }
 
@@ -112,7 +110,7 @@ fn begun<'a>(
                 file,
                 behind,
             ),
-            [other, ..] => Err(other.told("END stands alone: % stands behind it")),
+            [other, ..] => Err(other.told("write END alone, without %")),
         },
     }
 }
@@ -133,25 +131,43 @@ fn called<'a>(
     )
 }
 
+/// Whether a line that begins with a name looks like no assignment.
+fn unassigned<'a>(tokens: &[Token<'a>]) -> Look<'a> {
+    match tokens {
+        [first, mark, inside @ ..] if mark.is("(") => match closed(inside) {
+            None => Err(mark.told("this ( is never closed")),
+            Some((_, [])) => Err(first.told(NO_STATEMENT)),
+            Some((_, [next, ..])) if next.shape != Shape::Mark => Err(first.told(NO_STATEMENT)),
+            Some(_) => Ok(()),
+        },
+        [_, mark, ..] if mark.shape == Shape::Mark && !mark.is("=") && !mark.is("%") => {
+            Err(mark.told("= is expected here, not %"))
+        }
+        _ => Ok(()),
+    }
+}
+
 fn assignment<'a>(names: Option<&Names>, first: &Token<'a>, tokens: &[Token<'a>]) -> Look<'a> {
+    unassigned(tokens)?;
     let Some((left, right)) = parted(tokens, "=") else {
-        return Err(first.told(
-            "% begins no statement: assignments, OPEN, CLOSE, READ, WRITE, WAIT, INQUIRE, BACKSPACE, REWIND, ENDFILE, FLUSH and END are",
-        ));
+        return Err(first.told(NO_STATEMENT));
     };
     let to = place(names, first, left)?;
+    let equals = last(tokens, left, *first);
+    let from = operand(names, &equals, right)?;
     let [value, ..] = right else {
-        return Err(first.told("a value is missing behind ="));
+        return Ok(());
     };
-    let from = operand(names, value, right)?;
     let (Some(wanted), Some(given)) = (to.kind, from.kind) else {
         return Ok(());
     };
     if from.whole {
-        return Err(value.told("% is an array, and an assignment takes one element or literal"));
+        return Err(value.told(
+            "% is a whole array, but an assignment takes one element or literal",
+        ));
     }
     if to.whole && !from.literal {
-        return Err(value.told("a whole array gets a literal alone, and % is none"));
+        return Err(value.told("a whole array can be set only to a literal, not to %"));
     }
     match (wanted, given) {
         (Kind::Int4, Kind::Int4)
@@ -159,12 +175,12 @@ fn assignment<'a>(names: Option<&Names>, first: &Token<'a>, tokens: &[Token<'a>]
         | (Kind::Logical, Kind::Logical)
         | (Kind::Chars(_), Kind::Chars(_)) => Ok(()),
         (Kind::Int4, Kind::Int8) if from.literal => {
-            Err(value.told("% is too big for INTEGER(4), which ends at 2147483647"))
+            Err(value.told("% does not fit into INTEGER(4): -2147483648 to 2147483647"))
         }
         (Kind::Int8, Kind::Int4) if from.literal => Ok(()),
         _ => {
-            let told = value.told("% is wanted here, and this is %: kinds are not converted");
-            Err(told.with(Part::Kind(wanted)).and(Part::Kind(given)))
+            let told = value.told("this is %, but % is needed here: kinds are not converted");
+            Err(told.with(Part::Kind(given)).and(Part::Kind(wanted)))
         }
     }
 }

@@ -12,7 +12,7 @@ pub struct Given<'b, 'a> {
     /// The unit that stands first by itself.
     pub bare: Option<Token<'a>>,
     /// The format that stands behind such a unit by itself.
-    format: Option<Token<'a>>,
+    pub bare_format: Option<Token<'a>>,
 }
 
 /// The first token of an argument without a specifier.
@@ -34,19 +34,19 @@ impl<'b, 'a> Given<'b, 'a> {
         Given {
             inside,
             bare: bare(first),
-            format,
+            bare_format: format,
         }
     }
 
     /// The first token that is this specifier.
     pub fn token(&self, key: &[u8]) -> Option<Token<'a>> {
-        let mut last = None;
+        let mut last: Option<Token<'a>> = None;
         for token in self.inside {
-            if let (Some(found), true) = (last, token.is("=")) {
-                let found: Token<'a> = found;
-                if found.text.eq_ignore_ascii_case(key) {
-                    return Some(found);
-                }
+            if let Some(found) = last
+                && token.is("=")
+                && found.text.eq_ignore_ascii_case(key)
+            {
+                return Some(found);
             }
             last = Some(*token);
         }
@@ -68,7 +68,7 @@ impl<'b, 'a> Given<'b, 'a> {
     }
 
     pub fn format(&self) -> Option<Token<'a>> {
-        match self.format {
+        match self.bare_format {
             Some(format) => Some(format),
             None => self.value(b"FMT"),
         }
@@ -97,7 +97,19 @@ pub fn rules<'a>(call: Call<'_, 'a>, inside: &[Token<'a>], items: &[Token<'a>]) 
     }
     let given = Given::of(inside);
     needs(given)?;
-    excludes(given, items)
+    excludes(given, items)?;
+    last(call, given)
+}
+
+/// What is left where nothing else is wrong: a group that is none, or a width of 0 in the format of READ.
+fn last<'a>(call: Call<'_, 'a>, given: Given<'_, 'a>) -> Look<'a> {
+    match (given.value(b"NML"), given.format()) {
+        (Some(group), _) => Err(group.told("% is not declared as a namelist group")),
+        (None, Some(format)) if call.statement == Statement::Read => {
+            Err(format.told("the format of READ has a width of 0, which is for WRITE only"))
+        }
+        _ => Ok(()),
+    }
 }
 
 /// Specifiers that need others.
@@ -134,26 +146,26 @@ fn excludes<'a>(given: Given<'_, 'a>, items: &[Token<'a>]) -> Look<'a> {
     let star = given.unit().is_some_and(|unit| unit.is("*"));
     if let Some(group) = given.token(b"NML") {
         if let Some(format) = format {
-            return Err(format.told("a statement has a format or NML=, and not both"));
+            return Err(format.told("a statement has a format or NML=, not both"));
         }
         if let [item, ..] = items {
-            return Err(item.told("with NML= stand no items"));
+            return Err(item.told("no items may follow with NML="));
         }
         if given.token(b"REC").is_some() {
-            return Err(group.told("NML= does not go with REC="));
+            return Err(group.told("NML= and REC= exclude each other"));
         }
     }
     if let Some(rec) = given.token(b"REC") {
         if given.token(b"POS").is_some() {
-            return Err(rec.told("%= does not go with POS="));
+            return Err(rec.told("%= and POS= exclude each other"));
         }
         if format.is_some_and(|format| format.is("*")) {
-            return Err(rec.told("%= does not go with the format *"));
+            return Err(rec.told("%= and the format * exclude each other"));
         }
     }
     for key in ["REC", "POS"] {
         if let (Some(key), true) = (given.token(key.as_bytes()), star) {
-            return Err(key.told("%= does not go with unit *"));
+            return Err(key.told("%= is not for unit *"));
         }
     }
     Ok(())

@@ -37,7 +37,12 @@ impl<'a> Token<'a> {
 
     /// What is told of it, with itself in the first place.
     pub fn told(&self, text: &'static str) -> Told<'a> {
-        Told::new(self.at, text).with(Part::Word(self.text))
+        let part = if self.is_word() {
+            Part::Word(self.text)
+        } else {
+            Part::Written(self.text)
+        };
+        Told::new(self.at, text).with(part)
     }
 
     /// What a number without a sign amounts to, up to what a u64 has.
@@ -174,6 +179,14 @@ pub fn cut<'b, 'a>(tokens: &'b [Token<'a>]) -> (&'b [Token<'a>], Option<&'b [Tok
         depth = depth_behind(depth, token);
     }
     (tokens, None)
+}
+
+/// The comma behind a part, or what stood before it.
+pub fn last<'a>(tokens: &[Token<'a>], part: &[Token<'a>], near: Token<'a>) -> Token<'a> {
+    match tokens.get(part.len()) {
+        Some(comma) => *comma,
+        None => near,
+    }
 }
 
 /// Of the tokens behind a parenthesis, those before the one that closes it, and those behind that.

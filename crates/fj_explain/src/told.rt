@@ -11,8 +11,10 @@ const MOST: usize = 160;
 #[derive(Clone, Copy)]
 pub enum Part<'a> {
     Nothing,
-    /// Bytes of the deck, told in upper case.
+    /// A word of the deck, told in upper case.
     Word(&'a [u8]),
+    /// Other bytes of the deck, told as they are written.
+    Written(&'a [u8]),
     Text(&'static str),
     Number(u32),
     Kind(Kind),
@@ -80,7 +82,11 @@ impl<'a> Told<'a> {
 fn push_part(alloc: Global, out: &mut Vec<u8>, part: Part<'_>) -> Result<(), AllocError> {
     match part {
         Part::Nothing => Ok(()),
-        Part::Word(word) => push_word(out, word),
+        Part::Word(word) => {
+            let word = word.to_ascii_uppercase(alloc)?;
+            push_shown(out, &word)
+        }
+        Part::Written(bytes) => push_shown(out, bytes),
         Part::Text(text) => out.extend_from_slice(text.as_bytes()),
         Part::Number(number) => {
             let digits = number.to_string(alloc)?;
@@ -97,14 +103,10 @@ fn push_part(alloc: Global, out: &mut Vec<u8>, part: Part<'_>) -> Result<(), All
     }
 }
 
-fn push_word(out: &mut Vec<u8>, word: &[u8]) -> Result<(), AllocError> {
-    for byte in word {
-        let shown = if byte.is_ascii_graphic() || *byte == b' ' {
-            byte.to_ascii_uppercase()
-        } else {
-            b'?'
-        };
-        out.push(shown)?;
+fn push_shown(out: &mut Vec<u8>, bytes: &[u8]) -> Result<(), AllocError> {
+    for byte in bytes {
+        let is_shown = byte.is_ascii_graphic() || *byte == b' ';
+        out.push(if is_shown { *byte } else { b'?' })?;
     }
     Ok(())
 }

@@ -16,10 +16,10 @@ const MAX_DIGITS: usize = 19;
 const MAX_ELEMENTS: u64 = 1_000_000;
 
 const NO_EXPRESSION: &str =
-    "% makes an expression, and decks have single values: a literal, a variable, an element";
+    "% makes an expression, but only single values are allowed: a literal, a variable or an element";
 
 const NOT_REAL: &str =
-    "REAL is not in the deck language, nor are its literals: INTEGER, LOGICAL and CHARACTER are";
+    "REAL numbers are not in the deck language: INTEGER, LOGICAL and CHARACTER are";
 
 /// What a value is, as far as it is known.
 #[derive(Clone, Copy)]
@@ -34,10 +34,10 @@ pub struct Seen {
 /// Whether a word is a name.
 pub fn name<'a>(word: &Token<'a>) -> Look<'a> {
     if !word.is_word() {
-        return Err(word.told("a name is wanted here, and % is none"));
+        return Err(word.told("a name is expected here, not %"));
     }
     if look_up(&KEYWORDS, word.text).is_some() {
-        return Err(word.told("% is a word of the deck language, and names nothing"));
+        return Err(word.told("% is a word of the deck language and cannot be a name"));
     }
     if word.text.len() > MAX_WORD {
         return Err(word.told("a name has at most 63 characters"));
@@ -78,12 +78,14 @@ fn number<'a>(named: bool, token: &Token<'a>) -> Result<Kind, Told<'a>> {
         digits => (false, digits),
     };
     if digits.len() > MAX_DIGITS {
-        return Err(token.told("% is too big: an integer literal has at most 19 digits"));
+        return Err(token.told("% is too long: an integer literal has at most 19 digits"));
     }
     let more = u64::from(minus);
     let amount = amount(digits);
     if named && amount > (i64::MAX as u64) + more {
-        return Err(token.told("% is too big for INTEGER(8), which ends at 9223372036854775807"));
+        return Err(token.told(
+            "% does not fit into INTEGER(8): -9223372036854775808 to 9223372036854775807",
+        ));
     }
     if amount > 2_147_483_647 + more {
         return Ok(Kind::Int8);
@@ -95,22 +97,18 @@ fn number<'a>(named: bool, token: &Token<'a>) -> Result<Kind, Told<'a>> {
 fn strange<'a>(token: &Token<'a>) -> Told<'a> {
     match token.text {
         b"(" => token.told(NO_EXPRESSION),
-        b"+" | b"-" => token.told(
-            "a sign stands directly before the digits of a literal, and % does not",
-        ),
-        b"*" => token.told("* is no value: it stands for a unit or a format"),
-        b"[" => token.told(
-            "arrays are not written as lists: each element gets its value by itself",
-        ),
+        b"+" | b"-" => token.told("the sign % must be directly before the digits"),
+        b"*" => token.told("* is not a value: it is a unit or a format only"),
+        b"[" => token.told("arrays are not written as lists: set each element by itself"),
         b")" => token.told("a value is missing before )"),
         b"=" => token.told("a value is missing before ="),
         b"," => token.told("a value is missing before ,"),
         b"_" | b"$" | b"%" => token.told("a name begins with a letter"),
-        [b'.', _, ..] => token.told("% is not in the deck language: .TRUE. and .FALSE. are"),
+        [b'.', _, ..] => token.told("% is not in the deck language: only .TRUE. and .FALSE. are"),
         [b' '..=b'~'] => token.told(
-            "% begins no value: a value is a literal, a variable or an element",
+            "no value begins with %: a value is a literal, a variable or an element",
         ),
-        _ => token.told("this byte may stand in a character literal or a comment alone"),
+        _ => token.told("this byte is allowed only in character literals and comments"),
     }
 }
 
@@ -120,18 +118,15 @@ fn behind<'a>(first: &Token<'a>, second: &Token<'a>) -> Told<'a> {
     match (second.shape, second.text) {
         (Shape::Mark, b".") if counts => first.told(NOT_REAL),
         (Shape::Word, [b'E' | b'e' | b'D' | b'd', ..]) if counts => first.told(NOT_REAL),
-        (Shape::Mark, b"_") if counts => second.told(
-            "a literal names no kind: it has the one that it needs",
-        ),
+        (Shape::Mark, b"_") if counts => second.told("literals are written without a kind"),
         (Shape::Mark, b"%") => second.told("derived types are not in the deck language"),
-        (Shape::Mark, b"=") => second.told("an assignment has one ="),
-        (Shape::Literal, _) if first.is_word() => {
-            first.told("% before a literal is not in the deck language")
-        }
+        (Shape::Mark, b"=") => second.told("an assignment has only one ="),
+        (Shape::Literal, _) if first.is_word() => { first.told("% may not come before a literal") }
         (Shape::Mark, [b' '..=b'~', ..]) => second.told(NO_EXPRESSION),
-        (Shape::Number, [b'+' | b'-', ..]) => second.told(NO_EXPRESSION),
+        (Shape::Number, [b'+', ..]) => second.told(NO_EXPRESSION).with(Part::Text("+")),
+        (Shape::Number, [b'-', ..]) => second.told(NO_EXPRESSION).with(Part::Text("-")),
         (Shape::Mark, _) => strange(second),
-        _ => second.told("% stands behind a value, where a comma or the end is wanted"),
+        _ => second.told("a comma or the end of the statement is expected here, not %"),
     }
 }
 
@@ -142,7 +137,7 @@ pub fn operand<'a>(
     part: &[Token<'a>],
 ) -> Result<Seen, Told<'a>> {
     match part {
-        [] => Err(near.told("a value is missing behind %")),
+        [] => Err(near.told("a value is missing after %")),
         [first, ..] if first.is_word() => place(names, near, part),
         [first] => literal(names.is_some(), first),
         [first, second, ..] => {
@@ -160,7 +155,9 @@ fn opened<'a>(first: &Token<'a>, second: &Token<'a>, part: &[Token<'a>]) -> Told
         return first.told(NOT_REAL);
     }
     if first.is("(") && find(part, "=").is_some() {
-        return first.told("implied DO is not in the deck language: name the elements or the array");
+        return first.told(
+            "implied DO is not in the deck language: name the elements, or the whole array",
+        );
     }
     if (first.is("+") || first.is("-")) && second.shape != Shape::Number {
         return first.told(NO_EXPRESSION);
@@ -175,7 +172,7 @@ pub fn place<'a>(
     part: &[Token<'a>],
 ) -> Result<Seen, Told<'a>> {
     let [word, rest @ ..] = part else {
-        return Err(near.told("a name is missing behind %"));
+        return Err(near.told("a name is missing after %"));
     };
     name(word)?;
     let subscript = match rest {
@@ -200,10 +197,10 @@ pub fn subscript<'a>(
     inside: &[Token<'a>],
 ) -> Result<u64, Told<'a>> {
     let Some((inside, rest)) = closed(inside) else {
-        return Err(mark.told("this ( has no )"));
+        return Err(mark.told("this ( is never closed"));
     };
     if let Some(comma) = find(inside, ",") {
-        return Err(comma.told("an array has one dimension, and one number in its parentheses"));
+        return Err(comma.told("arrays have one dimension: one number in the parentheses"));
     }
     if let Some(colon) = find(inside, ":") {
         return Err(colon.told("substrings and sections of arrays are not in the deck language"));
@@ -213,10 +210,12 @@ pub fn subscript<'a>(
         _ => None,
     };
     let Some(number) = number else {
-        return Err(mark.told("in parentheses behind a name stands a number, and nothing else"));
+        return Err(mark.told(
+            "the parentheses after a name hold one number, not a variable or an expression",
+        ));
     };
     if number < 1 || number > MAX_ELEMENTS {
-        return Err(mark.told("the number in parentheses behind a name is 1 to 1,000,000"));
+        return Err(mark.told("the number in the parentheses after a name is from 1 to 1,000,000"));
     }
     if let [second, ..] = rest {
         return Err(behind(word, second));
@@ -231,9 +230,9 @@ fn known<'a>(names: &Names, word: &Token<'a>, subscript: Option<u64>) -> Result<
     };
     let count = variable.count;
     match subscript {
-        Some(_) if count == 0 => Err(word.told("% is no array, and has no element")),
+        Some(_) if count == 0 => Err(word.told("% is not an array, so it has no elements")),
         Some(number) if number > u64::from(count) => {
-            let told = word.told("% has the elements 1 to %");
+            let told = word.told("% has only the elements 1 to %");
             Err(told.and(Part::Number(count)))
         }
         _ => Ok(Seen {
@@ -249,7 +248,7 @@ pub fn single<'a>(seen: Seen, token: &Token<'a>) -> Result<Option<Kind>, Told<'a
     if seen.whole {
         return Err(
             token
-                .told("% is an array: one element is wanted here, as %(1)")
+                .told("% is an array, but one element is needed here, as in %(1)")
                 .and(Part::Word(token.text)),
         );
     }

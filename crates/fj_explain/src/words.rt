@@ -38,7 +38,7 @@ const TYPES: &str = "INTEGER, LOGICAL and CHARACTER are";
 
 const PLAIN: &str = "a variable is a scalar or an array of a declared number of elements";
 
-const ATTRIBUTE: &str = "the one attribute is ASYNCHRONOUS, in the declaration";
+const ATTRIBUTE: &str = "the only attribute is ASYNCHRONOUS, in the declaration";
 
 /// Words that begin a statement of Fortran and none here, and what is to be known instead.
 pub static FOREIGN: [(&str, &str); 69] = [
@@ -53,7 +53,7 @@ pub static FOREIGN: [(&str, &str); 69] = [
     ("PROGRAM", "a deck begins with its declarations"),
     (
         "IMPLICIT",
-        "each name is declared anyway; leave the line out",
+        "every name is declared anyway: leave this line out",
     ),
     (
         "PRINT",
@@ -96,19 +96,19 @@ pub static FOREIGN: [(&str, &str); 69] = [
     ("ENTRY", ALONE),
     ("EXTERNAL", ALONE),
     ("INTRINSIC", ALONE),
-    ("ENDPROGRAM", "END stands alone"),
+    ("ENDPROGRAM", "write END alone"),
     ("ENDSUBROUTINE", ALONE),
     ("ENDMODULE", ALONE),
     ("INCLUDE", "a deck is one text"),
     (
         "FORMAT",
-        "a format stands in READ and WRITE, as WRITE(*,'(I5)') N",
+        "put the format into READ or WRITE, as in WRITE(*,'(I5)') N",
     ),
-    ("DATA", "write an assignment behind the declarations"),
+    ("DATA", "write an assignment after the declarations"),
     ("PARAMETER", "write the value where it is wanted"),
     (
         "DIMENSION",
-        "the number of elements stands behind a name, as INTEGER A(3)",
+        "the number of elements follows the name, as in INTEGER A(3)",
     ),
     ("ALLOCATE", PLAIN),
     ("DEALLOCATE", PLAIN),
