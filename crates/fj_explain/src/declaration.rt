@@ -174,7 +174,8 @@ fn new_name<'a>(names: &Names, tokens: &[Token<'a>], word: &Token<'a>) -> Look<'
 /// NAMELIST, behind the word.
 pub fn group<'a>(names: Option<&Names>, word: &Token<'a>, tokens: &[Token<'a>]) -> Look<'a> {
     let [first, title, second, members @ ..] = tokens else {
-        return Err(word.told("% is written NAMELIST /group/ names"));
+        let at = tokens.first().unwrap_or(word);
+        return Err(at.told("NAMELIST is written NAMELIST /group/ names"));
     };
     if !first.is("/") || !second.is("/") {
         return Err(first.told("NAMELIST is written NAMELIST /group/ names"));

@@ -12,6 +12,11 @@ const MAX_WORD: usize = 63;
 
 const MAX_DIGITS: usize = 19;
 
+/// The largest INTEGER(8) and INTEGER(4).
+const MAX_INTEGER: u64 = 9_223_372_036_854_775_807;
+
+const MAX_SHORT: u64 = 2_147_483_647;
+
 /// The largest subscript and number of elements.
 const MAX_ELEMENTS: u64 = 1_000_000;
 
@@ -80,14 +85,14 @@ fn number<'a>(named: bool, token: &Token<'a>) -> Result<Kind, Told<'a>> {
     if digits.len() > MAX_DIGITS {
         return Err(token.told("% is too long: an integer literal has at most 19 digits"));
     }
-    let more = u64::from(minus);
+    let more = if minus { 1 } else { 0 };
     let amount = amount(digits);
-    if named && amount > (i64::MAX as u64) + more {
+    if named && amount > MAX_INTEGER.saturating_add(more) {
         return Err(token.told(
             "% does not fit into INTEGER(8): -9223372036854775808 to 9223372036854775807",
         ));
     }
-    if amount > 2_147_483_647 + more {
+    if amount > MAX_SHORT.saturating_add(more) {
         return Ok(Kind::Int8);
     }
     Ok(Kind::Int4)
