@@ -48,10 +48,17 @@ fn told(
     line: u32,
     reason: Reason,
 ) -> Result<(u32, String), AllocError> {
+    if let Some((at, text)) = of_text(reason) {
+        return shown(alloc, Told::new(at, text));
+    }
     let before = Before::of(alloc, text, line)?;
     let tokens = tokens(alloc, before.line)?;
     let written = before.is_written(alloc)?;
     let told = of_reason(&before, written, &tokens, reason);
+    shown(alloc, told)
+}
+
+fn shown(alloc: Global, told: Told<'_>) -> Result<(u32, String), AllocError> {
     let column = match u32::try_from(told.at) {
         Ok(column) => column,
         Err(_) => 1,
@@ -66,9 +73,6 @@ fn of_reason<'a>(
     tokens: &[Token<'a>],
     reason: Reason,
 ) -> Told<'a> {
-    if let Some((at, text)) = of_text(reason) {
-        return Told::new(at, text);
-    }
     match reason {
         Reason::Format { at } => found(tokens, format::told(tokens, at)),
         Reason::Syntax => no_statement(before, written, tokens),
@@ -77,7 +81,7 @@ fn of_reason<'a>(
     }
 }
 
-/// What is told, and where, of what no look at the line finds.
+/// The column, and what is told, where the line is not looked at.
 fn of_text(reason: Reason) -> Option<(usize, &'static str)> {
     match reason {
         Reason::TextTooLong => Some((1, "the text has more than 4,194,304 bytes")),
