@@ -44,7 +44,7 @@ fn read_all<S: Source>(source: &mut S) -> bool {
 #[test]
 fn keeps_what_is_written(rt: HostRuntime) -> Result<(), Fail> {
     let alloc = rt.alloc();
-    let mut disk = sent(RealDisk::new(rt.clone()?));
+    let mut disk = sent(RealDisk::new(alloc, rt.clone()?));
     let mut file = sent(disk.create(alloc, NAME)?);
     let wrote = write(&mut file);
     disk.give(NAME, file);
@@ -65,7 +65,7 @@ fn keeps_what_is_written(rt: HostRuntime) -> Result<(), Fail> {
 #[test]
 fn a_folder_is_no_file(rt: HostRuntime) -> Result<(), Fail> {
     let alloc = rt.alloc();
-    let mut disk = RealDisk::new(rt.clone()?);
+    let mut disk = RealDisk::new(alloc, rt.clone()?);
     assert!(rt; disk.take(alloc, "fj_real-test-absent.tmp")?.is_none());
     assert_eq!(rt; disk.faults(), 0);
     assert!(rt; disk.take(alloc, ".").is_err());
@@ -78,8 +78,9 @@ fn a_folder_is_no_file(rt: HostRuntime) -> Result<(), Fail> {
 // The program that runs may not be written; it begins as each program of this system does.
 #[test]
 fn a_file_that_may_only_be_read_is_read(rt: HostRuntime) -> Result<(), Fail> {
-    let mut disk = RealDisk::new(rt.clone()?);
-    let mut file = disk.take(rt.alloc(), "/proc/self/exe")?.ok_or(Failed)?;
+    let alloc = rt.alloc();
+    let mut disk = RealDisk::new(alloc, rt.clone()?);
+    let mut file = disk.take(alloc, "/proc/self/exe")?.ok_or(Failed)?;
     let mut front = [b'.'; 4];
     assert_eq!(rt; file.read_at(0, &mut front), Ok(4));
     assert_eq!(rt; front, *b"\x7fELF");
