@@ -3,8 +3,8 @@
 # example: runs the deck of examples/first in a folder of its own
 # test: the gate
 # bench: the benchmarks, beside gfortran where it is on the machine
-# checks: what no gate asks for: refused allocations, failing calls, many runs with workers, random statements and decks beside gfortran,
-# the lines of docs/DECKS.md, worked decks, and the modules of docs/DEFINITIONS.md
+# checks: what no gate asks for, what is cheap first: the modules of docs/DEFINITIONS.md, descriptors, files and limits that are odd, the lines
+# of docs/DECKS.md, worked decks, refused allocations, failing calls, many runs with workers, random statements and decks beside gfortran
 .PHONY: build install example examples test bench checks
 
 PREFIX ?= /usr/local
@@ -31,6 +31,10 @@ bench: build
 	bench/run
 
 checks: build
+	checks/definitions
+	checks/outsides
+	checks/decks
+	checks/worked
 	checks/memory
 	checks/faults
 	checks/soak
@@ -39,6 +43,3 @@ checks: build
 	checks/groups
 	checks/questions
 	checks/random
-	checks/decks
-	checks/definitions
-	checks/worked

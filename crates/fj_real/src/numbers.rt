@@ -9,10 +9,17 @@ const STANDARD_ERROR: i32 = 2;
 /// The number of the system's error where a process may have no more numbers, or none so high (open(2), EMFILE).
 const NO_MORE_NUMBERS: i32 = 24;
 
-/// Whether the lowest number that is free was one of the three, and is taken now: by the root folder, open for reading, from
-/// which no byte can be read and to which none can be written.
+/// A folder, open for reading: no byte can be read from it or written to it.
+fn open_folder<R: Files<File = File>>(rt: &R) -> Result<File> {
+    match File::open(rt, "/") {
+        Ok(folder) => Ok(folder),
+        Err(_) => File::open(rt, "."),
+    }
+}
+
+/// Whether the lowest number that is free was one of the three, and is taken now.
 fn hold_one<R: Files<File = File>>(rt: &R) -> Result<bool> {
-    let folder = match File::open(rt, "/") {
+    let folder = match open_folder(rt) {
         Err(error) if error.raw_os_error() == Some(NO_MORE_NUMBERS) => return Ok(false),
         opened => opened?,
     };
