@@ -4,7 +4,7 @@
 # test: the gate
 # bench: the benchmarks, beside gfortran where it is on the machine
 # checks: what no gate asks for, what is cheap first: the modules of docs/DEFINITIONS.md, descriptors, files and limits that are odd, the lines
-# of docs/DECKS.md, worked decks, refused allocations, failing calls, many runs with workers, random statements and decks beside gfortran
+# of docs/DECKS.md, worked decks, what is said of refused ones, refused allocations, failing calls, many runs with workers, random statements and decks beside gfortran
 .PHONY: build install example examples test bench checks
 
 PREFIX ?= /usr/local
@@ -35,6 +35,7 @@ checks: build
 	checks/outsides
 	checks/decks
 	checks/worked
+	checks/explained
 	checks/memory
 	checks/faults
 	checks/soak

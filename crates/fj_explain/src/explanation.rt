@@ -1,6 +1,11 @@
 // Whether a text is a deck, and if not what is told of it.
 ghost use Rattle.fj_explain.specs.Explains.{Explains};
 
+use crate::before::Before;
+use crate::format;
+use crate::line::line;
+use crate::token::{Token, tokens};
+use crate::told::{Part, Told};
 use fj_deck::{DeckFault, parse_deck};
 use fj_statement::Reason;
 use std::alloc::{AllocError, Global};
@@ -24,11 +29,106 @@ pub fn explain(alloc: Global, text: &[u8]) -> Result<Option<Explanation>, AllocE
     match parse_deck(alloc, text) {
         Ok(_) => Ok(None),
         Err(DeckFault::Memory(error)) => Err(error),
-        Err(DeckFault::Refused { line, reason }) => Ok(Some(Explanation {
-            line,
-            reason,
-            column: 1,
-            what: String::from_str(alloc, "this is no deck")?,
-        })),
+        Err(DeckFault::Refused { line, reason }) => {
+            let (column, what) = told(alloc, text, line, reason)?;
+            Ok(Some(Explanation {
+                line,
+                reason,
+                column,
+                what,
+            }))
+        }
     }
+}
+
+/// The column and the words for a line that is refused.
+fn told(
+    alloc: Global,
+    text: &[u8],
+    line: u32,
+    reason: Reason,
+) -> Result<(u32, String), AllocError> {
+    let before = Before::of(alloc, text, line)?;
+    let tokens = tokens(alloc, before.line)?;
+    let written = before.is_written(alloc)?;
+    let told = of_reason(&before, written, &tokens, reason);
+    let column = match u32::try_from(told.at) {
+        Ok(column) => column,
+        Err(_) => 1,
+    };
+    let what = told.line(alloc)?;
+    Ok((column, what))
+}
+
+fn of_reason<'a>(
+    before: &Before<'a>,
+    written: bool,
+    tokens: &[Token<'a>],
+    reason: Reason,
+) -> Told<'a> {
+    match reason {
+        Reason::TextTooLong => Told::new(1, "the text has more than 4,194,304 bytes"),
+        Reason::LineTooLong => Told::new(1_001, "the line has more than 1,000 bytes"),
+        Reason::NoEnd => Told::new(1, "END is missing: it is the last statement of a deck"),
+        Reason::TooMany => too_many(tokens),
+        Reason::Format { at } => found(tokens, format::told(tokens, at)),
+        Reason::Syntax if written => misplaced(before, tokens),
+        Reason::Syntax => found(tokens, line(None, tokens).err()),
+        Reason::Meaning => match line(Some(&before.names), tokens) {
+            Err(told) => told,
+            Ok(()) => Told::new(1, "the names and values of this line do not fit together"),
+        },
+    }
+}
+
+/// What was found, or else how the line begins.
+fn found<'a>(tokens: &[Token<'a>], told: Option<Told<'a>>) -> Told<'a> {
+    match (told, tokens) {
+        (Some(told), _) => told,
+        (None, [first, ..]) => first.told(
+            "this is not a statement of the deck language: it begins with %",
+        ),
+        (None, []) => Told::new(1, "this is not a statement of the deck language"),
+    }
+}
+
+/// What is told of a statement or declaration in the wrong place.
+fn misplaced<'a>(before: &Before<'a>, tokens: &[Token<'a>]) -> Told<'a> {
+    let at = match tokens {
+        [first, ..] => first.at,
+        [] => 1,
+    };
+    match (before.end, before.statement) {
+        (Some(line), _) => Told::new(
+            at,
+            "END is in line % already, and only comments may follow it",
+        )
+        .with(Part::Number(line)),
+        (None, Some(line)) => {
+            Told::new(
+                at,
+                "declarations come before all statements, and line % is a statement",
+            )
+            .with(Part::Number(line))
+        }
+        (None, None) => Told::new(at, "this stands in the wrong place"),
+    }
+}
+
+/// What is told of a line that passes a limit.
+fn too_many<'a>(tokens: &[Token<'a>]) -> Told<'a> {
+    let [first, ..] = tokens else {
+        return Told::new(1, "the deck is too long");
+    };
+    if first.is("READ") || first.is("WRITE") {
+        return first.told(
+            "over a limit: 1,000,000 items of 16,777,216 bytes, 1,000,000 steps of a format, or 100,000 statements of the deck",
+        );
+    }
+    if first.is("INTEGER") || first.is("LOGICAL") || first.is("CHARACTER") {
+        return first.told(
+            "more than 4,096 variables, 1,000,000 elements or 16,777,216 bytes of characters are declared",
+        );
+    }
+    first.told("a deck has at most 100,000 statements")
 }

@@ -1,0 +1,74 @@
+// What stands before the line that is refused.
+
+use fj_meaning::{Fault, Names};
+use fj_syntax::{SyntaxFault, Written, next_line, parse_line};
+use std::alloc::{AllocError, Global};
+
+/// The line that is refused, and what the lines before it say.
+#[derive(Drop)]
+pub struct Before<'a> {
+    pub line: &'a [u8],
+    pub names: Names,
+    /// The line of the first statement.
+    pub statement: Option<u32>,
+    /// The line of END.
+    pub end: Option<u32>,
+}
+
+impl<'a> Before<'a> {
+    /// Of the line of this number, from 1 on.
+    pub fn of(alloc: Global, text: &'a [u8], line: u32) -> Result<Before<'a>, AllocError> {
+        let mut before = Before {
+            line: b"",
+            names: Names::new(alloc),
+            statement: None,
+            end: None,
+        };
+        let mut rest = text;
+        for number in 1..line {
+            let Some((front, behind)) = next_line(rest) else {
+                break;
+            };
+            before.take(alloc, number, front)?;
+            rest = behind;
+        }
+        if let Some((front, _)) = next_line(rest) {
+            before.line = front;
+        }
+        Ok(before)
+    }
+
+    /// Takes a line, which is good.
+    fn take(&mut self, alloc: Global, number: u32, line: &[u8]) -> Result<(), AllocError> {
+        let written = match parse_line(alloc, line) {
+            Ok(Some(written)) => written,
+            Ok(None) | Err(SyntaxFault::NotAStatement) => return Ok(()),
+            Err(SyntaxFault::Memory(error)) => return Err(error),
+        };
+        let declared = match written {
+            Written::Declaration(declaration) => self.names.declare(number, declaration),
+            Written::Group(group) => self.names.group(number, group),
+            Written::End => {
+                self.end = Some(number);
+                Ok(())
+            }
+            _ => {
+                self.statement = Some(self.statement.unwrap_or(number));
+                Ok(())
+            }
+        };
+        match declared {
+            Err(Fault::Memory(error)) => Err(error),
+            _ => Ok(()),
+        }
+    }
+
+    /// Whether the line is a statement or declaration by itself, so that it stands in the wrong place.
+    pub fn is_written(&self, alloc: Global) -> Result<bool, AllocError> {
+        match parse_line(alloc, self.line) {
+            Ok(written) => Ok(written.is_some()),
+            Err(SyntaxFault::NotAStatement) => Ok(false),
+            Err(SyntaxFault::Memory(error)) => Err(error),
+        }
+    }
+}
