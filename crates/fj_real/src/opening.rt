@@ -77,7 +77,6 @@ fn create_or_empty<R: Files<File = File>>(rt: &R, name: &str) -> Result<File, Wh
         .create(true)
         .truncate(true)
         .open(rt, name)?;
-    demand_file(&file.metadata()?)?;
     Ok(file)
 }
 

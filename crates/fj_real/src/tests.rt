@@ -6,7 +6,9 @@ use std::os::unix::fs::symlink;
 use std::test::Fail;
 
 const NAME: &str = "fj_real-test-of-a-file.tmp";
+
 const LINKED: &str = "fj_real-test-linked.tmp";
+
 const SCRATCH: &str = "SCRATCH.fj_real-test";
 
 /// Takes only what may go to another thread.

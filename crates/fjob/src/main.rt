@@ -88,7 +88,11 @@ fn give_up(rt: &HostRuntime, sentence: &str, status: u8) -> ExitCode {
 
 fn main(rt: HostRuntime) -> ExitCode {
     if hold_standard_numbers(&rt).is_err() {
-        return give_up(&rt, "whether standard output is open could not be found out", NOT_WRITTEN);
+        return give_up(
+            &rt,
+            "whether standard output is open could not be found out",
+            NOT_WRITTEN,
+        );
     }
     let Ok(words) = words(&rt) else {
         return give_up(&rt, "memory was refused", NO_MEMORY);

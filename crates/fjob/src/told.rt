@@ -91,10 +91,6 @@ pub fn tell<W: Write>(
         Status::ReadFault => tell_why(err, "standard input could not be read", seen.read),
         Status::WriteFault => tell_why(err, "standard output could not be written", seen.written),
         Status::DiskFault { stmt } => tell_disk(err, stmt, seen.failures),
-        Status::Memory => tell_why(
-            err,
-            "memory was refused, or a thread; the run was given up",
-            None,
-        ),
+        Status::Memory => tell_why(err, "memory was refused; the run was given up", None),
     }
 }
