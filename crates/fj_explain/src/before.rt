@@ -40,35 +40,47 @@ impl<'a> Before<'a> {
 
     /// Takes a line, which is good.
     fn take(&mut self, alloc: Global, number: u32, line: &[u8]) -> Result<(), AllocError> {
-        let written = match parse_line(alloc, line) {
-            Ok(Some(written)) => written,
-            Ok(None) | Err(SyntaxFault::NotAStatement) => return Ok(()),
-            Err(SyntaxFault::Memory(error)) => return Err(error),
+        let Some(written) = written(alloc, line)? else {
+            return Ok(());
         };
-        let declared = match written {
-            Written::Declaration(declaration) => self.names.declare(number, declaration),
-            Written::Group(group) => self.names.group(number, group),
-            Written::End => {
-                self.end = Some(number);
+        match written {
+            Written::Declaration(declaration) => kept(self.names.declare(number, declaration)),
+            Written::Group(group) => kept(self.names.group(number, group)),
+            statement => {
+                self.state(number, &statement);
                 Ok(())
             }
-            _ => {
-                self.statement = Some(self.statement.unwrap_or(number));
-                Ok(())
-            }
-        };
-        match declared {
-            Err(Fault::Memory(error)) => Err(error),
-            _ => Ok(()),
+        }
+    }
+
+    fn state(&mut self, number: u32, statement: &Written) {
+        if matches!(statement, Written::End) {
+            self.end = Some(number);
+        } else if self.statement.is_none() {
+            self.statement = Some(number);
         }
     }
 
     /// Whether the line is a statement or declaration by itself, so that it stands in the wrong place.
     pub fn is_written(&self, alloc: Global) -> Result<bool, AllocError> {
-        match parse_line(alloc, self.line) {
-            Ok(written) => Ok(written.is_some()),
-            Err(SyntaxFault::NotAStatement) => Ok(false),
-            Err(SyntaxFault::Memory(error)) => Err(error),
-        }
+        let written = written(alloc, self.line)?;
+        Ok(written.is_some())
+    }
+}
+
+/// The statement or declaration of a line, if it is one.
+fn written(alloc: Global, line: &[u8]) -> Result<Option<Written>, AllocError> {
+    match parse_line(alloc, line) {
+        Ok(written) => Ok(written),
+        Err(SyntaxFault::NotAStatement) => Ok(None),
+        Err(SyntaxFault::Memory(error)) => Err(error),
+    }
+}
+
+/// Want of memory; of good lines there is no other fault.
+fn kept(declared: Result<(), Fault>) -> Result<(), AllocError> {
+    match declared {
+        Err(Fault::Memory(error)) => Err(error),
+        Ok(()) | Err(Fault::Format { .. } | Fault::NoMeaning | Fault::TooMany) => Ok(()),
     }
 }

@@ -59,6 +59,9 @@ pub fn look_at<'a>(call: Call<'_, 'a>, tokens: &[Token<'a>]) -> Look<'a> {
 /// A motion with its unit alone, or what is told of a statement with no parenthesis.
 fn unopened<'a>(call: Call<'_, 'a>, mark: &Token<'a>, tokens: &[Token<'a>]) -> Told<'a> {
     match (call.statement, mark.text) {
+        (_, b"=") => call
+            .word
+            .told("% is a word of the deck language and cannot be a name"),
         (Statement::Read, b"*") => mark.told(
             "decks read only from files: write READ(unit, format) items",
         ),
@@ -114,7 +117,7 @@ fn argument<'a>(
         }
         [first, ..] => {
             let Some(key) = bare else {
-                return Err(unnamed(first));
+                return Err(unnamed(call, first));
             };
             let value = if key == "UNIT" {
                 Value::Unit
@@ -131,8 +134,9 @@ fn argument<'a>(
 }
 
 /// What is told of an argument that stands for no specifier.
-fn unnamed<'a>(first: &Token<'a>) -> Told<'a> {
-    if first.shape == Shape::Literal || first.is("*") {
+fn unnamed<'a>(call: Call<'_, 'a>, first: &Token<'a>) -> Told<'a> {
+    let transfers = matches!(call.statement, Statement::Read | Statement::Write);
+    if transfers && (first.shape == Shape::Literal || first.is("*")) {
         return first.told(
             "write FMT=%: it may be left out only directly after a unit without UNIT=",
         );
@@ -278,7 +282,7 @@ fn length<'a>(key: &Token<'a>, first: &Token<'a>, rest: &[Token<'a>]) -> Look<'a
         (Some(amount), []) if amount <= MOST => Ok(()),
         _ => Err(
             first
-                .told("%= needs a number from 0 to 2,147,483,647, not a variable")
+                .told("%= needs a literal from 0 to 2,147,483,647")
                 .with(Part::Word(key.text)),
         ),
     }

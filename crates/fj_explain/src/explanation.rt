@@ -48,10 +48,17 @@ fn told(
     line: u32,
     reason: Reason,
 ) -> Result<(u32, String), AllocError> {
+    if let Some((at, text)) = of_text(reason) {
+        return shown(alloc, Told::new(at, text));
+    }
     let before = Before::of(alloc, text, line)?;
     let tokens = tokens(alloc, before.line)?;
     let written = before.is_written(alloc)?;
     let told = of_reason(&before, written, &tokens, reason);
+    shown(alloc, told)
+}
+
+fn shown(alloc: Global, told: Told<'_>) -> Result<(u32, String), AllocError> {
     let column = match u32::try_from(told.at) {
         Ok(column) => column,
         Err(_) => 1,
@@ -67,52 +74,62 @@ fn of_reason<'a>(
     reason: Reason,
 ) -> Told<'a> {
     match reason {
-        Reason::TextTooLong => Told::new(1, "the text has more than 4,194,304 bytes"),
-        Reason::LineTooLong => Told::new(1_001, "the line has more than 1,000 bytes"),
-        Reason::NoEnd => Told::new(1, "END is missing: it is the last statement of a deck"),
-        Reason::TooMany => too_many(tokens),
         Reason::Format { at } => found(tokens, format::told(tokens, at)),
-        Reason::Syntax if written => misplaced(before, tokens),
-        Reason::Syntax => found(tokens, line(None, tokens).err()),
-        Reason::Meaning => match line(Some(&before.names), tokens) {
-            Err(told) => told,
-            Ok(()) => Told::new(1, "the names and values of this line do not fit together"),
-        },
+        Reason::Syntax => no_statement(before, written, tokens),
+        Reason::Meaning => no_meaning(before, tokens),
+        _ => too_many(tokens),
     }
+}
+
+/// The column, and what is told, where the line is not looked at.
+fn of_text(reason: Reason) -> Option<(usize, &'static str)> {
+    match reason {
+        Reason::TextTooLong => Some((1, "the text has more than 4,194,304 bytes")),
+        Reason::LineTooLong => Some((1_001, "the line has more than 1,000 bytes")),
+        Reason::NoEnd => Some((1, "END is missing: it is the last statement of a deck")),
+        _ => None,
+    }
+}
+
+/// What is told of a line that is no statement, or none in its place.
+fn no_statement<'a>(before: &Before<'a>, written: bool, tokens: &[Token<'a>]) -> Told<'a> {
+    if written {
+        return misplaced(before, tokens);
+    }
+    let looked = line(None, tokens);
+    found(tokens, looked.err())
+}
+
+/// What is told of a statement or declaration that means nothing.
+fn no_meaning<'a>(before: &Before<'a>, tokens: &[Token<'a>]) -> Told<'a> {
+    if let Err(told) = line(Some(&before.names), tokens) {
+        return told;
+    }
+    Told::new(1, "the names and values of this line do not fit together")
 }
 
 /// What was found, or else how the line begins.
 fn found<'a>(tokens: &[Token<'a>], told: Option<Told<'a>>) -> Told<'a> {
-    match (told, tokens) {
-        (Some(told), _) => told,
-        (None, [first, ..]) => first.told(
-            "this is not a statement of the deck language: it begins with %",
-        ),
-        (None, []) => Told::new(1, "this is not a statement of the deck language"),
+    if let Some(told) = told {
+        return told;
     }
+    let Some(first) = tokens.first() else {
+        return Told::new(1, "this is not a statement of the deck language");
+    };
+    first.told("this is not a statement of the deck language: it begins with %")
 }
 
 /// What is told of a statement or declaration in the wrong place.
 fn misplaced<'a>(before: &Before<'a>, tokens: &[Token<'a>]) -> Told<'a> {
-    let at = match tokens {
-        [first, ..] => first.at,
-        [] => 1,
+    let Some(first) = tokens.first() else {
+        return Told::new(1, "this is in the wrong place");
     };
-    match (before.end, before.statement) {
-        (Some(line), _) => Told::new(
-            at,
-            "END is in line % already, and only comments may follow it",
-        )
-        .with(Part::Number(line)),
-        (None, Some(line)) => {
-            Told::new(
-                at,
-                "declarations come before all statements, and line % is a statement",
-            )
-            .with(Part::Number(line))
-        }
-        (None, None) => Told::new(at, "this stands in the wrong place"),
+    if let Some(line) = before.end {
+        let told = first.told("END is in line % already, and only comments may follow it");
+        return told.with(Part::Number(line));
     }
+    let told = first.told("declarations come before all statements, and line % is a statement");
+    told.with(Part::Number(before.statement.unwrap_or(0)))
 }
 
 /// What is told of a line that passes a limit.

@@ -21,7 +21,7 @@ pub fn line<'a>(names: Option<&Names>, tokens: &[Token<'a>]) -> Look<'a> {
     foreign(first, behind)?;
     whole(tokens)?;
     if !first.is_word() {
-        return Err(unnamed(first));
+        return Err(unnamed(first, behind));
     }
     match look_up(&KEYWORDS, first.text) {
         Some(keyword) => begun(names, keyword, first, behind),
@@ -82,7 +82,10 @@ fn whole<'a>(tokens: &[Token<'a>]) -> Look<'a> {
 }
 
 /// What is told of a line that begins with no word.
-fn unnamed<'a>(first: &Token<'a>) -> Told<'a> {
+fn unnamed<'a>(first: &Token<'a>, behind: &[Token<'a>]) -> Told<'a> {
+    if is_assigned(behind) {
+        return first.told("only a variable or an element can be set, not %");
+    }
     match (first.shape, first.text) {
         (Shape::Number, _) => first.told("labels are not in the deck language: leave % out"),
         (_, b"*" | b"#") => first.told("a comment begins with !, not with %"),

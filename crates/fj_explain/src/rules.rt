@@ -3,7 +3,7 @@
 use crate::call::Call;
 use crate::specifiers::Statement;
 use crate::token::{Shape, Token, cut};
-use crate::told::{Look, Part};
+use crate::told::Look;
 
 /// The arguments of a statement by their specifiers.
 #[derive(Clone, Copy)]
