@@ -2,7 +2,7 @@
 use fj_explain::{Explanation, explain};
 use fj_job::Reason;
 use std::alloc::{AllocError, Global};
-use std::io::{Result, Write};
+use std::io::{self, Write};
 
 /// The most bytes of a deck's line that are shown.
 const WIDTH: usize = 150;
@@ -50,7 +50,7 @@ fn begins_character(byte: u8) -> bool {
 }
 
 /// Puts a part of a line down, and a mark under its column.
-fn mark(alloc: Global, part: &[u8], before: usize) -> core::result::Result<Vec<u8>, AllocError> {
+fn mark(alloc: Global, part: &[u8], before: usize) -> Result<Vec<u8>, AllocError> {
     let mut lines = Vec::new(alloc);
     lines.extend_from_slice(b"    ")?;
     for byte in part {
@@ -67,7 +67,7 @@ fn mark(alloc: Global, part: &[u8], before: usize) -> core::result::Result<Vec<u
 }
 
 /// Shows the deck's line, or the part of it around the column, with a mark under the column.
-fn show_line<W: Write>(err: &mut W, alloc: Global, line: &[u8], column: u32) -> Result<()> {
+fn show_line<W: Write>(err: &mut W, alloc: Global, line: &[u8], column: u32) -> io::Result<()> {
     let before = (column.saturating_sub(1) as usize).min(line.len());
     let start = before.saturating_sub(BEFORE);
     let end = start.saturating_add(WIDTH).min(line.len());
@@ -92,7 +92,7 @@ pub fn tell_refused<W: Write>(
     line: u32,
     reason: Reason,
     text: Option<&[u8]>,
-) -> Result<()> {
+) -> io::Result<()> {
     let Some(said) = explained(alloc, text) else {
         return writeln!(err, "fjob: line {line}: {}", reason_words(reason));
     };
