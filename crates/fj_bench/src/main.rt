@@ -58,7 +58,7 @@ fn main(rt: HostRuntime) -> ExitCode {
     let Ok(files) = rt.clone() else {
         return ExitCode::FAILURE;
     };
-    let mut disk = RealDisk::new(files);
+    let mut disk = RealDisk::new(rt.alloc(), files);
     match counted_in(rt.alloc(), &mut disk, "records") {
         Ok(count) => {
             match println!(rt; "{} {}", count.records, count.characters) {

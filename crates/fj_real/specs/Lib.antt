@@ -2,3 +2,4 @@ pub mod RealSource
 pub mod RealSink
 pub mod RealFile
 pub mod RealDisk
+pub mod Kept

@@ -8,65 +8,59 @@ ghost use Rattle.fj_real.specs.RealFile.{file_size, file_count};
 
 use crate::blocks::keep_big_blocks;
 use crate::file::RealFile;
+use crate::limit::file_limit;
+use crate::opening::{create_file, open_file};
+use crate::why::Why;
 use fj_outside::{Disk, Failed, FileStore, Stop};
-use std::alloc::Global;
-use std::fs::{self, File, OpenOptions};
-use std::io::{self, ErrorKind};
+use std::alloc::{AllocError, Global};
+use std::fs::{self, File};
 use std::rt::Files;
+
+/// A file on which a call failed, and why.
+#[derive(Drop)]
+pub struct Failure {
+    pub name: String,
+    pub why: Why,
+}
 
 /// The files of the current folder. It tells nothing.
 #[derive(Drop)]
 pub struct RealDisk<R> {
     rt: R,
+    alloc: Global,
     faults: u64,
     /// Big blocks are used again.
     keeps_blocks: bool,
+    /// The first place that no file may have.
+    limit: u64,
+    /// The files on which calls failed, each once, in the order in which the disk learnt of it.
+    failures: Vec<Failure>,
 }
 
-/// An empty file of that name, in place of one that is there.
-fn create_file<R: Files<File = File>>(rt: &R, name: &str) -> io::Result<RealFile>
-    ensures { IfOk result (λ file. (file_size file ≡ 0) × (file_count file ≡ 0)) }
-{
-    let file = OpenOptions::new()
-        .read(true)
-        .write(true)
-        .create(true)
-        .truncate(true)
-        .open(rt, name)?;
-    Ok(RealFile::new(file, 0))
-}
-
-/// The file of that name: open for reading and writing, or for reading where it may not be written.
-fn open_file<R: Files<File = File>>(rt: &R, name: &str) -> io::Result<RealFile>
-    ensures { IfOk result (λ file. file_count file ≡ 0) }
-{
-    let file = match OpenOptions::new().read(true).write(true).open(rt, name) {
-        Err(e) if may_not_be_written(e.kind()) => OpenOptions::new().read(true).open(rt, name)?,
-        opened => opened?,
-    };
-    let size = file.metadata()?.len();
-    Ok(RealFile::new(file, size))
-}
-
-/// Whether a file could not be opened because it is to be written.
-fn may_not_be_written(kind: ErrorKind) -> bool {
-    matches!(
-        kind,
-        ErrorKind::PermissionDenied | ErrorKind::ReadOnlyFilesystem | ErrorKind::ExecutableFileBusy
-    )
-}
+/// The most files of which it is kept why a call on them failed: more than a run meets, which ends by the first that it
+/// learns of, and then gives sixteen files back.
+const MOST_FAILURES: usize = 40;
 
 impl<R: Files<File = File>> RealDisk<R> {
     ghost use Rattle.fj_real.specs.RealDisk.{disk_count};
 
-    pub fn new(rt: R) -> RealDisk<R>
+    pub fn new(alloc: Global, rt: R) -> RealDisk<R>
         ensures { disk_count result ≡ 0 }
     {
         RealDisk {
             rt,
+            alloc,
             faults: 0,
             keeps_blocks: false,
+            limit: file_limit(),
+            failures: Vec::new(alloc),
         }
+    }
+
+    /// The files on which calls failed, each once, in the order in which the disk learnt of it. One is missing where
+    /// memory for its name was refused.
+    pub fn failures(&self) -> &[Failure] {
+        &self.failures
     }
 
     /// Keeps big blocks from the first file on. Before, the lists of a deck grow, which is sooner done where the pages of a
@@ -81,11 +75,28 @@ impl<R: Files<File = File>> RealDisk<R> {
         keep_big_blocks(alloc);
     }
 
-    fn fail(&mut self)
+    /// Keeps the file and the reason, but for a file that is kept.
+    fn keep(&mut self, name: &str, why: Why) -> Result<(), AllocError>
+        ensures { disk_count self.new ≡ disk_count self.old }
+    {
+        let known = self
+            .failures
+            .iter()
+            .any(|failure| failure.name.as_str() == name);
+        if known || self.failures.len() >= MOST_FAILURES {
+            return Ok(());
+        }
+        let name = String::from_str(self.alloc, name)?;
+        self.failures.push(Failure { name, why })?;
+        Ok(())
+    }
+
+    fn fail(&mut self, name: &str, why: Why)
         ensures later { disk_count self.old ≤ disk_count self.new }
         ensures rose { Rose (disk_count self.old) (disk_count self.new) }
     {
         self.faults = self.faults.saturating_add(1);
+        let _ = self.keep(name, why);
     }
 }
 
@@ -107,48 +118,50 @@ impl<R: Files<File = File>> Disk for RealDisk<R> {
     fn exists(&mut self, name: &str) -> Result<bool, Failed> {
         match fs::exists(&self.rt, name) {
             Ok(there) => Ok(there),
-            Err(_) => {
-                self.fail();
+            Err(error) => {
+                self.fail(name, Why::from(error));
                 Err(Failed)
             }
         }
     }
 
-    /// A file that may only be read is there; a write to it fails. A folder, and a file that may not be read, is a fault.
+    /// A file that may only be read is there; a write to it fails. A folder, a pipe, a socket, a device and a file that
+    /// may not be read are faults.
     fn take(&mut self, alloc: Global, name: &str) -> Result<Option<RealFile>, Stop> {
         self.keep_blocks(alloc);
-        match open_file(&self.rt, name) {
+        match open_file(&self.rt, name, self.limit) {
             Ok(file) => Ok(Some(file)),
-            Err(e) if e.kind() == ErrorKind::NotFound => Ok(None),
-            Err(_) => {
-                self.fail();
+            Err(why) if why.is_missing() => Ok(None),
+            Err(why) => {
+                self.fail(name, why);
                 Err(Stop::Failed)
             }
         }
     }
 
+    /// A link of that name is followed, but where the name is a scratch file's.
     fn create(&mut self, alloc: Global, name: &str) -> Result<RealFile, Stop> {
         self.keep_blocks(alloc);
-        match create_file(&self.rt, name) {
+        match create_file(&self.rt, name, self.limit) {
             Ok(file) => Ok(file),
-            Err(_) => {
-                self.fail();
+            Err(why) => {
+                self.fail(name, why);
                 Err(Stop::Failed)
             }
         }
     }
 
-    fn give(&mut self, _name: &str, file: RealFile) {
+    fn give(&mut self, name: &str, file: RealFile) {
         if file.faults() != 0 {
-            self.fail();
+            self.fail(name, file.why().unwrap_or(Why::Shorter));
         }
     }
 
     fn remove(&mut self, name: &str) -> Result<(), Failed> {
         match fs::remove_file(&self.rt, name) {
             Ok(()) => Ok(()),
-            Err(_) => {
-                self.fail();
+            Err(error) => {
+                self.fail(name, Why::from(error));
                 Err(Failed)
             }
         }

@@ -3,6 +3,8 @@ ghost use Rattle.std.specs.Prelude.{◌≡◌, ◌⊎◌, ◌≤◌, ◌-◌, �
 ghost use Rattle.std.proofs.Common.{rules};
 ghost use Rattle.fj_outside.specs.Faults.{Rose};
 
+use crate::limit::within;
+use crate::why::Why;
 use fj_outside::{Failed, FileStore, Stop};
 use std::fs::File;
 use std::os::unix::fs::FileExt;
@@ -13,27 +15,47 @@ use std::os::unix::fs::FileExt;
 pub struct RealFile {
     file: File,
     size: u64,
+    /// The first place that it may not have.
+    limit: u64,
     faults: u64,
+    /// Why the last call that failed did.
+    why: Option<Why>,
 }
 
 impl RealFile {
     ghost use Rattle.fj_real.specs.RealFile.{file_size, file_count};
 
-    /// An open file of that length.
-    pub(crate) fn new(file: File, size: u64) -> RealFile
+    /// An open file of that length, which may not pass a limit.
+    pub(crate) fn new(file: File, size: u64, limit: u64) -> RealFile
         ensures size { file_size result ≡ size }
         ensures count { file_count result ≡ 0 }
     {
         RealFile {
             file,
             size,
+            limit,
             faults: 0,
+            why: None,
         }
+    }
+
+    /// Why the last call that failed did, if one did.
+    pub fn why(&self) -> Option<Why> {
+        self.why
+    }
+
+    fn fail(&mut self, why: Why)
+        ensures later { file_count self.old ≤ file_count self.new }
+        ensures rose { Rose (file_count self.old) (file_count self.new) }
+        ensures size { file_size self.new ≡ file_size self.old }
+    {
+        self.faults = self.faults.saturating_add(1);
+        self.why = Some(why);
     }
 }
 
-/// Whether the whole buffer was filled. A read that ends earlier fails.
-fn read_whole(file: &File, at: u64, buf: &mut [u8]) -> bool
+/// Fills the whole buffer. A read that ends earlier fails.
+fn read_whole(file: &File, at: u64, buf: &mut [u8]) -> Result<(), Why>
     requires { at + length buf.old < 2 ^ 64 }
 {
     let mut got = 0;
@@ -42,29 +64,51 @@ fn read_whole(file: &File, at: u64, buf: &mut [u8]) -> bool
             break;
         }
         match file.read_at(&mut buf[got..], at + got as u64) {
-            Ok(0) | Err(_) => return false,
+            Ok(0) => return Err(Why::Shorter),
+            Err(error) => return Err(Why::from(error)),
             Ok(count) => got += count,
         }
     }
-    got == buf.len()
+    if got < buf.len() {
+        return Err(Why::Shorter);
+    }
+    Ok(())
 }
 
-/// How many bytes of the piece were written before a write failed.
-fn write_whole(file: &File, at: u64, piece: &[u8]) -> usize
+/// A piece that was written, or a front of it and why no more was.
+#[derive(Clone, Copy)]
+struct Put {
+    count: usize,
+    why: Option<Why>,
+}
+
+/// Writes a piece, or the front before a write that failed.
+fn write_whole(file: &File, at: u64, piece: &[u8]) -> Put
     requires { at + length piece.now < 2 ^ 64 }
-    ensures { result ≤ length piece.now }
+    ensures { result.count ≤ length piece.now }
 {
-    let mut put = 0;
+    let mut count = 0;
     'draining: for _ in 0..piece.len() {
-        if put == piece.len() {
+        if count == piece.len() {
             break;
         }
-        match file.write_at(&piece[put..], at + put as u64) {
-            Ok(0) | Err(_) => break,
-            Ok(count) => put += count,
+        match file.write_at(&piece[count..], at + count as u64) {
+            Ok(0) => {
+                return Put {
+                    count,
+                    why: Some(Why::NothingTaken),
+                };
+            }
+            Err(error) => {
+                return Put {
+                    count,
+                    why: Some(Why::from(error)),
+                };
+            }
+            Ok(more) => count += more,
         }
     }
-    put
+    Put { count, why: None }
 }
 
 impl FileStore for RealFile {
@@ -87,32 +131,45 @@ impl FileStore for RealFile {
     fn read_at(&mut self, at: u64, buf: &mut [u8]) -> Result<usize, Failed> {
         let rest = self.size.saturating_sub(at);
         let count = (buf.len() as u64).min(rest) as usize;
-        if count == 0 || read_whole(&self.file, at, &mut buf[..count]) {
+        if count == 0 {
             return Ok(count);
         }
-        self.faults = self.faults.saturating_add(1);
-        Err(Failed)
-    }
-
-    fn write_at(&mut self, at: u64, piece: &[u8]) -> Result<(), Stop> {
-        if at.checked_add(piece.len() as u64).is_some() {
-            let put = write_whole(&self.file, at, piece);
-            self.size = self.size.max(at + put as u64);
-            if put == piece.len() {
-                return Ok(());
+        match read_whole(&self.file, at, &mut buf[..count]) {
+            Ok(()) => Ok(count),
+            Err(why) => {
+                self.fail(why);
+                Err(Failed)
             }
         }
-        self.faults = self.faults.saturating_add(1);
+    }
+
+    /// A piece that would pass the limit on a file is written up to it, and fails; no signal comes.
+    fn write_at(&mut self, at: u64, piece: &[u8]) -> Result<(), Stop> {
+        if at.checked_add(piece.len() as u64).is_none() {
+            self.fail(Why::TooFar);
+            return Err(Stop::Failed);
+        }
+        let most = within(self.limit, at, piece.len());
+        let put = write_whole(&self.file, at, &piece[..most]);
+        self.size = self.size.max(at + put.count as u64);
+        if put.count == piece.len() {
+            return Ok(());
+        }
+        self.fail(put.why.unwrap_or(Why::Limit));
         Err(Stop::Failed)
     }
 
     fn cut(&mut self, len: u64) -> Result<(), Failed> {
-        if self.file.set_len(len).is_ok() {
-            self.size = len;
-            return Ok(());
+        match self.file.set_len(len) {
+            Ok(()) => {
+                self.size = len;
+                Ok(())
+            }
+            Err(error) => {
+                self.fail(Why::from(error));
+                Err(Failed)
+            }
         }
-        self.faults = self.faults.saturating_add(1);
-        Err(Failed)
     }
 
     fn faults(&self) -> u64 {

@@ -1,17 +1,28 @@
 //! Standard input, standard output and the files of the current folder as sources, sinks and disks. They count their
-//! faults, and tell nothing of what they hold: no contract can say what a file or a terminal gives or takes.
+//! faults, and tell nothing of what they hold: no contract can say what a file or a terminal gives or takes. Each keeps why
+//! the last call that failed did, for a person to read.
 #![tactic(auto)]
 
 mod blocks;
 mod disk;
 mod file;
+mod kept;
+mod limit;
+mod numbers;
+mod opening;
+mod output;
 mod sink;
 mod source;
+mod why;
 
-pub use disk::RealDisk;
+pub use disk::{Failure, RealDisk};
 pub use file::RealFile;
+pub use kept::Kept;
+pub use numbers::hold_standard_numbers;
+pub use output::RealOutput;
 pub use sink::RealSink;
 pub use source::RealSource;
+pub use why::Why;
 
 #[cfg(test)]
 mod tests;

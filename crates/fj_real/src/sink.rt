@@ -3,6 +3,7 @@ ghost use Rattle.std.specs.Prelude.{◌≡◌, ◌<◌, ◌≤◌, [], length, t
 ghost use Rattle.std.specs.Io.KnownBytes.{Appends};
 ghost use Rattle.fj_outside.specs.Faults.{Rose};
 
+use crate::why::Why;
 use fj_outside::{Sink, Stop};
 use std::io::Write;
 
@@ -11,6 +12,8 @@ use std::io::Write;
 pub struct RealSink<W> {
     inner: W,
     faults: u64,
+    /// Why the last write that failed did.
+    why: Option<Why>,
 }
 
 impl<W: Write> RealSink<W> {
@@ -20,7 +23,16 @@ impl<W: Write> RealSink<W> {
         ensures writer { writer_of result ≡ inner }
         ensures count { sink_count result ≡ 0 }
     {
-        RealSink { inner, faults: 0 }
+        RealSink {
+            inner,
+            faults: 0,
+            why: None,
+        }
+    }
+
+    /// Why the last write that failed did, if one did.
+    pub fn why(&self) -> Option<Why> {
+        self.why
     }
 }
 
@@ -45,13 +57,16 @@ impl<W: Write> Sink for RealSink<W> {
         ensures later { sink_count self.old ≤ sink_count self.new }
         ensures failed { result ≡ Err Stop.Failed → Rose (sink_count self.old) (sink_count self.new) }
     {
-        if let Ok(count) = self.inner.write(piece)
-            && count > 0
-            && self.inner.flush().is_ok()
-        {
-            return Ok(count);
-        }
+        let why = match self.inner.write(piece) {
+            Ok(count) if count > 0 => match self.inner.flush() {
+                Ok(()) => return Ok(count),
+                Err(error) => Why::from(error),
+            },
+            Ok(_) => Why::NothingTaken,
+            Err(error) => Why::from(error),
+        };
         self.faults = self.faults.saturating_add(1);
+        self.why = Some(why);
         Err(Stop::Failed)
     }
 

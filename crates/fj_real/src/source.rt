@@ -3,6 +3,7 @@ ghost use Rattle.std.specs.Prelude.{◌≡◌, ◌<◌, ◌≤◌, [], length, I
 ghost use Rattle.std.specs.Io.KnownBytes.{ReadConsumes};
 ghost use Rattle.fj_outside.specs.Faults.{Rose};
 
+use crate::why::Why;
 use fj_outside::{Failed, Source};
 use std::io::Read;
 
@@ -11,6 +12,8 @@ use std::io::Read;
 pub struct RealSource<R> {
     inner: R,
     faults: u64,
+    /// Why the last read that failed did.
+    why: Option<Why>,
 }
 
 impl<R: Read> RealSource<R> {
@@ -20,7 +23,16 @@ impl<R: Read> RealSource<R> {
         ensures reader { reader_of result ≡ inner }
         ensures count { source_count result ≡ 0 }
     {
-        RealSource { inner, faults: 0 }
+        RealSource {
+            inner,
+            faults: 0,
+            why: None,
+        }
+    }
+
+    /// Why the last read that failed did, if one did.
+    pub fn why(&self) -> Option<Why> {
+        self.why
     }
 }
 
@@ -45,8 +57,9 @@ impl<R: Read> Source for RealSource<R> {
     {
         match self.inner.read(buf) {
             Ok(count) => Ok(count),
-            Err(_) => {
+            Err(error) => {
                 self.faults = self.faults.saturating_add(1);
+                self.why = Some(Why::from(error));
                 Err(Failed)
             }
         }

@@ -1,10 +1,15 @@
 // One run over a real file. The expected values are those of any file system.
-use crate::{RealDisk, RealSink, RealSource};
+use crate::{Kept, RealDisk, RealSink, RealSource};
 use fj_outside::{Disk, Failed, FileStore, Sink, Source, Stop};
 use std::fs;
+use std::os::unix::fs::symlink;
 use std::test::Fail;
 
 const NAME: &str = "fj_real-test-of-a-file.tmp";
+
+const LINKED: &str = "fj_real-test-linked.tmp";
+
+const SCRATCH: &str = "SCRATCH.fj_real-test";
 
 /// Takes only what may go to another thread.
 fn sent<T: Send>(value: T) -> T {
@@ -44,7 +49,7 @@ fn read_all<S: Source>(source: &mut S) -> bool {
 #[test]
 fn keeps_what_is_written(rt: HostRuntime) -> Result<(), Fail> {
     let alloc = rt.alloc();
-    let mut disk = sent(RealDisk::new(rt.clone()?));
+    let mut disk = sent(RealDisk::new(alloc, rt.clone()?));
     let mut file = sent(disk.create(alloc, NAME)?);
     let wrote = write(&mut file);
     disk.give(NAME, file);
@@ -65,21 +70,23 @@ fn keeps_what_is_written(rt: HostRuntime) -> Result<(), Fail> {
 #[test]
 fn a_folder_is_no_file(rt: HostRuntime) -> Result<(), Fail> {
     let alloc = rt.alloc();
-    let mut disk = RealDisk::new(rt.clone()?);
+    let mut disk = RealDisk::new(alloc, rt.clone()?);
     assert!(rt; disk.take(alloc, "fj_real-test-absent.tmp")?.is_none());
     assert_eq!(rt; disk.faults(), 0);
     assert!(rt; disk.take(alloc, ".").is_err());
     assert!(rt; disk.create(alloc, ".").is_err());
     assert!(rt; disk.remove("fj_real-test-absent.tmp").is_err());
     assert_eq!(rt; disk.faults(), 3);
+    assert_eq!(rt; disk.failures().len(), 2);
     Ok(())
 }
 
 // The program that runs may not be written; it begins as each program of this system does.
 #[test]
 fn a_file_that_may_only_be_read_is_read(rt: HostRuntime) -> Result<(), Fail> {
-    let mut disk = RealDisk::new(rt.clone()?);
-    let mut file = disk.take(rt.alloc(), "/proc/self/exe")?.ok_or(Failed)?;
+    let alloc = rt.alloc();
+    let mut disk = RealDisk::new(alloc, rt.clone()?);
+    let mut file = disk.take(alloc, "/proc/self/exe")?.ok_or(Failed)?;
     let mut front = [b'.'; 4];
     assert_eq!(rt; file.read_at(0, &mut front), Ok(4));
     assert_eq!(rt; front, *b"\x7fELF");
@@ -88,5 +95,29 @@ fn a_file_that_may_only_be_read_is_read(rt: HostRuntime) -> Result<(), Fail> {
     assert_eq!(rt; file.faults(), 1);
     disk.give("/proc/self/exe", file);
     assert_eq!(rt; disk.faults(), 1);
+    Ok(())
+}
+
+#[test]
+fn a_scratch_file_follows_no_link(rt: HostRuntime) -> Result<(), Fail> {
+    let alloc = rt.alloc();
+    fs::write(&rt, LINKED, "kept")?;
+    symlink(&rt, LINKED, SCRATCH)?;
+    let mut disk = RealDisk::new(alloc, rt.clone()?);
+    let mut file = disk.create(alloc, SCRATCH)?;
+    file.write_at(0, b"scratch")?;
+    disk.give(SCRATCH, file);
+    disk.remove(SCRATCH)?;
+    assert_eq!(rt; fs::read_to_string(&rt, LINKED)?.as_str(), "kept");
+    disk.remove(LINKED)?;
+    assert_eq!(rt; disk.faults(), 0);
+    Ok(())
+}
+
+#[test]
+fn a_source_keeps_what_it_gave(rt: HostRuntime) -> Result<(), Fail> {
+    let mut source = Kept::new(rt.alloc(), RealSource::new(&b"help"[..]));
+    assert!(rt; read_all(&mut source));
+    assert!(rt; source.text() == Some(&b"help"[..]));
     Ok(())
 }

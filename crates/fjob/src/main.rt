@@ -4,13 +4,24 @@
 ghost use Rattle.std.specs.Prelude.{◌≡◌};
 ghost use Rattle.fjob.specs.Status.{exit_status_of};
 
+mod conditions;
+mod help;
+mod refused;
+mod told;
+mod wrong;
+
+use crate::told::{Seen, tell};
 use fj_job::{Status, run_job};
-use fj_real::{RealDisk, RealSink, RealSource};
+use fj_real::{Kept, RealDisk, RealOutput, RealSink, RealSource, hold_standard_numbers};
 use std::alloc::AllocError;
 use std::env;
-use std::io::ErrorKind;
+use std::fs::File;
+use std::io::{ErrorKind, Write};
 use std::process::ExitCode;
+use std::rt::{Files, Stdin};
 
+/// The exit status where standard output cannot be written.
+const NOT_WRITTEN: u8 = 7;
 /// The exit status where memory is refused.
 const NO_MEMORY: u8 = 9;
 
@@ -42,22 +53,60 @@ fn exit_status(status: Status) -> u8
         Status::DeckRefused { .. } => 4,
         Status::Usage => 5,
         Status::ReadFault => 6,
-        Status::WriteFault => 7,
+        Status::WriteFault => NOT_WRITTEN,
         Status::DiskFault { .. } => 8,
         Status::Memory => NO_MEMORY,
     }
 }
 
+/// Tells a person on standard error how a run ended that did not end well.
+fn tell_end<W: Write, F: Files<File = File>>(
+    rt: &HostRuntime,
+    words: &[String],
+    status: Status,
+    deck: &Kept<RealSource<Stdin>>,
+    out: &RealSink<W>,
+    disk: &RealDisk<F>,
+) {
+    if status == Status::Ended {
+        return;
+    }
+    let seen = Seen {
+        text: deck.text(),
+        read: deck.get_ref().why(),
+        written: out.why(),
+        failures: disk.failures(),
+    };
+    let _ = tell(&mut rt.stderr(), rt.alloc(), words, status, seen);
+}
+
+/// Gives a run up before it is begun, with a sentence on standard error.
+fn give_up(rt: &HostRuntime, sentence: &str, status: u8) -> ExitCode {
+    let _ = eprintln!(rt; "fjob: {sentence}");
+    ExitCode::from(status)
+}
+
 fn main(rt: HostRuntime) -> ExitCode {
+    if hold_standard_numbers(&rt).is_err() {
+        return give_up(
+            &rt,
+            "whether standard output is open could not be found out",
+            NOT_WRITTEN,
+        );
+    }
     let Ok(words) = words(&rt) else {
-        return ExitCode::from(NO_MEMORY);
+        return give_up(&rt, "memory was refused", NO_MEMORY);
+    };
+    let Ok(output) = rt.clone() else {
+        return give_up(&rt, "memory was refused", NO_MEMORY);
     };
     let Ok(files) = rt.clone() else {
-        return ExitCode::from(NO_MEMORY);
+        return give_up(&rt, "memory was refused", NO_MEMORY);
     };
-    let mut deck = RealSource::new(rt.stdin());
-    let mut out = RealSink::new(rt.stdout());
-    let mut disk = RealDisk::new(files);
+    let mut deck = Kept::new(rt.alloc(), RealSource::new(rt.stdin()));
+    let mut out = RealSink::new(RealOutput::new(output, rt.stdout()));
+    let mut disk = RealDisk::new(rt.alloc(), files);
     let status = run_job(&rt, rt.alloc(), &words, &mut deck, &mut out, &mut disk);
+    tell_end(&rt, &words, status, &deck, &out, &disk);
     ExitCode::from(exit_status(status))
 }
