@@ -6,6 +6,10 @@ mod asking;
 #[cfg(test)]
 mod crew;
 #[cfg(test)]
+mod meeting;
+#[cfg(test)]
+mod overlap;
+#[cfg(test)]
 mod queue;
 #[cfg(test)]
 mod slot;
