@@ -3,7 +3,7 @@
 # example: runs the deck of examples/first in a folder of its own
 # test: the gate
 # bench: the benchmarks, beside gfortran where it is on the machine
-# checks: what no gate asks for: refused allocations, failing calls, many runs with workers, random statements and decks beside gfortran,
+# checks: what no gate asks for: all orders of the steps that wake workers, refused allocations, failing calls, many runs with workers, random statements and decks beside gfortran,
 # the lines of docs/DECKS.md, worked decks, and the modules of docs/DEFINITIONS.md
 .PHONY: build install example examples test bench checks
 
@@ -31,6 +31,7 @@ bench: build
 	bench/run
 
 checks: build
+	checks/wakeups
 	checks/memory
 	checks/faults
 	checks/soak

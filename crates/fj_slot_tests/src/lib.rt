@@ -4,6 +4,8 @@
 #[cfg(test)]
 mod asking;
 #[cfg(test)]
+mod behind;
+#[cfg(test)]
 mod crew;
 #[cfg(test)]
 mod meeting;

@@ -1,6 +1,7 @@
 // Short jobs of several slots are performed at a time, where each waits for the others.
-ghost use Rattle.std.specs.Prelude.{◌≡◌, ℕ, ◌<◌, ◌^◌, ◌∷◌, [], ◌++◌, length, Some, slice_get, IfSome};
-ghost use Rattle.fj_slot.specs.Ledger.{Ledger, fresh};
+ghost use Rattle.std.specs.Prelude.{◌≡◌, ℕ, ◌+◌, length, IfSome};
+ghost use Rattle.fj_slot.specs.Ledger.{fresh};
+ghost use Rattle.fj_world.specs.Rack.{At};
 
 use crate::asking::MET;
 use crate::meeting::{Meeter, new_meeter, new_on_each};
@@ -15,7 +16,10 @@ use std::test::Fail;
 use std::thread::Threads;
 
 fn one_more(mut slots: Slots<Meeter>, slot: Slot<Meeter>) -> Option<Slots<Meeter>>
-    ensures { IfSome result (λ it. it.slots ≡ slots.slots ++ slot ∷ []) }
+    requires new { (at : ℕ) → At slots at (λ l. l ≡ fresh l.start) }
+    requires fresh { slot ≡ fresh slot.start }
+    ensures long { IfSome result (λ it. length it.slots ≡ length slots.slots + 1) }
+    ensures new { IfSome result (λ it. (at : ℕ) → At it at (λ l. l ≡ fresh l.start)) }
 {
     match slots.push(slot) {
         Ok(()) => Some(slots),
@@ -23,14 +27,20 @@ fn one_more(mut slots: Slots<Meeter>, slot: Slot<Meeter>) -> Option<Slots<Meeter
     }
 }
 
-// So many slots of which each job waits for one of each.
-fn meeters(alloc: Global, count: u32, looks: u32, at_work: &Arc<AtomicU64>) -> Option<Slots<Meeter>>
-    ensures many { IfSome result (λ it. length it.slots ≡ count) }
-    ensures new { IfSome result (λ it. (k : ℕ) (l : Ledger Meeter.row.Denot ℕ ℕ) → slice_get it.slots k ≡ Some l → l ≡ fresh l.start) }
+// So many new slots, where each job waits until so many are performed at a time.
+pub(crate) fn meeters(
+    alloc: Global,
+    count: u32,
+    many: u64,
+    looks: u32,
+    at_work: &Arc<AtomicU64>,
+) -> Option<Slots<Meeter>>
+    ensures count { IfSome result (λ it. length it.slots ≡ count) }
+    ensures new { IfSome result (λ it. (at : ℕ) → At it at (λ l. l ≡ fresh l.start)) }
 {
     let mut slots = Slots::new(alloc);
     for _ in 0..count {
-        let meeter = new_meeter(count as u64, looks, at_work.clone().ok()?);
+        let meeter = new_meeter(many, looks, at_work.clone().ok()?);
         slots = one_more(slots, Slot::new(alloc, meeter))?;
     }
     Some(slots)
@@ -45,7 +55,7 @@ fn run_on_each<R: Threads + Wait + Sync>(
     workers: u32,
 ) -> Option<(u32, bool)> {
     let at_work = Arc::new(alloc, AtomicU64::new(0)).ok()?;
-    let slots = meeters(alloc, count, looks, &at_work)?;
+    let slots = meeters(alloc, count, count as u64, looks, &at_work)?;
     let mut script = new_on_each(count);
     let _slots = run_crew(rt, alloc, &mut script, slots, workers).ok()?;
     let met = at_work.load(SeqCst) / MET >= count as u64;
