@@ -13,7 +13,7 @@ use fj_world::Script;
 use std::alloc::{AllocError, Global};
 use std::collections::VecDeque;
 use std::sync::Wait;
-use std::thread::{Threads, for_each_mut, join_mut};
+use std::thread::{Threads, join_mut};
 
 // What threads do over what they share: one leads, the others help. Its parts are type parameters, since a closure that holds a
 // reference to a type of several parameters cannot be joined.
@@ -24,10 +24,8 @@ pub(crate) trait Shared<X, Y, Z> {
 
     ghost has_led: { Self → Y → Z → Y → Z → Type 0 };
 
-    // Helps until all is done, or more are to help; tells whether they are.
-    fn begin<R: Wait>(&self, rt: &R, x: &mut X) -> bool
-        requires { serves self.now x.old }
-        ensures { serves self.now x.new };
+    // Waits until one more is to help; answers no where all is done.
+    fn is_called<R: Wait>(&self, rt: &R) -> bool;
 
     fn help<R: Wait>(&self, rt: &R, x: &mut X)
         requires { serves self.now x.old }
@@ -41,7 +39,8 @@ pub(crate) trait Shared<X, Y, Z> {
         ensures serves { serves self.now x.new };
 }
 
-// The first helps, and once more are to help, each does in a thread of its own.
+// Once the first is called it helps, and the next one is there to be called, in a thread of its own.
+#[cycle(chain)]
 fn help_all<X: Send, Y, Z, Q: Shared<X, Y, Z> + Sync, R: Threads + Wait + Sync>(
     rt: &R,
     shared: &Q,
@@ -52,10 +51,43 @@ fn help_all<X: Send, Y, Z, Q: Shared<X, Y, Z> + Sync, R: Threads + Wait + Sync>(
     ensures help { (i : ℕ) (d : X) → i < length xs.old → Q.serves shared.now (slice_index_or xs.new i d) }
     ensures long { length xs.new ≡ length xs.old }
 {
-    if shared.begin(rt, &mut xs[0]) {
-        let helpers = xs.len();
-        for_each_mut(rt, xs, helpers, &|_, x| shared.help(rt, x));
+    if !shared.is_called(rt) {
+        return;
     }
+    if xs.len() == 1 {
+        shared.help(rt, &mut xs[0]);
+        return;
+    }
+    let (first, rest) = xs.split_at_mut(1);
+    help_both(rt, shared, first, rest);
+}
+
+// A function of its own, so that what the closures require is what it is given.
+#[cycle(chain)]
+fn help_both<X: Send, Y, Z, Q: Shared<X, Y, Z> + Sync, R: Threads + Wait + Sync>(
+    rt: &R,
+    shared: &Q,
+    first: &mut [X],
+    rest: &mut [X],
+)
+    requires some { (length first.old ≡ 1) × (0 < length rest.old) }
+    requires first { (i : ℕ) (d : X) → i < length first.old → Q.serves shared.now (slice_index_or first.old i d) }
+    requires rest { (i : ℕ) (d : X) → i < length rest.old → Q.serves shared.now (slice_index_or rest.old i d) }
+    ensures first { (i : ℕ) (d : X) → i < length first.old → Q.serves shared.now (slice_index_or first.new i d) }
+    ensures rest { (i : ℕ) (d : X) → i < length rest.old → Q.serves shared.now (slice_index_or rest.new i d) }
+    ensures long { (length first.new ≡ length first.old) × (length rest.new ≡ length rest.old) }
+{
+    join_mut(
+        rt,
+        &mut ||
+            requires { IsSync R.row × IsSync Q.row × IsSend X.row × (0 < length rest.now) × ((i : ℕ) (d : X) → i < length rest.now → Q.serves shared.now (slice_index_or rest.now i d)) }
+            ensures { ((i : ℕ) (d : X) → i < length rest.entry.now → Q.serves shared.entry.now (slice_index_or rest.exit.now i d)) × (length rest.exit.now ≡ length rest.entry.now) }
+        { help_all(rt, shared, rest) },
+        &mut ||
+            requires { (length first.now ≡ 1) × ((i : ℕ) (d : X) → i < length first.now → Q.serves shared.now (slice_index_or first.now i d)) }
+            ensures { ((i : ℕ) (d : X) → i < length first.entry.now → Q.serves shared.entry.now (slice_index_or first.exit.now i d)) × (length first.exit.now ≡ length first.entry.now) }
+        { shared.help(rt, &mut first[0]) },
+    );
 }
 
 // Where no thread can be made, the one leads before the others help.
@@ -101,13 +133,12 @@ impl<S: Script> Shared<VecDeque<Hand<S::Gear>>, S, VecDeque<Submitter<S::Gear>>>
 
     ghost has_led = { λ floor script seats script' seats'. HasServed S.Gear.meaning S.conduct floor.queues.items script seats.items script' seats'.items };
 
-    fn begin<R: Wait>(&self, rt: &R, team: &mut VecDeque<Hand<S::Gear>>) -> bool {
-        work(rt, &self.queues, team, &self.signals, true);
-        !self.signals.is_over()
+    fn is_called<R: Wait>(&self, rt: &R) -> bool {
+        self.signals.is_called(rt)
     }
 
     fn help<R: Wait>(&self, rt: &R, team: &mut VecDeque<Hand<S::Gear>>) {
-        work(rt, &self.queues, team, &self.signals, false);
+        work(rt, &self.queues, team, &self.signals);
     }
 
     fn lead<R: Wait>(
@@ -206,7 +237,7 @@ where
     }
     let floor = Floor {
         queues,
-        signals: Signals::new(),
+        signals: Signals::new(workers),
     };
     let Some(mut own) = crew.pop() else {
         unreachable!();

@@ -1,18 +1,24 @@
 //! The queues of a script's slots, and their submitters.
-ghost use Rattle.std.specs.Prelude.{◌≡◌, ◌<◌, ◌≤◌, ◌^◌, length, IfOk, IfErr};
+ghost use Rattle.std.specs.Prelude.{◌≡◌, ◌<◌, ◌≤◌, ◌^◌, length, IfOk, IfErr, IfSome};
 ghost use Rattle.fj_queue.specs.Cell.{IsNext};
 ghost use Rattle.fj_crew.specs.Seats.{SeatAt, Paired, Submits, Settles};
 ghost use Rattle.fj_crew.specs.Team.{AllServe};
 
 use crate::signals::Signals;
-use crate::workers::first_due;
 use crossbeam_utils::Backoff;
 use fj_queue::{Hand, Queue, Submitter};
 use fj_slot::{Engine, Refused, Told};
 use std::collections::VecDeque;
 use std::sync::Wait;
 
-/// Submits a job to the slot at that place, and tells the workers.
+// Rings where a job of that slot is due.
+fn tell_of<E: Engine>(queues: &VecDeque<Queue<E>>, signals: &Signals, slot: u64) {
+    if let Some(queue) = queues.get(slot as usize) {
+        signals.ring_if(queue.seems_due());
+    }
+}
+
+/// Submits a job to the slot at that place, and tells the workers. Of a short one they hear by the next ask that is not its settling.
 pub(crate) fn submit_at<E: Engine, R: Wait>(
     rt: &R,
     queues: &VecDeque<Queue<E>>,
@@ -32,18 +38,22 @@ pub(crate) fn submit_at<E: Engine, R: Wait>(
     let queue = &queues[at];
     let seat = &mut seats[at];
     let is_long = E::is_long(&job);
-    signals.submitting(is_long);
     let number = queue.submit(rt, seat, job);
-    signals.submitted(at as u64, is_long);
+    if is_long {
+        signals.marks_long(at as u64);
+        tell_of(queues, signals, at as u64);
+    } else {
+        let earlier = signals.holds_back(at as u64);
+        tell_of(queues, signals, earlier);
+    }
     number
 }
 
-// Works once on the queue at that place, where a job is due and no one has taken it. A worker is to go on where more are.
+// Works once on the queue at that place, where a job is due and no one has taken it.
 fn help_at<E: Engine, R: Wait>(
     rt: &R,
     queues: &VecDeque<Queue<E>>,
     own: &mut VecDeque<Hand<E>>,
-    signals: &Signals,
     at: usize,
 ) -> bool
     requires within { at < length queues.now.items }
@@ -52,15 +62,44 @@ fn help_at<E: Engine, R: Wait>(
 {
     let queue = &queues[at];
     let hand = &mut own[at];
-    let worked = queue.work_where_due(rt, hand);
-    if worked {
-        signals.ring_if(queue.seems_due());
-    }
-    worked
+    queue.work_where_due(rt, hand)
 }
 
-// Until there is an answer to tell at that place: performs a job there where no one has taken it, and while one is out works on queues
-// where a job seems to be due, or else gives its processor to the workers.
+// The first of the queues of which a job seems due, and none is long.
+fn first_short<E: Engine>(queues: &VecDeque<Queue<E>>, signals: &Signals) -> Option<usize>
+    ensures { IfSome result (λ at. at < length queues.now.items) }
+{
+    for at in 0..queues.len() {
+        if queues[at].seems_due() && !signals.may_be_long(at as u64) {
+            return Some(at);
+        }
+    }
+    None
+}
+
+// Performs a short job wherever one is due, where each worker is at a job.
+fn help_out<E: Engine, R: Wait>(
+    rt: &R,
+    queues: &VecDeque<Queue<E>>,
+    own: &mut VecDeque<Hand<E>>,
+    signals: &Signals,
+) -> bool
+    requires serves { AllServe queues.now.items own.old.items }
+    ensures serves { AllServe queues.now.items own.new.items }
+{
+    if signals.is_one_free() {
+        return false;
+    }
+    let Some(at) = first_short(queues, signals) else {
+        return false;
+    };
+    let helped = help_at(rt, queues, own, at);
+    signals.ring_if(queues[at].seems_due());
+    helped
+}
+
+// Until there is an answer to tell at that place: performs a job there where no one has taken it, and while one is out helps out,
+// or else gives its processor to the workers.
 fn wait_for<E: Engine, R: Wait>(
     rt: &R,
     queues: &VecDeque<Queue<E>>,
@@ -77,24 +116,30 @@ fn wait_for<E: Engine, R: Wait>(
         if queues[at].seems_ready() {
             return;
         }
-        if help_at(rt, queues, own, signals, at) {
+        if help_at(rt, queues, own, at) {
             continue;
         }
         if backoff.is_completed() {
-            if let Some(other) = first_due(queues, 0, queues.len()) {
-                if help_at(rt, queues, own, signals, other) {
-                    continue;
-                }
-            } else {
-                let wait = signals.awaits(at as u64);
-                if queues[at].seems_out() {
-                    wait.wait(rt);
-                }
+            if help_out(rt, queues, own, signals) {
+                continue;
+            }
+            let wait = signals.awaits(at as u64);
+            if queues[at].seems_out() {
+                wait.wait(rt);
             }
         }
         backoff.snooze();
     }
     unreachable!()
+}
+
+// Tells the workers of a job behind the one that was told, or that none is left.
+fn look_behind<E: Engine>(queue: &Queue<E>, signals: &Signals, at: u64) {
+    if queue.seems_due() {
+        signals.ring_if(true);
+    } else if !queue.seems_out() && !queue.seems_ready() {
+        signals.marks_empty(at);
+    }
 }
 
 /// Settles the next job of the slot at that place.
@@ -115,9 +160,14 @@ pub(crate) fn settle_at<E: Engine, R: Wait>(
     ensures paired { Paired queues.now.items seats.new.items }
     ensures settles { Settles E.meaning seats.old.items at result seats.new.items }
 {
-    signals.settling(at as u64);
+    let short = signals.holds_none();
+    if short != at as u64 {
+        tell_of(queues, signals, short);
+    }
     wait_for(rt, queues, own, signals, at);
     let queue = &queues[at];
     let seat = &mut seats[at];
-    queue.settle(rt, seat)
+    let told = queue.settle(rt, seat);
+    look_behind(queue, signals, at as u64);
+    told
 }

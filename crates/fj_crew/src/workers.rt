@@ -58,7 +58,7 @@ pub(crate) fn fold<E: Engine>(
 }
 
 // The first of these queues of which a job seems due.
-pub(crate) fn first_due<E: Engine>(
+fn first_due<E: Engine>(
     queues: &VecDeque<Queue<E>>,
     from: usize,
     to: usize,
@@ -109,23 +109,21 @@ fn work_at<E: Engine, R: Wait>(
     worked
 }
 
-// Waits for work, unless there is some at the last look. It is not counted as looking then: a job that comes later is rung for.
-fn pause<E: Engine, R: Wait>(rt: &R, queues: &VecDeque<Queue<E>>, signals: &Signals, first: bool) {
-    let wait = signals.prepare();
-    let _last = signals.looks_no_more();
-    if first_due(queues, 0, queues.len()).is_none() && !signals.ends(first) {
+// Sleeps, unless there is work at the last look.
+fn pause<E: Engine, R: Wait>(rt: &R, queues: &VecDeque<Queue<E>>, signals: &Signals) {
+    let wait = signals.lies_down();
+    if first_due(queues, 0, queues.len()).is_none() && !signals.is_over() {
         wait.wait(rt);
     }
-    signals.looks();
+    signals.gets_up();
 }
 
-/// Works until the script has finished; the first worker at first until others are to work besides.
+/// Works until the script has finished.
 pub(crate) fn work<E: Engine, R: Wait>(
     rt: &R,
     queues: &VecDeque<Queue<E>>,
     team: &mut VecDeque<Hand<E>>,
     signals: &Signals,
-    first: bool,
 )
     requires serves { AllServe queues.now.items team.old.items }
     ensures serves { AllServe queues.now.items team.new.items }
@@ -135,7 +133,7 @@ pub(crate) fn work<E: Engine, R: Wait>(
     let mut from = 0usize;
     for _ in rt.forever() {
         let due = next_due(queues, from, from.min(queues.len()));
-        if signals.ends(first) {
+        if signals.is_over() {
             let _last = signals.looks_no_more();
             return;
         }
@@ -150,7 +148,7 @@ pub(crate) fn work<E: Engine, R: Wait>(
             }
             None => {
                 if backoff.is_completed() {
-                    pause(rt, queues, signals, first);
+                    pause(rt, queues, signals);
                     backoff.reset();
                 } else {
                     backoff.snooze();

@@ -16,6 +16,7 @@ use crossbeam_utils::Backoff;
 use fj_slot::{Engine, Slot};
 use std::snapshot::Snapshot;
 use std::sync::Wait;
+use std::sync::atomic::Ordering::SeqCst;
 
 impl<E: Engine> QueueOf<Slot<E>, E, E::Task, Law<E>> {
     // Waits for the turn. A seat that did not get it tries again only once it looks free.
@@ -75,11 +76,14 @@ impl<E: Engine> QueueOf<Slot<E>, E, E::Task, Law<E>> {
         let _turn = shared.swap::<GiveTurn>(seat, 0, 0);
     }
 
-    /// Whether a job waits and none is out, as it looks without the turn. No clause rests on it.
+    /// Whether a job waits, none is out and no hand is at it, as it looks without the turn. No clause rests on it.
     pub fn seems_due(&self) -> bool {
         let shared = &self.table.shared;
         let progress = shared.peek(2);
-        progress % 2 == 0 && progress / 2 < shared.peek(1) && shared.peek(4) == 0
+        progress % 2 == 0
+            && progress / 2 < shared.peek(1)
+            && shared.peek(4) == 0
+            && !self.taken.load(SeqCst)
     }
 
     /// Whether there is an answer to tell, or none comes any more, as it looks without the turn. No clause rests on it.

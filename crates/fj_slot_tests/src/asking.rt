@@ -11,14 +11,14 @@ use std::sync::atomic::AtomicU64;
 use std::sync::atomic::Ordering::SeqCst;
 use std::thread;
 
-// This much and more is counted once two jobs were performed at a time.
+// This much is counted by each job that met the others.
 pub(crate) const MET: u64 = 1000;
 
-// Looks so many times whether another job is performed too.
-fn meet(at_work: &AtomicU64, looks: u32) {
+// Looks so many times whether so many jobs are performed at a time, this one among them.
+pub(crate) fn meet(at_work: &AtomicU64, many: u64, looks: u32) {
     let _ = at_work.fetch_add(1, SeqCst);
     for _ in 0..looks {
-        if at_work.load(SeqCst) >= 2 {
+        if at_work.load(SeqCst) >= many {
             let _ = at_work.fetch_add(MET, SeqCst);
             return;
         }
@@ -64,7 +64,7 @@ impl Engine for Adder {
             return Err(Stop::Failed);
         }
         if self.sum == 0 {
-            meet(&self.at_work, self.looks);
+            meet(&self.at_work, 2, self.looks);
         }
         self.left -= 1;
         self.sum = self.sum.wrapping_add(*job);

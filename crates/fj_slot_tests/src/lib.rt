@@ -4,7 +4,13 @@
 #[cfg(test)]
 mod asking;
 #[cfg(test)]
+mod behind;
+#[cfg(test)]
 mod crew;
+#[cfg(test)]
+mod meeting;
+#[cfg(test)]
+mod overlap;
 #[cfg(test)]
 mod queue;
 #[cfg(test)]
