@@ -38,7 +38,7 @@ def examples(place="examples", beside=BESIDE):
     for folder in sorted(path.parent for path in (TOP / place).glob("*/deck")):
         words = (folder / "words").read_text().splitlines()
         yield Example(folder, words)
-        if words[0] == "alone":
+        if words[:1] == ["alone"]:
             yield Example(folder, beside + words[1:])
 
 

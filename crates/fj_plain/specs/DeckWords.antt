@@ -1,9 +1,8 @@
 -- Words to write decks with.
-use Rattle.std.specs.Prelude.{ℕ, zero, suc, ◌+◌, ℤ, Bool, true, false, List, [], ◌∷◌, ◌++◌, length, map, Option, Some, None, codes}
+use Rattle.std.specs.Prelude.{ℕ, zero, suc, ◌+◌, ℤ, Bool, true, List, [], ◌∷◌, Option, Some, None, codes}
 use Rattle.fj_value.specs.declared.kind.Kind.{Kind}
-use Rattle.fj_value.specs.declared.kind.Kind.TheVariants.{Int4, Chars, Logical}
+use Rattle.fj_value.specs.declared.kind.Kind.TheVariants.{Int4}
 use Rattle.fj_value.specs.declared.place.Place.{Place}
-use Rattle.fj_value.specs.declared.edit.Edit.{Edit}
 use Rattle.fj_value.specs.declared.edit.Edit.TheVariants as edit
 use Rattle.fj_value.specs.declared.value.Value.TheVariants as value
 use Rattle.fj_format.specs.declared.item.FormatItem.TheVariants as item
@@ -11,7 +10,6 @@ use Rattle.fj_modes.specs.declared.specifiers.OpenSpec.{OpenSpec}
 use Rattle.fj_modes.specs.declared.specifiers.FileStatus.TheVariants.{Replace}
 use Rattle.fj_plain.specs.State.{Files, with_file}
 use Rattle.fj_control.specs.Steps.{Given, gives, done}
-use Rattle.fj_format.specs.Unfolding.{Elementary}
 use Rattle.fj_format.specs.Unfolding as step
 use Rattle.fj_plain.specs.Statement.{Stated}
 use Rattle.fj_statement.specs.declared.deck.Variable.{Variable}
@@ -92,28 +90,6 @@ lines_from line (st ∷ sts) = (record { line = line; what = st.0 }, st.1) ∷ l
 abbrev pub no_files : Files
 no_files = λ name. None
 
--- WRITE on `*`
-abbrev pub on_star : Transfer → Transfer
-on_star t = record t { unit = unit.Star }
-
-abbrev pub print : Control → List Operand → Statement
-print layout items = statement.Transfer (on_star (transfer false 0 layout items))
-
--- what control gives, and then the end
-abbrev pub control_gives : List Elementary → ℕ → List Given
-control_gives steps n = map gives steps ++ done ∷ []
-
--- the statement with what its format gives
-abbrev pub by : List Elementary → Statement → Written
-by steps st = (st, control_gives steps)
-
--- one data edit descriptor, and one item
-abbrev pub print_by : Edit → Operand → Written
-print_by e x = by (step.edit e ∷ []) (print (control.Explicit (item.Field 1 e ∷ [])) (x ∷ []))
-
-abbrev pub truth : Bool → Operand
-truth b = operand.Literal Logical (value.Log b)
-
 -- ---- a few decks
 
 abbrev pub r : List ℕ
@@ -121,9 +97,6 @@ r = codes "R"
 
 abbrev pub two_lines : Files
 two_lines = with_file r (49 ∷ 10 ∷ 50 ∷ 10 ∷ []) no_files
-
-abbrev pub open_later : ℕ → List ℕ → Statement
-open_later number name = statement.OpenUnit (unit.Number number) (record plain_open { file = Some name; asynchronous = Some true }) None
 
 abbrev pub later : Transfer → Statement
 later t = statement.Transfer (record t { asynchronous = Some true })
@@ -184,9 +157,6 @@ i_transfer input number w item = transfer input number (i_format w) (item ∷ []
 
 abbrev pub a_transfer : Bool → ℕ → Option ℕ → Operand → Transfer
 a_transfer input number w item = transfer input number (a_format w) (item ∷ [])
-
-abbrev pub text : List ℕ → Operand
-text cs = operand.Literal (Chars (length cs)) (value.Chars cs)
 
 abbrev pub by_i : ℕ → Statement → Written
 by_i w st = (st, i_steps w)

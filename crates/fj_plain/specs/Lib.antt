@@ -15,8 +15,3 @@ pub mod VariableLaws
 pub mod CutLaws
 pub mod DeckWords
 pub mod Cases
-pub mod TransferCases
-pub mod FileCases
-pub mod StatementCases
-pub mod WaitCases
-pub mod InquiryCases

@@ -1,92 +1,52 @@
-// Worked cases of what a deck means.
-ghost use Rattle.fj_plain.specs.Cases.{EndOfFileIsTold, SkippedTellTheirCause, FineEndsNoHalt, PendingUntilTold, PendingOutputHoldsItsPlaces, WrittenIsRead, EndOfRecordIsCounted, IdentifierIsNotPending, DirectGapIsFilled, StopLeavesPendingWritten, OutputIsTheLastRecord, StreamKeepsWhatIsBehind, OldFileIsMissing, FileOfAnotherUnit, OnlyEditModesChange, ScratchIsNotKept, WriteGoesOnInTheRecord, OpenRecordIsEnded};
-
-/// Three pending READs of two records: the wait tells the end of the file, and the third item is undefined.
-pub fn end_of_file_is_told()
-    ensures { EndOfFileIsTold }
-{}
+// Worked cases of the order in which a statement goes. Other decks with their answers are in fj_cases.
+ghost use Rattle.fj_plain.specs.Cases.{SkippedTellTheirCause, EndOfRecordHaltsNothing, NothingIsRead, RefusedReadsNothing, TestsAreInOrder, TellsComeBeforeTests, ProhibitionsComeFirst, DefinitionsComeFirst, OpenTestsAreInOrder, CloseThatErrs};
 
 /// A transfer behind an end of file is skipped and tells its cause, and a wait for it waits for all of the unit.
 pub fn skipped_tell_their_cause()
     ensures { SkippedTellTheirCause }
 {}
 
-/// A transfer that was fine is told alone, and ends no halt.
-pub fn fine_ends_no_halt()
-    ensures { FineEndsNoHalt }
+/// End-of-record halts nothing, and a wait for one transfer is not widened by it.
+pub fn end_of_record_halts_nothing()
+    ensures { EndOfRecordHaltsNothing }
 {}
 
-/// A transfer is pending until a statement tells it, whatever was told of a later one.
-pub fn pending_until_told()
-    ensures { PendingUntilTold }
+/// A READ before which the end of the file is told leaves its item and SIZE= undefined.
+pub fn nothing_is_read()
+    ensures { NothingIsRead }
 {}
 
-/// What a pending WRITE takes may not be defined, and the WRITE is carried out all the same.
-pub fn pending_output_holds_its_places()
-    ensures { PendingOutputHoldsItsPlaces }
+/// A READ that does not fit leaves its item and SIZE= undefined, and what ID= names as it was.
+pub fn refused_reads_nothing()
+    ensures { RefusedReadsNothing }
 {}
 
-/// What a pending WRITE wrote is read after a wait and REWIND.
-pub fn written_is_read()
-    ensures { WrittenIsRead }
+/// 1, then 2, then 16, then 10.
+pub fn tests_are_in_order()
+    ensures { TestsAreInOrder }
 {}
 
-/// A nonadvancing READ past the end of its record fills up with blanks, counts what it took, and tells end-of-record.
-pub fn end_of_record_is_counted()
-    ensures { EndOfRecordIsCounted }
+/// What is pending is told before a statement's own tests.
+pub fn tells_come_before_tests()
+    ensures { TellsComeBeforeTests }
 {}
 
-/// WAIT with an identifier of no pending transfer is prohibited; without one it does nothing.
-pub fn identifier_is_not_pending()
-    ensures { IdentifierIsNotPending }
+/// A prohibition comes before what is told, and before these tests.
+pub fn prohibitions_come_first()
+    ensures { ProhibitionsComeFirst }
 {}
 
-/// A direct WRITE past the end fills the gap with blanks, and a record that is not there is condition 17.
-pub fn direct_gap_is_filled()
-    ensures { DirectGapIsFilled }
+/// At a condition that nothing catches the item is undefined.
+pub fn definitions_come_first()
+    ensures { DefinitionsComeFirst }
 {}
 
-/// After an error stop the pending WRITEs are in the file.
-pub fn stop_leaves_pending_written()
-    ensures { StopLeavesPendingWritten }
+/// OPEN of another file: 3, then 7, and in both the first file stays connected.
+pub fn open_tests_are_in_order()
+    ensures { OpenTestsAreInOrder }
 {}
 
-/// A sequential WRITE in the middle leaves its record as the last.
-pub fn output_is_the_last_record()
-    ensures { OutputIsTheLastRecord }
-{}
-
-/// A stream WRITE with POS= keeps the bytes behind it, and a READ of more than is left meets the end of the file.
-pub fn stream_keeps_what_is_behind()
-    ensures { StreamKeepsWhatIsBehind }
-{}
-
-/// OPEN of an old file that is not there is condition 5.
-pub fn old_file_is_missing()
-    ensures { OldFileIsMissing }
-{}
-
-/// OPEN of a file that another unit has is condition 7.
-pub fn file_of_another_unit()
-    ensures { FileOfAnotherUnit }
-{}
-
-/// A later OPEN of the file may change BLANK= and not ACTION=.
-pub fn only_edit_modes_change()
-    ensures { OnlyEditModesChange }
-{}
-
-/// CLOSE that keeps a scratch file is condition 4.
-pub fn scratch_is_not_kept()
-    ensures { ScratchIsNotKept }
-{}
-
-/// A WRITE behind a nonadvancing READ goes on at that character, and the rest of the file is cut.
-pub fn write_goes_on_in_the_record()
-    ensures { WriteGoesOnInTheRecord }
-{}
-
-/// CLOSE ends a record that nonadvancing output left open.
-pub fn open_record_is_ended()
-    ensures { OpenRecordIsEnded }
+/// A CLOSE that is in error leaves its unit connected; a unit that is not connected is closed, and not moved.
+pub fn close_that_errs()
+    ensures { CloseThatErrs }
 {}

@@ -1,9 +1,6 @@
 //! Runs a deck from standard input, over the files of the current folder.
 #![tactic(auto)]
 
-ghost use Rattle.std.specs.Prelude.{◌≡◌};
-ghost use Rattle.fjob.specs.Status.{exit_status_of};
-
 mod conditions;
 mod help;
 mod refused;
@@ -11,6 +8,7 @@ mod told;
 mod wrong;
 
 use crate::told::{Seen, tell};
+use fj_exit::exit_status;
 use fj_job::{Status, run_job};
 use fj_real::{Kept, RealDisk, RealOutput, RealSink, RealSource, hold_standard_numbers};
 use std::alloc::AllocError;
@@ -19,11 +17,6 @@ use std::fs::File;
 use std::io::{ErrorKind, Write};
 use std::process::ExitCode;
 use std::rt::{Files, Stdin};
-
-/// The exit status where standard output cannot be written.
-const NOT_WRITTEN: u8 = 7;
-/// The exit status where memory is refused.
-const NO_MEMORY: u8 = 9;
 
 /// The words behind the program's name. None where one of them is no text, and so no form.
 fn words(rt: &HostRuntime) -> Result<Vec<String>, AllocError> {
@@ -41,22 +34,6 @@ fn words(rt: &HostRuntime) -> Result<Vec<String>, AllocError> {
         }
     }
     Ok(words)
-}
-
-fn exit_status(status: Status) -> u8
-    ensures { result ≡ exit_status_of status }
-{
-    match status {
-        Status::Ended => 0,
-        Status::ErrorStop { .. } => 2,
-        Status::Prohibited { .. } => 3,
-        Status::DeckRefused { .. } => 4,
-        Status::Usage => 5,
-        Status::ReadFault => 6,
-        Status::WriteFault => NOT_WRITTEN,
-        Status::DiskFault { .. } => 8,
-        Status::Memory => NO_MEMORY,
-    }
 }
 
 /// Tells a person on standard error how a run ended that did not end well.
@@ -81,9 +58,9 @@ fn tell_end<W: Write, F: Files<File = File>>(
 }
 
 /// Gives a run up before it is begun, with a sentence on standard error.
-fn give_up(rt: &HostRuntime, sentence: &str, status: u8) -> ExitCode {
+fn give_up(rt: &HostRuntime, sentence: &str, status: Status) -> ExitCode {
     let _ = eprintln!(rt; "fjob: {sentence}");
-    ExitCode::from(status)
+    ExitCode::from(exit_status(status))
 }
 
 fn main(rt: HostRuntime) -> ExitCode {
@@ -91,17 +68,17 @@ fn main(rt: HostRuntime) -> ExitCode {
         return give_up(
             &rt,
             "whether standard output is open could not be found out",
-            NOT_WRITTEN,
+            Status::WriteFault,
         );
     }
     let Ok(words) = words(&rt) else {
-        return give_up(&rt, "memory was refused", NO_MEMORY);
+        return give_up(&rt, "memory was refused", Status::Memory);
     };
     let Ok(output) = rt.clone() else {
-        return give_up(&rt, "memory was refused", NO_MEMORY);
+        return give_up(&rt, "memory was refused", Status::Memory);
     };
     let Ok(files) = rt.clone() else {
-        return give_up(&rt, "memory was refused", NO_MEMORY);
+        return give_up(&rt, "memory was refused", Status::Memory);
     };
     let mut deck = Kept::new(rt.alloc(), RealSource::new(rt.stdin()));
     let mut out = RealSink::new(RealOutput::new(output, rt.stdout()));

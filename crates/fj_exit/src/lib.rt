@@ -1,0 +1,6 @@
+//! The exit status of each answer.
+#![tactic(auto)]
+
+mod status;
+
+pub use status::exit_status;
