@@ -2,3 +2,5 @@ pub mod RealSource
 pub mod RealSink
 pub mod RealFile
 pub mod RealDisk
+pub mod PartDisk
+pub mod FileSource

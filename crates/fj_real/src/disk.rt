@@ -81,7 +81,7 @@ impl<R: Files<File = File>> RealDisk<R> {
         keep_big_blocks(alloc);
     }
 
-    fn fail(&mut self)
+    pub(crate) fn fail(&mut self)
         ensures later { disk_count self.old ≤ disk_count self.new }
         ensures rose { Rose (disk_count self.old) (disk_count self.new) }
     {

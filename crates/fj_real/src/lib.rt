@@ -5,11 +5,15 @@
 mod blocks;
 mod disk;
 mod file;
+mod late;
+mod part;
 mod sink;
 mod source;
 
 pub use disk::RealDisk;
 pub use file::RealFile;
+pub use late::FileSource;
+pub use part::PartDisk;
 pub use sink::RealSink;
 pub use source::RealSource;
 
