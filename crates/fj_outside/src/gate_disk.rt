@@ -1,11 +1,11 @@
 // A disk in memory with a gate between two of its files.
-ghost use Rattle.std.specs.Prelude.{◌≡◌, ◌≢◌, ◌≤◌, ◌==◌, [], List, ℕ, IfOk, OnOk, OnErr, IfSome, IfNone, IsTrue, IsOk, Some, None, ◌↔◌, true, refl};
-ghost use Rattle.std.specs.Option.{option_copied};
-ghost use Rattle.std.specs.Str.{bytes_eq};
+ghost use Rattle.std.specs.Prelude.{◌≡◌, ◌≢◌, ◌≤◌, ◌==◌, [], List, ℕ, IfOk, OnOk, OnErr, IfSome, IfNone, IsTrue, IsOk, Some, None, ◌↔◌, true, refl, string_bytes};
+ghost use Rattle.std.specs.Option.{option_copied, option_map};
 ghost use Rattle.std.specs.FinMap as map;
 ghost use Rattle.std.specs.FinSet as set;
 ghost use Rattle.fj_outside.specs.Faults.{Rose};
 ghost use Rattle.fj_outside.specs.Holdings.{Exists, IsInUse, IsFree, out_of, given, without};
+ghost use Rattle.fj_outside.specs.Gate.{is_name};
 
 use crate::errors::{Failed, Stop};
 use crate::gate::Gate;
@@ -21,32 +21,75 @@ use std::collections::BTreeMap;
 #[derive(Drop)]
 pub struct GateDisk {
     table: Table,
-    held: String,
-    until: String,
+    held: Option<String>,
+    until: Option<String>,
     gate: Gate,
     faults: u64,
 }
 
+/// Whether this is the name.
+fn is_name(it: &Option<String>, name: &str) -> bool
+    ensures { result ≡ is_name (option_map string_bytes it.now) name.now }
+{
+    match it {
+        Some(it) => name == it.as_str(),
+        None => false,
+    }
+}
+
 impl GateDisk {
-    ghost use Rattle.fj_outside.specs.Gate.{turns_of, file_waits, file_opens, file_bytes, file_turns, file_count, disk_held, waiting_name, opening_name, disk_turns, disk_count};
+    ghost use Rattle.fj_outside.specs.Gate.{turns_of, file_waits, file_opens, file_bytes, file_turns, file_count, disk_held, waiting_name, opening_name, disk_turns, disk_count, IsNew};
 
     /// An empty disk in which the writes to `held` wait for the first write to `until`, each for `turns` looks at most.
     pub fn new(alloc: Global, held: &str, until: &str, turns: u64) -> Result<GateDisk, AllocError>
         ensures files { IfOk result (λ disk. (disk_held disk).files ≡ map.empty) }
         ensures in_use { IfOk result (λ disk. (disk_held disk).in_use ≡ set.empty) }
         ensures hurt { IfOk result (λ disk. (disk_held disk).hurt ≡ set.empty) }
-        ensures held { IfOk result (λ disk. waiting_name disk ≡ held.now) }
-        ensures until { IfOk result (λ disk. opening_name disk ≡ until.now) }
+        ensures held { IfOk result (λ disk. waiting_name disk ≡ Some held.now) }
+        ensures until { IfOk result (λ disk. opening_name disk ≡ Some until.now) }
         ensures turns { IfOk result (λ disk. disk_turns disk ≡ turns) }
         ensures count { IfOk result (λ disk. disk_count disk ≡ 0) }
     {
         Ok(GateDisk {
             table: BTreeMap::new(alloc),
-            held: String::from_str(alloc, held)?,
-            until: String::from_str(alloc, until)?,
+            held: Some(String::from_str(alloc, held)?),
+            until: Some(String::from_str(alloc, until)?),
             gate: Gate::new(alloc, turns)?,
             faults: 0,
         })
+    }
+
+    /// Two empty disks with one gate: the writes to `held` of the first wait for the first write to `until` of the second, each for `turns`
+    /// looks at most.
+    pub fn pair(
+        alloc: Global,
+        held: &str,
+        until: &str,
+        turns: u64,
+    ) -> Result<(GateDisk, GateDisk), AllocError>
+        ensures first { IfOk result (λ disks. IsNew disks.0 (Some held.now) None turns) }
+        ensures second { IfOk result (λ disks. IsNew disks.1 None (Some until.now) turns) }
+    {
+        let held = Some(String::from_str(alloc, held)?);
+        let until = Some(String::from_str(alloc, until)?);
+        let gate = Gate::new(alloc, turns)?;
+        let same_gate = gate.try_clone()?;
+        Ok((
+            GateDisk {
+                table: BTreeMap::new(alloc),
+                held,
+                until: None,
+                gate,
+                faults: 0,
+            },
+            GateDisk {
+                table: BTreeMap::new(alloc),
+                held: None,
+                until,
+                gate: same_gate,
+                faults: 0,
+            },
+        ))
     }
 
     /// The bytes of a file that is at home.
@@ -62,13 +105,13 @@ impl GateDisk {
     /// A file of a name, at the gate.
     fn at_gate(&self, name: &str, file: MemoryFile, gate: Gate) -> GateFile
         ensures bytes { file_bytes result ≡ file }
-        ensures waits { file_waits result ≡ bytes_eq name.now (waiting_name self.now) }
-        ensures opens { file_opens result ≡ bytes_eq name.now (opening_name self.now) }
+        ensures waits { file_waits result ≡ is_name (waiting_name self.now) name.now }
+        ensures opens { file_opens result ≡ is_name (opening_name self.now) name.now }
         ensures turns { file_turns result ≡ turns_of gate }
         ensures count { file_count result ≡ 0 }
     {
-        let waits = name == self.held.as_str();
-        let opens = name == self.until.as_str();
+        let waits = is_name(&self.held, name);
+        let opens = is_name(&self.until, name);
         GateFile::new(file, gate, waits, opens)
     }
 }
@@ -102,8 +145,8 @@ impl Disk for GateDisk {
     fn take(&mut self, _alloc: Global, name: &str) -> Result<Option<GateFile>, Stop>
         requires { IsFree (disk_held self.old) name.now }
         ensures whole { result ≢ Err Stop.Failed }
-        ensures waits { IfOk result (λ found. IfSome found (λ file. file_waits file ≡ bytes_eq name.now (waiting_name self.old))) }
-        ensures opens { IfOk result (λ found. IfSome found (λ file. file_opens file ≡ bytes_eq name.now (opening_name self.old))) }
+        ensures waits { IfOk result (λ found. IfSome found (λ file. file_waits file ≡ is_name (waiting_name self.old) name.now)) }
+        ensures opens { IfOk result (λ found. IfSome found (λ file. file_opens file ≡ is_name (opening_name self.old) name.now)) }
         ensures turns { IfOk result (λ found. IfSome found (λ file. file_turns file ≡ disk_turns self.old)) }
         ensures none { IfOk result (λ found. IfNone found (
             (map.get (disk_held self.old).files name.now ≡ None) × (disk_held self.new ≡ disk_held self.old))) }
@@ -127,8 +170,8 @@ impl Disk for GateDisk {
     fn create(&mut self, alloc: Global, name: &str) -> Result<GateFile, Stop>
         requires { IsFree (disk_held self.old) name.now }
         ensures whole { result ≢ Err Stop.Failed }
-        ensures waits { IfOk result (λ file. file_waits file ≡ bytes_eq name.now (waiting_name self.old)) }
-        ensures opens { IfOk result (λ file. file_opens file ≡ bytes_eq name.now (opening_name self.old)) }
+        ensures waits { IfOk result (λ file. file_waits file ≡ is_name (waiting_name self.old) name.now) }
+        ensures opens { IfOk result (λ file. file_opens file ≡ is_name (opening_name self.old) name.now) }
         ensures turns { IfOk result (λ file. file_turns file ≡ disk_turns self.old) }
         ensures ok { IfOk result (λ file. (file_bytes file ≡ []) × (disk_held self.new ≡ out_of (disk_held self.old) name.now)) }
         ensures empty { IfOk result (λ file. file_count file ≡ 0) }
