@@ -3,3 +3,5 @@ pub mod RealSink
 pub mod RealFile
 pub mod RealDisk
 pub mod Kept
+pub mod PartDisk
+pub mod FileSource

@@ -91,7 +91,7 @@ impl<R: Files<File = File>> RealDisk<R> {
         Ok(())
     }
 
-    fn fail(&mut self, name: &str, why: Why)
+    pub(crate) fn fail(&mut self, name: &str, why: Why)
         ensures later { disk_count self.old ≤ disk_count self.new }
         ensures rose { Rose (disk_count self.old) (disk_count self.new) }
     {

@@ -1,5 +1,5 @@
 // One run over a real file. The expected values are those of any file system.
-use crate::{Kept, RealDisk, RealSink, RealSource};
+use crate::{FileSource, Kept, PartDisk, RealDisk, RealSink, RealSource};
 use fj_outside::{Disk, Failed, FileStore, Sink, Source, Stop};
 use std::fs;
 use std::os::unix::fs::symlink;
@@ -119,5 +119,28 @@ fn a_source_keeps_what_it_gave(rt: HostRuntime) -> Result<(), Fail> {
     let mut source = Kept::new(rt.alloc(), RealSource::new(&b"help"[..]));
     assert!(rt; read_all(&mut source));
     assert!(rt; source.text() == Some(&b"help"[..]));
+    Ok(())
+}
+
+// The file of a part is that whose name begins with the prefix.
+#[test]
+fn a_part_has_a_prefix(rt: HostRuntime) -> Result<(), Fail> {
+    let alloc = rt.alloc();
+    let mut part = sent(PartDisk::new(rt.clone()?, alloc, "fj_real-test-")?);
+    let mut file = part.create(alloc, "part.tmp")?;
+    file.write_at(0, b"help")?;
+    part.give("part.tmp", file);
+    assert_eq!(rt; part.exists("part.tmp")?, true);
+    assert_eq!(rt; part.exists("")?, false);
+    let name = String::from_str(alloc, "fj_real-test-part.tmp")?;
+    let mut source = sent(FileSource::new(rt.clone()?, name));
+    assert!(rt; read_all(&mut source));
+    part.remove("part.tmp")?;
+    assert_eq!(rt; part.exists("part.tmp")?, false);
+    assert_eq!(rt; part.faults(), 0);
+    let name = String::from_str(alloc, "fj_real-test-part.tmp")?;
+    let mut absent = FileSource::new(rt.clone()?, name);
+    assert_eq!(rt; absent.read(&mut [0; 4]), Err(Failed));
+    assert_eq!(rt; absent.faults(), 1);
     Ok(())
 }

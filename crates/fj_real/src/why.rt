@@ -19,6 +19,8 @@ pub enum Why {
     Limit,
     /// The place is behind every place of a file.
     TooFar,
+    /// The name is longer than any of the system.
+    NameTooLong,
 }
 
 impl Why {
@@ -50,6 +52,7 @@ impl Display for Why {
             Why::NothingTaken => f.write_str("the system took no byte"),
             Why::Limit => f.write_str("it would pass the limit on the size of a file (ulimit -f)"),
             Why::TooFar => f.write_str("the place is behind every place of a file"),
+            Why::NameTooLong => f.write_str("the name is too long"),
         }
     }
 }
