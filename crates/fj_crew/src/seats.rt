@@ -18,6 +18,21 @@ fn tell_of<E: Engine>(queues: &VecDeque<Queue<E>>, signals: &Signals, slot: u64)
     }
 }
 
+// Rings for a long job that was submitted, or else for the short one before it.
+fn tell_or_hold_back<E: Engine>(
+    queues: &VecDeque<Queue<E>>,
+    signals: &Signals,
+    slot: u64,
+    is_long: bool,
+) {
+    if is_long {
+        signals.marks_long(slot);
+        tell_of(queues, signals, slot);
+    } else {
+        tell_of(queues, signals, signals.holds_back(slot));
+    }
+}
+
 /// Submits a job to the slot at that place, and tells the workers. Of a short one they hear by the next ask that is not its settling.
 pub(crate) fn submit_at<E: Engine, R: Wait>(
     rt: &R,
@@ -39,13 +54,7 @@ pub(crate) fn submit_at<E: Engine, R: Wait>(
     let seat = &mut seats[at];
     let is_long = E::is_long(&job);
     let number = queue.submit(rt, seat, job);
-    if is_long {
-        signals.marks_long(at as u64);
-        tell_of(queues, signals, at as u64);
-    } else {
-        let earlier = signals.holds_back(at as u64);
-        tell_of(queues, signals, earlier);
-    }
+    tell_or_hold_back(queues, signals, at as u64, is_long);
     number
 }
 
