@@ -4,7 +4,7 @@
 # test: the gate
 # bench: the benchmarks, beside gfortran where it is on the machine
 # checks: what no gate asks for: refused allocations, failing calls, many runs with workers, random statements and decks beside gfortran,
-# the lines of docs/DECKS.md, worked decks, and the modules of docs/DEFINITIONS.md
+# the lines of docs/DECKS.md, worked decks, the modules of docs/DEFINITIONS.md, and how time and memory grow
 .PHONY: build install example examples test bench checks
 
 PREFIX ?= /usr/local
@@ -42,3 +42,4 @@ checks: build
 	checks/decks
 	checks/definitions
 	checks/worked
+	checks/scale
