@@ -1,6 +1,6 @@
 -- No transfer is of a unit that may have none, and none before the lowest identifier of a unit is of it; and the units stay those that
 -- transfers are of.
-use Rattle.std.proofs.Common.{◌≡◌, ◌≢◌, ℕ, ◌<◌, ◌&&◌, ◌||◌, cond, not, Bool, true, false, List, [], ◌∷◌, ◌++◌, length, length-take, get_or, take, drop, Option, None, Some, All, refl, sym, ap, subst, ◌∙◌, inl, inr, arith}
+use Rattle.std.proofs.Common.{◌≡◌, ◌≢◌, ℕ, ◌<◌, ◌≤◌, ◌&&◌, ◌||◌, cond, not, Bool, true, false, List, [], ◌∷◌, ◌++◌, length, length-take, get_or, take, drop, Option, None, Some, All, refl, sym, ap, subst, ◌∙◌, inl, inr, arith}
 use Rattle.std.specs.Prelude.{if◌then◌else◌, filter, is_none, is_some, nat_le, max, ◌==◌}
 use Rattle.std.specs.Option.{option_map, option_map_or, option_or}
 use Rattle.std.specs.List.{list_any, find}
@@ -294,10 +294,10 @@ busy_gone busy u hs all others k d within = stays busy u (get_or hs k d).unit (g
 
 -- ---- whether a transfer of a unit is pending
 
+own_or : (u : ℕ) (h : Held) (hs : List Held) (b c : Bool) → is_some (option_map (λ (x : Held). x.tag) (find (is_own u) hs)) ≡ c → is_some (option_map (λ (x : Held). x.tag) (cond b (Some h) (find (is_own u) hs))) ≡ (b || c)
+own_or u h hs true c e = refl
+own_or u h hs false c e = e
+
 pub own_is : (u : ℕ) (hs : List Held) → is_some (option_map (λ (h : Held). h.tag) (find (is_own u) hs)) ≡ has_pending (holders hs) (Some u) None
 own_is u [] = refl
-own_is u (h ∷ hs) = by (h.unit == u)
-  where
-    by : (b : Bool) → is_some (option_map (λ (x : Held). x.tag) (cond b (Some h) (find (is_own u) hs))) ≡ (b || has_pending (holders hs) (Some u) None)
-    by true = refl
-    by false = own_is u hs
+own_is u (h ∷ hs) = own_or u h hs (h.unit == u) (has_pending (holders hs) (Some u) None) (own_is u hs)

@@ -1,4 +1,7 @@
-use Rattle.std.proofs.Common.{Some, None, sym, ap, ◌∙◌}
+use Rattle.std.proofs.Common.{◌≡◌, ℤ, Some, None, sym, ap, ◌∙◌, rules}
+use Rattle.std.proofs.lemmas.Int.{to_z-of_z}
+use mir.Val.{to_z, of_z}
+use mir.Syntax.{w64}
 use Rattle.std.specs.Prelude.{is_some}
 use Rattle.fj_plain.specs.Statement.{has_pending}
 use Rattle.fj_pending.specs.Plain.{holders}
@@ -12,5 +15,6 @@ returns-in-None c =
 
 pub returns-in-Some : goal.returns-in-Some
 returns-in-Some c =
-    c.has_id.ensures ∙ ap (λ hs. has_pending (holders hs) (Some c.args.unit) (Some c.in-Some.id)) c.self.view_is
+    let same : to_z w64 (of_z w64 c.in-Some.id) ≡ c.in-Some.id = search (rules, to_z-of_z) in
+    c.has_id.ensures ∙ ap (λ (i : ℤ). has_pending (holders c.self.inside.helds.items) (Some c.args.unit) (Some i)) same ∙ ap (λ hs. has_pending (holders hs) (Some c.args.unit) (Some c.in-Some.id)) c.self.view_is
     ∙ sym (ap (has_pending (holders c.args.self.now) (Some c.args.unit)) c.in-Some.is)

@@ -31,8 +31,8 @@ forget-requires-clause-busy c =
     subst (λ l. AreBusy (without_told p l) c.take_picked.new.helds.items) (sym c.in_ok-reserve.ensures.items)
     (subst (AreBusy (without_told p c.self.inside.busy.items)) (sym c.in_ok-told.ensures.left) (taken_is p hs c.self.inside.book c.self.inside.marks.items c.self.inside.busy.items c.self.invariant).busy)
 
-pub invariant_of-self-3 : goal.invariant_of-self-3
-invariant_of-self-3 c =
+pub invariant_of-self-2 : goal.invariant_of-self-2
+invariant_of-self-2 c =
     let hs = c.self.inside.helds.items in
     let p = c.picked-pick.result in
     kept_tied c.take_picked.new.helds.items c.leave.new.book c.self.inside.marks.items (without_told p c.self.inside.busy.items) c.forget.new.busy.items c.forget.ensures
