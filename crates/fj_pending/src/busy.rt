@@ -78,11 +78,7 @@ fn first_from(helds: &VecDeque<Held>, unit: u32, from: usize) -> Option<Tag>
 }
 
 /// The identifier of the first transfer of a unit, without a look where it can have none, or before its lowest identifier.
-pub(crate) fn first_of_unit(
-    helds: &VecDeque<Held>,
-    busy: &Vec<Busy>,
-    unit: u32,
-) -> Option<Tag>
+pub(crate) fn first_of_unit(helds: &VecDeque<Held>, busy: &Vec<Busy>, unit: u32) -> Option<Tag>
     requires ascending { IsAscending helds.now.items }
     requires busy { AreBusy busy.now.items helds.now.items }
     ensures { result ≡ option_map (λ h. h.tag) (find (λ h. h.unit == unit) helds.now.items) }
