@@ -54,7 +54,7 @@ use Rattle.fj_acts.specs.Doing.{IsDoing, AsksAbout, looks, looks_at}
 use Rattle.fj_acts.specs.declared.state.Core.{Core as Kept}
 use Rattle.fj_acts.specs.declared.doing.Then.TheVariants as then
 use Rattle.fj_acts.specs.declared.doing.Doing.TheVariants as doing
-use Rattle.fj_acts.specs.Answers.{answer_of, AnswersAlike, is_meant}
+use Rattle.fj_acts.specs.Answers.{answer_of, AnswersAlike}
 
 -- ---- the same answers
 
@@ -224,18 +224,6 @@ pub alone : (out old due : List Cell) → out ≡ old ++ due → old ≡ [] → 
 alone out old due is none = is ∙ ap (λ cells. cells ++ due) none
 
 -- ---- pending transfers
-
-meant_of_unit : (hs : List Held) (n : ℕ) → list_any (is_meant n None) hs ≡ has_pending (holders hs) (Some n) None
-meant_of_unit [] n = refl
-meant_of_unit (h ∷ hs) n = ap (λ b. (h.unit == n) || b) (meant_of_unit hs n)
-
-meant_of_id : (hs : List Held) (n : ℕ) (id : ℤ) → list_any (is_meant n (Some id)) hs ≡ has_pending (holders hs) (Some n) (Some id)
-meant_of_id [] n id = refl
-meant_of_id (h ∷ hs) n id = ap (λ b. ((h.unit == n) && int_eq (pos h.tag.0) id) || b) (meant_of_id hs n id)
-
-pub meant_is : (hs : List Held) (n : ℕ) (id : Option ℤ) → list_any (is_meant n id) hs ≡ has_pending (holders hs) (Some n) id
-meant_is hs n None = meant_of_unit hs n
-meant_is hs n (Some id) = meant_of_id hs n id
 
 book_is : (hs : List Held) → holders hs ≡ pending_holders (map (λ (h : PlainHeld). h.pending) (held hs))
 book_is [] = refl

@@ -1,8 +1,6 @@
 -- Answers of INQUIRE, as the program and as plain data have them.
-use Rattle.std.specs.Prelude.{◌≡◌, ℕ, ℤ, pos, ◌==◌, ◌&&◌, Bool, Option, Some, None}
-use Rattle.std.specs.Ordering.{int_eq}
+use Rattle.std.specs.Prelude.{◌≡◌}
 use Rattle.fj_modes.specs.declared.asked.Question.{Question}
-use Rattle.fj_pending.specs.declared.held.Held.{Held}
 use Rattle.fj_inquire.specs.Inquiring as told
 use Rattle.fj_plain.specs.Inquiring.{About, Answer, truth, number, word, nothing, answer_to}
 
@@ -15,8 +13,3 @@ answer_of told.nothing = nothing
 -- each question has the same answer
 abbrev pub AnswersAlike : told.About → About → Type 0
 AnswersAlike about plain = (q : Question) → answer_of (told.answer_to about q) ≡ answer_to plain q
-
--- a pending transfer is on the unit and, where an identifier is given, has that
-abbrev pub is_meant : ℕ → Option ℤ → Held → Bool
-is_meant asked None h = h.unit == asked
-is_meant asked (Some id) h = (h.unit == asked) && int_eq (pos h.tag.0) id

@@ -9,15 +9,13 @@ ghost use Rattle.fj_bay.specs.Plain.{looked_of};
 ghost use Rattle.fj_inquire.specs.Inquiring as told;
 ghost use Rattle.fj_plain.specs.Needs.{unit_about, number_given};
 ghost use Rattle.fj_plain.specs.State.{Files};
-ghost use Rattle.fj_plain.specs.Statement.{Stated, file_asked, has_pending, about_other};
+ghost use Rattle.fj_plain.specs.Statement.{Stated, file_asked, about_other};
 ghost use Rattle.fj_desk.specs.Core.{Core as PlainCore, connected_at, unit_named, pending_holders};
 ghost use Rattle.fj_desk.specs.Acting.{answers, asks_connection, inquires, unit_at};
 ghost use Rattle.fj_items.specs.Kinds.{kinds_of};
-ghost use Rattle.fj_pending.specs.Plain.{holders};
 ghost use Rattle.fj_statement.specs.declared.statement.Statement.{Statement as PlainStatement};
 ghost use Rattle.fj_acts.specs.Calling.{may_do};
 ghost use Rattle.fj_acts.specs.Placing.{IsPlaced};
-ghost use Rattle.fj_acts.specs.Answers.{is_meant};
 ghost use Rattle.fj_units.specs.Names.{AreInUse, stands};
 ghost use Rattle.fj_acts.specs.State.{KeepsAnswers, KeepsPending, core_of};
 ghost use Rattle.fj_acts.specs.Failing.{FailsWhere};
@@ -36,12 +34,10 @@ use fj_items::{Lost, give_back, number_given};
 use fj_list::Cells;
 use fj_modes::{Asked, FileName, Question, Subject, UnitRef};
 use fj_outside::{Disk, FileStore};
-use fj_pending::{Held, Pendings};
 use fj_statement::{Operand, Variables};
 use fj_units::{Connected as Unit, Names, Units};
 use fj_value::{Boxed, Condition, Items};
 use std::alloc::{AllocError, Global};
-use std::collections::VecDeque;
 
 /// The number of the unit that is asked about, or that the file is connected to.
 fn unit_about(units: &Units, subject: &Subject) -> Option<u32>
@@ -74,36 +70,6 @@ fn needs_look(asked: &Asked) -> bool
         }
     }
     false
-}
-
-/// Whether a pending transfer is on the unit and, where an identifier is given, has that.
-fn is_meant(held: &Held, number: u32, id: Option<i64>) -> bool
-    ensures { result ≡ is_meant number id held.now }
-{
-    match id {
-        None => held.unit == number,
-        Some(id) => held.unit == number && i64::from(held.tag.0) == id,
-    }
-}
-
-/// Whether one of them is.
-fn any_is_meant(helds: &VecDeque<Held>, number: u32, id: Option<i64>) -> bool
-    ensures { result ≡ list_any (is_meant number id) helds.now.items }
-{
-    for at in 0..helds.len() {
-        if is_meant(&helds[at], number, id) {
-            return true;
-        }
-    }
-    false
-}
-
-/// Whether a transfer is pending on the unit, or the one of that identifier.
-#[tactic(auto, using(crate::proofs::InquiryLemmas::meant_is))]
-fn has_pending(pending: &Pendings, number: u32, id: Option<i64>) -> bool
-    ensures { result ≡ has_pending (holders pending.now) (Some number) id }
-{
-    any_is_meant(pending.entries(), number, id)
 }
 
 /// Whether there is a file of a name that is at home. `Unfit`: the file of that name is out.
@@ -244,7 +210,7 @@ pub(crate) fn answer_look<F: FileStore>(
         return Ok(Doing::Finishes(Condition::Fine));
     };
     let id = number_given(&core.store, id);
-    let pending = has_pending(&core.pending, number, id);
+    let pending = core.pending.has_pending(number, id);
     let cells = told_of(alloc, number, unit, look, pending, asked)?;
     give_back(variables, &mut core.store, cells);
     Ok(Doing::Finishes(Condition::Fine))

@@ -1,23 +1,24 @@
 -- No transfer is of a unit that may have none, and none before the lowest identifier of a unit is of it; and the units stay those that
 -- transfers are of.
-use Rattle.std.proofs.Common.{◌≡◌, ◌≢◌, ℕ, ◌<◌, ◌&&◌, ◌||◌, cond, not, Bool, true, false, List, [], ◌∷◌, ◌++◌, length, length-take, get_or, take, drop, Option, None, Some, All, refl, sym, ap, subst, ◌∙◌, inl, inr, arith}
-use Rattle.std.specs.Prelude.{if◌then◌else◌, filter, is_none, nat_le, max, ◌==◌}
+use Rattle.std.proofs.Common.{◌≡◌, ◌≢◌, ℕ, ◌<◌, ◌≤◌, ◌&&◌, ◌||◌, cond, not, Bool, true, false, List, [], ◌∷◌, ◌++◌, length, length-take, get_or, take, drop, Option, None, Some, All, refl, sym, ap, subst, ◌∙◌, inl, inr, arith}
+use Rattle.std.specs.Prelude.{if◌then◌else◌, filter, is_none, is_some, nat_le, max, ◌==◌}
 use Rattle.std.specs.Option.{option_map, option_map_or, option_or}
 use Rattle.std.specs.List.{list_any, find}
 use Rattle.std.proofs.lemmas.Bool.{ne_eqb, eq-eqb, le-leb, leb-true, cases_lt}
 use Rattle.std.proofs.lemmas.Bool.Decides.{eqb_tells, nat_tests}
 use Rattle.std.proofs.lemmas.List.{get_or-take, take-append-drop}
-use Rattle.std.proofs.lemmas.List.Elements.{All-nil, All-cons, All-weaker, All-append, All-filter, filter_passes, filter-append}
+use Rattle.std.proofs.lemmas.List.Elements.{All-nil, All-cons, All-head, All-tail, All-weaker, All-append, All-filter, filter_passes, filter-append}
 use Rattle.std.proofs.lemmas.List.Folds.{find-append, list_any_none, list_any-append}
 use Rattle.fj_value.specs.declared.place.Tag.{Tag}
 use Rattle.fj_plain.specs.State.{halts}
-use Rattle.fj_plain.proofs.Lists.{all_both, filter_false}
+use Rattle.fj_plain.specs.Statement.{has_pending}
+use Rattle.fj_plain.proofs.Lists.{all_both, filter_false, pairs_head, pairs_tail}
 use Rattle.fj_pending.specs.declared.busy.Busy.{Busy}
 use Rattle.fj_pending.specs.declared.held.Held.{Held}
 use Rattle.fj_pending.specs.declared.pick.Pick.{Pick}
 use Rattle.fj_pending.specs.declared.pick.Pick.TheVariants as pick
 use Rattle.fj_pending.specs.Busy.{first_of, may_have, AreBusy, without_unit, with_transfer, without_told}
-use Rattle.fj_pending.specs.Plain.{entry_of}
+use Rattle.fj_pending.specs.Plain.{entry_of, holders}
 use Rattle.fj_pending.specs.Tied.{IsAscending}
 use Rattle.fj_pending.specs.Waits.{picks, is_due, is_cause}
 use Rattle.fj_pending.proofs.Ids.{filter_absent, filter_one, none_taken}
@@ -214,3 +215,89 @@ busy_left (pick.OfUnit u) busy hs all =
     (All-filter (λ (h : Held). not (h.unit == u)) (λ (h : Held). may_have busy h.unit h.tag.0 ≡ true) hs all)
 busy_left (pick.One id) busy hs all = All-filter (λ (h : Held). not (h.tag.0 == id)) (λ (h : Held). may_have busy h.unit h.tag.0 ≡ true) hs all
 busy_left pick.All busy hs all = subst (AreBusy []) (sym (filter_false hs)) (All-nil (λ (h : Held). may_have [] h.unit h.tag.0 ≡ true))
+
+-- ---- the first transfer of a unit
+
+some_same : {X : Type 0} (a b : X) → Some a ≡ Some b → a ≡ b
+some_same a b e = cc
+
+abbrev is_own : ℕ → Held → Bool
+is_own u h = h.unit == u
+
+none_found : (u : ℕ) (hs : List Held) → AreOthers u hs → find (is_own u) hs ≡ None
+none_found u [] others = refl
+none_found u (h ∷ hs) others =
+    ap (λ b. cond b (Some h) (find (is_own u) hs)) (ne_eqb h.unit u (All-head (λ (x : Held). x.unit ≢ u) h hs others)) ∙ none_found u hs (All-tail (λ (x : Held). x.unit ≢ u) h hs others)
+
+pub idle_found : (u : ℕ) (hs : List Held) → AreOthers u hs → option_map (λ (h : Held). h.tag) (find (is_own u) hs) ≡ None
+idle_found u hs others = ap (option_map (λ (h : Held). h.tag)) (none_found u hs others)
+
+pub found_behind : (u : ℕ) (hs : List Held) (at : ℕ) → AreOthers u (take at hs) → find (is_own u) (drop at hs) ≡ find (is_own u) hs
+found_behind u hs at others =
+    sym (ap (find (is_own u)) (sym (take-append-drop at hs)) ∙ find-append (is_own u) (take at hs) (drop at hs) ∙ ap (λ o. option_or o (find (is_own u) (drop at hs))) (none_found u (take at hs) others))
+
+abbrev IsLow : ℕ → Tag → Held → Type 0
+IsLow u t h = h.unit ≡ u → t.0 ≤ h.tag.0
+
+first_low : (u : ℕ) (hs : List Held) (e : Held) → IsAscending hs → find (is_own u) hs ≡ Some e → All (IsLow u e.tag) hs
+first_low u [] e up is = All-nil (IsLow u e.tag)
+first_low u (h ∷ hs) e up is = elim (eqb_tells h.unit u) [
+  | inl same ↦
+      let here : h ≡ e = some_same h e (sym (ap (λ b. cond b (Some h) (find (is_own u) hs)) same.0) ∙ is) in
+      let tag : h.tag.0 ≡ e.tag.0 = ap (λ (x : Held). x.tag.0) here in
+      All-cons (IsLow u e.tag) h hs (λ own. omega (arith, tag))
+      (All-weaker (λ (x : Held). h.tag.0 < x.tag.0) (IsLow u e.tag) (λ x above own. omega (arith, tag, above)) hs (pairs_head (λ (a b : Held). a.tag.0 < b.tag.0) h hs up))
+  | inr apart ↦
+      All-cons (IsLow u e.tag) h hs (λ own. absurd (apart.1 own))
+      (first_low u hs e (pairs_tail (λ (a b : Held). a.tag.0 < b.tag.0) h hs up) (sym (ap (λ b. cond b (Some h) (find (is_own u) hs)) apart.0) ∙ is))
+]
+
+-- an identifier that is the first one's is not above those of the unit
+pub found_low : (u : ℕ) (hs : List Held) (t : Tag) → IsAscending hs → option_map (λ (h : Held). h.tag) (find (is_own u) hs) ≡ Some t → All (IsLow u t) hs
+found_low u hs t up is = by (find (is_own u) hs) refl is
+  where
+    by : (o : Option Held) → find (is_own u) hs ≡ o → option_map (λ (h : Held). h.tag) o ≡ Some t → All (IsLow u t) hs
+    by None e f = (let never : None ≡ Some t = f in cc)
+    by (Some h) e f = subst (λ x. All (IsLow u x) hs) (some_same h.tag t f) (first_low u hs h up e)
+
+-- where no first one is found
+pub none_own : (u : ℕ) (hs : List Held) → option_map (λ (h : Held). h.tag) (find (is_own u) hs) ≡ None → AreOthers u hs
+none_own u [] is = All-nil (λ (h : Held). h.unit ≢ u)
+none_own u (h ∷ hs) is = elim (eqb_tells h.unit u) [
+  | inl same ↦ (let never : Some h.tag ≡ None = sym (ap (λ b. option_map (λ (x : Held). x.tag) (cond b (Some h) (find (is_own u) hs))) same.0) ∙ is in cc)
+  | inr apart ↦
+      All-cons (λ (x : Held). x.unit ≢ u) h hs apart.1
+      (none_own u hs (sym (ap (λ b. option_map (λ (x : Held). x.tag) (cond b (Some h) (find (is_own u) hs))) apart.0) ∙ is))
+]
+
+-- ---- a lowest identifier that is raised to the first one's
+
+may_later : (busy : List Busy) (n a b : ℕ) → may_have busy n a ≡ true → a ≤ b → may_have busy n b ≡ true
+may_later busy n a b has low = by (first_of busy n) has low
+  where
+    by : (o : Option Tag) → option_map_or (λ (first : Tag). nat_le first.0 a) o false ≡ true → a ≤ b → option_map_or (λ (first : Tag). nat_le first.0 b) o false ≡ true
+    by None e le = e
+    by (Some first) e le = grind (arith, nat_tests)
+
+pub busy_raised : (busy : List Busy) (u : ℕ) (t : Tag) (hs : List Held) → AreBusy busy hs → All (IsLow u t) hs → AreBusy (with_transfer (without_unit u busy) u t) hs
+busy_raised busy u t hs all low k d within =
+    let h : Held = get_or hs k d in
+    elim (eqb_tells h.unit u) [
+      | inl same ↦
+          ap (λ n. may_have (with_transfer (without_unit u busy) u t) n h.tag.0) same.1
+          ∙ may_later (with_transfer (without_unit u busy) u t) u t.0 h.tag.0 (has_it (without_unit u busy) u t) (low k d within same.1)
+      | inr other ↦ keeps_it (without_unit u busy) u t h.unit h.tag.0 (stays busy u h.unit h.tag.0 (ap not other.0) (all k d within))
+    ]
+
+pub busy_gone : (busy : List Busy) (u : ℕ) (hs : List Held) → AreBusy busy hs → AreOthers u hs → AreBusy (without_unit u busy) hs
+busy_gone busy u hs all others k d within = stays busy u (get_or hs k d).unit (get_or hs k d).tag.0 (ap not (ne_eqb (get_or hs k d).unit u (others k d within))) (all k d within)
+
+-- ---- whether a transfer of a unit is pending
+
+own_or : (u : ℕ) (h : Held) (hs : List Held) (b c : Bool) → is_some (option_map (λ (x : Held). x.tag) (find (is_own u) hs)) ≡ c → is_some (option_map (λ (x : Held). x.tag) (cond b (Some h) (find (is_own u) hs))) ≡ (b || c)
+own_or u h hs true c e = refl
+own_or u h hs false c e = e
+
+pub own_is : (u : ℕ) (hs : List Held) → is_some (option_map (λ (h : Held). h.tag) (find (is_own u) hs)) ≡ has_pending (holders hs) (Some u) None
+own_is u [] = refl
+own_is u (h ∷ hs) = own_or u h hs (h.unit == u) (has_pending (holders hs) (Some u) None) (own_is u hs)

@@ -7,4 +7,5 @@ pub mod Waited
 pub mod Idle
 pub mod Tying
 pub mod Answering
+pub mod Asked
 pub mod Giving

@@ -168,6 +168,10 @@ pub tied_as : (hs hs' : List Held) (es es' : List Pending) (ms ms' : List Mark) 
 tied_as hs hs' es es' ms ms' us us' a b m u t =
     subst (λ l. IsTied l es' ms' us') (sym a) (subst (λ l. IsTied hs l ms' us') (sym b) (subst (λ l. IsTied hs es l us') (sym m) (subst (IsTied hs es ms) (sym u) t)))
 
+-- with other units that the transfers may be of
+pub kept_tied : (hs : List Held) (es : List Pending) (marks : List Mark) (us us' : List Busy) → AreBusy us' hs → IsTied hs es marks us → IsTied hs es marks us'
+kept_tied hs es marks us us' busy t = record { ascending = t.ascending; rising = t.rising; same = t.same; slots = t.slots; marked = t.marked; busy = busy }
+
 -- ---- taken off
 
 same_filter : (f : Pending → Bool) (g : Held → Bool) (es : List Pending) (hs : List Held) → AreSame es hs

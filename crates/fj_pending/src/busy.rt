@@ -1,11 +1,16 @@
 // The units that may have pending transfers, each with the lowest identifier that one may have, so that no transfer of another unit and
 // none before them is looked for.
-ghost use Rattle.std.specs.Prelude.{◌≡◌, ◌<◌, ◌≤◌};
+ghost use Rattle.std.specs.Prelude.{◌≡◌, ◌≢◌, ◌==◌, ◌<◌, ◌≤◌, All, find, take};
+ghost use Rattle.std.specs.Option.{option_map};
 ghost use Rattle.std.specs.Vec.{vec_len, vec_capacity};
-ghost use Rattle.fj_pending.specs.Busy.{first_of, may_have, with_transfer, without_unit, without_told};
+ghost use Rattle.fj_pending.specs.Busy.{AreBusy, first_of, may_have, with_transfer, without_unit, without_told};
+ghost use Rattle.fj_pending.specs.Tied.{IsAscending};
 
+use crate::answers::below;
+use crate::held::Held;
 use crate::pick::Pick;
 use fj_value::Tag;
+use std::collections::VecDeque;
 
 /// A unit that may have pending transfers.
 #[derive(Clone, Copy)]
@@ -58,14 +63,67 @@ pub(crate) fn add_transfer(busy: &mut Vec<Busy>, unit: u32, id: Tag)
     }
 }
 
-/// Takes the units off of which all transfers are told.
-pub(crate) fn forget(busy: &mut Vec<Busy>, pick: Pick)
-    ensures { busy.new.items ≡ without_told pick busy.old.items }
+/// The identifier of the first transfer of a unit, of which none stands before the place.
+fn first_from(helds: &VecDeque<Held>, unit: u32, from: usize) -> Option<Tag>
+    requires { All (λ h. h.unit ≢ unit) (take from helds.now.items) }
+    ensures { result ≡ option_map (λ h. h.tag) (find (λ h. h.unit == unit) helds.now.items) }
+{
+    for at in from..helds.len() {
+        let held = &helds[at];
+        if held.unit == unit {
+            return Some(held.tag);
+        }
+    }
+    None
+}
+
+/// The identifier of the first transfer of a unit, without a look where it can have none, or before its lowest identifier.
+pub(crate) fn first_of_unit(helds: &VecDeque<Held>, busy: &Vec<Busy>, unit: u32) -> Option<Tag>
+    requires ascending { IsAscending helds.now.items }
+    requires busy { AreBusy busy.now.items helds.now.items }
+    ensures { result ≡ option_map (λ h. h.tag) (find (λ h. h.unit == unit) helds.now.items) }
+{
+    let Some(first) = first_of(busy, unit) else {
+        return None;
+    };
+    first_from(helds, unit, below(helds, u64::from(first.0)))
+}
+
+/// Raises the lowest identifier of a unit to that of its first transfer, or takes the unit off where it has none, so that a look for
+/// its transfers begins at one.
+fn tighten(helds: &VecDeque<Held>, busy: &mut Vec<Busy>, unit: u32)
+    requires ascending { IsAscending helds.now.items }
+    requires busy { AreBusy busy.old.items helds.now.items }
+    requires room { vec_len busy.old < vec_capacity busy.old }
+    ensures { AreBusy busy.new.items helds.now.items }
+{
+    let first = first_of_unit(helds, busy, unit);
+    take_off(busy, unit);
+    if let Some(first) = first {
+        add_transfer(busy, unit, first);
+    }
+}
+
+/// Takes the units off of which all transfers are told. Where one transfer was told alone, the lowest identifier of its unit is raised.
+pub(crate) fn forget(
+    helds: &VecDeque<Held>,
+    busy: &mut Vec<Busy>,
+    pick: Pick,
+    told: &VecDeque<Held>,
+)
+    requires ascending { IsAscending helds.now.items }
+    requires busy { AreBusy (without_told pick busy.old.items) helds.now.items }
+    requires room { vec_len busy.old < vec_capacity busy.old }
+    ensures { AreBusy busy.new.items helds.now.items }
 {
     match pick {
         Pick::None => {}
         Pick::OfUnit(unit) => take_off(busy, unit),
-        Pick::One(_) => {}
+        Pick::One(_) => {
+            if let Some(held) = told.front() {
+                tighten(helds, busy, held.unit);
+            }
+        }
         Pick::All => busy.clear(),
     }
 }

@@ -1,5 +1,5 @@
 // The pending transfers of a run, in ascending order of their identifiers.
-ghost use Rattle.std.specs.Prelude.{◌≡◌, ◌≢◌, ◌<◌, false, ◌++◌, List, [], ◌∷◌, not, All, length, map, filter, take, Err, IsTrue, is_ok, IfOk, IfSome, IfErr, OnOk, OnErr};
+ghost use Rattle.std.specs.Prelude.{◌≡◌, ◌≢◌, ◌<◌, false, ◌++◌, List, [], ◌∷◌, not, All, length, map, filter, take, Some, Err, IsTrue, is_ok, IfOk, IfSome, IfErr, OnOk, OnErr};
 ghost use Rattle.std.specs.Option.{option_map};
 ghost use Rattle.std.specs.List.{find, list_any};
 ghost use Rattle.fj_value.specs.declared.place.Place.{Place};
@@ -7,6 +7,7 @@ ghost use Rattle.fj_statement.specs.declared.deck.Variable.{Variable};
 ghost use Rattle.fj_store.specs.Places.{is_among, places_in};
 ghost use Rattle.fj_store.specs.Storage.{values_of};
 ghost use Rattle.fj_book.specs.Prohibitions.{prohibited};
+ghost use Rattle.fj_plain.specs.Statement.{has_pending};
 ghost use Rattle.fj_plain.specs.Telling.{condition_of, tells_id, tells_cause, with_inputs};
 ghost use Rattle.fj_plain.specs.Telling as telling;
 ghost use Rattle.fj_desk.specs.Desks.{most_slots};
@@ -19,12 +20,12 @@ ghost use Rattle.fj_pending.specs.Tied.{IsAscending, IsMarked, entered_marks, an
 ghost use Rattle.fj_pending.specs.Waits.{waited_of, IsPassed, is_due, is_cause};
 
 use crate::answers::{below, mark_at, pass, put_answer, put_mark, seek};
-use crate::busy::{Busy, add_transfer, first_of, forget};
+use crate::busy::{Busy, add_transfer, first_of, first_of_unit, forget};
 use crate::deliver::deliver;
 use crate::held::{Held, Told};
 use crate::lost::Lost;
 use crate::mark::Mark;
-use crate::pick::{Pick, causes, picked, place_of};
+use crate::pick::{Pick, causes, has_id, picked, place_of};
 use crate::taking::{leave, take_picked};
 use crate::tell::Tell;
 use crate::whose::Whose;
@@ -329,6 +330,16 @@ impl Pendings {
         seek(&self.helds, &self.marks, slot, number).is_some()
     }
 
+    /// Whether a transfer is pending on the unit, or the one of that identifier. It looks at a logarithm of them, and takes no memory.
+    pub fn has_pending(&self, unit: u32, id: Option<i64>) -> bool
+        ensures { result ≡ has_pending (holders self.now) (Some unit) id }
+    {
+        match id {
+            None => first_of_unit(&self.helds, &self.busy, unit).is_some(),
+            Some(id) => has_id(&self.helds, unit, id),
+        }
+    }
+
     /// The slot of the first transfer without an answer among those that are waited for, and a place behind which all such stand, from
     /// which to look on after its answer; none where all have answers. No such transfer may stand before the place `from`.
     pub fn next_unsettled(&self, whose: Whose, from: usize) -> Option<(usize, u32)>
@@ -365,9 +376,10 @@ impl Pendings {
         ensures some { LeavesSome self.old self.new }
     {
         let pick = picked(&self.helds, whose);
+        self.busy.reserve(1)?;
         let told = take_picked(alloc, &mut self.helds, &self.busy, pick)?;
         leave(&mut self.book, &self.busy, pick);
-        forget(&mut self.busy, pick);
+        forget(&self.helds, &mut self.busy, pick, &told);
         deliver(told, line, store, tells)
     }
 

@@ -1,7 +1,8 @@
 // The pending transfers that are waited for, as their answers stand.
-ghost use Rattle.std.specs.Prelude.{◌≡◌, ◌≢◌, ◌<◌, pos, length, All, HoldsAt, IfSome, IfNone, filter};
+ghost use Rattle.std.specs.Prelude.{◌≡◌, ◌≢◌, ◌<◌, pos, length, All, HoldsAt, Some, IfSome, IfNone, filter};
 ghost use Rattle.fj_bay.specs.Halt.{halts};
-ghost use Rattle.fj_pending.specs.Plain.{entry_of, entries};
+ghost use Rattle.fj_plain.specs.Statement.{has_pending};
+ghost use Rattle.fj_pending.specs.Plain.{entry_of, entries, holders};
 ghost use Rattle.fj_pending.specs.Tied.{IsAscending};
 ghost use Rattle.fj_pending.specs.Waits.{waited_of, widest, picks, is_due, is_cause, IsWide};
 
@@ -80,6 +81,28 @@ pub(crate) fn place_of(helds: &VecDeque<Held>, id: u64) -> Option<usize>
         return None;
     }
     Some(at)
+}
+
+/// Whether the transfer of an identifier is pending on a unit.
+fn has_number(helds: &VecDeque<Held>, unit: u32, id: u64) -> bool
+    requires { IsAscending helds.now.items }
+    ensures { result ≡ has_pending (holders helds.now.items) (Some unit) (Some (pos id)) }
+{
+    match place_of(helds, id) {
+        Some(at) => helds[at].unit == unit,
+        None => false,
+    }
+}
+
+/// The same of a value of ID=, which may be below 0.
+pub(crate) fn has_id(helds: &VecDeque<Held>, unit: u32, id: i64) -> bool
+    requires { IsAscending helds.now.items }
+    ensures { result ≡ has_pending (holders helds.now.items) (Some unit) (Some id) }
+{
+    if id < 0 {
+        return false;
+    }
+    has_number(helds, unit, id.unsigned_abs())
 }
 
 /// The transfer of an identifier on a unit, or, where it halted the unit, all of that.
