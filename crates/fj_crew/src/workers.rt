@@ -58,11 +58,7 @@ pub(crate) fn fold<E: Engine>(
 }
 
 // The first of these queues of which a job seems due.
-fn first_due<E: Engine>(
-    queues: &VecDeque<Queue<E>>,
-    from: usize,
-    to: usize,
-) -> Option<usize>
+fn first_due<E: Engine>(queues: &VecDeque<Queue<E>>, from: usize, to: usize) -> Option<usize>
     requires { to ≤ length queues.now.items }
     ensures { IfSome result (λ at. at < length queues.now.items) }
 {
