@@ -47,12 +47,13 @@ impl<R: Files<File = File>> RealDisk<R> {
     pub fn new(alloc: Global, rt: R) -> RealDisk<R>
         ensures { disk_count result ≡ 0 }
     {
+        let limit = file_limit(&rt);
         RealDisk {
             rt,
             alloc,
             faults: 0,
             keeps_blocks: false,
-            limit: file_limit(),
+            limit,
             failures: Vec::new(alloc),
         }
     }

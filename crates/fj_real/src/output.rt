@@ -1,13 +1,11 @@
 // Standard output, which may lead into a file.
 ghost use Rattle.std.specs.Prelude.{◌≤◌};
 
-use crate::limit::{file_limit, within};
-use std::fs;
+use crate::limit::{file_limit, output_place, within};
+use std::fs::{self, File};
 use std::io::{Error, Result, Write};
 use std::rt::Files;
 
-/// The number of standard output.
-const STANDARD_OUTPUT: i32 = 1;
 /// The number of the system's error where a file would pass its limit (write(2), EFBIG).
 const TOO_LARGE: i32 = 27;
 
@@ -21,23 +19,17 @@ pub struct RealOutput<R: Drop, W: Drop> {
     limit: u64,
 }
 
-impl<R: Files + Drop, W: Write + Drop> RealOutput<R, W> {
+impl<R: Files<File = File> + Drop, W: Write + Drop> RealOutput<R, W> {
     pub fn new(rt: R, plain: W) -> RealOutput<R, W> {
-        RealOutput {
-            rt,
-            plain,
-            limit: file_limit(),
-        }
+        let limit = file_limit(&rt);
+        RealOutput { rt, plain, limit }
     }
 
     /// Where the next byte goes in a file that standard output leads into: to the end, or to the place that it has come to.
     /// 0 where it leads elsewhere, or where the system does not say.
     fn place(&self) -> u64 {
         match fs::metadata(&self.rt, "/proc/self/fd/1") {
-            Ok(about) if about.is_file() => {
-                let come = libc::lseek(STANDARD_OUTPUT, 0, libc::SEEK_CUR);
-                about.len().max(u64::try_from(come).unwrap_or(0))
-            }
+            Ok(about) if about.is_file() => { about.len().max(output_place(&self.rt)) }
             _ => 0,
         }
     }
@@ -53,7 +45,7 @@ impl<R: Files + Drop, W: Write + Drop> RealOutput<R, W> {
     }
 }
 
-impl<R: Files + Drop, W: Write + Drop> Write for RealOutput<R, W> {
+impl<R: Files<File = File> + Drop, W: Write + Drop> Write for RealOutput<R, W> {
     fn write(&mut self, buf: &[u8]) -> Result<usize> {
         let most = self.most(buf.len());
         if most == 0 && !buf.is_empty() {
