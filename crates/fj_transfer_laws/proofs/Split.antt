@@ -91,12 +91,12 @@ some_group [] h = cc
 some_group (x ∷ g) h = by (is_unlimited x) refl (from_last_group g) (λ is. some_group g is)
   where
     in_more : (b : Bool) → is_unlimited x ≡ b → b ≡ false → has_unlimited g ≡ true
-    in_more b is no = sym (ap (λ c. c || has_unlimited g) (is ∙ no)) ∙ h
+    in_more b is other = sym (ap (λ c. c || has_unlimited g) (is ∙ other)) ∙ h
 
     by : (b : Bool) → is_unlimited x ≡ b → (o : Option (List FormatItem)) → (has_unlimited g ≡ true → IsSome o) → IsSome (first_some o (cond (is_group x) (Some (x ∷ g)) None))
     by b is (Some found) more = refl
     by true is None more = let P : Bool → Type 0 = λ c. IsSome (cond c (Some (x ∷ g)) None) in subst P (sym (group_of_unlimited x is)) refl
-    by false is None more = absurd (let no : false ≡ true = more (in_more false is refl) in cc)
+    by false is None more = absurd (let wrong : false ≡ true = more (in_more false is refl) in cc)
 
 -- more rounds than there are items change nothing
 more_rounds : (a r : Steps) (n all : ℕ) (b : Bool) → has_data r ≡ b → n ≤ all → control (a ++ rounds all r) n ≡ control (a ++ rounds n r) n
