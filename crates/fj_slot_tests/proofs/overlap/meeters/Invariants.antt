@@ -4,7 +4,7 @@ use Rattle.fj_world.specs.Rack.{At}
 use Rattle.fj_slot_tests.proofs.overlap.meeters.Given as goal
 
 abbrev pub invariant-loop : goal.invariant-loop
-invariant-loop g l = record {
+invariant-loop l = record {
   long : length l.slots.slots ≡ l.counter;
   new : (at : ℕ) → At l.slots at (λ it. it ≡ fresh it.start);
 }
