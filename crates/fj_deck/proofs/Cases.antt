@@ -1,8 +1,8 @@
 -- The definitions at worked cases.
 use Rattle.std.proofs.Common.{◌≡◌, true, false, [], ◌∷◌, ◌++◌, Ok, None, refl, codes, replicate, rules, lit<, lit≤}
 use Rattle.fj_statement.specs.declared.reason.Reason.TheVariants.{LineTooLong, NoEnd}
-use Rattle.fj_modes.specs.declared.unit.Motion.TheVariants.{Rewind}
-use Rattle.fj_modes.specs.declared.unit.UnitRef.TheVariants.{Number}
+use Rattle.fj_modes.specs.declared.motion.Motion.TheVariants.{Rewind}
+use Rattle.fj_statement.specs.declared.unit.UnitRef.TheVariants.{Number}
 use Rattle.fj_statement.specs.declared.statement.Statement.TheVariants.{End, Move}
 use Rattle.fj_syntax.specs.Parsing.{IsStatement}
 use Rattle.fj_syntax.specs.Statement.{written_of, begun_by}

@@ -5,21 +5,20 @@ use Rattle.std.proofs.lemmas.List.Splits.{length-slice_split}
 use Rattle.std.proofs.lemmas.List.Sums.{count_by-le-length}
 use Rattle.fj_value.specs.declared.kind.Kind.{Kind}
 use Rattle.fj_value.specs.declared.kind.Kind.TheVariants.{Logical}
-use Rattle.fj_modes.specs.declared.unit.Motion.{Motion}
-use Rattle.fj_modes.specs.declared.unit.Motion.TheVariants.{Endfile}
+use Rattle.fj_modes.specs.declared.motion.Motion.{Motion}
+use Rattle.fj_modes.specs.declared.motion.Motion.TheVariants.{Endfile}
 use Rattle.fj_syntax.specs.Arguments.{call_of}
 use Rattle.fj_syntax.specs.Calls.{open_of, close_of, wait_of, move_of, inquire_of, transfer_of}
 use Rattle.fj_syntax.specs.FirstToken.{first_token}
-use Rattle.fj_syntax.specs.Given.{unit_number}
+use Rattle.fj_syntax.specs.Given.{bare_unit}
 use Rattle.fj_syntax.specs.Parsing.{IsStatement}
 use Rattle.fj_syntax.specs.Parts.{Tokens, cut, designator_of, is_mark, is_name, list_of, name_of, operand_of, parted}
 use Rattle.fj_syntax.specs.Reading.{◌>>=◌}
 use Rattle.fj_syntax.specs.Statement.{begun, begun_by, behind_colons, character_kind, declaration_of, group_of, integer_kind, items_of, motion_from, number_in, written_of}
 use Rattle.fj_syntax.specs.Tokens.{AreTokens, end, token}
 use Rattle.fj_syntax.specs.Words.{keyword_of}
-use Rattle.fj_syntax.specs.declared.token.Mark.TheVariants.{Comma, Equals, Slash}
-use Rattle.fj_syntax.specs.declared.token.Sign.TheVariants.{Unsigned}
-use Rattle.fj_syntax.specs.declared.token.Token.TheVariants.{Word, Number, Mark}
+use Rattle.fj_syntax.specs.declared.token.Mark.TheVariants.{Comma, Equals, LeftParenthesis, Slash}
+use Rattle.fj_syntax.specs.declared.token.Token.TheVariants.{Word, Mark}
 use Rattle.fj_syntax.specs.declared.words.Keyword.{Keyword}
 use Rattle.fj_syntax.specs.declared.words.Keyword.TheVariants as keyword
 use Rattle.fj_syntax.specs.declared.written.Written.{Written}
@@ -61,8 +60,8 @@ declaration_few : (most : ℕ) (kind : Option Kind) (ts : Tokens) → Holds (Has
 declaration_few most kind ts = then_any (HasFew most) kind _ (λ k. then_any (HasFew most) (list_of designator_of (behind_colons ts)) _ (λ entities. tt))
 
 motion_few : (most : ℕ) (how : Motion) (ts : Tokens) → Holds (HasFew most) (motion_from how ts)
-motion_few most how (Number Unsigned n ∷ []) = then_any (HasFew most) (unit_number n) _ (λ u. tt)
-motion_few most how ts = then_any (HasFew most) (move_of how ts) (λ m. Some (written.Move m)) (λ m. tt)
+motion_few most how (Mark LeftParenthesis ∷ ts) = then_any (HasFew most) (move_of how (Mark LeftParenthesis ∷ ts)) (λ m. Some (written.Move m)) (λ m. tt)
+motion_few most how ts = then_any (HasFew most) (bare_unit ts) (λ u. Some (written.Move (record { unit = u; what = how; iostat = None }))) (λ u. tt)
 
 -- ---- each statement by its keyword
 

@@ -1,7 +1,7 @@
 // What stands of declarations, the items of a statement, and as many variables as there may be. Declarations and statements with what each
 // is answered are in fj_cases.
 use fj_meaning::{Fault, Names, statement};
-use fj_statement::{Control, Operand, Statement, Transfer};
+use fj_statement::{Control, Operand, Statement, Transfer, UnitRef};
 use fj_syntax::{Written, parse_line};
 use fj_value::{Kind, Place, Value};
 use std::alloc::Global;
@@ -179,6 +179,81 @@ fn has_items(alloc: Global, names: &Names, line: &str) -> bool {
     let is_so = is_stated_write(&answer);
     drop(answer);
     is_so
+}
+
+/// The unit of a statement.
+fn unit_in(alloc: Global, names: &Names, line: &str) -> Option<UnitRef> {
+    let written = written(alloc, line)?;
+    match statement(alloc, names, written) {
+        Ok(statement) => statement.unit(),
+        Err(_) => None,
+    }
+}
+
+/// The same among the common names.
+fn common_unit(alloc: Global, line: &str) -> Option<UnitRef> {
+    let names = common_names(alloc)?;
+    let unit = unit_in(alloc, &names, line);
+    drop(names);
+    unit
+}
+
+/// What the unit of a statement names; of a place, its variable and index.
+#[derive(Clone, Copy)]
+enum Named {
+    Nothing,
+    Star,
+    Number(u32),
+    Held(u32, u32),
+    New(u32, u32),
+}
+
+/// What is named so. A text leaves the number of a unit of a place 0.
+fn unit_named(named: Named) -> Option<UnitRef> {
+    let number = 0;
+    match named {
+        Named::Nothing => None,
+        Named::Star => Some(UnitRef::Star),
+        Named::Number(number) => Some(UnitRef::Number(number)),
+        Named::Held(var, index) => Some(UnitRef::Held {
+            place: Place { var, index },
+            number,
+        }),
+        Named::New(var, index) => Some(UnitRef::New {
+            place: Place { var, index },
+            number,
+        }),
+    }
+}
+
+/// Statements with what their units name. Some have no meaning, and one no unit.
+static UNITS: [(&str, Named); 16] = [
+    ("WRITE(*,*) I", Named::Star),
+    ("OPEN(10)", Named::Number(10)),
+    ("OPEN(I)", Named::Held(0, 1)),
+    ("CLOSE(A(3))", Named::Held(1, 3)),
+    ("WAIT(K)", Named::Held(3, 1)),
+    ("REWIND A(1)", Named::Held(1, 1)),
+    ("INQUIRE(UNIT=I,OPENED=L)", Named::Held(0, 1)),
+    ("INQUIRE(FILE='X',NUMBER=I)", Named::Nothing),
+    ("READ(K,*) I", Named::Held(3, 1)),
+    ("WRITE(UNIT=I,NML=G)", Named::Held(0, 1)),
+    ("OPEN(NEWUNIT=A(2),FILE='X')", Named::New(1, 2)),
+    ("OPEN(NEWUNIT=K,STATUS='SCRATCH')", Named::New(3, 1)),
+    ("OPEN(NEWUNIT=K,STATUS='OLD')", Named::Nothing),
+    ("WRITE(C,*) I", Named::Nothing),
+    ("READ(A,*) I", Named::Nothing),
+    ("OPEN(L)", Named::Nothing),
+];
+
+#[test]
+fn units(rt: HostRuntime) {
+    for (line, unit) in UNITS.iter() {
+        assert!(rt;
+            common_unit(rt.alloc(), line) == unit_named(*unit),
+            "{line}"
+        );
+    }
 }
 
 /// The same among the common names.

@@ -1,5 +1,5 @@
 // The parts of statements that were read. Lines that are read, and lines that are refused, are in fj_cases.
-use fj_modes::{Access, FileStatus, Motion, OpenSpec, Question, Subject, UnitRef};
+use fj_modes::{Access, FileStatus, Motion, OpenSpec, Question};
 use fj_syntax::*;
 use fj_value::{Delim, Kind};
 use std::alloc::Global;
@@ -14,6 +14,9 @@ enum Wanted {
     Close,
     Declaration,
     Inquiry,
+    Held,
+    HeldInquiry,
+    New,
 }
 
 fn is_wanted(statement: &Written, wanted: Wanted) -> bool {
@@ -24,6 +27,9 @@ fn is_wanted(statement: &Written, wanted: Wanted) -> bool {
         (Wanted::Close, Written::Close(close)) => is_close(close),
         (Wanted::Declaration, Written::Declaration(one)) => is_declaration(one),
         (Wanted::Inquiry, Written::Inquire(one)) => is_inquiry(one),
+        (Wanted::Held, Written::Move(motion)) => is_held(&motion.unit),
+        (Wanted::HeldInquiry, Written::Inquire(one)) => is_held_inquiry(one),
+        (Wanted::New, Written::Open(open)) => is_new(open),
         _ => false,
     }
 }
@@ -52,7 +58,7 @@ fn is_element(place: Option<&Designator>, name: &[u8], number: u32) -> bool {
 
 fn is_open(open: &OnUnit<OpenSpec>) -> bool {
     let spec = &open.what;
-    open.unit == UnitRef::Number(10)
+    matches!(open.unit, Unit::Number(10))
         && is_element(open.iostat.as_ref(), b"S", 2)
         && matches!(&spec.file, Some(file) if file.as_str() == "x.Y")
         && spec.status == Some(FileStatus::Old)
@@ -81,7 +87,7 @@ fn is_write(write: &Transfer) -> bool {
     matches!(&write.format, Some(Format::Literal(text)) if text.bytes() == "('a',I5)".as_bytes())
         && are_items(write.items.as_slice())
         && !write.input
-        && write.unit == UnitRef::Star
+        && matches!(write.unit, Unit::Star)
         && write.delim == Some(Delim::Quote)
         && write.plus == Some(true)
         && write.pad.is_none()
@@ -89,11 +95,13 @@ fn is_write(write: &Transfer) -> bool {
 }
 
 fn is_endfile(motion: &OnUnit<Motion>) -> bool {
-    motion.what == Motion::Endfile && motion.unit == UnitRef::Number(7) && motion.iostat.is_none()
+    motion.what == Motion::Endfile
+        && matches!(motion.unit, Unit::Number(7))
+        && motion.iostat.is_none()
 }
 
 fn is_close(close: &OnUnit<Option<bool>>) -> bool {
-    close.unit == UnitRef::Number(7) && close.what == Some(true) && close.iostat.is_none()
+    matches!(close.unit, Unit::Number(7)) && close.what == Some(true) && close.iostat.is_none()
 }
 
 fn is_declaration(declaration: &Declaration) -> bool {
@@ -106,6 +114,23 @@ fn is_inquiry(inquire: &Inquire) -> bool {
     matches!(inquire.about, Subject::File(_))
         && inquire.asked.len() == 2
         && matches!(inquire.asked.get(0), Some(asking) if asking.what == Question::Size)
+}
+
+/// The unit `U(2)`.
+fn is_held(unit: &Unit) -> bool {
+    matches!(unit, Unit::Place(place) if is_element(Some(place), b"U", 2))
+}
+
+fn is_held_inquiry(inquire: &Inquire) -> bool {
+    matches!(&inquire.about, Subject::Unit(unit) if is_held(unit))
+}
+
+/// NEWUNIT= of `N(3)`, with STATUS='SCRATCH'.
+fn is_new(open: &OnUnit<OpenSpec>) -> bool {
+    matches!(&open.unit, Unit::New(place) if is_element(Some(place), b"N", 3))
+        && open.what.status == Some(FileStatus::Scratch)
+        && open.what.file.is_none()
+        && open.iostat.is_none()
 }
 
 /// Whether it is the statement that is wanted.
@@ -138,11 +163,17 @@ fn transfers(rt: HostRuntime) {
 }
 
 /// Other statements whose parts are looked at.
-static OTHERS: [(&str, Wanted); 4] = [
+static OTHERS: [(&str, Wanted); 10] = [
     ("END FILE 7", Wanted::Endfile),
     ("CLOSE(7,STATUS='keep')", Wanted::Close),
     ("CHARACTER(7) C(2),D", Wanted::Declaration),
     ("INQUIRE(SIZE=N,FILE='X',EXIST=L)", Wanted::Inquiry),
+    ("rewind u(2)", Wanted::Held),
+    ("FLUSH(U(2),IOSTAT=S)", Wanted::Held),
+    ("END FILE (UNIT=U(2))", Wanted::Held),
+    ("INQUIRE(OPENED=L,UNIT=U(02))", Wanted::HeldInquiry),
+    ("OPEN(NEWUNIT=N(3),STATUS='SCRATCH')", Wanted::New),
+    ("open(status='scratch ', newunit = n ( 3 ))", Wanted::New),
 ];
 
 #[test]

@@ -14,12 +14,11 @@ use fj_value::Kind;
 const MOST: u64 = 2_147_483_647;
 
 /// Specifiers of Fortran that no statement here has.
-static FOREIGN: [(&str, &str); 12] = [
+static FOREIGN: [(&str, &str); 11] = [
     ("ERR", "IOSTAT= gets the condition"),
     ("END", "IOSTAT= gets -1 at the end of a file"),
     ("EOR", "IOSTAT= gets -2 at the end of a record"),
     ("IOMSG", "IOSTAT= gets the condition"),
-    ("NEWUNIT", "a unit is a number that the deck chooses"),
     ("ENCODING", "characters are bytes"),
     ("ROUND", "there is no REAL"),
     ("DIRECT", "ACCESS= and FORM= answer instead"),
@@ -46,7 +45,7 @@ pub fn look_at<'a>(call: Call<'_, 'a>, tokens: &[Token<'a>]) -> Look<'a> {
         );
     };
     if !mark.is("(") {
-        return Err(unopened(call, mark, tokens));
+        return unopened(call, mark, tokens);
     }
     let Some((inside, behind)) = closed(inside) else {
         return Err(mark.told("this ( is never closed"));
@@ -57,30 +56,43 @@ pub fn look_at<'a>(call: Call<'_, 'a>, tokens: &[Token<'a>]) -> Look<'a> {
 }
 
 /// A motion with its unit alone, or what is told of a statement with no parenthesis.
-fn unopened<'a>(call: Call<'_, 'a>, mark: &Token<'a>, tokens: &[Token<'a>]) -> Told<'a> {
+fn unopened<'a>(call: Call<'_, 'a>, mark: &Token<'a>, tokens: &[Token<'a>]) -> Look<'a> {
     match (call.statement, mark.text) {
-        (_, b"=") => call
-            .word
-            .told("% is a word of the deck language and cannot be a name"),
-        (Statement::Read, b"*") => mark.told(
-            "decks read only from files: write READ(unit, format) items",
+        (_, b"=") => Err(
+            call.word
+                .told("% is a word of the deck language and cannot be a name"),
         ),
-        (Statement::Motion, _) if mark.shape == Shape::Number => match tokens {
-            [_, second, ..] => second.told(
-                "nothing may follow a bare unit: put all arguments in parentheses",
-            ),
-            _ => unit_told(mark),
-        },
-        (Statement::Motion, _) if mark.is_word() => unit_told(mark),
+        (Statement::Read, b"*") => Err(mark.told(
+            "decks read only from files: write READ(unit, format) items",
+        )),
+        (Statement::Motion, _) if mark.is_word() || mark.shape == Shape::Number => {
+            bare_unit(call, mark, tokens)
+        }
         _ => {
             let told = mark.told("% needs its arguments in parentheses, the unit first");
-            told.with(Part::Word(call.word.text))
+            Err(told.with(Part::Word(call.word.text)))
         }
     }
 }
 
+/// The unit of a motion by itself.
+fn bare_unit<'a>(call: Call<'_, 'a>, first: &Token<'a>, tokens: &[Token<'a>]) -> Look<'a> {
+    let (part, behind) = cut(tokens);
+    let more = match (part, behind) {
+        (_, Some(_)) => Some(last(tokens, part, *first)),
+        ([_, second, ..], None) if !second.is("(") => Some(*second),
+        _ => None,
+    };
+    match more {
+        Some(token) => Err(token.told(
+            "nothing may follow a bare unit: put all arguments in parentheses",
+        )),
+        None => unit(call, &call.word, part),
+    }
+}
+
 fn unit_told<'a>(token: &Token<'a>) -> Told<'a> {
-    token.told("a unit is written as a number from 0 to 2,147,483,647")
+    token.told("a unit is a number from 0 to 2,147,483,647, or an integer variable or element")
 }
 
 /// The arguments between commas.
@@ -194,7 +206,7 @@ fn given<'a>(
             class_fits(class, single(seen, first)?, first)
         }
         Value::Group => group(first, rest),
-        Value::Unit => unit(call, first, rest),
+        Value::Unit => unit(call, near, part),
         Value::Format => format(first, rest),
         Value::Length => length(key, first, rest),
         Value::File => file(first, rest),
@@ -238,9 +250,16 @@ fn group<'a>(first: &Token<'a>, rest: &[Token<'a>]) -> Look<'a> {
     }
 }
 
-fn unit<'a>(call: Call<'_, 'a>, first: &Token<'a>, rest: &[Token<'a>]) -> Look<'a> {
+fn unit<'a>(call: Call<'_, 'a>, near: &Token<'a>, part: &[Token<'a>]) -> Look<'a> {
+    let [first, rest @ ..] = part else {
+        return Err(near.told("a unit is missing after %"));
+    };
+    if first.is_word() {
+        let seen = place(call.names, near, part)?;
+        return class_fits(Class::Numbers, single(seen, first)?, first);
+    }
     if let [second, ..] = rest {
-        return Err(second.told("a unit is a single number: % may not follow it"));
+        return Err(second.told("a unit is a single value: % may not follow it"));
     }
     match (first.amount(), call.statement) {
         (Some(amount), _) if amount <= MOST => Ok(()),
@@ -350,7 +369,16 @@ fn subject<'a>(call: Call<'_, 'a>, mark: &Token<'a>, inside: &[Token<'a>]) -> Lo
     let given = Given::of(inside);
     let file = given.token(b"FILE");
     let unit = given.unit();
+    let new = given.token(b"NEWUNIT");
     match (call.statement, unit, file) {
+        (Statement::Open, Some(_), _) => match new {
+            Some(new) => Err(new.told("OPEN takes a unit or NEWUNIT=, not both")),
+            None => Ok(()),
+        },
+        (Statement::Open, None, _) => match new {
+            Some(_) => Ok(()),
+            None => Err(mark.told("the unit is missing: it comes first, or as UNIT= or NEWUNIT=")),
+        },
         (Statement::Inquire, Some(_), Some(file)) => {
             Err(file.told("INQUIRE takes a unit or FILE=, not both"))
         }

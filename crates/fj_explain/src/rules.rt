@@ -1,4 +1,4 @@
-// Which specifiers and items of READ and WRITE go together (ISO/IEC 1539-1:2004, 9.5.1).
+// Which specifiers of OPEN, and which specifiers and items of READ and WRITE, go together (ISO/IEC 1539-1:2004, 9.4.5 and 9.5.1).
 
 use crate::call::Call;
 use crate::specifiers::Statement;
@@ -92,13 +92,29 @@ static MODES: [&str; 5] = ["BLANK", "DECIMAL", "DELIM", "PAD", "SIGN"];
 
 /// What goes together, of a line that is refused for its meaning and else right.
 pub fn rules<'a>(call: Call<'_, 'a>, inside: &[Token<'a>], items: &[Token<'a>]) -> Look<'a> {
-    if call.names.is_none() || !matches!(call.statement, Statement::Read | Statement::Write) {
+    if call.names.is_none() {
         return Ok(());
     }
     let given = Given::of(inside);
-    needs(given)?;
-    excludes(given, items)?;
-    last(call, given)
+    match call.statement {
+        Statement::Open => has_file(given),
+        Statement::Read | Statement::Write => {
+            needs(given)?;
+            excludes(given, items)?;
+            last(call, given)
+        }
+        _ => Ok(()),
+    }
+}
+
+/// NEWUNIT= has a file.
+fn has_file<'a>(given: Given<'_, 'a>) -> Look<'a> {
+    match (given.token(b"NEWUNIT"), given.token(b"FILE")) {
+        (Some(new), None) if !given.is(b"STATUS", b"SCRATCH") => {
+            Err(new.told("%= needs FILE= or STATUS='SCRATCH'"))
+        }
+        _ => Ok(()),
+    }
 }
 
 /// What is left where nothing else is wrong: a group that is none, or a width of 0 in the format of READ.

@@ -44,12 +44,13 @@ type Row = (&'static str, &'static [Statement], Value);
 const YES_NO: &[&str] = &["YES", "NO"];
 
 /// Each specifier with the statements that have it so.
-pub static SPECIFIERS: [Row; 43] = [
+pub static SPECIFIERS: [Row; 44] = [
     (
         "UNIT",
         &[Open, Close, Read, Write, Wait, Motion, Inquire],
         Value::Unit,
     ),
+    ("NEWUNIT", &[Open], Value::Place(Class::Numbers)),
     ("FILE", &[Open, Inquire], Value::File),
     (
         "STATUS",

@@ -1,5 +1,5 @@
 -- Worked cases.
-use Rattle.std.specs.Prelude.{◌≡◌, pos, negsuc, codes, true, false, Some, refl}
+use Rattle.std.specs.Prelude.{◌≡◌, pos, negsuc, codes, true, false, Some, None, refl}
 use Rattle.fj_value.specs.declared.edit.Delim.TheVariants.{Plain}
 use Rattle.fj_value.specs.declared.kind.Kind.TheVariants.{Int4, Int8, Logical, Chars}
 use Rattle.fj_value.specs.declared.value.Value.TheVariants as value
@@ -44,6 +44,10 @@ of_six = refl
 
 is_pending : value_for Logical (answer_to written Pending) ≡ value.Log true
 is_pending = refl
+
+-- NUMBER= of a unit that NEWUNIT= gave is below 0
+new_number : value_for Int4 (answer_to (connection (negsuc 9) (record { modes = modes Stream; name = codes "SCRATCH.-10" }) None false) Number) ≡ value.Int (negsuc 9)
+new_number = refl
 
 no_record : value_for Int4 (answer_to written Nextrec) ≡ value.Undefined
 no_record = refl

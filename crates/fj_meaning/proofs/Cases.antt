@@ -1,5 +1,5 @@
 -- The definitions computed at worked cases.
-use Rattle.std.proofs.Common.{◌≡◌, true, false, [], ◌∷◌, Some, None, refl, codes, pos}
+use Rattle.std.proofs.Common.{◌≡◌, true, false, [], ◌∷◌, Option, Some, None, refl, codes, pos}
 use Rattle.fj_value.specs.declared.kind.Kind.TheVariants.{Int4, Int8, Logical, Chars}
 use Rattle.fj_value.specs.declared.value.Value.TheVariants as value
 use Rattle.fj_statement.specs.declared.statement.Operand.TheVariants as operand
@@ -10,7 +10,14 @@ use Rattle.fj_meaning.specs.declared.scope.Scope.{Scope}
 use Rattle.fj_meaning.specs.Scope.{empty, named, found, members}
 use Rattle.fj_meaning.specs.Declaring.{with_declaration, with_group, is_within}
 use Rattle.fj_meaning.specs.Operands.{placed, integer_place, number, variable_meant, meant, integer_operand}
-use Rattle.fj_meaning.specs.Calls.{assigned}
+use Rattle.fj_meaning.specs.Calls.{assigned, opened}
+use Rattle.fj_meaning.specs.Units.{unit_meant}
+use Rattle.fj_modes.specs.declared.specifiers.FileStatus.{FileStatus}
+use Rattle.fj_modes.specs.declared.specifiers.FileStatus.TheVariants.{Old, Scratch}
+use Rattle.fj_modes.specs.declared.specifiers.OpenSpec.{OpenSpec}
+use Rattle.fj_statement.specs.declared.unit.UnitRef.TheVariants.{Held, New}
+use Rattle.fj_syntax.specs.declared.operand.Designator.{Designator}
+use Rattle.fj_syntax.specs.declared.written.Unit.TheVariants as unit
 use Rattle.fj_meaning.specs.Transfer.{are_few}
 
 -- `INTEGER I, A(3)` on line 1, and `NAMELIST /G/ A, I, A` on line 2
@@ -98,6 +105,56 @@ an_identifier = refl
 pub no_identifier : integer_place two_lines (record { name = codes "A"; number = None }) ≡ None
 unfolding integer_place placed found named
 no_identifier = refl
+
+-- units `I`, `A(2)`, `A` and `G`
+abbrev place_i : Designator
+place_i = record { name = codes "I"; number = None }
+
+pub a_held_unit : unit_meant two_lines (unit.Place place_i) ≡ Some (Held (record { var = 0; index = 1 }) 0)
+unfolding unit_meant integer_place placed found named
+a_held_unit = refl
+
+pub a_held_element : unit_meant two_lines (unit.Place (record { name = codes "A"; number = Some 2 })) ≡ Some (Held (record { var = 1; index = 2 }) 0)
+unfolding unit_meant integer_place placed found named
+a_held_element = refl
+
+pub no_array_unit : unit_meant two_lines (unit.Place (record { name = codes "A"; number = None })) ≡ None
+unfolding unit_meant integer_place placed found named
+no_array_unit = refl
+
+pub no_group_unit : unit_meant two_lines (unit.Place (record { name = codes "G"; number = None })) ≡ None
+unfolding unit_meant integer_place placed found named
+no_group_unit = refl
+
+-- `OPEN(NEWUNIT=I)`, with STATUS='SCRATCH', and with STATUS='OLD'
+abbrev with_status : Option FileStatus → OpenSpec
+with_status status = record {
+  file = None;
+  status = status;
+  access = None;
+  formatted = None;
+  recl = None;
+  position = None;
+  action = None;
+  blank_zero = None;
+  delim = None;
+  pad = None;
+  comma = None;
+  plus = None;
+  asynchronous = None;
+}
+
+pub no_file : opened two_lines (record { unit = unit.New place_i; what = with_status None; iostat = None }) ≡ None
+unfolding opened unit_meant integer_place placed found named
+no_file = refl
+
+pub no_old_file : opened two_lines (record { unit = unit.New place_i; what = with_status (Some Old); iostat = None }) ≡ None
+unfolding opened unit_meant integer_place placed found named
+no_old_file = refl
+
+pub a_scratch_file : opened two_lines (record { unit = unit.New place_i; what = with_status (Some Scratch); iostat = None }) ≡ Some (statement.OpenUnit (New (record { var = 0; index = 1 }) 0) (with_status (Some Scratch)) None)
+unfolding opened unit_meant integer_place placed found named
+a_scratch_file = refl
 
 -- two million elements
 pub many_elements : are_few (record { operand = operand.Whole 0; kind = Logical; count = 2000000 } ∷ []) ≡ false

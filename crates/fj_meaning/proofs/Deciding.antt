@@ -4,8 +4,8 @@ use Rattle.std.proofs.lemmas.Bool.{and_parts}
 use Rattle.std.specs.Prelude.{All}
 use Rattle.std.specs.List.{list_all}
 use Rattle.std.proofs.lemmas.List.Elements.{All-head, All-tail}
-use Rattle.fj_modes.specs.declared.unit.UnitRef.{UnitRef}
-use Rattle.fj_modes.specs.declared.unit.UnitRef.TheVariants.{Star, Number}
+use Rattle.fj_statement.specs.declared.unit.UnitRef.{UnitRef}
+use Rattle.fj_statement.specs.declared.unit.UnitRef.TheVariants.{Star}
 use Rattle.fj_format.specs.declared.item.FormatItem.{FormatItem}
 use Rattle.fj_format.specs.Unfolding.{has_width_zero}
 use Rattle.fj_statement.specs.Sound.{HasNoItems, HasNoZeroWidth, IsAllowed, IsExplicit, IsFormatted, IsVariable, MayHaveRecord}
@@ -14,6 +14,8 @@ use Rattle.fj_syntax.specs.declared.operand.Operand.TheVariants as operand
 use Rattle.fj_syntax.specs.declared.written.Format.{Format}
 use Rattle.fj_syntax.specs.declared.written.Format.TheVariants as format
 use Rattle.fj_syntax.specs.declared.written.Transfer.{Transfer}
+use Rattle.fj_syntax.specs.declared.written.Unit.{Unit}
+use Rattle.fj_syntax.specs.declared.written.Unit.TheVariants as unit
 use Rattle.fj_meaning.specs.declared.operand.Meant.{Meant}
 use Rattle.fj_meaning.specs.declared.transfer.Parts.{Parts}
 use Rattle.fj_meaning.specs.declared.scope.Scope.{Scope}
@@ -22,6 +24,7 @@ use Rattle.fj_meaning.specs.Meaning.{IsFormatOf, literal_of}
 use Rattle.fj_meaning.specs.Operands.{integer_operand, integer_place, meant, number, number_kind, signed}
 use Rattle.fj_meaning.specs.Scope.{members}
 use Rattle.fj_meaning.specs.Sound.{HasOneForm, KeepsRules, RulesAreDecided}
+use Rattle.fj_meaning.specs.Units.{unit_meant}
 use Rattle.fj_meaning.specs.Transfer.{◌implies◌, assembled, can_be_read, changes_some, control_of, given, goes_together, is_allowed, is_explicit, is_list_directed, is_place, is_star, is_true, stands_alone}
 use Rattle.fj_syntax.proofs.Holding.{bound, some_is}
 use Rattle.fj_meaning.proofs.SoundLemmas.{given_same, no_is}
@@ -123,9 +126,10 @@ read_from : (g vars : Option (List ℕ)) (f : Option Format) (items : Option (Li
 read_from g vars f None os is one places e = places
 read_from g vars f (Some items) os is one places e = all_true (list_all is_place os) (not (has_width_zero items)) places (width_from g vars f items is one e)
 
-star_from : (u : UnitRef) → is_star u ≡ true → u ≡ Star
-star_from Star h = refl
-star_from (Number n) h = cc
+star_from : (s : Scope) (u : Unit) (named : UnitRef) → unit_meant s u ≡ Some named → is_star u ≡ true → named ≡ Star
+unfolding unit_meant
+star_from s unit.Star named is h = sym (some_is Star named is)
+star_from s u named is h = cc
 
 -- ---- the rules
 
@@ -159,7 +163,7 @@ alone_from s items t p ms made is keeps =
     (all_true (given t.group implies (not (given t.format) && eqb (length t.items) 0)) _
     (implies_true (given t.group) _ (λ h. all_true (not (given t.format)) _ (ap (λ f. not (is_some f)) (keeps.form h)) (no_group h)))
     (implies_true (is_star t.unit) _ (λ h.
-    let star = star_from t.unit h in
+    let star = star_from s t.unit p.unit made.unit h in
     neither_is (given t.rec) (given t.pos) (none_given t.rec p.rec same_rec (a.star_has_no_record star)) (none_given t.pos p.pos same_pos (a.star_has_no_position star)))))
 
 allowed_from : (s : Scope) (items : Option (List FormatItem)) (t : Transfer) (p : Parts) (ms : List Meant) → IsMade s t p ms → IsFormatOf (literal_of t.format) items → KeepsRules items t p → is_allowed items t ≡ true

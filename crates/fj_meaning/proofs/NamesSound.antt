@@ -27,6 +27,7 @@ use Rattle.fj_meaning.specs.declared.scope.Scope.{Scope}
 use Rattle.fj_meaning.specs.Calls.{assigned, opened, closed, awaited, moved, inquired, goes_to, wanted}
 use Rattle.fj_meaning.specs.Declaring.{are_apart, are_new, is_free, variable, with_variables}
 use Rattle.fj_meaning.specs.Giving.{optional, each}
+use Rattle.fj_meaning.specs.Units.{has_file, subject_meant, unit_meant}
 use Rattle.fj_meaning.specs.Meaning.{meaning}
 use Rattle.fj_meaning.specs.Operands.{integer_place, integer_operand, variable_meant, meant}
 use Rattle.fj_meaning.specs.Scope.{empty, group_at, is_group, is_variable, members, named}
@@ -208,15 +209,27 @@ names_group s items (written.Assignment a) m h =
     let from = bound (meant s a.from) _ m to.2 in
     let p = passed (goes_to to.0 from.0) _ m from.2 in
     subst (NamesGroup (groups_of s)) (some_is _ m p.1) tt
-names_group s items (written.Open o) m h = let told = bound (optional (integer_place s) o.iostat) _ m h in subst (NamesGroup (groups_of s)) (some_is _ m told.2) tt
-names_group s items (written.Close c) m h = let told = bound (optional (integer_place s) c.iostat) _ m h in subst (NamesGroup (groups_of s)) (some_is _ m told.2) tt
+names_group s items (written.Open o) m h =
+    let u = bound (unit_meant s o.unit) _ m h in
+    let told = bound (optional (integer_place s) o.iostat) _ m u.2 in
+    let p = passed (has_file o.unit o.what) (Some (statement.OpenUnit u.0 o.what told.0)) m told.2 in
+    subst (NamesGroup (groups_of s)) (some_is (statement.OpenUnit u.0 o.what told.0) m p.1) tt
+names_group s items (written.Close c) m h =
+    let u = bound (unit_meant s c.unit) _ m h in
+    let told = bound (optional (integer_place s) c.iostat) _ m u.2 in
+    subst (NamesGroup (groups_of s)) (some_is _ m told.2) tt
 names_group s items (written.Wait w) m h =
-    let id = bound (optional (integer_operand s) w.what) _ m h in
+    let u = bound (unit_meant s w.unit) _ m h in
+    let id = bound (optional (integer_operand s) w.what) _ m u.2 in
     let told = bound (optional (integer_place s) w.iostat) _ m id.2 in
     subst (NamesGroup (groups_of s)) (some_is _ m told.2) tt
-names_group s items (written.Move how) m h = let told = bound (optional (integer_place s) how.iostat) _ m h in subst (NamesGroup (groups_of s)) (some_is _ m told.2) tt
+names_group s items (written.Move how) m h =
+    let u = bound (unit_meant s how.unit) _ m h in
+    let told = bound (optional (integer_place s) how.iostat) _ m u.2 in
+    subst (NamesGroup (groups_of s)) (some_is _ m told.2) tt
 names_group s items (written.Inquire i) m h =
-    let asked = bound (each (wanted s) i.asked) _ m h in
+    let about = bound (subject_meant s i.about) _ m h in
+    let asked = bound (each (wanted s) i.asked) _ m about.2 in
     let id = bound (optional (integer_operand s) i.id) _ m asked.2 in
     let told = bound (optional (integer_place s) i.iostat) _ m id.2 in
     subst (NamesGroup (groups_of s)) (some_is _ m told.2) tt

@@ -11,10 +11,16 @@ use Rattle.fj_value.specs.Kind.{fits_bits, integer_bits, IsOfKind}
 use Rattle.fj_statement.specs.declared.deck.Variable.{Variable}
 use Rattle.fj_statement.specs.declared.statement.Operand.{Operand}
 use Rattle.fj_statement.specs.declared.statement.Operand.TheVariants as operand
-use Rattle.fj_statement.specs.Sound.{IsPlace, IsOperand, IsInteger, IsIntegerPlace, IsIntegerOperand}
+use Rattle.fj_statement.specs.Sound.{IsPlace, IsOperand, IsInteger, IsIntegerPlace, IsIntegerOperand, IsUnit, IsSubject}
 use Rattle.fj_syntax.specs.declared.operand.Designator.{Designator}
 use Rattle.fj_syntax.specs.declared.operand.Operand as written
 use Rattle.fj_syntax.specs.declared.operand.Operand.TheVariants as written_as
+use Rattle.fj_syntax.specs.declared.written.Subject as asked
+use Rattle.fj_syntax.specs.declared.written.Subject.TheVariants as asked_as
+use Rattle.fj_syntax.specs.declared.written.Unit as unit
+use Rattle.fj_syntax.specs.declared.written.Unit.TheVariants as unit_as
+use Rattle.fj_statement.specs.declared.unit.Subject.{Subject}
+use Rattle.fj_statement.specs.declared.unit.UnitRef.{UnitRef}
 use Rattle.fj_meaning.specs.declared.designator.Placed.{Placed}
 use Rattle.fj_meaning.specs.declared.operand.Meant.{Meant}
 use Rattle.fj_meaning.specs.declared.scope.Found.{Found}
@@ -22,6 +28,7 @@ use Rattle.fj_meaning.specs.declared.scope.Named.{Named}
 use Rattle.fj_meaning.specs.declared.scope.Named.TheVariants as stands_for
 use Rattle.fj_meaning.specs.declared.scope.Scope.{Scope}
 use Rattle.fj_meaning.specs.Giving.{optional}
+use Rattle.fj_meaning.specs.Units.{subject_meant, unit_meant}
 use Rattle.fj_meaning.specs.Operands.{index_in, placed, is_integer, integer_place, signed, number_kind, number, element, whole, part, variable_meant, meant, is_whole, integer_operand}
 use Rattle.fj_syntax.proofs.Holding.{bound, passed, some_is}
 use Rattle.fj_meaning.specs.Scope.{found, variable_at, named}
@@ -97,6 +104,26 @@ integer_place_is s d place h =
     let b = bound (placed s d) _ place h in
     let p = passed (is_integer b.0.kind) (Some b.0.place) place b.2 in
     subst (IsIntegerPlace s.variables) (some_is b.0.place place p.1) (b.0.kind, placed_is s d b.0 b.1, is_there (integer_bits b.0.kind) p.0)
+
+-- ---- units
+
+pub unit_is : (s : Scope) (u : unit.Unit) (named : UnitRef) → unit_meant s u ≡ Some named → IsUnit s.variables named
+unfolding unit_meant
+unit_is s unit_as.Star named h = subst (IsUnit s.variables) (some_is _ named h) (tt, tt)
+unit_is s (unit_as.Number n) named h = subst (IsUnit s.variables) (some_is _ named h) (tt, tt)
+unit_is s (unit_as.Place d) named h =
+    let p = bound (integer_place s d) _ named h in
+    subst (IsUnit s.variables) (some_is _ named p.2) (integer_place_is s d p.0 p.1, tt)
+unit_is s (unit_as.New d) named h =
+    let p = bound (integer_place s d) _ named h in
+    subst (IsUnit s.variables) (some_is _ named p.2) (tt, integer_place_is s d p.0 p.1)
+
+pub subject_is : (s : Scope) (a : asked.Subject) (about : Subject) → subject_meant s a ≡ Some about → IsSubject s.variables about
+unfolding subject_meant
+subject_is s (asked_as.Unit u) about h =
+    let named = bound (unit_meant s u) _ about h in
+    subst (IsSubject s.variables) (some_is _ about named.2) (unit_is s u named.0 named.1)
+subject_is s (asked_as.File name) about h = subst (IsSubject s.variables) (some_is _ about h) tt
 
 -- ---- operands
 

@@ -11,8 +11,10 @@ use Rattle.fj_value.specs.Kind.{integer_bits, text_length}
 use Rattle.fj_modes.specs.declared.asked.Question.{Question}
 use Rattle.fj_modes.specs.declared.asked.Question.TheVariants as question
 use Rattle.fj_modes.specs.declared.asked.Wanted.{Wanted}
-use Rattle.fj_modes.specs.declared.unit.UnitRef.{UnitRef}
-use Rattle.fj_modes.specs.declared.unit.UnitRef.TheVariants.{Star}
+use Rattle.fj_statement.specs.declared.unit.UnitRef.{UnitRef}
+use Rattle.fj_statement.specs.declared.unit.UnitRef.TheVariants.{Star}
+use Rattle.fj_syntax.specs.declared.written.Unit.{Unit}
+use Rattle.fj_syntax.specs.declared.written.Unit.TheVariants as unit_as
 use Rattle.fj_format.specs.declared.item.FormatItem.{FormatItem}
 use Rattle.fj_format.specs.Unfolding.{has_width_zero}
 use Rattle.fj_statement.specs.declared.deck.Variable.{Variable}
@@ -40,6 +42,7 @@ use Rattle.fj_meaning.specs.declared.scope.Named.{Named}
 use Rattle.fj_meaning.specs.declared.scope.Named.TheVariants as stands_for
 use Rattle.fj_meaning.specs.declared.scope.Scope.{Scope}
 use Rattle.fj_meaning.specs.Giving.{optional, each}
+use Rattle.fj_meaning.specs.Units.{has_file, subject_meant, unit_meant}
 use Rattle.fj_meaning.specs.Operands.{is_whole, placed, integer_place, element, whole, part, variable_meant, meant, integer_operand}
 use Rattle.fj_meaning.specs.Calls.{takes, takes_literal, goes_from, goes_to, assigned, opened, closed, awaited, moved, is_logical, is_characters, suits, wanted, inquired}
 use Rattle.fj_meaning.specs.Transfer.{◌implies◌, given, is_true, is_list_directed, is_explicit, is_place, is_star, changes_some, goes_together, stands_alone, can_be_read, is_allowed, size_of, elements, bytes, are_few, parts, parts_with, control_of, assembled, transferred, is_short, of_items, fits}
@@ -47,7 +50,7 @@ use Rattle.fj_meaning.specs.Meaning.{literal_of, IsFormatOf, meaning, is_within_
 use Rattle.fj_meaning.specs.Scope.{found, members, group_at, named}
 use Rattle.fj_meaning.specs.Sound.{IsSoundScope, MeaningIsSound}
 use Rattle.fj_syntax.proofs.Holding.{bound, passed, some_is}
-use Rattle.fj_meaning.proofs.SoundLemmas.{no_is, is_there, placed_is, integer_place_is, variable_is, meant_is, integer_operand_is, given_is, given_same}
+use Rattle.fj_meaning.proofs.SoundLemmas.{unit_is, subject_is, no_is, is_there, placed_is, integer_place_is, variable_is, meant_is, integer_operand_is, given_is, given_same}
 
 -- ---- assignments
 
@@ -148,10 +151,12 @@ each_length f (x ∷ xs) ys h =
 inquired_is : (s : Scope) (i : Inquire) (m : Statement) → inquired s i ≡ Some m → IsSoundStatement s.variables m
 unfolding inquired
 inquired_is s i m h =
-    let asked = bound (each (wanted s) i.asked) _ m h in
+    let about = bound (subject_meant s i.about) _ m h in
+    let asked = bound (each (wanted s) i.asked) _ m about.2 in
     let id = bound (optional (integer_operand s) i.id) _ m asked.2 in
     let told = bound (optional (integer_place s) i.iostat) _ m id.2 in
-    subst (IsSoundStatement s.variables) (some_is (statement.Inquire i.about asked.0 id.0 told.0) m told.2) (record {
+    subst (IsSoundStatement s.variables) (some_is (statement.Inquire about.0 asked.0 id.0 told.0) m told.2) (record {
+      subject_is = subject_is s i.about about.0 about.1;
       questions = each_is (wanted s) (IsAsked s.variables) (wanted_is s) i.asked asked.0 asked.1;
       id_is = given_is (integer_operand s) (IsIntegerOperand s.variables) (integer_operand_is s) i.id id.0 id.1;
       iostat_is = given_is (integer_place s) (IsIntegerPlace s.variables) (integer_place_is s) i.iostat told.0 told.1;
@@ -290,8 +295,12 @@ group_is s os ms None vars f (Some items) h rule = tt
 group_is s os ms None vars (Some f) None h rule = tt
 group_is s os ms None vars None None h rule = tt
 
-star_is : (u : UnitRef) → u ≡ Star → is_star u ≡ true
-star_is u e = ap is_star e
+star_is : (s : Scope) (u : Unit) (named : UnitRef) → unit_meant s u ≡ Some named → named ≡ Star → is_star u ≡ true
+unfolding unit_meant
+star_is s unit_as.Star named h e = refl
+star_is s (unit_as.Number n) named h e = cc
+star_is s (unit_as.Place d) named h e = let p = bound (integer_place s d) _ named h in let held = p.2 in cc
+star_is s (unit_as.New d) named h e = let p = bound (integer_place s d) _ named h in let new = p.2 in cc
 
 all_at : {A : Type 0} (P : A → Type 0) (xs : List A) (n : ℕ) (x : A) → All P xs → slice_get xs n ≡ Some x → P x
 all_at P xs n x all h = subst P (get_or_from_slice_get xs n x x h) (all n x (slice_get_within xs n x h))
@@ -327,6 +336,7 @@ has_members s sound None vars None None h = no_members s.variables
 
 -- what a transfer is made of
 pub record IsMade (s : Scope) (t : Transfer) (p : Parts) (ms : List Meant) : Type 0 where
+  pub unit : unit_meant s t.unit ≡ Some p.unit
   pub group : optional (members s) t.group ≡ Some p.group
   pub each_is : each (meant s) t.items ≡ Some ms
   pub items : map what ms ≡ p.items
@@ -340,15 +350,17 @@ pub made_is : (s : Scope) (t : Transfer) (p : Parts) → parts s t ≡ Some p �
 unfolding parts parts_with
 made_is s t p h =
     let ms = bound (each (meant s) t.items) _ p h in
-    let g = bound (optional (members s) t.group) _ p ms.2 in
+    let u = bound (unit_meant s t.unit) _ p ms.2 in
+    let g = bound (optional (members s) t.group) _ p u.2 in
     let rec = bound (optional (integer_operand s) t.rec) _ p g.2 in
     let pos = bound (optional (integer_operand s) t.pos) _ p rec.2 in
     let id = bound (optional (integer_place s) t.id) _ p pos.2 in
     let size = bound (optional (integer_place s) t.size) _ p id.2 in
     let told = bound (optional (integer_place s) t.iostat) _ p size.2 in
-    let made : record { group = g.0; items = map what ms.0; rec = rec.0; pos = pos.0; id = id.0; size = size.0; iostat = told.0 } ≡ p = some_is _ p told.2 in (
+    let made : record { unit = u.0; group = g.0; items = map what ms.0; rec = rec.0; pos = pos.0; id = id.0; size = size.0; iostat = told.0 } ≡ p = some_is _ p told.2 in (
       ms.0,
       subst (λ q. IsMade s t q ms.0) made (record {
+        unit = u.1;
         group = g.1;
         each_is = ms.1;
         items = refl;
@@ -378,7 +390,7 @@ allowed_is s items t p ms made is rules =
     let same_group : is_some p.group ≡ is_some g = given_same (members s) g p.group made.group in
     let mode = λ (x : changes_some t ≡ true). formatted_is g p.group f items is same_group (implied (changes_some t) (given f || given g) advance_rule.1 x) in
     let alone = λ (h : IsSome p.rec). neither (given t.pos) (is_list_directed f || given g) (implied (given t.rec) _ rec_rule.0 (sym same_rec ∙ some_true p.rec h)) in
-    let star = λ (h : t.unit ≡ Star). neither (given t.rec) (given t.pos) (implied (is_star t.unit) _ group_rule.1 (star_is t.unit h)) in
+    let star = λ (h : p.unit ≡ Star). neither (given t.rec) (given t.pos) (implied (is_star t.unit) _ group_rule.1 (star_is s t.unit p.unit made.unit h)) in
     let read = λ (h : t.input ≡ true). implied t.input (can_be_read items t.items) b.1 h in
     record {
       id_needs_asynchronous = λ h. true_is t.asynchronous (implied (given t.id) _ id_rule.0 (sym (given_same (integer_place s) t.id p.id made.id) ∙ some_true p.id h));
@@ -418,6 +430,7 @@ transferred_is s sound items t m is h limits =
     let made = made_is s t p.0 p.1 in
     let few : are_few made.0 ≡ true = sym (ap of_items made.1.each_is) ∙ (and_parts (is_short items) (of_items (each (meant s) t.items)) limits).1 in
     subst (IsSoundStatement s.variables) (some_is (statement.Transfer (assembled items t p.0)) m r.1) (record {
+      unit_is = unit_is s t.unit p.0.unit made.1.unit;
       allowed = allowed_is s items t p.0 made.0 made.1 is r.0;
       items = subst (IsList s.variables) made.1.items (list_is s t.items made.0 made.1.each_is few);
       members = has_members s sound t.group p.0.group t.format items made.1.group;
@@ -435,19 +448,27 @@ meant_sound : (s : Scope) → IsSoundScope s → (items : Option (List FormatIte
 unfolding meaning is_within_limits opened closed awaited moved
 meant_sound s sound items (written.Assignment a) m is h limits = assigned_is s a m h
 meant_sound s sound items (written.Open o) m is h limits =
-    let told = bound (optional (integer_place s) o.iostat) _ m h in
-    subst (IsSoundStatement s.variables) (some_is _ m told.2) (given_is (integer_place s) (IsIntegerPlace s.variables) (integer_place_is s) o.iostat told.0 told.1)
+    let u = bound (unit_meant s o.unit) _ m h in
+    let told = bound (optional (integer_place s) o.iostat) _ m u.2 in
+    let p = passed (has_file o.unit o.what) (Some (statement.OpenUnit u.0 o.what told.0)) m told.2 in
+    subst (IsSoundStatement s.variables) (some_is (statement.OpenUnit u.0 o.what told.0) m p.1)
+    (unit_is s o.unit u.0 u.1, given_is (integer_place s) (IsIntegerPlace s.variables) (integer_place_is s) o.iostat told.0 told.1)
 meant_sound s sound items (written.Close c) m is h limits =
-    let told = bound (optional (integer_place s) c.iostat) _ m h in
-    subst (IsSoundStatement s.variables) (some_is _ m told.2) (given_is (integer_place s) (IsIntegerPlace s.variables) (integer_place_is s) c.iostat told.0 told.1)
+    let u = bound (unit_meant s c.unit) _ m h in
+    let told = bound (optional (integer_place s) c.iostat) _ m u.2 in
+    subst (IsSoundStatement s.variables) (some_is _ m told.2)
+    (unit_is s c.unit u.0 u.1, given_is (integer_place s) (IsIntegerPlace s.variables) (integer_place_is s) c.iostat told.0 told.1)
 meant_sound s sound items (written.Wait w) m is h limits =
-    let id = bound (optional (integer_operand s) w.what) _ m h in
+    let u = bound (unit_meant s w.unit) _ m h in
+    let id = bound (optional (integer_operand s) w.what) _ m u.2 in
     let told = bound (optional (integer_place s) w.iostat) _ m id.2 in
     subst (IsSoundStatement s.variables) (some_is _ m told.2)
-    (given_is (integer_operand s) (IsIntegerOperand s.variables) (integer_operand_is s) w.what id.0 id.1, given_is (integer_place s) (IsIntegerPlace s.variables) (integer_place_is s) w.iostat told.0 told.1)
+    (unit_is s w.unit u.0 u.1, given_is (integer_operand s) (IsIntegerOperand s.variables) (integer_operand_is s) w.what id.0 id.1, given_is (integer_place s) (IsIntegerPlace s.variables) (integer_place_is s) w.iostat told.0 told.1)
 meant_sound s sound items (written.Move how) m is h limits =
-    let told = bound (optional (integer_place s) how.iostat) _ m h in
-    subst (IsSoundStatement s.variables) (some_is _ m told.2) (given_is (integer_place s) (IsIntegerPlace s.variables) (integer_place_is s) how.iostat told.0 told.1)
+    let u = bound (unit_meant s how.unit) _ m h in
+    let told = bound (optional (integer_place s) how.iostat) _ m u.2 in
+    subst (IsSoundStatement s.variables) (some_is _ m told.2)
+    (unit_is s how.unit u.0 u.1, given_is (integer_place s) (IsIntegerPlace s.variables) (integer_place_is s) how.iostat told.0 told.1)
 meant_sound s sound items (written.Inquire i) m is h limits = inquired_is s i m h
 meant_sound s sound items (written.Transfer t) m is h limits = transferred_is s sound items t m is h limits
 meant_sound s sound items written.End m is h limits = subst (IsSoundStatement s.variables) (some_is statement.End m h) tt

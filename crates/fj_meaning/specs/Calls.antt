@@ -11,7 +11,7 @@ use Rattle.fj_statement.specs.declared.statement.Statement.{Statement}
 use Rattle.fj_statement.specs.declared.statement.Statement.TheVariants as statement
 use Rattle.fj_syntax.specs.declared.written.Assignment.{Assignment}
 use Rattle.fj_modes.specs.declared.specifiers.OpenSpec.{OpenSpec}
-use Rattle.fj_modes.specs.declared.unit.Motion.{Motion}
+use Rattle.fj_modes.specs.declared.motion.Motion.{Motion}
 use Rattle.fj_syntax.specs.declared.operand.Operand.{Operand as Given}
 use Rattle.fj_syntax.specs.declared.written.OnUnit.{OnUnit}
 use Rattle.fj_syntax.specs.declared.written.Asking.{Asking}
@@ -20,6 +20,7 @@ use Rattle.fj_meaning.specs.declared.operand.Meant.{Meant}
 use Rattle.fj_meaning.specs.declared.scope.Scope.{Scope}
 use Rattle.fj_meaning.specs.Giving.{◌>>=◌, optional, each}
 use Rattle.fj_meaning.specs.Operands.{is_integer, is_whole, placed, integer_place, variable_meant, meant, integer_operand}
+use Rattle.fj_meaning.specs.Units.{has_file, subject_meant, unit_meant}
 
 -- ---- assignments
 
@@ -55,24 +56,28 @@ assigned s a = do
 
 unfoldable pub opened : Scope → OnUnit OpenSpec → Option Statement
 opened s o = do
+  u ← unit_meant s o.unit
   i ← optional (integer_place s) o.iostat
-  Some (statement.OpenUnit o.unit o.what i)
+  if has_file o.unit o.what then Some (statement.OpenUnit u o.what i) else None
 
 unfoldable pub closed : Scope → OnUnit (Option Bool) → Option Statement
 closed s c = do
+  u ← unit_meant s c.unit
   i ← optional (integer_place s) c.iostat
-  Some (statement.CloseUnit c.unit c.what i)
+  Some (statement.CloseUnit u c.what i)
 
 unfoldable pub awaited : Scope → OnUnit (Option Given) → Option Statement
 awaited s w = do
+  u ← unit_meant s w.unit
   id ← optional (integer_operand s) w.what
   i ← optional (integer_place s) w.iostat
-  Some (statement.WaitFor w.unit id i)
+  Some (statement.WaitFor u id i)
 
 unfoldable pub moved : Scope → OnUnit Motion → Option Statement
 moved s m = do
+  u ← unit_meant s m.unit
   i ← optional (integer_place s) m.iostat
-  Some (statement.Move m.what m.unit i)
+  Some (statement.Move m.what u i)
 
 -- ---- INQUIRE
 
@@ -113,7 +118,8 @@ wanted s a = do
 
 unfoldable pub inquired : Scope → Inquire → Option Statement
 inquired s i = do
+  about ← subject_meant s i.about
   asked ← each (wanted s) i.asked
   id ← optional (integer_operand s) i.id
   iostat ← optional (integer_place s) i.iostat
-  Some (statement.Inquire i.about asked id iostat)
+  Some (statement.Inquire about asked id iostat)

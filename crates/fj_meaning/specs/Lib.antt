@@ -3,6 +3,7 @@ pub mod Scope
 pub mod Declaring
 pub mod Index
 pub mod Operands
+pub mod Units
 pub mod Calls
 pub mod Transfer
 pub mod Meaning

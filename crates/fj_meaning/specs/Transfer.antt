@@ -5,8 +5,6 @@ use Rattle.fj_value.specs.declared.kind.Kind.{Kind}
 use Rattle.fj_value.specs.declared.kind.Kind.TheVariants.{Int4, Int8, Logical, Chars}
 use Rattle.fj_format.specs.declared.item.FormatItem.{FormatItem}
 use Rattle.fj_format.specs.Unfolding.{has_width_zero, pass}
-use Rattle.fj_modes.specs.declared.unit.UnitRef.{UnitRef}
-use Rattle.fj_modes.specs.declared.unit.UnitRef.TheVariants as unit
 use Rattle.fj_statement.specs.declared.statement.Control.{Control}
 use Rattle.fj_statement.specs.declared.statement.Control.TheVariants as control
 use Rattle.fj_statement.specs.declared.statement.Transfer.{Transfer}
@@ -17,6 +15,8 @@ use Rattle.fj_syntax.specs.declared.operand.Operand.TheVariants as operand_as
 use Rattle.fj_syntax.specs.declared.written.Format.{Format}
 use Rattle.fj_syntax.specs.declared.written.Format.TheVariants as format
 use Rattle.fj_syntax.specs.declared.written.Transfer as written
+use Rattle.fj_syntax.specs.declared.written.Unit.{Unit}
+use Rattle.fj_syntax.specs.declared.written.Unit.TheVariants as unit
 use Rattle.fj_meaning.specs.declared.operand.Meant.{Meant}
 use Rattle.fj_statement.specs.declared.statement.Operand.{Operand}
 use Rattle.fj_meaning.specs.declared.transfer.Parts.{Parts}
@@ -24,6 +24,7 @@ use Rattle.fj_meaning.specs.declared.scope.Scope.{Scope}
 use Rattle.fj_meaning.specs.Giving.{◌>>=◌, optional, each}
 use Rattle.fj_meaning.specs.Operands.{integer_place, meant, integer_operand}
 use Rattle.fj_meaning.specs.Scope.{members}
+use Rattle.fj_meaning.specs.Units.{unit_meant}
 
 -- ---- the rules on specifiers and items
 
@@ -50,9 +51,9 @@ abbrev pub is_place : operand.Operand → Bool
 is_place (operand_as.Place d) = true
 is_place o = false
 
-abbrev pub is_star : UnitRef → Bool
+abbrev pub is_star : Unit → Bool
 is_star unit.Star = true
-is_star (unit.Number n) = false
+is_star u = false
 
 -- BLANK=, DECIMAL=, DELIM=, PAD= or SIGN= stands
 abbrev pub changes_some : written.Transfer → Bool
@@ -107,13 +108,14 @@ are_few ms = nat_le (elements ms) 1000000 && nat_le (bytes ms) 16777216
 -- with these items
 unfoldable pub parts_with : Scope → written.Transfer → List Operand → Option Parts
 parts_with s t items = do
+  u ← unit_meant s t.unit
   g ← optional (members s) t.group
   rec ← optional (integer_operand s) t.rec
   pos ← optional (integer_operand s) t.pos
   id ← optional (integer_place s) t.id
   size ← optional (integer_place s) t.size
   iostat ← optional (integer_place s) t.iostat
-  Some (record { group = g; items = items; rec = rec; pos = pos; id = id; size = size; iostat = iostat })
+  Some (record { unit = u; group = g; items = items; rec = rec; pos = pos; id = id; size = size; iostat = iostat })
 
 unfoldable pub parts : Scope → written.Transfer → Option Parts
 parts s t = each (meant s) t.items >>= (λ ms. parts_with s t (map (λ m. m.operand) ms))
@@ -128,7 +130,7 @@ control_of g vars None None = control.Unformatted
 abbrev pub assembled : Option (List FormatItem) → written.Transfer → Parts → Transfer
 assembled items t p = record {
   input = t.input;
-  unit = t.unit;
+  unit = p.unit;
   control = control_of t.group p.group t.format items;
   items = p.items;
   advance = t.advance;

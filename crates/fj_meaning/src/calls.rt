@@ -8,6 +8,7 @@ use crate::designator::{designated, integer_place, is_integer};
 use crate::fault::Fault;
 use crate::names::Names;
 use crate::operand::integer_operand;
+use crate::unit::{has_file, subject_meant, unit_meant};
 use fj_modes::{Asked, Motion, OpenSpec, Question, Wanted};
 use fj_statement::{Operand, Statement};
 use fj_syntax::{Asking, Designator, Inquire, OnUnit};
@@ -50,9 +51,16 @@ pub fn optional_operand(
 pub fn opened(names: &Names, statement: OnUnit<OpenSpec>) -> Result<Statement, Fault>
     ensures { Gives result (opened names.now statement) }
 {
-    let OnUnit { unit, what, iostat } = statement;
+    let OnUnit {
+        unit: written,
+        what: spec,
+        iostat,
+    } = statement;
+    let unit = unit_meant(names, &written)?;
     let iostat = optional_place(names, &iostat)?;
-    let spec = what;
+    if !has_file(&written, &spec) {
+        return Err(Fault::NoMeaning);
+    }
     Ok(Statement::OpenUnit { unit, spec, iostat })
 }
 
@@ -61,6 +69,7 @@ pub fn closed(names: &Names, close: OnUnit<Option<bool>>) -> Result<Statement, F
     ensures { Gives result (closed names.now close) }
 {
     let OnUnit { unit, what, iostat } = close;
+    let unit = unit_meant(names, &unit)?;
     let iostat = optional_place(names, &iostat)?;
     let keep = what;
     Ok(Statement::CloseUnit { unit, keep, iostat })
@@ -71,6 +80,7 @@ pub fn awaited(names: &Names, wait: OnUnit<Option<fj_syntax::Operand>>) -> Resul
     ensures { Gives result (awaited names.now wait) }
 {
     let OnUnit { unit, what, iostat } = wait;
+    let unit = unit_meant(names, &unit)?;
     let id = optional_operand(names, &what)?;
     let iostat = optional_place(names, &iostat)?;
     Ok(Statement::WaitFor { unit, id, iostat })
@@ -81,6 +91,7 @@ pub fn moved(names: &Names, motion: OnUnit<Motion>) -> Result<Statement, Fault>
     ensures { Gives result (moved names.now motion) }
 {
     let OnUnit { unit, what, iostat } = motion;
+    let unit = unit_meant(names, &unit)?;
     let iostat = optional_place(names, &iostat)?;
     let how = what;
     Ok(Statement::Move { how, unit, iostat })
@@ -148,6 +159,7 @@ pub fn inquired(alloc: Global, names: &Names, inquire: Inquire) -> Result<Statem
         id,
         iostat,
     } = inquire;
+    let about = subject_meant(names, about)?;
     let asked = all_wanted(alloc, names, &asked)?;
     let id = optional_operand(names, &id)?;
     let iostat = optional_place(names, &iostat)?;

@@ -16,6 +16,7 @@ mod operand;
 mod rules;
 mod scope;
 mod transfer;
+mod unit;
 
 pub use fault::Fault;
 pub use laws::{meaning_is_sound, one_meaning, rules_are_decided};

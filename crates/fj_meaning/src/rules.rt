@@ -1,11 +1,10 @@
 // Which specifiers and items of READ and WRITE go together (ISO/IEC 1539-1:2004, 9.5.1).
 ghost use Rattle.std.specs.Prelude.{◌≡◌};
 ghost use Rattle.std.specs.List.{list_all};
-ghost use Rattle.fj_meaning.specs.Transfer.{is_true, is_list_directed, is_explicit, is_place, changes_some, goes_together, stands_alone, can_be_read, is_allowed};
+ghost use Rattle.fj_meaning.specs.Transfer.{is_true, is_list_directed, is_explicit, is_place, is_star, changes_some, goes_together, stands_alone, can_be_read, is_allowed};
 
 use fj_format::{FormatItems, has_width_zero};
-use fj_modes::UnitRef;
-use fj_syntax::{Format, Operand, Transfer};
+use fj_syntax::{Format, Operand, Transfer, Unit};
 
 fn is_list_directed(format: &Option<Format>) -> bool
     ensures { result ≡ is_list_directed format.now }
@@ -23,6 +22,12 @@ fn is_place(operand: &Operand) -> bool
     ensures { result ≡ is_place operand.now }
 {
     matches!(operand, Operand::Place(_))
+}
+
+fn is_star(unit: &Unit) -> bool
+    ensures { result ≡ is_star unit.now }
+{
+    matches!(unit, Unit::Star)
 }
 
 fn changes_some(transfer: &Transfer) -> bool
@@ -64,7 +69,7 @@ fn stands_alone(transfer: &Transfer) -> bool
     if group && (transfer.format.is_some() || !transfer.items.is_empty()) {
         return false;
     }
-    !(transfer.unit == UnitRef::Star && (rec || pos))
+    !(is_star(&transfer.unit) && (rec || pos))
 }
 
 fn are_places(operands: &[Operand]) -> bool

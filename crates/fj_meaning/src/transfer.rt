@@ -13,14 +13,16 @@ use crate::items::choose;
 use crate::limits::narrow;
 use crate::names::Names;
 use crate::rules::is_allowed;
+use crate::unit::unit_meant;
 use fj_format::{Format, FormatFault, FormatItems, parse_items};
-use fj_statement::{Control, Operand, Operands, Statement, Transfer, Vars};
+use fj_statement::{Control, Operand, Operands, Statement, Transfer, UnitRef, Vars};
 use fj_value::{Items, Place, Text};
 use std::alloc::{AllocError, Global};
 
 /// What the names in a transfer stand for.
 #[derive(Drop)]
 pub struct Parts {
+    pub unit: UnitRef,
     /// The members of its group.
     pub group: Option<Vars>,
     pub items: Operands,
@@ -85,6 +87,7 @@ fn parts_with(
 ) -> Result<Parts, Fault>
     ensures { Gives result (parts_with names.now transfer.now items) }
 {
+    let unit = unit_meant(names, &transfer.unit)?;
     let group = optional_group(names, &transfer.group)?;
     let rec = optional_operand(names, &transfer.rec)?;
     let pos = optional_operand(names, &transfer.pos)?;
@@ -92,6 +95,7 @@ fn parts_with(
     let size = optional_place(names, &transfer.size)?;
     let iostat = optional_place(names, &transfer.iostat)?;
     Ok(Parts {
+        unit,
         group,
         items,
         rec,
@@ -161,7 +165,7 @@ fn assembled(
     let control = control_of(alloc, group, parts.group, &transfer.format, items)?;
     Ok(Statement::Transfer(Transfer {
         input: transfer.input,
-        unit: transfer.unit,
+        unit: parts.unit,
         control,
         items: parts.items,
         advance: transfer.advance,

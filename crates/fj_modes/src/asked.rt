@@ -1,7 +1,5 @@
 // What INQUIRE asks for.
 
-use crate::file_name::FileName;
-use crate::unit::UnitRef;
 use fj_value::{Items, Kind, Place};
 
 /// A property that INQUIRE tells (ISO/IEC 1539-1:2004, 9.9.1), named as its specifier.
@@ -38,10 +36,3 @@ pub struct Wanted {
 
 /// The questions of one INQUIRE statement, in order.
 pub type Asked = Items<Wanted>;
-
-/// What an INQUIRE statement asks about: a unit or a file.
-#[derive(Drop)]
-pub enum Subject {
-    Unit(UnitRef),
-    File(FileName),
-}

@@ -7,12 +7,12 @@ mod file_name;
 mod laws;
 mod limits;
 mod modes;
+mod motion;
 mod settle;
 mod specifiers;
-mod unit;
 mod words;
 
-pub use asked::{Asked, Question, Subject, Wanted};
+pub use asked::{Asked, Question, Wanted};
 pub use edit::usual_edit;
 pub use file_name::{FileName, is_file_name};
 pub use laws::{
@@ -21,7 +21,7 @@ pub use laws::{
 };
 pub use limits::{LONGEST_FILE, LONGEST_FORMATTED, LONGEST_UNFORMATTED, limits_are_named};
 pub use modes::Modes;
+pub use motion::Motion;
 pub use settle::settle_open;
 pub use specifiers::{Access, Action, FileStatus, OpenSpec, Start};
-pub use unit::{Motion, UnitRef};
 pub use words::{Answer, Blank, Decimal, Disposition, Form, Sign, WordKind, look_up};

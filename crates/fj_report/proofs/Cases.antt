@@ -75,6 +75,9 @@ one_9 = decimal_digit 9 (lit< tt)
 one_0 : decimal 0 ≡ (48 + 0) ∷ []
 one_0 = decimal_digit 0 (lit< tt)
 
+two_10 : decimal 10 ≡ 49 ∷ 48 ∷ []
+two_10 = decimal_step 10 (omega arith) (omega arith) ∙ ap (λ xs. xs ++ 48 ∷ []) one_1
+
 two_14 : decimal 14 ≡ 49 ∷ 52 ∷ []
 two_14 = decimal_step 14 (omega arith) (omega arith) ∙ ap (λ xs. xs ++ 52 ∷ []) one_1
 
@@ -92,6 +95,7 @@ pub record LinesAreRight : Type 0 where
   pub nothing : status_text Memory ≡ []
   pub check : check_text 2 ≡ codes "= deck of 2 statements\n"
   pub told : trace_text 8 (pos 5) 3 (negsuc 0) ≡ codes "~ 8 5 3 -1\n"
+  pub told_of_new : trace_text 8 (negsuc 9) 3 (pos 0) ≡ codes "~ 8 -10 3 0\n"
   pub summed : summary_text (record { seed = 1; count = 2; statements = 9; tells = 2; conditions = 0; bytes = 14; sum = 531 })
       ≡ codes "= gen seed 1 count 2: 9 statements, 2 tells, 0 conditions, 14 bytes, sum 531\n"
   pub nothing_summed : summary_text (record { seed = 0; count = 0; statements = 5; tells = 0; conditions = 0; bytes = 0; sum = 0 })
@@ -116,6 +120,7 @@ lines_are_right = record {
   nothing = refl;
   check = rw one_2 refl;
   told = rw (one_8, one_5, one_3, one_1) refl;
+  told_of_new = rw (one_8, two_10, one_3, one_0) refl;
   summed = rw (one_0, one_1, one_2, one_9, two_14, three_531) refl;
   nothing_summed = rw (one_0, one_5) refl;
   scalar = rw one_5 refl;

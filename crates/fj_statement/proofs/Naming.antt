@@ -13,8 +13,12 @@ use Rattle.fj_statement.specs.declared.deck.Variable.{Variable}
 use Rattle.fj_statement.specs.declared.statement.Operand.{Operand}
 use Rattle.fj_statement.specs.declared.statement.Operand.TheVariants as operand
 use Rattle.fj_statement.specs.declared.statement.Statement.TheVariants as statement
-use Rattle.fj_statement.specs.Sound.{Variables, AreItems, AreWithin, IsAsked, IsIntegerOperand, IsIntegerPlace, IsOperand, members_of, places_at, places_of}
-use Rattle.fj_statement.specs.Naming.{ElementsAreFew, IsSomePlace, MembersAreFew, PlacesAreFew, PlacesAreThere, VariablesAreThere, array_of, elements_of, if_given, place_given, place_of}
+use Rattle.fj_statement.specs.declared.unit.UnitRef.{UnitRef}
+use Rattle.fj_statement.specs.declared.unit.Subject.{Subject}
+use Rattle.fj_statement.specs.declared.unit.Subject.TheVariants as subject
+use Rattle.fj_statement.specs.Units.{place_held, place_new}
+use Rattle.fj_statement.specs.Sound.{Variables, AreItems, AreWithin, IsAsked, IsIntegerOperand, IsIntegerPlace, IsOperand, IsSubject, IsUnit, members_of, places_at, places_of}
+use Rattle.fj_statement.specs.Naming.{ElementsAreFew, IsSomePlace, MembersAreFew, PlacesAreFew, PlacesAreThere, VariablesAreThere, array_of, elements_of, if_given, place_given, place_of, subject_places, unit_places}
 
 -- ---- places
 
@@ -41,18 +45,26 @@ item_places vs [] shapes are = All-nil (IsSomePlace vs)
 item_places vs (o ∷ os) [] are = absurd are
 item_places vs (o ∷ os) (s ∷ shapes) are = All-append (IsSomePlace vs) (place_of o) (flat_map place_of os) (operand_place vs o s.0 s.1 are.0) (item_places vs os shapes are.1)
 
+unit_there : (vs : Variables) (u : UnitRef) → IsUnit vs u → All (IsSomePlace vs) (unit_places u)
+unit_there vs u is = All-append (IsSomePlace vs) (if_given (place_held u)) (if_given (place_new u)) (given_place vs (place_held u) is.0) (given_place vs (place_new u) is.1)
+
+subject_there : (vs : Variables) (about : Subject) → IsSubject vs about → All (IsSomePlace vs) (subject_places about)
+subject_there vs (subject.Unit u) is = unit_there vs u is
+subject_there vs (subject.File name) is = All-nil (IsSomePlace vs)
+
 pub places_there : PlacesAreThere
 places_there vs (statement.Assign to from) is =
     All-append (IsSomePlace vs) (place_of to) (place_of from) (operand_place vs to is.to_kind is.to_count is.to_is) (operand_place vs from is.from_kind is.from_count is.from_is)
-places_there vs (statement.OpenUnit unit spec iostat) is = given_place vs iostat is
-places_there vs (statement.CloseUnit unit keep iostat) is = given_place vs iostat is
-places_there vs (statement.WaitFor unit id iostat) is = All-append (IsSomePlace vs) (place_given id) (if_given iostat) (given_operand vs id is.0) (given_place vs iostat is.1)
-places_there vs (statement.Move how unit iostat) is = given_place vs iostat is
+places_there vs (statement.OpenUnit u spec iostat) is = All-append (IsSomePlace vs) (unit_places u) (if_given iostat) (unit_there vs u is.0) (given_place vs iostat is.1)
+places_there vs (statement.CloseUnit u keep iostat) is = All-append (IsSomePlace vs) (unit_places u) (if_given iostat) (unit_there vs u is.0) (given_place vs iostat is.1)
+places_there vs (statement.WaitFor u id iostat) is = All-append (IsSomePlace vs) (unit_places u ++ place_given id) (if_given iostat) (All-append (IsSomePlace vs) (unit_places u) (place_given id) (unit_there vs u is.0) (given_operand vs id is.1)) (given_place vs iostat is.2)
+places_there vs (statement.Move how u iostat) is = All-append (IsSomePlace vs) (unit_places u) (if_given iostat) (unit_there vs u is.0) (given_place vs iostat is.1)
 places_there vs (statement.Inquire about asked id iostat) is =
     let answers = map (λ (w : Wanted). w.place) asked in
-    All-append (IsSomePlace vs) (answers ++ place_given id) (if_given iostat)
-    (All-append (IsSomePlace vs) answers (place_given id)
-    (All-map (IsSomePlace vs) (λ (w : Wanted). w.place) asked (All-weaker (IsAsked vs) (λ w. IsSomePlace vs w.place) (λ w asks. (w.kind, asks.place)) asked is.questions))
+    All-append (IsSomePlace vs) (subject_places about ++ answers ++ place_given id) (if_given iostat)
+    (All-append (IsSomePlace vs) (subject_places about ++ answers) (place_given id)
+    (All-append (IsSomePlace vs) (subject_places about) answers (subject_there vs about is.subject_is)
+    (All-map (IsSomePlace vs) (λ (w : Wanted). w.place) asked (All-weaker (IsAsked vs) (λ w. IsSomePlace vs w.place) (λ w asks. (w.kind, asks.place)) asked is.questions)))
     (given_operand vs id is.id_is))
     (given_place vs iostat is.iostat_is)
 places_there vs (statement.Transfer t) is =
@@ -60,7 +72,8 @@ places_there vs (statement.Transfer t) is =
     let record_place = items ++ place_given t.rec in
     let position = record_place ++ place_given t.pos in
     let identifier = position ++ if_given t.id in
-    All-append (IsSomePlace vs) (identifier ++ if_given t.size) (if_given t.iostat)
+    All-append (IsSomePlace vs) (unit_places t.unit) (identifier ++ if_given t.size ++ if_given t.iostat) (unit_there vs t.unit is.unit_is)
+    (All-append (IsSomePlace vs) (identifier ++ if_given t.size) (if_given t.iostat)
     (All-append (IsSomePlace vs) identifier (if_given t.size)
     (All-append (IsSomePlace vs) position (if_given t.id)
     (All-append (IsSomePlace vs) record_place (place_given t.pos)
@@ -68,7 +81,7 @@ places_there vs (statement.Transfer t) is =
     (given_operand vs t.pos is.pos))
     (given_place vs t.id is.id))
     (given_place vs t.size is.size))
-    (given_place vs t.iostat is.iostat)
+    (given_place vs t.iostat is.iostat))
 places_there vs statement.End is = All-nil (IsSomePlace vs)
 
 -- ---- variables

@@ -5,6 +5,10 @@ use Rattle.fj_value.specs.declared.kind.Kind.{Kind}
 use Rattle.fj_value.specs.declared.place.Place.{Place}
 use Rattle.fj_modes.specs.declared.asked.Wanted.{Wanted}
 use Rattle.fj_statement.specs.declared.deck.Variable.{Variable}
+use Rattle.fj_statement.specs.declared.unit.UnitRef.{UnitRef}
+use Rattle.fj_statement.specs.declared.unit.Subject.{Subject}
+use Rattle.fj_statement.specs.declared.unit.Subject.TheVariants as subject
+use Rattle.fj_statement.specs.Units.{place_held, place_new}
 use Rattle.fj_statement.specs.declared.statement.Operand.{Operand}
 use Rattle.fj_statement.specs.declared.statement.Operand.TheVariants as operand
 use Rattle.fj_statement.specs.declared.statement.Transfer.{Transfer}
@@ -30,15 +34,23 @@ place_given (Some o) = place_of o
 abbrev pub transfer_places : Transfer → List Place
 transfer_places t = flat_map place_of t.items ++ place_given t.rec ++ place_given t.pos ++ if_given t.id ++ if_given t.size ++ if_given t.iostat
 
+-- of a unit of a place, or of NEWUNIT=
+abbrev pub unit_places : UnitRef → List Place
+unit_places u = if_given (place_held u) ++ if_given (place_new u)
+
+abbrev pub subject_places : Subject → List Place
+subject_places (subject.Unit u) = unit_places u
+subject_places (subject.File name) = []
+
 -- the elements and scalars that stand in a statement
 abbrev pub named_places : Statement → List Place
 named_places (statement.Assign to from) = place_of to ++ place_of from
-named_places (statement.OpenUnit unit spec iostat) = if_given iostat
-named_places (statement.CloseUnit unit keep iostat) = if_given iostat
-named_places (statement.WaitFor unit id iostat) = place_given id ++ if_given iostat
-named_places (statement.Move how unit iostat) = if_given iostat
-named_places (statement.Inquire about asked id iostat) = map (λ (w : Wanted). w.place) asked ++ place_given id ++ if_given iostat
-named_places (statement.Transfer t) = transfer_places t
+named_places (statement.OpenUnit u spec iostat) = unit_places u ++ if_given iostat
+named_places (statement.CloseUnit u keep iostat) = unit_places u ++ if_given iostat
+named_places (statement.WaitFor u id iostat) = unit_places u ++ place_given id ++ if_given iostat
+named_places (statement.Move how u iostat) = unit_places u ++ if_given iostat
+named_places (statement.Inquire about asked id iostat) = subject_places about ++ map (λ (w : Wanted). w.place) asked ++ place_given id ++ if_given iostat
+named_places (statement.Transfer t) = unit_places t.unit ++ transfer_places t
 named_places statement.End = []
 
 -- ---- whole variables

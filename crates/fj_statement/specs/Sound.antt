@@ -10,7 +10,11 @@ use Rattle.fj_value.specs.Kind.{IsOfKind, integer_bits, text_length}
 use Rattle.fj_modes.specs.declared.asked.Question.{Question}
 use Rattle.fj_modes.specs.declared.asked.Question.TheVariants as question
 use Rattle.fj_modes.specs.declared.asked.Wanted.{Wanted}
-use Rattle.fj_modes.specs.declared.unit.UnitRef.TheVariants.{Star}
+use Rattle.fj_statement.specs.declared.unit.UnitRef.{UnitRef}
+use Rattle.fj_statement.specs.declared.unit.UnitRef.TheVariants.{Star}
+use Rattle.fj_statement.specs.declared.unit.Subject.{Subject}
+use Rattle.fj_statement.specs.declared.unit.Subject.TheVariants as subject
+use Rattle.fj_statement.specs.Units.{place_held, place_new}
 use Rattle.fj_format.specs.Unfolding.{has_width_zero}
 use Rattle.fj_statement.specs.declared.deck.Variable.{Variable}
 use Rattle.fj_statement.specs.declared.deck.Lined.{Lined}
@@ -197,7 +201,16 @@ pub record IsAllowed (t : Transfer) : Type 0 where
   pub read_has_places : t.input ≡ true → All IsVariable t.items
   pub read_has_widths : t.input ≡ true → HasNoZeroWidth t.control
 
+-- a unit of a place, and NEWUNIT=, name an integer
+abbrev pub IsUnit : Variables → UnitRef → Type 0
+IsUnit vs u = IfSome (place_held u) (IsIntegerPlace vs) × IfSome (place_new u) (IsIntegerPlace vs)
+
+abbrev pub IsSubject : Variables → Subject → Type 0
+IsSubject vs (subject.Unit u) = IsUnit vs u
+IsSubject vs (subject.File name) = Unit {0}
+
 pub record IsTransfer (vs : Variables) (t : Transfer) : Type 0 where
+  pub unit_is : IsUnit vs t.unit
   pub allowed : IsAllowed t
   pub items : IsList vs t.items
   pub members : AreMembers vs (members_of t.control)
@@ -209,18 +222,19 @@ pub record IsTransfer (vs : Variables) (t : Transfer) : Type 0 where
 
 -- ---- statements
 
-pub record IsInquiry (vs : Variables) (asked : List Wanted) (id : Option Operand) (iostat : Option Place) : Type 0 where
+pub record IsInquiry (vs : Variables) (about : Subject) (asked : List Wanted) (id : Option Operand) (iostat : Option Place) : Type 0 where
+  pub subject_is : IsSubject vs about
   pub questions : All (IsAsked vs) asked
   pub id_is : IfSome id (IsIntegerOperand vs)
   pub iostat_is : IfSome iostat (IsIntegerPlace vs)
 
 abbrev pub IsSoundStatement : Variables → Statement → Type 0
 IsSoundStatement vs (statement.Assign to from) = IsAssignment vs to from
-IsSoundStatement vs (statement.OpenUnit unit spec iostat) = IfSome iostat (IsIntegerPlace vs)
-IsSoundStatement vs (statement.CloseUnit unit keep iostat) = IfSome iostat (IsIntegerPlace vs)
-IsSoundStatement vs (statement.WaitFor unit id iostat) = IfSome id (IsIntegerOperand vs) × IfSome iostat (IsIntegerPlace vs)
-IsSoundStatement vs (statement.Move how unit iostat) = IfSome iostat (IsIntegerPlace vs)
-IsSoundStatement vs (statement.Inquire about asked id iostat) = IsInquiry vs asked id iostat
+IsSoundStatement vs (statement.OpenUnit u spec iostat) = IsUnit vs u × IfSome iostat (IsIntegerPlace vs)
+IsSoundStatement vs (statement.CloseUnit u keep iostat) = IsUnit vs u × IfSome iostat (IsIntegerPlace vs)
+IsSoundStatement vs (statement.WaitFor u id iostat) = IsUnit vs u × IfSome id (IsIntegerOperand vs) × IfSome iostat (IsIntegerPlace vs)
+IsSoundStatement vs (statement.Move how u iostat) = IsUnit vs u × IfSome iostat (IsIntegerPlace vs)
+IsSoundStatement vs (statement.Inquire about asked id iostat) = IsInquiry vs about asked id iostat
 IsSoundStatement vs (statement.Transfer t) = IsTransfer vs t
 IsSoundStatement vs statement.End = Unit {0}
 

@@ -1,7 +1,10 @@
 // One statement in terms of places. A variable stands in it by its number, from 0 on.
+ghost use Rattle.std.specs.Prelude.{◌≡◌};
+ghost use Rattle.fj_statement.specs.Units.{number_held, unit_of, with_number};
 
+use crate::unit::{Subject, UnitRef};
 use fj_format::Format;
-use fj_modes::{Asked, Motion, OpenSpec, Subject, UnitRef};
+use fj_modes::{Asked, Motion, OpenSpec};
 use fj_value::{Delim, Items, Kind, Place, Text, Value};
 
 /// A literal with its kind, an element or scalar, or a whole array.
@@ -101,4 +104,97 @@ pub enum Statement {
     },
     Transfer(Transfer),
     End,
+}
+
+impl Statement {
+    /// Its unit, where it has one.
+    pub fn unit(&self) -> Option<UnitRef>
+        ensures { result ≡ unit_of self.now }
+    {
+        match self {
+            Statement::Assign { to: _, from: _ } => None,
+            Statement::OpenUnit {
+                unit,
+                spec: _,
+                iostat: _,
+            } => Some(*unit),
+            Statement::CloseUnit {
+                unit,
+                keep: _,
+                iostat: _,
+            } => Some(*unit),
+            Statement::WaitFor {
+                unit,
+                id: _,
+                iostat: _,
+            } => Some(*unit),
+            Statement::Move {
+                how: _,
+                unit,
+                iostat: _,
+            } => Some(*unit),
+            Statement::Inquire {
+                about,
+                asked: _,
+                id: _,
+                iostat: _,
+            } => match about {
+                Subject::Unit(unit) => Some(*unit),
+                Subject::File(_) => None,
+            },
+            Statement::Transfer(transfer) => Some(transfer.unit),
+            Statement::End => None,
+        }
+    }
+
+    /// Gives its unit another number, where it is of a place.
+    pub fn put_number(&mut self, code: u32)
+        ensures { self.new ≡ with_number code self.old }
+    {
+        match self {
+            Statement::Assign { to: _, from: _ } => {}
+            Statement::OpenUnit {
+                unit,
+                spec: _,
+                iostat: _,
+            } => *unit = unit.numbered(code),
+            Statement::CloseUnit {
+                unit,
+                keep: _,
+                iostat: _,
+            } => *unit = unit.numbered(code),
+            Statement::WaitFor {
+                unit,
+                id: _,
+                iostat: _,
+            } => *unit = unit.numbered(code),
+            Statement::Move {
+                how: _,
+                unit,
+                iostat: _,
+            } => *unit = unit.numbered(code),
+            Statement::Inquire {
+                about,
+                asked: _,
+                id: _,
+                iostat: _,
+            } => {
+                if let Subject::Unit(unit) = about {
+                    *unit = unit.numbered(code);
+                }
+            }
+            Statement::Transfer(transfer) => transfer.unit = transfer.unit.numbered(code),
+            Statement::End => {}
+        }
+    }
+
+    /// The number that stands in it; 0 where its unit is not of a place.
+    pub fn number_held(&self) -> u32
+        ensures { result ≡ number_held self.now }
+    {
+        match self.unit() {
+            Some(unit) => unit.held_number(),
+            None => 0,
+        }
+    }
 }

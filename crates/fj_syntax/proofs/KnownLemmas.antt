@@ -11,7 +11,7 @@ use Rattle.fj_syntax.specs.declared.words.Specifier.TheVariants.{Unit, Property}
 
 pub taken : ArgumentsAreTaken
 unfolding begun_by given_at inquire_of is_disk_name is_file_name keyword_of mode_at open_of specifier_of transfer_of written_of
-taken = record { unit = refl; file = refl; rows_are = refl }
+taken = record { unit = refl; new_unit = refl; file = refl; rows_are = refl }
 
 pub same_is : (a b : Specifier) → ghosts.eq a b ≡ same_specifier a b
 same_is (Property p) (Property q) = refl

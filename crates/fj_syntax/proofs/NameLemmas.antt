@@ -6,11 +6,11 @@ use Rattle.std.specs.Str.{bytes_eq}
 use Rattle.std.proofs.lemmas.List.Elements.{All-cons, All-drop, All-head, All-map, All-nil, All-tail}
 use Rattle.fj_value.specs.declared.kind.Kind.{Kind}
 use Rattle.fj_value.specs.declared.kind.Kind.TheVariants.{Logical}
-use Rattle.fj_modes.specs.declared.unit.Motion.{Motion}
-use Rattle.fj_modes.specs.declared.unit.Motion.TheVariants.{Endfile}
+use Rattle.fj_modes.specs.declared.motion.Motion.{Motion}
+use Rattle.fj_modes.specs.declared.motion.Motion.TheVariants.{Endfile}
 use Rattle.fj_syntax.specs.Arguments.{call_of}
 use Rattle.fj_syntax.specs.Calls.{open_of, close_of, wait_of, move_of, inquire_of, transfer_of}
-use Rattle.fj_syntax.specs.Given.{unit_number}
+use Rattle.fj_syntax.specs.Given.{bare_unit}
 use Rattle.fj_syntax.specs.Parsing.{IsWord, NamesAreWords, names_given}
 use Rattle.fj_syntax.specs.Parts.{Tokens, Designator, cut, designator_of, is_from_to, is_mark, is_name, list_of, name_of, named, operand_of, parted}
 use Rattle.fj_syntax.specs.Reading.{each}
@@ -111,8 +111,8 @@ group_words ts all = tt
 
 -- a motion gives no names
 motion_words : (how : Motion) (ts : Tokens) → Holds GivesWords (motion_from how ts)
-motion_words how (Number Unsigned n ∷ []) = then_any GivesWords (unit_number n) _ (λ u. All-nil IsWord)
-motion_words how ts = then_any GivesWords (move_of how ts) (λ m. Some (written.Move m)) (λ m. All-nil IsWord)
+motion_words how (Mark LeftParenthesis ∷ ts) = then_any GivesWords (move_of how (Mark LeftParenthesis ∷ ts)) (λ m. Some (written.Move m)) (λ m. All-nil IsWord)
+motion_words how ts = then_any GivesWords (bare_unit ts) (λ u. Some (written.Move (record { unit = u; what = how; iostat = None }))) (λ u. All-nil IsWord)
 
 begun_words : (k : Keyword) (ts : Tokens) → AreOfLine ts → Holds GivesWords (begun_by k ts)
 unfolding begun_by

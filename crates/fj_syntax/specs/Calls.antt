@@ -1,9 +1,7 @@
 -- The input/output statements from their tokens: what is given for each specifier.
 use Rattle.std.specs.Prelude.{Bool, false, not, List, [], ◌∷◌, ◌++◌, Option, Some, None}
 use Rattle.fj_modes.specs.declared.asked.Question.TheVariants as question
-use Rattle.fj_modes.specs.declared.asked.Subject.{Subject}
-use Rattle.fj_modes.specs.declared.asked.Subject.TheVariants as subject
-use Rattle.fj_modes.specs.declared.unit.Motion.{Motion}
+use Rattle.fj_modes.specs.declared.motion.Motion.{Motion}
 use Rattle.fj_modes.specs.ModeWords.{status_words, access_words, position_words, action_words, delim_words, disposition_words, form_words, blank_words, decimal_words, sign_words, answer_words}
 use Rattle.fj_syntax.specs.declared.words.Keyword.TheVariants as keyword
 use Rattle.fj_syntax.specs.declared.words.Specifier.TheVariants as specifier
@@ -11,19 +9,21 @@ use Rattle.fj_modes.specs.declared.specifiers.OpenSpec.{OpenSpec}
 pub use Rattle.fj_syntax.specs.declared.written.OnUnit.{OnUnit}
 use Rattle.fj_syntax.specs.declared.written.Asking.{Asking}
 use Rattle.fj_syntax.specs.declared.written.Inquire.{Inquire}
+use Rattle.fj_syntax.specs.declared.written.Subject.{Subject}
+use Rattle.fj_syntax.specs.declared.written.Subject.TheVariants as subject
 use Rattle.fj_syntax.specs.declared.written.Transfer.{Transfer}
+use Rattle.fj_syntax.specs.declared.written.Unit.{Unit}
 use Rattle.fj_syntax.specs.Arguments.{Argument, Given, given_for, whole_call_of}
-use Rattle.fj_syntax.specs.Given.{given_at, place_given, integer_given, mode_at, file_given, unit_given, unit_at, format_given, group_given, recl_given}
+use Rattle.fj_syntax.specs.Given.{given_at, place_given, integer_given, mode_at, file_given, unit_given, unit_at, unit_opened, format_given, group_given, recl_given}
 use Rattle.fj_syntax.specs.Parts.{Tokens, Operand}
 use Rattle.fj_syntax.specs.Reading.{◌>>=◌}
 use Rattle.fj_syntax.specs.Words.{Specifier}
 
 -- ---- the statements
 
--- UNIT= and IOSTAT= beside what else a statement says
-abbrev pub on_unit : {A : Type 0} → A → List Argument → Option (OnUnit A)
-on_unit what args = do
-  unit ← unit_at false args
+-- a unit and IOSTAT= beside what else a statement says
+abbrev pub on_unit : {A : Type 0} → Unit → A → List Argument → Option (OnUnit A)
+on_unit unit what args = do
   iostat ← given_at place_given specifier.Iostat args
   Some (record { unit = unit; what = what; iostat = iostat })
 
@@ -43,7 +43,8 @@ open_of ts = do
   comma ← mode_at decimal_words (specifier.Property question.Decimal) args
   plus ← mode_at sign_words (specifier.Property question.Sign) args
   asynchronous ← mode_at answer_words (specifier.Property question.Asynchronous) args
-  on_unit (record {
+  unit ← unit_opened args
+  on_unit unit (record {
     file = file;
     status = status;
     access = access;
@@ -63,18 +64,21 @@ abbrev pub close_of : Tokens → Option (OnUnit (Option Bool))
 close_of ts = do
   args ← whole_call_of keyword.Close ts
   keep ← mode_at disposition_words specifier.Status args
-  on_unit keep args
+  unit ← unit_at false args
+  on_unit unit keep args
 
 abbrev pub wait_of : Tokens → Option (OnUnit (Option Operand))
 wait_of ts = do
   args ← whole_call_of keyword.Wait ts
   id ← given_at integer_given specifier.Id args
-  on_unit id args
+  unit ← unit_at false args
+  on_unit unit id args
 
 abbrev pub move_of : Motion → Tokens → Option (OnUnit Motion)
 move_of how ts = do
   args ← whole_call_of (keyword.Move how) ts
-  on_unit how args
+  unit ← unit_at false args
+  on_unit unit how args
 
 -- the question of a specifier, with the place for its answer; other specifiers of INQUIRE ask nothing
 abbrev pub asking : Specifier → Given → Option (List Asking)

@@ -1,18 +1,18 @@
 -- What may be given for a specifier.
-use Rattle.std.specs.Prelude.{ℕ, ◌-◌, Bool, ◌==◌, nat_le, List, length, take, Option, Some, None, if◌then◌else◌}
+use Rattle.std.specs.Prelude.{ℕ, ◌-◌, Bool, false, ◌==◌, nat_le, List, length, take, Option, Some, None, if◌then◌else◌}
 use Rattle.std.specs.List.{suffix_len}
-use Rattle.fj_modes.specs.declared.unit.UnitRef.{UnitRef}
-use Rattle.fj_modes.specs.declared.unit.UnitRef.TheVariants as unit
 use Rattle.fj_modes.specs.FileName.{is_file_name}
 use Rattle.fj_modes.specs.ModeWords.{Table, mode_of}
-use Rattle.fj_syntax.specs.Arguments.{Argument, Given, Asterisk, AnOperand, given_for}
-use Rattle.fj_syntax.specs.Parts.{Designator, Operand, Number, Literal, Place}
+use Rattle.fj_syntax.specs.Arguments.{Argument, Given, Asterisk, AnOperand, given_of, given_for}
+use Rattle.fj_syntax.specs.Parts.{Tokens, Designator, Operand, Number, Literal, Place}
 use Rattle.fj_syntax.specs.Reading.{◌>>=◌, optional}
 use Rattle.fj_syntax.specs.Tokens.{Sign, Unsigned, Minus}
 use Rattle.fj_syntax.specs.Words.{Specifier}
 use Rattle.fj_syntax.specs.declared.words.Specifier.TheVariants as specifier
 use Rattle.fj_syntax.specs.declared.written.Format.{Format}
 use Rattle.fj_syntax.specs.declared.written.Format.TheVariants as format
+use Rattle.fj_syntax.specs.declared.written.Unit.{Unit}
+use Rattle.fj_syntax.specs.declared.written.Unit.TheVariants as unit
 
 -- without the blanks at the end
 abbrev pub trimmed : List ℕ → List ℕ
@@ -47,17 +47,31 @@ file_given (AnOperand (Literal text)) = if is_file_name (trimmed text) then Some
 file_given g = None
 
 -- without a sign, 0 to 2147483647
-abbrev pub unit_number : ℕ → Option UnitRef
+abbrev pub unit_number : ℕ → Option Unit
 unit_number n = if nat_le n 2147483647 then Some (unit.Number n) else None
 
--- UNIT=: a number, or an asterisk where that may stand
-abbrev pub unit_given : Bool → Given → Option UnitRef
+-- UNIT=: a number, a place, or an asterisk where that may stand
+abbrev pub unit_given : Bool → Given → Option Unit
 unit_given star (AnOperand (Number Unsigned n)) = unit_number n
+unit_given star (AnOperand (Place d)) = Some (unit.Place d)
 unit_given star Asterisk = if star then Some unit.Star else None
 unit_given star g = None
 
-abbrev pub unit_at : Bool → List Argument → Option UnitRef
+abbrev pub unit_at : Bool → List Argument → Option Unit
 unit_at star args = given_for specifier.Unit args >>= unit_given star
+
+-- UNIT= or NEWUNIT= of OPEN, and not both; NEWUNIT= has a place (ISO/IEC 1539-1:2010, 9.5.6.12)
+abbrev pub unit_or_new : Option Given → Option Given → Option Unit
+unit_or_new (Some u) None = unit_given false u
+unit_or_new None (Some p) = place_given p >>= (λ d. Some (unit.New d))
+unit_or_new u p = None
+
+abbrev pub unit_opened : List Argument → Option Unit
+unit_opened args = unit_or_new (given_for specifier.Unit args) (given_for specifier.Newunit args)
+
+-- a unit that stands alone
+abbrev pub bare_unit : Tokens → Option Unit
+bare_unit ts = given_of ts >>= unit_given false
 
 -- FMT=: an asterisk or a literal
 abbrev pub format_given : Given → Option Format

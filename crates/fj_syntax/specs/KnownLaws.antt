@@ -45,6 +45,7 @@ row specifier values takers = is_taken behind_unit (codes specifier) values take
 abbrev pub rows : List Bool
 rows =
     row "FILE" (texts "a") "OPEN"
+    ∷ row "NEWUNIT" a_place ""
     ∷ row "STATUS" (texts "OLD NEW SCRATCH REPLACE UNKNOWN") "OPEN"
     ∷ row "STATUS" (texts "KEEP DELETE") "CLOSE"
     ∷ row "ACCESS" (texts "SEQUENTIAL DIRECT STREAM") "OPEN"
@@ -73,6 +74,7 @@ rows =
 
 -- each statement takes the rows that it stands in and no others
 pub record ArgumentsAreTaken : Type 0 where
-  pub unit : is_taken alone (codes "UNIT") a_number statements ≡ true
+  pub unit : is_taken alone (codes "UNIT") (a_number ++ a_place) statements ≡ true
+  pub new_unit : is_taken alone (codes "NEWUNIT") a_place "OPEN" ≡ true
   pub file : is_taken alone (codes "FILE") (texts "a") "INQUIRE" ≡ true
   pub rows_are : list_all (λ taken. taken) rows ≡ true

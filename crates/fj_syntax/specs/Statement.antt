@@ -3,11 +3,11 @@ use Rattle.std.specs.Prelude.{ℕ, Bool, ◌==◌, List, [], ◌∷◌, Option, 
 use Rattle.std.specs.Str.{bytes_eq}
 use Rattle.fj_value.specs.declared.kind.Kind.{Kind}
 use Rattle.fj_value.specs.declared.kind.Kind.TheVariants.{Int4, Int8, Logical, Chars}
-use Rattle.fj_modes.specs.declared.unit.Motion.{Motion}
-use Rattle.fj_modes.specs.declared.unit.Motion.TheVariants as motion
+use Rattle.fj_modes.specs.declared.motion.Motion.{Motion}
+use Rattle.fj_modes.specs.declared.motion.Motion.TheVariants as motion
 use Rattle.fj_syntax.specs.Arguments.{call_of}
 use Rattle.fj_syntax.specs.Calls.{open_of, close_of, wait_of, move_of, inquire_of, transfer_of}
-use Rattle.fj_syntax.specs.Given.{unit_number}
+use Rattle.fj_syntax.specs.Given.{bare_unit}
 use Rattle.fj_syntax.specs.Parts.{Tokens, Operand, is_from_to, is_name, name_of, designator_of, operand_of, parted, list_of}
 use Rattle.fj_syntax.specs.Reading.{◌>>=◌}
 use Rattle.fj_syntax.specs.Tokens.{Word, Number, Mark, LeftParenthesis, RightParenthesis, Comma, Equals, Slash, DoubleColon, Unsigned}
@@ -82,8 +82,8 @@ transfer_from input ts = do
 
 -- a bare unit, or arguments
 abbrev pub motion_from : Motion → Tokens → Option Written
-motion_from how (Number Unsigned n ∷ []) = unit_number n >>= (λ u. Some (written.Move (record { unit = u; what = how; iostat = None })))
-motion_from how ts = move_of how ts >>= (λ m. Some (written.Move m))
+motion_from how (Mark LeftParenthesis ∷ ts) = move_of how (Mark LeftParenthesis ∷ ts) >>= (λ m. Some (written.Move m))
+motion_from how ts = bare_unit ts >>= (λ u. Some (written.Move (record { unit = u; what = how; iostat = None })))
 
 -- END alone, or END FILE
 abbrev pub end_from : Tokens → Option Written

@@ -5,14 +5,14 @@ use Rattle.std.specs.List.{list_any}
 use Rattle.std.specs.Str.{bytes_eq}
 use Rattle.fj_modes.specs.declared.asked.Question.{Question}
 use Rattle.fj_modes.specs.declared.asked.Question.TheVariants.{Access, Form, Recl, Action, Blank, Delim, Pad, Decimal, Sign, Asynchronous, Size, Pos, Exist, Opened, Number, Named, Name, Nextrec, Pending}
-use Rattle.fj_modes.specs.declared.unit.Motion.TheVariants as motion
+use Rattle.fj_modes.specs.declared.motion.Motion.TheVariants as motion
 use Rattle.fj_modes.specs.ModeWords.{Table}
 use Rattle.fj_syntax.specs.contracts.words.Specifier.{the_type}
 use Rattle.fj_modes.specs.contracts.asked.Question.{the_type as the_question}
 pub use Rattle.fj_syntax.specs.declared.words.Keyword.{Keyword}
 use Rattle.fj_syntax.specs.declared.words.Keyword.TheVariants as keyword
 pub use Rattle.fj_syntax.specs.declared.words.Specifier.{Specifier}
-use Rattle.fj_syntax.specs.declared.words.Specifier.TheVariants.{Unit, File, Fmt, Nml, Iostat, Id, Status, Position, Advance, Rec, Property}
+use Rattle.fj_syntax.specs.declared.words.Specifier.TheVariants.{Unit, File, Fmt, Nml, Iostat, Id, Status, Position, Advance, Rec, Newunit, Property}
 
 -- the words that begin a statement or declaration; none of them is a name
 abbrev pub keywords : Table Keyword
@@ -29,11 +29,11 @@ properties =
     ∷ (codes "DECIMAL", Decimal) ∷ (codes "SIGN", Sign) ∷ (codes "ASYNCHRONOUS", Asynchronous) ∷ (codes "SIZE", Size) ∷ (codes "POS", Pos) ∷ (codes "EXIST", Exist)
     ∷ (codes "OPENED", Opened) ∷ (codes "NUMBER", Number) ∷ (codes "NAMED", Named) ∷ (codes "NAME", Name) ∷ (codes "NEXTREC", Nextrec) ∷ (codes "PENDING", Pending) ∷ []
 
--- the words before an equals sign (9.4.5, 9.5.1, 9.6.2, 9.9.1)
+-- the words before an equals sign (9.4.5, 9.5.1, 9.6.2, 9.9.1), and NEWUNIT= (ISO/IEC 1539-1:2010, 9.5.6.12)
 abbrev pub specifiers : Table Specifier
 specifiers =
     (codes "UNIT", Unit) ∷ (codes "FILE", File) ∷ (codes "FMT", Fmt) ∷ (codes "NML", Nml) ∷ (codes "IOSTAT", Iostat) ∷ (codes "ID", Id) ∷ (codes "STATUS", Status)
-    ∷ (codes "POSITION", Position) ∷ (codes "ADVANCE", Advance) ∷ (codes "REC", Rec) ∷ map (λ row. (row.0, Property row.1)) properties
+    ∷ (codes "POSITION", Position) ∷ (codes "ADVANCE", Advance) ∷ (codes "REC", Rec) ∷ (codes "NEWUNIT", Newunit) ∷ map (λ row. (row.0, Property row.1)) properties
 
 -- what stands beside a word in a table
 abbrev pub meaning_of : {M : Type 0} → Table M → List ℕ → Option M
@@ -52,7 +52,7 @@ same_specifier a b = sameb the_type a b
 
 -- the specifiers of each input/output statement beside UNIT and IOSTAT (9.4.5, 9.4.6, 9.5.1, 9.6.1, 9.7, 9.8, 9.9.1)
 abbrev pub others_of : Keyword → List Specifier
-others_of keyword.Open = File ∷ Status ∷ Position ∷ map Property (Access ∷ Form ∷ Recl ∷ Action ∷ Blank ∷ Delim ∷ Pad ∷ Decimal ∷ Sign ∷ Asynchronous ∷ [])
+others_of keyword.Open = File ∷ Newunit ∷ Status ∷ Position ∷ map Property (Access ∷ Form ∷ Recl ∷ Action ∷ Blank ∷ Delim ∷ Pad ∷ Decimal ∷ Sign ∷ Asynchronous ∷ [])
 others_of keyword.Close = Status ∷ []
 others_of (keyword.Transfer true) = Fmt ∷ Nml ∷ Advance ∷ Id ∷ Rec ∷ map Property (Asynchronous ∷ Blank ∷ Decimal ∷ Pad ∷ Pos ∷ Size ∷ [])
 others_of (keyword.Transfer false) = Fmt ∷ Nml ∷ Advance ∷ Id ∷ Rec ∷ map Property (Asynchronous ∷ Decimal ∷ Delim ∷ Pos ∷ Sign ∷ [])

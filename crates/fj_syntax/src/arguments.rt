@@ -15,7 +15,8 @@ use crate::words::{Keyword, Specifier, specifier_of, takes};
 use fj_value::Items;
 use std::alloc::Global;
 
-fn given(alloc: Global, tokens: &[Token<'_>]) -> Read<Given>
+/// An asterisk or an operand.
+pub fn given(alloc: Global, tokens: &[Token<'_>]) -> Read<Given>
     ensures { Gives (λ x. x) result (given_of tokens.now) }
 {
     match tokens {

@@ -6,24 +6,25 @@ ghost use Rattle.fj_syntax.specs.Reading.{Gives};
 
 use crate::arguments::{given_for, whole_call};
 use crate::fault::{Read, SyntaxFault};
-use crate::given::{file, file_given, format, group, integer, mode, place, recl, unit, unit_given};
+use crate::given::{
+    file, file_given, format, group, integer, mode, place, recl, unit, unit_given, unit_opened,
+};
 use crate::operand::{Argument, Given, Operand};
 use crate::token::Token;
 use crate::words::Keyword;
 use crate::words::Specifier::{self, Property};
-use crate::written::{Asking, Inquire, OnUnit, Transfer};
+use crate::written::{Asking, Inquire, OnUnit, Subject, Transfer, Unit};
 use fj_modes::{
     Access, Action, Answer, Blank, Decimal, Disposition, FileStatus, Form, Motion, OpenSpec,
-    Question, Sign, Start, Subject,
+    Question, Sign, Start,
 };
 use fj_value::{Delim, Items};
 use std::alloc::Global;
 
-/// UNIT= and IOSTAT= beside what else a statement says.
-fn on_unit<T: Drop>(what: T, arguments: &[Argument]) -> Read<OnUnit<T>>
-    ensures { Gives (λ x. x) result (on_unit what arguments.now) }
+/// A unit and IOSTAT= beside what else a statement says.
+fn on_unit<T: Drop>(unit: Unit, what: T, arguments: &[Argument]) -> Read<OnUnit<T>>
+    ensures { Gives (λ x. x) result (on_unit unit what arguments.now) }
 {
-    let unit = unit(false, arguments)?;
     let iostat = place(arguments, Specifier::Iostat)?;
     Ok(OnUnit { unit, what, iostat })
 }
@@ -49,7 +50,7 @@ pub fn make_open(alloc: Global, tokens: &[Token<'_>]) -> Read<OnUnit<OpenSpec>>
         plus: mode::<Sign>(arguments, Property(Question::Sign))?,
         asynchronous: mode::<Answer>(arguments, Property(Question::Asynchronous))?,
     };
-    on_unit(spec, arguments)
+    on_unit(unit_opened(arguments)?, spec, arguments)
 }
 
 pub fn make_close(alloc: Global, tokens: &[Token<'_>]) -> Read<OnUnit<Option<bool>>>
@@ -57,7 +58,11 @@ pub fn make_close(alloc: Global, tokens: &[Token<'_>]) -> Read<OnUnit<Option<boo
 {
     let arguments = whole_call(alloc, Keyword::Close, tokens)?;
     let keep = mode::<Disposition>(arguments.as_slice(), Specifier::Status)?;
-    on_unit(keep, arguments.as_slice())
+    on_unit(
+        unit(false, arguments.as_slice())?,
+        keep,
+        arguments.as_slice(),
+    )
 }
 
 pub fn make_wait(alloc: Global, tokens: &[Token<'_>]) -> Read<OnUnit<Option<Operand>>>
@@ -65,14 +70,18 @@ pub fn make_wait(alloc: Global, tokens: &[Token<'_>]) -> Read<OnUnit<Option<Oper
 {
     let arguments = whole_call(alloc, Keyword::Wait, tokens)?;
     let id = integer(arguments.as_slice(), Specifier::Id)?;
-    on_unit(id, arguments.as_slice())
+    on_unit(unit(false, arguments.as_slice())?, id, arguments.as_slice())
 }
 
 pub fn make_move(alloc: Global, how: Motion, tokens: &[Token<'_>]) -> Read<OnUnit<Motion>>
     ensures { Gives (λ x. x) result (move_of how tokens.now) }
 {
     let arguments = whole_call(alloc, Keyword::Move(how), tokens)?;
-    on_unit(how, arguments.as_slice())
+    on_unit(
+        unit(false, arguments.as_slice())?,
+        how,
+        arguments.as_slice(),
+    )
 }
 
 /// The question of an argument, if it asks one.

@@ -1,18 +1,18 @@
 // What is given for a specifier, by its form.
 ghost use Rattle.std.specs.Prelude.{◌≡◌, ◌≤◌, ◌==◌, IfOk, length};
 ghost use Rattle.std.specs.List.{suffix_len};
-ghost use Rattle.fj_syntax.specs.Given.{trimmed, given_at, place_given, integer_given, mode_at, file_given, unit_number, unit_given, unit_at, format_given, group_given, recl_given};
+ghost use Rattle.fj_syntax.specs.Given.{trimmed, given_at, place_given, integer_given, mode_at, file_given, unit_number, unit_given, unit_at, unit_opened, bare_unit, format_given, group_given, recl_given};
 ghost use Rattle.fj_modes.specs.declared.asked.Question.TheVariants as question;
 ghost use Rattle.fj_syntax.specs.declared.words.Specifier.TheVariants as specifier;
 ghost use Rattle.fj_syntax.specs.Reading.{Gives};
 
-use crate::arguments::given_for;
+use crate::arguments::{given, given_for};
 use crate::fault::{Read, SyntaxFault, must, some};
 use crate::operand::{Argument, Designator, Given, Operand};
-use crate::token::Sign;
+use crate::token::{Sign, Token};
 use crate::words::Specifier::{self, Property};
-use crate::written::Format;
-use fj_modes::{FileName, Question, UnitRef, WordKind, is_file_name};
+use crate::written::{Format, Unit};
+use fj_modes::{FileName, Question, WordKind, is_file_name};
 use fj_value::Text;
 use std::alloc::{AllocError, Global};
 
@@ -107,15 +107,15 @@ pub fn file(alloc: Global, arguments: &[Argument]) -> Read<Option<FileName>>
     }
 }
 
-pub fn unit_number(amount: u64) -> Read<UnitRef>
+fn unit_number(amount: u64) -> Read<Unit>
     ensures { Gives (λ x. x) result (unit_number amount) }
 {
     must(amount <= MAX_UNIT)?;
-    Ok(UnitRef::Number(amount as u32))
+    Ok(Unit::Number(amount as u32))
 }
 
-/// A unit: a number, or an asterisk where that may stand.
-pub fn unit_given(star: bool, given: &Given) -> Read<UnitRef>
+/// A unit: a number, a place, or an asterisk where that may stand.
+pub fn unit_given(star: bool, given: &Given) -> Read<Unit>
     ensures { Gives (λ x. x) result (unit_given star given.now) }
 {
     match given {
@@ -125,16 +125,39 @@ pub fn unit_given(star: bool, given: &Given) -> Read<UnitRef>
                 amount,
             },
         ) => unit_number(*amount),
-        Given::Asterisk if star => Ok(UnitRef::Star),
+        Given::Operand(Operand::Place(place)) => Ok(Unit::Place(place.try_clone()?)),
+        Given::Asterisk if star => Ok(Unit::Star),
         _ => Err(SyntaxFault::NotAStatement),
     }
 }
 
 /// UNIT=.
-pub fn unit(star: bool, arguments: &[Argument]) -> Read<UnitRef>
+pub fn unit(star: bool, arguments: &[Argument]) -> Read<Unit>
     ensures { Gives (λ x. x) result (unit_at star arguments.now) }
 {
     unit_given(star, some(given_for(arguments, Specifier::Unit))?)
+}
+
+/// UNIT= or NEWUNIT= of OPEN, and not both.
+pub fn unit_opened(arguments: &[Argument]) -> Read<Unit>
+    ensures { Gives (λ x. x) result (unit_opened arguments.now) }
+{
+    match (
+        given_for(arguments, Specifier::Unit),
+        given_for(arguments, Specifier::Newunit),
+    ) {
+        (Some(unit), None) => unit_given(false, unit),
+        (None, Some(Given::Operand(Operand::Place(place)))) => Ok(Unit::New(place.try_clone()?)),
+        _ => Err(SyntaxFault::NotAStatement),
+    }
+}
+
+/// A unit that stands alone.
+pub fn bare_unit(alloc: Global, tokens: &[Token<'_>]) -> Read<Unit>
+    ensures { Gives (λ x. x) result (bare_unit tokens.now) }
+{
+    let given = given(alloc, tokens)?;
+    unit_given(false, &given)
 }
 
 /// The format of a transfer.

@@ -26,5 +26,6 @@ pub use operand::{Designator, Operand};
 pub use parse::parse_line;
 pub use token::Sign;
 pub use written::{
-    Asking, Assignment, Declaration, Format, Group, Inquire, OnUnit, Transfer, Written,
+    Asking, Assignment, Declaration, Format, Group, Inquire, OnUnit, Subject, Transfer, Unit,
+    Written,
 };

@@ -7,7 +7,7 @@ ghost use Rattle.fj_syntax.specs.Reading.{Gives};
 use crate::arguments::call;
 use crate::calls::{make_close, make_inquire, make_move, make_open, make_transfer, make_wait};
 use crate::fault::{Read, SyntaxFault, must, some};
-use crate::given::unit_number;
+use crate::given::bare_unit;
 use crate::operand::{Designator, Operand};
 use crate::parts::{Part, is_name, list, parted};
 use crate::token::Mark::{Comma, DoubleColon, Equals, LeftParenthesis, RightParenthesis, Slash};
@@ -158,16 +158,14 @@ fn transfer(alloc: Global, input: bool, tokens: &[Token<'_>]) -> Read<Written>
 fn motion(alloc: Global, how: Motion, tokens: &[Token<'_>]) -> Read<Written>
     ensures { Gives (λ x. x) result (motion_from how tokens.now) }
 {
-    if let [number] = tokens
-        && let Token::Number(Sign::Unsigned, amount) = number
-    {
-        return Ok(Written::Move(OnUnit {
-            unit: unit_number(*amount)?,
-            what: how,
-            iostat: None,
-        }));
+    if let [Token::Mark(LeftParenthesis), ..] = tokens {
+        return Ok(Written::Move(make_move(alloc, how, tokens)?));
     }
-    Ok(Written::Move(make_move(alloc, how, tokens)?))
+    Ok(Written::Move(OnUnit {
+        unit: bare_unit(alloc, tokens)?,
+        what: how,
+        iostat: None,
+    }))
 }
 
 /// END alone, or END FILE.

@@ -40,7 +40,7 @@ pub const KEYWORDS: [(&str, Keyword); 15] = [
     ("END", Keyword::End),
 ];
 
-/// A specifier of an input/output statement (ISO/IEC 1539-1:2004, 9.4 to 9.9).
+/// A specifier of an input/output statement (ISO/IEC 1539-1:2004, 9.4 to 9.9; NEWUNIT= of ISO/IEC 1539-1:2010, 9.5.6.12).
 #[derive(Clone, Copy, PartialEq, Eq)]
 pub enum Specifier {
     Unit,
@@ -53,11 +53,12 @@ pub enum Specifier {
     Position,
     Advance,
     Rec,
+    Newunit,
     /// A property that INQUIRE asks for; other statements take some of them.
     Property(Question),
 }
 
-pub const SPECIFIERS: [(&str, Specifier); 29] = [
+pub const SPECIFIERS: [(&str, Specifier); 30] = [
     ("UNIT", Specifier::Unit),
     ("FILE", Specifier::File),
     ("FMT", Specifier::Fmt),
@@ -68,6 +69,7 @@ pub const SPECIFIERS: [(&str, Specifier); 29] = [
     ("POSITION", Specifier::Position),
     ("ADVANCE", Specifier::Advance),
     ("REC", Specifier::Rec),
+    ("NEWUNIT", Specifier::Newunit),
     ("ACCESS", Specifier::Property(Question::Access)),
     ("FORM", Specifier::Property(Question::Form)),
     ("RECL", Specifier::Property(Question::Recl)),
@@ -129,7 +131,7 @@ pub fn takes(keyword: Keyword, specifier: Specifier) -> bool
         Unit | Iostat => true,
         File | Property(Access | Form | Recl | Action) => opens || asks,
         Status => opens || matches!(keyword, Keyword::Close),
-        Position => opens,
+        Position | Newunit => opens,
         Property(Blank | Pad) => opens || reads || asks,
         Property(Delim | Sign) => opens || writes || asks,
         Property(Decimal | Asynchronous) => opens || reads || writes || asks,

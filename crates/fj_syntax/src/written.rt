@@ -1,7 +1,7 @@
 // One statement as it is written: what its tokens say, before any name has a meaning.
 
 use crate::operand::{Designator, Operand};
-use fj_modes::{Motion, OpenSpec, Question, Subject, UnitRef};
+use fj_modes::{FileName, Motion, OpenSpec, Question};
 use fj_value::{Boxed, Delim, Items, Kind, Text};
 
 /// A type declaration. The attribute ASYNCHRONOUS has no effect.
@@ -24,12 +24,31 @@ pub struct Assignment {
     pub from: Operand,
 }
 
-/// A statement on a unit, and what it says beside UNIT= and IOSTAT=.
+/// A unit as it is written.
+#[derive(Drop)]
+pub enum Unit {
+    /// `*`, of WRITE alone.
+    Star,
+    /// 0 to 2,147,483,647.
+    Number(u32),
+    Place(Designator),
+    /// NEWUNIT=, of OPEN alone: the place for the number of the unit.
+    New(Designator),
+}
+
+/// A statement on a unit, and what it says beside the unit and IOSTAT=.
 #[derive(Drop)]
 pub struct OnUnit<T> {
-    pub unit: UnitRef,
+    pub unit: Unit,
     pub what: T,
     pub iostat: Option<Designator>,
+}
+
+/// What INQUIRE asks about.
+#[derive(Drop)]
+pub enum Subject {
+    Unit(Unit),
+    File(FileName),
 }
 
 /// A question of INQUIRE, and the place for its answer.
@@ -64,7 +83,7 @@ pub enum Format {
 pub struct Transfer {
     /// READ.
     pub input: bool,
-    pub unit: UnitRef,
+    pub unit: Unit,
     pub format: Option<Format>,
     /// NML=.
     pub group: Option<Text>,

@@ -37,12 +37,6 @@ impl Characters {
         self.text.bytes()
     }
 
-    pub fn into_text(self) -> Text
-        ensures { result ≡ self }
-    {
-        Box::into_inner(self.text)
-    }
-
     /// Puts a text into the place of the old one, which it answers. Takes no memory.
     pub fn replace(&mut self, text: Text) -> Text
         ensures old { result ≡ self.old }

@@ -74,6 +74,10 @@ impl Condition {
     pub const STRING_READ: Condition = Condition::Error(29);
     /// A record too short for a descriptor under PAD='NO'.
     pub const SHORT_RECORD: Condition = Condition::Error(30);
+    /// WRITE on an internal file makes more records than it has.
+    pub const TOO_MANY_RECORDS: Condition = Condition::Error(31);
+    /// READ on an internal file with an element that holds the end of a line.
+    pub const LINE_END_HELD: Condition = Condition::Error(32);
 }
 
 impl Condition {
@@ -104,16 +108,4 @@ pub enum Rule {
     P4,
     /// It defines a variable by a specifier that another of its parts defines or transfers.
     P5,
-}
-
-impl Rule {
-    ghost use Rattle.std.specs.Prelude.{◌<◌, ◌↔◌, IsTrue};
-    ghost use Rattle.fj_value.specs.Order.{number_of};
-
-    /// Whether it is told in place of another, where both are broken.
-    pub fn is_below(self, other: Rule) -> bool
-        ensures { IsTrue result ↔ (number_of self < number_of other) }
-    {
-        self < other
-    }
 }

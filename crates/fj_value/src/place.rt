@@ -1,22 +1,11 @@
 // Places of variables, and identifiers of transfers.
-ghost use Rattle.std.specs.Prelude.{◌≡◌, ◌<◌, ◌↔◌, IsTrue};
+ghost use Rattle.std.specs.Prelude.{◌<◌, ◌↔◌, IsTrue};
 
 /// A variable by its number, from 0 on, and an element by its index, from 1 on. A scalar has index 1.
 #[derive(Clone, Copy, Debug, PartialEq, Eq, PartialOrd, Ord)]
 pub struct Place {
     pub var: u32,
     pub index: u32,
-}
-
-impl Place {
-    ghost use Rattle.fj_value.specs.Order.{IsBefore};
-
-    /// Whether it stands before another: in an earlier variable, or at a lower index of the same.
-    pub fn is_before(self, other: Place) -> bool
-        ensures { IsTrue result ↔ IsBefore self other }
-    {
-        self < other
-    }
 }
 
 /// The identifier of a transfer (ID=), from 1 on; 0 for a synchronous one.
