@@ -1,0 +1,9 @@
+pub mod Alike
+pub mod Cutting
+pub mod Fitting
+pub mod Joined
+pub mod KeptKinds
+pub mod LawProofs
+pub mod Opening
+pub mod Reading
+pub mod Writing

@@ -1,0 +1,18 @@
+//! READ and WRITE on internal files, whose records are the elements of a character variable (ISO/IEC 1539-1:2004, 9.3).
+#![tactic(auto)]
+
+mod elements;
+mod file;
+mod laws;
+mod lines;
+mod read;
+#[cfg(test)]
+mod tests;
+mod write;
+
+pub use laws::{
+    elements_keep_their_kinds, ends_of_lines_are_refused, no_record_is_longer, reads_like_a_file,
+    writes_like_a_file,
+};
+pub use read::read_internal;
+pub use write::write_internal;
