@@ -15,7 +15,8 @@ static CONDITIONS: [(i32, &str); 32] = [
     (
         3,
         "OPEN whose specifiers do not go together: direct access without RECL= or with POSITION=, stream access with RECL=, \
-         RECL= of 0 or above its limit, FILE= with SCRATCH, BLANK=, DELIM=, PAD=, DECIMAL= or SIGN= with an unformatted form",
+         RECL= of 0 or above its limit, FILE= with SCRATCH, BLANK=, DELIM=, PAD=, DECIMAL= or SIGN= with an unformatted form; \
+         or whose unit is that of a place, is not connected, and is not 0 to 2,147,483,647",
     ),
     (4, "CLOSE that keeps a scratch file"),
     (5, "OPEN with STATUS='OLD', and there is no such file"),

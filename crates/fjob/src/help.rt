@@ -14,11 +14,13 @@ input and its report goes to standard output; its files are those of the folder 
     fjob gen --seed N --count M [--text]
                                        make a deck of M transfers, 0 to 20000, from the seed N, 0 to 2147483647, and carry
                                        it out where no file is; with --text print it
+    fjob batch [--workers N] NAME..    carry out the decks NAME.deck of the folder, 1 to 64, each with N workers beside, 0 to 4,
+                                       without --workers 1; each has the files of the folder that begin with NAME- for its own
 
     --trace   print a line for each transfer that is told: the statement's line, unit, identifier, condition
 
-Options stand in any order, as --workers 4 or --workers=4. With other words the usage line is printed, and nothing is
-read or touched. fjob --version says the version here too.
+Options stand in any order, as --workers 4 or --workers=4; those of batch stand before the names. With other words the usage
+line is printed, and nothing is read or touched. fjob --version says the version here too.
 
 Exit status: 0 the deck ended; 2 error stop, by a condition that no IOSTAT= caught; 3 the deck did what a program may not;
 4 the text is no deck; 5 the words are no form; 6 standard input could not be read; 7 standard output could not be written;

@@ -1,12 +1,14 @@
-//! Runs a deck from standard input, over the files of the current folder.
+//! Runs a deck from standard input, or a batch of decks, over the files of the current folder.
 #![tactic(auto)]
 
+mod batch;
 mod conditions;
 mod help;
 mod refused;
 mod told;
 mod wrong;
 
+use crate::batch::{batch, is_batch};
 use crate::told::{Seen, tell};
 use fj_exit::exit_status;
 use fj_job::{Status, run_job};
@@ -74,6 +76,12 @@ fn main(rt: HostRuntime) -> ExitCode {
     let Ok(words) = words(&rt) else {
         return give_up(&rt, "memory was refused", Status::Memory);
     };
+    if is_batch(&words) {
+        return match batch(&rt, &rt, &words) {
+            Ok(code) => code,
+            Err(_) => give_up(&rt, "memory was refused", Status::Memory),
+        };
+    }
     let Ok(output) = rt.clone() else {
         return give_up(&rt, "memory was refused", Status::Memory);
     };

@@ -1,0 +1,4 @@
+pub mod Asking
+pub mod Agreement
+pub mod Cases
+pub mod Becoming

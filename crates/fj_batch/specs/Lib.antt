@@ -1,0 +1,5 @@
+pub mod Words
+pub mod Bytes
+pub mod Members
+pub mod Answers
+pub mod Agreeing
